@@ -1,0 +1,5 @@
+pub mod Vocabulary
+pub mod Order
+pub mod QuadFacts
+pub mod QuadParts
+pub mod Spelling

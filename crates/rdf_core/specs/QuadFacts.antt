@@ -1,0 +1,19 @@
+-- Which terms may stand where in a quad (RDF 1.1 Concepts, sections 3.1 and 4): a subject and a
+-- graph name are IRIs or blank nodes, a predicate is an IRI.
+use Rattle.std.specs.Prelude.{Bool, true, false, Option, Some, None}
+use Rattle.rdf_core.specs.declared.term.Term.{Term}
+use Rattle.rdf_core.specs.declared.term.Term.TheVariants.{Blank, Iri, Literal}
+
+abbrev pub is_node : Term → Bool
+is_node (Blank label) = true
+is_node (Iri text) = true
+is_node (Literal lexical datatype tag) = false
+
+abbrev pub is_iri : Term → Bool
+is_iri (Blank label) = false
+is_iri (Iri text) = true
+is_iri (Literal lexical datatype tag) = false
+
+abbrev pub is_graph_name : Option Term → Bool
+is_graph_name None = true
+is_graph_name (Some name) = is_node name

@@ -1,0 +1,14 @@
+-- The four terms of a quad (RDF 1.1 Concepts, sections 3.1 and 4), without the facts that a Quad
+-- holds of them: definitions make these freely.
+use Rattle.std.specs.Prelude.{Option}
+use Rattle.rdf_core.specs.declared.term.Term.{Term}
+use Rattle.rdf_core.specs.declared.quad.Quad.{Quad}
+
+pub record QuadParts : Type 0 where
+  pub s : Term
+  pub p : Term
+  pub o : Term
+  pub g : Option Term
+
+abbrev pub parts_of : Quad → QuadParts
+parts_of q = record { s = q.s; p = q.p; o = q.o; g = q.g }

@@ -1,0 +1,34 @@
+-- How a term is written (RDF 1.1 N-Quads, grammar): a blank node as `_:` and its label, an IRI in
+-- angle brackets, a literal in double quotes with its tag, or with its datatype where that is not
+-- xsd:string. In a literal only the quote, the backslash, LF and CR are escaped. (The choice of
+-- escapes is our own.)
+use Rattle.std.specs.Prelude.{ℕ, List, [], ◌∷◌, ◌++◌, ◌==◌, if◌then◌else◌, Option, Some, None, codes}
+use Rattle.std.specs.List.{flat_map}
+use Rattle.std.specs.Str.{bytes_eq}
+use Rattle.rdf_core.specs.Vocabulary.{xsd_string}
+use Rattle.rdf_core.specs.declared.term.Term.{Term}
+use Rattle.rdf_core.specs.declared.term.Term.TheVariants.{Blank, Iri, Literal}
+
+abbrev pub quote : ℕ
+quote = 34
+
+abbrev pub backslash : ℕ
+backslash = 92
+
+-- one byte of a literal
+abbrev pub escaped : ℕ → List ℕ
+escaped b =
+    if b == 34 then codes "\\\"" else if b == 92 then codes "\\\\"
+    else if b == 10 then codes "\\n" else if b == 13 then codes "\\r" else b ∷ []
+
+-- what stands behind the closing quote
+abbrev pub suffix : List ℕ → Option (List ℕ) → List ℕ
+suffix datatype (Some tag) = codes "@" ++ tag
+suffix datatype None =
+    if bytes_eq datatype xsd_string then [] else codes "^^<" ++ (datatype ++ codes ">")
+
+abbrev pub spelling : Term → List ℕ
+spelling (Blank label) = codes "_:" ++ label
+spelling (Iri text) = codes "<" ++ (text ++ codes ">")
+spelling (Literal lexical datatype tag) =
+    codes "\"" ++ (flat_map escaped lexical ++ (codes "\"" ++ suffix datatype tag))

@@ -1,0 +1,85 @@
+//! One call of each public function, and the spellings of terms.
+use crate::quad::{Quad, is_iri, is_node};
+use crate::spelling::write_term;
+use crate::term::Term;
+use crate::text::Text;
+use crate::vocabulary::{RDF_LANG_STRING, XSD_INTEGER, XSD_STRING};
+use std::alloc::{AllocError, AllocGlobal, Global};
+use std::cmp::Ordering;
+
+fn text(alloc: Global, bytes: &str) -> Result<Text, AllocError> {
+    Ok(Text::from_string(String::from_str(alloc, bytes)?))
+}
+
+fn iri(alloc: Global, bytes: &str) -> Result<Term, AllocError> {
+    Ok(Term::Iri(text(alloc, bytes)?))
+}
+
+fn literal(
+    alloc: Global,
+    lexical: &str,
+    datatype: &str,
+    tag: Option<&str>,
+) -> Result<Term, AllocError> {
+    let tag = match tag {
+        Some(tag) => Some(text(alloc, tag)?),
+        None => None,
+    };
+    Ok(Term::Literal {
+        lexical: text(alloc, lexical)?,
+        datatype: text(alloc, datatype)?,
+        tag,
+    })
+}
+
+fn is_spelled(alloc: Global, term: &Term, spelling: &[u8]) -> Result<bool, AllocError> {
+    let mut out = Vec::new(alloc);
+    write_term(term, &mut out)?;
+    Ok(out.as_slice() == spelling)
+}
+
+#[test]
+fn terms_are_spelled(rt: HostRuntime) -> Result<(), AllocError> {
+    let alloc = rt.alloc();
+    let blank = Term::Blank(text(alloc, "b")?);
+    assert!(rt; is_spelled(alloc, &blank, b"_:b")?);
+    assert!(rt; is_spelled(alloc, &iri(alloc, "http://e/a")?, b"<http://e/a>")?);
+    let plain = literal(alloc, "a\"b\\c\nd\re\tf", XSD_STRING, None)?;
+    assert!(rt; is_spelled(alloc, &plain, b"\"a\\\"b\\\\c\\nd\\re\tf\"")?);
+    let tagged = literal(alloc, "x", RDF_LANG_STRING, Some("en"))?;
+    assert!(rt; is_spelled(alloc, &tagged, b"\"x\"@en")?);
+    let number = literal(alloc, "1", XSD_INTEGER, None)?;
+    let spelling = b"\"1\"^^<http://www.w3.org/2001/XMLSchema#integer>";
+    assert!(rt; is_spelled(alloc, &number, spelling)?);
+    Ok(())
+}
+
+#[test]
+fn terms_stand_in_order(rt: HostRuntime) -> Result<(), AllocError> {
+    let alloc = rt.alloc();
+    let blank = Term::Blank(text(alloc, "z")?);
+    let name = iri(alloc, "http://e/a")?;
+    let tagged = literal(alloc, "x", RDF_LANG_STRING, Some("en"))?;
+    let plain = literal(alloc, "x", XSD_STRING, None)?;
+    assert!(rt; blank.order(&name) == Ordering::Less);
+    assert!(rt; name.order(&tagged) == Ordering::Less);
+    assert!(rt; tagged.order(&plain) == Ordering::Less);
+    assert!(rt; plain.copy(alloc)?.is_same(&plain));
+    assert!(rt; !plain.is_same(&tagged));
+    Ok(())
+}
+
+#[test]
+fn quads_take_what_may_stand_there(rt: HostRuntime) -> Result<(), AllocError> {
+    let alloc = rt.alloc();
+    let a = iri(alloc, "http://e/a")?;
+    let x = literal(alloc, "x", XSD_STRING, None)?;
+    assert!(rt; is_node(&a) && is_iri(&a) && !is_node(&x) && !is_iri(&x));
+    let bad = Quad::of(x.copy(alloc)?, a.copy(alloc)?, a.copy(alloc)?, None);
+    assert!(rt; bad.is_none());
+    match Quad::of(a.copy(alloc)?, a.copy(alloc)?, x, Some(a)) {
+        Some(quad) => assert!(rt; quad.copy(alloc)? == quad),
+        None => assert!(rt; false),
+    }
+    Ok(())
+}
