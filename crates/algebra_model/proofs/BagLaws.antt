@@ -1,0 +1,72 @@
+-- A bag by its counts, and what keeps a bag.
+use Rattle.std.proofs.Common.{◌≡◌, suc, ◌+◌, ◌<◌, Bool, true, false, cond, List, [], ◌∷◌, ◌++◌, Decides, IsPermutation, Contains, count_by, sum_by, flat_map, remove, refl, sym, ap, ◌∙◌, ⊎_elim, arith}
+use Rattle.std.proofs.lemmas.Bool.{cases_Bool}
+use Rattle.std.proofs.lemmas.List.Sums.{sum_by-cons, sum_by-append}
+use Rattle.std.proofs.lemmas.List.Sorted.{IsPermutation-refl, IsPermutation-cons, IsPermutation-remove, IsPermutation-trans, IsPermutation-sym, IsPermutation-append, sum_by-IsPermutation}
+
+module _ {X : Type 0} where
+  pub count_by-cons : (p : X → Bool) (x : X) (xs : List X) → count_by p (x ∷ xs) ≡ cond (p x) 1 0 + count_by p xs
+  count_by-cons p x xs = sum_by-cons (λ y. cond (p y) 1 0) x xs
+
+  pub count_by-yes : (p : X → Bool) (x : X) (xs : List X) → p x ≡ true → count_by p (x ∷ xs) ≡ 1 + count_by p xs
+  count_by-yes p x xs e = count_by-cons p x xs ∙ ap (λ (b : Bool). cond b 1 0 + count_by p xs) e
+
+  pub count_by-no : (p : X → Bool) (x : X) (xs : List X) → p x ≡ false → count_by p (x ∷ xs) ≡ count_by p xs
+  count_by-no p x xs e = count_by-cons p x xs ∙ ap (λ (b : Bool). cond b 1 0 + count_by p xs) e ∙ omega arith
+
+  pub count_by-append : (p : X → Bool) (xs ys : List X) → count_by p (xs ++ ys) ≡ count_by p xs + count_by p ys
+  count_by-append p xs ys = sum_by-append (λ y. cond (p y) 1 0) xs ys
+
+  pub count_by-IsPermutation : (p : X → Bool) (xs ys : List X) → IsPermutation xs ys → count_by p ys ≡ count_by p xs
+  count_by-IsPermutation p xs ys h = sum_by-IsPermutation (λ y. cond (p y) 1 0) xs ys h
+
+  module _ (same : X → X → Bool) (decides : (x y : X) → Decides (same x y) (x ≡ y)) where
+    pub same_itself : (x : X) → same x x ≡ true
+    same_itself x = (decides x x).1 refl
+
+    found : (x : X) (ys : List X) → 0 < count_by (same x) ys → Contains ys x
+    found x [] h = absurd (omega arith)
+    found x (y ∷ ys) h =
+        ⊎_elim
+        (λ (e : same x y ≡ true). (0, omega arith, sym ((decides x y).0 e)))
+        (λ (e : same x y ≡ false).
+        let c = count_by-no (same x) y ys e in
+        let r = found x ys (omega arith) in
+        (suc r.0, omega (arith, r.1), r.2))
+        (cases_Bool (same x y))
+
+    pub permutation_from_counts : (xs ys : List X) → ((x : X) → count_by (same x) xs ≡ count_by (same x) ys) → IsPermutation xs ys
+    permutation_from_counts [] [] h = IsPermutation-refl []
+    permutation_from_counts [] (y ∷ ys) h =
+        let c = count_by-yes (same y) y ys (same_itself y) in
+        let e = h y in
+        absurd (omega arith)
+    permutation_from_counts (x ∷ xs) ys h =
+        let c = count_by-yes (same x) x xs (same_itself x) in
+        let e = h x in
+        let f = found x ys (omega arith) in
+        let p = IsPermutation-remove ys f.0 x f.1 (sym f.2) in
+        let same_rest : (z : X) → count_by (same z) xs ≡ count_by (same z) (remove ys f.0) = λ z.
+        let a = count_by-cons (same z) x xs in
+        let b = count_by-cons (same z) x (remove ys f.0) in
+        let q = count_by-IsPermutation (same z) ys (x ∷ remove ys f.0) p in
+        let g = h z in
+        omega arith
+        in
+        let i = permutation_from_counts xs (remove ys f.0) same_rest in
+        IsPermutation-trans (x ∷ xs) (x ∷ remove ys f.0) ys (IsPermutation-cons x xs (remove ys f.0) i) (IsPermutation-sym ys (x ∷ remove ys f.0) p)
+
+module _ {X Y : Type 0} where
+  pub count_by-flat_map : (p : Y → Bool) (f : X → List Y) (xs : List X) → count_by p (flat_map f xs) ≡ sum_by (λ x. count_by p (f x)) xs
+  count_by-flat_map p f [] = refl
+  count_by-flat_map p f (x ∷ xs) =
+      count_by-append p (f x) (flat_map f xs) ∙ ap (λ n. count_by p (f x) + n) (count_by-flat_map p f xs) ∙ sym (sum_by-cons (λ x. count_by p (f x)) x xs)
+
+  -- a bag of rows, each replaced by rows, is a bag
+  pub IsPermutation-flat_map : (same : Y → Y → Bool) (decides : (x y : Y) → Decides (same x y) (x ≡ y)) (f : X → List Y) (xs ys : List X) → IsPermutation xs ys → IsPermutation (flat_map f xs) (flat_map f ys)
+  IsPermutation-flat_map same decides f xs ys h = permutation_from_counts same decides (flat_map f xs) (flat_map f ys)
+      (λ y. count_by-flat_map (same y) f xs ∙ sym (sum_by-IsPermutation (λ x. count_by (same y) (f x)) xs ys h) ∙ sym (count_by-flat_map (same y) f ys))
+
+  pub IsPermutation-flat_map_each : (f g : X → List Y) → ((x : X) → IsPermutation (f x) (g x)) → (xs : List X) → IsPermutation (flat_map f xs) (flat_map g xs)
+  IsPermutation-flat_map_each f g h [] = IsPermutation-refl []
+  IsPermutation-flat_map_each f g h (x ∷ xs) = IsPermutation-append (f x) (g x) (flat_map f xs) (flat_map g xs) (h x) (IsPermutation-flat_map_each f g h xs)

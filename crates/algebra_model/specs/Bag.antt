@@ -1,0 +1,20 @@
+-- Bags: lists in which the order does not count (SPARQL 1.1 Query Language, section 18.1.8,
+-- multisets of solution mappings).
+use Rattle.std.specs.Prelude.{◌≡◌, Bool, false, not, List, [], ◌∷◌, filter, IsPermutation, ⊤}
+use Rattle.std.specs.List.{list_any}
+
+-- The lists are one bag: the same elements, each as often in the one as in the other. They are one
+-- bag exactly where one is the other in some order; `a_bag_is_its_counts` in the laws says so.
+abbrev pub IsSameBag : {X : Type 0} → List X → List X → Type 0
+IsSameBag xs ys = IsPermutation xs ys
+
+-- no element stands twice in the list, so that the list is a set
+abbrev pub IsWithoutRepeats : {X : Type 0} → (X → X → Bool) → List X → Type 0
+IsWithoutRepeats same [] = ⊤
+IsWithoutRepeats same (x ∷ xs) = (list_any (same x) xs ≡ false) × IsWithoutRepeats same xs
+
+-- the list without its repeats: each element once, at its first place
+module _ {X : Type 0} (same : X → X → Bool) where
+  abbrev pub without_repeats : List X → List X
+  without_repeats [] = []
+  without_repeats (x ∷ xs) = x ∷ filter (λ y. not (same x y)) (without_repeats xs)
