@@ -1,0 +1,4 @@
+pub mod Terminal
+pub mod Blanks
+pub mod Signs
+pub mod Scan

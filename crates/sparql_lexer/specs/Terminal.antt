@@ -1,0 +1,14 @@
+-- The terminals of a query, apart from the code that holds them.
+use Rattle.std.specs.Prelude.{ℕ, List, map}
+use Rattle.sparql_lexer.specs.declared.token.Kind.{Kind}
+use Rattle.sparql_lexer.specs.declared.token.Token.{Token}
+
+-- its kind, and its characters as they stand in the text
+pub data Terminal : Type 0 where
+  terminal : Kind → List ℕ → Terminal
+
+abbrev pub terminal_of : Token → Terminal
+terminal_of t = terminal t.kind t.text.now
+
+abbrev pub terminals : List Token → List Terminal
+terminals = map terminal_of
