@@ -1,0 +1,59 @@
+-- One step after another on known bytes and counts.
+use Rattle.std.proofs.Common.{ℕ, ◌+◌, ◌-◌, List, [], ◌++◌, length, take, drop, Option, Some, None, append_assoc, arith, ap, sym, ◌∙◌, refl}
+use Rattle.std.proofs.lemmas.List.{append-nil, take_all, length-drop}
+use Rattle.std.specs.Io.KnownBytes.{Consumes, Appends, Keeps}
+use Rattle.std.proofs.Math.Seq.{take-add}
+use Rattle.nquads_core.specs.Device.{Stays, Rises}
+
+pub Consumes-more : (a b c : Option (List ℕ)) (xs ys : List ℕ) → Consumes a b xs → Consumes b c ys → Consumes a c (xs ++ ys)
+Consumes-more None b c xs ys h k = tt
+Consumes-more (Some a) None c xs ys h k = absurd h
+Consumes-more (Some a) (Some b) None xs ys h k = absurd k
+Consumes-more (Some a) (Some b) (Some c) xs ys h k = h ∙ ap (λ zs. xs ++ zs) k ∙ sym (append_assoc xs ys c)
+
+pub Consumes-start : (a : Option (List ℕ)) → Consumes a a []
+Consumes-start None = tt
+Consumes-start (Some a) = refl
+
+pub Appends-more : (a b c : Option (List ℕ)) (xs ys : List ℕ) → Appends a b xs → Appends b c ys → Appends a c (xs ++ ys)
+Appends-more None b c xs ys h k = tt
+Appends-more (Some a) None c xs ys h k = absurd h
+Appends-more (Some a) (Some b) None xs ys h k = absurd k
+Appends-more (Some a) (Some b) (Some c) xs ys h k = k ∙ ap (λ zs. zs ++ ys) h ∙ append_assoc a xs ys
+
+pub Appends-start : (a : Option (List ℕ)) → Appends a a []
+Appends-start None = tt
+Appends-start (Some a) = sym (append-nil a)
+
+pub Appends-keeps : (a b c : Option (List ℕ)) (xs : List ℕ) → Appends a b xs → Keeps b c → Appends a c xs
+Appends-keeps None b c xs h k = tt
+Appends-keeps (Some a) None c xs h k = absurd h
+Appends-keeps (Some a) (Some b) None xs h k = absurd k
+Appends-keeps (Some a) (Some b) (Some c) xs h k = k ∙ h
+
+pub Appends-none : (a b c : Option (List ℕ)) (xs : List ℕ) → Appends a b xs → Appends b c [] → Appends a c xs
+Appends-none None b c xs h k = tt
+Appends-none (Some a) None c xs h k = absurd h
+Appends-none (Some a) (Some b) None xs h k = absurd k
+Appends-none (Some a) (Some b) (Some c) xs h k = k ∙ append-nil b ∙ h
+
+pub Stays-start : (a : Option ℕ) → Stays a a
+Stays-start None = tt
+Stays-start (Some a) = refl
+
+pub Stays-stays : (a b c : Option ℕ) → Stays a b → Stays b c → Stays a c
+Stays-stays None b c h k = tt
+Stays-stays (Some a) None c h k = absurd h
+Stays-stays (Some a) (Some b) None h k = absurd k
+Stays-stays (Some a) (Some b) (Some c) h k = k ∙ h
+
+pub Stays-rises : (a b c : Option ℕ) → Stays a b → Rises b c → Rises a c
+Stays-rises None b c h k = tt
+Stays-rises (Some a) None c h k = absurd h
+Stays-rises (Some a) (Some b) None h k = absurd k
+Stays-rises (Some a) (Some b) (Some c) h k = rw (← h) k
+
+-- the next n of the bytes from at on
+pub Appends-next : (a b c : Option (List ℕ)) (xs : List ℕ) (at n : ℕ) → Appends a b (take at xs) → Appends b c (take n (take (length xs - at) (drop at xs))) → Appends a c (take (at + n) xs)
+Appends-next a b c xs at n h k =
+    rw (take-add at n xs) (Appends-more a b c (take at xs) (take n (drop at xs)) h (rw (take_all (length xs - at) (drop at xs) (omega (arith, length-drop at xs))) at k))

@@ -1,0 +1,91 @@
+//! What bytes are read from and written to, and the two devices over a reader or a writer of std.
+ghost use Rattle.std.specs.Prelude.{ℕ, ◌≤◌, List, Option, Result, IfOk, length};
+ghost use Rattle.nquads_core.specs.declared.device.DeviceFailed.{DeviceFailed};
+ghost use Rattle.std.specs.Io.KnownBytes.{ReadConsumes, WriteAppends};
+ghost use Rattle.nquads_core.specs.Device.{Counts};
+
+use std::io::{Read, Write};
+
+/// That a device failed in a call.
+#[derive(Clone, Copy, Debug, PartialEq, Eq)]
+pub struct DeviceFailed;
+
+/// What bytes are read from.
+///
+/// A source may tell two things to contracts: the bytes that it has left, and how many of its
+/// calls failed. What it does not tell is `None`, and then nothing is said of it.
+pub trait Source {
+    /// The bytes that are left, where they are told.
+    ghost left: { Self → Option (List ℕ) };
+
+    /// How many calls failed, where it is told.
+    ghost failures: { Self → Option ℕ };
+
+    /// Puts the next bytes at the front of the buffer, and answers how many these are: never more
+    /// than the buffer holds, and into a buffer that is not empty 0 only at the end.
+    ///
+    /// # Errors
+    /// `DeviceFailed`: the source failed. No byte was taken, and the count of failures rose by one
+    /// (a count of 2^64 - 1 stays).
+    fn read(&mut self, buf: &mut [u8]) -> Result<usize, DeviceFailed>
+        ensures bound { IfOk result (λ n. n ≤ length buf.new) }
+        ensures bytes { ReadConsumes (left self.old) (left self.new) result buf.new }
+        ensures count { Counts (failures self.old) (failures self.new) result };
+}
+
+/// What bytes are written to.
+///
+/// A sink may tell three things to contracts: the bytes that it holds, how many of its calls
+/// failed, and what a call may answer and leave.
+pub trait Sink {
+    /// The bytes that were written, where they are told.
+    ghost held: { Self → Option (List ℕ) };
+
+    /// How many calls failed, where it is told.
+    ghost failures: { Self → Option ℕ };
+
+    /// What a write of these bytes may answer and leave. Where it is not told, anything.
+    ghost write_gives: { Self → List ℕ → Result ℕ DeviceFailed → Self → Type 0 } = { λ _ _ _ _. Unit {0} };
+
+    /// Takes bytes from the front of the text, and answers how many. It may take none.
+    ///
+    /// # Errors
+    /// `DeviceFailed`: the sink failed. No byte was taken, and the count of failures rose by one
+    /// (a count of 2^64 - 1 stays).
+    fn write(&mut self, bytes: &[u8]) -> Result<usize, DeviceFailed>
+        ensures bound { IfOk result (λ n. n ≤ length bytes.now) }
+        ensures bytes { WriteAppends (held self.old) (held self.new) result bytes.now }
+        ensures count { Counts (failures self.old) (failures self.new) result }
+        ensures gives { write_gives self.old bytes.now result self.new };
+}
+
+/// A reader or a writer of std as a device. It tells the bytes that the reader or the writer
+/// tells, and no count of failures. Any error of theirs is `DeviceFailed`.
+#[derive(Drop)]
+pub struct Device<T> {
+    pub inner: T,
+}
+
+impl<T: Read> Source for Device<T> {
+    ghost use Rattle.std.specs.Prelude.{None};
+
+    ghost left = { λ d. T.remaining d.inner };
+
+    ghost failures = { λ _. None };
+
+    fn read(&mut self, buf: &mut [u8]) -> Result<usize, DeviceFailed> {
+        self.inner.read(buf).map_err(|_| DeviceFailed)
+    }
+}
+
+impl<T: Write> Sink for Device<T> {
+    ghost use Rattle.std.specs.Prelude.{None};
+
+    ghost held = { λ d. T.contents d.inner };
+
+    ghost failures = { λ _. None };
+
+    fn write(&mut self, bytes: &[u8]) -> Result<usize, DeviceFailed> {
+        self.inner.write(bytes).map_err(|_| DeviceFailed)
+    }
+}
