@@ -2,6 +2,12 @@ pub mod Bag
 pub mod Solution
 pub mod Bgp
 pub mod Operators
+pub mod Number
+pub mod LiteralValue
+pub mod BooleanValue
+pub mod Comparison
+pub mod Call
+pub mod Expression
 pub mod Solve
 pub mod Reading
 pub mod Sorted

@@ -1,0 +1,65 @@
+-- Expressions and their values (SPARQL 1.1 Query Language, section 17). `None` is an error: an
+-- unbound variable is one, and so is an operand that is one, but for the rows of the logic tables.
+use Rattle.std.specs.Prelude.{ℕ, Bool, true, false, List, [], ◌∷◌, Option, Some, None, option_map, is_some, get_or}
+use Rattle.rdf_core.specs.declared.term.Term.{Term}
+use Rattle.rdf_core.proofs.TermLaws.{term_eq}
+use Rattle.algebra_model.specs.Solution.{Solution}
+use Rattle.algebra_model.specs.BooleanValue.{ebv, logical_and, logical_or, logical_not}
+use Rattle.algebra_model.specs.Call.{Function, call_value, boolean_term}
+use Rattle.algebra_model.specs.Comparison.{Comparison, equal, compares}
+
+pub data Expression : Type 0 where
+  -- a variable by its number, and a term
+  variable : ℕ → Expression
+  constant : Term → Expression
+  -- `||`, `&&` and `!`
+  either : Expression → Expression → Expression
+  both : Expression → Expression → Expression
+  negation : Expression → Expression
+  comparison : Comparison → Expression → Expression → Expression
+  -- STR, LANG, DATATYPE, isIRI, isBlank, isLiteral
+  call : Function → Expression → Expression
+  -- BOUND and sameTerm
+  bound : ℕ → Expression
+  same_term : Expression → Expression → Expression
+
+-- x IN (e1, .., en): x = e1 or .. or x = en, and false for the empty list whatever x is
+abbrev pub member : Expression → List Expression → Expression
+member x [] = constant (boolean_term false)
+member x (e ∷ es) = either (comparison equal x e) (member x es)
+
+-- what a test of one term, or of two, gives of operands that may be errors
+abbrev pub with_value : {X : Type 0} → Option Term → (Term → Option X) → Option X
+with_value None f = None
+with_value (Some t) f = f t
+
+abbrev pub with_values : {X : Type 0} → Option Term → Option Term → (Term → Term → Option X) → Option X
+with_values (Some s) (Some t) f = f s t
+with_values (Some s) None f = None
+with_values None (Some t) f = None
+with_values None None f = None
+
+abbrev pub truth_of : Option Term → Option Bool
+truth_of value = with_value value ebv
+
+abbrev pub boolean_result : Option Bool → Option Term
+boolean_result = option_map boolean_term
+
+abbrev pub val : Expression → Solution Term → Option Term
+val (variable v) μ = get_or μ v None
+val (constant t) μ = Some t
+val (either a b) μ = boolean_result (logical_or (truth_of (val a μ)) (truth_of (val b μ)))
+val (both a b) μ = boolean_result (logical_and (truth_of (val a μ)) (truth_of (val b μ)))
+val (negation a) μ = boolean_result (logical_not (truth_of (val a μ)))
+val (comparison op a b) μ = boolean_result (with_values (val a μ) (val b μ) (compares op))
+val (call f a) μ = with_value (val a μ) (call_value f)
+val (bound v) μ = Some (boolean_term (is_some (get_or μ v None)))
+val (same_term a b) μ = boolean_result (with_values (val a μ) (val b μ) (λ s t. Some (term_eq s t)))
+
+-- a row passes a filter exactly where the effective boolean value is true
+abbrev pub is_true : Option Bool → Bool
+is_true (Some b) = b
+is_true None = false
+
+abbrev pub holds : Expression → Solution Term → Bool
+holds e μ = is_true (truth_of (val e μ))

@@ -1,0 +1,80 @@
+-- Numbers of any length: a form is digits, perhaps with a sign and a dot, and stands for a whole
+-- number with a sign over a power of ten (XML Schema 1.1 Part 2, sections 3.3.3 and 3.4.13). The
+-- order of numbers is exact (SPARQL 1.1 Query Language, section 17.3).
+use Rattle.std.specs.Prelude.{ℕ, ◌+◌, ◌*◌, ◌^◌, Bool, true, false, not, ◌&&◌, ◌||◌, ◌==◌, ℤ, pos, neg_ℤ, List, [], ◌∷◌, ◌++◌, length, take, drop, Option, Some, None, if◌then◌else◌}
+use Rattle.std.specs.Char.{is_ascii_digit}
+use Rattle.std.specs.List.{list_all, prefix_len}
+use Rattle.std.specs.Ordering.{int_cmp}
+use Rattle.std.specs.Str.Parse.{digits_value}
+use Rattle.std.specs.declared.cmp.Ordering.{Ordering}
+
+abbrev pub plus : ℕ
+plus = 43
+
+abbrev pub minus : ℕ
+minus = 45
+
+abbrev pub dot : ℕ
+dot = 46
+
+-- all the digits as one whole number, and how many of them stand behind the dot
+pub record Number : Type 0 where
+  pub negative : Bool
+  pub digits : ℕ
+  pub places : ℕ
+
+-- [+-]?
+abbrev pub is_negative : List ℕ → Bool
+is_negative [] = false
+is_negative (c ∷ cs) = c == minus
+
+abbrev pub unsigned : List ℕ → List ℕ
+unsigned [] = []
+unsigned (c ∷ cs) = if c == plus || c == minus then cs else c ∷ cs
+
+-- [0-9]+
+abbrev pub is_numeral : List ℕ → Bool
+is_numeral [] = false
+is_numeral (c ∷ cs) = list_all is_ascii_digit (c ∷ cs)
+
+-- what stands before the first dot, and behind it
+abbrev pub dot_place : List ℕ → ℕ
+dot_place = prefix_len (λ c. not (c == dot))
+
+abbrev pub whole_part : List ℕ → List ℕ
+whole_part text = take (dot_place text) text
+
+abbrev pub fraction_part : List ℕ → List ℕ
+fraction_part text = drop (dot_place text + 1) text
+
+-- the number whose sign, whole digits and fraction digits these are, where there is a digit and
+-- nothing but digits
+abbrev pub number_of_parts : Bool → List ℕ → List ℕ → Option Number
+number_of_parts negative whole fraction =
+    if is_numeral (whole ++ fraction)
+    then Some (record {
+      negative = negative;
+      digits = digits_value 10 (whole ++ fraction);
+      places = length fraction;
+    })
+    else None
+
+-- [+-]?[0-9]+
+abbrev pub integer_number : List ℕ → Option Number
+integer_number form = number_of_parts (is_negative form) (unsigned form) []
+
+-- [+-]?([0-9]+(\.[0-9]*)?|\.[0-9]+)
+abbrev pub decimal_number : List ℕ → Option Number
+decimal_number form =
+    number_of_parts (is_negative form) (whole_part (unsigned form)) (fraction_part (unsigned form))
+
+abbrev pub is_zero : Number → Bool
+is_zero x = x.digits == 0
+
+-- the number times ten to the power of its places and n more
+abbrev pub raised : Number → ℕ → ℤ
+raised x n = if x.negative then neg_ℤ (pos (x.digits * 10 ^ n)) else pos (x.digits * 10 ^ n)
+
+-- a over 10^k is below b over 10^m where a*10^m is below b*10^k, and equal where neither is below
+abbrev pub number_cmp : Number → Number → Ordering
+number_cmp x y = int_cmp (raised x y.places) (raised y x.places)
