@@ -9,7 +9,8 @@ use Rattle.std.specs.List.{list_any}
 use Rattle.std.specs.Cmp.Lexicographic.{pointwise_decides}
 use Rattle.algebra_model.specs.Bag.{IsSameBag, IsWithoutRepeats, without_repeats}
 use Rattle.algebra_model.specs.Solution.{Solution, same_solution}
-use Rattle.algebra_model.specs.Bgp.{Triple, PatternTerm, TriplePattern, variable, label, constant, is_at, mentions, occurs, image, takes_to, is_in, every_map, terms, bgp, same_triple_by}
+use Rattle.algebra_model.specs.Bgp.{Triple, PatternTerm, TriplePattern, variable, label, constant, is_at, mentions, occurs, image, takes_to, is_in, every_map, occurring, terms, bgp, same_triple_by}
+use Rattle.algebra_model.proofs.RepeatLaws.{IsWithoutRepeats-without_repeats, IsWithoutRepeats-map, any-map, any-without_repeats}
 use Rattle.algebra_model.proofs.BagLaws.{count_by-cons, count_by-yes, count_by-no, count_by-flat_map, permutation_from_counts}
 use Rattle.algebra_model.proofs.TestLaws.{and_false, option_decides}
 use Rattle.algebra_model.specs.Solve.{solve, AreBelow}
@@ -36,64 +37,8 @@ sum_of_one eq p one true xs h =
 sum_of_one eq p one false xs h =
     ap (λ (q : _ → Bool). count_by q xs) (λ i x. and_false (p x) i) ∙ count_none xs ∙ ap (λ (b : Bool). cond b 1 0) (sym (and_false (list_any p xs)))
 
--- a list without repeats
-
-IsWithoutRepeats-filter : {X : Type 0} (eq : X → X → Bool) (q : X → Bool) (xs : List X) → IsWithoutRepeats eq xs → IsWithoutRepeats eq (filter q xs)
-IsWithoutRepeats-filter eq q [] h = tt
-IsWithoutRepeats-filter {X} eq q (x ∷ xs) h =
-    elim (q x) as (λ b. IsWithoutRepeats eq (cond b (x ∷ filter q xs) (filter q xs))) [
-      | true ↦ (none xs h.0, IsWithoutRepeats-filter eq q xs h.1)
-      | false ↦ IsWithoutRepeats-filter eq q xs h.1
-    ]
-  where
-    none : (ys : List X) → list_any (eq x) ys ≡ false → list_any (eq x) (filter q ys) ≡ false
-    none [] h = refl
-    none (y ∷ ys) h =
-        let rest : list_any (eq x) ys ≡ false = ⊎_elim
-        (λ (r : eq x y ≡ true). absurd (false≢true (sym h ∙ ap (λ b. b || list_any (eq x) ys) r)))
-        (λ (r : eq x y ≡ false). sym (ap (λ b. b || list_any (eq x) ys) r) ∙ h)
-        (cases_Bool (eq x y)) in
-        let here : eq x y ≡ false = ⊎_elim
-        (λ (r : eq x y ≡ true). absurd (false≢true (sym h ∙ ap (λ b. b || list_any (eq x) ys) r)))
-        (λ (r : eq x y ≡ false). r)
-        (cases_Bool (eq x y)) in
-        elim (q y) as (λ b. list_any (eq x) (cond b (y ∷ filter q ys) (filter q ys)) ≡ false) [
-          | true ↦ ap (λ b. b || list_any (eq x) (filter q ys)) here ∙ none ys rest
-          | false ↦ none ys rest
-        ]
-
-none_unlike : {X : Type 0} (p : X → Bool) (xs : List X) → list_any p (filter (λ y. not (p y)) xs) ≡ false
-none_unlike p [] = refl
-none_unlike p (x ∷ xs) =
-    ⊎_elim
-    (λ (e : p x ≡ true). rw e (none_unlike p xs))
-    (λ (e : p x ≡ false). rw e (ap (λ b. b || list_any p (filter (λ y. not (p y)) xs)) e ∙ none_unlike p xs))
-    (cases_Bool (p x))
-
-pub IsWithoutRepeats-without_repeats : {X : Type 0} (eq : X → X → Bool) (xs : List X) → IsWithoutRepeats eq (without_repeats eq xs)
-IsWithoutRepeats-without_repeats eq [] = tt
-IsWithoutRepeats-without_repeats eq (x ∷ xs) = (none_unlike (eq x) (without_repeats eq xs), IsWithoutRepeats-filter eq (λ y. not (eq x y)) (without_repeats eq xs) (IsWithoutRepeats-without_repeats eq xs))
-
-pub any-filter : {X : Type 0} (p q : X → Bool) → ((x : X) → p x ≡ true → q x ≡ true) → (xs : List X) → list_any p xs ≡ true → list_any p (filter q xs) ≡ true
-any-filter p q h [] e = e
-any-filter p q h (x ∷ xs) e =
-    ⊎_elim
-    (λ (t : p x ≡ true). rw (h x t) (ap (λ b. b || list_any p (filter q xs)) t))
-    (λ (t : p x ≡ false).
-    let i = any-filter p q h xs (sym (ap (λ b. b || list_any p xs) t) ∙ e) in
-    elim (q x) as (λ b. list_any p (cond b (x ∷ filter q xs) (filter q xs)) ≡ true) [
-      | true ↦ ap (λ b. b || list_any p (filter q xs)) t ∙ i
-      | false ↦ i
-    ])
-    (cases_Bool (p x))
-
-pub any-map : {X Y : Type 0} (p : Y → Bool) (f : X → Y) (xs : List X) → list_any p (map f xs) ≡ list_any (λ x. p (f x)) xs
-any-map p f [] = refl
-any-map p f (x ∷ xs) = ap (λ b. p (f x) || b) (any-map p f xs)
-
-IsWithoutRepeats-map : {X Y : Type 0} (eq : X → X → Bool) (eq' : Y → Y → Bool) (f : X → Y) → ((x y : X) → eq' (f x) (f y) ≡ eq x y) → (xs : List X) → IsWithoutRepeats eq xs → IsWithoutRepeats eq' (map f xs)
-IsWithoutRepeats-map eq eq' f h [] o = tt
-IsWithoutRepeats-map eq eq' f h (x ∷ xs) o = (any-map (eq' (f x)) f xs ∙ ap (λ (q : _ → Bool). list_any q xs) (λ i y. h x y i) ∙ o.0, IsWithoutRepeats-map eq eq' f h xs o.1)
+abbrev pub choices : {T : Type 0} → Bool → List T → List (Option T)
+choices u ts = if u then map Some ts else (None ∷ [])
 
 module _ {T : Type 0} (same : T → T → Bool) (decides : (x y : T) → Decides (same x y) (x ≡ y)) where
   decide : (x y : Option T) → Decides (option_eq same x y) (x ≡ y)
@@ -101,23 +46,6 @@ module _ {T : Type 0} (same : T → T → Bool) (decides : (x y : T) → Decides
 
   pub solution_decides : (μ ν : Solution T) → Decides (same_solution same μ ν) (μ ≡ ν)
   solution_decides = pointwise_decides decide
-
-  pub any-without_repeats : (x : T) (xs : List T) → list_any (same x) xs ≡ true → list_any (same x) (without_repeats same xs) ≡ true
-  any-without_repeats x [] e = e
-  any-without_repeats x (y ∷ xs) e =
-      ⊎_elim
-      (λ (t : same x y ≡ true). ap (λ b. b || list_any (same x) (filter (λ z. not (same y z)) (without_repeats same xs))) t)
-      (λ (t : same x y ≡ false).
-      let differ : (z : T) → same x z ≡ true → not (same y z) ≡ true = λ z p.
-      ⊎_elim
-      (λ (q : same y z ≡ true). absurd (false≢true (sym t ∙ (decides x y).1 ((decides x z).0 p ∙ sym ((decides y z).0 q)))))
-      (λ (q : same y z ≡ false). ap not q)
-      (cases_Bool (same y z)) in
-      ap (λ b. b || list_any (same x) (filter (λ z. not (same y z)) (without_repeats same xs))) t ∙ any-filter (same x) (λ z. not (same y z)) differ (without_repeats same xs) (any-without_repeats x xs (sym (ap (λ b. b || list_any (same x) xs) t) ∙ e)))
-      (cases_Bool (same x y))
-
-  abbrev pub choices : Bool → List T → List (Option T)
-  choices u ts = if u then map Some ts else (None ∷ [])
 
   abbrev pub in_maps : (ℕ → Bool) → List T → ℕ → Solution T → Bool
   in_maps U ts zero [] = true
@@ -180,9 +108,6 @@ module _ {T : Type 0} (same : T → T → Bool) (decides : (x y : T) → Decides
   get_or-at w M (variable v) j x a i = ap (λ k. get_or M k None) (sym (eqb-true v j a)) ∙ (decide (get_or M v None) (Some x)).0 i
   get_or-at w M (label l) j x a i = ap (λ k. get_or M k None) (sym (eqb-true (w + l) j a)) ∙ (decide (get_or M (w + l) None) (Some x)).0 i
   get_or-at w M (constant c) j x a i = absurd (false≢true a)
-
-  abbrev pub occurring : List (Triple T) → List T
-  occurring G = flat_map (λ g. g.s ∷ g.p ∷ g.o ∷ []) G
 
   or_right : (a b : Bool) → b ≡ true → (a || b) ≡ true
   or_right true b e = refl
@@ -252,7 +177,7 @@ module _ {T : Type 0} (same : T → T → Bool) (decides : (x y : T) → Decides
       (λ M.
       let reached : (j : ℕ) → is_in same w P G M ≡ true → U j ≡ true → list_any (option_eq same (get_or M j None)) (map Some ts) ≡ true = λ j k u.
       let r = hit_in w M G j P k u in
-      ap (λ o. list_any (option_eq same o) (map Some ts)) r.1 ∙ any-map (option_eq same (Some r.0)) Some ts ∙ any-without_repeats r.0 (occurring G) r.2 in
+      ap (λ o. list_any (option_eq same o) (map Some ts)) r.1 ∙ any-map (option_eq same (Some r.0)) Some ts ∙ any-without_repeats same decides r.0 (occurring G) r.2 in
       count_by-solve same decides w (w + l) P G once below (replicate (w + l) None) M (length-replicate (w + l) None)
       ∙ ap (λ (b : Bool). cond b 1 0) (and_agree (is_in same w P G M) (fits same (replicate (w + l) None) U M) (in_maps U ts (w + l) M) (λ k. fits-tried ts U (w + l) M (λ j u. reached j k u)))
       ∙ sym (cond-cond (is_in same w P G M) (in_maps U ts (w + l) M))

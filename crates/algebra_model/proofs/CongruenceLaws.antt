@@ -9,50 +9,13 @@ use Rattle.std.proofs.lemmas.List.{append_assoc}
 use Rattle.std.proofs.lemmas.List.Elements.{filter-append}
 use Rattle.algebra_model.specs.Bag.{IsSameBag, without_repeats}
 use Rattle.algebra_model.specs.Solution.{Solution, same_solution, is_compatible, merge}
-use Rattle.algebra_model.specs.Bgp.{Triple, TriplePattern, occurs, is_in, takes_to, every_map, terms, bgp}
+use Rattle.algebra_model.specs.Bgp.{Triple, TriplePattern, occurs, is_in, takes_to, every_map, occurring, terms, bgp}
 use Rattle.algebra_model.specs.Operators.{join, merges, left_join}
 use Rattle.algebra_model.specs.Solve.{alone, left_row}
 use Rattle.algebra_model.proofs.BagLaws.{permutation_from_counts, IsPermutation-flat_map, IsPermutation-flat_map_each, count_by-IsPermutation}
 use Rattle.algebra_model.proofs.SolveLaws.{count_by_one}
-use Rattle.algebra_model.proofs.BgpLaws.{in_maps, choices, count_by-every_map, count_by-filter, any-without_repeats, occurring, any-map, IsWithoutRepeats-without_repeats, solution_decides}
-
-any-unfilter : {X : Type 0} (p q : X → Bool) (xs : List X) → list_any p (filter q xs) ≡ true → list_any p xs ≡ true
-any-unfilter p q [] e = e
-any-unfilter {X} p q (x ∷ xs) e = by (q x) e (any-unfilter p q xs)
-  where
-    right : (a b : Bool) → b ≡ true → (a || b) ≡ true
-    right true b e = refl
-    right false b e = e
-
-    by : (b : Bool) → list_any p (cond b (x ∷ filter q xs) (filter q xs)) ≡ true → (list_any p (filter q xs) ≡ true → list_any p xs ≡ true) → (p x || list_any p xs) ≡ true
-    by true e i = ⊎_elim (λ (t : p x ≡ true). ap (λ b. b || list_any p xs) t) (λ (t : list_any p (filter q xs) ≡ true). right (p x) (list_any p xs) (i t)) (or_cases (p x) (list_any p (filter q xs)) e)
-    by false e i = right (p x) (list_any p xs) (i e)
-
-module _ {X : Type 0} (same : X → X → Bool) (decides : (x y : X) → Decides (same x y) (x ≡ y)) where
-  any-repeats_only : (x : X) (xs : List X) → list_any (same x) (without_repeats same xs) ≡ true → list_any (same x) xs ≡ true
-  any-repeats_only x [] e = e
-  any-repeats_only x (y ∷ xs) e =
-      let more = λ (t : list_any (same x) (filter (λ z. not (same y z)) (without_repeats same xs)) ≡ true). any-repeats_only x xs (any-unfilter (same x) (λ z. not (same y z)) (without_repeats same xs) t) in
-      ⊎_elim
-      (λ (t : same x y ≡ true). ap (λ b. b || list_any (same x) xs) t)
-      (λ (t : list_any (same x) (filter (λ z. not (same y z)) (without_repeats same xs)) ≡ true). right (same x y) (list_any (same x) xs) (more t))
-      (or_cases (same x y) (list_any (same x) (filter (λ z. not (same y z)) (without_repeats same xs))) e)
-    where
-      right : (a b : Bool) → b ≡ true → (a || b) ≡ true
-      right true b e = refl
-      right false b e = e
-
-  pub any-without_repeats_is : (x : X) (xs : List X) → list_any (same x) (without_repeats same xs) ≡ list_any (same x) xs
-  any-without_repeats_is x xs = both_ways (list_any (same x) (without_repeats same xs)) (list_any (same x) xs) (any-repeats_only x xs) (any-without_repeats same decides x xs)
-
-  pub count_by-without_repeats : (x : X) (xs : List X) → count_by (same x) (without_repeats same xs) ≡ cond (list_any (same x) xs) 1 0
-  count_by-without_repeats x xs =
-      count_by_one same (same x) (λ y z p q. (decides y z).1 (sym ((decides x y).0 p) ∙ (decides x z).0 q)) (without_repeats same xs) (IsWithoutRepeats-without_repeats same xs) ∙ ap (λ (b : Bool). cond b 1 0) (any-without_repeats_is x xs)
-
-  -- a bag without its repeats
-  pub without_repeats-IsPermutation : (xs ys : List X) → IsPermutation xs ys → IsPermutation (without_repeats same xs) (without_repeats same ys)
-  without_repeats-IsPermutation xs ys h = permutation_from_counts same decides (without_repeats same xs) (without_repeats same ys)
-      (λ x. count_by-without_repeats x xs ∙ ap (λ (b : Bool). cond b 1 0) (list_any-IsPermutation (same x) xs ys h) ∙ sym (count_by-without_repeats x ys))
+use Rattle.algebra_model.proofs.RepeatLaws.{any-map, any-without_repeats_is, without_repeats-IsPermutation, IsWithoutRepeats-without_repeats}
+use Rattle.algebra_model.proofs.BgpLaws.{in_maps, choices, count_by-every_map, count_by-filter, cond-cond, solution_decides}
 
 module _ {T : Type 0} (same : T → T → Bool) (decides : (x y : T) → Decides (same x y) (x ≡ y)) where
   any_choice : (z : Option T) (ts us : List T) → ((x : T) → list_any (same x) ts ≡ list_any (same x) us) → list_any (option_eq same z) (map Some ts) ≡ list_any (option_eq same z) (map Some us)
@@ -69,7 +32,7 @@ module _ {T : Type 0} (same : T → T → Bool) (decides : (x y : T) → Decides
   in_maps-same ts us h U (suc n) [] = refl
   in_maps-same ts us h U (suc n) (z ∷ M) = λ i. first (U 0) i && in_maps-same ts us h (λ k. U (suc k)) n M i
     where
-      first : (u : Bool) → list_any (option_eq same z) (choices same decides u ts) ≡ list_any (option_eq same z) (choices same decides u us)
+      first : (u : Bool) → list_any (option_eq same z) (choices u ts) ≡ list_any (option_eq same z) (choices u us)
       first true = any_choice z ts us h
       first false = refl
 
@@ -78,17 +41,17 @@ module _ {T : Type 0} (same : T → T → Bool) (decides : (x y : T) → Decides
   is_in-same w (t ∷ P) G H h M = λ i. list_any-IsPermutation (takes_to same w M t) G H h i && is_in-same w P G H h M i
 
   -- the solutions do not hang on the order of the graph's triples
-  pub bgp-IsPermutation : (w l : ℕ) (P : List (TriplePattern T)) (G H : List (Triple T)) → IsPermutation G H → IsPermutation (occurring same decides G) (occurring same decides H) → IsSameBag (bgp same w l P G) (bgp same w l P H)
+  pub bgp-IsPermutation : (w l : ℕ) (P : List (TriplePattern T)) (G H : List (Triple T)) → IsPermutation G H → IsPermutation (occurring G) (occurring H) → IsSameBag (bgp same w l P G) (bgp same w l P H)
   bgp-IsPermutation w l P G H h o =
       let once = IsWithoutRepeats-without_repeats same in
       IsPermutation-map (take w) (filter (is_in same w P G) (every_map (occurs w P) (terms same G) (w + l))) (filter (is_in same w P H) (every_map (occurs w P) (terms same H) (w + l)))
       (permutation_from_counts (same_solution same) (solution_decides same decides) _ _
       (λ M.
-      let tell = λ (x : T). any-without_repeats_is same decides x (occurring same decides G) ∙ list_any-IsPermutation (same x) (occurring same decides G) (occurring same decides H) o ∙ sym (any-without_repeats_is same decides x (occurring same decides H)) in
+      let tell = λ (x : T). any-without_repeats_is same decides x (occurring G) ∙ list_any-IsPermutation (same x) (occurring G) (occurring H) o ∙ sym (any-without_repeats_is same decides x (occurring H)) in
       count_by-filter same decides (is_in same w P G) M (every_map (occurs w P) (terms same G) (w + l))
-      ∙ ap (λ c. cond (is_in same w P G M) c 0) (count_by-every_map same decides (terms same G) (once (occurring same decides G)) (occurs w P) (w + l) M)
+      ∙ ap (λ c. cond (is_in same w P G M) c 0) (count_by-every_map same decides (terms same G) (once (occurring G)) (occurs w P) (w + l) M)
       ∙ (λ i. cond (is_in-same w P G H h M i) (cond (in_maps-same (terms same G) (terms same H) tell (occurs w P) (w + l) M i) 1 0) 0)
-      ∙ ap (λ c. cond (is_in same w P H M) c 0) (sym (count_by-every_map same decides (terms same H) (once (occurring same decides H)) (occurs w P) (w + l) M))
+      ∙ ap (λ c. cond (is_in same w P H M) c 0) (sym (count_by-every_map same decides (terms same H) (once (occurring H)) (occurs w P) (w + l) M))
       ∙ sym (count_by-filter same decides (is_in same w P H) M (every_map (occurs w P) (terms same H) (w + l)))))
 
   -- joins of equal bags

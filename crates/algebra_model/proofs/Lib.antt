@@ -1,8 +1,10 @@
 pub mod TestLaws
 pub mod BagLaws
 pub mod SolveLaws
+pub mod RepeatLaws
 pub mod BgpLaws
 pub mod CongruenceLaws
 pub mod ReadingLaws
 pub mod BgpReadingLaws
 pub mod SortedLaws
+pub mod RowOrderLaws

@@ -1,6 +1,6 @@
 -- Bags: lists in which the order does not count (SPARQL 1.1 Query Language, section 18.1.8,
 -- multisets of solution mappings).
-use Rattle.std.specs.Prelude.{◌≡◌, Bool, false, not, List, [], ◌∷◌, filter, IsPermutation, ⊤}
+use Rattle.std.specs.Prelude.{◌≡◌, Bool, false, not, List, [], ◌∷◌, filter, IsPermutation, Contains, ◌↔◌, ⊤}
 use Rattle.std.specs.List.{list_any}
 
 -- The lists are one bag: the same elements, each as often in the one as in the other. They are one
@@ -18,3 +18,7 @@ module _ {X : Type 0} (same : X → X → Bool) where
   abbrev pub without_repeats : List X → List X
   without_repeats [] = []
   without_repeats (x ∷ xs) = x ∷ filter (λ y. not (same x y)) (without_repeats xs)
+
+-- the lists have the same elements, in whatever order and however often
+abbrev pub IsSameSet : {X : Type 0} → List X → List X → Type 0
+IsSameSet {X} xs ys = (x : X) → Contains xs x ↔ Contains ys x

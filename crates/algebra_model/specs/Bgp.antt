@@ -52,10 +52,14 @@ every_map uses ts zero = [] ∷ []
 every_map uses ts (suc n) =
     flat_map (λ x. map (λ μ. x ∷ μ) (every_map (λ k. uses (suc k)) ts n)) (if uses 0 then map Some ts else (None ∷ []))
 
+-- what stands in the triples of the graph, with repeats
+abbrev pub occurring : {T : Type 0} → List (Triple T) → List T
+occurring G = flat_map (λ g. g.s ∷ g.p ∷ g.o ∷ []) G
+
 module _ {T : Type 0} (same : T → T → Bool) where
   -- the terms that occur in the graph, each once
   abbrev pub terms : List (Triple T) → List T
-  terms G = without_repeats same (flat_map (λ g. g.s ∷ g.p ∷ g.o ∷ []) G)
+  terms G = without_repeats same (occurring G)
 
   -- the map takes the triple pattern to the triple g
   abbrev pub takes_to : ℕ → Solution T → TriplePattern T → Triple T → Bool

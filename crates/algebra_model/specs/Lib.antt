@@ -8,7 +8,11 @@ pub mod BooleanValue
 pub mod Comparison
 pub mod Call
 pub mod Expression
-pub mod Solve
-pub mod Reading
+pub mod Dataset
+pub mod Algebra
+pub mod Eval
 pub mod Sorted
+pub mod RowOrder
+pub mod Reading
+pub mod Solve
 pub mod Laws

@@ -1,5 +1,6 @@
--- The one list that is a given bag and rises in a total order.
-use Rattle.std.specs.Prelude.{List, [], ◌∷◌, if◌then◌else◌}
+-- Lists made of bags (SPARQL 1.1 Query Language, sections 18.2.5 and 18.5): the one list that is a
+-- given bag and rises in a total order, and a part of a list.
+use Rattle.std.specs.Prelude.{ℕ, List, [], ◌∷◌, Option, None, Some, take, drop, if◌then◌else◌}
 use Rattle.std.specs.declared.cmp.Ordering.{Ordering}
 use Rattle.std.specs.Ordering.{is_gt}
 
@@ -9,7 +10,17 @@ module _ {X : Type 0} (cmp : X → X → Ordering) where
   place x [] = x ∷ []
   place x (y ∷ ys) = if is_gt (cmp x y) then y ∷ place x ys else (x ∷ y ∷ ys)
 
-  -- the list in rising order, with its repeats
+  -- The elements in rising order, with their repeats. Of a total order in which no two elements tie
+  -- this is the only list that is the same bag and rises.
   abbrev pub sorted_list : List X → List X
   sorted_list [] = []
   sorted_list (x ∷ xs) = place x (sorted_list xs)
+
+-- LIMIT: at most so many elements, and all of them where there is no limit
+abbrev pub limited : {X : Type 0} → Option ℕ → List X → List X
+limited None xs = xs
+limited (Some n) xs = take n xs
+
+-- Slice: the elements from the offset on, counted from 0, and at most as many as the limit
+abbrev pub slice : {X : Type 0} → ℕ → Option ℕ → List X → List X
+slice offset limit xs = limited limit (drop offset xs)
