@@ -1,5 +1,5 @@
 -- Every map tried gives the same bag as the maps that are built triple by triple.
-use Rattle.std.proofs.Common.{◌≡◌, ℕ, zero, suc, ◌+◌, Bool, true, false, cond, not, ◌&&◌, ◌||◌, List, [], ◌∷◌, get_or, take, map, filter, Option, None, Some, Decides, count_by, sum_by, flat_map, if◌then◌else◌, refl, sym, ap, ◌∙◌, subst, ⊎_elim, arith, replicate, eqb-true}
+use Rattle.std.proofs.Common.{◌≡◌, ℕ, zero, suc, ◌+◌, Bool, true, false, cond, ◌&&◌, ◌||◌, List, [], ◌∷◌, get_or, take, map, filter, Option, None, Some, Decides, count_by, sum_by, if◌then◌else◌, refl, sym, ap, ◌∙◌, subst, ⊎_elim, arith, replicate, eqb-true}
 use Rattle.std.proofs.lemmas.Bool.{cases_Bool, false≢true, or_cases, and_parts}
 use Rattle.std.proofs.lemmas.List.{length-replicate}
 use Rattle.std.proofs.lemmas.List.Sums.{sum_by-cons}
@@ -7,7 +7,7 @@ use Rattle.std.proofs.lemmas.List.Sorted.{IsPermutation-map}
 use Rattle.std.specs.Option.{option_eq}
 use Rattle.std.specs.List.{list_any}
 use Rattle.std.specs.Cmp.Lexicographic.{pointwise_decides}
-use Rattle.algebra_model.specs.Bag.{IsSameBag, IsWithoutRepeats, without_repeats}
+use Rattle.algebra_model.specs.Bag.{IsSameBag, IsWithoutRepeats}
 use Rattle.algebra_model.specs.Solution.{Solution, same_solution}
 use Rattle.algebra_model.specs.Bgp.{Triple, PatternTerm, TriplePattern, variable, label, constant, is_at, mentions, occurs, image, takes_to, is_in, every_map, occurring, terms, bgp, same_triple_by}
 use Rattle.algebra_model.proofs.RepeatLaws.{IsWithoutRepeats-without_repeats, IsWithoutRepeats-map, any-map, any-without_repeats}

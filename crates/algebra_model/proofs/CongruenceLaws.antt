@@ -1,21 +1,18 @@
 -- Equal bags give equal bags, and an order of the graph's triples does not matter.
-use Rattle.std.proofs.Common.{◌≡◌, ℕ, zero, suc, ◌+◌, Bool, true, false, cond, not, ◌&&◌, ◌||◌, List, [], ◌∷◌, ◌++◌, take, map, filter, Option, None, Some, Decides, IsPermutation, count_by, flat_map, if◌then◌else◌, refl, sym, ap, ◌∙◌, subst, ⊎_elim}
-use Rattle.std.proofs.lemmas.Bool.{or_cases}
-use Rattle.std.specs.Cmp.{both_ways}
+use Rattle.std.proofs.Common.{◌≡◌, ℕ, zero, suc, ◌+◌, Bool, true, false, cond, ◌&&◌, List, [], ◌∷◌, ◌++◌, take, map, filter, Option, None, Some, Decides, IsPermutation, flat_map, if◌then◌else◌, refl, sym, ap, ◌∙◌, subst}
 use Rattle.std.specs.Option.{option_eq}
 use Rattle.std.specs.List.{list_any}
 use Rattle.std.proofs.lemmas.List.Sorted.{IsPermutation-refl, IsPermutation-map, IsPermutation-trans, IsPermutation-append, IsPermutation-append_comm, list_any-IsPermutation}
 use Rattle.std.proofs.lemmas.List.{append_assoc}
 use Rattle.std.proofs.lemmas.List.Elements.{filter-append}
-use Rattle.algebra_model.specs.Bag.{IsSameBag, without_repeats}
+use Rattle.algebra_model.specs.Bag.{IsSameBag}
 use Rattle.algebra_model.specs.Solution.{Solution, same_solution, is_compatible, merge}
 use Rattle.algebra_model.specs.Bgp.{Triple, TriplePattern, occurs, is_in, takes_to, every_map, occurring, terms, bgp}
 use Rattle.algebra_model.specs.Operators.{join, merges, left_join}
 use Rattle.algebra_model.specs.Solve.{alone, left_row}
 use Rattle.algebra_model.proofs.BagLaws.{permutation_from_counts, IsPermutation-flat_map, IsPermutation-flat_map_each, count_by-IsPermutation}
-use Rattle.algebra_model.proofs.SolveLaws.{count_by_one}
-use Rattle.algebra_model.proofs.RepeatLaws.{any-map, any-without_repeats_is, without_repeats-IsPermutation, IsWithoutRepeats-without_repeats}
-use Rattle.algebra_model.proofs.BgpLaws.{in_maps, choices, count_by-every_map, count_by-filter, cond-cond, solution_decides}
+use Rattle.algebra_model.proofs.RepeatLaws.{any-map, any-without_repeats_is, IsWithoutRepeats-without_repeats}
+use Rattle.algebra_model.proofs.BgpLaws.{in_maps, choices, count_by-every_map, count_by-filter, solution_decides}
 
 module _ {T : Type 0} (same : T → T → Bool) (decides : (x y : T) → Decides (same x y) (x ≡ y)) where
   any_choice : (z : Option T) (ts us : List T) → ((x : T) → list_any (same x) ts ≡ list_any (same x) us) → list_any (option_eq same z) (map Some ts) ≡ list_any (option_eq same z) (map Some us)

@@ -5,7 +5,7 @@ use Rattle.std.specs.Cmp.{both_ways}
 use Rattle.std.specs.List.{list_any}
 use Rattle.std.proofs.lemmas.List.Sorted.{list_any-IsPermutation}
 use Rattle.algebra_model.specs.Bag.{IsWithoutRepeats, without_repeats}
-use Rattle.algebra_model.proofs.BagLaws.{permutation_from_counts, count_by-yes, count_by-no}
+use Rattle.algebra_model.proofs.BagLaws.{permutation_from_counts}
 use Rattle.algebra_model.proofs.SolveLaws.{count_by_one}
 
 pub IsWithoutRepeats-filter : {X : Type 0} (eq : X → X → Bool) (q : X → Bool) (xs : List X) → IsWithoutRepeats eq xs → IsWithoutRepeats eq (filter q xs)
@@ -116,4 +116,3 @@ module _ {X : Type 0} (same : X → X → Bool) (decides : (x y : X) → Decides
   pub without_repeats-IsPermutation : (xs ys : List X) → IsPermutation xs ys → IsPermutation (without_repeats same xs) (without_repeats same ys)
   without_repeats-IsPermutation xs ys h = permutation_from_counts same decides (without_repeats same xs) (without_repeats same ys)
       (λ x. count_by-without_repeats x xs ∙ ap (λ (b : Bool). cond b 1 0) (list_any-IsPermutation (same x) xs ys h) ∙ sym (count_by-without_repeats x ys))
-

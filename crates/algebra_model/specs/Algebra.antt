@@ -1,6 +1,6 @@
 -- Algebra expressions (SPARQL 1.1 Query Language, section 18.2): what a plan stands for. Variables
 -- are numbered over the whole query, blank labels within their pattern.
-use Rattle.std.specs.Prelude.{ℕ, Bool, true, ◌+◌, ◌&&◌, nat_lt, List, Option}
+use Rattle.std.specs.Prelude.{ℕ, Bool, true, ◌&&◌, nat_lt, List, Option}
 use Rattle.std.specs.List.{list_all}
 use Rattle.rdf_core.specs.declared.term.Term.{Term}
 use Rattle.algebra_model.specs.Bgp.{TriplePattern, PatternTerm, variable, label, constant}

@@ -1,5 +1,5 @@
 -- Calls on one term (SPARQL 1.1 Query Language, section 17.4.2). `None` is an error.
-use Rattle.std.specs.Prelude.{ℕ, Bool, true, false, List, [], Option, Some, None, if◌then◌else◌, codes}
+use Rattle.std.specs.Prelude.{ℕ, Bool, true, false, List, [], Option, Some, None, codes}
 use Rattle.rdf_core.specs.Vocabulary.{xsd_string, xsd_boolean}
 use Rattle.rdf_core.specs.declared.term.Term.{Term}
 use Rattle.rdf_core.specs.declared.term.Term.TheVariants.{Blank, Iri, Literal}

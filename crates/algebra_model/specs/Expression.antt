@@ -1,6 +1,6 @@
 -- Expressions and their values (SPARQL 1.1 Query Language, section 17). `None` is an error: an
 -- unbound variable is one, and so is an operand that is one, but for the rows of the logic tables.
-use Rattle.std.specs.Prelude.{ℕ, Bool, true, false, List, [], ◌∷◌, Option, Some, None, option_map, is_some, get_or}
+use Rattle.std.specs.Prelude.{ℕ, Bool, false, List, [], ◌∷◌, Option, Some, None, option_map, is_some, get_or}
 use Rattle.rdf_core.specs.declared.term.Term.{Term}
 use Rattle.rdf_core.proofs.TermLaws.{term_eq}
 use Rattle.algebra_model.specs.Solution.{Solution}
