@@ -1,1 +1,15 @@
+pub mod LineEnds
+pub mod Hex
+pub mod Escapes
+pub mod Bodies
+pub mod Runs
+pub mod EscapeLaws
+pub mod BodyLaws
+pub mod RunLaws
+pub mod TerminalLaws
+pub mod LineLaws
+pub mod Meaning
+pub mod PieceLaws
+pub mod Spelled
+pub mod Again
 pub mod TransferSteps

@@ -1,2 +1,10 @@
+pub mod Characters
+pub mod Terminal
+pub mod Grammar
+pub mod Lines
+pub mod Pieces
+pub mod Laws
+pub mod Reading
+pub mod Views
 pub mod Device
 pub mod Transfer

@@ -1,9 +1,39 @@
-//! From bytes to quads: the lines of an N-Quads document, and the devices that bytes come from and
-//! go to.
+//! N-Quads: from the bytes of a document to its quads, and the devices that bytes come from and go
+//! to.
+//!
+//! [`read_piece`] takes whole lines of a document and gives their quads in order, or the first line
+//! that spells nothing. The crates above use its clauses `quads`, `lines` and `bad_line`.
+//!
+//! Standard: RDF 1.1 N-Quads (Recommendation of 2014), grammar, with four rules of our own: a CR that
+//! no LF follows ends a line too; an IRI has a scheme, and no escape in it names a character that
+//! could not stand there raw; a line with a byte order mark is bad; tags are kept in lower case.
+//!
+//! To read in this order: `fault`, `token` (the terminals), `statement` (the productions), `line`,
+//! `piece`, `laws`; and apart from these `device` and `transfer`.
+//!
+//! ```text
+//! let piece = read_piece(alloc, b"<http://e/a> <http://e/p> \"x\"@en-GB.\n")?;
+//! ```
+//! gives one quad and one line; the tests read such tables of lines.
+//!
+//! Not promised: full checking of IRIs, or that a language tag is registered.
 #![tactic(auto)]
 
+mod delimited;
 pub mod device;
+mod fault;
+mod front;
+pub mod laws;
+mod line;
+mod piece;
+mod statement;
+#[cfg(test)]
+mod tests;
+mod token;
 pub mod transfer;
 
 pub use device::{Device, DeviceFailed, Sink, Source};
+pub use fault::{LineFault, PieceFault};
+pub use line::read_line;
+pub use piece::{Piece, read_piece};
 pub use transfer::{ReadFault, read_more, read_to_end, write_all};

@@ -1,0 +1,550 @@
+-- A term is read back from its spelling.
+use Rattle.std.proofs.Common.{◌≡◌, ℕ, suc, ◌≤◌, ◌<◌, Bool, true, false, eqb, List, [], ◌∷◌, ◌++◌, length, map, Option, Some, None, refl, sym, ap, subst, ◌∙◌, append_assoc, append-nil, get_or, lit<, arith, inl, inr}
+use Rattle.std.specs.Prelude.{◌&&◌, ◌||◌}
+use Rattle.std.specs.List.{flat_map}
+use Rattle.std.specs.Char.{is_ascii_alphabetic, is_ascii_alphanumeric, to_ascii_lowercase}
+use Rattle.std.specs.Str.{NonePass, chars, encode_utf8_all, all_scalars}
+use Rattle.std.specs.Char.{encode_utf8}
+use Rattle.std.proofs.lemmas.Str.Ascii.{lowercase-lowercase}
+use Rattle.std.proofs.lemmas.List.Concat.{flat_map-append}
+use Rattle.std.proofs.lemmas.Bool.{eqb-true, cases_lt, lt-ltb}
+use Rattle.std.proofs.lemmas.Bool.Decides.{nat_tests}
+use Rattle.std.proofs.lemmas.Str.{encode_ascii, encodes-append, chars-encodes, inside_one, NoCharPasses-byte}
+use Rattle.rdf_core.specs.declared.term.Term.{Term}
+use Rattle.rdf_core.specs.QuadParts.{QuadParts}
+use Rattle.rdf_core.specs.declared.term.Term.TheVariants.{Blank, Iri, Literal}
+use Rattle.rdf_core.specs.Spelling.{spelling, suffix, escaped}
+use Rattle.nquads_core.specs.declared.delimited.Kind.TheVariants.{Iri, Quoted}
+use Rattle.nquads_core.specs.Characters.{is_iri_char, is_label_start, is_label_char, all_pass}
+use Rattle.nquads_core.specs.Terminal.{Terminal, iri_ref, blank_label, quoted, lang_tag, carets, dot, IsIriPart, IsStringPart, Writes, is_label, is_label_tail, is_tag, is_primary, is_subtags, begins, has_scheme}
+use Rattle.nquads_core.specs.Reading.{iri_at, string_at, label_tail_at, label_at, subtags_at, primary_at, tag_at, terminal_at, skip_blanks, next, literal_of, object_of, whole, statement_at, line_at}
+use Rattle.rdf_core.specs.Vocabulary.{xsd_string, rdf_lang_string}
+use Rattle.nquads_core.specs.Laws.{object_line, with_object, ReadsBack}
+use Rattle.std.specs.Str.{bytes_eq}
+use Rattle.std.proofs.lemmas.Slice.Eq.{bytes_eq-Decides}
+use lib.Utf8.{scalar}
+use Rattle.nquads_core.proofs.Spelled.{GoodText, GoodIri, GoodLabel, GoodTag, GoodTerm, term_good, sc_join}
+use Rattle.nquads_core.proofs.Escapes.{eqb_no}
+use Rattle.nquads_core.proofs.Runs.{which, ascii_cons, primary_ascii, alnum_ascii, alpha_ascii}
+use Rattle.nquads_core.proofs.EscapeLaws.{and_is, and_parts}
+use Rattle.nquads_core.proofs.BodyLaws.{body_again}
+use Rattle.nquads_core.proofs.LineLaws.{line_sound}
+use Rattle.nquads_core.proofs.Meaning.{OneLine}
+use Rattle.nquads_core.proofs.RunLaws.{or_no, or_parts, begins_more}
+
+-- ---- what stands behind an object
+
+abbrev End : List ℕ
+End = 32 ∷ 46 ∷ []
+
+-- ---- labels
+
+tail_char : (c : ℕ) (cs : List ℕ) → is_label_char c ≡ true → label_tail_at (c ∷ cs) ≡ (c ∷ (label_tail_at cs).0, (label_tail_at cs).1)
+unfolding label_tail_at
+tail_char c cs h = rw h refl
+
+tail_dot : (c : ℕ) (cs : List ℕ) (x : ℕ) (xs rest : List ℕ) → is_label_char c ≡ false → eqb c 46 ≡ true → label_tail_at cs ≡ (x ∷ xs, rest) → label_tail_at (c ∷ cs) ≡ (c ∷ x ∷ xs, rest)
+unfolding label_tail_at
+tail_dot c cs x xs rest h k e = rw (h, k, e) refl
+
+tail_stop : label_tail_at (32 ∷ 46 ∷ []) ≡ ([], 32 ∷ 46 ∷ [])
+unfolding label_tail_at is_label_char
+tail_stop = refl
+
+pair_cons : (c : ℕ) (t : List ℕ × List ℕ) (xs rest : List ℕ) → t ≡ (xs, rest) → ◌≡◌ {A = List ℕ × List ℕ} (c ∷ t.0, t.1) (c ∷ xs, rest)
+pair_cons c t xs rest e = ap (λ (y : List ℕ × List ℕ). (c ∷ y.0, y.1)) e
+
+label_tail_again : (tail : List ℕ) → is_label_tail tail ≡ true → label_tail_at (tail ++ End) ≡ (tail, End)
+label_tail_again [] h = tail_stop
+label_tail_again (c ∷ []) h = tail_char c End h ∙ pair_cons c (label_tail_at End) [] End tail_stop
+label_tail_again (c ∷ d ∷ tail) h =
+    let p = and_parts (is_label_char c || eqb c 46) (is_label_tail (d ∷ tail)) h in
+    let ih = label_tail_again (d ∷ tail) p.1 in
+    elim (which (is_label_char c)) [
+      | inl k ↦ tail_char c (d ∷ tail ++ End) k ∙ pair_cons c (label_tail_at (d ∷ tail ++ End)) (d ∷ tail) End ih
+      | inr k ↦ tail_dot c (d ∷ tail ++ End) d tail End k (or_no (is_label_char c) (eqb c 46) p.0 k) ih
+    ]
+
+label_again : (cs : List ℕ) → is_label cs ≡ true → label_at (cs ++ End) ≡ Some (encode_utf8_all cs, End)
+unfolding label_at
+label_again [] h = absurd cc
+label_again (c ∷ tail) h =
+    let p = and_parts (is_label_start c) (is_label_tail tail) h in
+    rw (p.0, label_tail_again tail p.1) refl
+
+-- ---- tags
+
+subtags_step : (c : ℕ) (cs xs rest : List ℕ) → (is_ascii_alphanumeric c || (eqb c 45 && begins is_ascii_alphanumeric cs)) ≡ true → subtags_at cs ≡ (xs, rest) → subtags_at (c ∷ cs) ≡ (c ∷ xs, rest)
+unfolding subtags_at
+subtags_step c cs xs rest h e = rw (h, e) refl
+
+subtags_stop : subtags_at (32 ∷ 46 ∷ []) ≡ ([], 32 ∷ 46 ∷ [])
+unfolding subtags_at
+subtags_stop = refl
+
+or_mono : (a b c : Bool) → (b ≡ true → c ≡ true) → (a || b) ≡ true → (a || c) ≡ true
+or_mono true b c f h = refl
+or_mono false b c f h = f h
+
+and_mono : (a b c : Bool) → (b ≡ true → c ≡ true) → (a && b) ≡ true → (a && c) ≡ true
+and_mono true b c f h = f h
+and_mono false b c f h = h
+
+more : (c : ℕ) (front : List ℕ) → (eqb c 45 && begins is_ascii_alphanumeric front) ≡ true → (eqb c 45 && begins is_ascii_alphanumeric (front ++ End)) ≡ true
+more c front = and_mono (eqb c 45) (begins is_ascii_alphanumeric front) (begins is_ascii_alphanumeric (front ++ End)) (begins_more is_ascii_alphanumeric front End)
+
+subtags_again : (front : List ℕ) → is_subtags front ≡ true → subtags_at (front ++ End) ≡ (front, End)
+subtags_again [] h = subtags_stop
+subtags_again (c ∷ front) h =
+    let p = and_parts (is_ascii_alphanumeric c || (eqb c 45 && begins is_ascii_alphanumeric front)) (is_subtags front) h in
+    subtags_step c (front ++ End) front End
+    (or_mono (is_ascii_alphanumeric c) (eqb c 45 && begins is_ascii_alphanumeric front) (eqb c 45 && begins is_ascii_alphanumeric (front ++ End)) (more c front) p.0)
+    (subtags_again front p.1)
+
+primary_alpha : (c : ℕ) (cs xs rest : List ℕ) → is_ascii_alphabetic c ≡ true → primary_at cs ≡ (xs, rest) → primary_at (c ∷ cs) ≡ (c ∷ xs, rest)
+unfolding primary_at
+primary_alpha c cs xs rest h e = rw (h, e) refl
+
+primary_hyphen : (c : ℕ) (cs xs rest : List ℕ) → is_ascii_alphabetic c ≡ false → (eqb c 45 && begins is_ascii_alphanumeric cs) ≡ true → subtags_at cs ≡ (xs, rest) → primary_at (c ∷ cs) ≡ (c ∷ xs, rest)
+unfolding primary_at
+primary_hyphen c cs xs rest h k e = rw (h, k, e) refl
+
+primary_stop : primary_at (32 ∷ 46 ∷ []) ≡ ([], 32 ∷ 46 ∷ [])
+unfolding primary_at
+primary_stop = refl
+
+hyphen_no_letter : (c : ℕ) → eqb c 45 ≡ true → is_ascii_alphabetic c ≡ false
+hyphen_no_letter c h = rw (eqb-true c 45 h) refl
+
+primary_again : (front : List ℕ) → is_primary front ≡ true → primary_at (front ++ End) ≡ (front, End)
+primary_again [] h = primary_stop
+primary_again (c ∷ front) h =
+    elim (or_parts (is_ascii_alphabetic c && is_primary front) ((eqb c 45 && begins is_ascii_alphanumeric front) && is_subtags front) h) [
+      | inl k ↦ let p = and_parts (is_ascii_alphabetic c) (is_primary front) k in primary_alpha c (front ++ End) front End p.0 (primary_again front p.1)
+      | inr k ↦
+          let p = and_parts (eqb c 45 && begins is_ascii_alphanumeric front) (is_subtags front) k in
+          let q = and_parts (eqb c 45) (begins is_ascii_alphanumeric front) p.0 in
+          primary_hyphen c (front ++ End) front End (hyphen_no_letter c q.0) (more c front p.0) (subtags_again front p.1)
+    ]
+
+tag_again : (cs : List ℕ) → is_tag cs ≡ true → tag_at (cs ++ End) ≡ Some (map to_ascii_lowercase cs, End)
+unfolding tag_at
+tag_again cs h =
+    let p = and_parts (begins is_ascii_alphabetic cs) (is_primary cs) h in
+    rw (begins_more is_ascii_alphabetic cs End p.0, primary_again cs p.1) refl
+
+-- the lower case of a tag is a tag
+lower_alpha : (c : ℕ) → is_ascii_alphabetic (to_ascii_lowercase c) ≡ is_ascii_alphabetic c
+lower_alpha c = grind (arith, nat_tests)
+
+lower_alnum : (c : ℕ) → is_ascii_alphanumeric (to_ascii_lowercase c) ≡ is_ascii_alphanumeric c
+lower_alnum c = grind (arith, nat_tests)
+
+lower_hyphen : (c : ℕ) → eqb (to_ascii_lowercase c) 45 ≡ eqb c 45
+lower_hyphen c = grind (arith, nat_tests)
+
+-- ---- IRIs and strings
+
+raw_iri : (cs : List ℕ) → all_pass is_iri_char cs ≡ true → Writes IsIriPart cs cs
+raw_iri [] h = refl
+raw_iri (c ∷ cs) h = let p = and_parts (is_iri_char c) (all_pass is_iri_char cs) h in (c ∷ [], cs, refl, (p.0, inl refl), raw_iri cs p.1)
+
+iri_again : (cs bytes rest : List ℕ) → all_pass is_iri_char cs ≡ true → bytes ≡ encode_utf8_all cs → has_scheme bytes ≡ true → iri_at (cs ++ 62 ∷ rest) ≡ Some (bytes, rest)
+unfolding iri_at
+iri_again cs bytes rest h u s =
+    rw (body_again Iri cs cs rest (raw_iri cs h), ← u, s) refl
+
+escaped_part : (c : ℕ) → IsStringPart (escaped c) c
+escaped_part c =
+    elim (which (eqb c 34)) [
+      | inl h ↦ rw (eqb-true c 34 h) (inr (inl (record { letter = 34; parts = refl; names = refl })))
+      | inr h1 ↦ elim (which (eqb c 92)) [
+        | inl h ↦ rw (eqb-true c 92 h) (inr (inl (record { letter = 92; parts = refl; names = refl })))
+        | inr h2 ↦ elim (which (eqb c 10)) [
+          | inl h ↦ rw (eqb-true c 10 h) (inr (inl (record { letter = 110; parts = refl; names = refl })))
+          | inr h3 ↦ elim (which (eqb c 13)) [
+            | inl h ↦ rw (eqb-true c 13 h) (inr (inl (record { letter = 114; parts = refl; names = refl })))
+            | inr h4 ↦ rw (h1, h2, h3, h4) (inl (refl, refl))
+          ]
+        ]
+      ]
+    ]
+
+escaped_writes : (cs : List ℕ) → Writes IsStringPart (flat_map escaped cs) cs
+escaped_writes [] = refl
+escaped_writes (c ∷ cs) = (escaped c, flat_map escaped cs, refl, escaped_part c, escaped_writes cs)
+
+string_again : (cs rest : List ℕ) → string_at (flat_map escaped cs ++ 34 ∷ rest) ≡ Some (encode_utf8_all cs, rest)
+string_again cs rest = rw (body_again Quoted cs (flat_map escaped cs) rest (escaped_writes cs)) refl
+
+-- ---- the lower case of a tag
+
+lower_begins : (p : ℕ → Bool) (cs : List ℕ) → ((c : ℕ) → p (to_ascii_lowercase c) ≡ p c) → begins p (map to_ascii_lowercase cs) ≡ begins p cs
+lower_begins p [] h = refl
+lower_begins p (c ∷ cs) h = h c
+
+lower_subtags : (cs : List ℕ) → is_subtags (map to_ascii_lowercase cs) ≡ is_subtags cs
+lower_subtags [] = refl
+lower_subtags (c ∷ cs) = rw (lower_alnum c, lower_hyphen c, lower_begins is_ascii_alphanumeric cs lower_alnum, lower_subtags cs) refl
+
+lower_primary : (cs : List ℕ) → is_primary (map to_ascii_lowercase cs) ≡ is_primary cs
+lower_primary [] = refl
+lower_primary (c ∷ cs) = rw (lower_alpha c, lower_hyphen c, lower_begins is_ascii_alphanumeric cs lower_alnum, lower_subtags cs, lower_primary cs) refl
+
+lower_tag : (cs : List ℕ) → is_tag cs ≡ true → is_tag (map to_ascii_lowercase cs) ≡ true
+lower_tag cs h = rw (lower_begins is_ascii_alphabetic cs lower_alpha, lower_primary cs) h
+
+lower_twice : (cs : List ℕ) → map to_ascii_lowercase (map to_ascii_lowercase cs) ≡ map to_ascii_lowercase cs
+lower_twice [] = refl
+lower_twice (c ∷ cs) = rw (lowercase-lowercase c, lower_twice cs) refl
+
+-- ---- no line end
+
+abbrev is_line_end : ℕ → Bool
+is_line_end c = eqb c 10 || eqb c 13
+
+false_true : false ≡ true → ⊥
+false_true e = cc
+
+no_end : (p : ℕ → Bool) (c : ℕ) → p 10 ≡ false → p 13 ≡ false → p c ≡ true → is_line_end c ≡ false
+no_end p c a b h =
+    elim (which (is_line_end c)) [
+      | inl e ↦ elim (or_parts (eqb c 10) (eqb c 13) e) [
+        | inl k ↦ absurd (false_true (sym a ∙ ap p (sym (eqb-true c 10 k)) ∙ h))
+        | inr k ↦ absurd (false_true (sym b ∙ ap p (sym (eqb-true c 13 k)) ∙ h))
+      ]
+      | inr e ↦ e
+    ]
+
+none_join : (a b : List ℕ) → NonePass is_line_end a → NonePass is_line_end b → NonePass is_line_end (a ++ b)
+none_join [] b h k = k
+none_join (c ∷ a) b h k = (h.0, none_join a b h.1 k)
+
+start_none : (c : ℕ) → is_label_start c ≡ true → is_line_end c ≡ false
+unfolding is_label_start
+start_none c h = no_end is_label_start c refl refl h
+
+char_none : (c : ℕ) → (is_label_char c || eqb c 46) ≡ true → is_line_end c ≡ false
+unfolding is_label_char
+char_none c h = no_end (λ x. is_label_char x || eqb x 46) c refl refl h
+
+tail_none : (tail : List ℕ) → is_label_tail tail ≡ true → NonePass is_line_end tail
+tail_none [] h = tt
+tail_none (c ∷ []) h = (char_none c (rw h refl), tt)
+tail_none (c ∷ d ∷ tail) h =
+    let p = and_parts (is_label_char c || eqb c 46) (is_label_tail (d ∷ tail)) h in
+    (char_none c p.0, tail_none (d ∷ tail) p.1)
+
+label_none : (cs : List ℕ) → is_label cs ≡ true → NonePass is_line_end cs
+label_none [] h = tt
+label_none (c ∷ tail) h = let p = and_parts (is_label_start c) (is_label_tail tail) h in (start_none c p.0, tail_none tail p.1)
+
+iri_none : (cs : List ℕ) → all_pass is_iri_char cs ≡ true → NonePass is_line_end cs
+iri_none [] h = tt
+iri_none (c ∷ cs) h = let p = and_parts (is_iri_char c) (all_pass is_iri_char cs) h in (no_end is_iri_char c refl refl p.0, iri_none cs p.1)
+
+alnum_none : (c : ℕ) (b : Bool) → (is_ascii_alphanumeric c || (eqb c 45 && b)) ≡ true → is_line_end c ≡ false
+alnum_none c b h = grind (arith, nat_tests)
+
+alpha_none : (c : ℕ) → is_ascii_alphabetic c ≡ true → is_line_end c ≡ false
+alpha_none c h = no_end is_ascii_alphabetic c refl refl h
+
+subtags_none : (cs : List ℕ) → is_subtags cs ≡ true → NonePass is_line_end cs
+subtags_none [] h = tt
+subtags_none (c ∷ cs) h =
+    let p = and_parts (is_ascii_alphanumeric c || (eqb c 45 && begins is_ascii_alphanumeric cs)) (is_subtags cs) h in
+    (alnum_none c (begins is_ascii_alphanumeric cs) p.0, subtags_none cs p.1)
+
+primary_none : (cs : List ℕ) → is_primary cs ≡ true → NonePass is_line_end cs
+primary_none [] h = tt
+primary_none (c ∷ cs) h =
+    elim (or_parts (is_ascii_alphabetic c && is_primary cs) ((eqb c 45 && begins is_ascii_alphanumeric cs) && is_subtags cs) h) [
+      | inl k ↦ let p = and_parts (is_ascii_alphabetic c) (is_primary cs) k in (alpha_none c p.0, primary_none cs p.1)
+      | inr k ↦
+          let p = and_parts (eqb c 45 && begins is_ascii_alphanumeric cs) (is_subtags cs) k in
+          let q = and_parts (eqb c 45) (begins is_ascii_alphanumeric cs) p.0 in
+          (rw (eqb-true c 45 q.0) refl, subtags_none cs p.1)
+    ]
+
+escaped_none : (c : ℕ) → NonePass is_line_end (escaped c)
+escaped_none c =
+    elim (which (eqb c 34)) [
+      | inl h ↦ rw (eqb-true c 34 h) (refl, (refl, tt))
+      | inr h1 ↦ elim (which (eqb c 92)) [
+        | inl h ↦ rw (eqb-true c 92 h) (refl, (refl, tt))
+        | inr h2 ↦ elim (which (eqb c 10)) [
+          | inl h ↦ rw (eqb-true c 10 h) (refl, (refl, tt))
+          | inr h3 ↦ elim (which (eqb c 13)) [
+            | inl h ↦ rw (eqb-true c 13 h) (refl, (refl, tt))
+            | inr h4 ↦ rw (h1, h2, h3, h4) (rw (h3, h4) refl, tt)
+          ]
+        ]
+      ]
+    ]
+
+lexical_none : (cs : List ℕ) → NonePass is_line_end (flat_map escaped cs)
+lexical_none [] = tt
+lexical_none (c ∷ cs) = none_join (escaped c) (flat_map escaped cs) (escaped_none c) (lexical_none cs)
+
+-- ---- escapes in UTF-8
+
+high_bytes : (bs : List ℕ) → ((k : ℕ) → k < length bs → 128 ≤ get_or bs k 0) → flat_map escaped bs ≡ bs
+high_bytes [] h = refl
+high_bytes (b ∷ bs) h =
+    let l : 128 ≤ b = h 0 (omega arith) in
+    rw (eqb_no b 34 (λ e. omega arith), eqb_no b 92 (λ e. omega arith), eqb_no b 10 (λ e. omega arith), eqb_no b 13 (λ e. omega arith))
+    (ap (λ (y : List ℕ). b ∷ y) (high_bytes bs (λ k m. h (suc k) (omega arith))))
+
+low_char : (c : ℕ) → c < 128 → encode_utf8_all (escaped c) ≡ escaped c
+low_char c l =
+    elim (which (eqb c 34)) [
+      | inl h ↦ rw (eqb-true c 34 h) (ascii_cons 92 (34 ∷ []) (lit< tt) (ascii_cons 34 [] (lit< tt) refl))
+      | inr h1 ↦ elim (which (eqb c 92)) [
+        | inl h ↦ rw (eqb-true c 92 h) (ascii_cons 92 (92 ∷ []) (lit< tt) (ascii_cons 92 [] (lit< tt) refl))
+        | inr h2 ↦ elim (which (eqb c 10)) [
+          | inl h ↦ rw (eqb-true c 10 h) (ascii_cons 92 (110 ∷ []) (lit< tt) (ascii_cons 110 [] (lit< tt) refl))
+          | inr h3 ↦ elim (which (eqb c 13)) [
+            | inl h ↦ rw (eqb-true c 13 h) (ascii_cons 92 (114 ∷ []) (lit< tt) (ascii_cons 114 [] (lit< tt) refl))
+            | inr h4 ↦ rw (h1, h2, h3, h4) (ascii_cons c [] l refl)
+          ]
+        ]
+      ]
+    ]
+
+one_escaped : (c : ℕ) → flat_map escaped (encode_utf8 c) ≡ encode_utf8_all (escaped c)
+one_escaped c =
+    elim (cases_lt c 128) [
+      | inl l ↦ rw (encode_ascii c l) (append-nil (escaped c) ∙ sym (low_char c l))
+      | inr l ↦
+          let high = high_bytes (encode_utf8 c) (λ k m. elim (cases_lt (get_or (encode_utf8 c) k 0) 128) [
+            | inl n ↦ absurd (let e = inside_one c [] (encode_utf8 c) k (sym (append-nil (encode_utf8 c))) m n in omega (arith, e))
+            | inr n ↦ n
+          ]) in
+          rw (eqb_no c 34 (λ e. omega arith), eqb_no c 92 (λ e. omega arith), eqb_no c 10 (λ e. omega arith), eqb_no c 13 (λ e. omega arith)) (high ∙ sym (append-nil (encode_utf8 c)))
+    ]
+
+lexical_utf8 : (cs : List ℕ) → flat_map escaped (encode_utf8_all cs) ≡ encode_utf8_all (flat_map escaped cs)
+lexical_utf8 [] = refl
+lexical_utf8 (c ∷ cs) =
+    flat_map-append escaped (encode_utf8 c) (encode_utf8_all cs) ∙ ap (λ (y : List ℕ). y ++ flat_map escaped (encode_utf8_all cs)) (one_escaped c) ∙ ap (λ (y : List ℕ). encode_utf8_all (escaped c) ++ y) (lexical_utf8 cs) ∙ sym (encodes-append (escaped c) (flat_map escaped cs))
+
+-- ---- terms
+
+next_dot : next (32 ∷ 46 ∷ []) ≡ Some (dot, [])
+unfolding skip_blanks terminal_at
+next_dot = refl
+
+next_label : (cs : List ℕ) → is_label cs ≡ true → next (32 ∷ 95 ∷ 58 ∷ cs ++ End) ≡ Some (blank_label (encode_utf8_all cs), End)
+unfolding skip_blanks terminal_at
+next_label cs h = rw (label_again cs h) refl
+
+next_iri : (cs bytes rest : List ℕ) → all_pass is_iri_char cs ≡ true → bytes ≡ encode_utf8_all cs → has_scheme bytes ≡ true → next (60 ∷ (cs ++ 62 ∷ rest)) ≡ Some (iri_ref bytes, rest)
+unfolding skip_blanks terminal_at
+next_iri cs bytes rest h u s = rw (iri_again cs bytes rest h u s) refl
+
+next_blank_iri : (cs bytes rest : List ℕ) → all_pass is_iri_char cs ≡ true → bytes ≡ encode_utf8_all cs → has_scheme bytes ≡ true → next (32 ∷ 60 ∷ (cs ++ 62 ∷ rest)) ≡ Some (iri_ref bytes, rest)
+unfolding skip_blanks terminal_at
+next_blank_iri cs bytes rest h u s = rw (iri_again cs bytes rest h u s) refl
+
+next_string : (cs rest : List ℕ) → next (32 ∷ 34 ∷ (flat_map escaped cs ++ 34 ∷ rest)) ≡ Some (quoted (encode_utf8_all cs), rest)
+unfolding skip_blanks terminal_at
+next_string cs rest = rw (string_again cs rest) refl
+
+next_tag : (cs : List ℕ) → is_tag cs ≡ true → next (64 ∷ cs ++ End) ≡ Some (lang_tag (map to_ascii_lowercase cs), End)
+unfolding skip_blanks terminal_at
+next_tag cs h = rw (tag_again cs h) refl
+
+next_carets : (rest : List ℕ) → next (94 ∷ 94 ∷ rest) ≡ Some (carets, rest)
+unfolding skip_blanks terminal_at
+next_carets rest = refl
+
+enc_cons : (c : ℕ) (cs : List ℕ) → c < 128 → encode_utf8_all (c ∷ cs) ≡ c ∷ encode_utf8_all cs
+enc_cons c cs h = rw (encode_ascii c h) refl
+
+record Written (t : Term) : Type 0 where
+  S : List ℕ
+  scalars : all_scalars S ≡ true
+  utf8 : spelling t ≡ encode_utf8_all S
+  plain : NonePass is_line_end S
+  k : Terminal
+  r : List ℕ
+  w : Terminal × List ℕ
+  first : next (32 ∷ (S ++ End)) ≡ Some (k, r)
+  second : next r ≡ Some w
+  object : object_of k w ≡ Some (t, (dot, []))
+
+written_label : (label : List ℕ) → GoodLabel label → Written (Blank label)
+written_label label g = record {
+  S = 95 ∷ 58 ∷ g.chars;
+  scalars = g.scalars;
+  utf8 = sym (enc_cons 95 (58 ∷ g.chars) (lit< tt) ∙ ap (λ (y : List ℕ). 95 ∷ y) (enc_cons 58 g.chars (lit< tt) ∙ ap (λ (y : List ℕ). 58 ∷ y) (sym g.utf8)));
+  plain = (refl, (refl, label_none g.chars g.right));
+  k = blank_label label;
+  r = End;
+  w = (dot, []);
+  first = next_label g.chars g.right ∙ ap (λ (y : List ℕ). Some (blank_label y, End)) (sym g.utf8);
+  second = next_dot;
+  object = refl;
+}
+
+iri_utf8 : (cs bytes : List ℕ) → bytes ≡ encode_utf8_all cs → 60 ∷ (bytes ++ 62 ∷ []) ≡ encode_utf8_all (60 ∷ (cs ++ 62 ∷ []))
+iri_utf8 cs bytes u =
+    sym (enc_cons 60 (cs ++ 62 ∷ []) (lit< tt) ∙ ap (λ (y : List ℕ). 60 ∷ y) (encodes-append cs (62 ∷ []) ∙ ap (λ (y : List ℕ). encode_utf8_all cs ++ y) (enc_cons 62 [] (lit< tt)) ∙ ap (λ (y : List ℕ). y ++ 62 ∷ []) (sym u)))
+
+written_iri : (text : List ℕ) → GoodIri text → Written (Iri text)
+written_iri text g = record {
+  S = 60 ∷ (g.chars ++ 62 ∷ []);
+  scalars = sc_join g.chars (62 ∷ []) g.scalars refl;
+  utf8 = iri_utf8 g.chars text g.utf8;
+  plain = (refl, none_join g.chars (62 ∷ []) (iri_none g.chars g.right) (refl, tt));
+  k = iri_ref text;
+  r = End;
+  w = (dot, []);
+  first = ap (λ (y : List ℕ). next (32 ∷ 60 ∷ y)) (append_assoc g.chars (62 ∷ []) End) ∙ next_blank_iri g.chars text End g.right g.utf8 g.scheme;
+  second = next_dot;
+  object = refl;
+}
+
+escaped_scalars : (c : ℕ) → scalar c ≡ true → all_scalars (escaped c) ≡ true
+escaped_scalars c s =
+    elim (which (eqb c 34)) [
+      | inl h ↦ rw h refl
+      | inr h1 ↦ elim (which (eqb c 92)) [
+        | inl h ↦ rw (h1, h) refl
+        | inr h2 ↦ elim (which (eqb c 10)) [
+          | inl h ↦ rw (h1, h2, h) refl
+          | inr h3 ↦ elim (which (eqb c 13)) [
+            | inl h ↦ rw (h1, h2, h3, h) refl
+            | inr h4 ↦ rw (h1, h2, h3, h4) (and_is (scalar c) true s refl)
+          ]
+        ]
+      ]
+    ]
+
+lexical_scalars : (cs : List ℕ) → all_scalars cs ≡ true → all_scalars (flat_map escaped cs) ≡ true
+lexical_scalars [] h = refl
+lexical_scalars (c ∷ cs) h = let p = and_parts (scalar c) (all_scalars cs) h in sc_join (escaped c) (flat_map escaped cs) (escaped_scalars c p.0) (lexical_scalars cs p.1)
+
+lit_utf8 : (lex cs B suf : List ℕ) → lex ≡ encode_utf8_all cs → B ≡ encode_utf8_all suf → 34 ∷ (flat_map escaped lex ++ 34 ∷ B) ≡ encode_utf8_all (34 ∷ (flat_map escaped cs ++ 34 ∷ suf))
+lit_utf8 lex cs B suf u v =
+    sym (enc_cons 34 (flat_map escaped cs ++ 34 ∷ suf) (lit< tt) ∙ ap (λ (y : List ℕ). 34 ∷ y)
+    (encodes-append (flat_map escaped cs) (34 ∷ suf) ∙ ap (λ (y : List ℕ). encode_utf8_all (flat_map escaped cs) ++ y) (enc_cons 34 suf (lit< tt) ∙ ap (λ (y : List ℕ). 34 ∷ y) (sym v))
+    ∙ ap (λ (y : List ℕ). y ++ 34 ∷ B) (sym (lexical_utf8 cs) ∙ ap (λ (y : List ℕ). flat_map escaped y) (sym u))))
+
+written_literal : (lex dt : List ℕ) (tag : Option (List ℕ)) → GoodText lex → (suf : List ℕ) → suffix dt tag ≡ encode_utf8_all suf → all_scalars suf ≡ true → NonePass is_line_end suf → (w : Terminal × List ℕ) → next (suf ++ End) ≡ Some w → literal_of lex w ≡ Some (Literal lex dt tag, (dot, [])) → Written (Literal lex dt tag)
+written_literal lex dt tag g suf v sc np w e o = record {
+  S = 34 ∷ (flat_map escaped g.chars ++ 34 ∷ suf);
+  scalars = sc_join (flat_map escaped g.chars) (34 ∷ suf) (lexical_scalars g.chars g.scalars) sc;
+  utf8 = lit_utf8 lex g.chars (suffix dt tag) suf g.utf8 v;
+  plain = (refl, none_join (flat_map escaped g.chars) (34 ∷ suf) (lexical_none g.chars) (refl, np));
+  k = quoted lex;
+  r = suf ++ End;
+  w = w;
+  first = ap (λ (y : List ℕ). next (32 ∷ 34 ∷ y)) (append_assoc (flat_map escaped g.chars) (34 ∷ suf) End) ∙ next_string g.chars (suf ++ End) ∙ ap (λ (y : List ℕ). Some (quoted y, suf ++ End)) (sym g.utf8);
+  second = e;
+  object = o;
+}
+
+plain_literal : (lex : List ℕ) → GoodText lex → Written (Literal lex xsd_string None)
+plain_literal lex g = written_literal lex xsd_string None g [] refl refl tt (dot, []) next_dot refl
+
+typed_literal : (lex dt : List ℕ) → GoodText lex → GoodIri dt → Written (Literal lex dt None)
+typed_literal lex dt g i =
+    elim (which (bytes_eq dt xsd_string)) [
+      | inl h ↦ subst (λ (y : List ℕ). Written (Literal lex y None)) (sym ((bytes_eq-Decides dt xsd_string).0 h)) (plain_literal lex g)
+      | inr h ↦
+          let tail = 60 ∷ (i.chars ++ 62 ∷ []) in
+          let iri = ap (λ (y : List ℕ). next (60 ∷ y)) (append_assoc i.chars (62 ∷ []) End) ∙ next_iri i.chars dt End i.right i.utf8 i.scheme in
+          let enc = enc_cons 94 (94 ∷ 60 ∷ (i.chars ++ 62 ∷ [])) (lit< tt) ∙ ap (λ (y : List ℕ). 94 ∷ y) (enc_cons 94 (60 ∷ (i.chars ++ 62 ∷ [])) (lit< tt) ∙ ap (λ (y : List ℕ). 94 ∷ y) (sym (iri_utf8 i.chars dt i.utf8))) in
+          written_literal lex dt None g (94 ∷ 94 ∷ 60 ∷ (i.chars ++ 62 ∷ [])) (rw h (sym enc)) (sc_join i.chars (62 ∷ []) i.scalars refl)
+          (refl, (refl, (refl, none_join i.chars (62 ∷ []) (iri_none i.chars i.right) (refl, tt))))
+          (carets, 60 ∷ (i.chars ++ 62 ∷ []) ++ End) (next_carets (60 ∷ (i.chars ++ 62 ∷ []) ++ End)) (rw iri (rw next_dot refl))
+    ]
+
+tag_ascii : (cs : List ℕ) → is_primary cs ≡ true → encode_utf8_all cs ≡ cs
+tag_ascii cs h = ap (λ (y : List ℕ × List ℕ). encode_utf8_all y.0) (sym (primary_again cs h)) ∙ primary_ascii (cs ++ End) ∙ ap (λ (y : List ℕ × List ℕ). y.0) (primary_again cs h)
+
+low_scalar : (c : ℕ) → c < 128 → scalar c ≡ true
+low_scalar c h = rw (lt-ltb c 55296 (omega arith)) refl
+
+subtags_scalars : (cs : List ℕ) → is_subtags cs ≡ true → all_scalars cs ≡ true
+subtags_scalars [] h = refl
+subtags_scalars (c ∷ cs) h =
+    let p = and_parts (is_ascii_alphanumeric c || (eqb c 45 && begins is_ascii_alphanumeric cs)) (is_subtags cs) h in
+    and_is (scalar c) (all_scalars cs) (low_scalar c (alnum_ascii c (begins is_ascii_alphanumeric cs) p.0)) (subtags_scalars cs p.1)
+
+tag_scalars : (cs : List ℕ) → is_primary cs ≡ true → all_scalars cs ≡ true
+tag_scalars [] h = refl
+tag_scalars (c ∷ cs) h =
+    elim (or_parts (is_ascii_alphabetic c && is_primary cs) ((eqb c 45 && begins is_ascii_alphanumeric cs) && is_subtags cs) h) [
+      | inl k ↦ let p = and_parts (is_ascii_alphabetic c) (is_primary cs) k in and_is (scalar c) (all_scalars cs) (low_scalar c (alpha_ascii c p.0)) (tag_scalars cs p.1)
+      | inr k ↦
+          let p = and_parts (eqb c 45 && begins is_ascii_alphanumeric cs) (is_subtags cs) k in
+          let q = and_parts (eqb c 45) (begins is_ascii_alphanumeric cs) p.0 in
+          and_is (scalar c) (all_scalars cs) (rw (eqb-true c 45 q.0) refl) (subtags_scalars cs p.1)
+    ]
+
+tagged_literal : (lex tag : List ℕ) → GoodText lex → GoodTag tag → Written (Literal lex rdf_lang_string (Some tag))
+tagged_literal lex tag g t =
+    let T = map to_ascii_lowercase t.tag in
+    let right : is_tag (map to_ascii_lowercase t.tag) ≡ true = lower_tag t.tag t.right in
+    let p = and_parts (begins is_ascii_alphabetic T) (is_primary T) right in
+    let read = next_tag T right ∙ ap (λ (y : List ℕ). Some (lang_tag y, End)) (lower_twice t.tag ∙ sym t.lower) in
+    written_literal lex rdf_lang_string (Some tag) g (64 ∷ T) (sym (enc_cons 64 T (lit< tt) ∙ ap (λ (y : List ℕ). 64 ∷ y) (tag_ascii T p.1 ∙ sym t.lower))) (tag_scalars T p.1) (refl, primary_none T p.1)
+    (lang_tag tag, End) read (rw next_dot refl)
+
+written : (t : Term) → GoodTerm t → Written t
+written (Blank label) g = written_label label g
+written (Iri text) g = written_iri text g
+written (Literal lex dt None) g =
+    elim g.1 [ inl e ↦ subst (λ (y : List ℕ). Written (Literal lex y None)) (sym e) (plain_literal lex g.0) | inr i ↦ typed_literal lex dt g.0 i ]
+written (Literal lex dt (Some tag)) g = subst (λ (y : List ℕ). Written (Literal lex y (Some tag))) (sym g.1) (tagged_literal lex tag g.0 g.2)
+
+-- ---- the line
+
+front_a : (rest : List ℕ) → next (60 ∷ 97 ∷ 58 ∷ 62 ∷ rest) ≡ Some (iri_ref (97 ∷ 58 ∷ []), rest)
+front_a rest = next_iri (97 ∷ 58 ∷ []) (97 ∷ 58 ∷ []) rest refl (sym (enc_cons 97 (58 ∷ []) (lit< tt) ∙ ap (λ (y : List ℕ). 97 ∷ y) (enc_cons 58 [] (lit< tt)))) refl
+
+front_b : (rest : List ℕ) → next (32 ∷ 60 ∷ 97 ∷ 58 ∷ 62 ∷ rest) ≡ Some (iri_ref (97 ∷ 58 ∷ []), rest)
+front_b rest = next_blank_iri (97 ∷ 58 ∷ []) (97 ∷ 58 ∷ []) rest refl (sym (enc_cons 97 (58 ∷ []) (lit< tt) ∙ ap (λ (y : List ℕ). 97 ∷ y) (enc_cons 58 [] (lit< tt)))) refl
+
+whole_nil : (q : QuadParts) → whole q [] ≡ Some (Some q)
+unfolding skip_blanks
+whole_nil q = refl
+
+statement_with : (t : Term) (h : Written t) → statement_at (60 ∷ 97 ∷ 58 ∷ 62 ∷ 32 ∷ 60 ∷ 97 ∷ 58 ∷ 62 ∷ 32 ∷ (h.S ++ End)) ≡ Some (Some (with_object t))
+unfolding statement_at
+statement_with t h =
+    rw (front_a (32 ∷ 60 ∷ 97 ∷ 58 ∷ 62 ∷ 32 ∷ (h.S ++ End))) (rw (front_b (32 ∷ (h.S ++ End))) (rw (h.first) (rw (h.second) (rw (h.object) (whole_nil (with_object t))))))
+
+line_with : (t : Term) (h : Written t) → line_at (60 ∷ 97 ∷ 58 ∷ 62 ∷ 32 ∷ 60 ∷ 97 ∷ 58 ∷ 62 ∷ 32 ∷ (h.S ++ End)) ≡ Some (Some (with_object t))
+unfolding line_at skip_blanks
+line_with t h = statement_with t h
+
+line_utf8 : (t : Term) (h : Written t) → encode_utf8_all (60 ∷ 97 ∷ 58 ∷ 62 ∷ 32 ∷ 60 ∷ 97 ∷ 58 ∷ 62 ∷ 32 ∷ (h.S ++ End)) ≡ object_line t
+line_utf8 t h =
+    rw (encode_ascii 60 (lit< tt), encode_ascii 97 (lit< tt), encode_ascii 58 (lit< tt), encode_ascii 62 (lit< tt), encode_ascii 32 (lit< tt), encodes-append h.S End, ← h.utf8)
+    (ap (λ (y : List ℕ). 60 ∷ 97 ∷ 58 ∷ 62 ∷ 32 ∷ 60 ∷ 97 ∷ 58 ∷ 62 ∷ 32 ∷ (spelling t ++ y)) (enc_cons 32 (46 ∷ []) (lit< tt) ∙ ap (λ (y : List ℕ). 32 ∷ y) (enc_cons 46 [] (lit< tt))))
+
+-- a byte that ends a line would be a character that does
+one_line_of : (line cs : List ℕ) → encode_utf8_all cs ≡ line → NonePass is_line_end cs → OneLine line
+one_line_of line cs e n = λ i l. (
+  λ k. false_true (sym (NoCharPasses-byte is_line_end line i (cs, e, n) l (omega (arith, k))) ∙ ap is_line_end k),
+  λ k. false_true (sym (NoCharPasses-byte is_line_end line i (cs, e, n) l (omega (arith, k))) ∙ ap is_line_end k),
+)
+
+pub reads_back : ReadsBack
+reads_back line q t s o =
+    let h = written t (term_good line q t s o) in
+    let cs : List ℕ = 60 ∷ 97 ∷ 58 ∷ 62 ∷ 32 ∷ 60 ∷ 97 ∷ 58 ∷ 62 ∷ 32 ∷ (h.S ++ End) in
+    let sc : all_scalars cs ≡ true = sc_join h.S End h.scalars refl in
+    let e = line_utf8 t h in
+    let read : line_at (chars (object_line t)) ≡ Some (Some (with_object t)) = ap (λ (y : List ℕ). line_at (chars y)) (sym e) ∙ ap line_at (chars-encodes cs sc) ∙ line_with t h in
+    let r = line_sound (chars (object_line t)) (Some (with_object t)) read in
+    record {
+      utf8 = (cs, (sc, e));
+      one_line = one_line_of (object_line t) cs e (refl, (refl, (refl, (refl, (refl, (refl, (refl, (refl, (refl, (refl, none_join h.S End h.plain (refl, (refl, tt))))))))))));
+      terminals = r.terminals;
+      splits = r.splits;
+      derives = r.derives;
+    }

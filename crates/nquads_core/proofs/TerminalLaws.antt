@@ -1,0 +1,271 @@
+-- A terminal is read exactly where one stands, and it is the longest.
+use Rattle.std.proofs.Common.{◌≡◌, ℕ, ◌≤◌, true, eqb, List, [], ◌∷◌, ◌++◌, length, map, drop, Option, Some, None, refl, sym, ap, subst, ◌∙◌, append_assoc, length-append, arith, inl, inr}
+use Rattle.std.specs.Str.{encode_utf8_all}
+use Rattle.std.specs.Char.{is_ascii_alphabetic, to_ascii_lowercase}
+use Rattle.std.proofs.lemmas.Bool.{eqb-true}
+use Rattle.std.proofs.lemmas.List.{append_cancel_right, drop_at}
+use Rattle.std.proofs.lemmas.Option.{some_pair_parts, same_Some}
+use Rattle.nquads_core.specs.Characters.{is_label_start}
+use Rattle.nquads_core.specs.declared.delimited.Kind.TheVariants.{Iri, Quoted}
+use Rattle.nquads_core.specs.Terminal.{Terminal, iri_ref, blank_label, quoted, lang_tag, carets, dot, IsTerminal, IsIriRef, IsQuoted, IsLongest, begins, is_tag, is_primary, is_label, is_label_tail, has_scheme}
+use Rattle.nquads_core.specs.Reading.{◌>>=◌, body_at, with_bytes, if_scheme, iri_at, string_at, label_tail_at, label_at, primary_at, tag_at, after_char, as_terminal, sign, terminal_at}
+use Rattle.nquads_core.proofs.Escapes.{cond_is}
+use Rattle.nquads_core.proofs.Runs.{which, label_parts, primary_parts}
+use Rattle.nquads_core.proofs.EscapeLaws.{and_is, and_parts, none_some}
+use Rattle.nquads_core.proofs.BodyLaws.{body_takes, body_again}
+use Rattle.nquads_core.proofs.RunLaws.{label_tail_right, label_tail_longest, primary_right, primary_longest, begins_more}
+
+pub bind_some : {A B : Type 0} (o : Option A) (f : A → Option B) (y : B) → (o >>= f) ≡ Some y → (x : A) × (o ≡ Some x) × (f x ≡ Some y)
+bind_some None f y e = absurd (none_some y e)
+bind_some (Some x) f y e = (x, refl, e)
+
+with_bytes_some : (read : Option (List ℕ × List ℕ)) (v rest : List ℕ) → with_bytes [] read ≡ Some (v, rest) → (chars : List ℕ) × (read ≡ Some (chars, rest)) × (v ≡ encode_utf8_all chars)
+with_bytes_some None v rest e = absurd (none_some (v, rest) e)
+with_bytes_some (Some x) v rest e =
+    let p = some_pair_parts (encode_utf8_all x.0) v x.1 rest e in
+    (x.0, ap (λ (y : List ℕ). Some (x.0, y)) p.1, sym p.0)
+
+as_some : (kind : List ℕ → Terminal) (read : Option (List ℕ × List ℕ)) (k : Terminal) (rest : List ℕ) → as_terminal kind read ≡ Some (k, rest) → (v : List ℕ) × (read ≡ Some (v, rest)) × (k ≡ kind v)
+as_some kind None k rest e = absurd (none_some (k, rest) e)
+as_some kind (Some x) k rest e =
+    let p = some_pair_parts (kind x.0) k x.1 rest e in
+    (x.0, ap (λ (y : List ℕ). Some (x.0, y)) p.1, sym p.0)
+
+sign_some : (s : Terminal) (read : Option (List ℕ)) (k : Terminal) (rest : List ℕ) → sign s read ≡ Some (k, rest) → (read ≡ Some rest) × (k ≡ s)
+sign_some s None k rest e = absurd (none_some (k, rest) e)
+sign_some s (Some x) k rest e = let p = some_pair_parts s k x rest e in (ap (λ (y : List ℕ). Some y) p.1, sym p.0)
+
+after_some : (c : ℕ) (cs rest : List ℕ) → after_char c cs ≡ Some rest → cs ≡ c ∷ rest
+after_some c [] rest e = absurd (none_some rest e)
+after_some c (d ∷ cs) rest e =
+    let g = cond_is {A = List ℕ} (eqb d c) (Some cs) rest e in
+    rw (eqb-true d c g.0, same_Some cs rest g.1) refl
+
+-- ---- what is read stands there
+
+pub record Took (cs : List ℕ) (k : Terminal) (rest : List ℕ) : Type 0 where
+  pub word : List ℕ
+  pub parts : cs ≡ word ++ rest
+  pub terminal : IsTerminal word k
+
+close_up : (first : ℕ) (body : List ℕ) (close : ℕ) (cs rest : List ℕ) → cs ≡ body ++ close ∷ rest → first ∷ cs ≡ (first ∷ (body ++ close ∷ [])) ++ rest
+close_up first body close cs rest e = ap (λ (y : List ℕ). first ∷ y) (e ∙ sym (append_assoc body (close ∷ []) rest))
+
+scheme_some : (x : List ℕ × List ℕ) (v rest : List ℕ) → if_scheme x ≡ Some (v, rest) → (has_scheme v ≡ true) × (x ≡ (v, rest))
+scheme_some x v rest e =
+    let g = cond_is {A = List ℕ × List ℕ} (has_scheme x.0) (Some x) (v, rest) e in
+    let same = same_Some x (v, rest) g.1 in
+    (subst (λ (y : List ℕ × List ℕ). has_scheme y.0 ≡ true) same g.0, same)
+
+iri_took : (cs : List ℕ) (v rest : List ℕ) → iri_at cs ≡ Some (v, rest) → Took (60 ∷ cs) (iri_ref v) rest
+unfolding iri_at
+iri_took cs v rest e =
+    let b = bind_some (with_bytes [] (body_at Iri 0 cs)) if_scheme (v, rest) e in
+    let s = scheme_some b.0 v rest b.2 in
+    let w = with_bytes_some (body_at Iri 0 cs) v rest (b.1 ∙ ap (λ (y : List ℕ × List ℕ). Some y) s.1) in
+    let t = body_takes Iri 0 cs w.0 rest w.1 in
+    record {
+      word = 60 ∷ (t.body ++ 62 ∷ []);
+      parts = close_up 60 t.body 62 cs rest t.parts;
+      terminal = record { body = t.body; chars = w.0; parts = refl; writes = t.writes; utf8 = w.2; scheme = s.0 };
+    }
+
+string_took : (cs : List ℕ) (v rest : List ℕ) → string_at cs ≡ Some (v, rest) → Took (34 ∷ cs) (quoted v) rest
+string_took cs v rest e =
+    let w = with_bytes_some (body_at Quoted 0 cs) v rest e in
+    let t = body_takes Quoted 0 cs w.0 rest w.1 in
+    record {
+      word = 34 ∷ (t.body ++ 34 ∷ []);
+      parts = close_up 34 t.body 34 cs rest t.parts;
+      terminal = record { body = t.body; chars = w.0; parts = refl; writes = t.writes; utf8 = w.2 };
+    }
+
+label_took : (cs : List ℕ) (v rest : List ℕ) → label_at cs ≡ Some (v, rest) → Took (95 ∷ 58 ∷ cs) (blank_label v) rest
+unfolding label_at
+label_took [] v rest e = absurd (none_some (v, rest) e)
+label_took (c ∷ cs) v rest e =
+    let t = label_tail_at cs in
+    let g = cond_is {A = List ℕ × List ℕ} (is_label_start c) (Some (encode_utf8_all (c ∷ t.0), t.1)) (v, rest) e in
+    let p = some_pair_parts (encode_utf8_all (c ∷ t.0)) v t.1 rest g.1 in
+    record {
+      word = 95 ∷ 58 ∷ c ∷ t.0;
+      parts = ap (λ (y : List ℕ). 95 ∷ 58 ∷ c ∷ y) (sym (label_parts cs) ∙ ap (λ (y : List ℕ). t.0 ++ y) p.1);
+      terminal = record { label = c ∷ t.0; parts = refl; right = and_is (is_label_start c) (is_label_tail t.0) g.0 (label_tail_right cs); utf8 = sym p.0 };
+    }
+
+primary_begins : (cs : List ℕ) → begins is_ascii_alphabetic cs ≡ true → begins is_ascii_alphabetic (primary_at cs).0 ≡ true
+unfolding primary_at
+primary_begins [] h = h
+primary_begins (c ∷ cs) h = rw h h
+
+tag_took : (cs : List ℕ) (v rest : List ℕ) → tag_at cs ≡ Some (v, rest) → Took (64 ∷ cs) (lang_tag v) rest
+unfolding tag_at
+tag_took cs v rest e =
+    let t = primary_at cs in
+    let g = cond_is {A = List ℕ × List ℕ} (begins is_ascii_alphabetic cs) (Some (map to_ascii_lowercase t.0, t.1)) (v, rest) e in
+    let p = some_pair_parts (map to_ascii_lowercase t.0) v t.1 rest g.1 in
+    record {
+      word = 64 ∷ t.0;
+      parts = ap (λ (y : List ℕ). 64 ∷ y) (sym (primary_parts cs) ∙ ap (λ (y : List ℕ). t.0 ++ y) p.1);
+      terminal = record { tag = t.0; parts = refl; right = and_is (begins is_ascii_alphabetic t.0) (is_primary t.0) (primary_begins cs g.0) (primary_right cs); lower = sym p.0 };
+    }
+
+Took-kind : (cs : List ℕ) (k k' : Terminal) (rest : List ℕ) → k ≡ k' → Took cs k' rest → Took cs k rest
+Took-kind cs k k' rest e t = subst (λ (y : Terminal). Took cs y rest) (sym e) t
+
+Took-first : (c d : ℕ) (cs : List ℕ) (k : Terminal) (rest : List ℕ) → eqb c d ≡ true → Took (d ∷ cs) k rest → Took (c ∷ cs) k rest
+Took-first c d cs k rest e t = rw (eqb-true c d e) t
+
+pub terminal_takes : (cs : List ℕ) (k : Terminal) (rest : List ℕ) → terminal_at cs ≡ Some (k, rest) → Took cs k rest
+unfolding terminal_at
+terminal_takes [] k rest e = absurd (none_some (k, rest) e)
+terminal_takes (c ∷ cs) k rest e =
+    elim (which (eqb c 60)) [
+      | inl h ↦ let a = as_some iri_ref (iri_at cs) k rest (rw h at e) in Took-first c 60 cs k rest h (Took-kind _ k _ rest a.2 (iri_took cs a.0 rest a.1))
+      | inr n1 ↦ elim (which (eqb c 34)) [
+        | inl h ↦ let a = as_some quoted (string_at cs) k rest (rw (n1, h) at e) in Took-first c 34 cs k rest h (Took-kind _ k _ rest a.2 (string_took cs a.0 rest a.1))
+        | inr n2 ↦ elim (which (eqb c 95)) [
+          | inl h ↦
+              let b = bind_some (after_char 58 cs) (λ label. as_terminal blank_label (label_at label)) (k, rest) (rw (n1, n2, h) at e) in
+              let a = as_some blank_label (label_at b.0) k rest b.2 in
+              Took-first c 95 cs k rest h (rw (after_some 58 cs b.0 b.1) (Took-kind _ k _ rest a.2 (label_took b.0 a.0 rest a.1)))
+          | inr n3 ↦ elim (which (eqb c 64)) [
+            | inl h ↦ let a = as_some lang_tag (tag_at cs) k rest (rw (n1, n2, n3, h) at e) in Took-first c 64 cs k rest h (Took-kind _ k _ rest a.2 (tag_took cs a.0 rest a.1))
+            | inr n4 ↦ elim (which (eqb c 94)) [
+              | inl h ↦
+                  let a = sign_some carets (after_char 94 cs) k rest (rw (n1, n2, n3, n4, h) at e) in
+                  Took-first c 94 cs k rest h (Took-kind _ k _ rest a.1 (record { word = 94 ∷ 94 ∷ []; parts = ap (λ (y : List ℕ). 94 ∷ y) (after_some 94 cs rest a.0); terminal = refl }))
+              | inr n5 ↦ elim (which (eqb c 46)) [
+                | inl h ↦
+                    let p = some_pair_parts dot k cs rest (rw (n1, n2, n3, n4, n5, h) at e) in
+                    Took-first c 46 cs k rest h (Took-kind _ k _ rest (sym p.0) (record { word = 46 ∷ []; parts = ap (λ (y : List ℕ). 46 ∷ y) p.1; terminal = refl }))
+                | inr n6 ↦ absurd (none_some (k, rest) (rw (n1, n2, n3, n4, n5, n6) at e))
+              ]
+            ]
+          ]
+        ]
+      ]
+    ]
+
+-- ---- what stands there is read, or more than that
+
+-- From a text that begins with the terminal k, some terminal is read that is no shorter; where it is no longer, it is k.
+pub record Reaches (cs : List ℕ) (k : Terminal) (behind : List ℕ) : Type 0 where
+  pub kind : Terminal
+  pub left : List ℕ
+  pub is : terminal_at cs ≡ Some (kind, left)
+  pub short : length left ≤ length behind
+  pub same : left ≡ behind → kind ≡ k
+
+with_bytes_again : (read : Option (List ℕ × List ℕ)) (chars rest : List ℕ) → read ≡ Some (chars, rest) → with_bytes [] read ≡ Some (encode_utf8_all chars, rest)
+with_bytes_again read chars rest e = rw e refl
+
+reach_iri : (word bytes behind : List ℕ) → IsIriRef word bytes → Reaches (word ++ behind) (iri_ref bytes) behind
+unfolding terminal_at iri_at
+reach_iri word bytes behind t =
+    let whole : word ++ behind ≡ 60 ∷ (t.body ++ 62 ∷ behind) = ap (λ (y : List ℕ). y ++ behind) t.parts ∙ ap (λ (y : List ℕ). 60 ∷ y) (append_assoc t.body (62 ∷ []) behind) in
+    let read = with_bytes_again (body_at Iri 0 (t.body ++ 62 ∷ behind)) t.chars behind (body_again Iri t.chars t.body behind t.writes) in
+    record {
+      kind = iri_ref bytes;
+      left = behind;
+      is = rw (whole, read, ← t.utf8, t.scheme) refl;
+      short = omega arith;
+      same = λ _. refl;
+    }
+
+reach_quoted : (word bytes behind : List ℕ) → IsQuoted word bytes → Reaches (word ++ behind) (quoted bytes) behind
+unfolding terminal_at
+reach_quoted word bytes behind t =
+    let whole : word ++ behind ≡ 34 ∷ (t.body ++ 34 ∷ behind) = ap (λ (y : List ℕ). y ++ behind) t.parts ∙ ap (λ (y : List ℕ). 34 ∷ y) (append_assoc t.body (34 ∷ []) behind) in
+    let read = with_bytes_again (body_at Quoted 0 (t.body ++ 34 ∷ behind)) t.chars behind (body_again Quoted t.chars t.body behind t.writes) in
+    record {
+      kind = quoted bytes;
+      left = behind;
+      is = rw (whole, read, ← t.utf8) refl;
+      short = omega arith;
+      same = λ _. refl;
+    }
+
+label_reach : (label behind bytes : List ℕ) → is_label label ≡ true → bytes ≡ encode_utf8_all label → Reaches (95 ∷ 58 ∷ label ++ behind) (blank_label bytes) behind
+unfolding terminal_at label_at
+label_reach [] behind bytes h u = absurd cc
+label_reach (c ∷ tail) behind bytes h u =
+    let p = and_parts (is_label_start c) (is_label_tail tail) h in
+    let t = label_tail_at (tail ++ behind) in
+    let parts = label_parts (tail ++ behind) in
+    let long = label_tail_longest tail behind p.1 in
+    record {
+      kind = blank_label (encode_utf8_all (c ∷ t.0));
+      left = t.1;
+      is = rw p.0 refl;
+      short = omega (arith, ap length parts, length-append t.0 t.1, length-append tail behind, long);
+      same = λ e.
+          let front : t.0 ≡ tail = append_cancel_right t.0 tail behind (ap (λ (y : List ℕ). t.0 ++ y) (sym e) ∙ parts) in
+          ap blank_label (ap (λ (y : List ℕ). encode_utf8_all (c ∷ y)) front ∙ sym u);
+    }
+
+tag_reach : (tag behind bytes : List ℕ) → is_tag tag ≡ true → bytes ≡ map to_ascii_lowercase tag → Reaches (64 ∷ tag ++ behind) (lang_tag bytes) behind
+unfolding terminal_at tag_at
+tag_reach tag behind bytes h u =
+    let p = and_parts (begins is_ascii_alphabetic tag) (is_primary tag) h in
+    let t = primary_at (tag ++ behind) in
+    let parts = primary_parts (tag ++ behind) in
+    let long = primary_longest tag behind p.1 in
+    let starts = begins_more is_ascii_alphabetic tag behind p.0 in
+    record {
+      kind = lang_tag (map to_ascii_lowercase t.0);
+      left = t.1;
+      is = rw starts refl;
+      short = omega (arith, ap length parts, length-append t.0 t.1, length-append tag behind, long);
+      same = λ e.
+          let front : t.0 ≡ tag = append_cancel_right t.0 tag behind (ap (λ (y : List ℕ). t.0 ++ y) (sym e) ∙ parts) in
+          ap lang_tag (ap (λ (y : List ℕ). map to_ascii_lowercase y) front ∙ sym u);
+    }
+
+reach_sign : (word behind rest : List ℕ) (k : Terminal) → word ++ behind ≡ rest → terminal_at rest ≡ Some (k, behind) → Reaches (word ++ behind) k behind
+reach_sign word behind rest k e h = record { kind = k; left = behind; is = ap terminal_at e ∙ h; short = omega arith; same = λ _. refl }
+
+at_carets : (behind : List ℕ) → terminal_at (94 ∷ 94 ∷ behind) ≡ Some (carets, behind)
+unfolding terminal_at
+at_carets behind = refl
+
+at_dot : (behind : List ℕ) → terminal_at (46 ∷ behind) ≡ Some (dot, behind)
+unfolding terminal_at
+at_dot behind = refl
+
+pub reaches : (word behind : List ℕ) (k : Terminal) → IsTerminal word k → Reaches (word ++ behind) k behind
+reaches word behind (iri_ref bytes) t = reach_iri word bytes behind t
+reaches word behind (quoted bytes) t = reach_quoted word bytes behind t
+reaches word behind (blank_label bytes) t =
+    subst (λ (y : List ℕ). Reaches (y ++ behind) (blank_label bytes) behind) (sym t.parts) (label_reach t.label behind bytes t.right t.utf8)
+reaches word behind (lang_tag bytes) t =
+    subst (λ (y : List ℕ). Reaches (y ++ behind) (lang_tag bytes) behind) (sym t.parts) (tag_reach t.tag behind bytes t.right t.lower)
+reaches word behind carets t = reach_sign word behind (94 ∷ 94 ∷ behind) carets (ap (λ (y : List ℕ). y ++ behind) t) (at_carets behind)
+reaches word behind dot t = reach_sign word behind (46 ∷ behind) dot (ap (λ (y : List ℕ). y ++ behind) t) (at_dot behind)
+
+-- ---- the longest
+
+-- what is read is the longest
+pub took_longest : (word rest : List ℕ) (k : Terminal) → terminal_at (word ++ rest) ≡ Some (k, rest) → IsLongest word rest
+took_longest word rest k e = λ front behind other whole t.
+    let r = reaches front behind other t in
+    let p = some_pair_parts r.kind k r.left rest (sym r.is ∙ ap terminal_at whole ∙ e) in
+    omega (arith, ap length whole, length-append front behind, length-append word rest, r.short, ap length p.1)
+
+same_length : (a b c d : List ℕ) → a ++ b ≡ c ++ d → length b ≡ length d → b ≡ d
+same_length a b c d e l =
+    let n : length a ≡ length c = omega (arith, ap length e, length-append a b, length-append c d) in
+    sym (drop_at a b (length a) refl) ∙ ap (λ (y : List ℕ). drop (length a) y) e ∙ drop_at c d (length a) (sym n)
+
+pair_of : (k k' : Terminal) (a b : List ℕ) → k ≡ k' → a ≡ b → ◌≡◌ {A = Terminal × List ℕ} (k, a) (k', b)
+pair_of k k' a b e f = rw (e, f) refl
+
+-- the longest is what is read
+pub terminal_again : (word rest : List ℕ) (k : Terminal) → IsTerminal word k → IsLongest word rest → terminal_at (word ++ rest) ≡ Some (k, rest)
+terminal_again word rest k t longest =
+    let r = reaches word rest k t in
+    let took = terminal_takes (word ++ rest) r.kind r.left r.is in
+    let le = longest took.word r.left r.kind (sym took.parts) took.terminal in
+    let l : length r.left ≡ length rest = omega (arith, ap length took.parts, length-append word rest, length-append took.word r.left, le, r.short) in
+    let left = same_length took.word r.left word rest (sym took.parts) l in
+    r.is ∙ ap (λ (x : Terminal × List ℕ). Some x) (pair_of r.kind k r.left rest (r.same left) left)

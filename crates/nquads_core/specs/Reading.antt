@@ -1,0 +1,255 @@
+-- Reading a line from left to right: what stands at the front of a text, and the rest. None: no such thing stands there.
+use Rattle.std.specs.Prelude.{◌≡◌, ℕ, zero, suc, ◌+◌, ◌*◌, Bool, true, ◌&&◌, ◌||◌, List, [], ◌∷◌, ◌++◌, map, drop, Option, Some, None, option_and_then, Result, Ok, Err, ◌==◌, if◌then◌else◌}
+use Rattle.std.specs.Char.{digit_value, is_ascii_alphabetic, is_ascii_alphanumeric, to_ascii_lowercase}
+use Rattle.std.specs.Str.{IsUtf8, chars, encode_utf8_all}
+use lib.Utf8.{scalar}
+use Rattle.nquads_core.specs.declared.fault.LineFault.{LineFault}
+use Rattle.nquads_core.specs.declared.fault.LineFault.TheVariants.{Bad, Memory}
+use Rattle.nquads_core.specs.declared.delimited.Kind.{Kind}
+use Rattle.nquads_core.specs.declared.delimited.Kind.TheVariants.{Iri, Quoted}
+use Rattle.nquads_core.specs.Characters.{is_iri_char, is_string_char, is_label_start, is_label_char, is_blank, echar, is_hex}
+use Rattle.nquads_core.specs.Terminal.{Terminal, iri_ref, blank_label, quoted, lang_tag, carets, dot, begins, has_scheme}
+use Rattle.rdf_core.specs.Vocabulary.{xsd_string, rdf_lang_string}
+use Rattle.rdf_core.specs.declared.term.Term.{Term}
+use Rattle.rdf_core.specs.QuadParts.{QuadParts}
+use Rattle.rdf_core.specs.declared.term.Term.TheVariants.{Blank, Iri, Literal}
+
+-- What a function returned, seen by view, is what reading gives, unless memory ran out.
+abbrev pub Fails : {Y : Type 0} → LineFault → Option Y → Type 0
+Fails Memory read = Unit {0}
+Fails Bad read = read ≡ None
+
+abbrev pub Gives : {X Y : Type 0} → (X → Y) → Result X LineFault → Option Y → Type 0
+Gives view (Ok x) read = read ≡ Some (view x)
+Gives view (Err e) read = Fails e read
+
+-- What a function found, seen by view, is what reading gives.
+abbrev pub Finds : {X Y : Type 0} → (X → Y) → Option X → Option Y → Type 0
+Finds view None read = read ≡ None
+Finds view (Some x) read = read ≡ Some (view x)
+
+-- the value of n hexadecimal digits behind others of the value v, and what follows them
+unfoldable pub hex_at : ℕ → ℕ → List ℕ → Option (ℕ × List ℕ)
+hex_at zero v cs = Some (v, cs)
+hex_at (suc n) v [] = None
+hex_at (suc n) v (c ∷ cs) = if is_hex c then hex_at n (v * 16 + digit_value c) cs else None
+
+-- the character of n digits, and how many characters these and the letter before them are
+abbrev pub scalar_of : ℕ → Option (ℕ × List ℕ) → Option (ℕ × ℕ)
+scalar_of n None = None
+scalar_of n (Some x) = if scalar x.0 then Some (x.0, n + 1) else None
+
+-- behind a backslash: the character that is meant, and how many characters spell it there
+unfoldable pub uchar_at : List ℕ → Option (ℕ × ℕ)
+uchar_at [] = None
+uchar_at (u ∷ cs) = if u == 117 then scalar_of 4 (hex_at 4 0 cs) else if u == 85 then scalar_of 8 (hex_at 8 0 cs) else None
+
+abbrev pub keep_iri_char : Option (ℕ × ℕ) → Option (ℕ × ℕ)
+keep_iri_char None = None
+keep_iri_char (Some e) = if is_iri_char e.0 then Some e else None
+
+abbrev pub or_uchar : Option ℕ → List ℕ → Option (ℕ × ℕ)
+or_uchar None cs = uchar_at cs
+or_uchar (Some c) cs = Some (c, 1)
+
+unfoldable pub escape_at : Kind → List ℕ → Option (ℕ × ℕ)
+escape_at Iri cs = keep_iri_char (uchar_at cs)
+escape_at Quoted [] = None
+escape_at Quoted (e ∷ cs) = or_uchar (echar e) (e ∷ cs)
+
+-- read says that c is meant, and what follows it in the text is rest
+pub record NamesChar (read : Option (ℕ × ℕ)) (text : List ℕ) (c : ℕ) (rest : List ℕ) : Type 0 where
+  pub skipped : ℕ
+  pub is : read ≡ Some (c, skipped)
+  pub left : chars rest ≡ drop skipped (chars text)
+  pub utf8 : IsUtf8 rest
+
+abbrev pub close_of : Kind → ℕ
+close_of Iri = 62
+close_of Quoted = 34
+
+abbrev pub is_raw : Kind → ℕ → Bool
+is_raw Iri c = is_iri_char c
+is_raw Quoted c = is_string_char c
+
+abbrev pub with_char : ℕ → Option (List ℕ × List ℕ) → Option (List ℕ × List ℕ)
+with_char c None = None
+with_char c (Some x) = Some (c ∷ x.0, x.1)
+
+-- behind the opening sign, of which `skipped` more characters are already read: the characters up to the closing sign, and what follows it
+unfoldable pub body_at : Kind → ℕ → List ℕ → Option (List ℕ × List ℕ)
+body_at k skipped [] = None
+body_at k (suc n) (c ∷ cs) = body_at k n cs
+body_at k zero (c ∷ cs) =
+    if c == close_of k then Some ([], cs)
+    else if c == 92 then option_and_then (λ e. with_char e.0 (body_at k e.1 cs)) (escape_at k cs)
+    else if is_raw k c then with_char c (body_at k 0 cs) else None
+
+-- the bytes of what was read before, and of these characters
+abbrev pub with_bytes : List ℕ → Option (List ℕ × List ℕ) → Option (List ℕ × List ℕ)
+with_bytes front None = None
+with_bytes front (Some x) = Some (front ++ encode_utf8_all x.0, x.1)
+
+infixl 10 ◌>>=◌
+abbrev pub ◌>>=◌ : {A B : Type 0} → Option A → (A → Option B) → Option B
+None >>= f = None
+(Some x) >>= f = f x
+
+-- ---- terminals: the bytes of what is meant, and what follows
+
+abbrev pub if_scheme : List ℕ × List ℕ → Option (List ℕ × List ℕ)
+if_scheme x = if has_scheme x.0 then Some x else None
+
+-- behind <
+unfoldable pub iri_at : List ℕ → Option (List ℕ × List ℕ)
+iri_at cs = with_bytes [] (body_at Iri 0 cs) >>= if_scheme
+
+-- behind a quote
+abbrev pub string_at : List ℕ → Option (List ℕ × List ℕ)
+string_at cs = with_bytes [] (body_at Quoted 0 cs)
+
+-- dots belong to a label where a label's character follows them
+abbrev pub take_dot : ℕ → List ℕ → List ℕ → List ℕ → List ℕ × List ℕ
+take_dot c cs [] rest = ([], c ∷ cs)
+take_dot c cs (x ∷ xs) rest = (c ∷ x ∷ xs, rest)
+
+-- behind the first character of a label: its other characters, and what follows
+unfoldable pub label_tail_at : List ℕ → List ℕ × List ℕ
+label_tail_at [] = ([], [])
+label_tail_at (c ∷ cs) =
+    if is_label_char c then (c ∷ (label_tail_at cs).0, (label_tail_at cs).1)
+    else if c == 46 then take_dot c cs (label_tail_at cs).0 (label_tail_at cs).1 else ([], c ∷ cs)
+
+-- behind _:
+unfoldable pub label_at : List ℕ → Option (List ℕ × List ℕ)
+label_at [] = None
+label_at (c ∷ cs) = if is_label_start c then Some (encode_utf8_all (c ∷ (label_tail_at cs).0), (label_tail_at cs).1) else None
+
+-- behind a character of a subtag
+unfoldable pub subtags_at : List ℕ → List ℕ × List ℕ
+subtags_at [] = ([], [])
+subtags_at (c ∷ cs) =
+    if is_ascii_alphanumeric c || (c == 45 && begins is_ascii_alphanumeric cs) then (c ∷ (subtags_at cs).0, (subtags_at cs).1) else ([], c ∷ cs)
+
+unfoldable pub primary_at : List ℕ → List ℕ × List ℕ
+primary_at [] = ([], [])
+primary_at (c ∷ cs) =
+    if is_ascii_alphabetic c then (c ∷ (primary_at cs).0, (primary_at cs).1)
+    else if c == 45 && begins is_ascii_alphanumeric cs then (c ∷ (subtags_at cs).0, (subtags_at cs).1) else ([], c ∷ cs)
+
+-- behind @
+unfoldable pub tag_at : List ℕ → Option (List ℕ × List ℕ)
+tag_at cs = if begins is_ascii_alphabetic cs then Some (map to_ascii_lowercase (primary_at cs).0, (primary_at cs).1) else None
+
+-- the rest behind this character
+abbrev pub after_char : ℕ → List ℕ → Option (List ℕ)
+after_char c [] = None
+after_char c (d ∷ cs) = if d == c then Some cs else None
+
+abbrev pub as_terminal : (List ℕ → Terminal) → Option (List ℕ × List ℕ) → Option (Terminal × List ℕ)
+as_terminal kind None = None
+as_terminal kind (Some x) = Some (kind x.0, x.1)
+
+abbrev pub sign : Terminal → Option (List ℕ) → Option (Terminal × List ℕ)
+sign k None = None
+sign k (Some rest) = Some (k, rest)
+
+-- the terminal at the front
+unfoldable pub terminal_at : List ℕ → Option (Terminal × List ℕ)
+terminal_at [] = None
+terminal_at (c ∷ cs) =
+    if c == 60 then as_terminal iri_ref (iri_at cs)
+    else if c == 34 then as_terminal quoted (string_at cs)
+    else if c == 95 then (after_char 58 cs >>= λ label. as_terminal blank_label (label_at label))
+    else if c == 64 then as_terminal lang_tag (tag_at cs)
+    else if c == 94 then sign carets (after_char 94 cs)
+    else if c == 46 then Some (dot, cs)
+    else None
+
+-- ---- lines
+
+unfoldable pub skip_blanks : List ℕ → List ℕ
+skip_blanks [] = []
+skip_blanks (c ∷ cs) = if is_blank c then skip_blanks cs else c ∷ cs
+
+-- nothing is left but a comment
+abbrev pub is_end : List ℕ → Bool
+is_end [] = true
+is_end (c ∷ cs) = c == 35
+
+abbrev pub next : List ℕ → Option (Terminal × List ℕ)
+next cs = terminal_at (skip_blanks cs)
+
+abbrev pub node_of : Terminal → Option Term
+node_of (iri_ref text) = Some (Iri text)
+node_of (blank_label label) = Some (Blank label)
+node_of (quoted lexical) = None
+node_of (lang_tag tag) = None
+node_of carets = None
+node_of dot = None
+
+abbrev pub iri_of : Terminal → Option (List ℕ)
+iri_of (iri_ref text) = Some text
+iri_of (blank_label label) = None
+iri_of (quoted lexical) = None
+iri_of (lang_tag tag) = None
+iri_of carets = None
+iri_of dot = None
+
+-- what a literal's quotes and the terminals behind it make, and the first terminal behind the object with what follows that
+abbrev pub literal_of : List ℕ → Terminal × List ℕ → Option (Term × (Terminal × List ℕ))
+literal_of lexical (carets, rest) = do
+  d ← next rest
+  datatype ← iri_of d.0
+  w ← next d.1
+  Some (Literal lexical datatype None, w)
+literal_of lexical (lang_tag tag, rest) = do
+  w ← next rest
+  Some (Literal lexical rdf_lang_string (Some tag), w)
+literal_of lexical (iri_ref text, rest) = Some (Literal lexical xsd_string None, (iri_ref text, rest))
+literal_of lexical (blank_label label, rest) = Some (Literal lexical xsd_string None, (blank_label label, rest))
+literal_of lexical (quoted other, rest) = Some (Literal lexical xsd_string None, (quoted other, rest))
+literal_of lexical (dot, rest) = Some (Literal lexical xsd_string None, (dot, rest))
+
+abbrev pub object_of : Terminal → Terminal × List ℕ → Option (Term × (Terminal × List ℕ))
+object_of (iri_ref text) w = Some (Iri text, w)
+object_of (blank_label label) w = Some (Blank label, w)
+object_of (quoted lexical) w = literal_of lexical w
+object_of (lang_tag tag) w = None
+object_of carets w = None
+object_of dot w = None
+
+abbrev pub graph_dot : Term → Terminal × List ℕ → Option (Option Term × List ℕ)
+graph_dot g (dot, rest) = Some (Some g, rest)
+graph_dot g (iri_ref text, rest) = None
+graph_dot g (blank_label label, rest) = None
+graph_dot g (quoted lexical, rest) = None
+graph_dot g (lang_tag tag, rest) = None
+graph_dot g (carets, rest) = None
+
+-- the graph label, if there is one, and what follows the dot
+abbrev pub graph_of : Terminal × List ℕ → Option (Option Term × List ℕ)
+graph_of (dot, rest) = Some (None, rest)
+graph_of (iri_ref text, rest) = next rest >>= graph_dot (Iri text)
+graph_of (blank_label label, rest) = next rest >>= graph_dot (Blank label)
+graph_of (quoted lexical, rest) = None
+graph_of (lang_tag tag, rest) = None
+graph_of (carets, rest) = None
+
+abbrev pub whole : QuadParts → List ℕ → Option (Option QuadParts)
+whole q rest = if is_end (skip_blanks rest) then Some (Some q) else None
+
+unfoldable pub statement_at : List ℕ → Option (Option QuadParts)
+statement_at cs = do
+  s ← next cs
+  subject ← node_of s.0
+  p ← next s.1
+  predicate ← iri_of p.0
+  o ← next p.1
+  w ← next o.1
+  x ← object_of o.0 w
+  g ← graph_of x.1
+  whole (record { s = subject; p = Iri predicate; o = x.0; g = g.0 }) g.1
+
+unfoldable pub line_at : List ℕ → Option (Option QuadParts)
+line_at cs = if is_end (skip_blanks cs) then Some None else statement_at cs

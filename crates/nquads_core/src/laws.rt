@@ -1,0 +1,20 @@
+//! Laws on lines and documents: statements about the definitions alone, each the contract of a
+//! function that does nothing.
+
+ghost use Rattle.nquads_core.specs.Laws.{OneMeaning, LinesJoin, ReadsBack};
+
+/// A line spells at most one thing.
+pub fn one_meaning()
+    ensures law { OneMeaning }
+{}
+
+/// The lines of a text that ends a line, and then those of what follows, are the lines of both
+/// together.
+pub fn lines_join()
+    ensures law { LinesJoin }
+{}
+
+/// A term of a quad that some line spells is read back from its spelling, as the object of a line.
+pub fn reads_back()
+    ensures law { ReadsBack }
+{}

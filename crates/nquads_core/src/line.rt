@@ -1,0 +1,32 @@
+//! Reading a line.
+
+ghost use Rattle.std.specs.Prelude.{◌≡◌, Err, IfOk, option_map};
+ghost use Rattle.rdf_core.specs.QuadParts.{parts_of};
+ghost use Rattle.nquads_core.specs.Grammar.{Spells, IsBad};
+ghost use Rattle.nquads_core.specs.declared.fault.LineFault.TheVariants.{Bad};
+
+use crate::fault::LineFault;
+use crate::statement::read_text;
+use memchr::memchr2;
+use rdf_core::Quad;
+use std::alloc::Global;
+
+/// Reads one line of an N-Quads document, given without its line end (RDF 1.1 N-Quads, grammar).
+///
+/// Ok is the quad that the line spells, or None for blanks and perhaps a comment.
+///
+/// # Errors
+/// - `Bad`: the line spells nothing. A line that is not UTF-8, or that holds LF or CR, is one.
+/// - `Memory`: a growth was refused. It says nothing of the line.
+pub fn read_line(alloc: Global, line: &[u8]) -> Result<Option<Quad>, LineFault>
+    ensures spells { IfOk result (λ quad. Spells line.now (option_map parts_of quad)) }
+    ensures bad { (result ≡ Err Bad) → IsBad line.now }
+{
+    if let Some(_) = memchr2(b'\n', b'\r', line) {
+        return Err(LineFault::Bad);
+    }
+    let Ok(text) = simdutf8::basic::from_utf8(line) else {
+        return Err(LineFault::Bad);
+    };
+    read_text(alloc, text)
+}

@@ -1,0 +1,93 @@
+//! Reading a piece of a document.
+
+ghost use Rattle.std.specs.Prelude.{◌≡◌, ◌<◌, ◌∷◌, ◌+◌, ◌++◌, ℕ, length, map, option_map, option_to_list, OnOk, IfOk, IfErr};
+ghost use Rattle.rdf_core.specs.QuadParts.{parts_of};
+ghost use Rattle.nquads_core.specs.Lines.{begins_with_lf, lines};
+ghost use Rattle.nquads_core.specs.Pieces.{SpellAll, IsFirstBad};
+ghost use Rattle.nquads_core.specs.declared.fault.PieceFault.TheVariants.{BadLine};
+
+use crate::fault::{LineFault, PieceFault};
+use crate::line::read_line;
+use memchr::memchr2;
+use rdf_core::Quad;
+use std::alloc::{AllocFailed, Global};
+
+/// What a piece of a document holds.
+#[derive(Debug, Drop)]
+pub struct Piece {
+    /// The quads of its lines in order, repeats kept.
+    pub quads: Vec<Quad>,
+    /// How many lines it has, those without a statement among them.
+    pub lines: u64,
+}
+
+fn begins_with_lf(text: &[u8]) -> bool
+    ensures { result ≡ begins_with_lf text.now }
+{
+    !text.is_empty() && text[0] == b'\n'
+}
+
+/// The first line, without its line end, and what follows it.
+fn first_line(text: &[u8]) -> (&[u8], &[u8])
+    requires { 0 < length text.now }
+    ensures lines { lines text.now ≡ result.0.now ∷ lines result.1.now }
+    ensures shorter { length result.1.now < length text.now }
+{
+    let Some(end) = memchr2(b'\n', b'\r', text) else {
+        return (text, &[]);
+    };
+    let line = &text[..end];
+    let rest = &text[end + 1..];
+    if text[end] == b'\n' {
+        return (line, rest);
+    }
+    if begins_with_lf(rest) {
+        return (line, &rest[1..]);
+    }
+    (line, rest)
+}
+
+/// Puts a quad behind the others, if there is one.
+fn add(quads: &mut Vec<Quad>, quad: Option<Quad>) -> Result<(), AllocFailed<Quad>>
+    ensures { OnOk result (map parts_of quads.new.items ≡ map parts_of quads.old.items ++ option_to_list (option_map parts_of quad)) }
+{
+    if let Some(quad) = quad {
+        quads.push(quad)?;
+    }
+    Ok(())
+}
+
+/// Reads a piece of an N-Quads document: the quads of its lines in order, repeats kept, and how many
+/// lines it has (RDF 1.1 N-Quads, grammar).
+///
+/// A line ends with LF, with CR LF, or with a CR that no LF follows; what stands behind the last line
+/// end is a line where it is not empty. A line without a statement counts and gives no quad.
+///
+/// # Errors
+/// - `BadLine(k)`: line k of the piece, counted from 0, is the first that spells nothing.
+/// - `Memory`: a growth was refused. It says nothing of the piece.
+pub fn read_piece(alloc: Global, bytes: &[u8]) -> Result<Piece, PieceFault>
+    ensures quads { IfOk result
+        (λ piece. SpellAll (lines bytes.now) (map parts_of piece.quads.items)) }
+    ensures lines { IfOk result (λ piece. piece.lines ≡ length (lines bytes.now)) }
+    ensures bad_line { IfErr result (λ fault. (k : ℕ) → fault ≡ BadLine k → IsFirstBad (lines bytes.now) k) }
+{
+    let mut quads = Vec::new(alloc);
+    let mut count = 0u64;
+    let mut rest = bytes;
+    while !rest.is_empty() {
+        let (line, after) = first_line(rest);
+        let quad = match read_line(alloc, line) {
+            Ok(quad) => quad,
+            Err(LineFault::Bad) => return Err(PieceFault::BadLine(count)),
+            Err(LineFault::Memory) => return Err(PieceFault::Memory),
+        };
+        add(&mut quads, quad)?;
+        count += 1;
+        rest = after;
+    }
+    Ok(Piece {
+        quads,
+        lines: count,
+    })
+}

@@ -1,0 +1,182 @@
+//! The statement of a line: a function a production (RDF 1.1 N-Quads, grammar).
+
+ghost use Rattle.std.specs.Prelude.{◌≡◌, [], ◌∷◌, Option, Some, None, true, IfSome, option_map, MatchResult, IfOk, string_bytes};
+ghost use Rattle.std.specs.Str.{chars};
+ghost use Rattle.rdf_core.specs.QuadParts.{parts_of};
+ghost use Rattle.rdf_core.specs.QuadFacts.{is_node, is_graph_name};
+ghost use Rattle.rdf_core.specs.Vocabulary.{xsd_string, rdf_lang_string};
+ghost use Rattle.nquads_core.specs.Reading.{Finds, Gives, node_of, iri_of, literal_of, object_of, graph_of, statement_at, line_at};
+ghost use Rattle.nquads_core.specs.Views.{token_view};
+
+use crate::fault::LineFault;
+use crate::token::{Token, is_end, next_token};
+use rdf_core::vocabulary::{RDF_LANG_STRING, XSD_STRING};
+use rdf_core::{Quad, Term, Text};
+use std::alloc::{AllocError, Global};
+
+fn node_of(token: Token) -> Option<Term>
+    ensures found { Finds (λ t. t) result (node_of (token_view token)) }
+    ensures node { IfSome result (λ t. is_node t ≡ true) }
+{
+    match token {
+        Token::Iri(text) => Some(Term::Iri(Text::from_string(text))),
+        Token::Blank(label) => Some(Term::Blank(Text::from_string(label))),
+        Token::Quoted(_) | Token::Tag(_) | Token::Carets | Token::Dot => None,
+    }
+}
+
+fn iri_of(token: Token) -> Option<String>
+    ensures { Finds string_bytes result (iri_of (token_view token)) }
+{
+    match token {
+        Token::Iri(text) => Some(text),
+        Token::Blank(_) | Token::Quoted(_) | Token::Tag(_) | Token::Carets | Token::Dot => None,
+    }
+}
+
+fn xsd_string(alloc: Global) -> Result<String, AllocError>
+    ensures { IfOk result (λ text. string_bytes text ≡ xsd_string) }
+{
+    String::from_str(alloc, XSD_STRING)
+}
+
+fn rdf_lang_string(alloc: Global) -> Result<String, AllocError>
+    ensures { IfOk result (λ text. string_bytes text ≡ rdf_lang_string) }
+{
+    String::from_str(alloc, RDF_LANG_STRING)
+}
+
+/// A literal, the first terminal behind it, and what follows that.
+fn literal_of(
+    alloc: Global,
+    lexical: String,
+    token: Token,
+    rest: &str,
+) -> Result<(Term, Token, &str), LineFault>
+    ensures { Gives (λ x. (x.0, (token_view x.1, chars x.2.now))) result (literal_of (string_bytes lexical) (token_view token, chars rest.now)) }
+{
+    match token {
+        Token::Carets => {
+            let (datatype, rest) = next_token(alloc, rest)?;
+            let Some(datatype) = iri_of(datatype) else {
+                return Err(LineFault::Bad);
+            };
+            let (token, rest) = next_token(alloc, rest)?;
+            let term = Term::Literal {
+                lexical: Text::from_string(lexical),
+                datatype: Text::from_string(datatype),
+                tag: None,
+            };
+            Ok((term, token, rest))
+        }
+        Token::Tag(tag) => {
+            let (token, rest) = next_token(alloc, rest)?;
+            let datatype = rdf_lang_string(alloc)?;
+            let term = Term::Literal {
+                lexical: Text::from_string(lexical),
+                datatype: Text::from_string(datatype),
+                tag: Some(Text::from_string(tag)),
+            };
+            Ok((term, token, rest))
+        }
+        token => {
+            let datatype = xsd_string(alloc)?;
+            let term = Term::Literal {
+                lexical: Text::from_string(lexical),
+                datatype: Text::from_string(datatype),
+                tag: None,
+            };
+            Ok((term, token, rest))
+        }
+    }
+}
+
+/// An object, the first terminal behind it, and what follows that.
+fn object_of(
+    alloc: Global,
+    object: Token,
+    token: Token,
+    rest: &str,
+) -> Result<(Term, Token, &str), LineFault>
+    ensures { Gives (λ x. (x.0, (token_view x.1, chars x.2.now))) result (object_of (token_view object) (token_view token, chars rest.now)) }
+{
+    match object {
+        Token::Iri(text) => Ok((Term::Iri(Text::from_string(text)), token, rest)),
+        Token::Blank(label) => Ok((Term::Blank(Text::from_string(label)), token, rest)),
+        Token::Quoted(lexical) => literal_of(alloc, lexical, token, rest),
+        Token::Tag(_) | Token::Carets | Token::Dot => Err(LineFault::Bad),
+    }
+}
+
+/// The graph label where there is one, and what follows the dot.
+fn graph_of(alloc: Global, token: Token, rest: &str) -> Result<(Option<Term>, &str), LineFault>
+    ensures found { Gives (λ x. (x.0, chars x.1.now)) result (graph_of (token_view token, chars rest.now)) }
+    ensures name { IfOk result (λ x. is_graph_name x.0 ≡ true) }
+{
+    match token {
+        Token::Dot => Ok((None, rest)),
+        Token::Iri(text) => {
+            let (dot, rest) = next_token(alloc, rest)?;
+            match dot {
+                Token::Dot => Ok((Some(Term::Iri(Text::from_string(text))), rest)),
+                Token::Iri(_)
+                | Token::Blank(_)
+                | Token::Quoted(_)
+                | Token::Tag(_)
+                | Token::Carets => Err(LineFault::Bad),
+            }
+        }
+        Token::Blank(label) => {
+            let (dot, rest) = next_token(alloc, rest)?;
+            match dot {
+                Token::Dot => Ok((Some(Term::Blank(Text::from_string(label))), rest)),
+                Token::Iri(_)
+                | Token::Blank(_)
+                | Token::Quoted(_)
+                | Token::Tag(_)
+                | Token::Carets => Err(LineFault::Bad),
+            }
+        }
+        Token::Quoted(_) | Token::Tag(_) | Token::Carets => Err(LineFault::Bad),
+    }
+}
+
+/// The quad of a text that holds a statement.
+#[tactic(auto, unfolding(crate::specs::Reading::statement_at))]
+fn statement(alloc: Global, text: &str) -> Result<Quad, LineFault>
+    ensures { Gives (λ q. Some (parts_of q)) result (statement_at (chars text.now)) }
+{
+    let (subject, rest) = next_token(alloc, text)?;
+    let Some(s) = node_of(subject) else {
+        return Err(LineFault::Bad);
+    };
+    let (predicate, rest) = next_token(alloc, rest)?;
+    let Some(predicate) = iri_of(predicate) else {
+        return Err(LineFault::Bad);
+    };
+    let (object, rest) = next_token(alloc, rest)?;
+    let (token, rest) = next_token(alloc, rest)?;
+    let (o, token, rest) = object_of(alloc, object, token, rest)?;
+    let (g, rest) = graph_of(alloc, token, rest)?;
+    if !is_end(rest) {
+        return Err(LineFault::Bad);
+    }
+    Ok(Quad {
+        s,
+        p: Term::Iri(Text::from_string(predicate)),
+        o,
+        g,
+    })
+}
+
+/// The quad of a text, or None where nothing but blanks and a comment stands there.
+#[tactic(auto, unfolding(crate::specs::Reading::line_at))]
+pub fn read_text(alloc: Global, text: &str) -> Result<Option<Quad>, LineFault>
+    ensures { Gives (λ q. option_map parts_of q) result (line_at (chars text.now)) }
+{
+    if is_end(text) {
+        return Ok(None);
+    }
+    let quad = statement(alloc, text)?;
+    Ok(Some(quad))
+}

@@ -1,0 +1,295 @@
+//! The terminals of a line.
+
+ghost use Rattle.std.specs.Prelude.{◌≡◌, ◌==◌, ◌&&◌, ◌||◌, ◌++◌, [], ◌∷◌, List, ℕ, Some, None, IfOk, MatchOption, string_bytes, length, map};
+ghost use Rattle.std.specs.Char.{to_ascii_lowercase, is_ascii_alphabetic, is_ascii_alphanumeric};
+ghost use Rattle.std.specs.Str.{IsUtf8, chars};
+ghost use Rattle.nquads_core.specs.Characters.{in_ranges, is_label_start, is_label_char, is_blank};
+ghost use Rattle.nquads_core.specs.Terminal.{has_scheme, is_scheme_rest, begins};
+ghost use Rattle.nquads_core.specs.Reading.{Finds, Gives, next, is_end, iri_at, string_at, label_tail_at, label_at, subtags_at, primary_at, tag_at, after_char, terminal_at, skip_blanks};
+ghost use Rattle.nquads_core.specs.Views.{token_view};
+
+use crate::delimited::{Kind, read_body};
+use crate::fault::LineFault;
+use crate::front::first_char;
+use std::alloc::Global;
+
+/// A terminal, with what it stands for.
+#[derive(Debug, Drop)]
+pub enum Token {
+    Iri(String),
+    Blank(String),
+    Quoted(String),
+    Tag(String),
+    Carets,
+    Dot,
+}
+
+const LABEL_STARTS: [(u32, u32); 17] = [
+    (95, 95),
+    (58, 58),
+    (48, 57),
+    (65, 90),
+    (97, 122),
+    (0xC0, 0xD6),
+    (0xD8, 0xF6),
+    (0xF8, 0x2FF),
+    (0x370, 0x37D),
+    (0x37F, 0x1FFF),
+    (0x200C, 0x200D),
+    (0x2070, 0x218F),
+    (0x2C00, 0x2FEF),
+    (0x3001, 0xD7FF),
+    (0xF900, 0xFDCF),
+    (0xFDF0, 0xFFFD),
+    (0x10000, 0xEFFFF),
+];
+
+const LABEL_CHARS: [(u32, u32); 4] = [(45, 45), (0xB7, 0xB7), (0x300, 0x36F), (0x203F, 0x2040)];
+
+fn in_ranges(ranges: &[(u32, u32)], c: u32) -> bool
+    ensures { result ≡ in_ranges ranges.now c }
+{
+    ranges.iter().any(|r| r.0 <= c && c <= r.1)
+}
+
+#[tactic(auto, unfolding(crate::specs::Characters::is_label_start))]
+fn is_label_start(c: char) -> bool
+    ensures { result ≡ is_label_start c }
+{
+    in_ranges(&LABEL_STARTS, c as u32)
+}
+
+#[tactic(auto, unfolding(crate::specs::Characters::is_label_start, crate::specs::Characters::is_label_char))]
+fn is_label_char(c: char) -> bool
+    ensures { result ≡ is_label_char c }
+{
+    in_ranges(&LABEL_CHARS, c as u32) || is_label_start(c)
+}
+
+fn is_blank(c: char) -> bool
+    ensures { result ≡ is_blank c }
+{
+    c == ' ' || c == '\t'
+}
+
+/// Whether an IRI begins with a scheme.
+fn has_scheme(text: &str) -> bool
+    ensures { result ≡ has_scheme text.now }
+{
+    let bytes = text.as_bytes();
+    if bytes.is_empty() || !bytes[0].is_ascii_alphabetic() {
+        return false;
+    }
+    for b in &bytes[1..] {
+        if *b == b':' {
+            return true;
+        }
+        if !(b.is_ascii_alphanumeric() || *b == b'+' || *b == b'-' || *b == b'.') {
+            return false;
+        }
+    }
+    false
+}
+
+/// What stands before `rest`, with which the text ends.
+fn text_before<'a>(text: &'a str, rest: &str) -> &'a str
+    requires { (front : List ℕ) × (text.now ≡ front ++ rest.now) }
+    ensures { text.now ≡ result.now ++ rest.now }
+{
+    &text[..text.len() - rest.len()]
+}
+
+/// What follows the blanks at the front.
+pub fn skip_blanks(text: &str) -> &str
+    ensures { chars result.now ≡ skip_blanks (chars text.now) }
+{
+    let mut rest = text;
+    while let Some((c, after)) = first_char(rest) {
+        if !is_blank(c) {
+            return rest;
+        }
+        rest = after;
+    }
+    rest
+}
+
+/// What follows a label, behind its first character.
+fn skip_label_tail(text: &str) -> &str
+    ensures { chars result.now ≡ (label_tail_at (chars text.now)).1 }
+{
+    let mut good = text;
+    let mut rest = text;
+    while let Some((c, after)) = first_char(rest) {
+        if is_label_char(c) {
+            good = after;
+            rest = after;
+        } else if c == '.' {
+            rest = after;
+        } else {
+            return good;
+        }
+    }
+    good
+}
+
+/// Behind `_:`: the label, and what follows it.
+fn read_label(alloc: Global, text: &str) -> Result<(String, &str), LineFault>
+    ensures { Gives (λ x. (string_bytes x.0, chars x.1.now)) result (label_at (chars text.now)) }
+{
+    let Some((c, after)) = first_char(text) else {
+        return Err(LineFault::Bad);
+    };
+    if !is_label_start(c) {
+        return Err(LineFault::Bad);
+    }
+    let rest = skip_label_tail(after);
+    let label = String::from_str(alloc, text_before(text, rest))?;
+    Ok((label, rest))
+}
+
+fn begins_alphanumeric(text: &str) -> bool
+    ensures { result ≡ begins is_ascii_alphanumeric (chars text.now) }
+{
+    match first_char(text) {
+        Some((c, _)) => c.is_ascii_alphanumeric(),
+        None => false,
+    }
+}
+
+/// Whether a subtag begins with this hyphen.
+fn is_hyphen(c: char, after: &str) -> bool
+    ensures { result ≡ ((c == 45) && begins is_ascii_alphanumeric (chars after.now)) }
+{
+    c == '-' && begins_alphanumeric(after)
+}
+
+fn is_subtag_char(c: char, after: &str) -> bool
+    ensures { result ≡ (is_ascii_alphanumeric c || ((c == 45) && begins is_ascii_alphanumeric (chars after.now))) }
+{
+    c.is_ascii_alphanumeric() || is_hyphen(c, after)
+}
+
+/// What follows the subtags, behind a character of one.
+fn skip_subtags(text: &str) -> &str
+    ensures { chars result.now ≡ (subtags_at (chars text.now)).1 }
+{
+    let mut rest = text;
+    while let Some((c, after)) = first_char(rest) {
+        if !is_subtag_char(c, after) {
+            return rest;
+        }
+        rest = after;
+    }
+    rest
+}
+
+/// What follows a tag.
+fn skip_tag(text: &str) -> &str
+    ensures { chars result.now ≡ (primary_at (chars text.now)).1 }
+{
+    let mut rest = text;
+    while let Some((c, after)) = first_char(rest) {
+        if c.is_ascii_alphabetic() {
+            rest = after;
+        } else if is_hyphen(c, after) {
+            return skip_subtags(after);
+        } else {
+            return rest;
+        }
+    }
+    rest
+}
+
+/// Behind `@`: the tag in lower case, and what follows it.
+fn read_tag(alloc: Global, text: &str) -> Result<(String, &str), LineFault>
+    ensures { Gives (λ x. (string_bytes x.0, chars x.1.now)) result (tag_at (chars text.now)) }
+{
+    let Some((c, _)) = first_char(text) else {
+        return Err(LineFault::Bad);
+    };
+    if !c.is_ascii_alphabetic() {
+        return Err(LineFault::Bad);
+    }
+    let rest = skip_tag(text);
+    let mut tag = String::from_str(alloc, text_before(text, rest))?;
+    tag.make_ascii_lowercase();
+    Ok((tag, rest))
+}
+
+/// Behind `<`: the IRI, which has a scheme, and what follows it.
+#[tactic(auto, unfolding(crate::specs::Reading::iri_at))]
+fn read_iri(alloc: Global, text: &str) -> Result<(String, &str), LineFault>
+    ensures { Gives (λ x. (string_bytes x.0, chars x.1.now)) result (iri_at (chars text.now)) }
+{
+    let (iri, rest) = read_body(alloc, Kind::Iri, text)?;
+    if !has_scheme(iri.as_str()) {
+        return Err(LineFault::Bad);
+    }
+    Ok((iri, rest))
+}
+
+/// What follows this character.
+fn after_char(expected: char, text: &str) -> Option<&str>
+    ensures { Finds (λ x. chars x.now) result (after_char expected (chars text.now)) }
+{
+    let (c, after) = first_char(text)?;
+    if c == expected { Some(after) } else { None }
+}
+
+/// The terminal that begins with this character, and what follows it.
+#[tactic(auto, unfolding(crate::specs::Reading::terminal_at))]
+fn token_from(alloc: Global, c: char, after: &str) -> Result<(Token, &str), LineFault>
+    ensures { Gives (λ x. (token_view x.0, chars x.1.now)) result (terminal_at (c ∷ chars after.now)) }
+{
+    if c == '<' {
+        let (text, rest) = read_iri(alloc, after)?;
+        return Ok((Token::Iri(text), rest));
+    }
+    if c == '"' {
+        let (lexical, rest) = read_body(alloc, Kind::Quoted, after)?;
+        return Ok((Token::Quoted(lexical), rest));
+    }
+    if c == '_' {
+        let Some(after) = after_char(':', after) else {
+            return Err(LineFault::Bad);
+        };
+        let (name, rest) = read_label(alloc, after)?;
+        return Ok((Token::Blank(name), rest));
+    }
+    if c == '@' {
+        let (name, rest) = read_tag(alloc, after)?;
+        return Ok((Token::Tag(name), rest));
+    }
+    if c == '^' {
+        let Some(rest) = after_char('^', after) else {
+            return Err(LineFault::Bad);
+        };
+        return Ok((Token::Carets, rest));
+    }
+    if c == '.' {
+        return Ok((Token::Dot, after));
+    }
+    Err(LineFault::Bad)
+}
+
+/// The next terminal, behind blanks, and what follows it.
+#[tactic(auto, unfolding(crate::specs::Reading::terminal_at))]
+pub fn next_token(alloc: Global, text: &str) -> Result<(Token, &str), LineFault>
+    ensures { Gives (λ x. (token_view x.0, chars x.1.now)) result (next (chars text.now)) }
+{
+    let text = skip_blanks(text);
+    let Some((c, after)) = first_char(text) else {
+        return Err(LineFault::Bad);
+    };
+    token_from(alloc, c, after)
+}
+
+/// Whether nothing is left but blanks and a comment.
+pub fn is_end(text: &str) -> bool
+    ensures { result ≡ is_end (skip_blanks (chars text.now)) }
+{
+    match first_char(skip_blanks(text)) {
+        Some((c, _)) => c == '#',
+        None => true,
+    }
+}
