@@ -1,0 +1,3 @@
+pub mod ExpressionTree
+pub mod GroupTree
+pub mod QueryTree
