@@ -1,0 +1,3 @@
+pub mod WorkerSteps
+pub mod SlotSteps
+pub mod CollectorSteps

@@ -1,0 +1,75 @@
+-- What one more draw, answer or fault does to the work so far.
+use Rattle.std.proofs.Common.{◌≡◌, ℕ, ◌+◌, ◌<◌, ◌≤◌, List, [], ◌∷◌, ◌++◌, map, All, Contains, count_by, ◌==◌, arith, rules, sym, ap, ◌∙◌, subst, inl, inr, ⊎_elim, refl}
+use Rattle.std.proofs.lemmas.Grind.{common_steps}
+use Rattle.std.proofs.lemmas.List.{map-append}
+use Rattle.std.proofs.lemmas.List.Sums.{sum_by-append}
+use Rattle.std.proofs.lemmas.List.Elements.{All-push, Contains-push, Contains-push_cases, Contains-append_left, Contains-append_right, Contains-append_cases}
+use Rattle.piece_board.specs.Counts.{times}
+use Rattle.piece_pool.specs.Worked.{numbers_of, done_of, IsNoMoreThan, CoversUpTo, IsWorkOf}
+
+pub times-append : (x : ℕ) (xs ys : List ℕ) → times x (xs ++ ys) ≡ times x xs + times x ys
+times-append x xs ys = sum_by-append _ xs ys
+
+pub IsNoMoreThan-draw : (xs ys : List ℕ) (i : ℕ) → IsNoMoreThan xs ys → IsNoMoreThan xs (ys ++ i ∷ [])
+IsNoMoreThan-draw xs ys i h x = omega (arith, h x, times-append x ys (i ∷ []))
+
+-- one more answer of the number drawn last
+pub IsNoMoreThan-answer : {Out Fault : Type 0} (outs : List (ℕ × Out)) (failed : List (ℕ × Fault)) (draws : List ℕ) (i : ℕ) (out : Out) → IsNoMoreThan (done_of outs failed) draws → IsNoMoreThan (done_of (outs ++ (i, out) ∷ []) failed) (draws ++ i ∷ [])
+IsNoMoreThan-answer outs failed draws i out h x =
+    rw map-append (omega (arith, h x, times-append x draws (i ∷ []), times-append x (numbers_of outs) (numbers_of failed), times-append x (numbers_of outs ++ i ∷ []) (numbers_of failed), times-append x (numbers_of outs) (i ∷ [])))
+
+-- one more fault of it
+pub IsNoMoreThan-fault : {Out Fault : Type 0} (outs : List (ℕ × Out)) (failed : List (ℕ × Fault)) (draws : List ℕ) (i : ℕ) (fault : Fault) → IsNoMoreThan (done_of outs failed) draws → IsNoMoreThan (done_of outs (failed ++ (i, fault) ∷ [])) (draws ++ i ∷ [])
+IsNoMoreThan-fault outs failed draws i fault h x =
+    rw map-append (omega (arith, h x, times-append x draws (i ∷ []), times-append x (numbers_of outs) (numbers_of failed), times-append x (numbers_of outs) (numbers_of failed ++ i ∷ []), times-append x (numbers_of failed) (i ∷ [])))
+
+-- a draw that is skipped
+pub CoversUpTo-skip : (seen seen' i : ℕ) (draws done : List ℕ) → CoversUpTo seen draws done → seen' ≤ seen → seen' < i → CoversUpTo seen' (draws ++ i ∷ []) done
+CoversUpTo-skip seen seen' i draws done h falls above j in' low =
+    ⊎_elim (λ was. h j was (omega arith)) (λ is. absurd (omega (arith, is))) (Contains-push_cases draws i j in')
+
+-- a draw that is done
+pub CoversUpTo-done : (seen seen' i : ℕ) (draws done done' : List ℕ) → CoversUpTo seen draws done → seen' ≤ seen → ((j : ℕ) → Contains done j → Contains done' j) → Contains done' i → CoversUpTo seen' (draws ++ i ∷ []) done'
+CoversUpTo-done seen seen' i draws done done' h falls grows here j in' low =
+    ⊎_elim (λ was. grows j (h j was (omega arith))) (λ is. subst (Contains done') is here) (Contains-push_cases draws i j in')
+
+pub Contains-answer_old : {Out Fault : Type 0} (outs : List (ℕ × Out)) (failed : List (ℕ × Fault)) (i : ℕ) (out : Out) (j : ℕ) → Contains (done_of outs failed) j → Contains (done_of (outs ++ (i, out) ∷ []) failed) j
+Contains-answer_old outs failed i out j h =
+    rw map-append (⊎_elim (λ a. Contains-append_left _ _ j (Contains-append_left _ _ j a)) (λ b. Contains-append_right (numbers_of outs ++ i ∷ []) _ j b) (Contains-append_cases (numbers_of outs) (numbers_of failed) j h))
+
+pub Contains-answer_new : {Out Fault : Type 0} (outs : List (ℕ × Out)) (failed : List (ℕ × Fault)) (i : ℕ) (out : Out) → Contains (done_of (outs ++ (i, out) ∷ []) failed) i
+Contains-answer_new outs failed i out =
+    rw map-append (Contains-append_left _ _ i (Contains-push (numbers_of outs) i))
+
+pub Contains-fault_old : {Out Fault : Type 0} (outs : List (ℕ × Out)) (failed : List (ℕ × Fault)) (i : ℕ) (fault : Fault) (j : ℕ) → Contains (done_of outs failed) j → Contains (done_of outs (failed ++ (i, fault) ∷ [])) j
+Contains-fault_old outs failed i fault j h =
+    rw map-append (⊎_elim (λ a. Contains-append_left _ _ j a) (λ b. Contains-append_right (numbers_of outs) _ j (Contains-append_left _ _ j b)) (Contains-append_cases (numbers_of outs) (numbers_of failed) j h))
+
+pub Contains-fault_new : {Out Fault : Type 0} (outs : List (ℕ × Out)) (failed : List (ℕ × Fault)) (i : ℕ) (fault : Fault) → Contains (done_of outs (failed ++ (i, fault) ∷ [])) i
+Contains-fault_new outs failed i fault =
+    rw map-append (Contains-append_right (numbers_of outs) _ i (Contains-push (numbers_of failed) i))
+
+module _ {Out Fault : Type 0} (answers : ℕ → Out → Type 0) (faults : ℕ → Fault → Type 0) (draws reports : List ℕ) (outs : List (ℕ × Out)) (failed : List (ℕ × Fault)) (work : IsWorkOf answers faults draws reports outs failed) (i : ℕ) where
+  pub IsWorkOf-draw : IsWorkOf answers faults (draws ++ i ∷ []) reports outs failed
+  IsWorkOf-draw = record {
+    answered = work.answered;
+    faulted = work.faulted;
+    drawn = IsNoMoreThan-draw (done_of outs failed) draws i work.drawn;
+    reported = work.reported;
+  }
+
+  pub IsWorkOf-answer : (out : Out) → answers i out → IsWorkOf answers faults (draws ++ i ∷ []) reports (outs ++ (i, out) ∷ []) failed
+  IsWorkOf-answer out h = record {
+    answered = All-push (λ p. answers p.0 p.1) outs (i, out) work.answered h;
+    faulted = work.faulted;
+    drawn = IsNoMoreThan-answer outs failed draws i out work.drawn;
+    reported = work.reported;
+  }
+
+  pub IsWorkOf-fault : (fault : Fault) → faults i fault → IsWorkOf answers faults (draws ++ i ∷ []) (reports ++ i ∷ []) outs (failed ++ (i, fault) ∷ [])
+  IsWorkOf-fault fault h = record {
+    answered = work.answered;
+    faulted = All-push (λ p. faults p.0 p.1) failed (i, fault) work.faulted h;
+    drawn = IsNoMoreThan-fault outs failed draws i fault work.drawn;
+    reported = rw map-append (ap (λ xs. xs ++ i ∷ []) work.reported);
+  }

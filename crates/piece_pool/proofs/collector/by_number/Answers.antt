@@ -1,0 +1,57 @@
+use Rattle.std.proofs.Common.{rules, arith, ◌≡◌, ℕ, ◌<◌, ◌⊎◌, suc, None, IsSome, Contains, length, get_or, set, inl, inr, ⊎_elim, sym, subst}
+use Rattle.std.proofs.lemmas.List.{length-map}
+use Rattle.std.proofs.lemmas.List.Elements.{All-contains_itself}
+use Rattle.piece_pool.specs.Worked.{numbers_of}
+use Rattle.piece_pool.proofs.SlotSteps.{Contains-cons_cases, IfSome-set, covered-set, IsSomeAnd-both}
+use Rattle.piece_pool.proofs.collector.by_number.Goals as goal
+
+pub loop-i-init : goal.loop-i-init
+loop-i-init g c = record {
+  count = search rules;
+  held = λ i. rw (c.loop.invariant.empty i) tt;
+  rest = rw c.into_iter-i-iterator.ensures.into_iter_gives.0 (All-contains_itself c.args.outs.items);
+  covered = λ i low. inr (rw c.into_iter-i-iterator.ensures.into_iter_gives.0 (c.requires.all i low));
+}
+
+pub loop-i-preserved-then-i-n : goal.loop-i-preserved-then-i-n
+loop-i-preserved-then-i-n g c =
+    let was = c.loop-i.invariant in
+    let steps = c.in-Some.ensures.steps in
+    let all = rw steps.0 at was.rest in
+    let left = rw steps.0 at was.covered in record {
+      count = was.count;
+      held = IfSome-set c.loop-i.slots.items (λ i out. Contains c.args.outs.items (i, out)) c.in-Some.i c.in-Some.out was.held (all 0 (c.in-Some.i, c.in-Some.out) (omega arith));
+      rest = λ k d below. all (suc k) d (omega arith);
+      covered = λ i low. covered-set c.loop-i.slots.items c.in-Some.i c.in-Some.out _ i (search rules) (left i low);
+    }
+
+pub loop-i-preserved-then-i-n-2 : goal.loop-i-preserved-then-i-n-2
+loop-i-preserved-then-i-n-2 g c =
+    let was = c.loop-i.invariant in
+    let steps = c.in-Some.ensures.steps in
+    let all = rw steps.0 at was.rest in
+    let left = rw steps.0 at was.covered in record {
+      count = was.count;
+      held = IfSome-set c.loop-i.slots.items (λ i out. Contains c.args.outs.items (i, out)) c.in-Some.i c.in-Some.out was.held (all 0 (c.in-Some.i, c.in-Some.out) (omega arith));
+      rest = λ k d below. all (suc k) d (omega arith);
+      covered = λ i low. covered-set c.loop-i.slots.items c.in-Some.i c.in-Some.out _ i (search rules) (left i low);
+    }
+
+pub loop-i-preserved : goal.loop-i-preserved
+loop-i-preserved g c =
+    let was = c.loop-i.invariant in
+    let steps = c.in-Some.ensures.steps in
+    let all = rw steps.0 at was.rest in
+    let left = rw steps.0 at was.covered in record {
+      count = was.count;
+      held = was.held;
+      rest = λ k d below. all (suc k) d (omega arith);
+      covered = λ i low. ⊎_elim inl (λ h. ⊎_elim (λ is. absurd (omega (arith, is))) inr (Contains-cons_cases c.in-Some.i _ i h)) (left i low);
+    }
+
+pub returns-clause-each : goal.returns-clause-each
+returns-clause-each g c i low =
+    let was = c.loop-i.invariant in
+    let steps = c.in-None.ensures.steps in
+    let rest = c.loop-i.i-iterator.rest in
+    IsSomeAnd-both _ _ (⊎_elim (λ some. some) (λ none. absurd (omega (arith, none.1, length-map rest.items (λ p. p.0), rest.ok.0, steps.0))) (was.covered i low)) (was.held i)

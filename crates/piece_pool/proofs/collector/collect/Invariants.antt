@@ -1,0 +1,12 @@
+use Rattle.std.proofs.Common.{◌≡◌, ◌+◌, All, vec_len}
+use Rattle.std.specs.Vec.Iter.{into_iter_items, into_iter_len}
+use Rattle.piece_pool.specs.Worked.{IsWorked}
+use Rattle.piece_pool.specs.Collected.{IsCollected}
+use Rattle.piece_pool.proofs.collector.collect.Given as goal
+
+abbrev pub invariant-loop-worked : goal.invariant-loop-worked
+invariant-loop-worked g l = record {
+  count : vec_len l.passes + into_iter_len l.worked-iterator ≡ vec_len l.fn.works;
+  rest : All (IsWorked (g.J.Job.answers l.job) (g.J.Job.faults l.job) l.board) (into_iter_items l.worked-iterator);
+  collected : IsCollected (g.J.Job.answers l.job) (g.J.Job.faults l.job) l.board l.passes.items l.outs.items l.faults.items;
+}

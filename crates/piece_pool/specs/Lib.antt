@@ -1,0 +1,4 @@
+pub mod Job
+pub mod Worked
+pub mod Outcome
+pub mod Collected

@@ -1,0 +1,44 @@
+-- What a worker hands back (own): its answers and faults are the job's, and stand for its draws.
+use Rattle.std.specs.Prelude.{◌≡◌, ℕ, ◌<◌, ◌≤◌, List, ◌++◌, map, All, Contains, false}
+use Rattle.piece_board.specs.Counts.{times}
+use Rattle.piece_board.specs.Board.{BoardView, IsPassOf}
+use Rattle.piece_pool.specs.declared.worker.Worked.{Worked}
+
+abbrev pub numbers_of : {X : Type 0} → List (ℕ × X) → List ℕ
+numbers_of ps = map (λ p. p.0) ps
+
+-- the numbers of answers and faults
+abbrev pub done_of : {Out Fault : Type 0} → List (ℕ × Out) → List (ℕ × Fault) → List ℕ
+done_of outs faults = numbers_of outs ++ numbers_of faults
+
+-- no number stands in xs more often than in ys
+abbrev pub IsNoMoreThan : List ℕ → List ℕ → Type 0
+IsNoMoreThan xs ys = (x : ℕ) → times x xs ≤ times x ys
+
+-- each number of xs that is at most this one stands in ys
+abbrev pub CoversUpTo : ℕ → List ℕ → List ℕ → Type 0
+CoversUpTo most xs ys = (i : ℕ) → Contains xs i → i ≤ most → Contains ys i
+
+-- What was done of a job so far: each answer and each fault is one of the job's; their numbers are
+-- draws, each in one of the two lists and there once, since no draw stands twice; and the numbers of
+-- the faults are the reports.
+pub record IsWorkOf {Out Fault : Type 0} (answers : ℕ → Out → Type 0)
+    (faults : ℕ → Fault → Type 0) (draws reports : List ℕ) (outs : List (ℕ × Out))
+    (failed : List (ℕ × Fault)) : Type 0 where
+  pub answered : All (λ p. answers p.0 p.1) outs
+  pub faulted : All (λ p. faults p.0 p.1) failed
+  pub drawn : IsNoMoreThan (done_of outs failed) draws
+  pub reported : numbers_of failed ≡ reports
+
+-- What one worker hands back of a job on a board. Unless it stopped, its pass is finished, and each
+-- draw at or below what the pass has seen is answered or faulty.
+pub record IsWorked {Out Fault : Type 0} (answers : ℕ → Out → Type 0)
+    (faults : ℕ → Fault → Type 0) (board : BoardView) (w : Worked Out Fault) : Type 0 where
+  pub of_board : IsPassOf board w.pass
+  pub work :
+      IsWorkOf answers faults w.pass.history.draws w.pass.history.reports w.outs.items
+      w.faults.items
+  pub finished : w.stopped ≡ false → 0 < w.pass.history.finished
+  pub covers :
+      w.stopped ≡ false
+      → CoversUpTo w.pass.history.seen w.pass.history.draws (done_of w.outs.items w.faults.items)

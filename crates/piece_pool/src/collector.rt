@@ -1,0 +1,162 @@
+//! What the works of all workers come to.
+ghost use Rattle.std.specs.Prelude.{◌≡◌, ℕ, ◌<◌, ◌≤◌, IfOk, OnOk, map, IsSome, IsSomeAnd, Some, None, All, Contains, vec_len, slice_index_or};
+ghost use Rattle.piece_pool.specs.Worked.{IsWorked, numbers_of};
+ghost use Rattle.piece_pool.specs.Outcome.{IsOutcome};
+ghost use Rattle.piece_pool.specs.Collected.{IsCollected};
+
+use crate::job::Job;
+use crate::worker::Worked;
+use piece_board::{Board, Pass};
+use std::alloc::{AllocError, Global};
+
+/// What a run of a job over all its pieces comes to.
+#[derive(Drop)]
+pub enum Outcome<Out, Fault> {
+    /// No piece is faulty: the answer of piece `i` is in place `i`.
+    All(Vec<Out>),
+    /// The least faulty piece, and its fault.
+    First { piece: u64, fault: Fault },
+}
+
+/// The parts of the works of all workers.
+#[derive(Drop)]
+struct Collected<Out, Fault> {
+    passes: Vec<Pass>,
+    outs: Vec<(u64, Out)>,
+    faults: Vec<(u64, Fault)>,
+}
+
+/// Closes the board, and puts the answers of its pieces in their places, or names the least faulty
+/// one. Which threads did the works does not matter.
+///
+/// # Errors
+/// A growth was refused, now or to a worker that stopped. Everything is dropped.
+pub fn gather<J: Job>(
+    alloc: Global,
+    board: Board,
+    works: Vec<Worked<J::Out, J::Fault>>,
+    job: &J,
+) -> Result<Outcome<J::Out, J::Fault>, AllocError>
+where
+    J::Out: Drop,
+    J::Fault: Drop,
+    requires all { vec_len works ≡ board.seats }
+    requires works { All (IsWorked (J.answers job.now) (J.faults job.now) board) works.items }
+    ensures outcome { IfOk result (IsOutcome (J.answers job.now) (J.faults job.now) board.pieces) }
+{
+    let Collected {
+        passes,
+        outs,
+        faults,
+    } = collect(alloc, &board, works, job)?;
+    let closed = board.close(passes);
+    let n = closed.drawn;
+    if closed.least < n {
+        let piece = closed.least;
+        let fault = fault_of(faults, piece);
+        return Ok(Outcome::First { piece, fault });
+    }
+    Ok(Outcome::All(in_order(alloc, n, outs)?))
+}
+
+/// Takes the works apart, one list behind the other.
+fn collect<J: Job>(
+    alloc: Global,
+    board: &Board,
+    works: Vec<Worked<J::Out, J::Fault>>,
+    job: &J,
+) -> Result<Collected<J::Out, J::Fault>, AllocError>
+where
+    J::Out: Drop,
+    J::Fault: Drop,
+    requires works { All (IsWorked (J.answers job.now) (J.faults job.now) board.now) works.items }
+    ensures some { OnOk result (0 < board.now.seats) }
+    ensures count { IfOk result (λ c. vec_len c.passes ≡ vec_len works) }
+    ensures collected { IfOk result (λ c. IsCollected (J.answers job.now) (J.faults job.now)
+        board.now c.passes.items c.outs.items c.faults.items) }
+{
+    let mut passes = Vec::with_capacity(alloc, board.seats())?;
+    let mut outs = Vec::new(alloc);
+    let mut faults = Vec::new(alloc);
+    for worked in works {
+        let Worked {
+            pass,
+            outs: mut more_outs,
+            faults: mut more_faults,
+            stopped,
+        } = worked;
+        if stopped {
+            return Err(AllocError);
+        }
+        passes.push(pass)?;
+        outs.append(&mut more_outs)?;
+        faults.append(&mut more_faults)?;
+    }
+    Ok(Collected {
+        passes,
+        outs,
+        faults,
+    })
+}
+
+/// The answers in the order of their numbers.
+fn in_order<Out: Drop>(alloc: Global, n: u64, outs: Vec<(u64, Out)>) -> Result<Vec<Out>, AllocError>
+    requires all { (i : ℕ) → i < n → Contains (numbers_of outs.items) i }
+    ensures count { IfOk result (λ v. vec_len v ≡ n) }
+    ensures each { IfOk result (λ v. (i : ℕ) (d : Out) → i < n
+        → Contains outs.items (i, slice_index_or v.items i d)) }
+{
+    let slots = by_number(alloc, n, outs)?;
+    let ordered = unwrapped(alloc, slots)?;
+    Ok(ordered)
+}
+
+/// Each answer in the place of its number.
+fn by_number<Out: Drop>(
+    alloc: Global,
+    n: u64,
+    outs: Vec<(u64, Out)>,
+) -> Result<Vec<Option<Out>>, AllocError>
+    requires all { (i : ℕ) → i < n → Contains (numbers_of outs.items) i }
+    ensures count { IfOk result (λ v. vec_len v ≡ n) }
+    ensures each { IfOk result (λ v. (i : ℕ) → i < n
+        → IsSomeAnd (slice_index_or v.items i None) (λ out. Contains outs.items (i, out))) }
+{
+    let count = n as usize;
+    let mut slots = Vec::with_capacity(alloc, count)?;
+    for _ in 0..count {
+        slots.push_reserved(None);
+    }
+    for (i, out) in outs {
+        if i < n {
+            slots[i as usize] = Some(out);
+        }
+    }
+    Ok(slots)
+}
+
+/// The values of places that are all filled.
+fn unwrapped<Out: Drop>(alloc: Global, slots: Vec<Option<Out>>) -> Result<Vec<Out>, AllocError>
+    requires full { (i : ℕ) → i < vec_len slots → IsSome (slice_index_or slots.items i None) }
+    ensures values { IfOk result (λ v. map Some v.items ≡ slots.items) }
+{
+    let mut outs = Vec::with_capacity(alloc, slots.len())?;
+    for slot in slots {
+        let Some(out) = slot else { unreachable!() };
+        outs.push_reserved(out);
+    }
+    Ok(outs)
+}
+
+/// The fault of a piece that has one.
+fn fault_of<Fault: Drop>(faults: Vec<(u64, Fault)>, piece: u64) -> Fault
+    requires there { Contains (numbers_of faults.items) piece }
+    ensures fault { Contains faults.items (piece, result) }
+{
+    for (i, fault) in faults {
+        if i == piece {
+            return fault;
+        }
+    }
+    unreachable!()
+}

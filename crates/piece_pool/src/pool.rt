@@ -1,0 +1,207 @@
+//! Starting and joining the workers.
+ghost use Rattle.std.specs.Prelude.{◌≡◌, ◌≤◌, ◌^◌, IfOk, All, vec_len};
+ghost use Rattle.piece_board.specs.Pass.{unused};
+ghost use Rattle.piece_pool.specs.Worked.{IsWorked};
+ghost use Rattle.piece_pool.specs.Outcome.{IsOutcome};
+
+use crate::collector::{Outcome, gather};
+use crate::gate::Gate;
+use crate::job::Job;
+use crate::worker::{Worked, work};
+use piece_board::{Board, BoardFault, Pass};
+use std::alloc::{AllocError, Global};
+use std::snapshot::Snapshot;
+use std::sync::Wait;
+use std::thread;
+use std::thread::{Promise, Scope, Threads};
+
+/// Why a pool has no outcome.
+#[derive(Clone, Copy, Debug, PartialEq, Eq)]
+pub enum PoolFault {
+    /// The start of a worker was refused. Those that were started have been joined.
+    WorkerRefused,
+    /// A growth was refused, to the pool, to a worker or to the job.
+    Memory,
+}
+
+impl From<AllocError> for PoolFault {
+    ghost use Rattle.std.specs.Prelude.{◌≡◌};
+    ghost use Rattle.piece_pool.specs.declared.pool.PoolFault.TheVariants.{Memory};
+
+    ghost from_gives = { λ _ fault. fault ≡ Memory };
+
+    fn from(_refused: AllocError) -> PoolFault {
+        PoolFault::Memory
+    }
+}
+
+impl From<BoardFault> for PoolFault {
+    ghost use Rattle.std.specs.Prelude.{◌≡◌};
+    ghost use Rattle.piece_pool.specs.declared.pool.PoolFault.TheVariants.{Memory};
+
+    ghost from_gives = { λ _ fault. fault ≡ Memory };
+
+    fn from(_refused: BoardFault) -> PoolFault {
+        PoolFault::Memory
+    }
+}
+
+/// That a worker works on this job with a pass of this board.
+#[derive(Drop)]
+struct WorkOn<J> {
+    job: Snapshot<J>,
+    board: Snapshot<Board>,
+}
+
+impl<J: Job> Promise<Worked<J::Out, J::Fault>> for WorkOn<J> {
+    ghost kept_by = { λ p w. IsWorked (J.answers p.job.value) (J.faults p.job.value) p.board.value w };
+}
+
+/// Runs the pieces 0 to `n - 1` of a job, each on one of the smaller of `workers` and `n` threads, and
+/// answers what they come to. Every number of workers and every gate gives the same outcome.
+///
+/// With no piece no thread is started and no gate called. It waits for the workers that it started.
+///
+/// # Errors
+/// - `WorkerRefused`: the start of a worker was refused. It stands before `Memory`.
+/// - `Memory`: a growth was refused.
+///
+/// Every worker that was started has been joined, and all answers are dropped.
+pub fn run_pieces<R: Threads + Wait, J: Job + Sync, G: Gate + Sync>(
+    rt: &R,
+    alloc: Global,
+    workers: usize,
+    n: u64,
+    job: &J,
+    gate: &G,
+) -> Result<Outcome<J::Out, J::Fault>, PoolFault>
+where
+    J::Out: Send + Drop,
+    J::Fault: Send + Drop,
+    requires workers { (1 ≤ workers) × (workers ≤ 64) }
+    requires pieces { n ≤ 2 ^ 62 }
+    ensures outcome { IfOk result (IsOutcome (J.answers job.now) (J.faults job.now) n) }
+{
+    let seats = n.clamp(1, workers as u64) as usize;
+    let (board, passes) = Board::open(alloc, n, seats)?;
+    let works = all_works(rt, alloc, n, &board, passes, job, gate)?;
+    Ok(gather(alloc, board, works, job)?)
+}
+
+/// The works of all passes. Where there is no piece no thread is started.
+fn all_works<R: Threads + Wait, J: Job + Sync, G: Gate + Sync>(
+    rt: &R,
+    alloc: Global,
+    n: u64,
+    board: &Board,
+    passes: Vec<Pass>,
+    job: &J,
+    gate: &G,
+) -> Result<Vec<Worked<J::Out, J::Fault>>, PoolFault>
+where
+    J::Out: Send + Drop,
+    J::Fault: Send + Drop,
+    requires unused { All (λ p. p ≡ unused board.now.id board.now.pieces) passes.items }
+    ensures len { IfOk result (λ ws. vec_len ws ≡ vec_len passes) }
+    ensures works { IfOk result (λ ws. All (IsWorked (J.answers job.now) (J.faults job.now)
+        board.now) ws.items) }
+{
+    if n == 0 {
+        return Ok(work_in_turn(alloc, board, passes, job, gate)?);
+    }
+    run_workers(rt, alloc, board, passes, job, gate)
+}
+
+/// Works with each pass on the caller's own thread.
+fn work_in_turn<J: Job, G: Gate>(
+    alloc: Global,
+    board: &Board,
+    passes: Vec<Pass>,
+    job: &J,
+    gate: &G,
+) -> Result<Vec<Worked<J::Out, J::Fault>>, AllocError>
+where
+    J::Out: Drop,
+    J::Fault: Drop,
+    requires unused { All (λ p. p ≡ unused board.now.id board.now.pieces) passes.items }
+    ensures len { IfOk result (λ ws. vec_len ws ≡ vec_len passes) }
+    ensures works { IfOk result (λ ws. All (IsWorked (J.answers job.now) (J.faults job.now)
+        board.now) ws.items) }
+{
+    let mut works = Vec::with_capacity(alloc, passes.len())?;
+    for pass in passes {
+        works.push_reserved(work(alloc, board, pass, job, gate));
+    }
+    Ok(works)
+}
+
+/// The works of all passes, by a thread for each.
+fn run_workers<R: Threads + Wait, J: Job + Sync, G: Gate + Sync>(
+    rt: &R,
+    alloc: Global,
+    board: &Board,
+    passes: Vec<Pass>,
+    job: &J,
+    gate: &G,
+) -> Result<Vec<Worked<J::Out, J::Fault>>, PoolFault>
+where
+    J::Out: Send + Drop,
+    J::Fault: Send + Drop,
+    requires unused { All (λ p. p ≡ unused board.now.id board.now.pieces) passes.items }
+    ensures len { IfOk result (λ ws. vec_len ws ≡ vec_len passes) }
+    ensures works { IfOk result (λ ws. All (IsWorked (J.answers job.now) (J.faults job.now)
+        board.now) ws.items) }
+{
+    thread::scope(
+        thread::scope_env(),
+        rt,
+        |scope| -> Result<Vec<Worked<J::Out, J::Fault>>, PoolFault>
+            requires { All (λ p. p ≡ unused board.now.id board.now.pieces) passes.items }
+            ensures len { IfOk result (λ ws. vec_len ws ≡ vec_len passes) }
+            ensures works { IfOk result (λ ws. All (IsWorked (J.answers job.entry.now)
+                (J.faults job.entry.now) board.entry.now) ws.items) }
+        { start_and_join(rt, scope, alloc, board, passes, job, gate) },
+    )
+}
+
+/// Starts a worker for each pass, up to the first that is refused, and joins those that were started.
+fn start_and_join<'s, E, R: Threads, J: Job + Sync, G: Gate + Sync>(
+    rt: &R,
+    scope: &Scope<'s, E>,
+    alloc: Global,
+    board: &'s Board,
+    passes: Vec<Pass>,
+    job: &'s J,
+    gate: &'s G,
+) -> Result<Vec<Worked<J::Out, J::Fault>>, PoolFault>
+where
+    J::Out: Send + Drop,
+    J::Fault: Send + Drop,
+    requires unused { All (λ p. p ≡ unused board.now.id board.now.pieces) passes.items }
+    ensures len { IfOk result (λ ws. vec_len ws ≡ vec_len passes) }
+    ensures works { IfOk result (λ ws. All (IsWorked (J.answers job.now) (J.faults job.now)
+        board.now) ws.items) }
+{
+    let count = passes.len();
+    let mut handles = Vec::with_capacity(alloc, count)?;
+    let mut works = Vec::with_capacity(alloc, count)?;
+    for pass in passes {
+        let promise = WorkOn {
+            job: Snapshot::of(job),
+            board: Snapshot::of(board),
+        };
+        let Ok(handle) = scope.spawn_with(promise, move || work(alloc, board, pass, job, gate))
+        else {
+            break;
+        };
+        handles.push_reserved(handle);
+    }
+    let started = handles.len();
+    for handle in handles {
+        works.push_reserved(handle.join(rt));
+    }
+    if started < count {
+        return Err(PoolFault::WorkerRefused);
+    }
+    Ok(works)
+}
