@@ -1,0 +1,3 @@
+pub mod ExpressionOf
+pub mod AlgebraOf
+pub mod Projected

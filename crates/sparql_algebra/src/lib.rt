@@ -1,0 +1,11 @@
+//! Plans of the SPARQL algebra and the values of expressions.
+#![tactic(auto)]
+
+mod expression;
+mod operator;
+mod plan;
+
+pub use expression::Expr;
+pub use operator::{GraphName, Operator, PatternTerm, TriplePattern};
+pub use plan::Plan;
+pub use sparql_tree::{Comparison, Function};
