@@ -3,8 +3,13 @@ pub mod BagLaws
 pub mod SolveLaws
 pub mod RepeatLaws
 pub mod BgpLaws
+pub mod SetLaws
+pub mod PatternLaws
 pub mod CongruenceLaws
+pub mod EvalLaws
 pub mod ReadingLaws
 pub mod BgpReadingLaws
 pub mod SortedLaws
 pub mod RowOrderLaws
+pub mod PieceLaws
+pub mod KeyLaws

@@ -15,4 +15,6 @@ pub mod Sorted
 pub mod RowOrder
 pub mod Reading
 pub mod Solve
+pub mod Keys
+pub mod Pieces
 pub mod Laws

@@ -3,9 +3,9 @@
 -- definitions of the algebra do not.
 use Rattle.std.specs.Prelude.{ℕ, ◌+◌, ◌<◌, Bool, List, [], ◌∷◌, get_or, set, Option, None, Some, flat_map, filter_map, if◌then◌else◌, filter, not, ◌&&◌, ◌++◌}
 use Rattle.std.specs.List.{list_all}
-use Rattle.algebra_model.specs.Solution.{Solution, is_compatible, merge}
+use Rattle.algebra_model.specs.Solution.{Solution, agree, is_compatible, merge}
 use Rattle.algebra_model.specs.Operators.{merges}
-use Rattle.algebra_model.specs.Bgp.{Triple, PatternTerm, TriplePattern, variable, label, constant}
+use Rattle.algebra_model.specs.Bgp.{Triple, PatternTerm, TriplePattern, variable, label, constant, image}
 
 module _ {T : Type 0} (same : T → T → Bool) where
   -- at place k, what the place holds decides: x is put where it holds nothing
@@ -29,6 +29,11 @@ module _ {T : Type 0} (same : T → T → Bool) where
   -- the map after the triple pattern is taken to g
   abbrev pub extend_by : ℕ → TriplePattern T → Solution T → Triple T → Option (Solution T)
   extend_by w t m g = then_bind w (then_bind w (then_bind w (Some m) t.s g.s) t.p g.p) t.o g.o
+
+  -- the triple agrees with the map wherever the map or the pattern holds a term: what a scan selects
+  abbrev pub agrees_with : ℕ → TriplePattern T → Solution T → Triple T → Bool
+  agrees_with w t m g =
+      agree same (image w m t.s) (Some g.s) && agree same (image w m t.p) (Some g.p) && agree same (image w m t.o) (Some g.o)
 
   -- the maps that extend m, triple by triple
   abbrev pub solve : ℕ → List (TriplePattern T) → List (Triple T) → Solution T → List (Solution T)
