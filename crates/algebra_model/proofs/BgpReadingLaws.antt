@@ -1,5 +1,5 @@
 -- The solutions of a pattern at numbers, read as terms, are the solutions of the pattern so read.
-use Rattle.std.proofs.Common.{◌≡◌, ℕ, zero, suc, ◌+◌, Bool, ◌&&◌, ◌||◌, List, [], ◌∷◌, take, map, None, option_map, Decides, IsPermutation, replicate, refl, sym, ap, ◌∙◌, subst}
+use Rattle.std.proofs.Common.{◌≡◌, ℕ, zero, suc, ◌+◌, Bool, ◌&&◌, ◌||◌, List, [], ◌∷◌, take, map, None, Some, option_map, Decides, IsPermutation, replicate, refl, sym, ap, ◌∙◌, subst}
 use Rattle.std.specs.List.{list_any}
 use Rattle.std.proofs.lemmas.List.{take-map}
 use Rattle.std.proofs.lemmas.List.Sorted.{IsPermutation-map, IsPermutation-sym, IsPermutation-trans}
@@ -9,7 +9,8 @@ use Rattle.algebra_model.specs.Bgp.{Triple, PatternTerm, TriplePattern, variable
 use Rattle.algebra_model.specs.Solve.{solve, IsBelow, AreBelow}
 use Rattle.algebra_model.specs.Reading.{Each, EachBound, EachOfTriple, EachOfPattern, read_row, read_pattern_term, read_triple}
 use Rattle.algebra_model.proofs.BgpLaws.{solve-bgp}
-use Rattle.algebra_model.proofs.ReadingLaws.{solve-read}
+use Rattle.algebra_model.proofs.ReadingLaws.{solve-read, solve-bound}
+use Rattle.algebra_model.proofs.RangeLaws.{Each-IsSameBag, Each-map, unbound-bound}
 
 module _ {A B : Type 0} (sa : A → A → Bool) (sb : B → B → Bool) (In : A → Type 0) (f : A → B) (one : (x y : A) → In x → In y → sb (f x) (f y) ≡ sa x y) where
   same_triple-read : (g h : Triple A) → EachOfTriple In g → EachOfTriple In h → same_triple_by sb (read_triple f g) (read_triple f h) ≡ same_triple_by sa g h
@@ -56,3 +57,17 @@ module _ {A B : Type 0} (sa : A → A → Bool) (sb : B → B → Bool) (In : A 
       let e : map (read_row f) (map (take w) (solve sa w P G (replicate n None))) ≡ map (take w) (solve sb w P' G' (replicate n None)) =
       cut-read w (solve sa w P G (replicate n None)) ∙ ap (map (take w)) (sym (solve-read sa sb In f one w P G (replicate n None) i j (blank-in n)) ∙ ap (solve sb w P' G') (blank-read n)) in
       IsPermutation-trans (map (read_row f) (bgp sa w l P G)) (map (take w) (solve sb w P' G' (replicate n None))) (bgp sb w l P' G') (subst (λ R. IsPermutation (map (read_row f) (bgp sa w l P G)) R) e here) there
+
+  take-bound : (w : ℕ) (m : Solution A) → EachBound In m → EachBound In (take w m)
+  take-bound zero m h = tt
+  take-bound (suc w) [] h = tt
+  take-bound (suc w) (None ∷ m) h = take-bound w m h
+  take-bound (suc w) (Some x ∷ m) h = (h.0, take-bound w m h.1)
+
+  -- the solutions of a pattern bind terms of the graph alone
+  pub bgp-bound : ((x y : A) → Decides (sa x y) (x ≡ y)) → (w l : ℕ) (P : List (TriplePattern A)) (G : List (Triple A)) → IsWithoutRepeats (same_triple_by sa) G → AreBelow w (w + l) P
+      → Each (EachOfTriple In) G → Each (EachBound In) (bgp sa w l P G)
+  bgp-bound da w l P G once below j =
+      let found = solve sa w P G (replicate (w + l) None) in
+      Each-IsSameBag (EachBound In) (map (take w) found) (bgp sa w l P G) (solve-bgp sa da w l P G once below)
+      (Each-map (EachBound In) (EachBound In) (take w) (λ m h. take-bound w m h) found (solve-bound sa sb In f one w P G (replicate (w + l) None) j (unbound-bound In (w + l))))

@@ -39,10 +39,10 @@ module _ (D E : List QuadParts) (alike : AnswersAlike D E) where
   module _ (w : ℕ) where
     in_graphs-alike : (i : GraphName) (P Q : Option Term → List (Solution Term)) → ((h : Option Term) → IsSameBag (P h) (Q h)) → IsSameBag (in_graphs w D i P) (in_graphs w E i Q)
     in_graphs-alike (each_graph v) P Q k =
-        let f = λ (P : Option Term → List (Solution Term)) (i : Term). join term_eq (P (Some i)) (named w E v i) in
+        let f = λ (P : Option Term → List (Solution Term)) (i : Term). join term_eq (P (Some i)) (named w v i) in
         IsPermutation-trans (flat_map (f P) (names D)) (flat_map (f P) (names E)) (flat_map (f Q) (names E))
         (IsPermutation-flat_map (same_solution term_eq) (solution_decides term_eq term_decides) (f P) (names D) (names E) names-IsSameBag)
-        (IsPermutation-flat_map_each (f P) (f Q) (λ i. bags.join-IsSameBag term_eq term_decides (P (Some i)) (Q (Some i)) (named w E v i) (named w E v i) (k (Some i)) (IsPermutation-refl (named w E v i))) (names E))
+        (IsPermutation-flat_map_each (f P) (f Q) (λ i. bags.join-IsSameBag term_eq term_decides (P (Some i)) (Q (Some i)) (named w v i) (named w v i) (k (Some i)) (IsPermutation-refl (named w v i))) (names E))
     in_graphs-alike (one_graph i) P Q k =
         subst (λ (b : Bool). IsSameBag (if list_any (term_eq i) (names D) then P (Some i) else []) (if b then Q (Some i) else [])) (is_name-alike i) (by (list_any (term_eq i) (names D)))
       where

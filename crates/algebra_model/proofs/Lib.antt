@@ -7,9 +7,12 @@ pub mod SetLaws
 pub mod PatternLaws
 pub mod CongruenceLaws
 pub mod EvalLaws
+pub mod RangeLaws
 pub mod ReadingLaws
+pub mod OperatorReadingLaws
 pub mod BgpReadingLaws
 pub mod SortedLaws
 pub mod RowOrderLaws
 pub mod PieceLaws
 pub mod KeyLaws
+pub mod StepLaws

@@ -6,6 +6,7 @@ use Rattle.algebra_model.specs.Solution.{Solution, is_compatible, merge}
 use Rattle.algebra_model.specs.Bgp.{Triple, PatternTerm, TriplePattern, variable, label, constant}
 use Rattle.algebra_model.specs.Reading.{Each, EachBound, EachConstant, EachOfTriple, EachOfPattern, read_row, read_pattern_term, read_triple}
 use Rattle.algebra_model.specs.Operators.{join, merges, minus, share}
+use Rattle.algebra_model.proofs.RangeLaws.{Each-flat_map}
 use Rattle.algebra_model.specs.Solve.{solve, bind_by, bind_slot, bind_pattern_term, then_bind, extend_by}
 
 module _ {A B : Type 0} (sa : A → A → Bool) (sb : B → B → Bool) (In : A → Type 0) (f : A → B) (one : (x y : A) → In x → In y → sb (f x) (f y) ≡ sa x y) where
@@ -30,7 +31,7 @@ module _ {A B : Type 0} (sa : A → A → Bool) (sb : B → B → Bool) (In : A 
   share-read (Some x ∷ μ) (None ∷ ν) = share-read μ ν
   share-read (Some x ∷ μ) (Some y ∷ ν) = refl
 
-  merges-read : (μ : Solution A) → EachBound In μ → (R : List (Solution A)) → Each (EachBound In) R → merges sb (read_row f μ) (map (read_row f) R) ≡ map (read_row f) (merges sa μ R)
+  pub merges-read : (μ : Solution A) → EachBound In μ → (R : List (Solution A)) → Each (EachBound In) R → merges sb (read_row f μ) (map (read_row f) R) ≡ map (read_row f) (merges sa μ R)
   merges-read μ h [] k = refl
   merges-read μ h (ν ∷ R) k =
       ap (λ b. map (merge (read_row f μ)) (cond b (read_row f ν ∷ filter (is_compatible sb (read_row f μ)) (map (read_row f) R)) (filter (is_compatible sb (read_row f μ)) (map (read_row f) R)))) (is_compatible-read μ ν h k.0)
@@ -47,12 +48,12 @@ module _ {A B : Type 0} (sa : A → A → Bool) (sb : B → B → Bool) (In : A 
   join-read (μ ∷ L) R h k = (λ i. merges-read μ h.0 R k i ++ join-read L R h.1 k i) ∙ sym (map-append (read_row f) (merges sa μ R) (join sa L R))
 
   -- of a row of L, what is asked of all rows of R
-  apart-read : (μ : Solution A) → EachBound In μ → (R : List (Solution A)) → Each (EachBound In) R
+  pub apart-read : (μ : Solution A) → EachBound In μ → (R : List (Solution A)) → Each (EachBound In) R
       → list_all (λ ν. not (is_compatible sb (read_row f μ) ν) || not (share (read_row f μ) ν)) (map (read_row f) R) ≡ list_all (λ ν. not (is_compatible sa μ ν) || not (share μ ν)) R
   apart-read μ h [] k = refl
   apart-read μ h (ν ∷ R) k = λ i. (not (is_compatible-read μ ν h k.0 i) || not (share-read μ ν i)) && apart-read μ h R k.1 i
 
-  filter-read : (p : Solution B → Bool) (q : Solution A → Bool) → ((μ : Solution A) → EachBound In μ → p (read_row f μ) ≡ q μ) → (L : List (Solution A)) → Each (EachBound In) L → filter p (map (read_row f) L) ≡ map (read_row f) (filter q L)
+  pub filter-read : (p : Solution B → Bool) (q : Solution A → Bool) → ((μ : Solution A) → EachBound In μ → p (read_row f μ) ≡ q μ) → (L : List (Solution A)) → Each (EachBound In) L → filter p (map (read_row f) L) ≡ map (read_row f) (filter q L)
   filter-read p q e [] h = refl
   filter-read p q e (μ ∷ L) h =
       ap (λ b. cond b (read_row f μ ∷ filter p (map (read_row f) L)) (filter p (map (read_row f) L))) (e μ h.0) ∙ by (q μ) (filter-read p q e L h.1)
@@ -67,15 +68,15 @@ module _ {A B : Type 0} (sa : A → A → Bool) (sb : B → B → Bool) (In : A 
 
   -- patterns
 
-  abbrev InOption : Option A → Type 0
+  abbrev pub InOption : Option A → Type 0
   InOption None = Unit {0}
   InOption (Some x) = In x
 
-  abbrev InRow : Option (Solution A) → Type 0
+  abbrev pub InRow : Option (Solution A) → Type 0
   InRow None = Unit {0}
   InRow (Some m) = EachBound In m
 
-  get_or-read : (m : Solution A) (k : ℕ) → get_or (read_row f m) k None ≡ option_map f (get_or m k None)
+  pub get_or-read : (m : Solution A) (k : ℕ) → get_or (read_row f m) k None ≡ option_map f (get_or m k None)
   get_or-read [] k = refl
   get_or-read (x ∷ m) zero = refl
   get_or-read (x ∷ m) (suc k) = get_or-read m k
@@ -131,10 +132,10 @@ module _ {A B : Type 0} (sa : A → A → Bool) (sb : B → B → Bool) (In : A 
   in-then_bind w None n x h i = tt
   in-then_bind w (Some m) n x h i = in-bind_pattern_term w m n x h i
 
-  in-extend_by : (w : ℕ) (t : TriplePattern A) (m : Solution A) (g : Triple A) → EachBound In m → EachOfTriple In g → InRow (extend_by sa w t m g)
+  pub in-extend_by : (w : ℕ) (t : TriplePattern A) (m : Solution A) (g : Triple A) → EachBound In m → EachOfTriple In g → InRow (extend_by sa w t m g)
   in-extend_by w t m g h i = in-then_bind w _ t.o g.o (in-then_bind w _ t.p g.p (in-then_bind w (Some m) t.s g.s h i.0) i.1) i.2
 
-  extend_by-read : (w : ℕ) (t : TriplePattern A) (m : Solution A) (g : Triple A) → EachBound In m → EachOfPattern In t → EachOfTriple In g → extend_by sb w (read_triple (read_pattern_term f) t) (read_row f m) (read_triple f g) ≡ option_map (read_row f) (extend_by sa w t m g)
+  pub extend_by-read : (w : ℕ) (t : TriplePattern A) (m : Solution A) (g : Triple A) → EachBound In m → EachOfPattern In t → EachOfTriple In g → extend_by sb w (read_triple (read_pattern_term f) t) (read_row f m) (read_triple f g) ≡ option_map (read_row f) (extend_by sa w t m g)
   extend_by-read w t m g h k i =
       let o1 = then_bind sa w (Some m) t.s g.s in
       let o2 = then_bind sa w o1 t.p g.p in
@@ -144,7 +145,7 @@ module _ {A B : Type 0} (sa : A → A → Bool) (sb : B → B → Bool) (In : A 
       ∙ ap (λ o. then_bind sb w o (read_pattern_term f t.o) (f g.o)) (then_bind-read w o1 t.p g.p h1 k.1 i.1)
       ∙ then_bind-read w o2 t.o g.o h2 k.2 i.2
 
-  extends-read : (w : ℕ) (t : TriplePattern A) (m : Solution A) (G : List (Triple A)) → EachBound In m → EachOfPattern In t → Each (EachOfTriple In) G → filter_map (extend_by sb w (read_triple (read_pattern_term f) t) (read_row f m)) (map (read_triple f) G) ≡ map (read_row f) (filter_map (extend_by sa w t m) G)
+  pub extends-read : (w : ℕ) (t : TriplePattern A) (m : Solution A) (G : List (Triple A)) → EachBound In m → EachOfPattern In t → Each (EachOfTriple In) G → filter_map (extend_by sb w (read_triple (read_pattern_term f) t) (read_row f m)) (map (read_triple f) G) ≡ map (read_row f) (filter_map (extend_by sa w t m) G)
   extends-read w t m [] h k i = refl
   extends-read w t m (g ∷ G) h k i =
       ap (λ o. cons_option o (filter_map (extend_by sb w (read_triple (read_pattern_term f) t) (read_row f m)) (map (read_triple f) G))) (extend_by-read w t m g h k i.0)
@@ -155,7 +156,7 @@ module _ {A B : Type 0} (sa : A → A → Bool) (sb : B → B → Bool) (In : A 
       by None e = e
       by (Some r) e = ap (λ rs. read_row f r ∷ rs) e
 
-  in-extends : (w : ℕ) (t : TriplePattern A) (m : Solution A) (G : List (Triple A)) → EachBound In m → Each (EachOfTriple In) G → Each (EachBound In) (filter_map (extend_by sa w t m) G)
+  pub in-extends : (w : ℕ) (t : TriplePattern A) (m : Solution A) (G : List (Triple A)) → EachBound In m → Each (EachOfTriple In) G → Each (EachBound In) (filter_map (extend_by sa w t m) G)
   in-extends w t m [] h i = tt
   in-extends w t m (g ∷ G) h i = by (extend_by sa w t m g) (in-extend_by w t m g h i.0) (in-extends w t m G h i.1)
     where
@@ -163,7 +164,7 @@ module _ {A B : Type 0} (sa : A → A → Bool) (sb : B → B → Bool) (In : A 
       by None e r = r
       by (Some r) e rs = (e, rs)
 
-  flat_map-read : (F : Solution B → List (Solution B)) (H : Solution A → List (Solution A)) → ((m : Solution A) → EachBound In m → F (read_row f m) ≡ map (read_row f) (H m)) → (R : List (Solution A)) → Each (EachBound In) R → flat_map F (map (read_row f) R) ≡ map (read_row f) (flat_map H R)
+  pub flat_map-read : (F : Solution B → List (Solution B)) (H : Solution A → List (Solution A)) → ((m : Solution A) → EachBound In m → F (read_row f m) ≡ map (read_row f) (H m)) → (R : List (Solution A)) → Each (EachBound In) R → flat_map F (map (read_row f) R) ≡ map (read_row f) (flat_map H R)
   flat_map-read F H e [] h = refl
   flat_map-read F H e (m ∷ R) h = (λ i. e m h.0 i ++ flat_map-read F H e R h.1 i) ∙ sym (map-append (read_row f) (H m) (flat_map H R))
 
@@ -173,6 +174,11 @@ module _ {A B : Type 0} (sa : A → A → Bool) (sb : B → B → Bool) (In : A 
   solve-read w (t ∷ P) G m k i h =
       ap (flat_map (solve sb w (map (read_triple (read_pattern_term f)) P) (map (read_triple f) G))) (extends-read w t m G h k.0 i)
       ∙ flat_map-read (solve sb w (map (read_triple (read_pattern_term f)) P) (map (read_triple f) G)) (solve sa w P G) (λ r e. solve-read w P G r k.1 i e) (filter_map (extend_by sa w t m) G) (in-extends w t m G h i)
+
+  -- what is found in a graph is of the graph
+  pub solve-bound : (w : ℕ) (P : List (TriplePattern A)) (G : List (Triple A)) (m : Solution A) → Each (EachOfTriple In) G → EachBound In m → Each (EachBound In) (solve sa w P G m)
+  solve-bound w [] G m i h = (h, tt)
+  solve-bound w (t ∷ P) G m i h = Each-flat_map (EachBound In) (EachBound In) (solve sa w P G) (λ r e. solve-bound w P G r i e) (filter_map (extend_by sa w t m) G) (in-extends w t m G h i)
 
 pub bound_at : {A : Type 0} (In : A → Type 0) (m : Solution A) (k : ℕ) (x : A) → EachBound In m → get_or m k None ≡ Some x → In x
 bound_at In [] k x h e = cc

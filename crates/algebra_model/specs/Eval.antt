@@ -12,15 +12,15 @@ use Rattle.algebra_model.specs.Dataset.{graph, names}
 use Rattle.algebra_model.specs.Expression.{val, holds}
 use Rattle.algebra_model.specs.Algebra.{Algebra, Pattern, Join, LeftJoin, Union, Minus, Graph, Filter, Extend, Project, Distinct, Table, GraphName, each_graph, one_graph}
 
-module _ (w : ℕ) (D : List QuadParts) where
-  -- the one solution that binds the graph's variable to the graph's name, and nothing else
-  abbrev pub named : ℕ → Term → List (Solution Term)
-  named v i = set (replicate w None) v (Some i) ∷ []
+-- the one solution that binds the variable v to the term, and nothing else
+abbrev pub named : {T : Type 0} → ℕ → ℕ → T → List (Solution T)
+named w v i = set (replicate w None) v (Some i) ∷ []
 
+module _ (w : ℕ) (D : List QuadParts) where
   -- P gives the solutions with a graph active. Under a variable they are taken over every named
   -- graph, and only then joined with the graph's name. Under a name that no graph has there are none.
   abbrev pub in_graphs : GraphName → (Option Term → List (Solution Term)) → List (Solution Term)
-  in_graphs (each_graph v) P = flat_map (λ i. join term_eq (P (Some i)) (named v i)) (names D)
+  in_graphs (each_graph v) P = flat_map (λ i. join term_eq (P (Some i)) (named w v i)) (names D)
   in_graphs (one_graph i) P = if list_any (term_eq i) (names D) then P (Some i) else []
 
   -- the solutions, where g is the name of the active graph, or `None` for the default graph
