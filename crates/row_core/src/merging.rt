@@ -1,0 +1,75 @@
+//! Two rows side by side: whether they agree, what they share, and their merge.
+ghost use Rattle.std.specs.Prelude.{◌≡◌, nat_eq, length, OnOk, OnErr, ◌++◌, ◌∷◌, []};
+ghost use Rattle.algebra_model.specs.Solution.{agree, bound_or, is_compatible, merge};
+ghost use Rattle.algebra_model.specs.Operators.{share};
+
+use crate::rows::Rows;
+use std::alloc::{AllocError, Global};
+
+/// Whether the two cells do not bind a variable to two terms.
+fn agrees(x: Option<u64>, y: Option<u64>) -> bool
+    ensures value { result ≡ agree nat_eq x y }
+{
+    match (x, y) {
+        (Some(x), Some(y)) => x == y,
+        _ => true,
+    }
+}
+
+/// The first where it is bound, and else the second.
+fn first_bound(x: Option<u64>, y: Option<u64>) -> Option<u64>
+    ensures value { result ≡ bound_or x y }
+{
+    match x {
+        Some(_) => x,
+        None => y,
+    }
+}
+
+/// Whether two rows agree on every variable that both bind (SPARQL 1.1 Query Language, section
+/// 18.3, compatible mappings).
+pub fn is_compatible(a: &[Option<u64>], b: &[Option<u64>]) -> bool
+    requires same_width { length a.now ≡ length b.now }
+    ensures value { result ≡ is_compatible nat_eq a.now b.now }
+{
+    for i in 0..a.len() {
+        if !agrees(a[i], b[i]) {
+            return false;
+        }
+    }
+    true
+}
+
+/// Whether some variable is bound in both rows.
+pub fn shares(a: &[Option<u64>], b: &[Option<u64>]) -> bool
+    requires same_width { length a.now ≡ length b.now }
+    ensures value { result ≡ share a.now b.now }
+{
+    for i in 0..a.len() {
+        if a[i].is_some() && b[i].is_some() {
+            return true;
+        }
+    }
+    false
+}
+
+/// Writes the merge of two rows (their union, SPARQL 1.1 Query Language, section 18.3) into `row`,
+/// in place of what it held.
+///
+/// # Errors
+/// `AllocError`: a growth was refused. What `row` then holds is left open.
+pub fn merge_into(
+    row: &mut Vec<Option<u64>>,
+    a: &[Option<u64>],
+    b: &[Option<u64>],
+) -> Result<(), AllocError>
+    requires same_width { length a.now ≡ length b.now }
+    ensures merged { OnOk result (row.new.items ≡ merge a.now b.now) }
+    ensures wide { OnOk result (length row.new.items ≡ length a.now) }
+{
+    row.clear();
+    for i in 0..a.len() {
+        row.push(first_bound(a[i], b[i]))?;
+    }
+    Ok(())
+}

@@ -1,0 +1,135 @@
+//! Lists of rows of optional numbers, each row of one width.
+ghost use Rattle.row_core.specs.RowList.{stride, padded};
+ghost use Rattle.std.specs.Prelude.{◌≡◌, ◌+◌, ◌<◌, ◌≤◌, take, drop, [], ◌∷◌, ◌++◌, length, Some, None, slice_get, get_or, OnOk, OnErr};
+
+use std::alloc::{AllocError, Global};
+use std::marker::Model;
+
+/// A list of rows, each with one place a variable: the number of the variable's term, or None where
+/// the row leaves the variable unbound.
+///
+/// A contract sees the width and the list of the rows. All cells lie in one buffer, row behind row.
+#[derive(Drop)]
+pub struct Rows {
+    width: usize,
+    count: usize,
+    cells: Vec<Option<u64>>,
+}
+
+impl Model for Rows {
+    ghost use Rattle.std.specs.Prelude.{◌≡◌, ◌*◌, length};
+    ghost use Rattle.row_core.specs.RowList.{RowList, rows_in, stride};
+
+    ghost Value = { RowList };
+
+    ghost view = { λ r. record { width = r.width; rows = rows_in r.width (stride r.width) r.count r.cells.items } };
+
+    ghost invariant = { λ r. length r.cells.items ≡ r.count * stride r.width };
+}
+
+/// How many cells one row takes: one at least, so that the cells count the rows of no width too.
+fn stride(width: usize) -> usize
+    ensures value { result ≡ stride width }
+{
+    width.max(1)
+}
+
+/// Adds the cells of a row, and one more where it has none.
+fn add_cells(cells: &mut Vec<Option<u64>>, row: &[Option<u64>]) -> Result<(), AllocError>
+    ensures added { OnOk result (cells.new.items ≡ cells.old.items ++ padded row.now) }
+    ensures refused { OnErr result (cells.new.items ≡ cells.old.items) }
+{
+    if row.is_empty() {
+        cells.push(None)?;
+        return Ok(());
+    }
+    cells.extend_from_slice(row)
+}
+
+/// The cells of one row.
+fn part(cells: &[Option<u64>], start: usize, width: usize) -> &[Option<u64>]
+    requires inside { start + width ≤ length cells.now }
+    ensures value { result.now ≡ take width (drop start cells.now) }
+{
+    &cells[start..start + width]
+}
+
+impl Rows {
+    /// No row yet; takes no memory.
+    pub fn new(alloc: Global, width: usize) -> Rows
+        ensures empty { result ≡ record { width = width; rows = [] } }
+    {
+        Rows {
+            width,
+            count: 0,
+            cells: Vec::new(alloc),
+        }
+    }
+
+    /// The number of variables.
+    pub fn width(&self) -> usize
+        ensures value { result ≡ self.now.width }
+    {
+        self.width
+    }
+
+    /// The number of rows.
+    pub fn len(&self) -> usize
+        ensures value { result ≡ length self.now.rows }
+    {
+        self.count
+    }
+
+    /// One row, lent.
+    pub fn row(&self, i: usize) -> &[Option<u64>]
+        requires inside { i < length self.now.rows }
+        ensures found { slice_get self.now.rows i ≡ Some result.now }
+        ensures wide { length result.now ≡ self.now.width }
+    {
+        part(&self.cells, i * stride(self.width), self.width)
+    }
+
+    /// Adds a row behind the others.
+    ///
+    /// # Errors
+    /// `AllocError`: a growth was refused. The rows are as they were.
+    pub fn push(&mut self, row: &[Option<u64>]) -> Result<(), AllocError>
+        requires wide { length row.now ≡ self.old.width }
+        ensures added { OnOk result (self.new.rows ≡ self.old.rows ++ row.now ∷ []) }
+        ensures refused { OnErr result (self.new.rows ≡ self.old.rows) }
+        ensures width { self.new.width ≡ self.old.width }
+    {
+        add_cells(&mut self.cells, row)?;
+        self.count += 1;
+        Ok(())
+    }
+
+    /// The number at a variable's place in a row.
+    pub fn get(&self, row: usize, variable: usize) -> Option<u64>
+        requires row { row < length self.now.rows }
+        requires variable { variable < self.now.width }
+        ensures value { result ≡ get_or (get_or self.now.rows row []) variable None }
+    {
+        self.row(row)[variable]
+    }
+
+    /// Adds the rows of another list of this width behind the others.
+    ///
+    /// # Errors
+    /// `AllocError`: a growth was refused. The rows are as they were, and the others are dropped.
+    pub fn append(&mut self, others: Rows) -> Result<(), AllocError>
+        requires same_width { others.width ≡ self.old.width }
+        ensures added { OnOk result (self.new.rows ≡ self.old.rows ++ others.rows) }
+        ensures refused { OnErr result (self.new.rows ≡ self.old.rows) }
+        ensures width { self.new.width ≡ self.old.width }
+    {
+        let Rows {
+            count,
+            mut cells,
+            ..
+        } = others;
+        self.cells.append(&mut cells)?;
+        self.count += count;
+        Ok(())
+    }
+}
