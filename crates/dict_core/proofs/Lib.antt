@@ -1,0 +1,6 @@
+pub mod DictLaws
+pub mod InsertLaws
+pub mod AppearanceLaws
+pub mod PlaceLaws
+pub mod NumberingLaws
+pub mod MergingSteps

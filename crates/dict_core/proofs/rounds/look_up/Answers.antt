@@ -1,0 +1,9 @@
+use Rattle.std.proofs.Common.{length, sym, ap, ◌∙◌, subst}
+use Rattle.dict_core.specs.NumQuad.{AreBelow}
+use Rattle.dict_core.proofs.MergingSteps.{length_zipped}
+use Rattle.dict_core.proofs.rounds.look_up.Goals as goal
+
+pub invariant_of-result : goal.invariant_of-result
+invariant_of-result c = record {
+  below = subst (λ n. AreBelow n c.piece.inside.quads.items) (ap length (sym c.own.view_is) ∙ length_zipped _ _ _ c.in_ok-seen.ensures.seen) c.piece.invariant.1;
+}

@@ -1,0 +1,31 @@
+-- What the laws of this crate say (our own).
+use Rattle.std.specs.Prelude.{◌≡◌, ℕ, List, ◌++◌, map}
+use Rattle.std.specs.List.{AllZip}
+use Rattle.rdf_core.specs.declared.term.Term.{Term}
+use Rattle.rdf_core.specs.QuadParts.{QuadParts}
+use Rattle.dict_core.specs.declared.num_quad.NumQuad.{NumQuad}
+use Rattle.dict_core.specs.declared.seen.Seen.{Seen}
+use Rattle.dict_core.specs.Dict.{IsWithoutRepeats, AreNumbersOf, IsGrown}
+use Rattle.dict_core.specs.Appearances.{first_appearances}
+use Rattle.dict_core.specs.Numbered.{IsNumbered, renamed}
+use Rattle.dict_core.specs.Seen.{IsSeen, IsNumberFor, new_of}
+
+-- two lists of quads that are numbered each by itself, the second dictionary absorbed into the
+-- first and the second quads renamed, are the joined list numbered: so it is no matter in which
+-- groups pieces that stand in order are merged
+abbrev pub AbsorbingKeepsTheNumbering : Type 0
+AbsorbingKeepsTheNumbering =
+    (front back : List QuadParts) (dict own : List Term) (numbered mine : List NumQuad)
+    (numbers : List ℕ) → IsNumbered front dict numbered → IsNumbered back own mine
+    → let merged = first_appearances (dict ++ own) in AreNumbersOf merged own numbers
+    → IsNumbered (front ++ back) merged (numbered ++ map (renamed numbers) mine)
+
+-- terms that were looked up in an earlier dictionary are taken into a later one as if they had
+-- been looked up there: the dictionary that comes of it is the same, and so is each number
+abbrev pub EarlierPlacesServe : Type 0
+EarlierPlacesServe =
+    (earlier later terms : List Term) (seen : List Seen) (numbers : List ℕ)
+    → IsWithoutRepeats later → IsGrown earlier later → AllZip (IsSeen earlier) terms seen
+    → let merged = first_appearances (later ++ new_of seen) in
+    AllZip (IsNumberFor merged) seen numbers
+    → (merged ≡ first_appearances (later ++ terms)) × AreNumbersOf merged terms numbers

@@ -1,0 +1,104 @@
+//! The dictionary.
+ghost use Rattle.std.specs.Prelude.{◌≡◌, ◌<◌, ◌^◌, [], ◌∷◌, ◌++◌, length, slice_get, Some, Ok, Contains, IfOk, IfErr, OnOk, OnErr, MatchOption};
+ghost use Rattle.dict_core.specs.Dict.{IsWithoutRepeats, AreNumbersOf};
+ghost use Rattle.dict_core.specs.Appearances.{first_appearances};
+
+use crate::inserting::insert_terms;
+use indexmap::IndexSet;
+use rdf_core::Term;
+use std::alloc::{AllocError, Global};
+use std::hash::RandomState;
+use std::marker::Model;
+
+/// Distinct terms, numbered from 0 in the order in which they came. A contract sees their list.
+#[derive(Drop)]
+pub struct Dict {
+    pub(crate) terms: IndexSet<Term, RandomState>,
+}
+
+impl Model for Dict {
+    ghost use Rattle.std.specs.Prelude.{List};
+    ghost use Rattle.rdf_core.specs.declared.term.Term.{Term};
+    ghost use Rattle.dict_core.specs.Dict.{IsWithoutRepeats};
+
+    ghost Value = { List Term };
+
+    ghost view = { λ d. d.terms.keys };
+
+    ghost invariant = { λ d. IsWithoutRepeats d.terms.keys };
+}
+
+impl Dict {
+    /// An empty dictionary. Strangers choose the terms, so the hash state comes from the runtime.
+    ///
+    /// It takes no memory yet, and is never refused.
+    pub fn new(alloc: Global, state: RandomState) -> Result<Dict, AllocError>
+        ensures empty { result ≡ Ok [] }
+    {
+        Ok(Dict {
+            terms: IndexSet::with_hasher(alloc, state),
+        })
+    }
+
+    /// How many terms there are.
+    pub fn len(&self) -> usize
+        ensures value { result ≡ length self.now }
+        ensures small { result < 2 ^ 63 }
+        ensures distinct { IsWithoutRepeats self.now }
+    {
+        self.terms.len()
+    }
+
+    /// The number of a term, which goes last where it was not there.
+    ///
+    /// # Errors
+    /// The term itself, handed back: it was not there, and a growth was refused. The dictionary is
+    /// unchanged.
+    pub fn intern(&mut self, term: Term) -> Result<u64, Term>
+        ensures number { IfOk result (λ n. slice_get self.new n ≡ Some term) }
+        ensures known { OnOk result (Contains self.old term → self.new ≡ self.old) }
+        ensures new { OnOk result (¬ (Contains self.old term) → self.new ≡ self.old ++ term ∷ []) }
+        ensures back { IfErr result (λ t. t ≡ term) }
+        ensures refused { OnErr result (self.new ≡ self.old) }
+        ensures refused_new { OnErr result (¬ (Contains self.old term)) }
+    {
+        match self.terms.insert_full(term) {
+            Ok((at, _)) => Ok(at as u64),
+            Err(failed) => Err(failed.value),
+        }
+    }
+
+    /// The number of a term, or None where the dictionary lacks it.
+    pub fn number_of(&self, term: &Term) -> Option<u64>
+        ensures value { MatchOption result (¬ (Contains self.now term.now))
+            (λ n. slice_get self.now n ≡ Some term.now) }
+    {
+        match self.terms.get_index_of(term) {
+            Some(at) => Some(at as u64),
+            None => None,
+        }
+    }
+
+    /// Takes in the terms of another dictionary, those that are new behind the others and in their
+    /// order, and answers the number that each of them has now, in the order of `other`.
+    ///
+    /// # Errors
+    /// `AllocError`: a growth was refused. This dictionary is unchanged, and `other` is dropped.
+    pub fn absorb(&mut self, other: Dict) -> Result<Vec<u64>, AllocError>
+        ensures terms { OnOk result (self.new ≡ first_appearances (self.old ++ other)) }
+        ensures numbers { IfOk result (λ v. AreNumbersOf self.new other v.items) }
+        ensures refused { OnErr result (self.new ≡ self.old) }
+    {
+        let alloc = *self.terms.allocator();
+        let Dict { terms } = other;
+        insert_terms(alloc, &mut self.terms, terms)
+    }
+
+    /// The term of a number.
+    pub fn term(&self, n: u64) -> &Term
+        requires known { n < length self.now }
+        ensures value { slice_get self.now n ≡ Some result.now }
+    {
+        &self.terms[n as usize]
+    }
+}

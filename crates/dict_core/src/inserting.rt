@@ -1,0 +1,64 @@
+//! Insertions into the set of terms, one after the other.
+ghost use Rattle.std.specs.Prelude.{◌≡◌, OnOk, OnErr, IfOk, slice_get, Some};
+ghost use Rattle.indexmap.specs.IndexSet.{insert_all, IsUnchanged, IsUnique};
+ghost use Rattle.rdf_core.proofs.TermLaws.{term_eq};
+ghost use Rattle.dict_core.specs.Inserting.{places_in, places_of};
+ghost use Rattle.dict_core.specs.Seen.{new_of};
+
+use crate::seen::Seen;
+use indexmap::IndexSet;
+use rdf_core::Term;
+use std::alloc::{AllocError, Global};
+use std::hash::RandomState;
+
+/// Inserts the terms in turn, and answers the place of each. A refusal leaves the set as it was:
+/// the room for all is made first.
+pub(crate) fn insert_terms(
+    alloc: Global,
+    set: &mut IndexSet<Term, RandomState>,
+    terms: IndexSet<Term, RandomState>,
+) -> Result<Vec<u64>, AllocError>
+    ensures keys { OnOk result (set.new.keys ≡ insert_all term_eq set.old.keys terms.keys) }
+    ensures places { IfOk result (λ v. v.items ≡ places_in set.old.keys terms.keys) }
+    ensures refused { OnErr result (set.new.keys ≡ set.old.keys) }
+    ensures unique { IsUnique term_eq set.new }
+{
+    set.reserve(terms.len())?;
+    let mut places = Vec::with_capacity(alloc, terms.len())?;
+    for term in terms {
+        let Ok((place, _)) = set.insert_full(term) else {
+            unreachable!();
+        };
+        places.push_reserved(place as u64);
+    }
+    Ok(places)
+}
+
+/// Inserts the new terms in turn, and answers the place of each of all. A refusal leaves the set as
+/// it was: the room for all is made first.
+pub(crate) fn insert_new(
+    alloc: Global,
+    set: &mut IndexSet<Term, RandomState>,
+    seen: Vec<Seen>,
+) -> Result<Vec<u64>, AllocError>
+    ensures keys { OnOk result (set.new.keys ≡ insert_all term_eq set.old.keys (new_of seen.items)) }
+    ensures places { IfOk result (λ v. v.items ≡ places_of set.old.keys seen.items) }
+    ensures refused { OnErr result (set.new.keys ≡ set.old.keys) }
+    ensures unique { IsUnique term_eq set.new }
+{
+    set.reserve(seen.len())?;
+    let mut places = Vec::with_capacity(alloc, seen.len())?;
+    for one in seen {
+        let place = match one {
+            Seen::Known(place) => place,
+            Seen::New(term) => {
+                let Ok((place, _)) = set.insert_full(term) else {
+                    unreachable!();
+                };
+                place as u64
+            }
+        };
+        places.push_reserved(place);
+    }
+    Ok(places)
+}

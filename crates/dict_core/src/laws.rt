@@ -1,0 +1,14 @@
+//! Laws of numbering, each the contract of a function that does nothing.
+ghost use Rattle.dict_core.specs.Laws.{AbsorbingKeepsTheNumbering, EarlierPlacesServe};
+
+/// Absorbing one numbered list of quads into another numbers the joined list. So pieces that stand
+/// in order may be merged in any groups.
+pub fn absorbing_keeps_the_numbering()
+    ensures law { AbsorbingKeepsTheNumbering }
+{}
+
+/// Terms that were looked up in an earlier dictionary may be taken into a later one: it comes to
+/// the same as to look them up there.
+pub fn earlier_places_serve()
+    ensures law { EarlierPlacesServe }
+{}

@@ -1,0 +1,104 @@
+//! Quads of a piece, numbered by a dictionary of their own.
+ghost use Rattle.std.specs.Prelude.{◌≡◌, map, length, IfOk, OnOk, slice_get, Some};
+ghost use Rattle.indexmap.specs.IndexSet.{insert_key, insert_all};
+ghost use Rattle.rdf_core.proofs.TermLaws.{term_eq};
+ghost use Rattle.rdf_core.specs.QuadParts.{parts_of};
+ghost use Rattle.dict_core.specs.NumQuad.{quad_at, quads_at, IsBelow, AreBelow};
+ghost use Rattle.dict_core.specs.Appearances.{terms_of_quad, terms_of, first_appearances};
+ghost use Rattle.dict_core.specs.Numbered.{IsNumbered};
+
+use crate::dict::Dict;
+use crate::num_quad::NumQuad;
+use rdf_core::{Quad, Term};
+use std::alloc::{AllocError, Global};
+use std::hash::RandomState;
+use std::marker::Model;
+
+/// The quads of one piece of a document, numbered by a dictionary of their own. A contract sees
+/// them as the quads themselves, in order.
+///
+/// The dictionary has the terms of these quads by first appearance, within a quad subject,
+/// predicate, object, graph name, and no other.
+#[derive(Drop)]
+pub struct LocalPiece {
+    pub(crate) dict: Dict,
+    pub(crate) quads: Vec<NumQuad>,
+}
+
+impl Model for LocalPiece {
+    ghost use Rattle.std.specs.Prelude.{List};
+    ghost use Rattle.rdf_core.specs.QuadParts.{QuadParts};
+    ghost use Rattle.dict_core.specs.NumQuad.{quads_at};
+    ghost use Rattle.dict_core.specs.Numbered.{IsNumbered};
+
+    ghost Value = { List QuadParts };
+
+    ghost view = { λ piece. quads_at piece.dict piece.quads.items };
+
+    ghost invariant = { λ piece. IsNumbered (quads_at piece.dict piece.quads.items) piece.dict piece.quads.items };
+}
+
+impl LocalPiece {
+    /// The piece's own dictionary.
+    pub fn dict(&self) -> &Dict
+        ensures terms { result.now ≡ first_appearances (terms_of self.now) }
+    {
+        &self.dict
+    }
+
+    /// The piece's quads, as numbers of its own dictionary.
+    pub fn quads(&self) -> &[NumQuad]
+        ensures numbered { IsNumbered self.now (first_appearances (terms_of self.now)) result.now }
+    {
+        self.quads.as_slice()
+    }
+}
+
+/// Numbers the quads of a piece by themselves. The terms are moved, not copied.
+///
+/// # Errors
+/// `AllocError`: a growth was refused. The quads are dropped.
+pub fn number_quads(
+    alloc: Global,
+    state: RandomState,
+    quads: Vec<Quad>,
+) -> Result<LocalPiece, AllocError>
+    ensures quads { IfOk result (λ piece. piece ≡ map parts_of quads.items) }
+{
+    let mut dict = Dict::new(alloc, state)?;
+    let mut numbered = Vec::with_capacity(alloc, quads.len())?;
+    for quad in quads {
+        numbered.push_reserved(number_quad(&mut dict, quad)?);
+    }
+    Ok(LocalPiece {
+        dict,
+        quads: numbered,
+    })
+}
+
+fn number_quad(dict: &mut Dict, quad: Quad) -> Result<NumQuad, AllocError>
+    ensures terms { OnOk result
+        (dict.new ≡ insert_all term_eq dict.old (terms_of_quad (parts_of quad))) }
+    ensures below { IfOk result (λ n. IsBelow (length dict.new) n) }
+    ensures quad { IfOk result (λ n. quad_at dict.new n ≡ parts_of quad) }
+{
+    let Quad { s, p, o, g } = quad;
+    let s = number_term(dict, s)?;
+    let p = number_term(dict, p)?;
+    let o = number_term(dict, o)?;
+    let g = match g {
+        Some(g) => Some(number_term(dict, g)?),
+        None => None,
+    };
+    Ok(NumQuad { g, s, p, o })
+}
+
+fn number_term(dict: &mut Dict, term: Term) -> Result<u64, AllocError>
+    ensures terms { OnOk result (dict.new ≡ insert_key term_eq dict.old term) }
+    ensures number { IfOk result (λ n. slice_get dict.new n ≡ Some term) }
+{
+    match dict.intern(term) {
+        Ok(n) => Ok(n),
+        Err(_) => Err(AllocError),
+    }
+}

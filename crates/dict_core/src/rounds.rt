@@ -1,0 +1,89 @@
+//! Pieces that are read side by side against one lent dictionary, and then taken in, in order.
+ghost use Rattle.std.specs.Prelude.{◌≡◌, ◌++◌, List, length, map, IfOk, OnOk, OnErr};
+ghost use Rattle.std.specs.List.{AllZip};
+ghost use Rattle.rdf_core.specs.declared.term.Term.{Term};
+ghost use Rattle.rdf_core.specs.QuadParts.{QuadParts};
+ghost use Rattle.dict_core.specs.Dict.{IsGrown};
+ghost use Rattle.dict_core.specs.Seen.{IsSeen, new_of};
+ghost use Rattle.dict_core.specs.SeenPiece.{IsLookedUp};
+ghost use Rattle.dict_core.specs.Appearances.{first_appearances};
+ghost use Rattle.dict_core.specs.Numbered.{IsNumbered};
+
+use crate::dict::Dict;
+use crate::inserting::insert_new;
+use crate::local_piece::LocalPiece;
+use crate::merging::append_renamed;
+use crate::num_quad::NumQuad;
+use crate::seen::Seen;
+use crate::seen_piece::SeenPiece;
+use indexmap::IndexSet;
+use rdf_core::Term;
+use std::alloc::{AllocError, Global};
+use std::hash::RandomState;
+
+/// Looks each term of a piece up in a dictionary, which is only lent, so that many pieces may be
+/// looked up at once. The terms that it lacks are moved into the answer.
+///
+/// # Errors
+/// `AllocError`: a growth was refused. The piece is dropped.
+pub fn look_up(alloc: Global, dict: &Dict, piece: LocalPiece) -> Result<SeenPiece, AllocError>
+    ensures looked_up { IfOk result (λ seen. IsLookedUp dict.now piece seen) }
+{
+    let LocalPiece { dict: own, quads } = piece;
+    let Dict { terms } = own;
+    let seen = look_up_terms(alloc, dict, terms)?;
+    Ok(SeenPiece { seen, quads })
+}
+
+fn look_up_terms(
+    alloc: Global,
+    dict: &Dict,
+    terms: IndexSet<Term, RandomState>,
+) -> Result<Vec<Seen>, AllocError>
+    ensures seen { IfOk result (λ v. AllZip (IsSeen dict.now) terms.keys v.items) }
+{
+    let mut seen = Vec::with_capacity(alloc, terms.len())?;
+    for term in terms {
+        seen.push_reserved(look_up_term(dict, term));
+    }
+    Ok(seen)
+}
+
+fn look_up_term(dict: &Dict, term: Term) -> Seen
+    ensures seen { IsSeen dict.now term result }
+{
+    match dict.number_of(&term) {
+        Some(n) => Seen::Known(n),
+        None => Seen::New(term),
+    }
+}
+
+/// Takes a piece in behind those that are there: the terms that are new go behind the others, and
+/// its quads, renamed, behind the quads.
+///
+/// The piece may have been looked up in an earlier state of the dictionary.
+///
+/// # Errors
+/// `AllocError`: a growth was refused. Dictionary and list are unchanged, and the piece is dropped.
+pub fn take_in(
+    alloc: Global,
+    dict: &mut Dict,
+    all: &mut Vec<NumQuad>,
+    piece: SeenPiece,
+) -> Result<(), AllocError>
+    ensures terms { OnOk result
+        (dict.new ≡ first_appearances (dict.old ++ new_of piece.seen.items)) }
+    ensures grown { OnOk result (IsGrown dict.old dict.new) }
+    ensures numbered { OnOk result ((earlier : List Term) (done quads : List QuadParts)
+        → IsGrown earlier dict.old → IsLookedUp earlier quads piece
+        → IsNumbered done dict.old all.old.items
+        → IsNumbered (done ++ quads) dict.new all.new.items) }
+    ensures refused { OnErr result (dict.new ≡ dict.old) }
+    ensures refused_quads { OnErr result (all.new.items ≡ all.old.items) }
+{
+    let SeenPiece { seen, quads } = piece;
+    all.reserve(quads.len())?;
+    let numbers = insert_new(alloc, &mut dict.terms, seen)?;
+    append_renamed(all, numbers.as_slice(), quads);
+    Ok(())
+}

@@ -1,0 +1,16 @@
+//! A piece whose terms were looked up.
+ghost use Rattle.std.specs.Prelude.{length};
+ghost use Rattle.dict_core.specs.NumQuad.{AreBelow};
+
+use crate::num_quad::NumQuad;
+use crate::seen::Seen;
+
+/// A piece's distinct terms, each looked up in a dictionary, and its quads over their places.
+#[derive(Drop)]
+pub struct SeenPiece {
+    /// The piece's terms by first appearance, as the look-ups answered.
+    pub seen: Vec<Seen>,
+    /// The piece's quads; a number n stands for the n-th of `seen`.
+    pub quads: Vec<NumQuad>,
+    pub ghost below: { AreBelow (length seen.items) quads.items },
+}
