@@ -16,3 +16,4 @@ pub mod RowOrderLaws
 pub mod PieceLaws
 pub mod KeyLaws
 pub mod StepLaws
+pub mod NumberLaws

@@ -1,10 +1,155 @@
--- What the laws of the algebra say.
-use Rattle.std.specs.Prelude.{ℕ, ◌+◌, List, None, map, take, replicate, nat_eq}
-use Rattle.algebra_model.specs.Bag.{IsSameBag, IsWithoutRepeats}
+-- What the laws of the algebra say. Each is the contract of a function of the module `laws`.
+use Rattle.std.specs.Prelude.{◌≡◌, ℕ, Bool, true, false, ◌+◌, ◌<◌, ◌↔◌, List, ◌++◌, Option, None, map, filter, filter_map, flat_map, take, replicate, count_by, option_map, nat_eq, IsPermutation}
+use Rattle.std.specs.declared.cmp.Ordering.TheVariants.{Equal}
+use Rattle.rdf_core.specs.declared.term.Term.{Term}
+use Rattle.rdf_core.specs.QuadParts.{QuadParts}
+use Rattle.rdf_core.proofs.TermLaws.{term_eq}
+use Rattle.algebra_model.specs.Bag.{IsSameBag, IsSameSet, IsWithoutRepeats}
+use Rattle.algebra_model.specs.Solution.{Solution, same_solution, is_compatible}
 use Rattle.algebra_model.specs.Bgp.{Triple, TriplePattern, bgp, same_triple_by}
-use Rattle.algebra_model.specs.Solve.{solve, AreBelow}
+use Rattle.algebra_model.specs.Operators.{join, left_join, minus, extend, project, distinct, table}
+use Rattle.algebra_model.specs.Algebra.{Algebra}
+use Rattle.algebra_model.specs.Eval.{eval}
+use Rattle.algebra_model.specs.Sorted.{IsRising}
+use Rattle.algebra_model.specs.RowOrder.{cells, cells_cmp, row_cmp, sorted_rows}
+use Rattle.algebra_model.specs.Reading.{Each, EachBound, EachOfTriple, EachOfPattern, read_row, read_triple, read_pattern}
+use Rattle.algebra_model.specs.Solve.{solve, extend_by, agrees_with, AreBelow, left_row}
+use Rattle.algebra_model.specs.Keys.{is_keyed, same_key}
+use Rattle.algebra_model.specs.Pieces.{joined}
 
--- The maps that are built triple by triple are the solutions of the pattern.
+-- Solutions of terms, and lists of them.
+abbrev pub Row : Type 0
+Row = Solution Term
+
+-- A list is a bag by how often it has each solution.
+abbrev pub BagIsItsCounts : Type 0
+BagIsItsCounts = (A B : List Row) → IsSameBag A B ↔ ((μ : Row) → count_by (same_solution term_eq μ) A ≡ count_by (same_solution term_eq μ) B)
+
+-- The maps that are built triple by triple are the maps that are found by trying all.
 abbrev pub BuiltIsTried : Type 0
-BuiltIsTried = (w l : ℕ) (P : List (TriplePattern ℕ)) (G : List (Triple ℕ)) → IsWithoutRepeats (same_triple_by nat_eq) G → AreBelow w (w + l) P
-    → IsSameBag (map (take w) (solve nat_eq w P G (replicate (w + l) None))) (bgp nat_eq w l P G)
+BuiltIsTried = (w l : ℕ) (P : List (TriplePattern Term)) (G : List (Triple Term)) → IsWithoutRepeats (same_triple_by term_eq) G → AreBelow w (w + l) P
+    → IsSameBag (map (take w) (solve term_eq w P G (replicate (w + l) None))) (bgp term_eq w l P G)
+
+-- The triples of a pattern may be taken in any order.
+abbrev pub PatternHasNoOrder : Type 0
+PatternHasNoOrder = (w l : ℕ) (P Q : List (TriplePattern Term)) → IsPermutation P Q → (G : List (Triple Term)) → bgp term_eq w l P G ≡ bgp term_eq w l Q G
+
+-- A map may be extended over the triples alone that agree with it.
+abbrev pub ScanIsEnough : Type 0
+ScanIsEnough = (w : ℕ) (t : TriplePattern Term) (m : Row) (S G : List (Triple Term)) → IsPermutation S (filter (agrees_with term_eq w t m) G)
+    → IsSameBag (filter_map (extend_by term_eq w t m) S) (filter_map (extend_by term_eq w t m) G)
+
+-- A dataset is a set: only which quads it has counts.
+abbrev pub DatasetIsSet : Type 0
+DatasetIsSet = (w : ℕ) (D E : List QuadParts) → IsSameSet D E → (g : Option Term) (A : Algebra) → IsSameBag (eval w D g A) (eval w E g A)
+
+-- Every operator makes equal bags of equal bags.
+abbrev pub KeepsBags : (List Row → List Row) → Type 0
+KeepsBags F = (A A' : List Row) → IsSameBag A A' → IsSameBag (F A) (F A')
+
+abbrev pub KeepsBagsOfTwo : (List Row → List Row → List Row) → Type 0
+KeepsBagsOfTwo F = (A A' B B' : List Row) → IsSameBag A A' → IsSameBag B B' → IsSameBag (F A B) (F A' B')
+
+abbrev pub JoinKeepsBags : Type 0
+JoinKeepsBags = KeepsBagsOfTwo (join term_eq)
+
+abbrev pub LeftJoinKeepsBags : Type 0
+LeftJoinKeepsBags = (keeps : Row → Bool) → KeepsBagsOfTwo (left_join term_eq keeps)
+
+abbrev pub MinusKeepsBags : Type 0
+MinusKeepsBags = KeepsBagsOfTwo (minus term_eq)
+
+abbrev pub UnionKeepsBags : Type 0
+UnionKeepsBags = KeepsBagsOfTwo (λ A B. A ++ B)
+
+abbrev pub FilterKeepsBags : Type 0
+FilterKeepsBags = (keeps : Row → Bool) → KeepsBags (filter keeps)
+
+abbrev pub ExtendKeepsBags : Type 0
+ExtendKeepsBags = (v : ℕ) (value : Row → Option Term) → KeepsBags (extend v value)
+
+abbrev pub ProjectKeepsBags : Type 0
+ProjectKeepsBags = (vs : List ℕ) → KeepsBags (project vs)
+
+abbrev pub DistinctKeepsBags : Type 0
+DistinctKeepsBags = KeepsBags (distinct term_eq)
+
+abbrev pub TableKeepsBags : Type 0
+TableKeepsBags = (w : ℕ) (vs : List ℕ) → KeepsBags (table w vs)
+
+-- Numbers below n are read as terms, each as a term of its own.
+abbrev pub IsReading : ℕ → (ℕ → Term) → Type 0
+IsReading n f = (x y : ℕ) → x < n → y < n → f x ≡ f y → x ≡ y
+
+abbrev pub AreInRange : ℕ → List (Solution ℕ) → Type 0
+AreInRange n A = Each (EachBound (λ x. x < n)) A
+
+-- An operator at numbers, read as terms, is the operator of the bags so read.
+abbrev pub JoinIsRead : Type 0
+JoinIsRead = (n : ℕ) (f : ℕ → Term) → IsReading n f → (A B : List (Solution ℕ)) → AreInRange n A → AreInRange n B
+    → IsSameBag (map (read_row f) (join nat_eq A B)) (join term_eq (map (read_row f) A) (map (read_row f) B))
+
+abbrev pub LeftJoinIsRead : Type 0
+LeftJoinIsRead = (n : ℕ) (f : ℕ → Term) → IsReading n f → (keeps : Row → Bool) (A B : List (Solution ℕ)) → AreInRange n A → AreInRange n B
+    → IsSameBag (map (read_row f) (left_join nat_eq (λ μ. keeps (read_row f μ)) A B)) (left_join term_eq keeps (map (read_row f) A) (map (read_row f) B))
+
+abbrev pub MinusIsRead : Type 0
+MinusIsRead = (n : ℕ) (f : ℕ → Term) → IsReading n f → (A B : List (Solution ℕ)) → AreInRange n A → AreInRange n B
+    → IsSameBag (map (read_row f) (minus nat_eq A B)) (minus term_eq (map (read_row f) A) (map (read_row f) B))
+
+abbrev pub UnionIsRead : Type 0
+UnionIsRead = (f : ℕ → Term) (A B : List (Solution ℕ)) → IsSameBag (map (read_row f) (A ++ B)) (map (read_row f) A ++ map (read_row f) B)
+
+abbrev pub FilterIsRead : Type 0
+FilterIsRead = (f : ℕ → Term) (keeps : Row → Bool) (A : List (Solution ℕ))
+    → IsSameBag (map (read_row f) (filter (λ μ. keeps (read_row f μ)) A)) (filter keeps (map (read_row f) A))
+
+abbrev pub ExtendIsRead : Type 0
+ExtendIsRead = (f : ℕ → Term) (v : ℕ) (number : Solution ℕ → Option ℕ) (value : Row → Option Term) → ((μ : Solution ℕ) → value (read_row f μ) ≡ option_map f (number μ))
+    → (A : List (Solution ℕ)) → IsSameBag (map (read_row f) (extend v number A)) (extend v value (map (read_row f) A))
+
+abbrev pub ProjectIsRead : Type 0
+ProjectIsRead = (f : ℕ → Term) (vs : List ℕ) (A : List (Solution ℕ)) → IsSameBag (map (read_row f) (project vs A)) (project vs (map (read_row f) A))
+
+abbrev pub DistinctIsRead : Type 0
+DistinctIsRead = (n : ℕ) (f : ℕ → Term) → IsReading n f → (A : List (Solution ℕ)) → AreInRange n A
+    → IsSameBag (map (read_row f) (distinct nat_eq A)) (distinct term_eq (map (read_row f) A))
+
+abbrev pub TableIsRead : Type 0
+TableIsRead = (f : ℕ → Term) (w : ℕ) (vs : List ℕ) (rows : List (List (Option ℕ))) → IsSameBag (map (read_row f) (table w vs rows)) (table w vs (map (read_row f) rows))
+
+abbrev pub PatternIsRead : Type 0
+PatternIsRead = (n : ℕ) (f : ℕ → Term) → IsReading n f → (w l : ℕ) (P : List (TriplePattern ℕ)) (G : List (Triple ℕ)) → IsWithoutRepeats (same_triple_by nat_eq) G → AreBelow w (w + l) P
+    → Each (EachOfPattern (λ x. x < n)) P → Each (EachOfTriple (λ x. x < n)) G
+    → IsSameBag (map (read_row f) (bgp nat_eq w l P G)) (bgp term_eq w l (map (read_pattern f) P) (map (read_triple f) G))
+
+-- LeftJoin may be taken solution by solution.
+abbrev pub LeftJoinGoesByRow : Type 0
+LeftJoinGoesByRow = (keeps : Row → Bool) (A B : List Row) → IsSameBag (flat_map (left_row term_eq keeps B) A) (left_join term_eq keeps A B)
+
+-- Solutions that both bind all key variables, but not to the same terms, are incompatible.
+abbrev pub KeysApart : Type 0
+KeysApart = (vs : List ℕ) (μ ν : Row) → is_keyed vs μ ≡ true → is_keyed vs ν ≡ true → same_key term_eq vs μ ν ≡ false → is_compatible term_eq μ ν ≡ false
+
+-- What is done to the pieces of a list, joined, is what is done to the list.
+abbrev pub PiecesJoin : Type 0
+PiecesJoin = (f : Row → List Row) (pieces : List (List Row)) → flat_map f (joined pieces) ≡ joined (map (flat_map f) pieces)
+
+-- Solutions that tie in the order of rows have the same row.
+abbrev pub TiesAreEqual : Type 0
+TiesAreEqual = (vs : List ℕ) (μ ν : Row) → row_cmp vs μ ν ≡ Equal → cells vs μ ≡ cells vs ν
+
+-- The sorted rows are the rows, and rise.
+abbrev pub SortedIsBag : Type 0
+SortedIsBag = (vs : List ℕ) (A : List Row) → IsSameBag (map (cells vs) A) (sorted_rows vs A)
+
+abbrev pub SortedIsRising : Type 0
+SortedIsRising = (vs : List ℕ) (A : List Row) → IsRising cells_cmp (sorted_rows vs A)
+
+-- No other list of rows is the same bag and rises.
+abbrev pub SortedIsUnique : Type 0
+SortedIsUnique = (vs : List ℕ) (A : List Row) (rows : List (List (Option Term))) → IsSameBag (map (cells vs) A) rows → IsRising cells_cmp rows → rows ≡ sorted_rows vs A
+
+-- Equal bags have one list of sorted rows.
+abbrev pub BagHasOneList : Type 0
+BagHasOneList = (vs : List ℕ) (A B : List Row) → IsSameBag A B → sorted_rows vs A ≡ sorted_rows vs B

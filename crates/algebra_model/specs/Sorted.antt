@@ -1,10 +1,20 @@
 -- Lists made of bags (SPARQL 1.1 Query Language, sections 18.2.5 and 18.5): the one list that is a
 -- given bag and rises in a total order, and a part of a list.
-use Rattle.std.specs.Prelude.{ℕ, List, [], ◌∷◌, Option, None, Some, take, drop, if◌then◌else◌}
+use Rattle.std.specs.Prelude.{◌≡◌, ℕ, false, List, [], ◌∷◌, Option, None, Some, take, drop, if◌then◌else◌}
 use Rattle.std.specs.declared.cmp.Ordering.{Ordering}
 use Rattle.std.specs.Ordering.{is_gt}
 
 module _ {X : Type 0} (cmp : X → X → Ordering) where
+  -- x is greater than no element
+  abbrev pub IsUpTo : X → List X → Type 0
+  IsUpTo x [] = Unit {0}
+  IsUpTo x (y ∷ ys) = (is_gt (cmp x y) ≡ false) × IsUpTo x ys
+
+  -- no element is greater than one behind it
+  abbrev pub IsRising : List X → Type 0
+  IsRising [] = Unit {0}
+  IsRising (x ∷ xs) = IsUpTo x xs × IsRising xs
+
   -- the rising list with x at its place
   abbrev pub place : X → List X → List X
   place x [] = x ∷ []
