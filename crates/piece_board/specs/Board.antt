@@ -27,10 +27,10 @@ finished_of ps = sum_by (λ p. p.history.finished) ps
 abbrev pub skips_of : List PassView → ℕ
 skips_of ps = sum_by (λ p. p.skips) ps
 
--- How many numbers were drawn and skipped, and the least report, of all passes together: the numbers
--- below `drawn` were drawn, each once, and no other; these are all where a pass is finished; `least`
--- is the least report, or the count of pieces, and lies at or below what each pass has seen and
--- below whatever was skipped.
+-- How many numbers were drawn and skipped, and the least report, of all passes together: the
+-- numbers below `drawn` were drawn, each once, and no other; these are all where a pass is finished;
+-- `least` is the least report, or the count of pieces, and lies at or below what each pass has seen
+-- and below whatever was skipped.
 pub record IsClosed (b : BoardView) (ps : List PassView) (drawn skipped least : ℕ) : Type 0 where
   pub drawn_once : (x : ℕ) → drawn_by x ps ≡ once_below x drawn
   pub drawn_within : drawn ≤ b.pieces

@@ -1,4 +1,4 @@
--- The two laws of the board, as statements.
+-- The laws of runs and of the rule, as statements.
 use Rattle.std.specs.Prelude.{◌≡◌, ℕ, ◌≤◌, ◌^◌, List, slice_index}
 use Rattle.atomic_table.specs.Table.{State}
 use Rattle.piece_board.specs.declared.history.History.{History}

@@ -64,9 +64,9 @@ abbrev pub count_of : Option ℕ → ℕ
 count_of None = 0
 count_of (Some i) = 1
 
--- What a pass always keeps: each draw is below the count of pieces and stands once; the last draw is
--- neither reported nor that of a finished pass; what it skipped lies above what it has seen; and it
--- has no more skips, its last draw counted, than draws.
+-- What a pass always keeps: each draw is below the count of pieces and stands once; the last draw
+-- is neither reported nor that of a finished pass; what it skipped lies above what it has seen; and
+-- it has no more skips, its last draw counted, than draws.
 pub record PassFacts (p : PassView) : Type 0 where
   pub single : p.history.seats ≡ 1
   pub pieces_fit : p.history.pieces ≤ 2 ^ 62

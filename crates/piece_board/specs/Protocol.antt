@@ -1,6 +1,6 @@
 -- The claim board as plain data (own): the number to be drawn next, the least number that was
--- reported, and for each seat the history of what it did and saw. A run is a list of events, each of
--- them one exchange on one of the two numbers; each changes the history of one seat and no other.
+-- reported, and for each seat the history of what it did and saw. A run is a list of events, each
+-- of them one exchange on one of the two numbers; each changes the history of one seat and no other.
 use Rattle.std.specs.Prelude.{◌≡◌, ℕ, zero, suc, ◌+◌, ltb, min, cond, List, [], ◌∷◌, ◌++◌, replicate}
 use mathlib.Core.Option.{some}
 use lib.ListN.{get_elem?}
@@ -83,7 +83,7 @@ change (suc s) f (h ∷ hs) = h ∷ change s f hs
 abbrev pub IsLast : ℕ → List ℕ → Type 0
 IsLast i xs = (before : List ℕ) × (xs ≡ before ++ i ∷ [])
 
--- Who is not finished may draw, and may report the last of its draws, once. Who has a seat may look.
+-- Who is not finished may draw, and may report the last of its draws, once. Any seat may look.
 abbrev pub Admits : BoardState → Event → Type 0
 Admits b (draw s) = (h : History) × (get_elem? b.histories s ≡ some h) × (h.finished ≡ 0)
 Admits b (report s i) =

@@ -17,8 +17,8 @@ use std::marker::Model;
 /// The number to be drawn next and the least number that was reported, shared by the threads that
 /// hold its passes.
 ///
-/// All that a pass does through it is one exchange on one of the two words, made by the caller's own
-/// thread: nobody waits for anybody.
+/// All that a pass does through it is one exchange on one of the two words, made by the caller's
+/// own thread: nobody waits for anybody.
 #[derive(Drop)]
 pub struct Board {
     table: Table<(), History, Size, Rule, Global>,
@@ -32,9 +32,12 @@ impl Model for Board {
 
     ghost Value = { BoardView };
 
-    ghost view = { λ b. record { id = b.table.shared.table_id; pieces = b.pieces; seats = b.seats } };
+    ghost view = { λ b. record { id = b.table.shared.table_id; pieces = b.pieces;
+        seats = b.seats } };
 
-    ghost invariant = { λ b. (b.table.shared.table_id.words ≡ 2) × (b.table.shared.table_id.slots ≡ 0) × (b.table.shared.key.pieces ≡ b.pieces) × (b.table.shared.key.seats ≡ b.seats) × (0 < b.seats) };
+    ghost invariant = { λ b. (b.table.shared.table_id.words ≡ 2)
+        × (b.table.shared.table_id.slots ≡ 0) × (b.table.shared.key.pieces ≡ b.pieces)
+        × (b.table.shared.key.seats ≡ b.seats) × (0 < b.seats) };
 }
 
 /// Why a board was not opened.
@@ -76,7 +79,8 @@ impl Board {
         requires seats { (1 ≤ seats) × (seats ≤ 64) }
         ensures board { IfOk result (λ opened. (opened.0.pieces ≡ n) × (opened.0.seats ≡ seats)) }
         ensures count { IfOk result (λ opened. vec_len opened.1 ≡ seats) }
-        ensures unused { IfOk result (λ opened. All (λ p. p ≡ unused opened.0.id n) opened.1.items) }
+        ensures unused { IfOk result
+            (λ opened. All (λ p. p ≡ unused opened.0.id n) opened.1.items) }
     {
         let size = Size {
             pieces: n,
@@ -109,8 +113,9 @@ impl Board {
 
     /// Draws the next number of the board for this pass: one fetch_add, and no waiting.
     ///
-    /// Over the whole board the numbers are 0, 1, .. and each goes to one pass (`close` says so of all
-    /// together). None: all are drawn, and this pass is finished, has no last draw and draws no more.
+    /// Over the whole board the numbers are 0, 1, .. and each goes to one pass (`close` says so of
+    /// all together). None: all are drawn, and this pass is finished, has no last draw and draws no
+    /// more.
     pub fn draw(&self, pass: &mut Pass) -> Option<u64>
         requires of_board { IsPassOf self.now pass.old }
         requires unfinished { pass.old.history.finished ≡ 0 }
@@ -216,7 +221,8 @@ fn deal(
     requires seat { (seat.table_id ≡ shared.now.table_id) × (seat.me ≡ (fresh pieces seats, [])) }
     requires size { (0 < shared.now.table_id.words) × (0 < seats) × (pieces ≤ 2 ^ 62) }
     ensures count { IfOk result (λ passes. vec_len passes ≡ seats) }
-    ensures unused { IfOk result (λ passes. All (λ p. p ≡ unused shared.now.table_id pieces) passes.items) }
+    ensures unused { IfOk result
+        (λ passes. All (λ p. p ≡ unused shared.now.table_id pieces) passes.items) }
 {
     let mut passes = Vec::with_capacity(alloc, seats)?;
     for i in 1..seats {

@@ -1,8 +1,8 @@
 //! What one seat at the board has done and seen. It is known to proofs alone.
 use std::collections::LinkedList;
 
-/// The history of a seat, or of several seats taken together. No value of it is made: it is the view
-/// that the table keeps of a seat, and a contract sees the lists as lists of numbers.
+/// The history of a seat, or of several seats taken together. No value of it is made: it is the
+/// view that the table keeps of a seat, and a contract sees the lists as lists of numbers.
 pub struct History {
     /// How many pieces the board has.
     pub pieces: u64,

@@ -7,8 +7,8 @@ use crate::history::History;
 use atomic_table::Seat;
 use std::marker::Model;
 
-/// The right to draw from one board, to report to it and to look at it. A board hands out one pass a
-/// seat, and takes all of them back when it is closed.
+/// The right to draw from one board, to report to it and to look at it. A board hands out one pass
+/// a seat, and takes all of them back when it is closed.
 ///
 /// A contract sees a pass as the lists of its draws and reports, its seen value, its count of skips
 /// and the lowest number that it skipped.
@@ -28,9 +28,13 @@ impl Model for Pass {
 
     ghost Value = { PassView };
 
-    ghost view = { λ p. record { board = p.seat.table_id; history = p.seat.me.0; last = p.last; skips = p.skips; lowest_skip = p.lowest_skip } };
+    ghost view = { λ p. record { board = p.seat.table_id; history = p.seat.me.0; last = p.last;
+        skips = p.skips; lowest_skip = p.lowest_skip } };
 
-    ghost invariant = { λ p. (p.seat.me.1 ≡ []) × (p.seen ≡ p.seat.me.0.seen) × (p.finished ≡ ltb 0 p.seat.me.0.finished) × PassFacts record { board = p.seat.table_id; history = p.seat.me.0; last = p.last; skips = p.skips; lowest_skip = p.lowest_skip } };
+    ghost invariant = { λ p. (p.seat.me.1 ≡ []) × (p.seen ≡ p.seat.me.0.seen)
+        × (p.finished ≡ ltb 0 p.seat.me.0.finished)
+        × PassFacts record { board = p.seat.table_id; history = p.seat.me.0; last = p.last;
+            skips = p.skips; lowest_skip = p.lowest_skip } };
 }
 
 impl Pass {
@@ -66,13 +70,14 @@ impl Pass {
 
     /// Whether a draw found nothing left. A finished pass draws and reports no more.
     pub fn is_finished(&self) -> bool
-        ensures finished { MatchBool result (0 < self.now.history.finished) (self.now.history.finished ≡ 0) }
+        ensures finished { MatchBool result (0 < self.now.history.finished)
+            (self.now.history.finished ≡ 0) }
     {
         self.finished
     }
 
-    /// Leaves out the number that was drawn last, which lies above a report that this pass has seen.
-    /// It is no step on the board: the pass alone counts it.
+    /// Leaves out the number that was drawn last, which lies above a report that this pass has
+    /// seen. It is no step on the board: the pass alone counts it.
     pub fn skip(&mut self, i: u64)
         requires last { self.old.last ≡ Some i }
         requires above { self.old.history.seen < i }

@@ -1,5 +1,5 @@
-//! The rule of the board's table, and the steps that keep it. Word 0 is the number to be drawn next,
-//! word 1 the least reported number; the table has no slots.
+//! The rule of the board's table, and the steps that keep it. Word 0 is the number to be drawn
+//! next, word 1 the least reported number; the table has no slots.
 use crate::history::History;
 use atomic_table::{Join, Play, Split, TableRule};
 

@@ -1,7 +1,9 @@
-ghost use Rattle.std.specs.Prelude.{◌≡◌};
+//! The board on worked examples, and with two threads.
+ghost use Rattle.std.specs.Prelude.{◌≡◌, IfOk, All, vec_len};
 ghost use Rattle.piece_board.specs.Board.{IsPassOf};
 
 use crate::{Board, Pass};
+use std::alloc::{AllocError, Global};
 use std::test::Fail;
 use std::thread;
 
@@ -69,5 +71,92 @@ fn a_skip_is_above_a_seen_report(rt: HostRuntime) -> Result<(), Fail> {
     passes.push(b)?;
     let closed = board.close(passes);
     assert!(rt; closed.drawn == 4 && closed.skipped == 2 && closed.least == 1);
+    Ok(())
+}
+
+/// No number at all: the first draw is None, and nothing is reported.
+#[test]
+fn no_pieces(rt: HostRuntime) -> Result<(), Fail> {
+    let (board, mut passes) = Board::open(rt.alloc(), 0, 1)?;
+    let Some(mut a) = passes.pop() else {
+        panic!(rt; "a pass")
+    };
+    assert!(rt; board.pieces() == 0 && board.seats() == 1);
+    assert!(rt; board.draw(&mut a) == None && a.is_finished() && a.last() == None);
+    passes.push(a)?;
+    let closed = board.close(passes);
+    assert!(rt; closed.drawn == 0 && closed.skipped == 0 && closed.least == 0);
+    Ok(())
+}
+
+/// One number and two passes: who comes second draws None, and sees the report of the first.
+#[test]
+fn one_piece_and_two_passes(rt: HostRuntime) -> Result<(), Fail> {
+    let (board, mut passes) = Board::open(rt.alloc(), 1, 2)?;
+    let (Some(mut b), Some(mut a)) = (passes.pop(), passes.pop()) else {
+        panic!(rt; "two passes")
+    };
+    assert!(rt; board.draw(&mut a) == Some(0) && a.last() == Some(0));
+    assert!(rt; board.draw(&mut b) == None);
+    board.report(&mut a, 0);
+    assert!(rt; board.least(&mut b) == 0);
+    passes.push(a)?;
+    passes.push(b)?;
+    let closed = board.close(passes);
+    assert!(rt; closed.drawn == 1 && closed.skipped == 0 && closed.least == 0);
+    Ok(())
+}
+
+/// Draws once, unless the pass is finished.
+fn draw_unless_finished(board: &Board, mut pass: Pass) -> Pass
+    requires of_board { IsPassOf board.now pass }
+    ensures of_board { IsPassOf board.now result }
+{
+    if !pass.is_finished() {
+        board.draw(&mut pass);
+    }
+    pass
+}
+
+/// Each pass that is not finished draws once.
+fn draw_in_turn(alloc: Global, board: &Board, passes: Vec<Pass>) -> Result<Vec<Pass>, AllocError>
+    requires of_board { All (λ p. IsPassOf board.now p) passes.items }
+    ensures of_board { IfOk result (λ drawn. All (λ p. IsPassOf board.now p) drawn.items) }
+    ensures count { IfOk result (λ drawn. vec_len drawn ≡ vec_len passes) }
+{
+    let mut drawn = Vec::new(alloc);
+    for pass in passes {
+        drawn.push(draw_unless_finished(board, pass))?;
+    }
+    Ok(drawn)
+}
+
+/// So many rounds of `draw_in_turn`.
+fn draw_rounds(
+    alloc: Global,
+    board: &Board,
+    mut passes: Vec<Pass>,
+    rounds: u64,
+) -> Result<Vec<Pass>, AllocError>
+    requires of_board { All (λ p. IsPassOf board.now p) passes.items }
+    ensures of_board { IfOk result (λ drawn. All (λ p. IsPassOf board.now p) drawn.items) }
+    ensures count { IfOk result (λ drawn. vec_len drawn ≡ vec_len passes) }
+{
+    for _ in 0..rounds {
+        passes = draw_in_turn(alloc, board, passes)?;
+    }
+    Ok(passes)
+}
+
+/// As many seats as there can be, and about as many numbers: the last round ends every seat.
+#[test]
+fn sixty_four_seats_in_turn(rt: HostRuntime) -> Result<(), Fail> {
+    for n in [0u64, 1, 63, 64, 65] {
+        let (board, passes) = Board::open(rt.alloc(), n, 64)?;
+        let passes = draw_rounds(rt.alloc(), &board, passes, 3)?;
+        assert!(rt; passes.iter().all(|pass| pass.is_finished()), "n {n}");
+        let closed = board.close(passes);
+        assert!(rt; closed.drawn == n && closed.skipped == 0 && closed.least == n, "n {n}");
+    }
     Ok(())
 }

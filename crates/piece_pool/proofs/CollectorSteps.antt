@@ -1,6 +1,5 @@
 -- What all works together come to.
-use Rattle.std.proofs.Common.{◌≡◌, ℕ, ◌+◌, ◌<◌, ◌≤◌, eqb, List, [], ◌∷◌, ◌++◌, length, get_or, map, All, Any, Contains, true, false, arith, refl, ap, ◌∙◌, sym, inl, inr, ⊎_elim, ◌⊎◌, subst}
-use Rattle.std.specs.List.{flat_map}
+use Rattle.std.proofs.Common.{◌≡◌, ℕ, ◌<◌, ◌≤◌, eqb, List, [], ◌∷◌, ◌++◌, length, get_or, All, Any, Contains, false, arith, refl, ap, ◌∙◌, sym, inl, inr, ⊎_elim, ◌⊎◌, subst}
 use Rattle.std.proofs.lemmas.Grind.{flat_map-append}
 use Rattle.std.proofs.lemmas.List.{map-append, append-nil}
 use Rattle.std.proofs.lemmas.List.Sums.{sum_by-append}
@@ -10,7 +9,7 @@ use Rattle.std.proofs.lemmas.List.Elements.{All-push, All-append, All-head, All-
 use Rattle.piece_board.specs.Counts.{times}
 use Rattle.piece_board.specs.Pass.{PassView}
 use Rattle.piece_board.specs.Board.{BoardView, IsPassOf, IsClosed, drawn_by, reported_by}
-use Rattle.piece_pool.specs.Worked.{numbers_of, done_of, CoversUpTo, IsWorked, IsWorkOf}
+use Rattle.piece_pool.specs.Worked.{numbers_of, done_of, CoversUpTo, IsWorked}
 use Rattle.piece_pool.specs.Collected.{IsSettled, all_draws, all_reports, IsCollected}
 use Rattle.piece_pool.proofs.WorkerSteps.{times-append}
 use Rattle.piece_pool.specs.declared.worker.Worked.{Worked}

@@ -20,8 +20,8 @@ abbrev pub CoversUpTo : ℕ → List ℕ → List ℕ → Type 0
 CoversUpTo most xs ys = (i : ℕ) → Contains xs i → i ≤ most → Contains ys i
 
 -- What was done of a job so far: each answer and each fault is one of the job's; their numbers are
--- draws, each in one of the two lists and there once, since no draw stands twice; and the numbers of
--- the faults are the reports.
+-- draws, each in one of the two lists and there once (no draw stands twice); and the numbers of the
+-- faults are the reports.
 pub record IsWorkOf {Out Fault : Type 0} (answers : ℕ → Out → Type 0)
     (faults : ℕ → Fault → Type 0) (draws reports : List ℕ) (outs : List (ℕ × Out))
     (failed : List (ℕ × Fault)) : Type 0 where

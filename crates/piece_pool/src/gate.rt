@@ -1,7 +1,7 @@
 //! What a worker calls round each piece that it runs.
 
-/// A door that each piece passes: a worker calls `enter` before it runs piece `i`, and `leave` after.
-/// No contract speaks of a gate, so no gate changes an outcome.
+/// A door that each piece passes: a worker calls `enter` before it runs piece `i`, and `leave`
+/// after. No contract speaks of a gate, so no gate changes an outcome.
 pub trait Gate {
     /// Called by the worker's thread before it runs piece `i`.
     fn enter(&self, i: u64);

@@ -38,5 +38,6 @@ pub trait Job {
         ensures faults { IfErr result (IfOwn (λ fault. faults self.now i fault)) };
 
     /// No piece both answers and faults.
-    ghost exclusive: { (job : Self) (i : ℕ) (out : Self.Out) (fault : Self.Fault) → answers job i out → faults job i fault → ⊥ };
+    ghost exclusive: { (job : Self) (i : ℕ) (out : Self.Out) (fault : Self.Fault)
+        → answers job i out → faults job i fault → ⊥ };
 }

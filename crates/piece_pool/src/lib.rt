@@ -1,9 +1,9 @@
-//! Work cut into numbered pieces, run by worker threads: pieces go in, and out comes every piece's own
-//! answer in its place, or the least faulty piece.
+//! Work cut into numbered pieces, run by worker threads: pieces go in, and out comes every piece's
+//! own answer in its place, or the least faulty piece.
 //!
-//! [`run_pieces`] is what the crates above use: it runs a [`Job`] over the pieces `0` to `n - 1` by so
-//! many workers, and its outcome ([`Outcome`], specs/Outcome.antt) depends on the job and `n` alone.
-//! No clause names a worker or a gate, so every number of workers gives the outcome of one.
+//! [`run_pieces`] is what the crates above use: it runs a [`Job`] over the pieces `0` to `n - 1` by
+//! so many workers, and its outcome ([`Outcome`], specs/Outcome.antt) depends on the job and `n`
+//! alone. No clause names a worker or a gate, so every number of workers gives the outcome of one.
 //!
 //! Its halves are [`work`], which one worker does with a pass of a claim board (`piece_board`) and
 //! which waits for nobody, and [`gather`], which puts the works of all workers together.
@@ -24,6 +24,8 @@ mod collector;
 mod gate;
 mod job;
 mod pool;
+#[cfg(test)]
+mod tests;
 mod worker;
 
 pub use collector::{Outcome, gather};

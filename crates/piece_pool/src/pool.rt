@@ -41,8 +41,10 @@ impl From<BoardFault> for PoolFault {
 
     ghost from_gives = { λ _ fault. fault ≡ Memory };
 
-    fn from(_refused: BoardFault) -> PoolFault {
-        PoolFault::Memory
+    fn from(refused: BoardFault) -> PoolFault {
+        match refused {
+            BoardFault::Memory => PoolFault::Memory,
+        }
     }
 }
 
@@ -54,10 +56,11 @@ struct WorkOn<J> {
 }
 
 impl<J: Job> Promise<Worked<J::Out, J::Fault>> for WorkOn<J> {
-    ghost kept_by = { λ p w. IsWorked (J.answers p.job.value) (J.faults p.job.value) p.board.value w };
+    ghost kept_by = { λ p w. IsWorked (J.answers p.job.value) (J.faults p.job.value)
+        p.board.value w };
 }
 
-/// Runs the pieces 0 to `n - 1` of a job, each on one of the smaller of `workers` and `n` threads, and
+/// Runs the pieces 0 to `n - 1` of a job on threads, the smaller of `workers` and `n` of them, and
 /// answers what they come to. Every number of workers and every gate gives the same outcome.
 ///
 /// With no piece no thread is started and no gate called. It waits for the workers that it started.
@@ -164,7 +167,8 @@ where
     )
 }
 
-/// Starts a worker for each pass, up to the first that is refused, and joins those that were started.
+/// Starts a worker for each pass, up to the first that is refused, and joins those that were
+/// started.
 fn start_and_join<'s, E, R: Threads, J: Job + Sync, G: Gate + Sync>(
     rt: &R,
     scope: &Scope<'s, E>,

@@ -33,8 +33,8 @@ enum Step {
 /// Draws pieces of the board with this pass and runs them, until there are none.
 ///
 /// After each draw it looks once at the board. A piece above a known fault is skipped; any other is
-/// run, between `enter` and `leave` of the gate, and reported where it is faulty. Want of memory, its
-/// own or the job's, stops it. It waits for nobody, and returns: no pass draws a number twice.
+/// run, between `enter` and `leave` of the gate, and reported where it is faulty. Want of memory,
+/// its own or the job's, stops it. It waits for nobody, and returns: no pass draws a number twice.
 pub fn work<J: Job, G: Gate>(
     alloc: Global,
     board: &Board,

@@ -1,7 +1,6 @@
-use Rattle.std.proofs.Common.{rules, arith, ◌≡◌, ℕ, ◌<◌, ◌⊎◌, suc, None, IsSome, Contains, length, get_or, set, inl, inr, ⊎_elim, sym, subst}
+use Rattle.std.proofs.Common.{rules, arith, suc, Contains, inl, inr, ⊎_elim}
 use Rattle.std.proofs.lemmas.List.{length-map}
 use Rattle.std.proofs.lemmas.List.Elements.{All-contains_itself}
-use Rattle.piece_pool.specs.Worked.{numbers_of}
 use Rattle.piece_pool.proofs.SlotSteps.{Contains-cons_cases, IfSome-set, covered-set, IsSomeAnd-both}
 use Rattle.piece_pool.proofs.collector.by_number.Goals as goal
 

@@ -1,4 +1,4 @@
-use Rattle.std.proofs.Common.{rules, arith, suc, ⊎_elim}
+use Rattle.std.proofs.Common.{arith, suc, ⊎_elim}
 use Rattle.std.proofs.lemmas.List.Elements.{All-contains_itself}
 use Rattle.piece_pool.proofs.SlotSteps.{Contains-cons_cases}
 use Rattle.piece_pool.proofs.collector.fault_of.Goals as goal

@@ -1,4 +1,4 @@
-use Rattle.std.proofs.Common.{rules, arith, ◌≡◌, ℕ, get_or, ◌<◌, length, Contains, All}
+use Rattle.std.proofs.Common.{rules, arith, ◌≡◌, ℕ, get_or, ◌<◌, length}
 use Rattle.std.proofs.lemmas.List.Elements.{All-contains}
 use Rattle.piece_pool.proofs.CollectorSteps.{drawn-all, Contains-below_least, Contains-least, IsSettled-closed, Contains-pair, answer-at}
 use Rattle.piece_pool.proofs.collector.gather.Goals as goal

@@ -1,4 +1,4 @@
-use Rattle.std.proofs.Common.{rules, arith, ℕ, ◌<◌, ◌≡◌, ap, subst, sym, length, get_or, map, Some, None, IsSomeAnd, Contains}
+use Rattle.std.proofs.Common.{arith, ◌≡◌, ap, subst, sym, length, get_or, Some, None, IsSomeAnd, Contains}
 use Rattle.std.proofs.lemmas.List.{length-map}
 use Rattle.piece_pool.proofs.SlotSteps.{get_or-map_some}
 use Rattle.piece_pool.proofs.collector.in_order.Goals as goal

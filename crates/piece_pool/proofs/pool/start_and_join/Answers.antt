@@ -1,5 +1,5 @@
-use Rattle.std.proofs.Common.{rules, arith, suc, ◌≡◌, ap, ◌∙◌, subst}
-use Rattle.std.proofs.lemmas.List.Elements.{All-push, All-rest}
+use Rattle.std.proofs.Common.{rules, arith, suc, ◌≡◌}
+use Rattle.std.proofs.lemmas.List.Elements.{All-push}
 use Rattle.piece_pool.specs.Worked.{IsWorked}
 use Rattle.piece_pool.proofs.pool.start_and_join.Goals as goal
 

@@ -1,4 +1,4 @@
-use Rattle.std.proofs.Common.{rules, arith, ◌≡◌, ◌+◌, length, length-append, ◌++◌, ◌∷◌, []}
+use Rattle.std.proofs.Common.{rules, length-append, ◌∷◌, []}
 use Rattle.piece_pool.proofs.WorkerSteps.{IsWorkOf-draw, IsWorkOf-answer, IsWorkOf-fault, CoversUpTo-done, Contains-answer_old, Contains-answer_new, Contains-fault_old, Contains-fault_new}
 use Rattle.piece_pool.proofs.worker.next_piece.Goals as goal
 
