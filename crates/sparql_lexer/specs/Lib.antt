@@ -1,4 +1,12 @@
 pub mod Terminal
+pub mod Pattern
+pub mod Characters
 pub mod Blanks
+pub mod Numbers
+pub mod Names
+pub mod Enclosed
 pub mod Signs
 pub mod Scan
+pub mod Classes
+pub mod Next
+pub mod Forms

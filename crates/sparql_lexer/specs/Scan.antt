@@ -3,11 +3,13 @@ use Rattle.std.specs.Prelude.{◌≡◌, ◌≤◌, ℕ, ◌-◌, List, [], ◌�
 use Rattle.sparql_lexer.specs.declared.token.Kind.{Kind}
 use Rattle.sparql_lexer.specs.Terminal.{Terminal, terminal}
 use Rattle.sparql_lexer.specs.Blanks.{after_blanks}
-use Rattle.sparql_lexer.specs.Signs.{Signs}
+use Rattle.sparql_lexer.specs.declared.token.Kind.TheVariants as kind
+use Rattle.sparql_lexer.specs.declared.token.Sign.{Sign}
+use Rattle.sparql_lexer.specs.Signs.{IsSign}
 
 -- text begins with a terminal of the kind, and rest stands behind it
 pub data Reads : Kind → List ℕ → List ℕ → Type 0 where
-  a_sign : {k : Kind} {text rest : List ℕ} → Signs k text rest → Reads k text rest
+  a_sign : {s : Sign} {text rest : List ℕ} → IsSign s text rest → Reads (kind.Sign s) text rest
 
 -- the longest terminal at a place
 pub record Longest (k : Kind) (place rest : List ℕ) : Type 0 where

@@ -1,22 +1,26 @@
--- The signs: `Signs k text rest` says that text begins with the sign, and that rest stands behind it.
-use Rattle.std.specs.Prelude.{ℕ, List, ◌∷◌}
-use Rattle.sparql_lexer.specs.declared.token.Kind.{Kind}
-use Rattle.sparql_lexer.specs.declared.token.Kind.TheVariants as kind
+-- The signs of one and of two characters.
+use Rattle.std.specs.Prelude.{◌≡◌, ℕ, List, ◌∷◌, Option, Some, None, nat_eq, ◌&&◌, if◌then◌else◌}
+use Rattle.sparql_lexer.specs.declared.token.Sign.{Sign}
 use Rattle.sparql_lexer.specs.declared.token.Sign.TheVariants as sign
 
-pub data Signs : Kind → List ℕ → List ℕ → Type 0 where
-  open_brace : {rest : List ℕ} → Signs (kind.Sign sign.OpenBrace) (123 ∷ rest) rest
-  close_brace : {rest : List ℕ} → Signs (kind.Sign sign.CloseBrace) (125 ∷ rest) rest
-  open_parenthesis : {rest : List ℕ} → Signs (kind.Sign sign.OpenParenthesis) (40 ∷ rest) rest
-  close_parenthesis : {rest : List ℕ} → Signs (kind.Sign sign.CloseParenthesis) (41 ∷ rest) rest
-  semicolon : {rest : List ℕ} → Signs (kind.Sign sign.Semicolon) (59 ∷ rest) rest
-  comma : {rest : List ℕ} → Signs (kind.Sign sign.Comma) (44 ∷ rest) rest
-  star : {rest : List ℕ} → Signs (kind.Sign sign.Star) (42 ∷ rest) rest
-  equal : {rest : List ℕ} → Signs (kind.Sign sign.Equal) (61 ∷ rest) rest
-  not_equal : {rest : List ℕ} → Signs (kind.Sign sign.NotEqual) (33 ∷ 61 ∷ rest) rest
-  greater : {rest : List ℕ} → Signs (kind.Sign sign.Greater) (62 ∷ rest) rest
-  greater_or_equal : {rest : List ℕ} → Signs (kind.Sign sign.GreaterOrEqual) (62 ∷ 61 ∷ rest) rest
-  not : {rest : List ℕ} → Signs (kind.Sign sign.Not) (33 ∷ rest) rest
-  and : {rest : List ℕ} → Signs (kind.Sign sign.And) (38 ∷ 38 ∷ rest) rest
-  or : {rest : List ℕ} → Signs (kind.Sign sign.Or) (124 ∷ 124 ∷ rest) rest
-  carets : {rest : List ℕ} → Signs (kind.Sign sign.Carets) (94 ∷ 94 ∷ rest) rest
+-- { } ( ) . ; , * = < > !
+abbrev pub sign_of_one : ℕ → Option Sign
+sign_of_one c =
+    if nat_eq 123 c then Some sign.OpenBrace else if nat_eq 125 c then Some sign.CloseBrace
+    else if nat_eq 40 c then Some sign.OpenParenthesis else if nat_eq 41 c then Some sign.CloseParenthesis
+    else if nat_eq 46 c then Some sign.Dot else if nat_eq 59 c then Some sign.Semicolon
+    else if nat_eq 44 c then Some sign.Comma else if nat_eq 42 c then Some sign.Star
+    else if nat_eq 61 c then Some sign.Equal else if nat_eq 60 c then Some sign.Less
+    else if nat_eq 62 c then Some sign.Greater else if nat_eq 33 c then Some sign.Not else None
+
+-- != <= >= && || ^^
+abbrev pub sign_of_two : ℕ → ℕ → Option Sign
+sign_of_two c d =
+    if nat_eq 33 c && nat_eq 61 d then Some sign.NotEqual else if nat_eq 60 c && nat_eq 61 d then Some sign.LessOrEqual
+    else if nat_eq 62 c && nat_eq 61 d then Some sign.GreaterOrEqual else if nat_eq 38 c && nat_eq 38 d then Some sign.And
+    else if nat_eq 124 c && nat_eq 124 d then Some sign.Or else if nat_eq 94 c && nat_eq 94 d then Some sign.Carets else None
+
+-- text begins with the sign, and rest stands behind it
+pub data IsSign (s : Sign) : List ℕ → List ℕ → Type 0 where
+  one : {c : ℕ} {rest : List ℕ} → sign_of_one c ≡ Some s → IsSign s (c ∷ rest) rest
+  two : {c d : ℕ} {rest : List ℕ} → sign_of_two c d ≡ Some s → IsSign s (c ∷ d ∷ rest) rest

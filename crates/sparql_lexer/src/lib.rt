@@ -2,6 +2,11 @@
 #![tactic(auto)]
 
 mod characters;
+mod classes;
+mod cursor;
+mod enclosed;
+mod names;
+mod numbers;
 mod token;
 
 pub use characters::{characters_of, text_of};

@@ -1,0 +1,46 @@
+-- Names, variables, labels and language tags (SPARQL 1.1 Query Language, section 19.8).
+use Rattle.std.specs.Prelude.{ℕ, Bool, ◌||◌, nat_eq}
+use Rattle.sparql_lexer.specs.Pattern.{Pattern, character, is, some, many, perhaps, ◌▸◌, ◌or◌}
+use Rattle.sparql_lexer.specs.Characters.{is_letter, is_letter_or_digit, is_hex, is_base, is_label_start, is_variable_part, is_name_part, is_local_start, is_local_part, is_local_escape}
+
+abbrev pub is_variable_sign : ℕ → Bool
+is_variable_sign c = nat_eq 63 c || nat_eq 36 c
+
+-- VAR1 ::= '?' VARNAME, VAR2 ::= '$' VARNAME
+abbrev pub variable : Pattern
+variable = character is_variable_sign ▸ character is_label_start ▸ many (character is_variable_part)
+
+-- ((part | '.')* part)?
+abbrev pub tail : Pattern → Pattern
+tail part = perhaps (many (part or is 46) ▸ part)
+
+-- PNAME_NS ::= PN_PREFIX? ':' where PN_PREFIX ::= PN_CHARS_BASE ((PN_CHARS | '.')* PN_CHARS)?
+abbrev pub namespace : Pattern
+namespace = perhaps (character is_base ▸ tail (character is_name_part)) ▸ is 58
+
+-- PLX ::= '%' HEX HEX | '\' ('_' | '~' | '.' | ..)
+abbrev pub local_escape : Pattern
+local_escape = (is 37 ▸ character is_hex ▸ character is_hex) or (is 92 ▸ character is_local_escape)
+
+abbrev pub local_part : Pattern
+local_part = character is_local_part or local_escape
+
+-- PN_LOCAL ::= (PN_CHARS_U | ':' | [0-9] | PLX) ((PN_CHARS | '.' | ':' | PLX)* (PN_CHARS | ':' | PLX))?
+abbrev pub local : Pattern
+local = (character is_local_start or local_escape) ▸ tail local_part
+
+-- PNAME_LN ::= PNAME_NS PN_LOCAL
+abbrev pub prefixed_name : Pattern
+prefixed_name = namespace ▸ local
+
+-- BLANK_NODE_LABEL ::= '_:' (PN_CHARS_U | [0-9]) ((PN_CHARS | '.')* PN_CHARS)?
+abbrev pub blank_label : Pattern
+blank_label = is 95 ▸ is 58 ▸ character is_label_start ▸ tail (character is_name_part)
+
+-- LANGTAG ::= '@' [a-zA-Z]+ ('-' [a-zA-Z0-9]+)*
+abbrev pub language_tag : Pattern
+language_tag = is 64 ▸ some (character is_letter) ▸ many (is 45 ▸ some (character is_letter_or_digit))
+
+-- a keyword, or another word
+abbrev pub word : Pattern
+word = some (character is_letter)

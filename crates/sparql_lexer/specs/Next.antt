@@ -1,0 +1,7 @@
+-- The first character of a text; private clauses alone cite this file.
+use Rattle.std.specs.Prelude.{◌≡◌, ℕ, List, [], ◌∷◌, Option, Some, None}
+use Rattle.std.specs.Borrow.{Bor}
+
+abbrev pub IsNext : List ℕ → Option (ℕ × Bor (List ℕ)) → Type 0
+IsNext ts None = ts ≡ []
+IsNext ts (Some p) = ts ≡ p.0 ∷ p.1.now

@@ -1,0 +1,215 @@
+//! Classes of characters.
+
+ghost use Rattle.std.specs.Prelude.{◌≡◌};
+ghost use Rattle.sparql_lexer.specs.Characters.{in_ranges, is_base, is_joining, is_digit, is_letter, is_hex, is_label_start, is_variable_part, is_name_part, is_local_escape, is_iri_character, is_short_character, is_long_character, is_escape_letter, is_space, is_line_end};
+ghost use Rattle.sparql_lexer.specs.Classes.{members};
+
+/// A class of characters, as the productions name them.
+#[derive(Clone, Copy, Debug)]
+pub enum Class {
+    Digit,
+    Dot,
+    Letter,
+    LetterOrDigit,
+    Hex,
+    Base,
+    LabelStart,
+    VariablePart,
+    NamePart,
+    LocalStart,
+    LocalPart,
+    LocalEscape,
+    VariableSign,
+    PlusOrMinus,
+    ExponentLetter,
+    InIri,
+    InSingle,
+    InDouble,
+    InLongSingle,
+    InLongDouble,
+    EscapeLetter,
+    Space,
+    LineEnd,
+    InComment,
+}
+
+const BASE: [(u32, u32); 14] = [
+    (65, 90),
+    (97, 122),
+    (0xC0, 0xD6),
+    (0xD8, 0xF6),
+    (0xF8, 0x2FF),
+    (0x370, 0x37D),
+    (0x37F, 0x1FFF),
+    (0x200C, 0x200D),
+    (0x2070, 0x218F),
+    (0x2C00, 0x2FEF),
+    (0x3001, 0xD7FF),
+    (0xF900, 0xFDCF),
+    (0xFDF0, 0xFFFD),
+    (0x10000, 0xEFFFF),
+];
+
+const JOINING: [(u32, u32); 3] = [(0xB7, 0xB7), (0x300, 0x36F), (0x203F, 0x2040)];
+
+const LOCAL_ESCAPES: [(u32, u32); 7] = [
+    (33, 33),
+    (35, 47),
+    (59, 59),
+    (61, 61),
+    (63, 64),
+    (95, 95),
+    (126, 126),
+];
+
+const NOT_IN_IRI: [(u32, u32); 7] = [
+    (60, 60),
+    (62, 62),
+    (34, 34),
+    (123, 125),
+    (94, 94),
+    (96, 96),
+    (92, 92),
+];
+
+const ESCAPE_LETTERS: [(u32, u32); 8] = [
+    (116, 116),
+    (98, 98),
+    (110, 110),
+    (114, 114),
+    (102, 102),
+    (34, 34),
+    (39, 39),
+    (92, 92),
+];
+
+fn in_ranges(ranges: &[(u32, u32)], c: char) -> bool
+    ensures { result ≡ in_ranges ranges.now c }
+{
+    let number = c as u32;
+    ranges.iter().any(|r| r.0 <= number && number <= r.1)
+}
+
+fn is_digit(c: char) -> bool
+    ensures { result ≡ is_digit c }
+{
+    c >= '0' && c <= '9'
+}
+
+fn is_letter(c: char) -> bool
+    ensures { result ≡ is_letter c }
+{
+    c >= 'A' && c <= 'Z' || c >= 'a' && c <= 'z'
+}
+
+fn is_hex(c: char) -> bool
+    ensures { result ≡ is_hex c }
+{
+    is_digit(c) || (c >= 'A' && c <= 'F' || c >= 'a' && c <= 'f')
+}
+
+#[tactic(auto, unfolding(crate::specs::Characters::is_base))]
+fn is_base(c: char) -> bool
+    ensures { result ≡ is_base c }
+{
+    in_ranges(&BASE, c)
+}
+
+#[tactic(auto, unfolding(crate::specs::Characters::is_joining))]
+fn is_joining(c: char) -> bool
+    ensures { result ≡ is_joining c }
+{
+    in_ranges(&JOINING, c)
+}
+
+fn is_label_start(c: char) -> bool
+    ensures { result ≡ is_label_start c }
+{
+    is_base(c) || (c == '_' || is_digit(c))
+}
+
+fn is_variable_part(c: char) -> bool
+    ensures { result ≡ is_variable_part c }
+{
+    is_label_start(c) || is_joining(c)
+}
+
+fn is_name_part(c: char) -> bool
+    ensures { result ≡ is_name_part c }
+{
+    is_variable_part(c) || c == '-'
+}
+
+fn is_local_escape(c: char) -> bool
+    ensures { result ≡ is_local_escape c }
+{
+    in_ranges(&LOCAL_ESCAPES, c)
+}
+
+fn is_iri_character(c: char) -> bool
+    ensures { result ≡ is_iri_character c }
+{
+    ' ' < c && !in_ranges(&NOT_IN_IRI, c)
+}
+
+fn is_short_character(quote: char, c: char) -> bool
+    ensures { result ≡ is_short_character quote c }
+{
+    !(c == quote || (c == '\\' || (c == '\n' || c == '\r')))
+}
+
+fn is_long_character(quote: char, c: char) -> bool
+    ensures { result ≡ is_long_character quote c }
+{
+    !(c == quote || c == '\\')
+}
+
+fn is_escape_letter(c: char) -> bool
+    ensures { result ≡ is_escape_letter c }
+{
+    in_ranges(&ESCAPE_LETTERS, c)
+}
+
+fn is_space(c: char) -> bool
+    ensures { result ≡ is_space c }
+{
+    c == ' ' || (c == '\t' || (c == '\r' || c == '\n'))
+}
+
+fn is_line_end(c: char) -> bool
+    ensures { result ≡ is_line_end c }
+{
+    c == '\r' || c == '\n'
+}
+
+/// Whether the character is of the class.
+pub fn is_member(class: Class, c: char) -> bool
+    ensures { result ≡ members class c }
+{
+    match class {
+        Class::Digit => is_digit(c),
+        Class::Dot => c == '.',
+        Class::Letter => is_letter(c),
+        Class::LetterOrDigit => is_letter(c) || is_digit(c),
+        Class::Hex => is_hex(c),
+        Class::Base => is_base(c),
+        Class::LabelStart => is_label_start(c),
+        Class::VariablePart => is_variable_part(c),
+        Class::NamePart => is_name_part(c),
+        Class::LocalStart => is_label_start(c) || c == ':',
+        Class::LocalPart => is_name_part(c) || c == ':',
+        Class::LocalEscape => is_local_escape(c),
+        Class::VariableSign => c == '?' || c == '$',
+        Class::PlusOrMinus => c == '+' || c == '-',
+        Class::ExponentLetter => c == 'e' || c == 'E',
+        Class::InIri => is_iri_character(c),
+        Class::InSingle => is_short_character('\'', c),
+        Class::InDouble => is_short_character('"', c),
+        Class::InLongSingle => is_long_character('\'', c),
+        Class::InLongDouble => is_long_character('"', c),
+        Class::EscapeLetter => is_escape_letter(c),
+        Class::Space => is_space(c),
+        Class::LineEnd => is_line_end(c),
+        Class::InComment => !is_line_end(c),
+    }
+}

@@ -1,0 +1,72 @@
+//! What stands at the front of a text.
+
+ghost use Rattle.std.specs.Prelude.{◌≡◌, Some, ℕ, List};
+ghost use Rattle.sparql_lexer.specs.Pattern.{Pattern, character, is, many, some, ◌or◌, Ends, EndsAt};
+ghost use Rattle.sparql_lexer.specs.Classes.{members};
+ghost use Rattle.sparql_lexer.specs.Next.{IsNext};
+
+use crate::classes::{Class, is_member};
+
+/// The first character, and what stands behind it.
+pub fn next(text: &[char]) -> Option<(char, &[char])>
+    ensures { IsNext text.now result }
+{
+    let (first, after) = text.split_first()?;
+    Some((*first, after))
+}
+
+/// What stands behind this character, where the text begins with it.
+pub fn accept(text: &[char], wanted: char) -> Option<&[char]>
+    ensures { Ends (is wanted) text.now result }
+{
+    let (first, after) = next(text)?;
+    if first == wanted { Some(after) } else { None }
+}
+
+/// What stands behind one character of the class.
+pub fn accept_one(class: Class, text: &[char]) -> Option<&[char]>
+    ensures { Ends (character (members class)) text.now result }
+{
+    let (first, after) = next(text)?;
+    if is_member(class, first) {
+        Some(after)
+    } else {
+        None
+    }
+}
+
+/// What stands behind all characters of the class at the front, perhaps none.
+pub fn skip(class: Class, text: &[char]) -> &[char]
+    ensures { EndsAt (many (character (members class))) text.now result.now }
+{
+    let mut rest = text;
+    'run: while let Some(after) = accept_one(class, rest) {
+        rest = after;
+    }
+    rest
+}
+
+/// What stands behind all characters of the class at the front, one at least.
+pub fn skip_some(class: Class, text: &[char]) -> Option<&[char]>
+    ensures { Ends (some (character (members class))) text.now result }
+{
+    let after = accept_one(class, text)?;
+    Some(skip(class, after))
+}
+
+/// Of two ends the one that stands farther back.
+pub fn farther<'a>(one: Option<&'a [char]>, other: Option<&'a [char]>) -> Option<&'a [char]>
+    ensures { (a b : Pattern) (text : List ℕ) → Ends a text one.entry → Ends b text other.entry → Ends (a or b) text result }
+{
+    let Some(end) = one else {
+        return other;
+    };
+    let Some(farther) = other else {
+        return Some(end);
+    };
+    if farther.len() < end.len() {
+        Some(farther)
+    } else {
+        Some(end)
+    }
+}

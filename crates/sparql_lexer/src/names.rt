@@ -1,0 +1,131 @@
+//! Names, variables, labels and language tags.
+
+ghost use Rattle.std.specs.Prelude.{◌≡◌, Some};
+ghost use Rattle.sparql_lexer.specs.Characters.{is_local_start, is_letter_or_digit};
+ghost use Rattle.sparql_lexer.specs.Pattern.{character, is, many, some, ◌▸◌, ◌or◌, Ends, EndsAt};
+ghost use Rattle.sparql_lexer.specs.Names.{local_escape, tail, namespace, local, prefixed_name, blank_label, variable, language_tag};
+ghost use Rattle.sparql_lexer.specs.Forms.{part_of};
+
+use crate::classes::Class;
+use crate::cursor::{accept, accept_one, skip, skip_some};
+
+/// What a name goes on with: that of a namespace or a label, or a local one.
+#[derive(Clone, Copy, Debug)]
+pub enum Part {
+    Name,
+    Local,
+}
+
+fn skip_local_escape(text: &[char]) -> Option<&[char]>
+    ensures { Ends local_escape text.now result }
+{
+    if let Some(digits) = accept(text, '%') {
+        let last = accept_one(Class::Hex, digits)?;
+        return accept_one(Class::Hex, last);
+    }
+    let after = accept(text, '\\')?;
+    accept_one(Class::LocalEscape, after)
+}
+
+fn skip_part(part: Part, text: &[char]) -> Option<&[char]>
+    ensures { Ends (part_of part) text.now result }
+{
+    match part {
+        Part::Name => accept_one(Class::NamePart, text),
+        Part::Local => {
+            if let Some(after) = accept_one(Class::LocalPart, text) {
+                return Some(after);
+            }
+            skip_local_escape(text)
+        }
+    }
+}
+
+/// What stands behind all parts at the front, with dots among them and not behind the last.
+fn skip_tail(part: Part, text: &[char]) -> &[char]
+    ensures { EndsAt (tail (part_of part)) text.now result.now }
+{
+    let mut rest = text;
+    'parts: loop {
+        let place = skip(Class::Dot, rest);
+        let Some(after) = skip_part(part, place) else {
+            return rest;
+        };
+        rest = after;
+    }
+}
+
+pub fn skip_namespace(text: &[char]) -> Option<&[char]>
+    ensures { Ends namespace text.now result }
+{
+    if let Some(after) = accept(text, ':') {
+        return Some(after);
+    }
+    let start = accept_one(Class::Base, text)?;
+    let end = skip_tail(Part::Name, start);
+    accept(end, ':')
+}
+
+fn skip_local_start(text: &[char]) -> Option<&[char]>
+    ensures { Ends (character is_local_start or local_escape) text.now result }
+{
+    if let Some(after) = accept_one(Class::LocalStart, text) {
+        return Some(after);
+    }
+    skip_local_escape(text)
+}
+
+fn skip_local(text: &[char]) -> Option<&[char]>
+    ensures { Ends local text.now result }
+{
+    let after = skip_local_start(text)?;
+    Some(skip_tail(Part::Local, after))
+}
+
+pub fn skip_prefixed_name(text: &[char]) -> Option<&[char]>
+    ensures { Ends prefixed_name text.now result }
+{
+    let after = skip_namespace(text)?;
+    skip_local(after)
+}
+
+pub fn skip_blank_label(text: &[char]) -> Option<&[char]>
+    ensures { Ends blank_label text.now result }
+{
+    let colon = accept(text, '_')?;
+    let label = accept(colon, ':')?;
+    let after = accept_one(Class::LabelStart, label)?;
+    Some(skip_tail(Part::Name, after))
+}
+
+pub fn skip_variable(text: &[char]) -> Option<&[char]>
+    ensures { Ends variable text.now result }
+{
+    let name = accept_one(Class::VariableSign, text)?;
+    let after = accept_one(Class::LabelStart, name)?;
+    Some(skip(Class::VariablePart, after))
+}
+
+/// ('-' [a-zA-Z0-9]+)*
+fn skip_subtags(text: &[char]) -> &[char]
+    ensures { EndsAt (many (is 45 ▸ some (character is_letter_or_digit))) text.now result.now }
+{
+    let mut rest = text;
+    'subtags: loop {
+        let Some(hyphen) = accept(rest, '-') else {
+            return rest;
+        };
+        let Some(after) = skip_some(Class::LetterOrDigit, hyphen) else {
+            return rest;
+        };
+        rest = after;
+    }
+}
+
+pub fn skip_language_tag(text: &[char]) -> Option<&[char]>
+    ensures { Ends language_tag text.now result }
+{
+    let tag = accept(text, '@')?;
+    let first = skip_some(Class::Letter, tag)?;
+    Some(skip_subtags(first))
+}
