@@ -17,3 +17,4 @@ pub mod PieceLaws
 pub mod KeyLaws
 pub mod StepLaws
 pub mod NumberLaws
+pub mod WithinLaws

@@ -50,7 +50,8 @@ module _ {T : Type 0} (w : ℕ) where
 abbrev pub every_map : {T : Type 0} → (ℕ → Bool) → List T → ℕ → List (Solution T)
 every_map uses ts zero = [] ∷ []
 every_map uses ts (suc n) =
-    flat_map (λ x. map (λ μ. x ∷ μ) (every_map (λ k. uses (suc k)) ts n)) (if uses 0 then map Some ts else (None ∷ []))
+    flat_map (λ x. map (λ μ. x ∷ μ) (every_map (λ k. uses (suc k)) ts n))
+    (if uses 0 then map Some ts else (None ∷ []))
 
 -- what stands in the triples of the graph, with repeats
 abbrev pub occurring : {T : Type 0} → List (Triple T) → List T
@@ -64,14 +65,16 @@ module _ {T : Type 0} (same : T → T → Bool) where
   -- the map takes the triple pattern to the triple g
   abbrev pub takes_to : ℕ → Solution T → TriplePattern T → Triple T → Bool
   takes_to w μ t g =
-      option_eq same (image w μ t.s) (Some g.s) && option_eq same (image w μ t.p) (Some g.p) && option_eq same (image w μ t.o) (Some g.o)
+      option_eq same (image w μ t.s) (Some g.s)
+      && option_eq same (image w μ t.p) (Some g.p)
+      && option_eq same (image w μ t.o) (Some g.o)
 
   -- the map takes each triple pattern of P to a triple of the graph
   abbrev pub is_in : ℕ → List (TriplePattern T) → List (Triple T) → Solution T → Bool
   is_in w P G μ = list_all (λ t. list_any (takes_to w μ t) G) P
 
   -- The solutions of the pattern P with w variables and l blank labels over the graph G: every map
-  -- that makes P a part of G, without its labels. Solutions that differ in labels alone are repeats,
-  -- and are kept. The empty pattern has the one solution that binds nothing.
+  -- that makes P a part of G, without its labels. Maps that differ in labels alone give repeats,
+  -- and these are kept. The empty pattern has the one solution that binds nothing.
   abbrev pub bgp : ℕ → ℕ → List (TriplePattern T) → List (Triple T) → List (Solution T)
   bgp w l P G = map (take w) (filter (is_in w P G) (every_map (occurs w P) (terms G) (w + l)))

@@ -20,4 +20,5 @@ module _ {T : Type 0} (same : T → T → Bool) (vs : List ℕ) where
 
   -- those of B that have the key of μ, and behind them those with an unbound key variable
   abbrev pub candidates : Solution T → List (Solution T) → List (Solution T)
-  candidates μ B = filter (λ ν. is_keyed vs ν && same_key μ ν) B ++ filter (λ ν. not (is_keyed vs ν)) B
+  candidates μ B =
+      filter (λ ν. is_keyed vs ν && same_key μ ν) B ++ filter (λ ν. not (is_keyed vs ν)) B

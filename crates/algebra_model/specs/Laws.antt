@@ -17,38 +17,49 @@ use Rattle.algebra_model.specs.Solve.{solve, extend_by, agrees_with, AreBelow, l
 use Rattle.algebra_model.specs.Keys.{is_keyed, same_key}
 use Rattle.algebra_model.specs.Pieces.{joined}
 
--- Solutions of terms, and lists of them.
+-- A solution of terms.
 abbrev pub Row : Type 0
 Row = Solution Term
 
 -- A list is a bag by how often it has each solution.
 abbrev pub BagIsItsCounts : Type 0
-BagIsItsCounts = (A B : List Row) → IsSameBag A B ↔ ((μ : Row) → count_by (same_solution term_eq μ) A ≡ count_by (same_solution term_eq μ) B)
+BagIsItsCounts = (A B : List Row)
+    → IsSameBag A B
+    ↔ ((μ : Row) → count_by (same_solution term_eq μ) A ≡ count_by (same_solution term_eq μ) B)
 
 -- The maps that are built triple by triple are the maps that are found by trying all.
 abbrev pub BuiltIsTried : Type 0
-BuiltIsTried = (w l : ℕ) (P : List (TriplePattern Term)) (G : List (Triple Term)) → IsWithoutRepeats (same_triple_by term_eq) G → AreBelow w (w + l) P
-    → IsSameBag (map (take w) (solve term_eq w P G (replicate (w + l) None))) (bgp term_eq w l P G)
+BuiltIsTried = (w l : ℕ) (P : List (TriplePattern Term)) (G : List (Triple Term))
+    → IsWithoutRepeats (same_triple_by term_eq) G
+    → AreBelow w (w + l) P
+    → IsSameBag (map (take w) (solve term_eq w P G (replicate (w + l) None)))
+    (bgp term_eq w l P G)
 
 -- The triples of a pattern may be taken in any order.
 abbrev pub PatternHasNoOrder : Type 0
-PatternHasNoOrder = (w l : ℕ) (P Q : List (TriplePattern Term)) → IsPermutation P Q → (G : List (Triple Term)) → bgp term_eq w l P G ≡ bgp term_eq w l Q G
+PatternHasNoOrder = (w l : ℕ) (P Q : List (TriplePattern Term))
+    → IsPermutation P Q
+    → (G : List (Triple Term)) → bgp term_eq w l P G ≡ bgp term_eq w l Q G
 
 -- A map may be extended over the triples alone that agree with it.
 abbrev pub ScanIsEnough : Type 0
-ScanIsEnough = (w : ℕ) (t : TriplePattern Term) (m : Row) (S G : List (Triple Term)) → IsPermutation S (filter (agrees_with term_eq w t m) G)
+ScanIsEnough = (w : ℕ) (t : TriplePattern Term) (m : Row) (S G : List (Triple Term))
+    → IsPermutation S (filter (agrees_with term_eq w t m) G)
     → IsSameBag (filter_map (extend_by term_eq w t m) S) (filter_map (extend_by term_eq w t m) G)
 
 -- A dataset is a set: only which quads it has counts.
 abbrev pub DatasetIsSet : Type 0
-DatasetIsSet = (w : ℕ) (D E : List QuadParts) → IsSameSet D E → (g : Option Term) (A : Algebra) → IsSameBag (eval w D g A) (eval w E g A)
+DatasetIsSet = (w : ℕ) (D E : List QuadParts)
+    → IsSameSet D E
+    → (g : Option Term) (A : Algebra) → IsSameBag (eval w D g A) (eval w E g A)
 
 -- Every operator makes equal bags of equal bags.
 abbrev pub KeepsBags : (List Row → List Row) → Type 0
 KeepsBags F = (A A' : List Row) → IsSameBag A A' → IsSameBag (F A) (F A')
 
 abbrev pub KeepsBagsOfTwo : (List Row → List Row → List Row) → Type 0
-KeepsBagsOfTwo F = (A A' B B' : List Row) → IsSameBag A A' → IsSameBag B B' → IsSameBag (F A B) (F A' B')
+KeepsBagsOfTwo F = (A A' B B' : List Row)
+    → IsSameBag A A' → IsSameBag B B' → IsSameBag (F A B) (F A' B')
 
 abbrev pub JoinKeepsBags : Type 0
 JoinKeepsBags = KeepsBagsOfTwo (join term_eq)
@@ -84,56 +95,94 @@ IsReading n f = (x y : ℕ) → x < n → y < n → f x ≡ f y → x ≡ y
 abbrev pub AreInRange : ℕ → List (Solution ℕ) → Type 0
 AreInRange n A = Each (EachBound (λ x. x < n)) A
 
+-- numbered solutions, read as terms
+abbrev pub read : (ℕ → Term) → List (Solution ℕ) → List Row
+read f A = map (read_row f) A
+
 -- An operator at numbers, read as terms, is the operator of the bags so read.
+abbrev pub PatternIsRead : Type 0
+PatternIsRead = (n : ℕ) (f : ℕ → Term)
+    → IsReading n f
+    → (w l : ℕ) (P : List (TriplePattern ℕ)) (G : List (Triple ℕ))
+    → IsWithoutRepeats (same_triple_by nat_eq) G
+    → AreBelow w (w + l) P
+    → Each (EachOfPattern (λ x. x < n)) P
+    → Each (EachOfTriple (λ x. x < n)) G
+    → IsSameBag (read f (bgp nat_eq w l P G))
+    (bgp term_eq w l (map (read_pattern f) P) (map (read_triple f) G))
+
 abbrev pub JoinIsRead : Type 0
-JoinIsRead = (n : ℕ) (f : ℕ → Term) → IsReading n f → (A B : List (Solution ℕ)) → AreInRange n A → AreInRange n B
-    → IsSameBag (map (read_row f) (join nat_eq A B)) (join term_eq (map (read_row f) A) (map (read_row f) B))
+JoinIsRead = (n : ℕ) (f : ℕ → Term)
+    → IsReading n f
+    → (A B : List (Solution ℕ))
+    → AreInRange n A
+    → AreInRange n B
+    → IsSameBag (read f (join nat_eq A B)) (join term_eq (read f A) (read f B))
 
 abbrev pub LeftJoinIsRead : Type 0
-LeftJoinIsRead = (n : ℕ) (f : ℕ → Term) → IsReading n f → (keeps : Row → Bool) (A B : List (Solution ℕ)) → AreInRange n A → AreInRange n B
-    → IsSameBag (map (read_row f) (left_join nat_eq (λ μ. keeps (read_row f μ)) A B)) (left_join term_eq keeps (map (read_row f) A) (map (read_row f) B))
+LeftJoinIsRead = (n : ℕ) (f : ℕ → Term)
+    → IsReading n f
+    → (keeps : Row → Bool) (A B : List (Solution ℕ))
+    → AreInRange n A
+    → AreInRange n B
+    → IsSameBag (read f (left_join nat_eq (λ μ. keeps (read_row f μ)) A B))
+    (left_join term_eq keeps (read f A) (read f B))
 
 abbrev pub MinusIsRead : Type 0
-MinusIsRead = (n : ℕ) (f : ℕ → Term) → IsReading n f → (A B : List (Solution ℕ)) → AreInRange n A → AreInRange n B
-    → IsSameBag (map (read_row f) (minus nat_eq A B)) (minus term_eq (map (read_row f) A) (map (read_row f) B))
+MinusIsRead = (n : ℕ) (f : ℕ → Term)
+    → IsReading n f
+    → (A B : List (Solution ℕ))
+    → AreInRange n A
+    → AreInRange n B
+    → IsSameBag (read f (minus nat_eq A B)) (minus term_eq (read f A) (read f B))
 
 abbrev pub UnionIsRead : Type 0
-UnionIsRead = (f : ℕ → Term) (A B : List (Solution ℕ)) → IsSameBag (map (read_row f) (A ++ B)) (map (read_row f) A ++ map (read_row f) B)
+UnionIsRead = (f : ℕ → Term) (A B : List (Solution ℕ))
+    → IsSameBag (read f (A ++ B)) (read f A ++ read f B)
 
 abbrev pub FilterIsRead : Type 0
 FilterIsRead = (f : ℕ → Term) (keeps : Row → Bool) (A : List (Solution ℕ))
-    → IsSameBag (map (read_row f) (filter (λ μ. keeps (read_row f μ)) A)) (filter keeps (map (read_row f) A))
+    → IsSameBag (read f (filter (λ μ. keeps (read_row f μ)) A)) (filter keeps (read f A))
 
+-- `number` gives the number of the value
 abbrev pub ExtendIsRead : Type 0
-ExtendIsRead = (f : ℕ → Term) (v : ℕ) (number : Solution ℕ → Option ℕ) (value : Row → Option Term) → ((μ : Solution ℕ) → value (read_row f μ) ≡ option_map f (number μ))
-    → (A : List (Solution ℕ)) → IsSameBag (map (read_row f) (extend v number A)) (extend v value (map (read_row f) A))
+ExtendIsRead = (f : ℕ → Term) (number : Solution ℕ → Option ℕ) (value : Row → Option Term)
+    → ((μ : Solution ℕ) → value (read_row f μ) ≡ option_map f (number μ))
+    → (v : ℕ) (A : List (Solution ℕ))
+    → IsSameBag (read f (extend v number A)) (extend v value (read f A))
 
 abbrev pub ProjectIsRead : Type 0
-ProjectIsRead = (f : ℕ → Term) (vs : List ℕ) (A : List (Solution ℕ)) → IsSameBag (map (read_row f) (project vs A)) (project vs (map (read_row f) A))
+ProjectIsRead = (f : ℕ → Term) (vs : List ℕ) (A : List (Solution ℕ))
+    → IsSameBag (read f (project vs A)) (project vs (read f A))
 
 abbrev pub DistinctIsRead : Type 0
-DistinctIsRead = (n : ℕ) (f : ℕ → Term) → IsReading n f → (A : List (Solution ℕ)) → AreInRange n A
-    → IsSameBag (map (read_row f) (distinct nat_eq A)) (distinct term_eq (map (read_row f) A))
+DistinctIsRead = (n : ℕ) (f : ℕ → Term)
+    → IsReading n f
+    → (A : List (Solution ℕ))
+    → AreInRange n A
+    → IsSameBag (read f (distinct nat_eq A)) (distinct term_eq (read f A))
 
 abbrev pub TableIsRead : Type 0
-TableIsRead = (f : ℕ → Term) (w : ℕ) (vs : List ℕ) (rows : List (List (Option ℕ))) → IsSameBag (map (read_row f) (table w vs rows)) (table w vs (map (read_row f) rows))
-
-abbrev pub PatternIsRead : Type 0
-PatternIsRead = (n : ℕ) (f : ℕ → Term) → IsReading n f → (w l : ℕ) (P : List (TriplePattern ℕ)) (G : List (Triple ℕ)) → IsWithoutRepeats (same_triple_by nat_eq) G → AreBelow w (w + l) P
-    → Each (EachOfPattern (λ x. x < n)) P → Each (EachOfTriple (λ x. x < n)) G
-    → IsSameBag (map (read_row f) (bgp nat_eq w l P G)) (bgp term_eq w l (map (read_pattern f) P) (map (read_triple f) G))
+TableIsRead = (f : ℕ → Term) (w : ℕ) (vs : List ℕ) (rows : List (List (Option ℕ)))
+    → IsSameBag (read f (table w vs rows)) (table w vs (read f rows))
 
 -- LeftJoin may be taken solution by solution.
 abbrev pub LeftJoinGoesByRow : Type 0
-LeftJoinGoesByRow = (keeps : Row → Bool) (A B : List Row) → IsSameBag (flat_map (left_row term_eq keeps B) A) (left_join term_eq keeps A B)
-
--- Solutions that both bind all key variables, but not to the same terms, are incompatible.
-abbrev pub KeysApart : Type 0
-KeysApart = (vs : List ℕ) (μ ν : Row) → is_keyed vs μ ≡ true → is_keyed vs ν ≡ true → same_key term_eq vs μ ν ≡ false → is_compatible term_eq μ ν ≡ false
+LeftJoinGoesByRow = (keeps : Row → Bool) (A B : List Row)
+    → IsSameBag (flat_map (left_row term_eq keeps B) A) (left_join term_eq keeps A B)
 
 -- What is done to the pieces of a list, joined, is what is done to the list.
 abbrev pub PiecesJoin : Type 0
-PiecesJoin = (f : Row → List Row) (pieces : List (List Row)) → flat_map f (joined pieces) ≡ joined (map (flat_map f) pieces)
+PiecesJoin = (f : Row → List Row) (pieces : List (List Row))
+    → flat_map f (joined pieces) ≡ joined (map (flat_map f) pieces)
+
+-- Solutions that both bind all key variables, but not to the same terms, are incompatible.
+abbrev pub KeysApart : Type 0
+KeysApart = (vs : List ℕ) (μ ν : Row)
+    → is_keyed vs μ ≡ true
+    → is_keyed vs ν ≡ true
+    → same_key term_eq vs μ ν ≡ false
+    → is_compatible term_eq μ ν ≡ false
 
 -- Solutions that tie in the order of rows have the same row.
 abbrev pub TiesAreEqual : Type 0
@@ -148,8 +197,12 @@ SortedIsRising = (vs : List ℕ) (A : List Row) → IsRising cells_cmp (sorted_r
 
 -- No other list of rows is the same bag and rises.
 abbrev pub SortedIsUnique : Type 0
-SortedIsUnique = (vs : List ℕ) (A : List Row) (rows : List (List (Option Term))) → IsSameBag (map (cells vs) A) rows → IsRising cells_cmp rows → rows ≡ sorted_rows vs A
+SortedIsUnique = (vs : List ℕ) (A : List Row) (rows : List (List (Option Term)))
+    → IsSameBag (map (cells vs) A) rows
+    → IsRising cells_cmp rows
+    → rows ≡ sorted_rows vs A
 
 -- Equal bags have one list of sorted rows.
 abbrev pub BagHasOneList : Type 0
-BagHasOneList = (vs : List ℕ) (A B : List Row) → IsSameBag A B → sorted_rows vs A ≡ sorted_rows vs B
+BagHasOneList = (vs : List ℕ) (A B : List Row)
+    → IsSameBag A B → sorted_rows vs A ≡ sorted_rows vs B

@@ -18,3 +18,4 @@ pub mod Solve
 pub mod Keys
 pub mod Pieces
 pub mod Laws
+pub mod Examples

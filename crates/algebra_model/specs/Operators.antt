@@ -37,9 +37,11 @@ module _ {T : Type 0} (same : T → T → Bool) where
   -- LeftJoin, where `keeps` tells whether the condition is true of a solution: the joined solutions
   -- that it keeps, and each of A for which every one of B is incompatible, or compatible with the
   -- condition not true of the merge
-  abbrev pub left_join : (Solution T → Bool) → List (Solution T) → List (Solution T) → List (Solution T)
+  abbrev pub left_join :
+      (Solution T → Bool) → List (Solution T) → List (Solution T) → List (Solution T)
   left_join keeps A B =
-      filter keeps (join A B) ++ filter (λ μ. list_all (λ ν. not (is_compatible same μ ν && keeps (merge μ ν))) B) A
+      filter keeps (join A B)
+      ++ filter (λ μ. list_all (λ ν. not (is_compatible same μ ν && keeps (merge μ ν))) B) A
 
   -- Minus: each of A for which every one of B is incompatible or shares no bound variable with it
   abbrev pub minus : List (Solution T) → List (Solution T) → List (Solution T)
@@ -50,15 +52,16 @@ module _ {T : Type 0} (same : T → T → Bool) where
   distinct A = without_repeats (same_solution same) A
 
 -- Extend: the value of each solution is bound to v; an error, which is no value, leaves it as it is
-abbrev pub extend : {T : Type 0} → ℕ → (Solution T → Option T) → List (Solution T) → List (Solution T)
+abbrev pub extend :
+    {T : Type 0} → ℕ → (Solution T → Option T) → List (Solution T) → List (Solution T)
 extend v value A = map (λ μ. bind v (value μ) μ) A
 
 -- Project: all solutions, each on the listed variables alone
 abbrev pub project : {T : Type 0} → List ℕ → List (Solution T) → List (Solution T)
 project vs A = map (restrict (λ v. list_any (λ u. u == v) vs)) A
 
--- one row of a table: of w variables the listed ones are bound to the cells, but not where a cell is
--- `None`, which is UNDEF
+-- one row of a table: of w variables the listed ones are bound to the cells, but not where a cell
+-- is `None`, which is UNDEF
 abbrev pub table_row : {T : Type 0} → ℕ → List ℕ → List (Option T) → Solution T
 table_row w [] cells = replicate w None
 table_row w (v ∷ vs) [] = replicate w None

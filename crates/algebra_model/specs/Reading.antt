@@ -1,5 +1,5 @@
--- Solutions, patterns and triples of one type of terms, read as those of another. Words for laws and
--- for proofs; the definitions of the algebra do not cite them.
+-- Solutions, patterns and triples of one type of terms, read as those of another. Words for laws
+-- and proofs; the definitions of the algebra do not cite them.
 use Rattle.std.specs.Prelude.{List, [], ◌∷◌, None, Some, map, option_map}
 use Rattle.algebra_model.specs.Solution.{Solution}
 use Rattle.algebra_model.specs.Bgp.{Triple, PatternTerm, TriplePattern, variable, label, constant}

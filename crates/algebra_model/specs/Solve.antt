@@ -30,10 +30,12 @@ module _ {T : Type 0} (same : T → T → Bool) where
   abbrev pub extend_by : ℕ → TriplePattern T → Solution T → Triple T → Option (Solution T)
   extend_by w t m g = then_bind w (then_bind w (then_bind w (Some m) t.s g.s) t.p g.p) t.o g.o
 
-  -- the triple agrees with the map wherever the map or the pattern holds a term: what a scan selects
+  -- the triple agrees with the map wherever the pattern or the map has a term: what a scan selects
   abbrev pub agrees_with : ℕ → TriplePattern T → Solution T → Triple T → Bool
   agrees_with w t m g =
-      agree same (image w m t.s) (Some g.s) && agree same (image w m t.p) (Some g.p) && agree same (image w m t.o) (Some g.o)
+      agree same (image w m t.s) (Some g.s)
+      && agree same (image w m t.p) (Some g.p)
+      && agree same (image w m t.o) (Some g.o)
 
   -- the maps that extend m, triple by triple
   abbrev pub solve : ℕ → List (TriplePattern T) → List (Triple T) → Solution T → List (Solution T)
@@ -54,8 +56,9 @@ module _ {T : Type 0} where
   AreBelow w n [] = Unit {0}
   AreBelow w n (t ∷ ts) = IsTripleBelow w n t × AreBelow w n ts
 
--- LeftJoin, solution by solution: the merges that pass, and the solution itself where there is none
-module _ {T : Type 0} (same : T → T → Bool) (keeps : Solution T → Bool) (B : List (Solution T)) where
+-- LeftJoin, solution by solution: the merges that pass, and the solution itself where none does
+module _ {T : Type 0}
+    (same : T → T → Bool) (keeps : Solution T → Bool) (B : List (Solution T)) where
   abbrev pub alone : Solution T → Bool
   alone μ = list_all (λ ν. not (is_compatible same μ ν && keeps (merge μ ν))) B
 

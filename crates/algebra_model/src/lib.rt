@@ -21,4 +21,5 @@
 //! (`sparql_eval`), and any promise about time or memory.
 #![tactic(auto)]
 
+pub mod examples;
 pub mod laws;

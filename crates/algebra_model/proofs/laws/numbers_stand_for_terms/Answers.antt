@@ -36,7 +36,7 @@ returns-clause-filter c = λ f keeps A.
     (sym (filter-read (λ x y. term_eq (f x) (f y)) term_eq (λ _. Unit {0}) f (λ x y i j. refl) keeps (λ μ. keeps (read_row f μ)) (λ μ e. refl) A (nothing_asked_of_all A)))
 
 pub returns-clause-extend : goal.returns-clause-extend
-returns-clause-extend c = λ f v number value e A.
+returns-clause-extend c = λ f number value e v A.
     same_bag (map (read_row f) (extend v number A)) (extend v value (map (read_row f) A))
     (sym (extend-read (λ x y. term_eq (f x) (f y)) term_eq (λ _. Unit {0}) f (λ x y i j. refl) v value number (λ μ i. e μ) A (nothing_asked_of_all A)))
 
