@@ -1,9 +1,9 @@
 -- Numbers of any length: a form is digits, perhaps with a sign and a dot, and stands for a whole
 -- number with a sign over a power of ten (XML Schema 1.1 Part 2, sections 3.3.3 and 3.4.13). The
 -- order of numbers is exact (SPARQL 1.1 Query Language, section 17.3).
-use Rattle.std.specs.Prelude.{ℕ, ◌+◌, ◌*◌, ◌^◌, Bool, false, not, ◌||◌, ◌==◌, ℤ, pos, neg_ℤ, List, [], ◌∷◌, ◌++◌, length, take, drop, Option, Some, None, if◌then◌else◌}
+use Rattle.std.specs.Prelude.{ℕ, ◌+◌, ◌*◌, ◌^◌, Bool, false, not, ◌||◌, ◌==◌, ℤ, pos, neg_ℤ, List, [], ◌∷◌, ◌++◌, length, drop, Option, Some, None, if◌then◌else◌}
 use Rattle.std.specs.Char.{is_ascii_digit}
-use Rattle.std.specs.List.{list_all, prefix_len}
+use Rattle.std.specs.List.{list_all, position_or_len, before_first}
 use Rattle.std.specs.Ordering.{int_cmp}
 use Rattle.std.specs.Str.Parse.{digits_value}
 use Rattle.std.specs.declared.cmp.Ordering.{Ordering}
@@ -38,14 +38,14 @@ is_numeral [] = false
 is_numeral (c ∷ cs) = list_all is_ascii_digit (c ∷ cs)
 
 -- what stands before the first dot, and behind it
-abbrev pub dot_place : List ℕ → ℕ
-dot_place = prefix_len (λ c. not (c == dot))
+abbrev pub is_dot : ℕ → Bool
+is_dot c = c == dot
 
 abbrev pub whole_part : List ℕ → List ℕ
-whole_part text = take (dot_place text) text
+whole_part text = before_first is_dot text
 
 abbrev pub fraction_part : List ℕ → List ℕ
-fraction_part text = drop (dot_place text + 1) text
+fraction_part text = drop (position_or_len is_dot text + 1) text
 
 -- the number whose sign, whole digits and fraction digits these are, where there is a digit and
 -- nothing but digits

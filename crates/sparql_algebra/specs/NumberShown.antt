@@ -1,0 +1,12 @@
+-- The number whose sign and digits a value of the program holds.
+use Rattle.std.specs.Prelude.{ℕ, Bool, List, ◌++◌, length}
+use Rattle.std.specs.Str.Parse.{digits_value}
+use Rattle.algebra_model.specs.Number.{Number}
+use Rattle.sparql_algebra.specs.declared.digits.Digits.{Digits}
+
+abbrev pub number_shown : Digits → Number
+number_shown d = record {
+  negative = d.negative;
+  digits = digits_value 10 (d.whole.now ++ d.fraction.now);
+  places = length d.fraction.now;
+}

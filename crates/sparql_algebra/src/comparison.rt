@@ -1,0 +1,131 @@
+//! Comparisons of terms and effective boolean values (SPARQL 1.1 Query Language, sections 17.2 and
+//! 17.3). None of them takes memory.
+ghost use Rattle.std.specs.Prelude.{◌≡◌, ◌&&◌};
+ghost use Rattle.algebra_model.specs.BooleanValue.{ebv, has_characters, value_ebv};
+ghost use Rattle.algebra_model.specs.Comparison.{compares, equal_by, is_literal, terms_equal, value_cmp, value_of};
+ghost use Rattle.sparql_algebra.specs.ExpressionOf.{comparison_of};
+ghost use Rattle.sparql_algebra.specs.ValueShown.{value_shown};
+
+use crate::literal::{LiteralValue, is_number_type, literal_value, value_of};
+use crate::number::{compare_numbers, is_zero};
+use rdf_core::Term;
+use rdf_core::vocabulary::XSD_BOOLEAN;
+use sparql_tree::Comparison;
+use std::cmp::Ordering;
+
+/// Whether the comparison holds of two terms, and None where that is an error (SPARQL 1.1 Query
+/// Language, sections 17.3 and 17.4.1.7).
+///
+/// Numbers of any length are compared exactly by their values, strings by code points, booleans
+/// with false first. Other terms have no order, not even a term and itself, and two literals
+/// that are not the same may or may not be equal, which is an error too.
+pub fn compare(operator: Comparison, left: &Term, right: &Term) -> Option<bool>
+    ensures compared { result ≡ compares (comparison_of operator) left.now right.now }
+{
+    let order = value_order(&value_of(left), &value_of(right));
+    match operator {
+        Comparison::Equal => equal_by(order, left, right),
+        Comparison::NotEqual => equal_by(order, left, right).map(|is_equal| !is_equal),
+        Comparison::Less => order.map(|order| order.is_lt()),
+        Comparison::Greater => order.map(|order| order.is_gt()),
+        Comparison::LessOrEqual => order.map(|order| order.is_le()),
+        Comparison::GreaterOrEqual => order.map(|order| order.is_ge()),
+    }
+}
+
+/// The effective boolean value of a term, and None where that is an error (SPARQL 1.1 Query
+/// Language, section 17.2.2).
+///
+/// An ill-formed number or boolean is false. An xsd:float or xsd:double is an error, ill-formed or
+/// not.
+pub fn truth(term: &Term) -> Option<bool>
+    ensures truth { result ≡ ebv term.now }
+{
+    match term {
+        Term::Literal {
+            lexical,
+            datatype,
+            tag: None,
+        } => value_truth(
+            &literal_value(lexical.as_str(), datatype.as_str()),
+            datatype.as_str(),
+        ),
+        Term::Literal {
+            lexical,
+            tag: Some(_),
+            ..
+        } => Some(has_characters(lexical.as_str())),
+        Term::Blank(_) | Term::Iri(_) => None,
+    }
+}
+
+fn value_truth(value: &LiteralValue, datatype: &str) -> Option<bool>
+    ensures truth { result ≡ value_ebv (value_shown value.now) datatype.now }
+{
+    match value {
+        LiteralValue::Boolean(value) => Some(*value),
+        LiteralValue::String(form) => Some(has_characters(form)),
+        LiteralValue::Number(digits) => Some(!is_zero(digits)),
+        LiteralValue::Other => {
+            if datatype == XSD_BOOLEAN || is_number_type(datatype) {
+                Some(false)
+            } else {
+                None
+            }
+        }
+    }
+}
+
+fn has_characters(form: &str) -> bool
+    ensures value { result ≡ has_characters form.now }
+{
+    !form.is_empty()
+}
+
+/// The order by value, where both are numbers, strings or booleans.
+fn value_order(left: &LiteralValue, right: &LiteralValue) -> Option<Ordering>
+    ensures order { result ≡ value_cmp (value_shown left.now) (value_shown right.now) }
+{
+    match left {
+        LiteralValue::Number(left) => match right {
+            LiteralValue::Number(right) => Some(compare_numbers(left, right)),
+            LiteralValue::Boolean(_) | LiteralValue::String(_) | LiteralValue::Other => None,
+        },
+        LiteralValue::String(left) => match right {
+            LiteralValue::String(right) => Some(left.cmp(right)),
+            LiteralValue::Boolean(_) | LiteralValue::Number(_) | LiteralValue::Other => None,
+        },
+        LiteralValue::Boolean(left) => match right {
+            LiteralValue::Boolean(right) => Some(left.cmp(right)),
+            LiteralValue::Number(_) | LiteralValue::String(_) | LiteralValue::Other => None,
+        },
+        LiteralValue::Other => None,
+    }
+}
+
+fn equal_by(order: Option<Ordering>, left: &Term, right: &Term) -> Option<bool>
+    ensures equal { result ≡ equal_by order left.now right.now }
+{
+    match order {
+        Some(order) => Some(order.is_eq()),
+        None => terms_equal(left, right),
+    }
+}
+
+fn terms_equal(left: &Term, right: &Term) -> Option<bool>
+    ensures equal { result ≡ terms_equal left.now right.now }
+{
+    if left == right {
+        Some(true)
+    } else if is_literal(left) && is_literal(right) {
+        None
+    } else {
+        Some(false)
+    }
+}
+
+fn is_literal(term: &Term) -> bool
+    ensures value { result ≡ is_literal term.now }
+{
+    matches!(term, Term::Literal { .. })
+}

@@ -1,0 +1,116 @@
+//! What a literal stands for, by its datatype and lexical form (SPARQL 1.1 Query Language, sections
+//! 17.1 and 17.2; XML Schema 1.1 Part 2, sections 3.3 and 3.4).
+ghost use Rattle.std.specs.Prelude.{◌≡◌, option_map};
+ghost use Rattle.std.specs.List.{list_any};
+ghost use Rattle.std.specs.Str.{bytes_eq};
+ghost use Rattle.algebra_model.specs.Comparison.{value_of};
+ghost use Rattle.algebra_model.specs.LiteralValue.{boolean_value, is_integer_type, is_number_type, literal_value, number_or_other};
+ghost use Rattle.sparql_algebra.specs.NumberShown.{number_shown};
+ghost use Rattle.sparql_algebra.specs.ValueShown.{value_shown};
+
+use crate::digits::Digits;
+use crate::number::{decimal_digits, integer_digits};
+use rdf_core::Term;
+use rdf_core::vocabulary::{XSD_BOOLEAN, XSD_DECIMAL, XSD_STRING};
+
+/// What a term stands for in a comparison by value.
+#[derive(Clone, Copy)]
+pub enum LiteralValue<'a> {
+    Number(Digits<'a>),
+    Boolean(bool),
+    String(&'a str),
+    /// All else: terms that are no literals, literals with a tag, ill-formed ones too.
+    Other,
+}
+
+/// What a term stands for.
+pub fn value_of(term: &Term) -> LiteralValue<'_>
+    ensures value { value_shown result ≡ value_of term.now }
+{
+    match term {
+        Term::Literal {
+            lexical,
+            datatype,
+            tag: None,
+        } => literal_value(lexical.as_str(), datatype.as_str()),
+        Term::Literal { tag: Some(_), .. } | Term::Blank(_) | Term::Iri(_) => LiteralValue::Other,
+    }
+}
+
+/// What a literal without a tag stands for.
+pub fn literal_value<'a>(form: &'a str, datatype: &str) -> LiteralValue<'a>
+    ensures value { value_shown result ≡ literal_value form.entry.now datatype.entry.now }
+{
+    if datatype == XSD_STRING {
+        LiteralValue::String(form)
+    } else if datatype == XSD_BOOLEAN {
+        boolean_value(form)
+    } else if datatype == XSD_DECIMAL {
+        number_or_other(decimal_digits(form.as_bytes()))
+    } else if is_integer_type(datatype) {
+        number_or_other(integer_digits(form.as_bytes()))
+    } else {
+        LiteralValue::Other
+    }
+}
+
+/// Whether the datatype is one of the numbers that are compared by value.
+pub fn is_number_type(datatype: &str) -> bool
+    ensures value { result ≡ is_number_type datatype.now }
+{
+    datatype == XSD_DECIMAL || is_integer_type(datatype)
+}
+
+fn number_or_other(digits: Option<Digits<'_>>) -> LiteralValue<'_>
+    ensures value { value_shown result ≡ number_or_other (option_map number_shown digits.entry) }
+{
+    match digits {
+        Some(digits) => LiteralValue::Number(digits),
+        None => LiteralValue::Other,
+    }
+}
+
+fn boolean_value(form: &str) -> LiteralValue<'_>
+    ensures value { value_shown result ≡ boolean_value form.now }
+{
+    match form {
+        "true" | "1" => LiteralValue::Boolean(true),
+        "false" | "0" => LiteralValue::Boolean(false),
+        _ => LiteralValue::Other,
+    }
+}
+
+/// Whether the datatype is xsd:integer or one derived from it.
+fn is_integer_type(datatype: &str) -> bool
+    ensures value { result ≡ is_integer_type datatype.now }
+{
+    is_one_of(datatype, &INTEGER_TYPES)
+}
+
+fn is_one_of(name: &str, names: &[&str]) -> bool
+    ensures value { result ≡ list_any (λ other. bytes_eq name.now other.now) names.now }
+{
+    for other in names {
+        if name == *other {
+            return true;
+        }
+    }
+    false
+}
+
+/// xsd:integer and the types derived from it.
+const INTEGER_TYPES: [&str; 13] = [
+    "http://www.w3.org/2001/XMLSchema#integer",
+    "http://www.w3.org/2001/XMLSchema#nonPositiveInteger",
+    "http://www.w3.org/2001/XMLSchema#negativeInteger",
+    "http://www.w3.org/2001/XMLSchema#long",
+    "http://www.w3.org/2001/XMLSchema#int",
+    "http://www.w3.org/2001/XMLSchema#short",
+    "http://www.w3.org/2001/XMLSchema#byte",
+    "http://www.w3.org/2001/XMLSchema#nonNegativeInteger",
+    "http://www.w3.org/2001/XMLSchema#unsignedLong",
+    "http://www.w3.org/2001/XMLSchema#unsignedInt",
+    "http://www.w3.org/2001/XMLSchema#unsignedShort",
+    "http://www.w3.org/2001/XMLSchema#unsignedByte",
+    "http://www.w3.org/2001/XMLSchema#positiveInteger",
+];

@@ -1,0 +1,175 @@
+//! Numbers of any length, by the digits of their texts (XML Schema 1.1 Part 2, sections 3.3.3 and
+//! 3.4.13). Two numbers are compared in place and in linear time, without wide numbers.
+ghost use Rattle.std.specs.Prelude.{◌≡◌, ◌==◌, ◌&&◌, ◌++◌, get_or, option_map};
+ghost use Rattle.std.specs.Char.{is_ascii_digit};
+ghost use Rattle.std.specs.List.{list_all, position_or_len};
+ghost use Rattle.algebra_model.specs.Number.{decimal_number, fraction_part, integer_number, is_dot, is_negative, is_numeral, is_zero, number_cmp, number_of_parts, unsigned, whole_part};
+ghost use Rattle.sparql_algebra.specs.Digits.{fraction_order, size_order, without_leading_zeros};
+ghost use Rattle.sparql_algebra.specs.NumberShown.{number_shown};
+
+use crate::digits::Digits;
+use std::cmp::Ordering;
+
+/// The digits of a decimal's lexical form, and None where it is ill-formed.
+pub fn decimal_digits(form: &[u8]) -> Option<Digits<'_>>
+    ensures number { option_map number_shown result ≡ decimal_number form.now }
+{
+    let (negative, text) = split_sign(form);
+    let (whole, fraction) = split_dot(text);
+    digits_of_parts(negative, whole, fraction)
+}
+
+/// The digits of an integer's lexical form, and None where it is ill-formed.
+pub fn integer_digits(form: &[u8]) -> Option<Digits<'_>>
+    ensures number { option_map number_shown result ≡ integer_number form.now }
+{
+    let (negative, whole) = split_sign(form);
+    digits_of_parts(negative, whole, &[])
+}
+
+/// Whether the number is zero, with either sign.
+pub fn is_zero(number: &Digits) -> bool
+    ensures zero { result ≡ is_zero (number_shown number.now) }
+{
+    are_zeros(number.whole) && are_zeros(number.fraction)
+}
+
+/// The order of two numbers.
+pub fn compare_numbers(left: &Digits, right: &Digits) -> Ordering
+    ensures order { result ≡ number_cmp (number_shown left.now) (number_shown right.now) }
+{
+    if left.negative == right.negative {
+        if left.negative {
+            compare_sizes(right, left)
+        } else {
+            compare_sizes(left, right)
+        }
+    } else if are_both_zero(left, right) {
+        Ordering::Equal
+    } else if left.negative {
+        Ordering::Less
+    } else {
+        Ordering::Greater
+    }
+}
+
+fn are_both_zero(left: &Digits, right: &Digits) -> bool
+    ensures zero { result ≡ (is_zero (number_shown left.now) && is_zero (number_shown right.now)) }
+{
+    is_zero(left) && is_zero(right)
+}
+
+/// Whether a minus stands in front, and what stands behind the sign.
+fn split_sign(form: &[u8]) -> (bool, &[u8])
+    ensures sign { result.0 ≡ is_negative form.now }
+    ensures rest { result.1.now ≡ unsigned form.now }
+{
+    match form {
+        [b'-', rest @ ..] => (true, rest),
+        [b'+', rest @ ..] => (false, rest),
+        _ => (false, form),
+    }
+}
+
+/// What stands before the first dot, and behind it.
+fn split_dot(text: &[u8]) -> (&[u8], &[u8])
+    ensures whole { result.0.now ≡ whole_part text.now }
+    ensures fraction { result.1.now ≡ fraction_part text.now }
+{
+    let place = dot_place(text);
+    if place < text.len() {
+        (&text[..place], &text[place + 1..])
+    } else {
+        (text, &[])
+    }
+}
+
+/// The place of the first dot, or the length where there is none.
+fn dot_place(text: &[u8]) -> usize
+    ensures place { result ≡ position_or_len is_dot text.now }
+{
+    text.iter().take_while(|c| **c != b'.').count()
+}
+
+/// The number of these parts, where there is a digit and nothing but digits.
+fn digits_of_parts<'a>(negative: bool, whole: &'a [u8], fraction: &'a [u8]) -> Option<Digits<'a>>
+    ensures number { option_map number_shown result ≡ number_of_parts negative whole.entry.now fraction.entry.now }
+{
+    if is_numeral(whole, fraction) {
+        Some(Digits {
+            negative,
+            whole,
+            fraction,
+        })
+    } else {
+        None
+    }
+}
+
+/// Whether there is a digit, and nothing but digits.
+fn is_numeral(whole: &[u8], fraction: &[u8]) -> bool
+    ensures value { result ≡ is_numeral (whole.now ++ fraction.now) }
+{
+    if whole.is_empty() {
+        !fraction.is_empty() && are_digits(fraction)
+    } else {
+        are_digits(whole) && are_digits(fraction)
+    }
+}
+
+fn are_digits(text: &[u8]) -> bool
+    ensures value { result ≡ list_all is_ascii_digit text.now }
+{
+    text.iter().all(|c| c.is_ascii_digit())
+}
+
+fn are_zeros(digits: &[u8]) -> bool
+    ensures value { result ≡ list_all (λ c. c == 48) digits.now }
+{
+    digits.iter().all(|c| *c == b'0')
+}
+
+/// The order of two numbers without their signs.
+fn compare_sizes(left: &Digits, right: &Digits) -> Ordering
+    ensures order { result ≡ size_order left.now.whole.now left.now.fraction.now right.now.whole.now right.now.fraction.now }
+{
+    let left_whole = without_leading_zeros(left.whole);
+    let right_whole = without_leading_zeros(right.whole);
+    left_whole
+        .len()
+        .cmp(&right_whole.len())
+        .then(left_whole.cmp(right_whole))
+        .then(compare_fractions(left.fraction, right.fraction))
+}
+
+fn without_leading_zeros(digits: &[u8]) -> &[u8]
+    ensures value { result.now ≡ without_leading_zeros digits.now }
+{
+    let mut rest = digits;
+    while let [b'0', behind @ ..] = rest {
+        rest = behind;
+    }
+    rest
+}
+
+/// The order of two lists of digits behind a dot, where zeros follow each.
+fn compare_fractions(left: &[u8], right: &[u8]) -> Ordering
+    ensures order { result ≡ fraction_order left.now right.now }
+{
+    for place in 0..left.len().max(right.len()) {
+        let order = digit_at(left, place).cmp(&digit_at(right, place));
+        if order.is_ne() {
+            return order;
+        }
+    }
+    Ordering::Equal
+}
+
+fn digit_at(digits: &[u8], place: usize) -> u8
+    ensures value { result ≡ get_or digits.now place 48 }
+{
+    match digits.get(place) {
+        Some(digit) => *digit,
+        None => b'0',
+    }
+}
