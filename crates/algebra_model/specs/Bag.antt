@@ -1,5 +1,5 @@
--- Bags: lists in which the order does not count (SPARQL 1.1 Query Language, section 18.1.8,
--- multisets of solution mappings).
+-- Bags: lists in which the order does not count (SPARQL 1.1 Query Language, section 18.3, multisets
+-- of solution mappings).
 use Rattle.std.specs.Prelude.{◌≡◌, Bool, false, not, List, [], ◌∷◌, filter, IsPermutation, Contains, ◌↔◌, ⊤}
 use Rattle.std.specs.List.{list_any}
 

@@ -67,6 +67,6 @@ table_row w [] cells = replicate w None
 table_row w (v ∷ vs) [] = replicate w None
 table_row w (v ∷ vs) (x ∷ cells) = set (table_row w vs cells) v x
 
--- a table of VALUES (section 18.2.4.3, inline data): one solution a row
+-- a table of VALUES (section 18.2.2.6, inline data): one solution a row
 abbrev pub table : {T : Type 0} → ℕ → List ℕ → List (List (Option T)) → List (Solution T)
 table w vs rows = map (table_row w vs) rows
