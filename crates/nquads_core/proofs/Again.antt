@@ -14,20 +14,24 @@ use Rattle.rdf_core.specs.declared.term.Term.{Term}
 use Rattle.rdf_core.specs.QuadParts.{QuadParts}
 use Rattle.rdf_core.specs.declared.term.Term.TheVariants.{Blank, Iri, Literal}
 use Rattle.rdf_core.specs.Spelling.{spelling, suffix, escaped}
-use Rattle.nquads_core.specs.declared.delimited.Kind.TheVariants.{Iri, Quoted}
-use Rattle.nquads_core.specs.Characters.{is_iri_char, is_label_start, is_label_char, all_pass}
-use Rattle.nquads_core.specs.Terminal.{Terminal, iri_ref, blank_label, quoted, lang_tag, carets, dot, IsIriPart, IsStringPart, Writes, is_label, is_label_tail, is_tag, is_primary, is_subtags, begins, has_scheme}
-use Rattle.nquads_core.specs.Reading.{iri_at, string_at, label_tail_at, label_at, subtags_at, primary_at, tag_at, terminal_at, skip_blanks, next, literal_of, object_of, whole, statement_at, line_at}
+use Rattle.rdf_core.specs.declared.lexical.escapes.Inside.TheVariants.{Iri}
+use Rattle.rdf_core.specs.Characters.{is_iri_char, is_label_start, is_label_char, is_name_start, is_pn_chars_base, all_pass}
+use Rattle.rdf_core.specs.Characters.{begins}
+use Rattle.rdf_core.specs.Escapes.{IsIriPart, IsStringPart, Writes}
+use Rattle.rdf_core.specs.Lexical.{is_tag, is_tag_tail, is_subtags, has_scheme}
+use Rattle.nquads_core.specs.Terminal.{Terminal, iri_ref, blank_label, quoted, lang_tag, carets, dot, is_label, is_label_tail}
+use Rattle.nquads_core.specs.Reading.{iri_at, string_at, label_tail_at, label_at, subtags_at, tag_tail_at, tag_at, terminal_at, skip_blanks, next, literal_of, object_of, whole, statement_at, line_at}
 use Rattle.rdf_core.specs.Vocabulary.{xsd_string, rdf_lang_string}
 use Rattle.nquads_core.specs.Laws.{object_line, with_object, ReadsBack}
 use Rattle.std.specs.Str.{bytes_eq}
 use Rattle.std.proofs.lemmas.Slice.Eq.{bytes_eq-Decides}
 use lib.Utf8.{scalar}
 use Rattle.nquads_core.proofs.Spelled.{GoodText, GoodIri, GoodLabel, GoodTag, GoodTerm, term_good, sc_join}
-use Rattle.nquads_core.proofs.Escapes.{eqb_no}
-use Rattle.nquads_core.proofs.Runs.{which, ascii_cons, primary_ascii, alnum_ascii, alpha_ascii}
-use Rattle.nquads_core.proofs.EscapeLaws.{and_is, and_parts}
-use Rattle.nquads_core.proofs.BodyLaws.{body_again}
+use Rattle.rdf_core.proofs.EscapeSteps.{eqb_no}
+use Rattle.nquads_core.proofs.Runs.{ascii_cons, primary_ascii, alnum_ascii, alpha_ascii}
+use Rattle.rdf_core.proofs.EscapeSteps.{which}
+use Rattle.rdf_core.proofs.EscapeLaws.{and_is, and_parts}
+use Rattle.nquads_core.proofs.TokenSteps.{iri_body_again, string_body_again}
 use Rattle.nquads_core.proofs.LineLaws.{line_sound}
 use Rattle.nquads_core.proofs.Meaning.{OneLine}
 use Rattle.nquads_core.proofs.RunLaws.{or_no, or_parts, begins_more}
@@ -48,7 +52,7 @@ unfolding label_tail_at
 tail_dot c cs x xs rest h k e = rw (h, k, e) refl
 
 tail_stop : label_tail_at (32 ∷ 46 ∷ []) ≡ ([], 32 ∷ 46 ∷ [])
-unfolding label_tail_at is_label_char
+unfolding label_tail_at is_label_char is_label_start is_name_start is_pn_chars_base
 tail_stop = refl
 
 pair_cons : (c : ℕ) (t : List ℕ × List ℕ) (xs rest : List ℕ) → t ≡ (xs, rest) → ◌≡◌ {A = List ℕ × List ℕ} (c ∷ t.0, t.1) (c ∷ xs, rest)
@@ -101,26 +105,26 @@ subtags_again (c ∷ front) h =
     (or_mono (is_ascii_alphanumeric c) (eqb c 45 && begins is_ascii_alphanumeric front) (eqb c 45 && begins is_ascii_alphanumeric (front ++ End)) (more c front) p.0)
     (subtags_again front p.1)
 
-primary_alpha : (c : ℕ) (cs xs rest : List ℕ) → is_ascii_alphabetic c ≡ true → primary_at cs ≡ (xs, rest) → primary_at (c ∷ cs) ≡ (c ∷ xs, rest)
-unfolding primary_at
+primary_alpha : (c : ℕ) (cs xs rest : List ℕ) → is_ascii_alphabetic c ≡ true → tag_tail_at cs ≡ (xs, rest) → tag_tail_at (c ∷ cs) ≡ (c ∷ xs, rest)
+unfolding tag_tail_at
 primary_alpha c cs xs rest h e = rw (h, e) refl
 
-primary_hyphen : (c : ℕ) (cs xs rest : List ℕ) → is_ascii_alphabetic c ≡ false → (eqb c 45 && begins is_ascii_alphanumeric cs) ≡ true → subtags_at cs ≡ (xs, rest) → primary_at (c ∷ cs) ≡ (c ∷ xs, rest)
-unfolding primary_at
+primary_hyphen : (c : ℕ) (cs xs rest : List ℕ) → is_ascii_alphabetic c ≡ false → (eqb c 45 && begins is_ascii_alphanumeric cs) ≡ true → subtags_at cs ≡ (xs, rest) → tag_tail_at (c ∷ cs) ≡ (c ∷ xs, rest)
+unfolding tag_tail_at
 primary_hyphen c cs xs rest h k e = rw (h, k, e) refl
 
-primary_stop : primary_at (32 ∷ 46 ∷ []) ≡ ([], 32 ∷ 46 ∷ [])
-unfolding primary_at
+primary_stop : tag_tail_at (32 ∷ 46 ∷ []) ≡ ([], 32 ∷ 46 ∷ [])
+unfolding tag_tail_at
 primary_stop = refl
 
 hyphen_no_letter : (c : ℕ) → eqb c 45 ≡ true → is_ascii_alphabetic c ≡ false
 hyphen_no_letter c h = rw (eqb-true c 45 h) refl
 
-primary_again : (front : List ℕ) → is_primary front ≡ true → primary_at (front ++ End) ≡ (front, End)
+primary_again : (front : List ℕ) → is_tag_tail front ≡ true → tag_tail_at (front ++ End) ≡ (front, End)
 primary_again [] h = primary_stop
 primary_again (c ∷ front) h =
-    elim (or_parts (is_ascii_alphabetic c && is_primary front) ((eqb c 45 && begins is_ascii_alphanumeric front) && is_subtags front) h) [
-      | inl k ↦ let p = and_parts (is_ascii_alphabetic c) (is_primary front) k in primary_alpha c (front ++ End) front End p.0 (primary_again front p.1)
+    elim (or_parts (is_ascii_alphabetic c && is_tag_tail front) ((eqb c 45 && begins is_ascii_alphanumeric front) && is_subtags front) h) [
+      | inl k ↦ let p = and_parts (is_ascii_alphabetic c) (is_tag_tail front) k in primary_alpha c (front ++ End) front End p.0 (primary_again front p.1)
       | inr k ↦
           let p = and_parts (eqb c 45 && begins is_ascii_alphanumeric front) (is_subtags front) k in
           let q = and_parts (eqb c 45) (begins is_ascii_alphanumeric front) p.0 in
@@ -130,7 +134,7 @@ primary_again (c ∷ front) h =
 tag_again : (cs : List ℕ) → is_tag cs ≡ true → tag_at (cs ++ End) ≡ Some (map to_ascii_lowercase cs, End)
 unfolding tag_at
 tag_again cs h =
-    let p = and_parts (begins is_ascii_alphabetic cs) (is_primary cs) h in
+    let p = and_parts (begins is_ascii_alphabetic cs) (is_tag_tail cs) h in
     rw (begins_more is_ascii_alphabetic cs End p.0, primary_again cs p.1) refl
 
 -- the lower case of a tag is a tag
@@ -152,7 +156,7 @@ raw_iri (c ∷ cs) h = let p = and_parts (is_iri_char c) (all_pass is_iri_char c
 iri_again : (cs bytes rest : List ℕ) → all_pass is_iri_char cs ≡ true → bytes ≡ encode_utf8_all cs → has_scheme bytes ≡ true → iri_at (cs ++ 62 ∷ rest) ≡ Some (bytes, rest)
 unfolding iri_at
 iri_again cs bytes rest h u s =
-    rw (body_again Iri cs cs rest (raw_iri cs h), ← u, s) refl
+    rw (iri_body_again cs cs rest (raw_iri cs h), ← u, s) refl
 
 escaped_part : (c : ℕ) → IsStringPart (escaped c) c
 escaped_part c =
@@ -175,7 +179,8 @@ escaped_writes [] = refl
 escaped_writes (c ∷ cs) = (escaped c, flat_map escaped cs, refl, escaped_part c, escaped_writes cs)
 
 string_again : (cs rest : List ℕ) → string_at (flat_map escaped cs ++ 34 ∷ rest) ≡ Some (encode_utf8_all cs, rest)
-string_again cs rest = rw (body_again Quoted cs (flat_map escaped cs) rest (escaped_writes cs)) refl
+unfolding string_at
+string_again cs rest = string_body_again cs (flat_map escaped cs) rest (escaped_writes cs)
 
 -- ---- the lower case of a tag
 
@@ -187,7 +192,7 @@ lower_subtags : (cs : List ℕ) → is_subtags (map to_ascii_lowercase cs) ≡ i
 lower_subtags [] = refl
 lower_subtags (c ∷ cs) = rw (lower_alnum c, lower_hyphen c, lower_begins is_ascii_alphanumeric cs lower_alnum, lower_subtags cs) refl
 
-lower_primary : (cs : List ℕ) → is_primary (map to_ascii_lowercase cs) ≡ is_primary cs
+lower_primary : (cs : List ℕ) → is_tag_tail (map to_ascii_lowercase cs) ≡ is_tag_tail cs
 lower_primary [] = refl
 lower_primary (c ∷ cs) = rw (lower_alpha c, lower_hyphen c, lower_begins is_ascii_alphanumeric cs lower_alnum, lower_subtags cs, lower_primary cs) refl
 
@@ -221,11 +226,11 @@ none_join [] b h k = k
 none_join (c ∷ a) b h k = (h.0, none_join a b h.1 k)
 
 start_none : (c : ℕ) → is_label_start c ≡ true → is_line_end c ≡ false
-unfolding is_label_start
+unfolding is_label_start is_name_start is_pn_chars_base
 start_none c h = no_end is_label_start c refl refl h
 
 char_none : (c : ℕ) → (is_label_char c || eqb c 46) ≡ true → is_line_end c ≡ false
-unfolding is_label_char
+unfolding is_label_char is_label_start is_name_start is_pn_chars_base
 char_none c h = no_end (λ x. is_label_char x || eqb x 46) c refl refl h
 
 tail_none : (tail : List ℕ) → is_label_tail tail ≡ true → NonePass is_line_end tail
@@ -255,11 +260,11 @@ subtags_none (c ∷ cs) h =
     let p = and_parts (is_ascii_alphanumeric c || (eqb c 45 && begins is_ascii_alphanumeric cs)) (is_subtags cs) h in
     (alnum_none c (begins is_ascii_alphanumeric cs) p.0, subtags_none cs p.1)
 
-primary_none : (cs : List ℕ) → is_primary cs ≡ true → NonePass is_line_end cs
+primary_none : (cs : List ℕ) → is_tag_tail cs ≡ true → NonePass is_line_end cs
 primary_none [] h = tt
 primary_none (c ∷ cs) h =
-    elim (or_parts (is_ascii_alphabetic c && is_primary cs) ((eqb c 45 && begins is_ascii_alphanumeric cs) && is_subtags cs) h) [
-      | inl k ↦ let p = and_parts (is_ascii_alphabetic c) (is_primary cs) k in (alpha_none c p.0, primary_none cs p.1)
+    elim (or_parts (is_ascii_alphabetic c && is_tag_tail cs) ((eqb c 45 && begins is_ascii_alphanumeric cs) && is_subtags cs) h) [
+      | inl k ↦ let p = and_parts (is_ascii_alphabetic c) (is_tag_tail cs) k in (alpha_none c p.0, primary_none cs p.1)
       | inr k ↦
           let p = and_parts (eqb c 45 && begins is_ascii_alphanumeric cs) (is_subtags cs) k in
           let q = and_parts (eqb c 45) (begins is_ascii_alphanumeric cs) p.0 in
@@ -461,7 +466,7 @@ typed_literal lex dt g i =
           (carets, 60 ∷ (i.chars ++ 62 ∷ []) ++ End) (next_carets (60 ∷ (i.chars ++ 62 ∷ []) ++ End)) (rw iri (rw next_dot refl))
     ]
 
-tag_ascii : (cs : List ℕ) → is_primary cs ≡ true → encode_utf8_all cs ≡ cs
+tag_ascii : (cs : List ℕ) → is_tag_tail cs ≡ true → encode_utf8_all cs ≡ cs
 tag_ascii cs h = ap (λ (y : List ℕ × List ℕ). encode_utf8_all y.0) (sym (primary_again cs h)) ∙ primary_ascii (cs ++ End) ∙ ap (λ (y : List ℕ × List ℕ). y.0) (primary_again cs h)
 
 low_scalar : (c : ℕ) → c < 128 → scalar c ≡ true
@@ -473,11 +478,11 @@ subtags_scalars (c ∷ cs) h =
     let p = and_parts (is_ascii_alphanumeric c || (eqb c 45 && begins is_ascii_alphanumeric cs)) (is_subtags cs) h in
     and_is (scalar c) (all_scalars cs) (low_scalar c (alnum_ascii c (begins is_ascii_alphanumeric cs) p.0)) (subtags_scalars cs p.1)
 
-tag_scalars : (cs : List ℕ) → is_primary cs ≡ true → all_scalars cs ≡ true
+tag_scalars : (cs : List ℕ) → is_tag_tail cs ≡ true → all_scalars cs ≡ true
 tag_scalars [] h = refl
 tag_scalars (c ∷ cs) h =
-    elim (or_parts (is_ascii_alphabetic c && is_primary cs) ((eqb c 45 && begins is_ascii_alphanumeric cs) && is_subtags cs) h) [
-      | inl k ↦ let p = and_parts (is_ascii_alphabetic c) (is_primary cs) k in and_is (scalar c) (all_scalars cs) (low_scalar c (alpha_ascii c p.0)) (tag_scalars cs p.1)
+    elim (or_parts (is_ascii_alphabetic c && is_tag_tail cs) ((eqb c 45 && begins is_ascii_alphanumeric cs) && is_subtags cs) h) [
+      | inl k ↦ let p = and_parts (is_ascii_alphabetic c) (is_tag_tail cs) k in and_is (scalar c) (all_scalars cs) (low_scalar c (alpha_ascii c p.0)) (tag_scalars cs p.1)
       | inr k ↦
           let p = and_parts (eqb c 45 && begins is_ascii_alphanumeric cs) (is_subtags cs) k in
           let q = and_parts (eqb c 45) (begins is_ascii_alphanumeric cs) p.0 in
@@ -488,7 +493,7 @@ tagged_literal : (lex tag : List ℕ) → GoodText lex → GoodTag tag → Writt
 tagged_literal lex tag g t =
     let T = map to_ascii_lowercase t.tag in
     let right : is_tag (map to_ascii_lowercase t.tag) ≡ true = lower_tag t.tag t.right in
-    let p = and_parts (begins is_ascii_alphabetic T) (is_primary T) right in
+    let p = and_parts (begins is_ascii_alphabetic T) (is_tag_tail T) right in
     let read = next_tag T right ∙ ap (λ (y : List ℕ). Some (lang_tag y, End)) (lower_twice t.tag ∙ sym t.lower) in
     written_literal lex rdf_lang_string (Some tag) g (64 ∷ T) (sym (enc_cons 64 T (lit< tt) ∙ ap (λ (y : List ℕ). 64 ∷ y) (tag_ascii T p.1 ∙ sym t.lower))) (tag_scalars T p.1) (refl, primary_none T p.1)
     (lang_tag tag, End) read (rw next_dot refl)

@@ -1,10 +1,6 @@
 pub mod LineEnds
-pub mod Hex
-pub mod Escapes
-pub mod Bodies
 pub mod Runs
-pub mod EscapeLaws
-pub mod BodyLaws
+pub mod TokenSteps
 pub mod RunLaws
 pub mod TerminalLaws
 pub mod LineLaws

@@ -5,14 +5,15 @@ use Rattle.std.proofs.lemmas.Option.{same_Some}
 use Rattle.rdf_core.specs.declared.term.Term.{Term}
 use Rattle.rdf_core.specs.QuadParts.{QuadParts}
 use Rattle.rdf_core.specs.declared.term.Term.TheVariants.{Blank, Iri, Literal}
-use Rattle.nquads_core.specs.Characters.{is_blank, all_pass}
+use Rattle.rdf_core.specs.Characters.{all_pass}
+use Rattle.nquads_core.specs.Terminal.{is_blank}
 use Rattle.nquads_core.specs.Terminal.{Terminal, iri_ref, blank_label, quoted, lang_tag, carets, dot}
 use Rattle.rdf_core.specs.Vocabulary.{xsd_string, rdf_lang_string}
 use Rattle.nquads_core.specs.Grammar.{IsEnd, Begins, Splits, Subject, iri_subject, blank_subject, Predicate, iri_predicate, Object, iri_object, blank_object, plain_object, typed_object, tagged_object, GraphLabel, no_graph, iri_graph, blank_graph, Statement, Derives}
 use Rattle.nquads_core.specs.Reading.{◌>>=◌, terminal_at, skip_blanks, is_end, next, node_of, iri_of, literal_of, object_of, graph_dot, graph_of, whole, statement_at, line_at}
-use Rattle.nquads_core.proofs.Escapes.{cond_is}
-use Rattle.nquads_core.proofs.Runs.{which}
-use Rattle.nquads_core.proofs.EscapeLaws.{and_is, and_parts, none_some}
+use Rattle.rdf_core.proofs.EscapeSteps.{cond_is}
+use Rattle.rdf_core.proofs.EscapeSteps.{which}
+use Rattle.rdf_core.proofs.EscapeLaws.{and_is, and_parts, none_some}
 use Rattle.nquads_core.proofs.RunLaws.{or_parts}
 use Rattle.nquads_core.proofs.TerminalLaws.{bind_some, terminal_takes, terminal_again, took_longest}
 

@@ -10,7 +10,7 @@ use Rattle.memchr.specs.Find.{is_byte2}
 use Rattle.nquads_core.specs.Laws.{OneMeaning}
 use Rattle.nquads_core.specs.Reading.{Fails, Gives, line_at}
 use Rattle.nquads_core.proofs.LineLaws.{line_sound, line_again}
-use Rattle.nquads_core.proofs.EscapeLaws.{none_some}
+use Rattle.rdf_core.proofs.EscapeLaws.{none_some}
 
 pub read_again : (line : List ℕ) (q : Option QuadParts) → Spells line q → line_at (chars line) ≡ Some q
 read_again line q s = line_again (chars line) s.terminals q s.splits s.derives

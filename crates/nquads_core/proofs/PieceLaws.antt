@@ -9,7 +9,7 @@ use Rattle.nquads_core.specs.Lines.{lines, onto_first, begins_with_lf}
 use Rattle.nquads_core.specs.Pieces.{SpellAll, IsFirstBad}
 use Rattle.std.proofs.lemmas.List.{take-append-drop, drop_more, take_all}
 use Rattle.std.proofs.lemmas.Bool.{eqb-true}
-use Rattle.nquads_core.proofs.Escapes.{eqb_no}
+use Rattle.rdf_core.proofs.EscapeSteps.{eqb_no}
 use Rattle.nquads_core.proofs.RunLaws.{or_no}
 
 -- no byte is LF or CR

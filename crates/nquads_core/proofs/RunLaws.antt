@@ -3,11 +3,14 @@ use Rattle.std.proofs.Common.{◌≡◌, ℕ, suc, ◌≤◌, ◌<◌, Bool, tru
 use Rattle.std.specs.Prelude.{◌||◌, ◌&&◌}
 use Rattle.std.specs.Char.{is_ascii_alphabetic, is_ascii_alphanumeric}
 use Rattle.std.proofs.lemmas.Bool.{eqb-true}
-use Rattle.nquads_core.specs.Characters.{is_label_char}
-use Rattle.nquads_core.specs.Terminal.{is_label_tail, begins, is_subtags, is_primary}
-use Rattle.nquads_core.specs.Reading.{take_dot, label_tail_at, subtags_at, primary_at}
-use Rattle.nquads_core.proofs.Runs.{which, take_dot_some}
-use Rattle.nquads_core.proofs.EscapeLaws.{and_is, and_parts}
+use Rattle.rdf_core.specs.Characters.{is_label_char}
+use Rattle.rdf_core.specs.Characters.{begins}
+use Rattle.rdf_core.specs.Lexical.{is_subtags, is_tag_tail}
+use Rattle.nquads_core.specs.Terminal.{is_label_tail}
+use Rattle.nquads_core.specs.Reading.{take_dot, label_tail_at, subtags_at, tag_tail_at}
+use Rattle.nquads_core.proofs.Runs.{take_dot_some}
+use Rattle.rdf_core.proofs.EscapeSteps.{which}
+use Rattle.rdf_core.proofs.EscapeLaws.{and_is, and_parts}
 
 pub or_parts : (a b : Bool) → (a || b) ≡ true → (a ≡ true) ⊎ (b ≡ true)
 or_parts true b e = inl refl
@@ -122,37 +125,37 @@ subtags_longest (c ∷ front) behind h =
 
 -- ---- a whole tag
 
-primary_alpha : (c : ℕ) (cs : List ℕ) → is_ascii_alphabetic c ≡ true → (primary_at (c ∷ cs)).0 ≡ c ∷ (primary_at cs).0
-unfolding primary_at
+primary_alpha : (c : ℕ) (cs : List ℕ) → is_ascii_alphabetic c ≡ true → (tag_tail_at (c ∷ cs)).0 ≡ c ∷ (tag_tail_at cs).0
+unfolding tag_tail_at
 primary_alpha c cs h = rw h refl
 
-primary_hyphen : (c : ℕ) (cs : List ℕ) → is_ascii_alphabetic c ≡ false → (eqb c 45 && begins is_ascii_alphanumeric cs) ≡ true → (primary_at (c ∷ cs)).0 ≡ c ∷ (subtags_at cs).0
-unfolding primary_at
+primary_hyphen : (c : ℕ) (cs : List ℕ) → is_ascii_alphabetic c ≡ false → (eqb c 45 && begins is_ascii_alphanumeric cs) ≡ true → (tag_tail_at (c ∷ cs)).0 ≡ c ∷ (subtags_at cs).0
+unfolding tag_tail_at
 primary_hyphen c cs h k = rw (h, k) refl
 
-primary_stop : (c : ℕ) (cs : List ℕ) → is_ascii_alphabetic c ≡ false → (eqb c 45 && begins is_ascii_alphanumeric cs) ≡ false → (primary_at (c ∷ cs)).0 ≡ []
-unfolding primary_at
+primary_stop : (c : ℕ) (cs : List ℕ) → is_ascii_alphabetic c ≡ false → (eqb c 45 && begins is_ascii_alphanumeric cs) ≡ false → (tag_tail_at (c ∷ cs)).0 ≡ []
+unfolding tag_tail_at
 primary_stop c cs h k = rw (h, k) refl
 
-primary_nil : is_primary (primary_at []).0 ≡ true
-unfolding primary_at
+primary_nil : is_tag_tail (tag_tail_at []).0 ≡ true
+unfolding tag_tail_at
 primary_nil = refl
 
 or_true : (a b : Bool) → b ≡ true → (a || b) ≡ true
 or_true true b h = refl
 or_true false b h = h
 
-pub primary_right : (cs : List ℕ) → is_primary (primary_at cs).0 ≡ true
+pub primary_right : (cs : List ℕ) → is_tag_tail (tag_tail_at cs).0 ≡ true
 primary_right [] = primary_nil
 primary_right (c ∷ cs) =
     elim (which (is_ascii_alphabetic c)) [
       | inl h ↦
-          let xs = (primary_at cs).0 in
-          rw (primary_alpha c cs h) (or_left (is_ascii_alphabetic c && is_primary xs) ((eqb c 45 && begins is_ascii_alphanumeric xs) && is_subtags xs) (and_is (is_ascii_alphabetic c) (is_primary xs) h (primary_right cs)))
+          let xs = (tag_tail_at cs).0 in
+          rw (primary_alpha c cs h) (or_left (is_ascii_alphabetic c && is_tag_tail xs) ((eqb c 45 && begins is_ascii_alphanumeric xs) && is_subtags xs) (and_is (is_ascii_alphabetic c) (is_tag_tail xs) h (primary_right cs)))
       | inr h ↦
           let xs = (subtags_at cs).0 in
           elim (which (eqb c 45 && begins is_ascii_alphanumeric cs)) [
-            | inl k ↦ rw (primary_hyphen c cs h k) (or_true (is_ascii_alphabetic c && is_primary xs) ((eqb c 45 && begins is_ascii_alphanumeric xs) && is_subtags xs)
+            | inl k ↦ rw (primary_hyphen c cs h k) (or_true (is_ascii_alphabetic c && is_tag_tail xs) ((eqb c 45 && begins is_ascii_alphanumeric xs) && is_subtags xs)
                 (and_is (eqb c 45 && begins is_ascii_alphanumeric xs) (is_subtags xs) (and_mono (eqb c 45) (begins is_ascii_alphanumeric cs) (begins is_ascii_alphanumeric xs) (begins_read cs) k) (subtags_right cs)))
             | inr k ↦ rw (primary_stop c cs h k) refl
           ]
@@ -161,12 +164,12 @@ primary_right (c ∷ cs) =
 hyphen_no_letter : (c : ℕ) → eqb c 45 ≡ true → is_ascii_alphabetic c ≡ false
 hyphen_no_letter c h = rw (eqb-true c 45 h) refl
 
-pub primary_longest : (front behind : List ℕ) → is_primary front ≡ true → length front ≤ length (primary_at (front ++ behind)).0
+pub primary_longest : (front behind : List ℕ) → is_tag_tail front ≡ true → length front ≤ length (tag_tail_at (front ++ behind)).0
 primary_longest [] behind h = omega arith
 primary_longest (c ∷ front) behind h =
-    elim (or_parts (is_ascii_alphabetic c && is_primary front) ((eqb c 45 && begins is_ascii_alphanumeric front) && is_subtags front) h) [
+    elim (or_parts (is_ascii_alphabetic c && is_tag_tail front) ((eqb c 45 && begins is_ascii_alphanumeric front) && is_subtags front) h) [
       | inl k ↦
-          let p = and_parts (is_ascii_alphabetic c) (is_primary front) k in
+          let p = and_parts (is_ascii_alphabetic c) (is_tag_tail front) k in
           rw (primary_alpha c (front ++ behind) p.0) (omega (arith, primary_longest front behind p.1))
       | inr k ↦
           let p = and_parts (eqb c 45 && begins is_ascii_alphanumeric front) (is_subtags front) k in

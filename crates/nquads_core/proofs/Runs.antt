@@ -1,15 +1,16 @@
 -- Blanks, labels and tags, as the code reads them.
-use Rattle.std.proofs.Common.{◌≡◌, ℕ, zero, suc, ◌<◌, Bool, true, false, cond, eqb, List, [], ◌∷◌, ◌++◌, length, map, replicate, refl, sym, ap, ◌∙◌, length-append, arith, subst, inl, inr, ◌⊎◌, Some, None}
+use Rattle.std.proofs.Common.{◌≡◌, ℕ, zero, suc, ◌<◌, Bool, true, false, cond, eqb, List, [], ◌∷◌, ◌++◌, length, map, replicate, refl, sym, ap, ◌∙◌, length-append, arith, subst, inl, inr, Some, None}
 use Rattle.std.specs.Prelude.{◌||◌, ◌&&◌}
 use Rattle.std.specs.Str.{IsUtf8, chars, encode_utf8_all}
 use Rattle.std.specs.Char.{is_ascii_alphabetic, is_ascii_alphanumeric, to_ascii_lowercase}
 use Rattle.std.proofs.lemmas.Bool.Decides.{nat_tests}
 use Rattle.std.proofs.lemmas.List.{append_cancel_right}
 use Rattle.std.proofs.lemmas.Str.{encodes-chars, encodes-append, encode_ascii}
-use Rattle.nquads_core.specs.Characters.{is_blank, is_label_start, is_label_char}
-use Rattle.nquads_core.specs.Terminal.{begins}
-use Rattle.nquads_core.specs.Reading.{skip_blanks, take_dot, label_tail_at, label_at, subtags_at, primary_at, tag_at}
-use Rattle.nquads_core.proofs.Escapes.{eqb_no}
+use Rattle.rdf_core.specs.Characters.{is_label_start, is_label_char, is_name_start, is_pn_chars_base}
+use Rattle.nquads_core.specs.Terminal.{is_blank}
+use Rattle.rdf_core.specs.Characters.{begins}
+use Rattle.nquads_core.specs.Reading.{skip_blanks, take_dot, label_tail_at, label_at, subtags_at, tag_tail_at, tag_at}
+use Rattle.rdf_core.proofs.EscapeSteps.{eqb_no, which}
 
 -- what the characters tell of the bytes
 pub front_of : (text rest front : List ℕ) → IsUtf8 text → IsUtf8 rest → chars text ≡ front ++ chars rest → text ≡ encode_utf8_all front ++ rest
@@ -41,7 +42,7 @@ take_dot_some c cs (x ∷ xs) rest h = refl
 
 -- dots, and then a label's character
 pub tail_dots : (d c : ℕ) (cs : List ℕ) → is_label_char c ≡ true → label_tail_at (replicate d 46 ++ c ∷ cs) ≡ (replicate d 46 ++ c ∷ (label_tail_at cs).0, (label_tail_at cs).1)
-unfolding label_tail_at is_label_char
+unfolding label_tail_at is_label_char is_label_start is_name_start is_pn_chars_base
 tail_dots zero c cs h = rw h refl
 tail_dots (suc d) c cs h =
     rw (tail_dots d c cs h) (take_dot_some 46 (replicate d 46 ++ c ∷ cs) (replicate d 46 ++ c ∷ (label_tail_at cs).0) (label_tail_at cs).1 (omega (arith, length-append (replicate d 46) (c ∷ (label_tail_at cs).0))))
@@ -59,7 +60,7 @@ unfolding label_tail_at
 Stops-cons c cs ds e h k = rw (e, h, eqb_no c 46 k) refl
 
 pub tail_ends : (d : ℕ) (cs : List ℕ) → Stops cs → Stops (replicate d 46 ++ cs)
-unfolding label_tail_at is_label_char
+unfolding label_tail_at is_label_char is_label_start is_name_start is_pn_chars_base
 tail_ends zero cs h = h
 tail_ends (suc d) cs h = rw (tail_ends d cs h) refl
 
@@ -127,20 +128,20 @@ pub subtags_step : (c : ℕ) (cs ds : List ℕ) → cs ≡ c ∷ ds → (is_asci
 unfolding subtags_at
 subtags_step c cs ds e h = rw (e, h) refl
 
-pub primary_end : (cs : List ℕ) → cs ≡ [] → (primary_at cs).1 ≡ cs
-unfolding primary_at
+pub primary_end : (cs : List ℕ) → cs ≡ [] → (tag_tail_at cs).1 ≡ cs
+unfolding tag_tail_at
 primary_end cs e = rw e refl
 
-pub primary_step : (c : ℕ) (cs ds : List ℕ) → cs ≡ c ∷ ds → is_ascii_alphabetic c ≡ true → (primary_at cs).1 ≡ (primary_at ds).1
-unfolding primary_at
+pub primary_step : (c : ℕ) (cs ds : List ℕ) → cs ≡ c ∷ ds → is_ascii_alphabetic c ≡ true → (tag_tail_at cs).1 ≡ (tag_tail_at ds).1
+unfolding tag_tail_at
 primary_step c cs ds e h = rw (e, h) refl
 
-pub primary_hyphen : (c : ℕ) (cs ds : List ℕ) → cs ≡ c ∷ ds → is_ascii_alphabetic c ≡ false → (eqb c 45 && begins is_ascii_alphanumeric ds) ≡ true → (primary_at cs).1 ≡ (subtags_at ds).1
-unfolding primary_at
+pub primary_hyphen : (c : ℕ) (cs ds : List ℕ) → cs ≡ c ∷ ds → is_ascii_alphabetic c ≡ false → (eqb c 45 && begins is_ascii_alphanumeric ds) ≡ true → (tag_tail_at cs).1 ≡ (subtags_at ds).1
+unfolding tag_tail_at
 primary_hyphen c cs ds e h k = rw (e, h, k) refl
 
-pub primary_stop : (c : ℕ) (cs ds : List ℕ) → cs ≡ c ∷ ds → is_ascii_alphabetic c ≡ false → (eqb c 45 && begins is_ascii_alphanumeric ds) ≡ false → (primary_at cs).1 ≡ cs
-unfolding primary_at
+pub primary_stop : (c : ℕ) (cs ds : List ℕ) → cs ≡ c ∷ ds → is_ascii_alphabetic c ≡ false → (eqb c 45 && begins is_ascii_alphanumeric ds) ≡ false → (tag_tail_at cs).1 ≡ cs
+unfolding tag_tail_at
 primary_stop c cs ds e h k = rw (e, h, k) refl
 
 two_parts : (b : Bool) (c : ℕ) (cs a r : List ℕ) → a ++ r ≡ cs → joined (cond b (c ∷ a, r) ([], c ∷ cs)) ≡ c ∷ cs
@@ -157,16 +158,12 @@ unfolding subtags_at
 subtags_parts [] = refl
 subtags_parts (c ∷ cs) = two_parts (is_ascii_alphanumeric c || (eqb c 45 && begins is_ascii_alphanumeric cs)) c cs (subtags_at cs).0 (subtags_at cs).1 (subtags_parts cs)
 
-pub primary_parts : (cs : List ℕ) → (primary_at cs).0 ++ (primary_at cs).1 ≡ cs
-unfolding primary_at
+pub primary_parts : (cs : List ℕ) → (tag_tail_at cs).0 ++ (tag_tail_at cs).1 ≡ cs
+unfolding tag_tail_at
 primary_parts [] = refl
-primary_parts (c ∷ cs) = three_parts (is_ascii_alphabetic c) (eqb c 45 && begins is_ascii_alphanumeric cs) c cs (primary_at cs).0 (primary_at cs).1 (subtags_at cs).0 (subtags_at cs).1 (primary_parts cs) (subtags_parts cs)
+primary_parts (c ∷ cs) = three_parts (is_ascii_alphabetic c) (eqb c 45 && begins is_ascii_alphanumeric cs) c cs (tag_tail_at cs).0 (tag_tail_at cs).1 (subtags_at cs).0 (subtags_at cs).1 (primary_parts cs) (subtags_parts cs)
 
 -- all is ASCII
-pub which : (b : Bool) → (b ≡ true) ⊎ (b ≡ false)
-which true = inl refl
-which false = inr refl
-
 pub alnum_ascii : (c : ℕ) (b : Bool) → (is_ascii_alphanumeric c || (eqb c 45 && b)) ≡ true → c < 128
 alnum_ascii c b h = grind (arith, nat_tests)
 
@@ -188,12 +185,12 @@ subtags_ascii (c ∷ cs) =
       | inr h ↦ rw h refl
     ]
 
-pub primary_ascii : (cs : List ℕ) → encode_utf8_all (primary_at cs).0 ≡ (primary_at cs).0
-unfolding primary_at
+pub primary_ascii : (cs : List ℕ) → encode_utf8_all (tag_tail_at cs).0 ≡ (tag_tail_at cs).0
+unfolding tag_tail_at
 primary_ascii [] = refl
 primary_ascii (c ∷ cs) =
     elim (which (is_ascii_alphabetic c)) [
-      | inl h ↦ rw h (ascii_cons c (primary_at cs).0 (alpha_ascii c h) (primary_ascii cs))
+      | inl h ↦ rw h (ascii_cons c (tag_tail_at cs).0 (alpha_ascii c h) (primary_ascii cs))
       | inr h ↦ elim (which (eqb c 45 && begins is_ascii_alphanumeric cs)) [
         | inl k ↦ rw (h, k) (ascii_cons c (subtags_at cs).0 (hyphen_ascii c (begins is_ascii_alphanumeric cs) k) (subtags_ascii cs))
         | inr k ↦ rw (h, k) refl
@@ -228,13 +225,13 @@ pub tag_no : (c : ℕ) (cs ds : List ℕ) → cs ≡ c ∷ ds → is_ascii_alpha
 unfolding tag_at
 tag_no c cs ds e h = rw (e, h) refl
 
-pub tag_front : (text rest : List ℕ) → IsUtf8 text → IsUtf8 rest → chars rest ≡ (primary_at (chars text)).1 → text ≡ encode_utf8_all (primary_at (chars text)).0 ++ rest
+pub tag_front : (text rest : List ℕ) → IsUtf8 text → IsUtf8 rest → chars rest ≡ (tag_tail_at (chars text)).1 → text ≡ encode_utf8_all (tag_tail_at (chars text)).0 ++ rest
 tag_front text rest u v t =
-    front_of text rest (primary_at (chars text)).0 u v (sym (primary_parts (chars text)) ∙ ap (λ (x : List ℕ). (primary_at (chars text)).0 ++ x) (sym t))
+    front_of text rest (tag_tail_at (chars text)).0 u v (sym (primary_parts (chars text)) ∙ ap (λ (x : List ℕ). (tag_tail_at (chars text)).0 ++ x) (sym t))
 
-pub tag_yes : (c : ℕ) (text after rest tag lower : List ℕ) → IsUtf8 text → IsUtf8 rest → chars text ≡ c ∷ chars after → is_ascii_alphabetic c ≡ true → chars rest ≡ (primary_at (chars text)).1 → text ≡ tag ++ rest → lower ≡ map to_ascii_lowercase tag → tag_at (chars text) ≡ Some (lower, chars rest)
+pub tag_yes : (c : ℕ) (text after rest tag lower : List ℕ) → IsUtf8 text → IsUtf8 rest → chars text ≡ c ∷ chars after → is_ascii_alphabetic c ≡ true → chars rest ≡ (tag_tail_at (chars text)).1 → text ≡ tag ++ rest → lower ≡ map to_ascii_lowercase tag → tag_at (chars text) ≡ Some (lower, chars rest)
 unfolding tag_at
 tag_yes c text after rest tag lower u v e h t l low =
-    let same = append_cancel_right tag (encode_utf8_all (primary_at (chars text)).0) rest (sym l ∙ tag_front text rest u v t) ∙ primary_ascii (chars text) in
+    let same = append_cancel_right tag (encode_utf8_all (tag_tail_at (chars text)).0) rest (sym l ∙ tag_front text rest u v t) ∙ primary_ascii (chars text) in
     let starts : begins is_ascii_alphabetic (chars text) ≡ true = rw e h in
-    rw starts (ap (λ (x : List ℕ × List ℕ). Some x) (pair_is (map to_ascii_lowercase (primary_at (chars text)).0) lower (primary_at (chars text)).1 (chars rest) (sym (low ∙ ap (λ (x : List ℕ). map to_ascii_lowercase x) same)) (sym t)))
+    rw starts (ap (λ (x : List ℕ × List ℕ). Some x) (pair_is (map to_ascii_lowercase (tag_tail_at (chars text)).0) lower (tag_tail_at (chars text)).1 (chars rest) (sym (low ∙ ap (λ (x : List ℕ). map to_ascii_lowercase x) same)) (sym t)))

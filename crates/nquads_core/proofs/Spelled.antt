@@ -6,12 +6,14 @@ use Rattle.std.proofs.lemmas.Str.{scalars-chars}
 use Rattle.rdf_core.specs.declared.term.Term.{Term}
 use Rattle.rdf_core.specs.QuadParts.{QuadParts}
 use Rattle.rdf_core.specs.declared.term.Term.TheVariants.{Blank, Iri, Literal}
-use Rattle.nquads_core.specs.Characters.{is_iri_char, all_pass, echar}
-use Rattle.nquads_core.specs.Terminal.{Terminal, iri_ref, blank_label, quoted, lang_tag, carets, dot, IsTerminal, IsIriPart, IsStringPart, Writes, is_label, is_tag, has_scheme}
+use Rattle.rdf_core.specs.Characters.{is_iri_char, all_pass, echar}
+use Rattle.rdf_core.specs.Escapes.{IsIriPart, IsStringPart, Writes}
+use Rattle.rdf_core.specs.Lexical.{is_tag, has_scheme}
+use Rattle.nquads_core.specs.Terminal.{Terminal, iri_ref, blank_label, quoted, lang_tag, carets, dot, IsTerminal, is_label}
 use Rattle.rdf_core.specs.Vocabulary.{xsd_string, rdf_lang_string}
 use Rattle.nquads_core.specs.Grammar.{Splits, Subject, iri_subject, blank_subject, Predicate, iri_predicate, Object, iri_object, blank_object, plain_object, typed_object, tagged_object, GraphLabel, no_graph, iri_graph, blank_graph, Spells}
 use Rattle.nquads_core.specs.Laws.{Occurs}
-use Rattle.nquads_core.proofs.EscapeLaws.{and_is, and_parts, none_some}
+use Rattle.rdf_core.proofs.EscapeLaws.{and_is, and_parts, none_some}
 use Rattle.std.proofs.lemmas.Option.{same_Some}
 use lib.Utf8.{scalar}
 

@@ -5,25 +5,24 @@ use Rattle.std.specs.Char.{is_ascii_alphabetic, to_ascii_lowercase}
 use Rattle.std.proofs.lemmas.Bool.{eqb-true}
 use Rattle.std.proofs.lemmas.List.{append_cancel_right, drop_at}
 use Rattle.std.proofs.lemmas.Option.{some_pair_parts, same_Some}
-use Rattle.nquads_core.specs.Characters.{is_label_start}
-use Rattle.nquads_core.specs.declared.delimited.Kind.TheVariants.{Iri, Quoted}
-use Rattle.nquads_core.specs.Terminal.{Terminal, iri_ref, blank_label, quoted, lang_tag, carets, dot, IsTerminal, IsIriRef, IsQuoted, IsLongest, begins, is_tag, is_primary, is_label, is_label_tail, has_scheme}
-use Rattle.nquads_core.specs.Reading.{◌>>=◌, body_at, with_bytes, if_scheme, iri_at, string_at, label_tail_at, label_at, primary_at, tag_at, after_char, as_terminal, sign, terminal_at}
-use Rattle.nquads_core.proofs.Escapes.{cond_is}
-use Rattle.nquads_core.proofs.Runs.{which, label_parts, primary_parts}
-use Rattle.nquads_core.proofs.EscapeLaws.{and_is, and_parts, none_some}
-use Rattle.nquads_core.proofs.BodyLaws.{body_takes, body_again}
+use Rattle.rdf_core.specs.Characters.{is_label_start}
+use Rattle.rdf_core.specs.declared.lexical.escapes.Inside.TheVariants.{Iri, Quoted}
+use Rattle.rdf_core.specs.Characters.{begins}
+use Rattle.rdf_core.specs.Lexical.{is_tag, is_tag_tail, has_scheme}
+use Rattle.nquads_core.specs.Terminal.{Terminal, iri_ref, blank_label, quoted, lang_tag, carets, dot, IsTerminal, IsIriRef, IsQuoted, IsLongest, is_label, is_label_tail}
+use Rattle.nquads_core.specs.Reading.{◌>>=◌, if_scheme, iri_at, string_at, label_tail_at, label_at, tag_tail_at, tag_at, after_char, as_terminal, sign, terminal_at}
+use Rattle.rdf_core.proofs.EscapeSteps.{cond_is}
+use Rattle.nquads_core.proofs.Runs.{label_parts, primary_parts}
+use Rattle.rdf_core.proofs.EscapeSteps.{which}
+use Rattle.rdf_core.proofs.EscapeLaws.{and_is, and_parts, none_some}
+use Rattle.rdf_core.specs.LexicalReading.{parts_at, with_bytes}
+use Rattle.rdf_core.proofs.EnclosedLaws.{parts_take, with_bytes_some}
+use Rattle.nquads_core.proofs.TokenSteps.{iri_body_again, string_body_again}
 use Rattle.nquads_core.proofs.RunLaws.{label_tail_right, label_tail_longest, primary_right, primary_longest, begins_more}
 
 pub bind_some : {A B : Type 0} (o : Option A) (f : A → Option B) (y : B) → (o >>= f) ≡ Some y → (x : A) × (o ≡ Some x) × (f x ≡ Some y)
 bind_some None f y e = absurd (none_some y e)
 bind_some (Some x) f y e = (x, refl, e)
-
-with_bytes_some : (read : Option (List ℕ × List ℕ)) (v rest : List ℕ) → with_bytes [] read ≡ Some (v, rest) → (chars : List ℕ) × (read ≡ Some (chars, rest)) × (v ≡ encode_utf8_all chars)
-with_bytes_some None v rest e = absurd (none_some (v, rest) e)
-with_bytes_some (Some x) v rest e =
-    let p = some_pair_parts (encode_utf8_all x.0) v x.1 rest e in
-    (x.0, ap (λ (y : List ℕ). Some (x.0, y)) p.1, sym p.0)
 
 as_some : (kind : List ℕ → Terminal) (read : Option (List ℕ × List ℕ)) (k : Terminal) (rest : List ℕ) → as_terminal kind read ≡ Some (k, rest) → (v : List ℕ) × (read ≡ Some (v, rest)) × (k ≡ kind v)
 as_some kind None k rest e = absurd (none_some (k, rest) e)
@@ -60,10 +59,10 @@ scheme_some x v rest e =
 iri_took : (cs : List ℕ) (v rest : List ℕ) → iri_at cs ≡ Some (v, rest) → Took (60 ∷ cs) (iri_ref v) rest
 unfolding iri_at
 iri_took cs v rest e =
-    let b = bind_some (with_bytes [] (body_at Iri 0 cs)) if_scheme (v, rest) e in
+    let b = bind_some (with_bytes [] (parts_at Iri (Some 62) 0 cs)) if_scheme (v, rest) e in
     let s = scheme_some b.0 v rest b.2 in
-    let w = with_bytes_some (body_at Iri 0 cs) v rest (b.1 ∙ ap (λ (y : List ℕ × List ℕ). Some y) s.1) in
-    let t = body_takes Iri 0 cs w.0 rest w.1 in
+    let w = with_bytes_some (parts_at Iri (Some 62) 0 cs) v rest (b.1 ∙ ap (λ (y : List ℕ × List ℕ). Some y) s.1) in
+    let t = parts_take Iri (Some 62) 0 cs w.0 rest w.1 in
     record {
       word = 60 ∷ (t.body ++ 62 ∷ []);
       parts = close_up 60 t.body 62 cs rest t.parts;
@@ -71,9 +70,10 @@ iri_took cs v rest e =
     }
 
 string_took : (cs : List ℕ) (v rest : List ℕ) → string_at cs ≡ Some (v, rest) → Took (34 ∷ cs) (quoted v) rest
+unfolding string_at
 string_took cs v rest e =
-    let w = with_bytes_some (body_at Quoted 0 cs) v rest e in
-    let t = body_takes Quoted 0 cs w.0 rest w.1 in
+    let w = with_bytes_some (parts_at Quoted (Some 34) 0 cs) v rest e in
+    let t = parts_take Quoted (Some 34) 0 cs w.0 rest w.1 in
     record {
       word = 34 ∷ (t.body ++ 34 ∷ []);
       parts = close_up 34 t.body 34 cs rest t.parts;
@@ -93,21 +93,21 @@ label_took (c ∷ cs) v rest e =
       terminal = record { label = c ∷ t.0; parts = refl; right = and_is (is_label_start c) (is_label_tail t.0) g.0 (label_tail_right cs); utf8 = sym p.0 };
     }
 
-primary_begins : (cs : List ℕ) → begins is_ascii_alphabetic cs ≡ true → begins is_ascii_alphabetic (primary_at cs).0 ≡ true
-unfolding primary_at
+primary_begins : (cs : List ℕ) → begins is_ascii_alphabetic cs ≡ true → begins is_ascii_alphabetic (tag_tail_at cs).0 ≡ true
+unfolding tag_tail_at
 primary_begins [] h = h
 primary_begins (c ∷ cs) h = rw h h
 
 tag_took : (cs : List ℕ) (v rest : List ℕ) → tag_at cs ≡ Some (v, rest) → Took (64 ∷ cs) (lang_tag v) rest
 unfolding tag_at
 tag_took cs v rest e =
-    let t = primary_at cs in
+    let t = tag_tail_at cs in
     let g = cond_is {A = List ℕ × List ℕ} (begins is_ascii_alphabetic cs) (Some (map to_ascii_lowercase t.0, t.1)) (v, rest) e in
     let p = some_pair_parts (map to_ascii_lowercase t.0) v t.1 rest g.1 in
     record {
       word = 64 ∷ t.0;
       parts = ap (λ (y : List ℕ). 64 ∷ y) (sym (primary_parts cs) ∙ ap (λ (y : List ℕ). t.0 ++ y) p.1);
-      terminal = record { tag = t.0; parts = refl; right = and_is (begins is_ascii_alphabetic t.0) (is_primary t.0) (primary_begins cs g.0) (primary_right cs); lower = sym p.0 };
+      terminal = record { tag = t.0; parts = refl; right = and_is (begins is_ascii_alphabetic t.0) (is_tag_tail t.0) (primary_begins cs g.0) (primary_right cs); lower = sym p.0 };
     }
 
 Took-kind : (cs : List ℕ) (k k' : Terminal) (rest : List ℕ) → k ≡ k' → Took cs k' rest → Took cs k rest
@@ -157,14 +157,11 @@ pub record Reaches (cs : List ℕ) (k : Terminal) (behind : List ℕ) : Type 0 w
   pub short : length left ≤ length behind
   pub same : left ≡ behind → kind ≡ k
 
-with_bytes_again : (read : Option (List ℕ × List ℕ)) (chars rest : List ℕ) → read ≡ Some (chars, rest) → with_bytes [] read ≡ Some (encode_utf8_all chars, rest)
-with_bytes_again read chars rest e = rw e refl
-
 reach_iri : (word bytes behind : List ℕ) → IsIriRef word bytes → Reaches (word ++ behind) (iri_ref bytes) behind
 unfolding terminal_at iri_at
 reach_iri word bytes behind t =
     let whole : word ++ behind ≡ 60 ∷ (t.body ++ 62 ∷ behind) = ap (λ (y : List ℕ). y ++ behind) t.parts ∙ ap (λ (y : List ℕ). 60 ∷ y) (append_assoc t.body (62 ∷ []) behind) in
-    let read = with_bytes_again (body_at Iri 0 (t.body ++ 62 ∷ behind)) t.chars behind (body_again Iri t.chars t.body behind t.writes) in
+    let read = iri_body_again t.chars t.body behind t.writes in
     record {
       kind = iri_ref bytes;
       left = behind;
@@ -174,10 +171,10 @@ reach_iri word bytes behind t =
     }
 
 reach_quoted : (word bytes behind : List ℕ) → IsQuoted word bytes → Reaches (word ++ behind) (quoted bytes) behind
-unfolding terminal_at
+unfolding terminal_at string_at
 reach_quoted word bytes behind t =
     let whole : word ++ behind ≡ 34 ∷ (t.body ++ 34 ∷ behind) = ap (λ (y : List ℕ). y ++ behind) t.parts ∙ ap (λ (y : List ℕ). 34 ∷ y) (append_assoc t.body (34 ∷ []) behind) in
-    let read = with_bytes_again (body_at Quoted 0 (t.body ++ 34 ∷ behind)) t.chars behind (body_again Quoted t.chars t.body behind t.writes) in
+    let read = string_body_again t.chars t.body behind t.writes in
     record {
       kind = quoted bytes;
       left = behind;
@@ -207,8 +204,8 @@ label_reach (c ∷ tail) behind bytes h u =
 tag_reach : (tag behind bytes : List ℕ) → is_tag tag ≡ true → bytes ≡ map to_ascii_lowercase tag → Reaches (64 ∷ tag ++ behind) (lang_tag bytes) behind
 unfolding terminal_at tag_at
 tag_reach tag behind bytes h u =
-    let p = and_parts (begins is_ascii_alphabetic tag) (is_primary tag) h in
-    let t = primary_at (tag ++ behind) in
+    let p = and_parts (begins is_ascii_alphabetic tag) (is_tag_tail tag) h in
+    let t = tag_tail_at (tag ++ behind) in
     let parts = primary_parts (tag ++ behind) in
     let long = primary_longest tag behind p.1 in
     let starts = begins_more is_ascii_alphabetic tag behind p.0 in

@@ -5,8 +5,8 @@ use Rattle.rdf_core.specs.declared.term.Term.{Term}
 use Rattle.rdf_core.specs.QuadParts.{QuadParts}
 use Rattle.rdf_core.specs.Vocabulary.{xsd_string, rdf_lang_string}
 use Rattle.rdf_core.specs.declared.term.Term.TheVariants.{Blank, Iri, Literal}
-use Rattle.nquads_core.specs.Characters.{is_blank, all_pass}
-use Rattle.nquads_core.specs.Terminal.{Terminal, iri_ref, blank_label, quoted, lang_tag, carets, dot, IsTerminal, IsLongest}
+use Rattle.rdf_core.specs.Characters.{all_pass}
+use Rattle.nquads_core.specs.Terminal.{is_blank, Terminal, iri_ref, blank_label, quoted, lang_tag, carets, dot, IsTerminal, IsLongest}
 
 -- blanks, and perhaps a comment up to the end
 pub record IsEnd (text : List ℕ) : Type 0 where

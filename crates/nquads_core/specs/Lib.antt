@@ -1,4 +1,3 @@
-pub mod Characters
 pub mod Terminal
 pub mod Grammar
 pub mod Lines

@@ -1,14 +1,14 @@
 -- Reading a line from left to right: what stands at the front of a text, and the rest. None: no such thing stands there.
-use Rattle.std.specs.Prelude.{◌≡◌, ℕ, zero, suc, ◌+◌, ◌*◌, Bool, true, ◌&&◌, ◌||◌, List, [], ◌∷◌, ◌++◌, map, drop, Option, Some, None, option_and_then, Result, Ok, Err, ◌==◌, if◌then◌else◌}
-use Rattle.std.specs.Char.{digit_value, is_ascii_alphabetic, is_ascii_alphanumeric, to_ascii_lowercase}
-use Rattle.std.specs.Str.{IsUtf8, chars, encode_utf8_all}
-use lib.Utf8.{scalar}
+use Rattle.std.specs.Prelude.{◌≡◌, ℕ, Bool, true, ◌&&◌, ◌||◌, List, [], ◌∷◌, map, Option, Some, None, Result, Ok, Err, ◌==◌, if◌then◌else◌}
+use Rattle.std.specs.Char.{is_ascii_alphabetic, is_ascii_alphanumeric, to_ascii_lowercase}
+use Rattle.std.specs.Str.{encode_utf8_all}
 use Rattle.nquads_core.specs.declared.fault.LineFault.{LineFault}
 use Rattle.nquads_core.specs.declared.fault.LineFault.TheVariants.{Bad, Memory}
-use Rattle.nquads_core.specs.declared.delimited.Kind.{Kind}
-use Rattle.nquads_core.specs.declared.delimited.Kind.TheVariants.{Iri, Quoted}
-use Rattle.nquads_core.specs.Characters.{is_iri_char, is_string_char, is_label_start, is_label_char, is_blank, echar, is_hex}
-use Rattle.nquads_core.specs.Terminal.{Terminal, iri_ref, blank_label, quoted, lang_tag, carets, dot, begins, has_scheme}
+use Rattle.rdf_core.specs.declared.lexical.escapes.Inside.TheVariants.{Iri, Quoted}
+use Rattle.rdf_core.specs.Characters.{is_label_start, is_label_char, begins}
+use Rattle.rdf_core.specs.Lexical.{has_scheme}
+use Rattle.rdf_core.specs.LexicalReading.{parts_at, with_bytes}
+use Rattle.nquads_core.specs.Terminal.{Terminal, iri_ref, blank_label, quoted, lang_tag, carets, dot, is_blank}
 use Rattle.rdf_core.specs.Vocabulary.{xsd_string, rdf_lang_string}
 use Rattle.rdf_core.specs.declared.term.Term.{Term}
 use Rattle.rdf_core.specs.QuadParts.{QuadParts}
@@ -23,73 +23,6 @@ abbrev pub Gives : {X Y : Type 0} → (X → Y) → Result X LineFault → Optio
 Gives view (Ok x) read = read ≡ Some (view x)
 Gives view (Err e) read = Fails e read
 
--- What a function found, seen by view, is what reading gives.
-abbrev pub Finds : {X Y : Type 0} → (X → Y) → Option X → Option Y → Type 0
-Finds view None read = read ≡ None
-Finds view (Some x) read = read ≡ Some (view x)
-
--- the value of n hexadecimal digits behind others of the value v, and what follows them
-unfoldable pub hex_at : ℕ → ℕ → List ℕ → Option (ℕ × List ℕ)
-hex_at zero v cs = Some (v, cs)
-hex_at (suc n) v [] = None
-hex_at (suc n) v (c ∷ cs) = if is_hex c then hex_at n (v * 16 + digit_value c) cs else None
-
--- the character of n digits, and how many characters these and the letter before them are
-abbrev pub scalar_of : ℕ → Option (ℕ × List ℕ) → Option (ℕ × ℕ)
-scalar_of n None = None
-scalar_of n (Some x) = if scalar x.0 then Some (x.0, n + 1) else None
-
--- behind a backslash: the character that is meant, and how many characters spell it there
-unfoldable pub uchar_at : List ℕ → Option (ℕ × ℕ)
-uchar_at [] = None
-uchar_at (u ∷ cs) = if u == 117 then scalar_of 4 (hex_at 4 0 cs) else if u == 85 then scalar_of 8 (hex_at 8 0 cs) else None
-
-abbrev pub keep_iri_char : Option (ℕ × ℕ) → Option (ℕ × ℕ)
-keep_iri_char None = None
-keep_iri_char (Some e) = if is_iri_char e.0 then Some e else None
-
-abbrev pub or_uchar : Option ℕ → List ℕ → Option (ℕ × ℕ)
-or_uchar None cs = uchar_at cs
-or_uchar (Some c) cs = Some (c, 1)
-
-unfoldable pub escape_at : Kind → List ℕ → Option (ℕ × ℕ)
-escape_at Iri cs = keep_iri_char (uchar_at cs)
-escape_at Quoted [] = None
-escape_at Quoted (e ∷ cs) = or_uchar (echar e) (e ∷ cs)
-
--- read says that c is meant, and what follows it in the text is rest
-pub record NamesChar (read : Option (ℕ × ℕ)) (text : List ℕ) (c : ℕ) (rest : List ℕ) : Type 0 where
-  pub skipped : ℕ
-  pub is : read ≡ Some (c, skipped)
-  pub left : chars rest ≡ drop skipped (chars text)
-  pub utf8 : IsUtf8 rest
-
-abbrev pub close_of : Kind → ℕ
-close_of Iri = 62
-close_of Quoted = 34
-
-abbrev pub is_raw : Kind → ℕ → Bool
-is_raw Iri c = is_iri_char c
-is_raw Quoted c = is_string_char c
-
-abbrev pub with_char : ℕ → Option (List ℕ × List ℕ) → Option (List ℕ × List ℕ)
-with_char c None = None
-with_char c (Some x) = Some (c ∷ x.0, x.1)
-
--- behind the opening sign, of which `skipped` more characters are already read: the characters up to the closing sign, and what follows it
-unfoldable pub body_at : Kind → ℕ → List ℕ → Option (List ℕ × List ℕ)
-body_at k skipped [] = None
-body_at k (suc n) (c ∷ cs) = body_at k n cs
-body_at k zero (c ∷ cs) =
-    if c == close_of k then Some ([], cs)
-    else if c == 92 then option_and_then (λ e. with_char e.0 (body_at k e.1 cs)) (escape_at k cs)
-    else if is_raw k c then with_char c (body_at k 0 cs) else None
-
--- the bytes of what was read before, and of these characters
-abbrev pub with_bytes : List ℕ → Option (List ℕ × List ℕ) → Option (List ℕ × List ℕ)
-with_bytes front None = None
-with_bytes front (Some x) = Some (front ++ encode_utf8_all x.0, x.1)
-
 infixl 10 ◌>>=◌
 abbrev pub ◌>>=◌ : {A B : Type 0} → Option A → (A → Option B) → Option B
 None >>= f = None
@@ -102,11 +35,11 @@ if_scheme x = if has_scheme x.0 then Some x else None
 
 -- behind <
 unfoldable pub iri_at : List ℕ → Option (List ℕ × List ℕ)
-iri_at cs = with_bytes [] (body_at Iri 0 cs) >>= if_scheme
+iri_at cs = with_bytes [] (parts_at Iri (Some 62) 0 cs) >>= if_scheme
 
 -- behind a quote
-abbrev pub string_at : List ℕ → Option (List ℕ × List ℕ)
-string_at cs = with_bytes [] (body_at Quoted 0 cs)
+unfoldable pub string_at : List ℕ → Option (List ℕ × List ℕ)
+string_at cs = with_bytes [] (parts_at Quoted (Some 34) 0 cs)
 
 -- dots belong to a label where a label's character follows them
 abbrev pub take_dot : ℕ → List ℕ → List ℕ → List ℕ → List ℕ × List ℕ
@@ -131,15 +64,15 @@ subtags_at [] = ([], [])
 subtags_at (c ∷ cs) =
     if is_ascii_alphanumeric c || (c == 45 && begins is_ascii_alphanumeric cs) then (c ∷ (subtags_at cs).0, (subtags_at cs).1) else ([], c ∷ cs)
 
-unfoldable pub primary_at : List ℕ → List ℕ × List ℕ
-primary_at [] = ([], [])
-primary_at (c ∷ cs) =
-    if is_ascii_alphabetic c then (c ∷ (primary_at cs).0, (primary_at cs).1)
+unfoldable pub tag_tail_at : List ℕ → List ℕ × List ℕ
+tag_tail_at [] = ([], [])
+tag_tail_at (c ∷ cs) =
+    if is_ascii_alphabetic c then (c ∷ (tag_tail_at cs).0, (tag_tail_at cs).1)
     else if c == 45 && begins is_ascii_alphanumeric cs then (c ∷ (subtags_at cs).0, (subtags_at cs).1) else ([], c ∷ cs)
 
 -- behind @
 unfoldable pub tag_at : List ℕ → Option (List ℕ × List ℕ)
-tag_at cs = if begins is_ascii_alphabetic cs then Some (map to_ascii_lowercase (primary_at cs).0, (primary_at cs).1) else None
+tag_at cs = if begins is_ascii_alphabetic cs then Some (map to_ascii_lowercase (tag_tail_at cs).0, (tag_tail_at cs).1) else None
 
 -- the rest behind this character
 abbrev pub after_char : ℕ → List ℕ → Option (List ℕ)

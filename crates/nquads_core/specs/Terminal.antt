@@ -1,40 +1,15 @@
--- The terminals of N-Quads: which texts they are, and what each stands for. A text is a list of characters.
-use Rattle.std.specs.Prelude.{◌≡◌, ℕ, ◌≤◌, Bool, true, false, ◌⊎◌, ◌&&◌, ◌||◌, List, [], ◌∷◌, ◌++◌, length, map, Some, ◌==◌}
-use Rattle.std.specs.Char.{IsScalar, is_ascii_alphabetic, is_ascii_alphanumeric, to_ascii_lowercase}
+-- The terminals of N-Quads: which texts they are, and what each stands for (RDF 1.1 N-Quads, grammar).
+-- A text is a list of characters.
+use Rattle.std.specs.Prelude.{◌≡◌, ℕ, ◌≤◌, Bool, true, false, ◌&&◌, ◌||◌, List, [], ◌∷◌, ◌++◌, length, map, ◌==◌}
+use Rattle.std.specs.Char.{to_ascii_lowercase}
 use Rattle.std.specs.Str.{encode_utf8_all}
-use Rattle.nquads_core.specs.Characters.{is_iri_char, is_string_char, is_label_start, is_label_char, echar, is_hex, hex_from, all_pass}
+use Rattle.rdf_core.specs.Characters.{is_label_start, is_label_char}
+use Rattle.rdf_core.specs.Escapes.{IsIriPart, IsStringPart, Writes}
+use Rattle.rdf_core.specs.Lexical.{is_tag, has_scheme}
 
--- ---- escapes
-
--- the characters behind the backslash: a letter, and 4 or 8 hexadecimal digits, which name the scalar value c
-pub record IsUchar (text : List ℕ) (c : ℕ) : Type 0 where
-  pub letter : ℕ
-  pub digits : List ℕ
-  pub parts : text ≡ 92 ∷ letter ∷ digits
-  pub count : ((letter ≡ 117) × (length digits ≡ 4)) ⊎ ((letter ≡ 85) × (length digits ≡ 8))
-  pub hex : all_pass is_hex digits ≡ true
-  pub names : hex_from 0 digits ≡ c
-  pub scalar : IsScalar c
-
-pub record IsEchar (text : List ℕ) (c : ℕ) : Type 0 where
-  pub letter : ℕ
-  pub parts : text ≡ 92 ∷ letter ∷ []
-  pub names : echar letter ≡ Some c
-
--- how one character of an IRI may be written; an escape names no character either that may not stand raw
-abbrev pub IsIriPart : List ℕ → ℕ → Type 0
-IsIriPart text c = (is_iri_char c ≡ true) × ((text ≡ c ∷ []) ⊎ IsUchar text c)
-
--- how one character of a string may be written
-abbrev pub IsStringPart : List ℕ → ℕ → Type 0
-IsStringPart text c = ((is_string_char c ≡ true) × (text ≡ c ∷ [])) ⊎ (IsEchar text c ⊎ IsUchar text c)
-
--- the text writes these characters, one after the other
-abbrev pub Writes : (List ℕ → ℕ → Type 0) → List ℕ → List ℕ → Type 0
-Writes Part text [] = text ≡ []
-Writes Part text (c ∷ cs) = (one : List ℕ) × (rest : List ℕ) × (text ≡ one ++ rest) × Part one c × Writes Part rest cs
-
--- ---- labels, tags and schemes
+-- what stands between terminals: spaces and tabs
+abbrev pub is_blank : ℕ → Bool
+is_blank c = c == 32 || c == 9
 
 -- ((PN_CHARS | '.')* PN_CHARS)?
 abbrev pub is_label_tail : List ℕ → Bool
@@ -45,34 +20,6 @@ is_label_tail (c ∷ d ∷ cs) = (is_label_char c || c == 46) && is_label_tail (
 abbrev pub is_label : List ℕ → Bool
 is_label [] = false
 is_label (c ∷ cs) = is_label_start c && is_label_tail cs
-
-abbrev pub begins : (ℕ → Bool) → List ℕ → Bool
-begins p [] = false
-begins p (c ∷ cs) = p c
-
--- letters and digits, and hyphens before one of them
-abbrev pub is_subtags : List ℕ → Bool
-is_subtags [] = true
-is_subtags (c ∷ cs) = (is_ascii_alphanumeric c || (c == 45 && begins is_ascii_alphanumeric cs)) && is_subtags cs
-
--- letters, and then perhaps a hyphen and what may follow it
-abbrev pub is_primary : List ℕ → Bool
-is_primary [] = true
-is_primary (c ∷ cs) = (is_ascii_alphabetic c && is_primary cs) || (c == 45 && begins is_ascii_alphanumeric cs && is_subtags cs)
-
--- [a-zA-Z]+ ('-' [a-zA-Z0-9]+)*
-abbrev pub is_tag : List ℕ → Bool
-is_tag cs = begins is_ascii_alphabetic cs && is_primary cs
-
--- letters, digits, + - . up to a colon
-abbrev pub is_scheme_rest : List ℕ → Bool
-is_scheme_rest [] = false
-is_scheme_rest (c ∷ cs) = c == 58 || ((is_ascii_alphanumeric c || c == 43 || c == 45 || c == 46) && is_scheme_rest cs)
-
--- a letter first: the IRI is not relative
-abbrev pub has_scheme : List ℕ → Bool
-has_scheme [] = false
-has_scheme (c ∷ cs) = is_ascii_alphabetic c && is_scheme_rest cs
 
 -- ---- terminals
 

@@ -19,10 +19,8 @@
 //! Not promised: full checking of IRIs, or that a language tag is registered.
 #![tactic(auto)]
 
-mod delimited;
 pub mod device;
 mod fault;
-mod front;
 pub mod laws;
 mod line;
 mod piece;

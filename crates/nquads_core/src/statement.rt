@@ -5,7 +5,8 @@ ghost use Rattle.std.specs.Str.{chars};
 ghost use Rattle.rdf_core.specs.QuadParts.{parts_of};
 ghost use Rattle.rdf_core.specs.QuadFacts.{is_node, is_graph_name};
 ghost use Rattle.rdf_core.specs.Vocabulary.{xsd_string, rdf_lang_string};
-ghost use Rattle.nquads_core.specs.Reading.{Finds, Gives, node_of, iri_of, literal_of, object_of, graph_of, statement_at, line_at};
+ghost use Rattle.nquads_core.specs.Reading.{Gives, node_of, iri_of, literal_of, object_of, graph_of, statement_at, line_at};
+ghost use Rattle.rdf_core.specs.LexicalReading.{Finds};
 ghost use Rattle.nquads_core.specs.Views.{token_view};
 
 use crate::fault::LineFault;
@@ -19,14 +20,14 @@ fn node_of(token: Token) -> Option<Term>
     ensures node { IfSome result (λ t. is_node t ≡ true) }
 {
     match token {
-        Token::Iri(text) => Some(Term::Iri(Text::from_string(text))),
-        Token::Blank(label) => Some(Term::Blank(Text::from_string(label))),
+        Token::Iri(text) => Some(Term::Iri(text)),
+        Token::Blank(label) => Some(Term::Blank(label)),
         Token::Quoted(_) | Token::Tag(_) | Token::Carets | Token::Dot => None,
     }
 }
 
-fn iri_of(token: Token) -> Option<String>
-    ensures { Finds string_bytes result (iri_of (token_view token)) }
+fn iri_of(token: Token) -> Option<Text>
+    ensures { Finds (λ text. text) result (iri_of (token_view token)) }
 {
     match token {
         Token::Iri(text) => Some(text),
@@ -34,26 +35,26 @@ fn iri_of(token: Token) -> Option<String>
     }
 }
 
-fn xsd_string(alloc: Global) -> Result<String, AllocError>
-    ensures { IfOk result (λ text. string_bytes text ≡ xsd_string) }
+fn xsd_string(alloc: Global) -> Result<Text, AllocError>
+    ensures { IfOk result (λ text. text ≡ xsd_string) }
 {
-    String::from_str(alloc, XSD_STRING)
+    Ok(Text::from_string(String::from_str(alloc, XSD_STRING)?))
 }
 
-fn rdf_lang_string(alloc: Global) -> Result<String, AllocError>
-    ensures { IfOk result (λ text. string_bytes text ≡ rdf_lang_string) }
+fn rdf_lang_string(alloc: Global) -> Result<Text, AllocError>
+    ensures { IfOk result (λ text. text ≡ rdf_lang_string) }
 {
-    String::from_str(alloc, RDF_LANG_STRING)
+    Ok(Text::from_string(String::from_str(alloc, RDF_LANG_STRING)?))
 }
 
 /// A literal, the first terminal behind it, and what follows that.
 fn literal_of(
     alloc: Global,
-    lexical: String,
+    lexical: Text,
     token: Token,
     rest: &str,
 ) -> Result<(Term, Token, &str), LineFault>
-    ensures { Gives (λ x. (x.0, (token_view x.1, chars x.2.now))) result (literal_of (string_bytes lexical) (token_view token, chars rest.now)) }
+    ensures { Gives (λ x. (x.0, (token_view x.1, chars x.2.now))) result (literal_of lexical (token_view token, chars rest.now)) }
 {
     match token {
         Token::Carets => {
@@ -63,8 +64,8 @@ fn literal_of(
             };
             let (token, rest) = next_token(alloc, rest)?;
             let term = Term::Literal {
-                lexical: Text::from_string(lexical),
-                datatype: Text::from_string(datatype),
+                lexical,
+                datatype,
                 tag: None,
             };
             Ok((term, token, rest))
@@ -73,17 +74,17 @@ fn literal_of(
             let (token, rest) = next_token(alloc, rest)?;
             let datatype = rdf_lang_string(alloc)?;
             let term = Term::Literal {
-                lexical: Text::from_string(lexical),
-                datatype: Text::from_string(datatype),
-                tag: Some(Text::from_string(tag)),
+                lexical,
+                datatype,
+                tag: Some(tag),
             };
             Ok((term, token, rest))
         }
         token => {
             let datatype = xsd_string(alloc)?;
             let term = Term::Literal {
-                lexical: Text::from_string(lexical),
-                datatype: Text::from_string(datatype),
+                lexical,
+                datatype,
                 tag: None,
             };
             Ok((term, token, rest))
@@ -101,8 +102,8 @@ fn object_of(
     ensures { Gives (λ x. (x.0, (token_view x.1, chars x.2.now))) result (object_of (token_view object) (token_view token, chars rest.now)) }
 {
     match object {
-        Token::Iri(text) => Ok((Term::Iri(Text::from_string(text)), token, rest)),
-        Token::Blank(label) => Ok((Term::Blank(Text::from_string(label)), token, rest)),
+        Token::Iri(text) => Ok((Term::Iri(text), token, rest)),
+        Token::Blank(label) => Ok((Term::Blank(label), token, rest)),
         Token::Quoted(lexical) => literal_of(alloc, lexical, token, rest),
         Token::Tag(_) | Token::Carets | Token::Dot => Err(LineFault::Bad),
     }
@@ -118,7 +119,7 @@ fn graph_of(alloc: Global, token: Token, rest: &str) -> Result<(Option<Term>, &s
         Token::Iri(text) => {
             let (dot, rest) = next_token(alloc, rest)?;
             match dot {
-                Token::Dot => Ok((Some(Term::Iri(Text::from_string(text))), rest)),
+                Token::Dot => Ok((Some(Term::Iri(text)), rest)),
                 Token::Iri(_)
                 | Token::Blank(_)
                 | Token::Quoted(_)
@@ -129,7 +130,7 @@ fn graph_of(alloc: Global, token: Token, rest: &str) -> Result<(Option<Term>, &s
         Token::Blank(label) => {
             let (dot, rest) = next_token(alloc, rest)?;
             match dot {
-                Token::Dot => Ok((Some(Term::Blank(Text::from_string(label))), rest)),
+                Token::Dot => Ok((Some(Term::Blank(label)), rest)),
                 Token::Iri(_)
                 | Token::Blank(_)
                 | Token::Quoted(_)
@@ -163,7 +164,7 @@ fn statement(alloc: Global, text: &str) -> Result<Quad, LineFault>
     }
     Ok(Quad {
         s,
-        p: Term::Iri(Text::from_string(predicate)),
+        p: Term::Iri(predicate),
         o,
         g,
     })

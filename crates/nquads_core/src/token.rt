@@ -3,92 +3,35 @@
 ghost use Rattle.std.specs.Prelude.{◌≡◌, ◌==◌, ◌&&◌, ◌||◌, ◌++◌, [], ◌∷◌, List, ℕ, Some, None, IfOk, MatchOption, string_bytes, length, map};
 ghost use Rattle.std.specs.Char.{to_ascii_lowercase, is_ascii_alphabetic, is_ascii_alphanumeric};
 ghost use Rattle.std.specs.Str.{IsUtf8, chars};
-ghost use Rattle.nquads_core.specs.Characters.{in_ranges, is_label_start, is_label_char, is_blank};
-ghost use Rattle.nquads_core.specs.Terminal.{has_scheme, is_scheme_rest, begins};
-ghost use Rattle.nquads_core.specs.Reading.{Finds, Gives, next, is_end, iri_at, string_at, label_tail_at, label_at, subtags_at, primary_at, tag_at, after_char, terminal_at, skip_blanks};
+ghost use Rattle.rdf_core.specs.Characters.{is_label_start, is_label_char, begins};
+ghost use Rattle.rdf_core.specs.Lexical.{has_scheme};
+ghost use Rattle.rdf_core.specs.LexicalReading.{Finds};
+ghost use Rattle.nquads_core.specs.Terminal.{is_blank};
+ghost use Rattle.nquads_core.specs.Reading.{Gives, next, is_end, iri_at, string_at, label_tail_at, label_at, subtags_at, tag_tail_at, tag_at, after_char, terminal_at, skip_blanks};
 ghost use Rattle.nquads_core.specs.Views.{token_view};
 
-use crate::delimited::{Kind, read_body};
 use crate::fault::LineFault;
-use crate::front::first_char;
+use rdf_core::Text;
+use rdf_core::lexical::{
+    first_char, has_scheme, is_label_char, is_label_start, lower_tag, read_iri_ref, read_quoted,
+};
 use std::alloc::Global;
 
 /// A terminal, with what it stands for.
 #[derive(Debug, Drop)]
 pub enum Token {
-    Iri(String),
-    Blank(String),
-    Quoted(String),
-    Tag(String),
+    Iri(Text),
+    Blank(Text),
+    Quoted(Text),
+    Tag(Text),
     Carets,
     Dot,
-}
-
-const LABEL_STARTS: [(u32, u32); 17] = [
-    (95, 95),
-    (58, 58),
-    (48, 57),
-    (65, 90),
-    (97, 122),
-    (0xC0, 0xD6),
-    (0xD8, 0xF6),
-    (0xF8, 0x2FF),
-    (0x370, 0x37D),
-    (0x37F, 0x1FFF),
-    (0x200C, 0x200D),
-    (0x2070, 0x218F),
-    (0x2C00, 0x2FEF),
-    (0x3001, 0xD7FF),
-    (0xF900, 0xFDCF),
-    (0xFDF0, 0xFFFD),
-    (0x10000, 0xEFFFF),
-];
-
-const LABEL_CHARS: [(u32, u32); 4] = [(45, 45), (0xB7, 0xB7), (0x300, 0x36F), (0x203F, 0x2040)];
-
-fn in_ranges(ranges: &[(u32, u32)], c: u32) -> bool
-    ensures { result ≡ in_ranges ranges.now c }
-{
-    ranges.iter().any(|r| r.0 <= c && c <= r.1)
-}
-
-#[tactic(auto, unfolding(crate::specs::Characters::is_label_start))]
-fn is_label_start(c: char) -> bool
-    ensures { result ≡ is_label_start c }
-{
-    in_ranges(&LABEL_STARTS, c as u32)
-}
-
-#[tactic(auto, unfolding(crate::specs::Characters::is_label_start, crate::specs::Characters::is_label_char))]
-fn is_label_char(c: char) -> bool
-    ensures { result ≡ is_label_char c }
-{
-    in_ranges(&LABEL_CHARS, c as u32) || is_label_start(c)
 }
 
 fn is_blank(c: char) -> bool
     ensures { result ≡ is_blank c }
 {
     c == ' ' || c == '\t'
-}
-
-/// Whether an IRI begins with a scheme.
-fn has_scheme(text: &str) -> bool
-    ensures { result ≡ has_scheme text.now }
-{
-    let bytes = text.as_bytes();
-    if bytes.is_empty() || !bytes[0].is_ascii_alphabetic() {
-        return false;
-    }
-    for b in &bytes[1..] {
-        if *b == b':' {
-            return true;
-        }
-        if !(b.is_ascii_alphanumeric() || *b == b'+' || *b == b'-' || *b == b'.') {
-            return false;
-        }
-    }
-    false
 }
 
 /// What stands before `rest`, with which the text ends.
@@ -133,8 +76,8 @@ fn skip_label_tail(text: &str) -> &str
 }
 
 /// Behind `_:`: the label, and what follows it.
-fn read_label(alloc: Global, text: &str) -> Result<(String, &str), LineFault>
-    ensures { Gives (λ x. (string_bytes x.0, chars x.1.now)) result (label_at (chars text.now)) }
+fn read_label(alloc: Global, text: &str) -> Result<(Text, &str), LineFault>
+    ensures { Gives (λ x. (x.0, chars x.1.now)) result (label_at (chars text.now)) }
 {
     let Some((c, after)) = first_char(text) else {
         return Err(LineFault::Bad);
@@ -144,7 +87,7 @@ fn read_label(alloc: Global, text: &str) -> Result<(String, &str), LineFault>
     }
     let rest = skip_label_tail(after);
     let label = String::from_str(alloc, text_before(text, rest))?;
-    Ok((label, rest))
+    Ok((Text::from_string(label), rest))
 }
 
 fn begins_alphanumeric(text: &str) -> bool
@@ -185,7 +128,7 @@ fn skip_subtags(text: &str) -> &str
 
 /// What follows a tag.
 fn skip_tag(text: &str) -> &str
-    ensures { chars result.now ≡ (primary_at (chars text.now)).1 }
+    ensures { chars result.now ≡ (tag_tail_at (chars text.now)).1 }
 {
     let mut rest = text;
     while let Some((c, after)) = first_char(rest) {
@@ -201,8 +144,8 @@ fn skip_tag(text: &str) -> &str
 }
 
 /// Behind `@`: the tag in lower case, and what follows it.
-fn read_tag(alloc: Global, text: &str) -> Result<(String, &str), LineFault>
-    ensures { Gives (λ x. (string_bytes x.0, chars x.1.now)) result (tag_at (chars text.now)) }
+fn read_tag(alloc: Global, text: &str) -> Result<(Text, &str), LineFault>
+    ensures { Gives (λ x. (x.0, chars x.1.now)) result (tag_at (chars text.now)) }
 {
     let Some((c, _)) = first_char(text) else {
         return Err(LineFault::Bad);
@@ -211,21 +154,34 @@ fn read_tag(alloc: Global, text: &str) -> Result<(String, &str), LineFault>
         return Err(LineFault::Bad);
     }
     let rest = skip_tag(text);
-    let mut tag = String::from_str(alloc, text_before(text, rest))?;
-    tag.make_ascii_lowercase();
+    let tag = lower_tag(alloc, text_before(text, rest))?;
     Ok((tag, rest))
 }
 
-/// Behind `<`: the IRI, which has a scheme, and what follows it.
-#[tactic(auto, unfolding(crate::specs::Reading::iri_at))]
-fn read_iri(alloc: Global, text: &str) -> Result<(String, &str), LineFault>
-    ensures { Gives (λ x. (string_bytes x.0, chars x.1.now)) result (iri_at (chars text.now)) }
+/// Behind `<`: the IRI, which has a scheme, and what follows the `>`.
+fn read_iri(alloc: Global, text: &str) -> Result<(Text, &str), LineFault>
+    ensures value { Gives (λ x. (x.0, chars x.1.now)) result (iri_at (chars text.now)) }
 {
-    let (iri, rest) = read_body(alloc, Kind::Iri, text)?;
-    if !has_scheme(iri.as_str()) {
-        return Err(LineFault::Bad);
+    match read_iri_ref(alloc, text)? {
+        Some((iri, rest)) => {
+            if has_scheme(iri.as_str()) {
+                Ok((iri, rest))
+            } else {
+                Err(LineFault::Bad)
+            }
+        }
+        None => Err(LineFault::Bad),
     }
-    Ok((iri, rest))
+}
+
+/// Behind a quote: the string, and what follows the closing quote.
+fn read_string(alloc: Global, text: &str) -> Result<(Text, &str), LineFault>
+    ensures value { Gives (λ x. (x.0, chars x.1.now)) result (string_at (chars text.now)) }
+{
+    match read_quoted(alloc, text)? {
+        Some((string, rest)) => Ok((string, rest)),
+        None => Err(LineFault::Bad),
+    }
 }
 
 /// What follows this character.
@@ -246,7 +202,7 @@ fn token_from(alloc: Global, c: char, after: &str) -> Result<(Token, &str), Line
         return Ok((Token::Iri(text), rest));
     }
     if c == '"' {
-        let (lexical, rest) = read_body(alloc, Kind::Quoted, after)?;
+        let (lexical, rest) = read_string(alloc, after)?;
         return Ok((Token::Quoted(lexical), rest));
     }
     if c == '_' {

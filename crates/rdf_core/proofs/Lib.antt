@@ -1,2 +1,7 @@
 pub mod TermLaws
 pub mod QuadLaws
+pub mod HexSteps
+pub mod EscapeSteps
+pub mod EnclosedSteps
+pub mod EscapeLaws
+pub mod EnclosedLaws

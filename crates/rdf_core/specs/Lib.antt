@@ -3,3 +3,7 @@ pub mod Order
 pub mod QuadFacts
 pub mod QuadParts
 pub mod Spelling
+pub mod Characters
+pub mod Escapes
+pub mod Lexical
+pub mod LexicalReading

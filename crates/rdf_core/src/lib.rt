@@ -10,12 +10,14 @@
 //!
 //! Standard: RDF 1.1 Concepts and Abstract Syntax, sections 3 to 5; RDF 1.1 N-Quads, grammar.
 //!
-//! To read in this order: `vocabulary` (IRIs of the standards), `text`, `term`, `quad`, `spelling`.
+//! To read in this order: `vocabulary` (IRIs of the standards), `text`, `term`, `quad`, `spelling`,
+//! `lexical` (the forms inside the grammars of N-Quads and SPARQL).
 //!
 //! Not promised: that an IRI is well-formed beyond what a reader checks, or that a blank node's
 //! label can be written; a term may be made of any texts.
 #![tactic(auto)]
 
+pub mod lexical;
 mod quad;
 mod spelling;
 mod term;

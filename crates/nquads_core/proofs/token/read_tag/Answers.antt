@@ -1,4 +1,4 @@
-use Rattle.std.proofs.Common.{◌∙◌, sym, ◌++◌, ap, List, ℕ}
+use Rattle.std.proofs.Common.{sym}
 use Rattle.nquads_core.proofs.Runs.{tag_nil, tag_no, tag_front, tag_yes}
 use Rattle.nquads_core.proofs.token.read_tag.Goals as goal
 
@@ -13,4 +13,4 @@ text_before-requires c = (_, tag_front c.args.text.now c.skip_tag-rest.result.no
 
 pub returns : goal.returns
 returns c =
-    tag_yes c.in-Some.c c.args.text.now c.in-Some.field-0-1.now c.skip_tag-rest.result.now _ _ c.utf8.text c.skip_tag-rest.utf8 c.in-Some.ensures.0 (sym c.if-not-is_ascii_alphabetic.ensures.value) c.skip_tag-rest.ensures (c.text_before.ensures ∙ ap (λ (t : List ℕ). t ++ c.skip_tag-rest.result.now) (sym c.in_ok-tag.ensures.ok)) c.make_ascii_lowercase.ensures.bytes
+    tag_yes c.in-Some.c c.args.text.now c.in-Some.field-0-1.now c.skip_tag-rest.result.now _ _ c.utf8.text c.skip_tag-rest.utf8 c.in-Some.ensures.0 (sym c.if-not-is_ascii_alphabetic.ensures.value) c.skip_tag-rest.ensures c.text_before.ensures c.in_ok-tag.ensures.value

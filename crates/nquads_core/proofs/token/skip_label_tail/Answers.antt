@@ -4,7 +4,7 @@ use Rattle.nquads_core.proofs.token.skip_label_tail.Goals as goal
 
 pub loop-c-preserved-then-is_label_char : goal.loop-c-preserved-then-is_label_char
 loop-c-preserved-then-is_label_char c =
-    tail_goes_on c.loop-c.good.now c.loop-c.rest.now c.args.text.now c.in-Some.after.now c.in-Some.c c.loop-c.invariant c.in-Some.ensures.0 c.in-Some.ensures.1 (sym c.if-is_label_char.ensures)
+    tail_goes_on c.loop-c.good.now c.loop-c.rest.now c.args.text.now c.in-Some.after.now c.in-Some.c c.loop-c.invariant c.in-Some.ensures.0 c.in-Some.ensures.1 (sym c.if-is_label_char.ensures.value)
 
 pub loop-c-preserved : goal.loop-c-preserved
 loop-c-preserved c =
@@ -13,7 +13,7 @@ loop-c-preserved c =
 pub returns-else-c-eq46 : goal.returns-else-c-eq46
 returns-else-c-eq46 c =
     tail_done c.loop-c.good.now c.loop-c.rest.now c.args.text.now c.loop-c.invariant
-    (Stops-cons c.in-Some.c _ _ c.in-Some.ensures.0 (sym c.if-is_label_char.ensures) c.if-c-eq46.false)
+    (Stops-cons c.in-Some.c _ _ c.in-Some.ensures.0 (sym c.if-is_label_char.ensures.value) c.if-c-eq46.false)
 
 pub returns : goal.returns
 returns c =

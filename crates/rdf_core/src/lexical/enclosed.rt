@@ -1,0 +1,143 @@
+//! What stands inside delimiters: an IRI in angle brackets, a string in quotes.
+
+ghost use Rattle.std.specs.Prelude.{◌≡◌, ℕ, List, [], None, Some, IfSome, IfOk, MatchOption, string_bytes};
+ghost use Rattle.std.specs.Str.{IsUtf8, chars};
+ghost use Rattle.rdf_core.specs.Characters.{is_iri_char, is_string_char};
+ghost use Rattle.rdf_core.specs.Escapes.{IsIriPart, IsStringPart, IsAnyPart, IsWritten, IsEnclosed};
+ghost use Rattle.rdf_core.specs.LexicalReading.{Finds, is_raw, is_close, parts_at, with_bytes};
+
+use crate::lexical::characters::{first_char, is_iri_char, is_string_char};
+use crate::lexical::escapes::{Inside, escape};
+use crate::text::Text;
+use std::alloc::{AllocError, Global};
+
+fn is_raw(kind: Inside, c: char) -> bool
+    ensures { result ≡ is_raw kind c }
+{
+    match kind {
+        Inside::Iri => is_iri_char(c),
+        Inside::Quoted => is_string_char(c),
+        Inside::Any => c != '\\',
+    }
+}
+
+fn is_close(close: Option<char>, c: char) -> bool
+    ensures { result ≡ is_close close c }
+{
+    match close {
+        Some(close) => c == close,
+        None => false,
+    }
+}
+
+/// The decoded text up to the closing sign, or up to the end where there is none, and what follows.
+/// None: it is not written as its kind must be, or the closing sign is missing.
+fn read_parts(
+    alloc: Global,
+    kind: Inside,
+    close: Option<char>,
+    text: &str,
+) -> Result<Option<(String, &str)>, AllocError>
+    ensures value { IfOk result (λ found. Finds (λ x. (string_bytes x.0, chars x.1.now)) found
+        (with_bytes [] (parts_at kind close 0 (chars text.now)))) }
+    ensures text { IfOk result (λ found. IfSome found (λ x. IsUtf8 x.1.now)) }
+{
+    let mut value = String::new(alloc);
+    let mut rest = text;
+    while let Some((c, after)) = first_char(rest) {
+        if is_close(close, c) {
+            return Ok(Some((value, after)));
+        }
+        if c == '\\' {
+            let Some((meant, behind)) = escape(kind, after) else {
+                return Ok(None);
+            };
+            value.push(meant)?;
+            rest = behind;
+        } else if is_raw(kind, c) {
+            value.push(c)?;
+            rest = after;
+        } else {
+            return Ok(None);
+        }
+    }
+    match close {
+        Some(_) => Ok(None),
+        None => Ok(Some((value, rest))),
+    }
+}
+
+/// Reads an IRI in angle brackets from behind the `<`: its decoded text, and what follows the `>`
+/// (IRIREF).
+///
+/// None: no `>` ends it, a character stands there that may not, or an escape is wrong, names no
+/// scalar value, or names a character that may not stand raw. Whether it has a scheme is not judged.
+///
+/// # Errors
+/// `AllocError`: a growth was refused.
+pub fn read_iri_ref(alloc: Global, text: &str) -> Result<Option<(Text, &str)>, AllocError>
+    ensures found { IfOk result (λ found. MatchOption found
+        ((bytes rest : List ℕ) → IsEnclosed IsIriPart 62 (chars text.now) bytes rest → ⊥)
+        (λ x. IsEnclosed IsIriPart 62 (chars text.now) x.0 (chars x.1.now))) }
+    ensures text { IfOk result (λ found. IfSome found (λ x. IsUtf8 x.1.now)) }
+{
+    match read_parts(alloc, Inside::Iri, Some('>'), text)? {
+        Some((iri, rest)) => Ok(Some((Text::from_string(iri), rest))),
+        None => Ok(None),
+    }
+}
+
+/// Reads a string in double quotes from behind the opening quote: its decoded text, and what follows
+/// the closing quote (STRING_LITERAL_QUOTE of N-Quads, STRING_LITERAL2 of SPARQL).
+///
+/// None: no quote ends it, a line end stands in it, or an escape is wrong or names no scalar value.
+///
+/// # Errors
+/// `AllocError`: a growth was refused.
+pub fn read_quoted(alloc: Global, text: &str) -> Result<Option<(Text, &str)>, AllocError>
+    ensures found { IfOk result (λ found. MatchOption found
+        ((bytes rest : List ℕ) → IsEnclosed IsStringPart 34 (chars text.now) bytes rest → ⊥)
+        (λ x. IsEnclosed IsStringPart 34 (chars text.now) x.0 (chars x.1.now))) }
+    ensures text { IfOk result (λ found. IfSome found (λ x. IsUtf8 x.1.now)) }
+{
+    match read_parts(alloc, Inside::Quoted, Some('"'), text)? {
+        Some((string, rest)) => Ok(Some((Text::from_string(string), rest))),
+        None => Ok(None),
+    }
+}
+
+/// The decoded text of an IRI, given as it stands between the angle brackets.
+///
+/// None: a character stands there that may not, or an escape is wrong, names no scalar value, or
+/// names a character that may not stand raw. Whether it has a scheme is not judged.
+///
+/// # Errors
+/// `AllocError`: a growth was refused.
+pub fn unescape_iri(alloc: Global, inside: &str) -> Result<Option<Text>, AllocError>
+    ensures written { IfOk result (λ found. MatchOption found
+        ((bytes : List ℕ) → IsWritten IsIriPart (chars inside.now) bytes → ⊥)
+        (λ iri. IsWritten IsIriPart (chars inside.now) iri)) }
+{
+    match read_parts(alloc, Inside::Iri, None, inside)? {
+        Some((iri, _)) => Ok(Some(Text::from_string(iri))),
+        None => Ok(None),
+    }
+}
+
+/// The decoded text of a string, given as it stands between its quotes, of whatever kind they are.
+///
+/// None: an escape is wrong or names no scalar value. Every character but the backslash stands for
+/// itself: which of them the quotes let stand raw is not judged.
+///
+/// # Errors
+/// `AllocError`: a growth was refused.
+pub fn unescape_string(alloc: Global, inside: &str) -> Result<Option<Text>, AllocError>
+    ensures written { IfOk result (λ found. MatchOption found
+        ((bytes : List ℕ) → IsWritten IsAnyPart (chars inside.now) bytes → ⊥)
+        (λ string. IsWritten IsAnyPart (chars inside.now) string)) }
+{
+    match read_parts(alloc, Inside::Any, None, inside)? {
+        Some((string, _)) => Ok(Some(Text::from_string(string))),
+        None => Ok(None),
+    }
+}

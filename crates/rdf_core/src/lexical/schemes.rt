@@ -1,0 +1,24 @@
+//! The scheme of an IRI.
+
+ghost use Rattle.std.specs.Prelude.{◌≡◌};
+ghost use Rattle.rdf_core.specs.Lexical.{has_scheme};
+
+/// Whether an IRI begins with a scheme and a colon, so that it is not relative (RFC 3987, section
+/// 2.2): a letter, then letters, digits, `+`, `-` and `.`, then `:`.
+pub fn has_scheme(text: &str) -> bool
+    ensures value { result ≡ has_scheme text.now }
+{
+    let bytes = text.as_bytes();
+    if bytes.is_empty() || !bytes[0].is_ascii_alphabetic() {
+        return false;
+    }
+    for b in &bytes[1..] {
+        if *b == b':' {
+            return true;
+        }
+        if !(b.is_ascii_alphanumeric() || *b == b'+' || *b == b'-' || *b == b'.') {
+            return false;
+        }
+    }
+    false
+}
