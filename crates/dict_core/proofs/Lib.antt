@@ -1,3 +1,4 @@
+pub mod NumQuadLaws
 pub mod DictLaws
 pub mod InsertLaws
 pub mod AppearanceLaws

@@ -1,0 +1,4 @@
+pub mod OnceLaws
+pub mod SortOrderLaws
+pub mod RangeLaws
+pub mod IndexSteps

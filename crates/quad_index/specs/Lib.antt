@@ -1,0 +1,3 @@
+pub mod SortOrder
+pub mod Matching
+pub mod Indexed

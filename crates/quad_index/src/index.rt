@@ -1,0 +1,147 @@
+//! The index.
+ghost use Rattle.std.specs.Prelude.{◌≡◌, length, filter, nat_eq, IfOk, IsPermutation, IsSorted};
+ghost use Rattle.std.specs.List.{dedup};
+ghost use Rattle.std.specs.List.Sorted.{IsStrictlyIncreasing};
+ghost use Rattle.algebra_model.specs.Bag.{IsWithoutRepeats, without_repeats};
+ghost use Rattle.dict_core.proofs.NumQuadLaws.{quad_eq};
+ghost use Rattle.quad_index.specs.SortOrder.{by_gspo, by_gpos, by_gosp};
+ghost use Rattle.quad_index.specs.Indexed.{wanted_by};
+ghost use Rattle.quad_index.specs.Matching.{agrees, graph_names};
+
+use crate::prefix::Prefix;
+use crate::range::range;
+use crate::sort_order::{SortOrder, sort_once, sort_quads};
+use dict_core::NumQuad;
+use std::alloc::{AllocError, Global};
+use std::marker::Model;
+
+/// A set of numbered quads that is quick to look into. A contract sees it as the list of its quads,
+/// in which no quad stands twice.
+#[derive(Drop)]
+pub struct Index {
+    gspo: Vec<NumQuad>,
+    gpos: Vec<NumQuad>,
+    gosp: Vec<NumQuad>,
+    graphs: Vec<u64>,
+}
+
+impl Model for Index {
+    ghost use Rattle.std.specs.Prelude.{List};
+    ghost use Rattle.dict_core.specs.declared.num_quad.NumQuad.{NumQuad};
+    ghost use Rattle.quad_index.specs.Indexed.{IsIndexed};
+
+    ghost Value = { List NumQuad };
+
+    ghost view = { λ index. index.gspo.items };
+
+    ghost invariant = { λ index.
+        IsIndexed index.gspo.items index.gpos.items index.gosp.items index.graphs.items };
+}
+
+impl Index {
+    /// The index of these quads: a statement that is repeated counts once.
+    ///
+    /// # Errors
+    /// `AllocError`: a growth was refused. The list is dropped.
+    pub fn build(alloc: Global, quads: Vec<NumQuad>) -> Result<Index, AllocError>
+        ensures each_once { IfOk result
+            (λ index. IsPermutation (without_repeats quad_eq quads.items) index) }
+    {
+        let mut gspo = quads;
+        sort_once(&mut gspo, SortOrder::Gspo);
+        let mut gpos = Vec::from_slice(alloc, gspo.as_slice())?;
+        sort_quads(&mut gpos, SortOrder::Gpos);
+        let mut gosp = Vec::from_slice(alloc, gspo.as_slice())?;
+        sort_quads(&mut gosp, SortOrder::Gosp);
+        Index::of_lists(alloc, gspo, gpos, gosp)
+    }
+
+    /// The index of quads that are sorted already, in the three orders.
+    ///
+    /// # Errors
+    /// `AllocError`: a growth was refused. The lists are dropped.
+    pub fn of_lists(
+        alloc: Global,
+        gspo: Vec<NumQuad>,
+        gpos: Vec<NumQuad>,
+        gosp: Vec<NumQuad>,
+    ) -> Result<Index, AllocError>
+        requires distinct { IsWithoutRepeats quad_eq gspo.items }
+        requires sorted_gspo { IsSorted by_gspo gspo.items }
+        requires sorted_gpos { IsSorted by_gpos gpos.items }
+        requires sorted_gosp { IsSorted by_gosp gosp.items }
+        requires same_gpos { IsPermutation gspo.items gpos.items }
+        requires same_gosp { IsPermutation gspo.items gosp.items }
+        ensures quads { IfOk result (λ index. index ≡ gspo.items) }
+    {
+        let graphs = names_of(alloc, gspo.as_slice())?;
+        Ok(Index {
+            gspo,
+            gpos,
+            gosp,
+            graphs,
+        })
+    }
+
+    /// The quads of one graph, None for the default graph, that have the given numbers at the given
+    /// places: each once, in one of the orders of the index. The slice is lent, nothing is copied.
+    pub fn scan(&self, g: Option<u64>, s: Option<u64>, p: Option<u64>, o: Option<u64>) -> &[NumQuad]
+        ensures quads { IsPermutation (filter (agrees g s p o) self.now) result.now }
+    {
+        let wanted = wanted(g, s, p, o);
+        match (s, p, o) {
+            (None, None, None) => range(self.gspo.as_slice(), Prefix::G, wanted),
+            (Some(_), None, None) => range(self.gspo.as_slice(), Prefix::Gs, wanted),
+            (Some(_), Some(_), None) => range(self.gspo.as_slice(), Prefix::Gsp, wanted),
+            (Some(_), Some(_), Some(_)) => range(self.gspo.as_slice(), Prefix::Gspo, wanted),
+            (None, Some(_), None) => range(self.gpos.as_slice(), Prefix::Gp, wanted),
+            (None, Some(_), Some(_)) => range(self.gpos.as_slice(), Prefix::Gpo, wanted),
+            (None, None, Some(_)) => range(self.gosp.as_slice(), Prefix::Go, wanted),
+            (Some(_), None, Some(_)) => range(self.gosp.as_slice(), Prefix::Gos, wanted),
+        }
+    }
+
+    /// The graph names, rising, each once.
+    pub fn graphs(&self) -> &[u64]
+        ensures names { IsPermutation (without_repeats nat_eq (graph_names self.now)) result.now }
+        ensures rising { IsStrictlyIncreasing result.now }
+    {
+        self.graphs.as_slice()
+    }
+
+    /// How many quads there are; repeats of the list that the index was made of do not count.
+    pub fn quads(&self) -> u64
+        ensures count { result ≡ length self.now }
+        ensures distinct { IsWithoutRepeats quad_eq self.now }
+    {
+        self.gspo.len() as u64
+    }
+}
+
+/// The quad that a scan compares with; where no number is given, the place is not compared.
+fn wanted(g: Option<u64>, s: Option<u64>, p: Option<u64>, o: Option<u64>) -> NumQuad
+    ensures quad { result ≡ wanted_by g s p o }
+{
+    NumQuad {
+        g,
+        s: s.unwrap_or(0),
+        p: p.unwrap_or(0),
+        o: o.unwrap_or(0),
+    }
+}
+
+/// The graph names of sorted quads, each once.
+fn names_of(alloc: Global, quads: &[NumQuad]) -> Result<Vec<u64>, AllocError>
+    ensures names { IfOk result (λ names. names.items ≡ dedup nat_eq (graph_names quads.now)) }
+{
+    let mut names = repeated_names(alloc, quads)?;
+    names.dedup();
+    names.shrink_to_fit();
+    Ok(names)
+}
+
+fn repeated_names(alloc: Global, quads: &[NumQuad]) -> Result<Vec<u64>, AllocError>
+    ensures names { IfOk result (λ names. names.items ≡ graph_names quads.now) }
+{
+    quads.iter().filter_map(|q| q.g).collect(alloc)
+}

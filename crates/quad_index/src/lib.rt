@@ -1,0 +1,23 @@
+//! An index of numbered quads: the set of the quads in three sorted lists.
+//!
+//! An [`Index`] is seen as the list of its quads, in which no quad stands twice.
+//! [`Index::build`] makes it of a list with repeats; [`sorted_list`] and [`Index::of_lists`] do the
+//! same in parts, so that the three lists may be sorted side by side. [`Index::scan`] lends exactly
+//! the quads of one graph that have the given numbers at the given places, each once: its contract
+//! says that the slice is, in some order, the quads of the index that agree. That is what the
+//! evaluator above uses.
+//!
+//! The notion of a dataset as a set of quads: RDF 1.1 Concepts, section 4. The orders are our own.
+//!
+//! To read in this order: `sort_order`, `prefix`, `range`, `index`.
+//!
+//! Not promised: in which order a scan gives its quads.
+#![tactic(auto)]
+
+mod index;
+mod prefix;
+mod range;
+mod sort_order;
+
+pub use index::Index;
+pub use sort_order::{SortOrder, sorted_list};

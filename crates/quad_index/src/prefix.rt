@@ -1,0 +1,14 @@
+//! The beginnings of the three orders: the places that a scan compares.
+
+/// The graph, and the other places that are compared behind it.
+#[derive(Debug, Clone, Copy, PartialEq, Eq)]
+pub(crate) enum Prefix {
+    G,
+    Gs,
+    Gsp,
+    Gspo,
+    Gp,
+    Gpo,
+    Go,
+    Gos,
+}

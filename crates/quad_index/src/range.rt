@@ -1,0 +1,41 @@
+//! The part of a sorted list that agrees on the first places of its order.
+ghost use Rattle.std.specs.Prelude.{◌≡◌, IsSorted, filter};
+ghost use Rattle.std.specs.Ordering.{is_eq};
+ghost use Rattle.quad_index.specs.Indexed.{prefix_cmp};
+
+use crate::prefix::Prefix;
+use dict_core::NumQuad;
+use std::cmp::Ordering;
+
+/// The quads that agree with the wanted one on these places: two binary searches.
+#[inline(always)]
+pub(crate) fn range<'a>(list: &'a [NumQuad], by: Prefix, wanted: NumQuad) -> &'a [NumQuad]
+    requires sorted { IsSorted (prefix_cmp by) list.now }
+    ensures quads { result.now ≡ filter (λ q. is_eq (prefix_cmp by q wanted)) list.now }
+{
+    let start = list.partition_point(|q| compare(by, q, &wanted).is_lt());
+    let rest = &list[start..];
+    let count = rest.partition_point(|q| compare(by, q, &wanted).is_le());
+    &rest[..count]
+}
+
+/// The order of two quads by these places.
+#[inline(always)]
+fn compare(by: Prefix, a: &NumQuad, b: &NumQuad) -> Ordering
+    ensures order { result ≡ prefix_cmp by a.now b.now }
+{
+    let g = a.g.cmp(&b.g);
+    match by {
+        Prefix::G => g,
+        Prefix::Gs => g.then(a.s.cmp(&b.s)),
+        Prefix::Gsp => g.then(a.s.cmp(&b.s)).then(a.p.cmp(&b.p)),
+        Prefix::Gspo => g
+            .then(a.s.cmp(&b.s))
+            .then(a.p.cmp(&b.p))
+            .then(a.o.cmp(&b.o)),
+        Prefix::Gp => g.then(a.p.cmp(&b.p)),
+        Prefix::Gpo => g.then(a.p.cmp(&b.p)).then(a.o.cmp(&b.o)),
+        Prefix::Go => g.then(a.o.cmp(&b.o)),
+        Prefix::Gos => g.then(a.o.cmp(&b.o)).then(a.s.cmp(&b.s)),
+    }
+}
