@@ -1,2 +1,4 @@
 pub mod PatternLaws
 pub mod ProductionLaws
+pub mod RowLaws
+pub mod ScanLaws

@@ -6,7 +6,7 @@ use Rattle.sparql_lexer.specs.Characters.{is_space, is_line_end}
 abbrev pub beyond : Bool → List ℕ → List ℕ
 beyond inside [] = []
 beyond true (c ∷ cs) = if is_line_end c then beyond false cs else beyond true cs
-beyond false (c ∷ cs) = if is_space c then beyond false cs else (if nat_eq 35 c then beyond true cs else (c ∷ cs))
+beyond false (c ∷ cs) = if nat_eq 35 c then beyond true cs else (if is_space c then beyond false cs else (c ∷ cs))
 
 -- A comment is `#` and all up to the line's end or the text's; it counts as white space.
 abbrev pub after_blanks : List ℕ → List ℕ

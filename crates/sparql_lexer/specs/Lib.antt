@@ -1,12 +1,14 @@
 pub mod Terminal
 pub mod Pattern
 pub mod Characters
-pub mod Blanks
 pub mod Numbers
 pub mod Names
 pub mod Enclosed
+pub mod Words
 pub mod Signs
+pub mod Blanks
 pub mod Scan
-pub mod Classes
 pub mod Next
+pub mod Classes
 pub mod Forms
+pub mod Candidates

@@ -1,15 +1,36 @@
 -- The terminals of a text: the longest at each place (SPARQL 1.1 Query Language, section 19.8).
-use Rattle.std.specs.Prelude.{◌≡◌, ◌≤◌, ℕ, ◌-◌, List, [], ◌∷◌, length, take}
+use Rattle.std.specs.Prelude.{◌≡◌, ◌≤◌, ℕ, List, [], ◌∷◌, length, Some, None}
 use Rattle.sparql_lexer.specs.declared.token.Kind.{Kind}
-use Rattle.sparql_lexer.specs.Terminal.{Terminal, terminal}
-use Rattle.sparql_lexer.specs.Blanks.{after_blanks}
 use Rattle.sparql_lexer.specs.declared.token.Kind.TheVariants as kind
-use Rattle.sparql_lexer.specs.declared.token.Sign.{Sign}
+use Rattle.sparql_lexer.specs.Terminal.{Terminal, terminal}
+use Rattle.sparql_lexer.specs.Pattern.{Matches, ◌or◌}
+use Rattle.sparql_lexer.specs.Blanks.{after_blanks}
+use Rattle.sparql_lexer.specs.Enclosed.{iri, anonymous, short_string, long_string}
+use Rattle.sparql_lexer.specs.Names.{variable, namespace, prefixed_name, blank_label, language_tag}
+use Rattle.sparql_lexer.specs.Numbers.{integer, decimal, double, signed}
 use Rattle.sparql_lexer.specs.Signs.{IsSign}
+use Rattle.sparql_lexer.specs.Words.{IsWord, taken}
 
 -- text begins with a terminal of the kind, and rest stands behind it
-pub data Reads : Kind → List ℕ → List ℕ → Type 0 where
-  a_sign : {s : Sign} {text rest : List ℕ} → IsSign s text rest → Reads (kind.Sign s) text rest
+abbrev pub Reads : Kind → List ℕ → List ℕ → Type 0
+Reads kind.IriRef = Matches iri
+Reads kind.Variable = Matches variable
+Reads kind.PrefixedNamespace = Matches namespace
+Reads kind.PrefixedName = Matches prefixed_name
+Reads kind.BlankLabel = Matches blank_label
+Reads kind.Anonymous = Matches anonymous
+Reads kind.LanguageTag = Matches language_tag
+Reads kind.Integer = Matches integer
+Reads kind.Decimal = Matches decimal
+Reads kind.Double = Matches double
+Reads kind.SignedInteger = Matches (signed integer)
+Reads kind.SignedDecimal = Matches (signed decimal)
+Reads kind.SignedDouble = Matches (signed double)
+Reads kind.ShortString = Matches (short_string 39 or short_string 34)
+Reads kind.LongString = Matches (long_string 39 or long_string 34)
+Reads (kind.Keyword k) = IsWord (Some k)
+Reads kind.Word = IsWord None
+Reads (kind.Sign s) = IsSign s
 
 -- the longest terminal at a place
 pub record Longest (k : Kind) (place rest : List ℕ) : Type 0 where
@@ -24,4 +45,4 @@ Unreadable place = (k : Kind) (rest : List ℕ) → Reads k place rest → ⊥
 pub data Scans : List ℕ → List Terminal → List ℕ → Type 0 where
   stops : {text place : List ℕ} → after_blanks text ≡ place → Unreadable place → Scans text [] place
   reads : {text place rest end : List ℕ} {k : Kind} {ts : List Terminal} → after_blanks text ≡ place → Longest k place rest → Scans rest ts end
-      → Scans text (terminal k (take (length place - length rest) place) ∷ ts) end
+      → Scans text (terminal k (taken place rest) ∷ ts) end

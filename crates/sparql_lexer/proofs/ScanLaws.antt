@@ -1,0 +1,50 @@
+-- Terminals are not empty, and one more of them.
+use Rattle.std.proofs.Common.{◌≡◌, ℕ, ◌<◌, ◌≤◌, ◌-◌, List, [], ◌∷◌, ◌++◌, length, take, refl, sym, ap, ◌∙◌, subst, arith}
+use Rattle.sparql_lexer.specs.declared.token.Kind.{Kind}
+use Rattle.sparql_lexer.specs.declared.token.Kind.TheVariants as kind
+use Rattle.sparql_lexer.specs.declared.token.Sign.{Sign}
+use Rattle.sparql_lexer.specs.declared.token.Token.{Token}
+use Rattle.sparql_lexer.specs.Blanks.{after_blanks}
+use Rattle.sparql_lexer.specs.Pattern.{left, right}
+use Rattle.sparql_lexer.specs.Scan.{Reads, Longest, Unreadable, Scans, stops, reads}
+use Rattle.sparql_lexer.specs.Signs.{IsSign, one, two}
+use Rattle.sparql_lexer.specs.Terminal.{Terminal, terminal, terminals}
+use Rattle.sparql_lexer.specs.Words.{taken}
+use Rattle.sparql_lexer.proofs.PatternLaws.{Behind, here, next, behind, strictly}
+
+sign_behind : {s : Sign} {ts r : List ℕ} → IsSign s ts r → Behind ts r
+sign_behind (one e) = next here
+sign_behind (two e) = next (next here)
+
+pub reads_behind : (k : Kind) (ts r : List ℕ) → Reads k ts r → Behind ts r
+reads_behind (kind.Keyword k) ts r d = behind d.letters
+reads_behind kind.Word ts r d = behind d.letters
+reads_behind (kind.Sign s) ts r d = sign_behind d
+reads_behind _ ts r d = behind d
+
+sign_shorter : {s : Sign} {ts r : List ℕ} → IsSign s ts r → length r < length ts
+sign_shorter (one e) = omega arith
+sign_shorter (two e) = omega arith
+
+pub reads_shorter : (k : Kind) (ts r : List ℕ) → Reads k ts r → length r < length ts
+reads_shorter (kind.Keyword k) ts r d = strictly refl d.letters
+reads_shorter kind.Word ts r d = strictly refl d.letters
+reads_shorter (kind.Sign s) ts r d = sign_shorter d
+reads_shorter _ ts r d = strictly refl d
+
+one_more : (xs : List Token) (t : Token) (ts : List Terminal) → terminals (xs ++ t ∷ []) ++ ts ≡ terminals xs ++ (terminal t.kind t.text.now ∷ ts)
+one_more [] t ts = refl
+one_more (x ∷ xs) t ts = ap (λ us. terminal x.kind x.text.now ∷ us) (one_more xs t ts)
+
+no_more : (xs : List Terminal) → xs ++ [] ≡ xs
+no_more [] = refl
+no_more (x ∷ xs) = ap (λ us. x ∷ us) (no_more xs)
+
+pub scans_stop : (text rest place : List ℕ) (xs : List Terminal) → ((ts : List Terminal) (end : List ℕ) → Scans rest ts end → Scans text (xs ++ ts) end) → place ≡ after_blanks rest → Unreadable place → Scans text xs place
+scans_stop text rest place xs inv is none = subst (λ ts. Scans text ts place) (no_more xs) (inv [] place (stops (sym is) none))
+
+pub scans_read : (text rest place behind : List ℕ) (xs ys : List Token) (t : Token) → ((ts : List Terminal) (end : List ℕ) → Scans rest ts end → Scans text (terminals xs ++ ts) end) → place ≡ after_blanks rest → Longest t.kind place behind
+    → t.text.now ≡ taken place behind → ys ≡ xs ++ t ∷ [] → (ts : List Terminal) (end : List ℕ) → Scans behind ts end → Scans text (terminals ys ++ ts) end
+scans_read text rest place behind xs ys t inv is longest spanned pushed ts end d =
+    subst (λ us. Scans text us end) (sym (ap (λ ys. terminals ys ++ ts) pushed ∙ one_more xs t ts))
+    (inv (terminal t.kind t.text.now ∷ ts) end (subst (λ w. Scans rest (terminal t.kind w ∷ ts) end) (sym spanned) (reads (sym is) longest d)))

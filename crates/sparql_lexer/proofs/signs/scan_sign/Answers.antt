@@ -1,0 +1,21 @@
+use Rattle.std.proofs.Common.{◌≡◌, ◌∙◌, sym, ap, refl, Option, Some, None, List, ℕ, ◌<◌, ◌≤◌, length, arith, nat_eq, rules}
+use Rattle.sparql_lexer.specs.Candidates.{either, name_rows, number_rows, signed_rows, enclosed_rows, marked_rows, every_row}
+use Rattle.sparql_lexer.specs.Enclosed.{iri, anonymous, short_string, long_string}
+use Rattle.sparql_lexer.specs.Names.{variable, namespace, prefixed_name, blank_label, language_tag, word}
+use Rattle.sparql_lexer.specs.Numbers.{integer, decimal, double, signed}
+use Rattle.sparql_lexer.specs.Pattern.{◌or◌}
+use Rattle.sparql_lexer.proofs.PatternLaws.{shorter}
+use Rattle.sparql_lexer.proofs.RowLaws.{word_keyword, word_other, word_none, sign_pair, sign_single, sign_none, sign_end, of_all, row-iri_ref, row-variable, row-prefixed_namespace, row-prefixed_name, row-blank_label, row-anonymous, row-language_tag, row-integer, row-decimal, row-double, row-signed_integer, row-signed_decimal, row-signed_double, row-short_string, row-long_string}
+use Rattle.sparql_lexer.proofs.signs.scan_sign.Goals as goal
+
+pub returns-in_err-first : goal.returns-in_err-first
+returns-in_err-first c = rw c.from_residual.ensures (sign_end c.args.text.now c.in_err-first.ensures)
+
+pub returns-in-Some : goal.returns-in-Some
+returns-in-Some c = let h = c.in-Some.ensures in sign_pair c.args.text.now c.in_ok-first.after.now c.in-Some.behind.now c.in_ok-first.first h.0 c.in-Some.sign c.in_ok-first.ensures h.1 h.2
+
+pub returns-in-Some-sign_of_one : goal.returns-in-Some-sign_of_one
+returns-in-Some-sign_of_one c = sign_single c.args.text.now c.in_ok-first.after.now c.in_ok-first.first c.in-Some-sign_of_one.sign c.in_ok-first.ensures c.in_default.ensures (sym c.sign_of_one.ensures ∙ c.in-Some-sign_of_one.is)
+
+pub returns-in-None : goal.returns-in-None
+returns-in-None c = sign_none c.args.text.now c.in_ok-first.after.now c.in_ok-first.first c.in_ok-first.ensures c.in_default.ensures (sym c.sign_of_one.ensures ∙ c.in-None.is)

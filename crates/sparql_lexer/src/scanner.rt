@@ -1,0 +1,70 @@
+//! All terminals of a text.
+
+ghost use Rattle.std.specs.Prelude.{◌≡◌, ◌≤◌, IfOk, length};
+ghost use Rattle.sparql_lexer.specs.Blanks.{after_blanks};
+ghost use Rattle.sparql_lexer.specs.Scan.{Scans};
+ghost use Rattle.sparql_lexer.specs.Terminal.{terminals};
+
+use crate::candidates::scan_terminal;
+use crate::classes::{Class, is_member};
+use crate::cursor::next;
+use crate::token::Token;
+use std::alloc::{AllocError, Global};
+
+/// The terminals of a text up to its end, or up to the first place where none can be read.
+#[derive(Debug, Drop)]
+pub struct Scan<'a> {
+    /// The terminals, in their order.
+    pub tokens: Vec<Token<'a>>,
+    /// What stands at that place; empty where the text was read whole.
+    pub rest: &'a [char],
+}
+
+/// What stands behind white space and comments.
+fn skip_blanks(text: &[char]) -> &[char]
+    ensures value { result.now ≡ after_blanks text.now }
+    ensures shorter { length result.now ≤ length text.now }
+{
+    let mut rest = text;
+    let mut in_comment = false;
+    'blanks: while let Some((c, after)) = next(rest) {
+        if in_comment {
+            in_comment = !is_member(Class::LineEnd, c);
+        } else if c == '#' {
+            in_comment = true;
+        } else if !is_member(Class::Space, c) {
+            return rest;
+        }
+        rest = after;
+    }
+    rest
+}
+
+/// Splits a text into its terminals (SPARQL 1.1 Query Language, section 19.8): the longest at each
+/// place, with white space and comments between them.
+///
+/// `rest` is empty exactly where the whole text was read. Escapes are cut here and decoded later:
+/// a terminal whose escape names no character counts as read.
+///
+/// # Errors
+/// A growth was refused. It says nothing of the text.
+pub fn scan_text<'a>(alloc: Global, text: &'a [char]) -> Result<Scan<'a>, AllocError>
+    ensures { IfOk result (λ scan. Scans text.now (terminals scan.tokens.items) scan.rest.now) }
+{
+    let mut tokens = Vec::new(alloc);
+    let mut rest = text;
+    'terminals: loop {
+        let place = skip_blanks(rest);
+        let Some((kind, behind)) = scan_terminal(place) else {
+            return Ok(Scan {
+                tokens,
+                rest: place,
+            });
+        };
+        tokens.push(Token {
+            kind,
+            text: &place[..place.len() - behind.len()],
+        })?;
+        rest = behind;
+    }
+}
