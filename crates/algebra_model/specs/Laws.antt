@@ -7,14 +7,14 @@ use Rattle.rdf_core.proofs.TermLaws.{term_eq}
 use Rattle.algebra_model.specs.Bag.{IsSameBag, IsSameSet, IsWithoutRepeats}
 use Rattle.algebra_model.specs.Solution.{Solution, same_solution, is_compatible}
 use Rattle.algebra_model.specs.Bgp.{Triple, TriplePattern, bgp, same_triple_by}
-use Rattle.algebra_model.specs.Operators.{join, left_join, minus, extend, project, distinct, table}
+use Rattle.algebra_model.specs.Operators.{merges, join, left_join, minus, extend, project, distinct, table}
 use Rattle.algebra_model.specs.Algebra.{Algebra}
 use Rattle.algebra_model.specs.Eval.{eval}
 use Rattle.algebra_model.specs.Sorted.{IsRising}
 use Rattle.algebra_model.specs.RowOrder.{cells, cells_cmp, row_cmp, sorted_rows}
 use Rattle.algebra_model.specs.Reading.{Each, EachBound, EachOfTriple, EachOfPattern, read_row, read_triple, read_pattern}
 use Rattle.algebra_model.specs.Solve.{solve, extend_by, agrees_with, AreBelow, left_row}
-use Rattle.algebra_model.specs.Keys.{is_keyed, same_key}
+use Rattle.algebra_model.specs.Keys.{is_keyed, same_key, candidates}
 use Rattle.algebra_model.specs.Pieces.{joined}
 
 -- A solution of terms.
@@ -183,6 +183,13 @@ KeysApart = (vs : List ℕ) (μ ν : Row)
     → is_keyed vs ν ≡ true
     → same_key term_eq vs μ ν ≡ false
     → is_compatible term_eq μ ν ≡ false
+
+-- Of a solution with a key, only the solutions that have the same key, or an unbound key variable,
+-- have to be tried.
+abbrev pub CandidatesSuffice : Type 0
+CandidatesSuffice = (vs : List ℕ) (μ : Row) (B : List Row)
+    → is_keyed vs μ ≡ true
+    → IsSameBag (merges term_eq μ (candidates term_eq vs μ B)) (merges term_eq μ B)
 
 -- Solutions that tie in the order of rows have the same row.
 abbrev pub TiesAreEqual : Type 0

@@ -1,5 +1,5 @@
 //! Laws of the algebra: each is the contract of a function that does nothing.
-ghost use Rattle.algebra_model.specs.Laws.{BagIsItsCounts, BuiltIsTried, PatternHasNoOrder, ScanIsEnough, DatasetIsSet, JoinKeepsBags, LeftJoinKeepsBags, MinusKeepsBags, UnionKeepsBags, FilterKeepsBags, ExtendKeepsBags, ProjectKeepsBags, DistinctKeepsBags, TableKeepsBags, JoinIsRead, LeftJoinIsRead, MinusIsRead, UnionIsRead, FilterIsRead, ExtendIsRead, ProjectIsRead, DistinctIsRead, TableIsRead, PatternIsRead, LeftJoinGoesByRow, KeysApart, PiecesJoin, TiesAreEqual, SortedIsBag, SortedIsRising, SortedIsUnique, BagHasOneList};
+ghost use Rattle.algebra_model.specs.Laws.{BagIsItsCounts, BuiltIsTried, PatternHasNoOrder, ScanIsEnough, DatasetIsSet, JoinKeepsBags, LeftJoinKeepsBags, MinusKeepsBags, UnionKeepsBags, FilterKeepsBags, ExtendKeepsBags, ProjectKeepsBags, DistinctKeepsBags, TableKeepsBags, JoinIsRead, LeftJoinIsRead, MinusIsRead, UnionIsRead, FilterIsRead, ExtendIsRead, ProjectIsRead, DistinctIsRead, TableIsRead, PatternIsRead, LeftJoinGoesByRow, KeysApart, CandidatesSuffice, PiecesJoin, TiesAreEqual, SortedIsBag, SortedIsRising, SortedIsUnique, BagHasOneList};
 
 /// Two lists are one bag exactly where each solution is counted equally in both.
 pub fn a_bag_is_its_counts()
@@ -56,9 +56,11 @@ pub fn solutions_may_be_taken_apart()
     ensures pieces { PiecesJoin }
 {}
 
-/// A join may leave out the pairs that bind all key variables, but to different terms.
+/// A join may leave out the pairs that bind all key variables, but to different terms. So a solution
+/// that binds them all need only be tried with those of its key and those that leave one open.
 pub fn different_keys_are_incompatible()
     ensures apart { KeysApart }
+    ensures candidates { CandidatesSuffice }
 {}
 
 /// A bag of solutions has exactly one list of sorted rows.
