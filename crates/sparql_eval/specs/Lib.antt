@@ -1,0 +1,2 @@
+pub mod How
+pub mod Pieces
