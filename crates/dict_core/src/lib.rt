@@ -1,7 +1,7 @@
 //! Numbers for terms: the quads of a document as quads of numbers, and the terms by number.
 //!
 //! A [`Dict`] is seen as the list of its distinct terms; a term's number is its place, from 0.
-//! [`number_quads`] numbers the quads of one piece by a dictionary of their own, and [`merge`]
+//! [`number_piece`] numbers the quads of one piece by a dictionary of their own, and [`merge`]
 //! joins such pieces, in order: the dictionary has exactly the terms of the quads by first
 //! appearance, and the numbered quads, read through it, are the quads (the word `IsNumbered` of
 //! specs/Numbered.antt, which the loader above uses).
@@ -27,10 +27,12 @@ mod num_quad;
 mod rounds;
 mod seen;
 mod seen_piece;
+#[cfg(test)]
+mod tests;
 
 pub use dict::Dict;
 pub use laws::{absorbing_keeps_the_numbering, earlier_places_serve};
-pub use local_piece::{LocalPiece, number_quads};
+pub use local_piece::{LocalPiece, number_piece};
 pub use merging::merge;
 pub use num_quad::NumQuad;
 pub use rounds::{look_up, take_in};

@@ -9,6 +9,7 @@ ghost use Rattle.dict_core.specs.Numbered.{IsNumbered};
 
 use crate::dict::Dict;
 use crate::num_quad::NumQuad;
+use nquads_core::Piece;
 use rdf_core::{Quad, Term};
 use std::alloc::{AllocError, Global};
 use std::hash::RandomState;
@@ -54,11 +55,23 @@ impl LocalPiece {
     }
 }
 
-/// Numbers the quads of a piece by themselves. The terms are moved, not copied.
+/// Numbers the quads of a piece by themselves, in order, repeats kept. The terms are moved, not
+/// copied; how many lines the piece has is left behind.
 ///
 /// # Errors
-/// `AllocError`: a growth was refused. The quads are dropped.
-pub fn number_quads(
+/// `AllocError`: a growth was refused. The piece is dropped.
+pub fn number_piece(
+    alloc: Global,
+    state: RandomState,
+    piece: Piece,
+) -> Result<LocalPiece, AllocError>
+    ensures quads { IfOk result (λ local. local ≡ map parts_of piece.quads.items) }
+{
+    let Piece { quads, .. } = piece;
+    number_quads(alloc, state, quads)
+}
+
+fn number_quads(
     alloc: Global,
     state: RandomState,
     quads: Vec<Quad>,
