@@ -2,3 +2,5 @@ pub mod PatternLaws
 pub mod ProductionLaws
 pub mod RowLaws
 pub mod ScanLaws
+pub mod KindLaws
+pub mod ValueLaws

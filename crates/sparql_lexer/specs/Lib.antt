@@ -8,6 +8,7 @@ pub mod Words
 pub mod Signs
 pub mod Blanks
 pub mod Scan
+pub mod Values
 pub mod Next
 pub mod Classes
 pub mod Forms

@@ -1,0 +1,29 @@
+-- What decodes a text, from what rdf_core says of it.
+use Rattle.std.proofs.Common.{◌≡◌, ℕ, List, [], ◌∷◌, ◌++◌, refl, sym, ap, ◌∙◌, subst, Option, Some, None}
+use Rattle.std.specs.Prelude.{MatchOption}
+use Rattle.std.specs.Str.{IsUtf8, chars, encode_utf8_all}
+use Rattle.std.proofs.lemmas.Str.{chars_from_encodes}
+use lib.Utf8.{encodes}
+use Rattle.rdf_core.specs.declared.lexical.escapes.Inside.{Inside}
+use Rattle.rdf_core.specs.Escapes.{IsPart, IsWritten}
+use Rattle.rdf_core.specs.LexicalReading.{parts_at, with_bytes}
+use Rattle.rdf_core.proofs.EnclosedLaws.{parts_again, written_found}
+use Rattle.sparql_lexer.specs.Values.{decoded, whole_of}
+
+no_more : (xs : List ℕ) → xs ++ [] ≡ xs
+no_more [] = refl
+no_more (x ∷ xs) = ap (λ us. x ∷ us) (no_more xs)
+
+none_missing : (k : Inside) (cs : List ℕ) (read : Option (List ℕ × List ℕ)) → read ≡ with_bytes [] (parts_at k None 0 cs) → ((bytes : List ℕ) → IsWritten (IsPart k) cs bytes → ⊥) → whole_of read ≡ None
+none_missing k cs None e h = refl
+none_missing k cs (Some x) e h = absurd (h x.0 (written_found k cs x.0 x.1 (sym e)))
+
+decoded_as : (k : Inside) (cs : List ℕ) (found : Option (List ℕ)) → MatchOption found ((bytes : List ℕ) → IsWritten (IsPart k) cs bytes → ⊥) (λ bytes. IsWritten (IsPart k) cs bytes) → found ≡ decoded k cs
+unfolding decoded
+decoded_as k cs None h = sym (none_missing k cs (with_bytes [] (parts_at k None 0 cs)) refl h)
+decoded_as k cs (Some bytes) h =
+    let again : parts_at k None 0 cs ≡ Some (h.chars, []) = ap (parts_at k None 0) (sym (no_more cs)) ∙ parts_again k None h.chars cs [] tt (λ _. refl) h.writes in
+    sym (ap (λ read. whole_of (with_bytes [] read)) again ∙ ap (λ (bs : List ℕ). Some bs) (sym h.utf8))
+
+pub value_from : (k : Inside) (cs bytes : List ℕ) (found : Option (List ℕ)) → IsUtf8 bytes → bytes ≡ encodes cs → MatchOption found ((bs : List ℕ) → IsWritten (IsPart k) (chars bytes) bs → ⊥) (λ bs. IsWritten (IsPart k) (chars bytes) bs) → found ≡ decoded k cs
+value_from k cs bytes found u e h = decoded_as k (chars bytes) found h ∙ ap (decoded k) (sym (chars_from_encodes cs bytes u (sym e)))
