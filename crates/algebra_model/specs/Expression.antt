@@ -34,10 +34,9 @@ with_value None f = None
 with_value (Some t) f = f t
 
 abbrev pub with_values : {X : Type 0} → Option Term → Option Term → (Term → Term → Option X) → Option X
-with_values (Some s) (Some t) f = f s t
+with_values None t f = None
 with_values (Some s) None f = None
-with_values None (Some t) f = None
-with_values None None f = None
+with_values (Some s) (Some t) f = f s t
 
 abbrev pub truth_of : Option Term → Option Bool
 truth_of value = with_value value ebv

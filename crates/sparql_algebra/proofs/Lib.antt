@@ -1,3 +1,5 @@
+pub mod FoldSteps
+pub mod LogicSteps
 pub mod NumberLaws
 pub mod NumberSteps
 pub mod SignLaws

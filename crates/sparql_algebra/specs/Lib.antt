@@ -4,3 +4,5 @@ pub mod Projected
 pub mod NumberShown
 pub mod ValueShown
 pub mod Digits
+pub mod HeldTerm
+pub mod MemberTruth

@@ -1,0 +1,31 @@
+use Rattle.std.proofs.Common.{◌∙◌, ap, sym, map, option_map}
+use Rattle.algebra_model.specs.Comparison.{compares, equal}
+use Rattle.algebra_model.specs.Expression.{boolean_result, val, with_values}
+use Rattle.sparql_algebra.specs.ExpressionOf.{expression_of}
+use Rattle.sparql_algebra.specs.HeldTerm.{held_term}
+use Rattle.sparql_algebra.specs.MemberTruth.{member_truth}
+use Rattle.sparql_algebra.proofs.FoldSteps.{in_stands_for}
+use Rattle.sparql_algebra.proofs.LogicSteps.{member_step, member_value}
+use Rattle.sparql_algebra.proofs.evaluation.+evaluate.Goals as goal
+
+pub evaluate-returns-in_ok-evaluate_member-in-In : goal.evaluate-returns-in_ok-evaluate_member-in-In
+evaluate-returns-in_ok-evaluate_member-in-In g t c =
+    let sol = g.R.Lookup.solution c.args.row.now in
+    let item = c.in_ok-item-in-In.ensures.value ∙ ap (λ e. val (expression_of e) sol) c.deref-in-In.ensures in
+    let list = c.deref-in-In-2.ensures.value in
+    let truth = c.in_ok-evaluate_member-in-In.ensures.truth
+    ∙ (λ i. member_truth (item i) (map expression_of (list i)) sol) in
+    let among = member_value (expression_of c.in-In.item.value) (map expression_of c.in-In.list.items) sol in
+    record {
+      value = c.boolean_value-in-In.ensures.value ∙ ap boolean_result truth ∙ among
+          ∙ sym (ap (λ e. val e sol) (ap expression_of c.in-In.is ∙ in_stands_for c.in-In.item c.in-In.list));
+    }
+
+pub evaluate_member-loop-member-preserved : goal.evaluate_member-loop-member-preserved
+evaluate_member-loop-member-preserved g t c =
+    let e = c.compare_values-equal.ensures.compared
+    ∙ ap (λ v. with_values (option_map held_term c.args.item.now) v (compares equal))
+    (c.in_ok-value.ensures.value ∙ ap (λ y. val (expression_of y) (g.R.Lookup.solution c.args.row.now)) c.member-item.is) in
+    rw c.either-found.ensures.value (member_step expression_of c.args.list.now c.loop-member.member-index c.member-item.result
+    (option_map held_term c.args.item.now) (g.R.Lookup.solution c.args.row.now) c.loop-member.found c.compare_values-equal.result _
+    c.loop-member-test.true e c.loop-member.invariant)

@@ -1,0 +1,15 @@
+-- The term that a value on the way stands for.
+use Rattle.rdf_core.specs.declared.term.Term.{Term}
+use Rattle.algebra_model.specs.Call.{boolean_term}
+use Rattle.sparql_algebra.specs.declared.held.Held as held
+use Rattle.sparql_algebra.specs.declared.held.Held.TheVariants.{Lent, Owned}
+use Rattle.sparql_algebra.specs.declared.held.Value as value
+use Rattle.sparql_algebra.specs.declared.held.Value.TheVariants.{Held, Truth}
+
+abbrev pub held_term : held.Held → Term
+held_term (Lent term) = term.now
+held_term (Owned term) = term
+
+abbrev pub value_term : value.Value → Term
+value_term (Held held) = held_term held
+value_term (Truth b) = boolean_term b

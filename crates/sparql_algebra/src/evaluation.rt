@@ -1,0 +1,268 @@
+//! The values of expressions over a row (SPARQL 1.1 Query Language, section 17).
+ghost use Rattle.std.specs.Prelude.{◌≡◌, IfOk, None, Some, map, option_map};
+ghost use Rattle.rdf_core.proofs.TermLaws.{term_eq};
+ghost use Rattle.algebra_model.specs.BooleanValue.{logical_and, logical_not, logical_or};
+ghost use Rattle.algebra_model.specs.Comparison.{compares};
+ghost use Rattle.algebra_model.specs.Expression.{holds, truth_of, val, with_values};
+ghost use Rattle.sparql_algebra.specs.ExpressionOf.{comparison_of, expression_of};
+ghost use Rattle.sparql_algebra.specs.MemberTruth.{member_truth};
+ghost use Rattle.sparql_algebra.specs.HeldTerm.{held_term, value_term};
+
+use crate::comparison::compare;
+use crate::expression::Expr;
+use crate::held::{Held, Value, boolean_value, call};
+use crate::lookup::Lookup;
+use rdf_core::Term;
+use sparql_tree::Comparison;
+use std::alloc::{AllocError, Global};
+
+/// Why an expression has no value.
+#[derive(Debug, Clone, Copy, PartialEq, Eq)]
+pub enum ExprFault {
+    /// The expression is an error over this row.
+    Error,
+    /// A growth was refused. It says nothing of the value.
+    Memory,
+}
+
+/// The value of an expression over a row (SPARQL 1.1 Query Language, section 17).
+///
+/// An unbound variable is an error. `||` and `&&` may have a value although one side is an error.
+///
+/// # Errors
+/// - `Error`: the expression is an error over this row.
+/// - `Memory`: a growth was refused.
+pub fn value<R: Lookup>(alloc: Global, expr: &Expr, row: &R) -> Result<Term, ExprFault>
+    ensures value { IfOk result (λ term. val (expression_of expr.now) (R.solution row.now) ≡ Some term) }
+    ensures error { (result ≡ Err ExprFault.Error) → val (expression_of expr.now) (R.solution row.now) ≡ None }
+{
+    match evaluate(alloc, expr, row) {
+        Ok(Some(value)) => match owned(alloc, value) {
+            Ok(term) => Ok(term),
+            Err(_) => Err(ExprFault::Memory),
+        },
+        Ok(None) => Err(ExprFault::Error),
+        Err(_) => Err(ExprFault::Memory),
+    }
+}
+
+/// Whether a row passes a filter: whether the expression has a value there, and its effective
+/// boolean value is true (SPARQL 1.1 Query Language, section 18.5, Filter).
+///
+/// It copies no variable's or constant's term, and makes no literal of a truth value.
+///
+/// # Errors
+/// `AllocError`: a growth was refused.
+pub fn test<R: Lookup>(alloc: Global, expr: &Expr, row: &R) -> Result<bool, AllocError>
+    ensures holds { IfOk result (λ passes. passes ≡ holds (expression_of expr.now) (R.solution row.now)) }
+{
+    match evaluate_truth(alloc, expr, row)? {
+        Some(value) => Ok(value),
+        None => Ok(false),
+    }
+}
+
+fn owned(alloc: Global, value: Value) -> Result<Term, AllocError>
+    ensures term { IfOk result (λ term. term ≡ value_term value.entry) }
+{
+    value.into_held(alloc)?.into_term(alloc)
+}
+
+/// The value, and None where it is an error.
+#[cycle(evaluate)]
+fn evaluate<'a, R: Lookup>(
+    alloc: Global,
+    expr: &'a Expr,
+    row: &'a R,
+) -> Result<Option<Value<'a>>, AllocError>
+    ensures value { IfOk result (λ value.
+        option_map value_term value ≡ val (expression_of expr.entry.now) (R.solution row.entry.now)) }
+{
+    match expr {
+        Expr::Variable(variable) => Ok(lent(row.get(*variable))),
+        Expr::Constant(term) => Ok(Some(Value::Held(Held::Lent(term)))),
+        Expr::Or { left, right } => {
+            let left = evaluate_truth(alloc, left, row)?;
+            Ok(boolean_value(evaluate_or(alloc, left, right, row)?))
+        }
+        Expr::And { left, right } => {
+            let left = evaluate_truth(alloc, left, row)?;
+            Ok(boolean_value(evaluate_and(alloc, left, right, row)?))
+        }
+        Expr::Not(inner) => Ok(boolean_value(negated(evaluate_truth(alloc, inner, row)?))),
+        Expr::Compare {
+            operator,
+            left,
+            right,
+        } => {
+            let left = evaluate_held(alloc, left, row)?;
+            let right = evaluate_held(alloc, right, row)?;
+            Ok(boolean_value(compare_values(*operator, &left, &right)))
+        }
+        Expr::In { item, list } => {
+            let item = evaluate_held(alloc, item, row)?;
+            Ok(boolean_value(evaluate_member(alloc, &item, list, row)?))
+        }
+        Expr::Call { function, argument } => match evaluate_held(alloc, argument, row)? {
+            Some(term) => call(alloc, *function, term.as_term()),
+            None => Ok(None),
+        },
+        Expr::Bound(variable) => Ok(Some(Value::Truth(row.get(*variable).is_some()))),
+        Expr::SameTerm { left, right } => {
+            let left = evaluate_held(alloc, left, row)?;
+            let right = evaluate_held(alloc, right, row)?;
+            Ok(boolean_value(same_values(&left, &right)))
+        }
+    }
+}
+
+fn lent(term: Option<&Term>) -> Option<Value<'_>>
+    ensures value { option_map value_term result ≡ option_map (λ t. t.now) term.entry }
+{
+    match term {
+        Some(term) => Some(Value::Held(Held::Lent(term))),
+        None => None,
+    }
+}
+
+fn negated(truth: Option<bool>) -> Option<bool>
+    ensures value { result ≡ logical_not truth }
+{
+    match truth {
+        Some(value) => Some(!value),
+        None => None,
+    }
+}
+
+/// The value as a term, and None where it is an error.
+#[cycle(evaluate)]
+fn evaluate_held<'a, R: Lookup>(
+    alloc: Global,
+    expr: &'a Expr,
+    row: &'a R,
+) -> Result<Option<Held<'a>>, AllocError>
+    ensures value { IfOk result (λ value.
+        option_map held_term value ≡ val (expression_of expr.entry.now) (R.solution row.entry.now)) }
+{
+    match evaluate(alloc, expr, row)? {
+        Some(value) => Ok(Some(value.into_held(alloc)?)),
+        None => Ok(None),
+    }
+}
+
+/// The effective boolean value, and None where the value or the effective boolean value is an error.
+#[cycle(evaluate)]
+fn evaluate_truth<R: Lookup>(
+    alloc: Global,
+    expr: &Expr,
+    row: &R,
+) -> Result<Option<bool>, AllocError>
+    ensures truth { IfOk result (λ truth. truth ≡ truth_of (val (expression_of expr.now) (R.solution row.now))) }
+{
+    match evaluate(alloc, expr, row)? {
+        Some(value) => Ok(value.truth()),
+        None => Ok(None),
+    }
+}
+
+/// `left || right`. The right side is tried only where the left one does not decide.
+#[cycle(evaluate)]
+fn evaluate_or<R: Lookup>(
+    alloc: Global,
+    left: Option<bool>,
+    right: &Expr,
+    row: &R,
+) -> Result<Option<bool>, AllocError>
+    ensures truth { IfOk result (λ truth.
+        truth ≡ logical_or left (truth_of (val (expression_of right.now) (R.solution row.now)))) }
+{
+    match left {
+        Some(true) => Ok(Some(true)),
+        Some(false) => evaluate_truth(alloc, right, row),
+        None => match evaluate_truth(alloc, right, row)? {
+            Some(true) => Ok(Some(true)),
+            Some(false) | None => Ok(None),
+        },
+    }
+}
+
+/// `left && right`. The right side is tried only where the left one does not decide.
+#[cycle(evaluate)]
+fn evaluate_and<R: Lookup>(
+    alloc: Global,
+    left: Option<bool>,
+    right: &Expr,
+    row: &R,
+) -> Result<Option<bool>, AllocError>
+    ensures truth { IfOk result (λ truth.
+        truth ≡ logical_and left (truth_of (val (expression_of right.now) (R.solution row.now)))) }
+{
+    match left {
+        Some(false) => Ok(Some(false)),
+        Some(true) => evaluate_truth(alloc, right, row),
+        None => match evaluate_truth(alloc, right, row)? {
+            Some(false) => Ok(Some(false)),
+            Some(true) | None => Ok(None),
+        },
+    }
+}
+
+/// `item IN (list)`: whether the item is equal to a member, or an error where that cannot be told.
+#[cycle(evaluate)]
+fn evaluate_member<R: Lookup>(
+    alloc: Global,
+    item: &Option<Held>,
+    list: &[Expr],
+    row: &R,
+) -> Result<Option<bool>, AllocError>
+    ensures truth { IfOk result (λ truth. truth ≡ member_truth (option_map held_term item.now)
+        (map expression_of list.now) (R.solution row.now)) }
+{
+    let mut found = Some(false);
+    for member in list {
+        let value = evaluate_held(alloc, member, row)?;
+        let equal = compare_values(Comparison::Equal, item, &value);
+        found = either(found, equal);
+    }
+    Ok(found)
+}
+
+/// The logic table of `||`.
+fn either(left: Option<bool>, right: Option<bool>) -> Option<bool>
+    ensures value { result ≡ logical_or left right }
+{
+    match left {
+        Some(true) => Some(true),
+        Some(false) => right,
+        None => match right {
+            Some(true) => Some(true),
+            Some(false) | None => None,
+        },
+    }
+}
+
+fn compare_values(operator: Comparison, left: &Option<Held>, right: &Option<Held>) -> Option<bool>
+    ensures compared { result ≡ with_values (option_map held_term left.now) (option_map held_term right.now)
+        (compares (comparison_of operator)) }
+{
+    let Some(left) = left else {
+        return None;
+    };
+    let Some(right) = right else {
+        return None;
+    };
+    compare(operator, left.as_term(), right.as_term())
+}
+
+fn same_values(left: &Option<Held>, right: &Option<Held>) -> Option<bool>
+    ensures same { result ≡ with_values (option_map held_term left.now) (option_map held_term right.now)
+        (λ s t. Some (term_eq s t)) }
+{
+    let Some(left) = left else {
+        return None;
+    };
+    let Some(right) = right else {
+        return None;
+    };
+    Some(left.as_term() == right.as_term())
+}

@@ -1,0 +1,159 @@
+//! Values on the way: a term is lent as long as that serves, and a truth value is no term yet.
+ghost use Rattle.std.specs.Prelude.{◌≡◌, IfOk, option_map};
+ghost use Rattle.algebra_model.specs.BooleanValue.{ebv};
+ghost use Rattle.algebra_model.specs.Call.{boolean_term, call_value, datatype, lang, str, string_term};
+ghost use Rattle.algebra_model.specs.Expression.{boolean_result};
+ghost use Rattle.sparql_algebra.specs.ExpressionOf.{function_of};
+ghost use Rattle.sparql_algebra.specs.HeldTerm.{held_term, value_term};
+
+use crate::comparison::truth;
+use rdf_core::vocabulary::{XSD_BOOLEAN, XSD_STRING};
+use rdf_core::{Term, Text};
+use sparql_tree::Function;
+use std::alloc::{AllocError, Global};
+
+/// A term that is lent, or that the holder owns.
+#[derive(Drop)]
+pub enum Held<'a> {
+    Lent(&'a Term),
+    Owned(Term),
+}
+
+/// The value of an expression: a term, or the truth value that a boolean literal would show.
+#[derive(Drop)]
+pub enum Value<'a> {
+    Held(Held<'a>),
+    Truth(bool),
+}
+
+impl<'a> Held<'a> {
+    pub fn as_term(&self) -> &Term
+        ensures term { result.now ≡ held_term self.now }
+    {
+        match self {
+            Held::Lent(term) => term,
+            Held::Owned(term) => term,
+        }
+    }
+
+    /// The term itself, which is copied only where it was lent.
+    pub fn into_term(self, alloc: Global) -> Result<Term, AllocError>
+        ensures term { IfOk result (λ term. term ≡ held_term self.entry) }
+    {
+        match self {
+            Held::Lent(term) => term.copy(alloc),
+            Held::Owned(term) => Ok(term),
+        }
+    }
+}
+
+impl<'a> Value<'a> {
+    /// The value as a term, where a truth value becomes a literal.
+    pub fn into_held(self, alloc: Global) -> Result<Held<'a>, AllocError>
+        ensures term { IfOk result (λ held. held_term held ≡ value_term self.entry) }
+    {
+        match self {
+            Value::Held(held) => Ok(held),
+            Value::Truth(value) => Ok(Held::Owned(boolean_term(alloc, value)?)),
+        }
+    }
+
+    /// The effective boolean value, and None where that is an error.
+    pub fn truth(&self) -> Option<bool>
+        ensures truth { result ≡ ebv (value_term self.now) }
+    {
+        match self {
+            Value::Held(held) => truth(held.as_term()),
+            Value::Truth(value) => Some(*value),
+        }
+    }
+}
+
+/// What a test gives as a value, where None is an error.
+pub fn boolean_value<'a>(outcome: Option<bool>) -> Option<Value<'a>>
+    ensures value { option_map value_term result ≡ boolean_result outcome }
+{
+    match outcome {
+        Some(value) => Some(Value::Truth(value)),
+        None => None,
+    }
+}
+
+/// The call of a function on a term (SPARQL 1.1 Query Language, section 17.4.2), and None where that
+/// is an error.
+pub fn call<'a>(
+    alloc: Global,
+    function: Function,
+    term: &Term,
+) -> Result<Option<Value<'a>>, AllocError>
+    ensures value { IfOk result (λ value. option_map value_term value ≡ call_value (function_of function) term.entry.now) }
+{
+    match function {
+        Function::Str => text_of(alloc, term),
+        Function::Lang => language_of(alloc, term),
+        Function::Datatype => datatype_of(alloc, term),
+        Function::IsIri => Ok(Some(Value::Truth(matches!(term, Term::Iri(_))))),
+        Function::IsBlank => Ok(Some(Value::Truth(matches!(term, Term::Blank(_))))),
+        Function::IsLiteral => Ok(Some(Value::Truth(matches!(term, Term::Literal { .. })))),
+    }
+}
+
+fn text_of<'a>(alloc: Global, term: &Term) -> Result<Option<Value<'a>>, AllocError>
+    ensures value { IfOk result (λ value. option_map value_term value ≡ call_value str term.entry.now) }
+{
+    match term {
+        Term::Literal { lexical, .. } => Ok(Some(string_value(alloc, lexical.as_str())?)),
+        Term::Iri(text) => Ok(Some(string_value(alloc, text.as_str())?)),
+        Term::Blank(_) => Ok(None),
+    }
+}
+
+fn language_of<'a>(alloc: Global, term: &Term) -> Result<Option<Value<'a>>, AllocError>
+    ensures value { IfOk result (λ value. option_map value_term value ≡ call_value lang term.entry.now) }
+{
+    match term {
+        Term::Literal { tag: Some(tag), .. } => Ok(Some(string_value(alloc, tag.as_str())?)),
+        Term::Literal { tag: None, .. } => Ok(Some(string_value(alloc, "")?)),
+        Term::Iri(_) | Term::Blank(_) => Ok(None),
+    }
+}
+
+fn datatype_of<'a>(alloc: Global, term: &Term) -> Result<Option<Value<'a>>, AllocError>
+    ensures value { IfOk result (λ value. option_map value_term value ≡ call_value datatype term.entry.now) }
+{
+    match term {
+        Term::Literal { datatype, .. } => {
+            let iri = Term::Iri(datatype.copy(alloc)?);
+            Ok(Some(Value::Held(Held::Owned(iri))))
+        }
+        Term::Iri(_) | Term::Blank(_) => Ok(None),
+    }
+}
+
+fn string_value<'a>(alloc: Global, form: &str) -> Result<Value<'a>, AllocError>
+    ensures value { IfOk result (λ value. value_term value ≡ string_term form.entry.now) }
+{
+    let literal = Term::Literal {
+        lexical: text(alloc, form)?,
+        datatype: text(alloc, XSD_STRING)?,
+        tag: None,
+    };
+    Ok(Value::Held(Held::Owned(literal)))
+}
+
+fn boolean_term(alloc: Global, value: bool) -> Result<Term, AllocError>
+    ensures term { IfOk result (λ term. term ≡ boolean_term value) }
+{
+    let form = if value { "true" } else { "false" };
+    Ok(Term::Literal {
+        lexical: text(alloc, form)?,
+        datatype: text(alloc, XSD_BOOLEAN)?,
+        tag: None,
+    })
+}
+
+fn text(alloc: Global, form: &str) -> Result<Text, AllocError>
+    ensures text { IfOk result (λ text. text ≡ form.now) }
+{
+    Ok(Text::from_string(String::from_str(alloc, form)?))
+}
