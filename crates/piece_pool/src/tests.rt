@@ -299,3 +299,42 @@ fn a_job_without_memory(rt: HostRuntime) -> Result<(), Fail> {
     assert!(rt; fault == PoolFault::Memory);
     Ok(())
 }
+
+/// Answers each piece with a word that it was lent.
+#[derive(Drop)]
+struct Words<'a> {
+    words: &'a [u64],
+}
+
+impl<'a> Job for Words<'a> {
+    ghost use Rattle.std.specs.Prelude.{⊤};
+
+    type Out = Option<u64>;
+
+    type Fault = u64;
+
+    ghost answers = { λ _ _ _. ⊤ };
+
+    ghost faults = { λ _ _ _. ⊥ };
+
+    fn run(&self, _alloc: Global, i: u64) -> Result<Option<u64>, JobFault<u64>> {
+        Ok(self.words.get(i as usize).copied())
+    }
+
+    ghost exclusive = { λ _ _ _ _ _ f. f };
+}
+
+/// A job may borrow what it works on.
+#[test]
+fn a_job_that_borrows(rt: HostRuntime) -> Result<(), Fail> {
+    let words = [7u64, 8, 9];
+    let job = Words { words: &words };
+    let Ok(Outcome::All(outs)) = run_pieces(&rt, rt.alloc(), 2, 4, &job, &OpenGate) else {
+        panic!(rt; "no answers")
+    };
+    assert_eq!(rt;
+        outs.as_slice(),
+        [Some(7u64), Some(8), Some(9), None].as_slice()
+    );
+    Ok(())
+}
