@@ -1,3 +1,4 @@
 pub mod SortOrder
 pub mod Matching
 pub mod Indexed
+pub mod Laws

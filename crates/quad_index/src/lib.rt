@@ -5,19 +5,23 @@
 //! same in parts, so that the three lists may be sorted side by side. [`Index::scan`] lends exactly
 //! the quads of one graph that have the given numbers at the given places, each once: its contract
 //! says that the slice is, in some order, the quads of the index that agree. That is what the
-//! evaluator above uses.
+//! evaluator above uses. The laws of `laws` say what an index is when its numbers are read as terms.
 //!
 //! The notion of a dataset as a set of quads: RDF 1.1 Concepts, section 4. The orders are our own.
 //!
-//! To read in this order: `sort_order`, `prefix`, `range`, `index`.
+//! To read in this order: `sort_order`, `prefix`, `range`, `index`, `laws`.
 //!
 //! Not promised: in which order a scan gives its quads.
 #![tactic(auto)]
 
 mod index;
+mod laws;
 mod prefix;
 mod range;
 mod sort_order;
+#[cfg(test)]
+mod tests;
 
 pub use index::Index;
+pub use laws::{index_counts_the_quads, index_names_the_graphs, index_reads_the_quads};
 pub use sort_order::{SortOrder, sorted_list};

@@ -1,0 +1,20 @@
+//! Laws of an index, each the contract of a function that does nothing: for the layer above, which
+//! reads numbers as terms.
+ghost use Rattle.quad_index.specs.Laws.{IndexReadsTheQuads, IndexCountsTheQuads, IndexNamesTheGraphs};
+
+/// An index of numbered quads, read through their dictionary, is the set of the quads, and each of
+/// its numbers stands for a term.
+pub fn index_reads_the_quads()
+    ensures law { IndexReadsTheQuads }
+{}
+
+/// An index has each quad once: as many as there are distinct quads of terms.
+pub fn index_counts_the_quads()
+    ensures law { IndexCountsTheQuads }
+{}
+
+/// The graph names of an index, read as terms, are the names of the graphs of the dataset, each
+/// once.
+pub fn index_names_the_graphs()
+    ensures law { IndexNamesTheGraphs }
+{}
