@@ -144,3 +144,19 @@ crlf_line text end rest after h n e k a =
     let b = is_cr (get_or text end 0) h.byte n in
     let r : drop (end + 1) text ≡ 10 ∷ drop 1 rest = sym e ∙ lf_first rest k in
     ap lines (cut text end h.inside ∙ ap (λ (y : ℕ). take end text ++ y ∷ drop (end + 1) text) b ∙ ap (λ (y : List ℕ). take end text ++ 13 ∷ y) r) ∙ line_crlf (take end text) (drop 1 rest) h.before ∙ ap (λ (y : List ℕ). take end text ∷ lines y) (sym a)
+
+-- ---- counting
+
+-- count lines of all are counted, and rest is left
+pub record CountedLines (count : ℕ) (rest all : List ℕ) : Type 0 where
+  pub number : length (lines all) ≡ count + length (lines rest)
+  pub short : count + length rest ≤ length all
+
+pub counted_one : (count : ℕ) (rest all line after : List ℕ) → CountedLines count rest all → lines rest ≡ line ∷ lines after → length after < length rest → CountedLines (count + 1) after all
+counted_one count rest all line after h e l =
+    record { number = omega (arith, h.number, ap length e); short = omega (arith, h.short, l) }
+
+pub counted_all : (count : ℕ) (rest all : List ℕ) → CountedLines count rest all → rest ≡ [] → count ≡ length (lines all)
+counted_all count rest all h e =
+    let none : length (lines rest) ≡ 0 = ap (λ (y : List ℕ). length (lines y)) e ∙ ap length lines_nil in
+    omega (arith, h.number, none)

@@ -1,4 +1,4 @@
--- What a line of N-Quads spells.
+-- What a line of N-Quads spells (RDF 1.1 N-Quads, grammar).
 use Rattle.std.specs.Prelude.{◌≡◌, ◌≢◌, ℕ, ◌<◌, true, ◌⊎◌, List, [], ◌∷◌, ◌++◌, length, Option, Some, None, slice_index}
 use Rattle.std.specs.Str.{IsUtf8, chars}
 use Rattle.rdf_core.specs.declared.term.Term.{Term}
@@ -8,7 +8,7 @@ use Rattle.rdf_core.specs.declared.term.Term.TheVariants.{Blank, Iri, Literal}
 use Rattle.rdf_core.specs.Characters.{all_pass}
 use Rattle.nquads_core.specs.Terminal.{is_blank, Terminal, iri_ref, blank_label, quoted, lang_tag, carets, dot, IsTerminal, IsLongest}
 
--- blanks, and perhaps a comment up to the end
+-- blanks, and perhaps a comment, which is # and all up to the end
 pub record IsEnd (text : List ℕ) : Type 0 where
   pub blanks : List ℕ
   pub comment : List ℕ
@@ -32,13 +32,17 @@ Splits text (k ∷ ks) = (rest : List ℕ) × Begins text k rest × Splits rest 
 
 -- ---- productions: lists of terminals, and the term that each derives
 
+-- subject ::= IRIREF | BLANK_NODE_LABEL
 pub data Subject : List Terminal → Term → Type 0 where
   iri_subject : {text : List ℕ} → Subject (iri_ref text ∷ []) (Iri text)
   blank_subject : {label : List ℕ} → Subject (blank_label label ∷ []) (Blank label)
 
+-- predicate ::= IRIREF
 pub data Predicate : List Terminal → Term → Type 0 where
   iri_predicate : {text : List ℕ} → Predicate (iri_ref text ∷ []) (Iri text)
 
+-- object ::= IRIREF | BLANK_NODE_LABEL | literal, and
+-- literal ::= STRING_LITERAL_QUOTE ('^^' IRIREF | LANGTAG)?
 pub data Object : List Terminal → Term → Type 0 where
   iri_object : {text : List ℕ} → Object (iri_ref text ∷ []) (Iri text)
   blank_object : {label : List ℕ} → Object (blank_label label ∷ []) (Blank label)
@@ -46,12 +50,13 @@ pub data Object : List Terminal → Term → Type 0 where
   typed_object : {lexical datatype : List ℕ} → Object (quoted lexical ∷ carets ∷ iri_ref datatype ∷ []) (Literal lexical datatype None)
   tagged_object : {lexical tag : List ℕ} → Object (quoted lexical ∷ lang_tag tag ∷ []) (Literal lexical rdf_lang_string (Some tag))
 
+-- graphLabel ::= IRIREF | BLANK_NODE_LABEL, or none
 pub data GraphLabel : List Terminal → Option Term → Type 0 where
   no_graph : GraphLabel [] None
   iri_graph : {text : List ℕ} → GraphLabel (iri_ref text ∷ []) (Some (Iri text))
   blank_graph : {label : List ℕ} → GraphLabel (blank_label label ∷ []) (Some (Blank label))
 
--- subject predicate object graphLabel? '.'
+-- statement ::= subject predicate object graphLabel? '.'
 pub record Statement (ks : List Terminal) (q : QuadParts) : Type 0 where
   pub s : List Terminal
   pub p : List Terminal
@@ -68,7 +73,7 @@ abbrev pub Derives : List Terminal → Option QuadParts → Type 0
 Derives ks None = ks ≡ []
 Derives ks (Some q) = Statement ks q
 
--- The line, without its line end, spells the quad, or nothing but blanks and a comment.
+-- The line, without its line end (LF is 10, CR is 13), spells the quad, or nothing but blanks and a comment.
 pub record Spells (line : List ℕ) (q : Option QuadParts) : Type 0 where
   pub utf8 : IsUtf8 line
   pub one_line : (i : ℕ) → i < length line → (slice_index line i ≢ 10) × (slice_index line i ≢ 13)

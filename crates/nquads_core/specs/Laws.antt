@@ -1,4 +1,4 @@
--- Laws on lines.
+-- What the laws on lines and documents say (our own).
 use Rattle.std.specs.Prelude.{◌≡◌, ◌⊎◌, ℕ, List, ◌++◌, Option, Some, None, codes}
 use Rattle.rdf_core.specs.declared.term.Term.{Term}
 use Rattle.rdf_core.specs.QuadParts.{QuadParts}
@@ -7,6 +7,7 @@ use Rattle.rdf_core.specs.Spelling.{spelling}
 use Rattle.nquads_core.specs.Grammar.{Spells}
 use Rattle.nquads_core.specs.Lines.{lines, EndsLine}
 
+-- a line spells at most one thing
 abbrev pub OneMeaning : Type 0
 OneMeaning = (line : List ℕ) (q r : Option QuadParts) → Spells line q → Spells line r → q ≡ r
 
@@ -14,6 +15,7 @@ OneMeaning = (line : List ℕ) (q r : Option QuadParts) → Spells line q → Sp
 abbrev pub LinesJoin : Type 0
 LinesJoin = (a b : List ℕ) → EndsLine a → lines (a ++ b) ≡ lines a ++ lines b
 
+-- the term is one of the four of the quad
 abbrev pub Occurs : Term → QuadParts → Type 0
 Occurs t q = (t ≡ q.s) ⊎ ((t ≡ q.p) ⊎ ((t ≡ q.o) ⊎ (q.g ≡ Some t)))
 

@@ -1,4 +1,4 @@
--- The lines of a document.
+-- The lines of a document (RDF 1.1 N-Quads, grammar: EOL). LF is 10, CR is 13.
 use Rattle.std.specs.Prelude.{◌≡◌, ℕ, Bool, false, ◌⊎◌, List, [], ◌∷◌, ◌++◌, ◌==◌, if◌then◌else◌}
 
 -- put a byte at the front of the first line

@@ -1,4 +1,4 @@
--- What a piece of a document holds.
+-- What a piece of a document holds: the quads of its lines, or its first bad line (our own).
 use Rattle.std.specs.Prelude.{◌≡◌, ℕ, zero, suc, List, [], ◌∷◌, ◌++◌, Option, option_to_list}
 use Rattle.rdf_core.specs.QuadParts.{QuadParts}
 use Rattle.nquads_core.specs.Grammar.{Spells, IsBad}

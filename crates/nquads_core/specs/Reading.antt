@@ -1,4 +1,5 @@
--- Reading a line from left to right: what stands at the front of a text, and the rest. None: no such thing stands there.
+-- Reading a line from left to right: what stands at the front of a text, and the rest. None: no such thing
+-- stands there. Only private clauses cite these words; what is promised stands in Grammar.
 use Rattle.std.specs.Prelude.{◌≡◌, ℕ, Bool, true, ◌&&◌, ◌||◌, List, [], ◌∷◌, map, Option, Some, None, Result, Ok, Err, ◌==◌, if◌then◌else◌}
 use Rattle.std.specs.Char.{is_ascii_alphabetic, is_ascii_alphanumeric, to_ascii_lowercase}
 use Rattle.std.specs.Str.{encode_utf8_all}

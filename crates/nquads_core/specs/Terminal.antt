@@ -11,12 +11,13 @@ use Rattle.rdf_core.specs.Lexical.{is_tag, has_scheme}
 abbrev pub is_blank : ℕ → Bool
 is_blank c = c == 32 || c == 9
 
--- ((PN_CHARS | '.')* PN_CHARS)?
+-- BLANK_NODE_LABEL behind its first character: ((PN_CHARS | '.')* PN_CHARS)?
 abbrev pub is_label_tail : List ℕ → Bool
 is_label_tail [] = true
 is_label_tail (c ∷ []) = is_label_char c
 is_label_tail (c ∷ d ∷ cs) = (is_label_char c || c == 46) && is_label_tail (d ∷ cs)
 
+-- BLANK_NODE_LABEL behind _: is (PN_CHARS_U | [0-9]) ((PN_CHARS | '.')* PN_CHARS)?
 abbrev pub is_label : List ℕ → Bool
 is_label [] = false
 is_label (c ∷ cs) = is_label_start c && is_label_tail cs
@@ -32,6 +33,7 @@ pub data Terminal : Type 0 where
   carets : Terminal
   dot : Terminal
 
+-- IRIREF ::= '<' ([^#x00-#x20<>"{}|^`\] | UCHAR)* '>'; the IRI has a scheme (our own rule)
 pub record IsIriRef (text bytes : List ℕ) : Type 0 where
   pub body : List ℕ
   pub chars : List ℕ
@@ -40,6 +42,7 @@ pub record IsIriRef (text bytes : List ℕ) : Type 0 where
   pub utf8 : bytes ≡ encode_utf8_all chars
   pub scheme : has_scheme bytes ≡ true
 
+-- STRING_LITERAL_QUOTE ::= '"' ([^#x22#x5C#xA#xD] | ECHAR | UCHAR)* '"'
 pub record IsQuoted (text bytes : List ℕ) : Type 0 where
   pub body : List ℕ
   pub chars : List ℕ
@@ -47,19 +50,21 @@ pub record IsQuoted (text bytes : List ℕ) : Type 0 where
   pub writes : Writes IsStringPart body chars
   pub utf8 : bytes ≡ encode_utf8_all chars
 
+-- BLANK_NODE_LABEL ::= '_:' and a label
 pub record IsBlankLabel (text bytes : List ℕ) : Type 0 where
   pub label : List ℕ
   pub parts : text ≡ 95 ∷ 58 ∷ label
   pub right : is_label label ≡ true
   pub utf8 : bytes ≡ encode_utf8_all label
 
--- tags are kept in lower case
+-- LANGTAG ::= '@' and a tag; tags are kept in lower case (our own rule)
 pub record IsLangTag (text bytes : List ℕ) : Type 0 where
   pub tag : List ℕ
   pub parts : text ≡ 64 ∷ tag
   pub right : is_tag tag ≡ true
   pub lower : bytes ≡ map to_ascii_lowercase tag
 
+-- the text is a terminal of this kind; the last two are '^^' and '.'
 abbrev pub IsTerminal : List ℕ → Terminal → Type 0
 IsTerminal text (iri_ref bytes) = IsIriRef text bytes
 IsTerminal text (quoted bytes) = IsQuoted text bytes
@@ -68,6 +73,8 @@ IsTerminal text (lang_tag bytes) = IsLangTag text bytes
 IsTerminal text carets = text ≡ 94 ∷ 94 ∷ []
 IsTerminal text dot = text ≡ 46 ∷ []
 
--- No longer front of the whole text is a terminal, of any kind.
+-- No longer front of the whole text is a terminal, of any kind: at each place the longest is taken.
 abbrev pub IsLongest : List ℕ → List ℕ → Type 0
-IsLongest text rest = (front : List ℕ) (behind : List ℕ) (k : Terminal) → front ++ behind ≡ text ++ rest → IsTerminal front k → length front ≤ length text
+IsLongest text rest =
+    (front : List ℕ) (behind : List ℕ) (k : Terminal) → front ++ behind ≡ text ++ rest
+    → IsTerminal front k → length front ≤ length text

@@ -1,4 +1,4 @@
--- The values of the code, apart from where they lie in memory.
+-- The terminal that a token of the code is. Only private clauses cite this word.
 use Rattle.nquads_core.specs.declared.token.Token.{Token}
 use Rattle.nquads_core.specs.declared.token.Token.TheVariants.{Iri, Blank, Quoted, Tag, Carets, Dot}
 use Rattle.nquads_core.specs.Terminal.{Terminal, iri_ref, blank_label, quoted, lang_tag, carets, dot}

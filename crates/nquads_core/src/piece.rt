@@ -91,3 +91,19 @@ pub fn read_piece(alloc: Global, bytes: &[u8]) -> Result<Piece, PieceFault>
         lines: count,
     })
 }
+
+/// The number of lines of a piece, as `read_piece` counts them: those that spell nothing too.
+///
+/// It takes no memory.
+pub fn count_lines(bytes: &[u8]) -> u64
+    ensures count { result ≡ length (lines bytes.now) }
+{
+    let mut count = 0u64;
+    let mut rest = bytes;
+    while !rest.is_empty() {
+        let (_, after) = first_line(rest);
+        count += 1;
+        rest = after;
+    }
+    count
+}

@@ -29,7 +29,7 @@ not_true : (b : Bool) → not b ≡ true → b ≡ true → ⊥
 not_true true h e = absurd cc
 not_true false h e = absurd cc
 
-raw_part : (k : Inside) (c : ℕ) → is_raw k c ≡ true → IsPart k (c ∷ []) c
+pub raw_part : (k : Inside) (c : ℕ) → is_raw k c ≡ true → IsPart k (c ∷ []) c
 raw_part Iri c h = (h, inl refl)
 raw_part Quoted c h = inl (h, refl)
 raw_part Any c h = inl (λ e. not_true (eqb c 92) h (eqb_yes c 92 e), refl)

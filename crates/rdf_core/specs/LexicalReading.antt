@@ -1,8 +1,9 @@
 -- The parts of an IRI or a string read from left to right: only private clauses, and the reading functions
 -- of the crates above, cite these words. What is promised stands in Escapes. None: no such thing stands there.
-use Rattle.std.specs.Prelude.{◌≡◌, ℕ, zero, suc, ◌+◌, ◌*◌, Bool, false, not, List, [], ◌∷◌, ◌++◌, drop, Option, Some, None, option_and_then, ◌==◌, if◌then◌else◌}
+use Rattle.std.specs.Prelude.{◌≡◌, ℕ, zero, suc, ◌+◌, ◌*◌, Bool, true, false, not, List, [], ◌∷◌, ◌++◌, drop, Option, Some, None, option_and_then, ◌==◌, if◌then◌else◌}
 use Rattle.std.specs.Char.{digit_value}
 use Rattle.std.specs.Str.{IsUtf8, chars, encode_utf8_all}
+use Rattle.std.specs.List.{list_all}
 use lib.Utf8.{scalar}
 use Rattle.rdf_core.specs.declared.lexical.escapes.Inside.{Inside}
 use Rattle.rdf_core.specs.declared.lexical.escapes.Inside.TheVariants.{Iri, Quoted, Any}
@@ -85,3 +86,11 @@ parts_at k close zero (c ∷ cs) =
 abbrev pub with_bytes : List ℕ → Option (List ℕ × List ℕ) → Option (List ℕ × List ℕ)
 with_bytes front None = None
 with_bytes front (Some x) = Some (front ++ encode_utf8_all x.0, x.1)
+
+-- the text begins with this front of raw bytes, and then with the closing sign
+pub record IsPlain (k : Inside) (close : ℕ) (text front rest : List ℕ) : Type 0 where
+  pub parts : text ≡ front ++ close ∷ rest
+  pub front_utf8 : IsUtf8 front
+  pub behind_utf8 : IsUtf8 (close ∷ rest)
+  pub rest_utf8 : IsUtf8 rest
+  pub raw : list_all (is_raw k) front ≡ true

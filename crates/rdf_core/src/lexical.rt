@@ -8,6 +8,7 @@
 mod characters;
 mod enclosed;
 mod escapes;
+mod plain;
 mod schemes;
 mod tags;
 #[cfg(test)]

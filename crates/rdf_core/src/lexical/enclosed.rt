@@ -8,6 +8,7 @@ ghost use Rattle.rdf_core.specs.LexicalReading.{Finds, is_raw, is_close, parts_a
 
 use crate::lexical::characters::{first_char, is_iri_char, is_string_char};
 use crate::lexical::escapes::{Inside, escape};
+use crate::lexical::plain::{plain_iri, plain_string};
 use crate::text::Text;
 use std::alloc::{AllocError, Global};
 
@@ -67,6 +68,19 @@ fn read_parts(
     }
 }
 
+/// What `read_iri_ref` reads, character by character.
+fn decode_iri(alloc: Global, text: &str) -> Result<Option<(Text, &str)>, AllocError>
+    ensures found { IfOk result (λ found. MatchOption found
+        ((bytes rest : List ℕ) → IsEnclosed IsIriPart 62 (chars text.now) bytes rest → ⊥)
+        (λ x. IsEnclosed IsIriPart 62 (chars text.now) x.0 (chars x.1.now))) }
+    ensures text { IfOk result (λ found. IfSome found (λ x. IsUtf8 x.1.now)) }
+{
+    match read_parts(alloc, Inside::Iri, Some('>'), text)? {
+        Some((iri, rest)) => Ok(Some((Text::from_string(iri), rest))),
+        None => Ok(None),
+    }
+}
+
 /// Reads an IRI in angle brackets from behind the `<`: its decoded text, and what follows the `>`
 /// (IRIREF).
 ///
@@ -81,8 +95,24 @@ pub fn read_iri_ref(alloc: Global, text: &str) -> Result<Option<(Text, &str)>, A
         (λ x. IsEnclosed IsIriPart 62 (chars text.now) x.0 (chars x.1.now))) }
     ensures text { IfOk result (λ found. IfSome found (λ x. IsUtf8 x.1.now)) }
 {
-    match read_parts(alloc, Inside::Iri, Some('>'), text)? {
-        Some((iri, rest)) => Ok(Some((Text::from_string(iri), rest))),
+    match plain_iri(text) {
+        Some((plain, rest)) => {
+            let copy = String::from_str(alloc, plain)?;
+            Ok(Some((Text::from_string(copy), rest)))
+        }
+        None => decode_iri(alloc, text),
+    }
+}
+
+/// What `read_quoted` reads, character by character.
+fn decode_quoted(alloc: Global, text: &str) -> Result<Option<(Text, &str)>, AllocError>
+    ensures found { IfOk result (λ found. MatchOption found
+        ((bytes rest : List ℕ) → IsEnclosed IsStringPart 34 (chars text.now) bytes rest → ⊥)
+        (λ x. IsEnclosed IsStringPart 34 (chars text.now) x.0 (chars x.1.now))) }
+    ensures text { IfOk result (λ found. IfSome found (λ x. IsUtf8 x.1.now)) }
+{
+    match read_parts(alloc, Inside::Quoted, Some('"'), text)? {
+        Some((string, rest)) => Ok(Some((Text::from_string(string), rest))),
         None => Ok(None),
     }
 }
@@ -100,9 +130,12 @@ pub fn read_quoted(alloc: Global, text: &str) -> Result<Option<(Text, &str)>, Al
         (λ x. IsEnclosed IsStringPart 34 (chars text.now) x.0 (chars x.1.now))) }
     ensures text { IfOk result (λ found. IfSome found (λ x. IsUtf8 x.1.now)) }
 {
-    match read_parts(alloc, Inside::Quoted, Some('"'), text)? {
-        Some((string, rest)) => Ok(Some((Text::from_string(string), rest))),
-        None => Ok(None),
+    match plain_string(text) {
+        Some((plain, rest)) => {
+            let copy = String::from_str(alloc, plain)?;
+            Ok(Some((Text::from_string(copy), rest)))
+        }
+        None => decode_quoted(alloc, text),
     }
 }
 
