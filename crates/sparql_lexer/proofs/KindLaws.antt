@@ -5,16 +5,18 @@ use Rattle.sparql_lexer.specs.declared.token.Keyword.{Keyword}
 use Rattle.sparql_lexer.specs.declared.token.Kind.{Kind}
 use Rattle.sparql_lexer.specs.declared.token.Kind.TheVariants as kind
 use Rattle.sparql_lexer.specs.declared.token.Sign.{Sign}
+use Rattle.rdf_core.specs.Characters.{is_pn_chars_base}
 use Rattle.sparql_lexer.specs.Characters.{is_digit, is_letter, is_base, is_short_character}
 use Rattle.sparql_lexer.specs.Enclosed.{iri, iri_piece, anonymous, short_piece, short_string, long_string, long_piece, three}
 use Rattle.sparql_lexer.specs.Names.{variable, namespace, prefixed_name, local, blank_label, language_tag, word, is_variable_sign}
 use Rattle.sparql_lexer.specs.Numbers.{digit, integer, decimal, double, exponent, signed, is_plus_or_minus, is_exponent_letter}
+use Rattle.sparql_lexer.specs.Colonless.{Behind, here, next}
 use Rattle.sparql_lexer.specs.Pattern.{Pattern, character, ◌▸◌, ◌or◌, many, is, some, Matches, is_nothing, is_character, both, left, right, no_more, one_more}
 use Rattle.sparql_lexer.specs.Scan.{Reads, Longest, Scans, stops, reads}
 use Rattle.sparql_lexer.specs.Signs.{IsSign, one, two, sign_of_one, sign_of_two}
 use Rattle.sparql_lexer.specs.Terminal.{Terminal, terminal}
 use Rattle.sparql_lexer.specs.Words.{IsWord, taken}
-use Rattle.sparql_lexer.proofs.PatternLaws.{Behind, here, next, behind, behind_behind, behind_same, behind_shorter, Begins, begins, takes_nothing, takes_some, first, nullable, not_here, not_at_end, or_left, or_right, strictly, shorter, but, many_append, moved, sure_character}
+use Rattle.sparql_lexer.proofs.PatternLaws.{behind, behind_behind, behind_same, behind_shorter, Begins, begins, takes_nothing, takes_some, first, nullable, not_here, not_at_end, or_left, or_right, strictly, shorter, but, many_append, moved, sure_character}
 use Rattle.sparql_lexer.proofs.ProductionLaws.{digit_inside, namespace_sure}
 use Rattle.sparql_lexer.proofs.ScanLaws.{reads_behind, reads_shorter}
 
@@ -60,7 +62,7 @@ low : (a b c : ℕ) → c ≤ 64 → 65 ≤ a → (nat_le a c && nat_le c b) ≡
 low a b c h k = let e : nat_le a c ≡ false = grind (arith, nat_tests) in ap (λ z. z && nat_le c b) e
 
 base_low : (c : ℕ) → c ≤ 64 → is_base c ≡ false
-unfolding is_base
+unfolding is_pn_chars_base
 base_low c h =
     neither _ _ (low 65 90 c h (omega arith)) (neither _ _ (low 97 122 c h (omega arith)) (neither _ _ (low 0xC0 0xD6 c h (omega arith)) (neither _ _ (low 0xD8 0xF6 c h (omega arith))
     (neither _ _ (low 0xF8 0x2FF c h (omega arith)) (neither _ _ (low 0x370 0x37D c h (omega arith)) (neither _ _ (low 0x37F 0x1FFF c h (omega arith)) (neither _ _ (low 0x200C 0x200D c h (omega arith))
@@ -68,27 +70,27 @@ base_low c h =
     (neither _ _ (low 0xFDF0 0xFFFD c h (omega arith)) (neither _ _ (low 0x10000 0xEFFFF c h (omega arith)) refl)))))))))))))
 
 base_91 : is_base 91 ≡ false
-unfolding is_base
+unfolding is_pn_chars_base
 base_91 = refl
 
 base_94 : is_base 94 ≡ false
-unfolding is_base
+unfolding is_pn_chars_base
 base_94 = refl
 
 base_95 : is_base 95 ≡ false
-unfolding is_base
+unfolding is_pn_chars_base
 base_95 = refl
 
 base_123 : is_base 123 ≡ false
-unfolding is_base
+unfolding is_pn_chars_base
 base_123 = refl
 
 base_124 : is_base 124 ≡ false
-unfolding is_base
+unfolding is_pn_chars_base
 base_124 = refl
 
 base_125 : is_base 125 ≡ false
-unfolding is_base
+unfolding is_pn_chars_base
 base_125 = refl
 
 base_digit : (c : ℕ) → is_base c ≡ true → is_digit c ≡ false
@@ -121,7 +123,7 @@ lead_base c h =
     (unless _ _ _ _ (neither _ _ (not_base 39 c h (base_low 39 (omega arith))) (not_base 34 c h (base_low 34 (omega arith)))) (ap (λ b. if b || nat_eq 58 c then 3 else 0) h))))))))
 
 letter_base : (c : ℕ) → is_letter c ≡ true → is_base c ≡ true
-unfolding is_base
+unfolding is_pn_chars_base
 letter_base c h = joined (nat_le 65 c && nat_le c 90) (nat_le 97 c && nat_le c 122) _ h
   where
     joined : (x y z : Bool) → (x || y) ≡ true → (x || (y || z)) ≡ true

@@ -4,3 +4,4 @@ pub mod RowLaws
 pub mod ScanLaws
 pub mod KindLaws
 pub mod ValueLaws
+pub mod ColonlessLaws

@@ -2,13 +2,10 @@
 use Rattle.std.proofs.Common.{◌≡◌, ℕ, ◌<◌, ◌≤◌, List, [], ◌∷◌, length, Bool, true, false, ◌||◌, ◌&&◌, refl, sym, ap, ◌∙◌, subst, arith, Option, Some, None, ◌⊎◌, inl, inr, nat_eq}
 use Rattle.std.proofs.lemmas.Bool.Decides.{nat_tests}
 use Rattle.std.specs.Borrow.{Bor}
+use Rattle.sparql_lexer.specs.Colonless.{Behind, here, next}
 use Rattle.sparql_lexer.specs.Pattern.{Pattern, nothing, character, ◌▸◌, ◌or◌, many, is, perhaps, Matches, is_nothing, is_character, both, left, right, no_more, one_more, EndsAt, Nowhere, Ends}
 
 -- what stands at the end of a text
-
-pub data Behind : List ℕ → List ℕ → Type 0 where
-  here : {ts : List ℕ} → Behind ts ts
-  next : {c : ℕ} {ts rest : List ℕ} → Behind ts rest → Behind (c ∷ ts) rest
 
 pub behind_shorter : {ts rest : List ℕ} → Behind ts rest → length rest ≤ length ts
 behind_shorter here = omega arith

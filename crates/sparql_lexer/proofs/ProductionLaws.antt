@@ -6,6 +6,7 @@ use Rattle.sparql_lexer.specs.declared.enclosed.Enclosure.{Enclosure}
 use Rattle.sparql_lexer.specs.declared.enclosed.Enclosure.TheVariants as enclosure
 use Rattle.sparql_lexer.specs.declared.names.Part.{Part}
 use Rattle.sparql_lexer.specs.declared.names.Part.TheVariants as part
+use Rattle.rdf_core.specs.Characters.{is_pn_chars_base, is_name_start, is_name_char}
 use Rattle.sparql_lexer.specs.Characters.{is_digit, is_hex, is_letter_or_digit, is_base, is_joining, is_name_part, is_local_start, is_local_part, is_local_escape, is_iri_character, is_short_character, is_long_character, is_escape_letter, is_space, is_line_end}
 use Rattle.sparql_lexer.specs.Pattern.{Pattern, character, ◌▸◌, ◌or◌, many, is, some, perhaps, Matches, is_nothing, both, left, right, no_more, one_more, EndsAt, Nowhere, Ends}
 use Rattle.sparql_lexer.specs.Numbers.{digit, exponent, is_plus_or_minus, is_exponent_letter}
@@ -165,19 +166,19 @@ open_sure enclosure.Anonymous = sure_is 91
 -- names
 
 local_percent : is_local_part 37 ≡ false
-unfolding is_base is_joining
+unfolding is_name_char is_name_start is_pn_chars_base is_joining
 local_percent = refl
 
 local_backslash : is_local_part 92 ≡ false
-unfolding is_base is_joining
+unfolding is_name_char is_name_start is_pn_chars_base is_joining
 local_backslash = refl
 
 start_percent : is_local_start 37 ≡ false
-unfolding is_base is_joining
+unfolding is_name_char is_name_start is_pn_chars_base is_joining
 start_percent = refl
 
 start_backslash : is_local_start 92 ≡ false
-unfolding is_base is_joining
+unfolding is_name_char is_name_start is_pn_chars_base is_joining
 start_backslash = refl
 
 pub plain_or_local_escape : (p : ℕ → Bool) → p 37 ≡ false → p 92 ≡ false → Apart (character p) local_escape
@@ -203,11 +204,11 @@ pub start_sure : Sure (character is_local_start or local_escape)
 start_sure = sure_or (sure_character is_local_start) sure_local_escape start_or_escape
 
 name_dot : first (character is_name_part) 46 ≡ false
-unfolding is_base is_joining
+unfolding is_name_char is_name_start is_pn_chars_base is_joining
 name_dot = refl
 
 local_dot : first local_part 46 ≡ false
-unfolding is_base is_joining
+unfolding is_name_char is_name_start is_pn_chars_base is_joining
 local_dot = refl
 
 pub part_apart : (p : Part) → Apart (part_of p) (is 46)
@@ -224,11 +225,11 @@ abbrev pub name_or_dot : Pattern
 name_or_dot = character is_name_part or is 46
 
 name_colon : first name_or_dot 58 ≡ false
-unfolding is_base is_joining
+unfolding is_name_char is_name_start is_pn_chars_base is_joining
 name_colon = refl
 
 base_colon : is_base 58 ≡ false
-unfolding is_base
+unfolding is_pn_chars_base
 base_colon = refl
 
 sure_name_or_dot : Sure name_or_dot

@@ -5,12 +5,13 @@ use Rattle.sparql_lexer.specs.declared.token.Kind.TheVariants as kind
 use Rattle.sparql_lexer.specs.declared.token.Sign.{Sign}
 use Rattle.sparql_lexer.specs.declared.token.Token.{Token}
 use Rattle.sparql_lexer.specs.Blanks.{after_blanks}
+use Rattle.sparql_lexer.specs.Colonless.{Behind, here, next}
 use Rattle.sparql_lexer.specs.Pattern.{left, right}
 use Rattle.sparql_lexer.specs.Scan.{Reads, Longest, Unreadable, Scans, stops, reads}
 use Rattle.sparql_lexer.specs.Signs.{IsSign, one, two}
 use Rattle.sparql_lexer.specs.Terminal.{Terminal, terminal, terminals}
 use Rattle.sparql_lexer.specs.Words.{taken}
-use Rattle.sparql_lexer.proofs.PatternLaws.{Behind, here, next, behind, strictly}
+use Rattle.sparql_lexer.proofs.PatternLaws.{behind, strictly}
 
 sign_behind : {s : Sign} {ts r : List ℕ} → IsSign s ts r → Behind ts r
 sign_behind (one e) = next here
@@ -48,3 +49,6 @@ pub scans_read : (text rest place behind : List ℕ) (xs ys : List Token) (t : T
 scans_read text rest place behind xs ys t inv is longest spanned pushed ts end d =
     subst (λ us. Scans text us end) (sym (ap (λ ys. terminals ys ++ ts) pushed ∙ one_more xs t ts))
     (inv (terminal t.kind t.text.now ∷ ts) end (subst (λ w. Scans rest (terminal t.kind w ∷ ts) end) (sym spanned) (reads (sym is) longest d)))
+
+pub scans_start : (text : List ℕ) (xs : List Token) → xs ≡ [] → (ts : List Terminal) (end : List ℕ) → Scans text ts end → Scans text (terminals xs ++ ts) end
+scans_start text xs is ts end d = subst (λ ys. Scans text (terminals ys ++ ts) end) (sym is) d

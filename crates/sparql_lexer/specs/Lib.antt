@@ -13,3 +13,4 @@ pub mod Next
 pub mod Classes
 pub mod Forms
 pub mod Candidates
+pub mod Colonless

@@ -2,6 +2,8 @@
 
 ghost use Rattle.std.specs.Prelude.{ℕ, List, Bool, nat_eq};
 ghost use Rattle.sparql_lexer.specs.Candidates.{LongestOf, IsRow, IsLongest, row, either, name_rows, number_rows, signed_rows, enclosed_rows, marked_rows};
+ghost use Rattle.sparql_lexer.specs.Colonless.{IsClear};
+ghost use Rattle.sparql_lexer.specs.Names.{namespace, prefixed_name};
 ghost use Rattle.sparql_lexer.specs.Enclosed.{short_string, long_string};
 ghost use Rattle.sparql_lexer.specs.Pattern.{Pattern, Ends, ◌or◌};
 
@@ -45,12 +47,36 @@ pub fn longer<'a>(
     }
 }
 
-fn scan_name(text: &[char]) -> Option<(Kind, &[char])>
+/// The namespace at the front, where the text does not stand before the end.
+fn skip_namespace_from<'a>(text: &'a [char], end: &[char]) -> Option<&'a [char]>
+    requires { IsClear text.now end.now }
+    ensures { Ends namespace text.now result }
+{
+    if end.len() < text.len() {
+        None
+    } else {
+        skip_namespace(text)
+    }
+}
+
+fn skip_prefixed_name_from<'a>(text: &'a [char], end: &[char]) -> Option<&'a [char]>
+    requires { IsClear text.now end.now }
+    ensures { Ends prefixed_name text.now result }
+{
+    if end.len() < text.len() {
+        None
+    } else {
+        skip_prefixed_name(text)
+    }
+}
+
+fn scan_name<'a>(text: &'a [char], end: &[char]) -> Option<(Kind, &'a [char])>
+    requires { IsClear text.now end.now }
     ensures { LongestOf name_rows text.now result }
 {
     let word = scan_word(text);
-    let namespace = of_kind(Kind::PrefixedNamespace, skip_namespace(text));
-    let name = of_kind(Kind::PrefixedName, skip_prefixed_name(text));
+    let namespace = of_kind(Kind::PrefixedNamespace, skip_namespace_from(text, end));
+    let name = of_kind(Kind::PrefixedName, skip_prefixed_name_from(text, end));
     longer(word, longer(namespace, name))
 }
 
@@ -107,11 +133,13 @@ fn scan_marked(text: &[char]) -> Option<(Kind, &[char])>
     longer(variable, longer(label, tag))
 }
 
-/// The longest terminal at the front, and what stands behind it; None where none can be read.
-pub fn scan_terminal(text: &[char]) -> Option<(Kind, &[char])>
+/// The longest terminal at the front, and what stands behind it; None where none can be read. No
+/// namespace begins before the end.
+pub fn scan_terminal<'a>(text: &'a [char], end: &[char]) -> Option<(Kind, &'a [char])>
+    requires { IsClear text.now end.now }
     ensures { IsLongest text.now result }
 {
-    let name = scan_name(text);
+    let name = scan_name(text, end);
     let number = longer(scan_number(text), scan_signed(text));
     let other = longer(scan_enclosed(text), scan_marked(text));
     let sign = scan_sign(text);

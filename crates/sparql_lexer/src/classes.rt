@@ -1,14 +1,18 @@
 //! Classes of characters.
 
 ghost use Rattle.std.specs.Prelude.{◌≡◌};
-ghost use Rattle.sparql_lexer.specs.Characters.{in_ranges, is_base, is_joining, is_digit, is_letter, is_hex, is_label_start, is_variable_part, is_name_part, is_local_escape, is_iri_character, is_short_character, is_long_character, is_escape_letter, is_space, is_line_end};
+ghost use Rattle.rdf_core.specs.Characters.{in_ranges};
+ghost use Rattle.sparql_lexer.specs.Characters.{is_joining, is_digit, is_letter, is_hex, is_variable_part, is_local_escape, is_short_character, is_long_character, is_escape_letter, is_space, is_line_end};
 ghost use Rattle.sparql_lexer.specs.Classes.{members};
+
+use rdf_core::lexical::{is_iri_char, is_name_char, is_name_start, is_pn_chars_base};
 
 /// A class of characters, as the productions name them.
 #[derive(Clone, Copy, Debug)]
 pub enum Class {
     Digit,
     Dot,
+    NameOrDot,
     Letter,
     LetterOrDigit,
     Hex,
@@ -33,23 +37,6 @@ pub enum Class {
     InComment,
 }
 
-const BASE: [(u32, u32); 14] = [
-    (65, 90),
-    (97, 122),
-    (0xC0, 0xD6),
-    (0xD8, 0xF6),
-    (0xF8, 0x2FF),
-    (0x370, 0x37D),
-    (0x37F, 0x1FFF),
-    (0x200C, 0x200D),
-    (0x2070, 0x218F),
-    (0x2C00, 0x2FEF),
-    (0x3001, 0xD7FF),
-    (0xF900, 0xFDCF),
-    (0xFDF0, 0xFFFD),
-    (0x10000, 0xEFFFF),
-];
-
 const JOINING: [(u32, u32); 3] = [(0xB7, 0xB7), (0x300, 0x36F), (0x203F, 0x2040)];
 
 const LOCAL_ESCAPES: [(u32, u32); 7] = [
@@ -60,16 +47,6 @@ const LOCAL_ESCAPES: [(u32, u32); 7] = [
     (63, 64),
     (95, 95),
     (126, 126),
-];
-
-const NOT_IN_IRI: [(u32, u32); 7] = [
-    (60, 60),
-    (62, 62),
-    (34, 34),
-    (123, 125),
-    (94, 94),
-    (96, 96),
-    (92, 92),
 ];
 
 const ESCAPE_LETTERS: [(u32, u32); 8] = [
@@ -108,13 +85,6 @@ fn is_hex(c: char) -> bool
     is_digit(c) || (c >= 'A' && c <= 'F' || c >= 'a' && c <= 'f')
 }
 
-#[tactic(auto, unfolding(crate::specs::Characters::is_base))]
-fn is_base(c: char) -> bool
-    ensures { result ≡ is_base c }
-{
-    in_ranges(&BASE, c)
-}
-
 #[tactic(auto, unfolding(crate::specs::Characters::is_joining))]
 fn is_joining(c: char) -> bool
     ensures { result ≡ is_joining c }
@@ -122,34 +92,16 @@ fn is_joining(c: char) -> bool
     in_ranges(&JOINING, c)
 }
 
-fn is_label_start(c: char) -> bool
-    ensures { result ≡ is_label_start c }
-{
-    is_base(c) || (c == '_' || is_digit(c))
-}
-
 fn is_variable_part(c: char) -> bool
     ensures { result ≡ is_variable_part c }
 {
-    is_label_start(c) || is_joining(c)
-}
-
-fn is_name_part(c: char) -> bool
-    ensures { result ≡ is_name_part c }
-{
-    is_variable_part(c) || c == '-'
+    is_name_start(c) || is_joining(c)
 }
 
 fn is_local_escape(c: char) -> bool
     ensures { result ≡ is_local_escape c }
 {
     in_ranges(&LOCAL_ESCAPES, c)
-}
-
-fn is_iri_character(c: char) -> bool
-    ensures { result ≡ is_iri_character c }
-{
-    ' ' < c && !in_ranges(&NOT_IN_IRI, c)
 }
 
 fn is_short_character(quote: char, c: char) -> bool
@@ -189,20 +141,21 @@ pub fn is_member(class: Class, c: char) -> bool
     match class {
         Class::Digit => is_digit(c),
         Class::Dot => c == '.',
+        Class::NameOrDot => is_name_char(c) || c == '.',
         Class::Letter => is_letter(c),
         Class::LetterOrDigit => is_letter(c) || is_digit(c),
         Class::Hex => is_hex(c),
-        Class::Base => is_base(c),
-        Class::LabelStart => is_label_start(c),
+        Class::Base => is_pn_chars_base(c),
+        Class::LabelStart => is_name_start(c),
         Class::VariablePart => is_variable_part(c),
-        Class::NamePart => is_name_part(c),
-        Class::LocalStart => is_label_start(c) || c == ':',
-        Class::LocalPart => is_name_part(c) || c == ':',
+        Class::NamePart => is_name_char(c),
+        Class::LocalStart => is_name_start(c) || c == ':',
+        Class::LocalPart => is_name_char(c) || c == ':',
         Class::LocalEscape => is_local_escape(c),
         Class::VariableSign => c == '?' || c == '$',
         Class::PlusOrMinus => c == '+' || c == '-',
         Class::ExponentLetter => c == 'e' || c == 'E',
-        Class::InIri => is_iri_character(c),
+        Class::InIri => is_iri_char(c),
         Class::InSingle => is_short_character('\'', c),
         Class::InDouble => is_short_character('"', c),
         Class::InLongSingle => is_long_character('\'', c),

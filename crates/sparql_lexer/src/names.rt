@@ -1,6 +1,7 @@
 //! Names, variables, labels and language tags.
 
-ghost use Rattle.std.specs.Prelude.{◌≡◌, Some};
+ghost use Rattle.std.specs.Prelude.{◌≡◌, Some, ℕ, List};
+ghost use Rattle.sparql_lexer.specs.Colonless.{Behind, IsClear};
 ghost use Rattle.sparql_lexer.specs.Characters.{is_local_start, is_letter_or_digit};
 ghost use Rattle.sparql_lexer.specs.Pattern.{character, is, many, some, ◌▸◌, ◌or◌, Ends, EndsAt};
 ghost use Rattle.sparql_lexer.specs.Names.{local_escape, tail, namespace, local, prefixed_name, blank_label, variable, language_tag};
@@ -128,4 +129,28 @@ pub fn skip_language_tag(text: &[char]) -> Option<&[char]>
     let tag = accept(text, '@')?;
     let first = skip_some(Class::Letter, tag)?;
     Some(skip_subtags(first))
+}
+
+/// The end of the name characters and dots at the front, where no colon stands behind them: no
+/// namespace begins before it. Otherwise the text itself.
+fn colonless_end(text: &[char]) -> &[char]
+    ensures { IsClear text.now result.now }
+{
+    let end = skip(Class::NameOrDot, text);
+    match accept(end, ':') {
+        Some(_) => text,
+        None => end,
+    }
+}
+
+/// Of an end before which no namespace begins the next one, where a place may have passed it. So a
+/// long run with no colon is looked through once, and not from each word in it.
+pub fn next_end<'a>(place: &'a [char], end: &'a [char]) -> &'a [char]
+    ensures { (text : List ℕ) → Behind text place.now → IsClear text end.now → IsClear place.now result.now }
+{
+    if end.len() < place.len() {
+        end
+    } else {
+        colonless_end(place)
+    }
 }

@@ -1,0 +1,91 @@
+-- Where no name with a colon begins.
+use Rattle.std.proofs.Common.{◌≡◌, ℕ, ◌<◌, ◌≤◌, List, [], ◌∷◌, length, Bool, true, false, ◌||◌, refl, sym, ap, ◌∙◌, subst, arith, ◌⊎◌, inl, inr, nat_eq, nat_le, if◌then◌else◌}
+use Rattle.std.proofs.lemmas.Bool.Decides.{nat_tests}
+use Rattle.rdf_core.specs.Characters.{is_pn_chars_base, is_name_start, is_name_char}
+use Rattle.sparql_lexer.specs.Blanks.{beyond, after_blanks}
+use Rattle.sparql_lexer.specs.Characters.{is_name_part, is_joining, is_line_end, is_space}
+use Rattle.sparql_lexer.specs.Colonless.{Behind, here, next, is_name_or_dot, IsClear}
+use Rattle.sparql_lexer.specs.Names.{namespace, prefixed_name, local}
+use Rattle.sparql_lexer.specs.Pattern.{Pattern, character, ◌▸◌, ◌or◌, many, is, Matches, is_nothing, is_character, both, left, right, no_more, one_more, EndsAt, Nowhere}
+use Rattle.sparql_lexer.proofs.PatternLaws.{behind, behind_behind, behind_same, behind_shorter, shorter, along, many_append, moved, sure_character, or_left, or_right, not_here, tail_inside, then_none}
+
+name_or_dot_colon : is_name_or_dot 58 ≡ false
+unfolding is_name_char is_name_start is_pn_chars_base
+name_or_dot_colon = refl
+
+in_one_class : {ts r : List ℕ} → Matches (many (character is_name_part or is 46)) ts r → Matches (many (character is_name_or_dot)) ts r
+in_one_class no_more = no_more
+in_one_class (one_more (left (is_character {c = c} e)) d) = one_more (is_character (or_left (is_name_part c) (nat_eq 46 c) e)) (in_one_class d)
+in_one_class (one_more (right (is_character {c = c} e)) d) = one_more (is_character (or_right (is_name_part c) (nat_eq 46 c) e)) (in_one_class d)
+
+run_from : {p : ℕ → Bool} {ts m h : List ℕ} → Matches (many (character p)) ts h → Behind ts m → length h ≤ length m → Matches (many (character p)) m h
+run_from no_more b l = moved (behind_same here b (let k = behind_shorter b in omega arith)) no_more
+run_from (one_more e d) here l = one_more e d
+run_from (one_more (is_character e) d) (next b) l = run_from d b l
+
+true_false : {b : Bool} → b ≡ true → b ≡ false → ⊥
+true_false h k = let e = sym h ∙ k in (cc)
+
+same_colon : (c : ℕ) → nat_eq 58 c ≡ true → 58 ≡ c
+same_colon c f = grind (arith, nat_tests)
+
+no_colon : {ts r : List ℕ} {m : List ℕ} → Matches (many (character is_name_or_dot)) ts m → length m < length ts → Matches (is 58) ts r → ⊥
+no_colon no_more l d = absurd (omega arith)
+no_colon (one_more (is_character {c = c} e) d) l (is_character f) = true_false e (subst (λ z. is_name_or_dot z ≡ false) (same_colon c f) name_or_dot_colon)
+
+le_or_lt : (a b : ℕ) → (a ≤ b) ⊎ (b < a)
+le_or_lt a b = go (nat_le a b) refl
+  where
+    go : (t : Bool) → nat_le a b ≡ t → (a ≤ b) ⊎ (b < a)
+    go true e = inl (grind (arith, nat_tests))
+    go false e = inr (grind (arith, nat_tests))
+
+-- a run that another run and a colon end
+run_colon : {ts m end r : List ℕ} → Matches (many (character is_name_or_dot)) ts m → Matches (is 58) m r → Matches (many (character is_name_or_dot)) ts end → ((t : List ℕ) → Matches (many (character is_name_or_dot)) end t → length end ≤ length t) → Nowhere (is 58) end → ⊥
+run_colon {m = m} {end = end} {r = r} d x e longest none = go (along (sure_character is_name_or_dot) d e)
+  where
+    meet : m ≡ end → ⊥
+    meet h = none.none r (moved h x)
+
+    go : Matches (many (character is_name_or_dot)) m end ⊎ Matches (many (character is_name_or_dot)) end m → ⊥
+    go (inl a) = elim (le_or_lt (length m) (length end)) [ inl l ↦ meet (sym (behind_same (behind a) here (let k = shorter a in omega arith))) | inr l ↦ no_colon a l x ]
+    go (inr a) = meet (sym (behind_same here (behind a) (let k = longest m a in let l = shorter a in omega arith)))
+
+-- no namespace begins in a run that no colon ends
+clear_run : {p end r : List ℕ} → Matches (many (character is_name_or_dot)) p end → length end < length p → ((t : List ℕ) → Matches (many (character is_name_or_dot)) end t → length end ≤ length t) → Nowhere (is 58) end → Matches namespace p r → ⊥
+clear_run run l longest none (both (left is_nothing) x) = no_colon run l x
+clear_run no_more l longest none (both (right (both b t)) x) = absurd (omega arith)
+clear_run (one_more (is_character e) run) l longest none (both {mid = m} (right (both {mid = k} (is_character f) t)) x) = run_colon (in_one_class (tail_inside k m t)) x run longest none
+
+pub clear_to : (text end : List ℕ) → EndsAt (many (character is_name_or_dot)) text end → Nowhere (is 58) end → IsClear text end
+clear_to text end run none = record { none = λ place rest b l d. clear_run (run_from run.matches b (let k = l in omega arith)) l (λ t e. run.longest t (many_append run.matches e)) none d }
+
+pub clear_here : (text end : List ℕ) → length text ≤ length end → IsClear text end
+clear_here text end l = record { none = λ place rest b k d. absurd (let m = behind_shorter b in let n = k in omega arith) }
+
+pub clear_behind : (text place end : List ℕ) → Behind text place → IsClear text end → IsClear place end
+clear_behind text place end b h = record { none = λ p rest c l d. h.none p rest (behind_behind b c) l d }
+
+pub clear_namespace : (text end : List ℕ) → IsClear text end → length end < length text → Nowhere namespace text
+clear_namespace text end h l = record { none = λ rest d. h.none text rest here l d }
+
+pub clear_name : (text end : List ℕ) → IsClear text end → length end < length text → Nowhere prefixed_name text
+clear_name text end h l = then_none namespace local text (clear_namespace text end h l)
+
+-- white space stands before the place
+blanks_behind : (inside : Bool) (ts : List ℕ) → Behind ts (beyond inside ts)
+blanks_behind inside [] = here
+blanks_behind true (c ∷ cs) = go (is_line_end c) (blanks_behind false cs) (blanks_behind true cs)
+  where
+    go : (b : Bool) → Behind cs (beyond false cs) → Behind cs (beyond true cs) → Behind (c ∷ cs) (if b then beyond false cs else beyond true cs)
+    go true x y = next x
+    go false x y = next y
+blanks_behind false (c ∷ cs) = go (nat_eq 35 c) (is_space c) (blanks_behind false cs) (blanks_behind true cs)
+  where
+    go : (a b : Bool) → Behind cs (beyond false cs) → Behind cs (beyond true cs) → Behind (c ∷ cs) (if a then beyond true cs else (if b then beyond false cs else (c ∷ cs)))
+    go true b x y = next y
+    go false true x y = next x
+    go false false x y = here
+
+pub blanks_place : (ts place : List ℕ) → place ≡ after_blanks ts → Behind ts place
+blanks_place ts place e = subst (Behind ts) (sym e) (blanks_behind false ts)

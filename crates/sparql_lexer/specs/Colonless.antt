@@ -1,0 +1,17 @@
+-- Where no name with a colon begins; private clauses alone cite this file.
+use Rattle.std.specs.Prelude.{◌≡◌, ◌<◌, ℕ, List, ◌∷◌, length, Bool, ◌||◌, nat_eq}
+use Rattle.sparql_lexer.specs.Characters.{is_name_part}
+use Rattle.sparql_lexer.specs.Names.{namespace}
+use Rattle.sparql_lexer.specs.Pattern.{Matches}
+
+-- rest stands at the end of the text
+pub data Behind : List ℕ → List ℕ → Type 0 where
+  here : {ts : List ℕ} → Behind ts ts
+  next : {c : ℕ} {ts rest : List ℕ} → Behind ts rest → Behind (c ∷ ts) rest
+
+abbrev pub is_name_or_dot : ℕ → Bool
+is_name_or_dot c = is_name_part c || nat_eq 46 c
+
+-- no namespace begins in the text before the end
+pub record IsClear (text end : List ℕ) : Type 0 where
+  pub none : (place rest : List ℕ) → Behind text place → length end < length place → Matches namespace place rest → ⊥
