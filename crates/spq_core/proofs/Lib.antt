@@ -1,0 +1,10 @@
+pub mod AnsweringSteps
+pub mod ColumnLaws
+pub mod FirstQueryLaws
+pub mod JsonLaws
+pub mod PatternSteps
+pub mod PrintedLaws
+pub mod RepeatSteps
+pub mod ReportSteps
+pub mod SeparatedLaws
+pub mod SortSteps

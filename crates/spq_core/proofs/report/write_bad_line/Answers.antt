@@ -1,0 +1,11 @@
+use Rattle.std.proofs.Common.{◌++◌, codes, decimal}
+use Rattle.std.proofs.lemmas.Result.{on_err_weaker}
+use Rattle.spq_core.proofs.ReportSteps.{back_begun, front_begun}
+use Rattle.spq_core.proofs.report.write_bad_line.Goals as goal
+
+pub returns-in-Err-clause-failed : goal.returns-in-Err-clause-failed
+returns-in-Err-clause-failed g c = front_begun _ _ (codes "error: line ") (decimal c.args.line ++ codes "\n") c.in-Err.ensures.failed
+
+pub returns-in-Ok-clause-failed : goal.returns-in-Ok-clause-failed
+returns-in-Ok-clause-failed g c =
+    on_err_weaker c.write_number.result (back_begun _ _ _ (codes "error: line ") (decimal c.args.line ++ codes "\n") c.in-Ok.ensures.ok) c.write_number.ensures.failed

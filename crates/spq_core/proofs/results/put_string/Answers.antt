@@ -1,0 +1,12 @@
+use Rattle.std.proofs.Common.{◌≡◌, ◌++◌, ◌∙◌, ap, OnOk, List, ℕ, subst, refl}
+use Rattle.serde_json.specs.Data.{string}
+use Rattle.serde_json.specs.Written.{compact_text, has_float}
+use Rattle.spq_core.proofs.PrintedLaws.{string_is}
+use Rattle.spq_core.proofs.results.put_string.Goals as goal
+
+pub put_value-requires : goal.put_value-requires
+put_value-requires c = ap has_float c.in_ok-string_value.ensures
+
+pub returns : goal.returns
+returns c =
+    subst (λ (text : List ℕ). OnOk c.put_value.result (c.put_value.new.out.items ≡ c.args.out.now.items ++ text)) (ap compact_text (c.in_ok-string_value.ensures ∙ ap string c.as_str.ensures.value) ∙ string_is _) c.put_value.ensures

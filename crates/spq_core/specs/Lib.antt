@@ -1,0 +1,11 @@
+pub mod Cells
+pub mod FirstQuery
+pub mod FirstPlan
+pub mod Pattern
+pub mod Printed
+pub mod Results
+pub mod Outcome
+pub mod Faults
+pub mod Output
+pub mod Run
+pub mod Report

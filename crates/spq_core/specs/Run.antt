@@ -1,0 +1,121 @@
+-- What a run did, and what is left where it was refused.
+use Rattle.std.specs.Prelude.{◌≡◌, ◌⊎◌, ℕ, List, ⊤, Option, Result, Ok, Err}
+use Rattle.std.specs.Io.KnownBytes.{Appends, Consumes, IsAtEnd}
+use Rattle.nquads_core.specs.Device.{Rises}
+use Rattle.nquads_core.specs.Transfer.{TookNone, WroteBeginning}
+use Rattle.nquads_core.specs.declared.device.DeviceFailed.{DeviceFailed}
+use Rattle.spq_core.specs.Faults.{IsQueryFaultOf}
+use Rattle.spq_core.specs.Outcome.{bad_line}
+use Rattle.spq_core.specs.Output.{Request, select, IsOutput}
+use Rattle.spq_core.specs.declared.fault.Fault.{Fault}
+use Rattle.spq_core.specs.declared.fault.Fault.TheVariants as fault
+use Rattle.spq_core.specs.declared.fault.QueryFault.{QueryFault}
+use Rattle.spq_core.specs.declared.program.RunFault.{RunFault}
+use Rattle.spq_core.specs.declared.program.RunFault.TheVariants.{Query, BadLine, Memory, Read, Write, Line}
+
+abbrev pub run_fault_of : Fault → RunFault
+run_fault_of (fault.Query f) = Query f
+run_fault_of (fault.BadLine n) = BadLine n
+run_fault_of fault.Memory = Memory
+
+-- The reader was read to its end, and this is the output for what was read.
+pub record IsComposed (request : Request) (left left' : Option (List ℕ)) (text : List ℕ) : Type 0 where
+  pub doc : List ℕ
+  pub consumed : Consumes left left' doc
+  pub at_end : IsAtEnd left'
+  pub output : IsOutput request doc (Ok text)
+
+-- The output for what was read was written, and nothing else.
+pub record IsDone (request : Request) (left left' held held' : Option (List ℕ)) : Type 0 where
+  pub text : List ℕ
+  pub composed : IsComposed request left left' text
+  pub written : Appends held held' text
+
+-- The reader was read to its end, and this line is the output's refusal for what was read.
+pub record IsBadLineOf (request : Request) (left left' : Option (List ℕ)) (line : ℕ) : Type 0 where
+  pub doc : List ℕ
+  pub consumed : Consumes left left' doc
+  pub at_end : IsAtEnd left'
+  pub output : IsOutput request doc (Err (bad_line line))
+
+-- The command selects, and its query is refused so.
+abbrev pub IsQueryOf : Request → QueryFault → Type 0
+IsQueryOf (select text) f = IsQueryFaultOf text f
+
+-- ---- a fact for one fault, or for all but one
+
+abbrev pub IfQuery : (QueryFault → Type 0) → RunFault → Type 0
+IfQuery P (Query f) = P f
+IfQuery P (BadLine n) = ⊤
+IfQuery P Memory = ⊤
+IfQuery P Read = ⊤
+IfQuery P Write = ⊤
+IfQuery P Line = ⊤
+
+abbrev pub IfBadLine : (ℕ → Type 0) → RunFault → Type 0
+IfBadLine P (Query f) = ⊤
+IfBadLine P (BadLine n) = P n
+IfBadLine P Memory = ⊤
+IfBadLine P Read = ⊤
+IfBadLine P Write = ⊤
+IfBadLine P Line = ⊤
+
+abbrev pub IfRead : Type 0 → RunFault → Type 0
+IfRead P (Query f) = ⊤
+IfRead P (BadLine n) = ⊤
+IfRead P Memory = ⊤
+IfRead P Read = P
+IfRead P Write = ⊤
+IfRead P Line = ⊤
+
+abbrev pub IfWrite : Type 0 → RunFault → Type 0
+IfWrite P (Query f) = ⊤
+IfWrite P (BadLine n) = ⊤
+IfWrite P Memory = ⊤
+IfWrite P Read = ⊤
+IfWrite P Write = P
+IfWrite P Line = ⊤
+
+abbrev pub UnlessWrite : Type 0 → RunFault → Type 0
+UnlessWrite P (Query f) = P
+UnlessWrite P (BadLine n) = P
+UnlessWrite P Memory = P
+UnlessWrite P Read = P
+UnlessWrite P Write = ⊤
+UnlessWrite P Line = P
+
+abbrev pub IsNotLine : RunFault → Type 0
+IsNotLine (Query f) = ⊤
+IsNotLine (BadLine n) = ⊤
+IsNotLine Memory = ⊤
+IsNotLine Read = ⊤
+IsNotLine Write = ⊤
+IsNotLine Line = ⊥
+
+-- reading answers these two: the reader failed, or a growth was refused
+abbrev pub IsOfReading : Type 0 → Type 0 → RunFault → Type 0
+IsOfReading P Q (Query f) = ⊥
+IsOfReading P Q (BadLine n) = ⊥
+IsOfReading P Q Memory = Q
+IsOfReading P Q Read = P
+IsOfReading P Q Write = ⊥
+IsOfReading P Q Line = ⊥
+
+-- A beginning of the output for what was read was written, and not all of it.
+pub record IsWrittenInPart (request : Request) (left left' held held' : Option (List ℕ)) : Type 0 where
+  pub text : List ℕ
+  pub composed : IsComposed request left left' text
+  pub part : WroteBeginning held held' text
+
+-- The writer failed, or took no byte of a text that was not empty.
+abbrev pub WriterFailed : {K : Type 0} → (K → List ℕ → Result ℕ DeviceFailed → K → Type 0) → Option ℕ → Option ℕ → Type 0
+WriterFailed gives fails fails' = Rises fails fails' ⊎ ((text : List ℕ) × TookNone gives text)
+
+-- composing answers neither of these
+abbrev pub IsOfComposing : RunFault → Type 0
+IsOfComposing (Query f) = ⊤
+IsOfComposing (BadLine n) = ⊤
+IsOfComposing Memory = ⊤
+IsOfComposing Read = ⊤
+IsOfComposing Write = ⊥
+IsOfComposing Line = ⊥

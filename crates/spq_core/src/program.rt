@@ -1,0 +1,148 @@
+//! The program: a command over a reader and a writer.
+ghost use Rattle.std.specs.Prelude.{◌≡◌, IfErr, IfOk, OnOk};
+ghost use Rattle.std.specs.Io.KnownBytes.{Consumes, IsAtEnd};
+ghost use Rattle.nquads_core.specs.Device.{Rises, Stays};
+ghost use Rattle.spq_core.specs.Output.{request_of, select};
+ghost use Rattle.spq_core.specs.Run.{IfBadLine, IfQuery, IfRead, IfWrite, IsBadLineOf, IsComposed, IsDone, IsNotLine, IsOfComposing, IsOfReading, IsQueryOf, IsWrittenInPart, UnlessWrite, WriterFailed};
+
+use crate::answering::{answer_query, judged};
+use crate::command::Command;
+use crate::fault::{Fault, QueryFault};
+use nquads_core::{ReadFault, Sink, Source, read_to_end, write_all};
+use std::alloc::Global;
+
+/// Why the program did not do what it was told to.
+#[derive(Clone, Copy, Debug, Drop, PartialEq, Eq)]
+pub enum RunFault {
+    /// The query is refused.
+    Query(QueryFault),
+    /// The line of the document, counted from 1, is the first that spells nothing.
+    BadLine(u128),
+    /// A growth was refused.
+    Memory,
+    /// The reader failed.
+    Read,
+    /// The writer failed, or took no byte of a text that was not empty.
+    Write,
+    /// The command line is none of the program's. `run` never answers this.
+    Line,
+}
+
+impl From<Fault> for RunFault {
+    ghost use Rattle.std.specs.Prelude.{◌≡◌};
+    ghost use Rattle.spq_core.specs.Run.{run_fault_of};
+
+    ghost from_gives = { λ f e. e ≡ run_fault_of f };
+
+    fn from(fault: Fault) -> RunFault {
+        match fault {
+            Fault::Query(fault) => RunFault::Query(fault),
+            Fault::BadLine(line) => RunFault::BadLine(line),
+            Fault::Memory => RunFault::Memory,
+        }
+    }
+}
+
+/// The whole document that a reader has left.
+fn document<S: Source>(alloc: Global, reader: &mut S) -> Result<Vec<u8>, RunFault>
+    ensures bytes { IfOk result (λ doc. Consumes (S.left reader.old) (S.left reader.new) doc.items) }
+    ensures at_end { OnOk result (IsAtEnd (S.left reader.new)) }
+    ensures count { OnOk result (Stays (S.failures reader.old) (S.failures reader.new)) }
+    ensures fault { IfErr result
+        (IsOfReading (Rises (S.failures reader.old) (S.failures reader.new))
+        (Stays (S.failures reader.old) (S.failures reader.new))) }
+{
+    match read_to_end(alloc, reader) {
+        Ok(doc) => Ok(doc),
+        Err(ReadFault::Read) => Err(RunFault::Read),
+        Err(ReadFault::Memory) => Err(RunFault::Memory),
+    }
+}
+
+/// The answer of a query over the document that the reader has left. The query is judged before
+/// anything is read.
+fn selected<S: Source>(alloc: Global, query: &str, reader: &mut S) -> Result<Vec<u8>, RunFault>
+    ensures composed { IfOk result
+        (λ text. IsComposed (select query.now) (S.left reader.old) (S.left reader.new) text.items) }
+    ensures query { IfErr result
+        (IfQuery (λ f. IsQueryOf (select query.now) f × (reader.new ≡ reader.old))) }
+    ensures bad_line { IfErr result
+        (IfBadLine (IsBadLineOf (select query.now) (S.left reader.old) (S.left reader.new))) }
+    ensures count { OnOk result (Stays (S.failures reader.old) (S.failures reader.new)) }
+    ensures read { IfErr result (IfRead (Rises (S.failures reader.old) (S.failures reader.new))) }
+    ensures kind { IfErr result IsOfComposing }
+{
+    let query = match judged(alloc, query) {
+        Ok(query) => query,
+        Err(fault) => return Err(RunFault::from(fault)),
+    };
+    let doc = document(alloc, reader)?;
+    match answer_query(alloc, &doc, &query) {
+        Ok(text) => Ok(text),
+        Err(fault) => Err(RunFault::from(fault)),
+    }
+}
+
+/// The whole output of a command, which is composed before anything is written.
+fn composed<S: Source>(
+    alloc: Global,
+    command: &Command,
+    reader: &mut S,
+) -> Result<Vec<u8>, RunFault>
+    ensures composed { IfOk result
+        (λ text. IsComposed (request_of command.now) (S.left reader.old) (S.left reader.new) text.items) }
+    ensures query { IfErr result
+        (IfQuery (λ f. IsQueryOf (request_of command.now) f × (reader.new ≡ reader.old))) }
+    ensures bad_line { IfErr result
+        (IfBadLine (IsBadLineOf (request_of command.now) (S.left reader.old) (S.left reader.new))) }
+    ensures count { OnOk result (Stays (S.failures reader.old) (S.failures reader.new)) }
+    ensures read { IfErr result (IfRead (Rises (S.failures reader.old) (S.failures reader.new))) }
+    ensures kind { IfErr result IsOfComposing }
+{
+    match command {
+        Command::Select { query } => selected(alloc, query.as_str(), reader),
+    }
+}
+
+/// Runs a command: judges its query, reads the document to its end, composes the whole output and
+/// then writes it.
+///
+/// # Errors
+/// - `Query`: the query of a `select` is refused. Nothing was read.
+/// - `BadLine(n)`: line n of the document, counted from 1, is the first that spells nothing. The
+///   reader was read to its end.
+/// - `Memory`: a growth was refused.
+/// - `Read`: the reader failed in this call.
+/// - `Write`: the writer failed in this call, or took no byte of a text that was not empty. A
+///   beginning of the output was written.
+///
+/// But for `Write`, nothing was written.
+pub fn run<R, S: Source, K: Sink>(
+    _rt: &R,
+    alloc: Global,
+    command: &Command,
+    reader: &mut S,
+    writer: &mut K,
+) -> Result<(), RunFault>
+    ensures done { OnOk result
+        (IsDone (request_of command.now) (S.left reader.old) (S.left reader.new)
+        (K.held writer.old) (K.held writer.new)) }
+    ensures query { IfErr result
+        (IfQuery (λ f. IsQueryOf (request_of command.now) f × (reader.new ≡ reader.old))) }
+    ensures bad_line { IfErr result
+        (IfBadLine (IsBadLineOf (request_of command.now) (S.left reader.old) (S.left reader.new))) }
+    ensures read { IfErr result (IfRead (Rises (S.failures reader.old) (S.failures reader.new))) }
+    ensures write { IfErr result
+        (IfWrite (IsWrittenInPart (request_of command.now) (S.left reader.old) (S.left reader.new)
+        (K.held writer.old) (K.held writer.new))) }
+    ensures write_count { IfErr result
+        (IfWrite (WriterFailed K.write_gives (K.failures writer.old) (K.failures writer.new))) }
+    ensures unwritten { IfErr result (UnlessWrite (writer.new ≡ writer.old)) }
+    ensures line { IfErr result IsNotLine }
+{
+    let text = composed(alloc, command, reader)?;
+    match write_all(writer, &text) {
+        Ok(()) => Ok(()),
+        Err(_failed) => Err(RunFault::Write),
+    }
+}

@@ -1,0 +1,84 @@
+//! What is told of a fault: its line and its status.
+ghost use Rattle.std.specs.Prelude.{◌≡◌, ◌++◌, codes, decimal, OnErr, OnOk};
+ghost use Rattle.std.specs.Io.KnownBytes.{Appends};
+ghost use Rattle.nquads_core.specs.Transfer.{WroteBeginning};
+ghost use Rattle.spq_core.specs.Report.{fault_line, status_of};
+
+use crate::fault::QueryFault;
+use crate::program::RunFault;
+use itoa::Buffer;
+use nquads_core::{DeviceFailed, Sink, write_all};
+
+/// The status with which the program ends after a fault: 1 for a bad line, 2 for a query, 3 for the
+/// command line, 4 for want of memory, 5 for a reader or a writer. (0 is for no fault.)
+pub fn status(fault: &RunFault) -> u8
+    ensures status { result ≡ status_of fault.now }
+{
+    match fault {
+        RunFault::BadLine(_) => 1,
+        RunFault::Query(QueryFault::Memory) => 4,
+        RunFault::Query(QueryFault::Syntax) => 2,
+        RunFault::Line => 3,
+        RunFault::Memory => 4,
+        RunFault::Read | RunFault::Write => 5,
+    }
+}
+
+/// Writes one text behind another.
+fn write_both<K: Sink>(writer: &mut K, front: &[u8], back: &[u8]) -> Result<(), DeviceFailed>
+    ensures written { OnOk result
+        (Appends (K.held writer.old) (K.held writer.new) (front.now ++ back.now)) }
+    ensures failed { OnErr result
+        (WroteBeginning (K.held writer.old) (K.held writer.new) (front.now ++ back.now)) }
+{
+    write_all(writer, front)?;
+    write_all(writer, back)
+}
+
+/// Writes the number of a line, and a line feed.
+fn write_number<K: Sink>(writer: &mut K, line: u128) -> Result<(), DeviceFailed>
+    ensures written { OnOk result
+        (Appends (K.held writer.old) (K.held writer.new) (decimal line ++ codes "\n")) }
+    ensures failed { OnErr result
+        (WroteBeginning (K.held writer.old) (K.held writer.new) (decimal line ++ codes "\n")) }
+{
+    let mut buffer = Buffer::new();
+    write_both(writer, buffer.format(line).as_bytes(), b"\n")
+}
+
+/// Writes the line of a bad line.
+fn write_bad_line<K: Sink>(writer: &mut K, line: u128) -> Result<(), DeviceFailed>
+    ensures written { OnOk result
+        (Appends (K.held writer.old) (K.held writer.new)
+        (codes "error: line " ++ (decimal line ++ codes "\n"))) }
+    ensures failed { OnErr result
+        (WroteBeginning (K.held writer.old) (K.held writer.new)
+        (codes "error: line " ++ (decimal line ++ codes "\n"))) }
+{
+    match write_all(writer, b"error: line ") {
+        Ok(()) => write_number(writer, line),
+        Err(failed) => Err(failed),
+    }
+}
+
+/// Writes the line of a fault, with a line feed. It takes no memory.
+///
+/// # Errors
+/// `DeviceFailed`: the writer failed in this call, or took no byte of a text that was not empty. A
+/// beginning of the line was written, and not all of it.
+pub fn write_fault<K: Sink>(fault: &RunFault, writer: &mut K) -> Result<(), DeviceFailed>
+    ensures written { OnOk result
+        (Appends (K.held writer.old) (K.held writer.new) (fault_line fault.now)) }
+    ensures failed { OnErr result
+        (WroteBeginning (K.held writer.old) (K.held writer.new) (fault_line fault.now)) }
+{
+    match fault {
+        RunFault::BadLine(line) => write_bad_line(writer, *line),
+        RunFault::Query(QueryFault::Memory) => write_all(writer, b"error: memory\n"),
+        RunFault::Query(QueryFault::Syntax) => write_all(writer, b"error: query syntax\n"),
+        RunFault::Line => write_all(writer, b"error: command line\n"),
+        RunFault::Memory => write_all(writer, b"error: memory\n"),
+        RunFault::Read => write_all(writer, b"error: input\n"),
+        RunFault::Write => write_all(writer, b"error: output\n"),
+    }
+}
