@@ -1,0 +1,14 @@
+use Rattle.std.proofs.Common.{ap, ◌∙◌}
+use Rattle.piece_cuts.proofs.BlockSteps.{BothKnown-cut, BothKnown-block}
+use Rattle.piece_cuts.proofs.blocks.Blocks.next.Goals as goal
+
+pub returns-in-Ok-clause-block : goal.returns-in-Ok-clause-block
+returns-in-Ok-clause-block g c e =
+    let kept = ap (λ v. v.kept) c.self.view_is in
+    let size = ap (λ v. v.size) c.self.view_is in
+    let grows = c.in-Ok-Some.ensures.grows in
+    let cut = rw c.in-Ok-Some.field-0-is at c.in-Ok-Some.ensures.cut in
+    let front = c.in-Ok.ensures.items in
+    let tail = c.in-Ok.ensures.tail in
+    let all = BothKnown-cut _ _ _ _ _ _ c.self.invariant grows cut in
+    BothKnown-block _ _ _ _ _ _ _ _ _ c.replace-block.result size kept (ap (λ v. v.items) c.replace-block.ensures.value ∙ front) (ap (λ v. v.items) c.replace-block.ensures.after ∙ tail) all

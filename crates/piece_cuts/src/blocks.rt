@@ -1,0 +1,144 @@
+//! A document that is read bit by bit, in blocks.
+ghost use Rattle.std.specs.Prelude.{◌≡◌, ◌≤◌, [], IfOk, MatchOption};
+ghost use Rattle.std.specs.Io.KnownBytes.{IsAtEnd};
+ghost use Rattle.nquads_core.specs.Transfer.{CountsRead};
+ghost use Rattle.piece_cuts.specs.Blocks.{Grows, IsClear};
+ghost use Rattle.piece_cuts.specs.Cuts.{IsNextCut, HasNoNextCut};
+
+use crate::places::next_cut;
+use nquads_core::{ReadFault, Source, read_more};
+use std::alloc::{AllocError, Global};
+use std::marker::Model;
+use std::mem;
+
+/// What blocks answer from now on.
+#[derive(Clone, Copy)]
+pub enum BlockState {
+    /// The next block.
+    Reading,
+    /// None: the document has ended.
+    Ended,
+    /// This fault.
+    Failed(ReadFault),
+}
+
+/// The pieces of a document that is read bit by bit, each in a block of its own: those of
+/// `Cuts::every` of the document, one after the other. A contract sees the size, the bytes that were
+/// read and not yet given, and what is answered from now on.
+#[derive(Drop)]
+pub struct Blocks {
+    alloc: Global,
+    size: usize,
+    kept: Vec<u8>,
+    state: BlockState,
+}
+
+impl Model for Blocks {
+    ghost use Rattle.std.specs.Prelude.{◌≤◌};
+    ghost use Rattle.piece_cuts.specs.Blocks.{BlocksView};
+
+    ghost Value = { BlocksView };
+
+    ghost view = { λ b. record { size = b.size; kept = b.kept.items; state = b.state } };
+
+    ghost invariant = { λ b. 1 ≤ b.size };
+}
+
+impl Blocks {
+    ghost use Rattle.piece_cuts.specs.Blocks.{GivesKnownBlock, state_after};
+
+    /// Blocks of at least so many bytes, the last one aside. Nothing has been read yet.
+    ///
+    /// # Errors
+    /// `AllocError`: a growth was refused.
+    pub fn new(alloc: Global, size: usize) -> Result<Blocks, AllocError>
+        requires some { 1 ≤ size }
+        ensures fresh { IfOk result
+            (λ b. b ≡ record { size = size; kept = []; state = BlockState.Reading }) }
+    {
+        Ok(Blocks {
+            alloc,
+            size,
+            kept: Vec::new(alloc),
+            state: BlockState::Reading,
+        })
+    }
+
+    /// The next block of the document: the first piece of the bytes kept and those that the reader
+    /// still has. None where there are no more bytes; each later call then answers None.
+    ///
+    /// # Errors
+    /// - `Read`: the reader failed in this call, or in the one that first answered so.
+    /// - `Memory`: a growth was refused, in this call or in the one that first answered so.
+    ///
+    /// Each later call answers the same fault. Bytes that were read and not given are lost.
+    pub fn next<S: Source>(&mut self, reader: &mut S) -> Result<Option<Vec<u8>>, ReadFault>
+        ensures size { self.new.size ≡ self.old.size }
+        ensures block { self.old.state ≡ BlockState.Reading → GivesKnownBlock self.old.size
+            self.old.kept (S.left reader.old) self.new.kept (S.left reader.new) result }
+        ensures state { self.old.state ≡ BlockState.Reading → self.new.state ≡ state_after result }
+        ensures count { self.old.state ≡ BlockState.Reading
+            → CountsRead (S.failures reader.old) (S.failures reader.new) result }
+        ensures ended { self.old.state ≡ BlockState.Ended
+            → (result ≡ Ok None) × (self.new ≡ self.old) }
+        ensures failed { (fault : _) → self.old.state ≡ BlockState.Failed fault
+            → (result ≡ Err fault) × (self.new ≡ self.old) }
+    {
+        match self.state {
+            BlockState::Ended => return Ok(None),
+            BlockState::Failed(fault) => return Err(fault),
+            BlockState::Reading => {}
+        }
+        match first_cut(reader, &mut self.kept, self.size) {
+            Ok(Some(place)) => {
+                let Ok(rest) = self.kept.split_off(place) else {
+                    self.state = BlockState::Failed(ReadFault::Memory);
+                    return Err(ReadFault::Memory);
+                };
+                let block = mem::replace(&mut self.kept, rest);
+                Ok(Some(block))
+            }
+            Ok(None) => {
+                if self.kept.is_empty() {
+                    self.state = BlockState::Ended;
+                    return Ok(None);
+                }
+                let block = mem::replace(&mut self.kept, Vec::new(self.alloc));
+                Ok(Some(block))
+            }
+            Err(fault) => {
+                self.state = BlockState::Failed(fault);
+                Err(fault)
+            }
+        }
+    }
+}
+
+/// Reads on until there is a first cut, or to the end. What was searched once is not searched again,
+/// so a long line costs time in proportion to its length.
+fn first_cut<S: Source>(
+    reader: &mut S,
+    kept: &mut Vec<u8>,
+    size: usize,
+) -> Result<Option<usize>, ReadFault>
+    requires some { 1 ≤ size }
+    ensures grows { IfOk result
+        (λ _. Grows (S.left reader.old) (S.left reader.new) kept.old.items kept.new.items) }
+    ensures cut { IfOk result (λ r. MatchOption r
+        (HasNoNextCut kept.new.items size 0 × IsAtEnd (S.left reader.new))
+        (IsNextCut kept.new.items size 0)) }
+    ensures count { CountsRead (S.failures reader.old) (S.failures reader.new) result }
+{
+    let mut searched = size;
+    loop {
+        if let Some(place) = next_cut(kept, 0, searched) {
+            return Ok(Some(place));
+        }
+        searched = searched.max(kept.len());
+        match read_more(reader, kept) {
+            Ok(0) => return Ok(None),
+            Ok(_) => {}
+            Err(fault) => return Err(fault),
+        }
+    }
+}
