@@ -6,3 +6,5 @@ pub mod ValueShown
 pub mod Digits
 pub mod HeldTerm
 pub mod MemberTruth
+pub mod Names
+pub mod Translation

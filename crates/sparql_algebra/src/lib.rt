@@ -36,6 +36,7 @@ mod lookup;
 mod number;
 mod operator;
 mod plan;
+
 pub use comparison::{compare, truth};
 pub use evaluation::{ExprFault, test, value};
 pub use expression::Expr;
