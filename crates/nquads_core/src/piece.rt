@@ -49,7 +49,8 @@ fn first_line(text: &[u8]) -> (&[u8], &[u8])
 
 /// Puts a quad behind the others, if there is one.
 fn add(quads: &mut Vec<Quad>, quad: Option<Quad>) -> Result<(), AllocFailed<Quad>>
-    ensures { OnOk result (map parts_of quads.new.items ≡ map parts_of quads.old.items ++ option_to_list (option_map parts_of quad)) }
+    ensures { OnOk result (map parts_of quads.new.items
+        ≡ map parts_of quads.old.items ++ option_to_list (option_map parts_of quad)) }
 {
     if let Some(quad) = quad {
         quads.push(quad)?;
@@ -70,7 +71,8 @@ pub fn read_piece(alloc: Global, bytes: &[u8]) -> Result<Piece, PieceFault>
     ensures quads { IfOk result
         (λ piece. SpellAll (lines bytes.now) (map parts_of piece.quads.items)) }
     ensures lines { IfOk result (λ piece. piece.lines ≡ length (lines bytes.now)) }
-    ensures bad_line { IfErr result (λ fault. (k : ℕ) → fault ≡ BadLine k → IsFirstBad (lines bytes.now) k) }
+    ensures bad_line { IfErr result
+        (λ fault. (k : ℕ) → fault ≡ BadLine k → IsFirstBad (lines bytes.now) k) }
 {
     let mut quads = Vec::new(alloc);
     let mut count = 0u64;
