@@ -32,8 +32,11 @@ impl Model for Board {
 
     ghost Value = { BoardView };
 
-    ghost view = { λ b. record { id = b.table.shared.table_id; pieces = b.pieces;
-        seats = b.seats } };
+    ghost view = { λ b. record {
+      id = b.table.shared.table_id;
+      pieces = b.pieces;
+      seats = b.seats;
+    } };
 
     ghost invariant = { λ b. (b.table.shared.table_id.words ≡ 2)
         × (b.table.shared.table_id.slots ≡ 0) × (b.table.shared.key.pieces ≡ b.pieces)

@@ -28,13 +28,23 @@ impl Model for Pass {
 
     ghost Value = { PassView };
 
-    ghost view = { λ p. record { board = p.seat.table_id; history = p.seat.me.0; last = p.last;
-        skips = p.skips; lowest_skip = p.lowest_skip } };
+    ghost view = { λ p. record {
+      board = p.seat.table_id;
+      history = p.seat.me.0;
+      last = p.last;
+      skips = p.skips;
+      lowest_skip = p.lowest_skip;
+    } };
 
     ghost invariant = { λ p. (p.seat.me.1 ≡ []) × (p.seen ≡ p.seat.me.0.seen)
         × (p.finished ≡ ltb 0 p.seat.me.0.finished)
-        × PassFacts record { board = p.seat.table_id; history = p.seat.me.0; last = p.last;
-            skips = p.skips; lowest_skip = p.lowest_skip } };
+        × PassFacts record {
+          board = p.seat.table_id;
+          history = p.seat.me.0;
+          last = p.last;
+          skips = p.skips;
+          lowest_skip = p.lowest_skip;
+        } };
 }
 
 impl Pass {

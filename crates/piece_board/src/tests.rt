@@ -156,7 +156,10 @@ fn sixty_four_seats_in_turn(rt: HostRuntime) -> Result<(), Fail> {
         let passes = draw_rounds(rt.alloc(), &board, passes, 3)?;
         assert!(rt; passes.iter().all(|pass| pass.is_finished()), "n {n}");
         let closed = board.close(passes);
-        assert!(rt; closed.drawn == n && closed.skipped == 0 && closed.least == n, "n {n}");
+        assert!(rt;
+            closed.drawn == n && closed.skipped == 0 && closed.least == n,
+            "n {n}"
+        );
     }
     Ok(())
 }
