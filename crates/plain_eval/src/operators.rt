@@ -1,0 +1,291 @@
+//! The operators, by running through all solutions or all pairs of them.
+ghost use Rattle.std.specs.Prelude.{◌≡◌, ◌∷◌, ◌&&◌, ◌||◌, not, IfOk, OnOk, filter};
+ghost use Rattle.std.specs.List.{list_all};
+ghost use Rattle.rdf_core.proofs.TermLaws.{term_eq};
+ghost use Rattle.algebra_model.specs.Solution.{is_compatible, merge, same_solution};
+ghost use Rattle.algebra_model.specs.Operators.{share, merges, join, left_join, minus, extend, distinct, table};
+ghost use Rattle.algebra_model.specs.Solve.{alone};
+
+use crate::condition::{Condition, Value};
+use crate::solution::{
+    Solution, bound_cells, cells_agree, cells_share, copy_cells, merged_cells, same_cells,
+    table_cells,
+};
+use std::alloc::{AllocError, Global};
+
+/// The solutions with one more in front.
+fn with_first(first: Solution, rest: Vec<Solution>) -> Result<Vec<Solution>, AllocError>
+    ensures value { IfOk result (λ solutions. solutions.items ≡ first ∷ rest.items) }
+{
+    let mut solutions = rest;
+    solutions.insert(0, first)?;
+    Ok(solutions)
+}
+
+/// An equal solution.
+fn copy(alloc: Global, solution: &Solution) -> Result<Solution, AllocError>
+    ensures value { IfOk result (λ copy. copy ≡ solution.now) }
+{
+    Ok(Solution::of(copy_cells(alloc, solution.terms())?))
+}
+
+/// The merges of one solution with those that are compatible with it.
+fn merges(
+    alloc: Global,
+    solution: &Solution,
+    others: &[Solution],
+) -> Result<Vec<Solution>, AllocError>
+    ensures value { IfOk result (λ found. found.items ≡ merges term_eq solution.now others.now) }
+{
+    match others.split_first() {
+        None => Ok(Vec::new(alloc)),
+        Some((other, rest)) => {
+            let found = merges(alloc, solution, rest)?;
+            if cells_agree(solution.terms(), other.terms()) {
+                let merged = merged_cells(alloc, solution.terms(), other.terms())?;
+                with_first(Solution::of(merged), found)
+            } else {
+                Ok(found)
+            }
+        }
+    }
+}
+
+/// Join: the merge of each compatible pair, once for each pair.
+///
+/// # Errors
+/// `AllocError`: a growth was refused.
+pub fn join(
+    alloc: Global,
+    left: &[Solution],
+    right: &[Solution],
+) -> Result<Vec<Solution>, AllocError>
+    ensures value { IfOk result (λ joined. joined.items ≡ join term_eq left.now right.now) }
+{
+    match left.split_first() {
+        None => Ok(Vec::new(alloc)),
+        Some((solution, rest)) => {
+            let mut joined = merges(alloc, solution, right)?;
+            let mut others = join(alloc, rest, right)?;
+            joined.append(&mut others)?;
+            Ok(joined)
+        }
+    }
+}
+
+/// Filter: the solutions of which the condition is true.
+///
+/// # Errors
+/// `AllocError`: a growth was refused.
+pub fn filter<C: Condition>(
+    alloc: Global,
+    condition: &C,
+    solutions: &[Solution],
+) -> Result<Vec<Solution>, AllocError>
+    ensures value { IfOk result (λ kept. kept.items ≡ filter (C.holds condition.now) solutions.now) }
+{
+    match solutions.split_first() {
+        None => Ok(Vec::new(alloc)),
+        Some((solution, rest)) => {
+            let kept = filter(alloc, condition, rest)?;
+            if condition.is_true(alloc, solution)? {
+                with_first(copy(alloc, solution)?, kept)
+            } else {
+                Ok(kept)
+            }
+        }
+    }
+}
+
+/// Whether each of the others is incompatible with the solution, or shares no variable with it.
+fn is_apart(solution: &Solution, others: &[Solution]) -> bool
+    ensures value { result
+        ≡ list_all (λ ν. not (is_compatible term_eq solution.now ν) || not (share solution.now ν)) others.now }
+{
+    match others.split_first() {
+        None => true,
+        Some((other, rest)) => {
+            (!cells_agree(solution.terms(), other.terms())
+                || !cells_share(solution.terms(), other.terms()))
+                && is_apart(solution, rest)
+        }
+    }
+}
+
+/// Minus: each solution on the left for which each on the right is incompatible with it, or shares
+/// no bound variable with it.
+///
+/// # Errors
+/// `AllocError`: a growth was refused.
+pub fn minus(
+    alloc: Global,
+    left: &[Solution],
+    right: &[Solution],
+) -> Result<Vec<Solution>, AllocError>
+    ensures value { IfOk result (λ kept. kept.items ≡ minus term_eq left.now right.now) }
+{
+    match left.split_first() {
+        None => Ok(Vec::new(alloc)),
+        Some((solution, rest)) => {
+            let kept = minus(alloc, rest, right)?;
+            if is_apart(solution, right) {
+                with_first(copy(alloc, solution)?, kept)
+            } else {
+                Ok(kept)
+            }
+        }
+    }
+}
+
+/// Whether no merge of the solution with a compatible one passes the condition.
+fn is_alone<C: Condition>(
+    alloc: Global,
+    condition: &C,
+    solution: &Solution,
+    others: &[Solution],
+) -> Result<bool, AllocError>
+    ensures value { IfOk result
+        (λ answer. answer ≡ alone term_eq (C.holds condition.now) others.now solution.now) }
+{
+    match others.split_first() {
+        None => Ok(true),
+        Some((other, rest)) => {
+            if cells_agree(solution.terms(), other.terms()) {
+                let merged = merged_cells(alloc, solution.terms(), other.terms())?;
+                if condition.is_true(alloc, &Solution::of(merged))? {
+                    return Ok(false);
+                }
+            }
+            is_alone(alloc, condition, solution, rest)
+        }
+    }
+}
+
+/// The solutions on the left that no solution on the right extends.
+fn alone_ones<C: Condition>(
+    alloc: Global,
+    condition: &C,
+    left: &[Solution],
+    right: &[Solution],
+) -> Result<Vec<Solution>, AllocError>
+    ensures value { IfOk result
+        (λ kept. kept.items ≡ filter (alone term_eq (C.holds condition.now) right.now) left.now) }
+{
+    match left.split_first() {
+        None => Ok(Vec::new(alloc)),
+        Some((solution, rest)) => {
+            let kept = alone_ones(alloc, condition, rest, right)?;
+            if is_alone(alloc, condition, solution, right)? {
+                with_first(copy(alloc, solution)?, kept)
+            } else {
+                Ok(kept)
+            }
+        }
+    }
+}
+
+/// LeftJoin: the joined solutions of which the condition is true, and behind them each solution on
+/// the left that none on the right extends so.
+///
+/// # Errors
+/// `AllocError`: a growth was refused.
+pub fn left_join<C: Condition>(
+    alloc: Global,
+    condition: &C,
+    left: &[Solution],
+    right: &[Solution],
+) -> Result<Vec<Solution>, AllocError>
+    ensures value { IfOk result
+        (λ joined. joined.items ≡ left_join term_eq (C.holds condition.now) left.now right.now) }
+{
+    let joined = join(alloc, left, right)?;
+    let mut kept = filter(alloc, condition, &joined)?;
+    let mut others = alone_ones(alloc, condition, left, right)?;
+    kept.append(&mut others)?;
+    Ok(kept)
+}
+
+/// Extend: each solution with its value at the variable; where the value is an error, as it is.
+///
+/// # Errors
+/// `AllocError`: a growth was refused.
+pub fn extend<V: Value>(
+    alloc: Global,
+    variable: usize,
+    value: &V,
+    solutions: &[Solution],
+) -> Result<Vec<Solution>, AllocError>
+    ensures value { IfOk result
+        (λ extended. extended.items ≡ extend variable (V.gives value.now) solutions.now) }
+{
+    match solutions.split_first() {
+        None => Ok(Vec::new(alloc)),
+        Some((solution, rest)) => {
+            let extended = extend(alloc, variable, value, rest)?;
+            let term = value.value(alloc, solution)?;
+            let bound = bound_cells(alloc, variable, term, solution.terms())?;
+            with_first(Solution::of(bound), extended)
+        }
+    }
+}
+
+/// The solutions that differ from the given one.
+fn others(
+    alloc: Global,
+    solution: &Solution,
+    solutions: &[Solution],
+) -> Result<Vec<Solution>, AllocError>
+    ensures value { IfOk result
+        (λ kept. kept.items ≡ filter (λ ν. not (same_solution term_eq solution.now ν)) solutions.now) }
+{
+    match solutions.split_first() {
+        None => Ok(Vec::new(alloc)),
+        Some((other, rest)) => {
+            let kept = others(alloc, solution, rest)?;
+            if same_cells(solution.terms(), other.terms()) {
+                Ok(kept)
+            } else {
+                with_first(copy(alloc, other)?, kept)
+            }
+        }
+    }
+}
+
+/// Distinct: one of each solution.
+///
+/// # Errors
+/// `AllocError`: a growth was refused.
+pub fn distinct(alloc: Global, solutions: &[Solution]) -> Result<Vec<Solution>, AllocError>
+    ensures value { IfOk result (λ kept. kept.items ≡ distinct term_eq solutions.now) }
+{
+    match solutions.split_first() {
+        None => Ok(Vec::new(alloc)),
+        Some((solution, rest)) => {
+            let kept = distinct(alloc, rest)?;
+            with_first(copy(alloc, solution)?, others(alloc, solution, &kept)?)
+        }
+    }
+}
+
+/// A table: one solution of `width` variables for each row of cells, in which the listed variables
+/// have the row's cells; None is UNDEF, which binds nothing.
+///
+/// # Errors
+/// `AllocError`: a growth was refused.
+pub fn table(
+    alloc: Global,
+    width: usize,
+    variables: &[usize],
+    rows: &[Solution],
+) -> Result<Vec<Solution>, AllocError>
+    ensures value { IfOk result (λ solutions. solutions.items ≡ table width variables.now rows.now) }
+{
+    match rows.split_first() {
+        None => Ok(Vec::new(alloc)),
+        Some((row, rest)) => {
+            let solutions = table(alloc, width, variables, rest)?;
+            let cells = table_cells(alloc, width, variables, row.terms())?;
+            with_first(Solution::of(cells), solutions)
+        }
+    }
+}

@@ -1,0 +1,244 @@
+//! One solution of terms.
+ghost use Rattle.std.specs.Prelude.{◌≡◌, ◌∷◌, IfOk, Some, None, replicate};
+ghost use Rattle.std.specs.Option.{option_eq};
+ghost use Rattle.rdf_core.proofs.TermLaws.{term_eq};
+ghost use Rattle.algebra_model.specs.Solution.{agree, bound_or, is_compatible, merge, same_solution};
+ghost use Rattle.algebra_model.specs.Operators.{share, bind, table_row};
+
+use rdf_core::Term;
+use std::alloc::{AllocError, Global};
+use std::marker::Model;
+
+/// One solution: the term of each variable, by the variable's number.
+#[derive(Drop)]
+pub struct Solution {
+    terms: Vec<Option<Term>>,
+}
+
+impl Model for Solution {
+    ghost use Rattle.std.specs.Prelude.{List, Option};
+    ghost use Rattle.rdf_core.specs.declared.term.Term.{Term};
+
+    ghost Value = { List (Option Term) };
+
+    ghost view = { λ s. s.terms.items };
+}
+
+impl Solution {
+    /// The solution with these terms; takes no memory.
+    pub fn of(terms: Vec<Option<Term>>) -> Solution
+        ensures value { result ≡ terms.items }
+    {
+        Solution { terms }
+    }
+
+    /// The terms, lent.
+    pub fn terms(&self) -> &[Option<Term>]
+        ensures value { result.now ≡ self.now }
+    {
+        self.terms.as_slice()
+    }
+}
+
+/// An equal cell.
+fn copy_cell(alloc: Global, cell: &Option<Term>) -> Result<Option<Term>, AllocError>
+    ensures value { IfOk result (λ copy. copy ≡ cell.now) }
+{
+    match cell {
+        None => Ok(None),
+        Some(term) => Ok(Some(term.copy(alloc)?)),
+    }
+}
+
+/// The cells with one more in front.
+pub(crate) fn with_first(
+    first: Option<Term>,
+    rest: Vec<Option<Term>>,
+) -> Result<Vec<Option<Term>>, AllocError>
+    ensures value { IfOk result (λ cells. cells.items ≡ first ∷ rest.items) }
+{
+    let mut cells = rest;
+    cells.insert(0, first)?;
+    Ok(cells)
+}
+
+/// Equal cells.
+pub(crate) fn copy_cells(
+    alloc: Global,
+    cells: &[Option<Term>],
+) -> Result<Vec<Option<Term>>, AllocError>
+    ensures value { IfOk result (λ copy. copy.items ≡ cells.now) }
+{
+    match cells.split_first() {
+        None => Ok(Vec::new(alloc)),
+        Some((x, rest)) => {
+            let copied = copy_cells(alloc, rest)?;
+            with_first(copy_cell(alloc, x)?, copied)
+        }
+    }
+}
+
+/// Whether two cells do not bind a variable to two terms.
+fn agree(x: &Option<Term>, y: &Option<Term>) -> bool
+    ensures value { result ≡ agree term_eq x.now y.now }
+{
+    match x {
+        None => true,
+        Some(x) => match y {
+            None => true,
+            Some(y) => x == y,
+        },
+    }
+}
+
+/// Whether the solutions agree on every variable that both bind.
+pub(crate) fn cells_agree(a: &[Option<Term>], b: &[Option<Term>]) -> bool
+    ensures value { result ≡ is_compatible term_eq a.now b.now }
+{
+    match a.split_first() {
+        None => true,
+        Some((x, a)) => match b.split_first() {
+            None => true,
+            Some((y, b)) => agree(x, y) && cells_agree(a, b),
+        },
+    }
+}
+
+/// Whether some variable is bound in both.
+pub(crate) fn cells_share(a: &[Option<Term>], b: &[Option<Term>]) -> bool
+    ensures value { result ≡ share a.now b.now }
+{
+    match a.split_first() {
+        None => false,
+        Some((x, a)) => match b.split_first() {
+            None => false,
+            Some((y, b)) => match x {
+                None => cells_share(a, b),
+                Some(_) => match y {
+                    None => cells_share(a, b),
+                    Some(_) => true,
+                },
+            },
+        },
+    }
+}
+
+/// Whether two cells are the same.
+fn same_cell(x: &Option<Term>, y: &Option<Term>) -> bool
+    ensures value { result ≡ option_eq term_eq x.now y.now }
+{
+    match x {
+        None => y.is_none(),
+        Some(x) => match y {
+            None => false,
+            Some(y) => x == y,
+        },
+    }
+}
+
+/// Whether the solutions are the same.
+pub(crate) fn same_cells(a: &[Option<Term>], b: &[Option<Term>]) -> bool
+    ensures value { result ≡ same_solution term_eq a.now b.now }
+{
+    match a.split_first() {
+        None => b.is_empty(),
+        Some((x, a)) => match b.split_first() {
+            None => false,
+            Some((y, b)) => same_cell(x, y) && same_cells(a, b),
+        },
+    }
+}
+
+/// The first where it is bound, and else the second.
+fn first_bound(
+    alloc: Global,
+    x: &Option<Term>,
+    y: &Option<Term>,
+) -> Result<Option<Term>, AllocError>
+    ensures value { IfOk result (λ cell. cell ≡ bound_or x.now y.now) }
+{
+    match x {
+        None => copy_cell(alloc, y),
+        Some(x) => Ok(Some(x.copy(alloc)?)),
+    }
+}
+
+/// The union of two solutions.
+pub(crate) fn merged_cells(
+    alloc: Global,
+    a: &[Option<Term>],
+    b: &[Option<Term>],
+) -> Result<Vec<Option<Term>>, AllocError>
+    ensures value { IfOk result (λ cells. cells.items ≡ merge a.now b.now) }
+{
+    match a.split_first() {
+        None => copy_cells(alloc, b),
+        Some((x, more)) => match b.split_first() {
+            None => copy_cells(alloc, a),
+            Some((y, others)) => {
+                let merged = merged_cells(alloc, more, others)?;
+                with_first(first_bound(alloc, x, y)?, merged)
+            }
+        },
+    }
+}
+
+/// So many cells that bind nothing.
+pub(crate) fn open_cells(alloc: Global, width: usize) -> Result<Vec<Option<Term>>, AllocError>
+    ensures value { IfOk result (λ cells. cells.items ≡ replicate width None) }
+{
+    let mut cells = Vec::new(alloc);
+    for _i in 0..width {
+        cells.push(None)?;
+    }
+    Ok(cells)
+}
+
+/// The cells with the term at the variable, where nothing is bound to it and there is a term.
+pub(crate) fn bound_cells(
+    alloc: Global,
+    variable: usize,
+    term: Option<Term>,
+    cells: &[Option<Term>],
+) -> Result<Vec<Option<Term>>, AllocError>
+    ensures value { IfOk result (λ bound. bound.items ≡ bind variable term cells.now) }
+{
+    match cells.split_first() {
+        None => Ok(Vec::new(alloc)),
+        Some((x, rest)) => {
+            if variable > 0 {
+                let bound = bound_cells(alloc, variable - 1, term, rest)?;
+                return with_first(copy_cell(alloc, x)?, bound);
+            }
+            let rest = copy_cells(alloc, rest)?;
+            match x {
+                None => with_first(term, rest),
+                Some(x) => with_first(Some(x.copy(alloc)?), rest),
+            }
+        }
+    }
+}
+
+/// A row of a table: of `width` variables the listed ones have the cells, where a cell has a term.
+pub(crate) fn table_cells(
+    alloc: Global,
+    width: usize,
+    variables: &[usize],
+    cells: &[Option<Term>],
+) -> Result<Vec<Option<Term>>, AllocError>
+    ensures value { IfOk result (λ row. row.items ≡ table_row width variables.now cells.now) }
+{
+    match variables.split_first() {
+        None => open_cells(alloc, width),
+        Some((&variable, variables)) => match cells.split_first() {
+            None => open_cells(alloc, width),
+            Some((x, cells)) => {
+                let mut row = table_cells(alloc, width, variables, cells)?;
+                if variable < row.len() {
+                    row[variable] = copy_cell(alloc, x)?;
+                }
+                Ok(row)
+            }
+        },
+    }
+}
