@@ -16,7 +16,8 @@
 //!
 //! Example: the document `<http://e/a> <http://e/p> "x" .` and the query
 //! `SELECT ?o { <http://e/a> <http://e/p> ?o }` give
-//! `{"head":{"vars":["o"]},"results":{"bindings":[{"o":{"type":"literal","value":"x"}}]}}`.
+//! `{"head":{"vars":["o"]},"results":{"bindings":[{"o":{"type":"literal","value":"x"}}]}}`; the test
+//! `selects_are_answered` runs such examples.
 //!
 //! Not promised: that memory suffices, speed, and what a file or a terminal holds.
 #![tactic(auto)]
@@ -34,6 +35,8 @@ mod program;
 mod report;
 mod results;
 mod store;
+#[cfg(test)]
+mod tests;
 
 pub use answering::answer;
 pub use command::Command;
