@@ -16,7 +16,6 @@
 //! Not there yet: the head of a query, its refusals but `Syntax`, and the expansion of prefixed
 //! names, which stand in the tree as they are written.
 #![tactic(auto)]
-#![tactic(auto)]
 
 mod candidates;
 mod characters;

@@ -1,6 +1,6 @@
 -- The tree of an expression, apart from how it lies in memory (SPARQL 1.1 Query Language, section
 -- 19.8, from Expression on).
-use Rattle.std.specs.Prelude.{ℕ, List, [], ◌∷◌}
+use Rattle.std.specs.Prelude.{ℕ, List, [], ◌∷◌, map}
 use Rattle.rdf_core.specs.declared.term.Term.{Term}
 use Rattle.sparql_tree.specs.declared.expression.Comparison.{Comparison}
 use Rattle.sparql_tree.specs.declared.expression.Function.{Function}
@@ -45,6 +45,9 @@ expression_step (Expression-F.SameTerm a b) = same_term a.value b.value
 expression_step (Expression-F.Variable x) = variable x
 expression_step (Expression-F.Constant t) = constant t
 
--- the tree of an expression in the code
+-- the tree of an expression in the code, and of a list of expressions
 abbrev pub expression_of : Expression → ExpressionTree
 expression_of = fold-Expression ExpressionTree expression_step
+
+abbrev pub expressions_of : List Expression → Expressions
+expressions_of es = onto none (map expression_of es)

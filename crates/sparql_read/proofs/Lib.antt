@@ -1,0 +1,5 @@
+pub mod KindLaws
+pub mod FormLaws
+pub mod ClassLaws
+pub mod ProductionLaws
+pub mod MatchLaws

@@ -1,0 +1,7 @@
+pub mod Values
+pub mod Class
+pub mod Symbol
+pub mod Form
+pub mod Productions
+pub mod Matches
+pub mod Follow

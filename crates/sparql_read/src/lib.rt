@@ -1,0 +1,22 @@
+//! From the terminals of a SPARQL query to its tree.
+//!
+//! The grammar (SPARQL 1.1 Query Language, section 19.8, without what is left out) is written down
+//! once, as a value: `right_side` of specs/Productions.antt gives each symbol its right side, and
+//! `Matches` of specs/Matches.antt is what these derive, a relation over lists of terminals that
+//! never looks ahead. [`one_query`] is the law that a list of terminals is one query at most.
+//!
+//! A terminal stands for what its kind and its characters say (specs/Class.antt); one whose escape
+//! names nothing stands for nothing, so no production takes it.
+//!
+//! To read in this order: specs/Class.antt, specs/Symbol.antt, specs/Form.antt,
+//! specs/Productions.antt, specs/Matches.antt, then `laws`.
+//!
+//! Not there yet: the readers, the refusals of a query, and the expansion of prefixed names, which
+//! stand in the tree as they are written.
+#![tactic(auto)]
+
+mod laws;
+mod names;
+
+pub use laws::one_query;
+pub use names::Declaration;
