@@ -1,20 +1,20 @@
-//! From the terminals of a SPARQL query to its tree.
+//! The text of a SPARQL query as its terminals: characters go in, tokens come out.
 //!
-//! The grammar (SPARQL 1.1 Query Language, section 19.8, without what is left out) is written down
-//! once, as a value: `right_side` of specs/Productions.antt gives each symbol its right side, and
-//! `Matches` of specs/Matches.antt is what these derive, a relation over lists of terminals that
-//! never looks ahead. [`one_query`] is the law that a list of terminals is one query at most.
+//! [`scan_text`] is what the crate above uses. Its tokens are the one list of terminals of the text,
+//! each the longest at its place, up to the end of the text or to the first place where no terminal
+//! can be read (`Scans` of specs/Scan.antt). The laws [`one_scan`] and [`one_kind`] say that a text
+//! has one such list, and that no text is a terminal of two kinds.
 //!
-//! The readers are one function a symbol, by recursive descent over the tokens of `sparql_lexer`.
-//! Each answers a tree that the grammar derives, where nothing else is derived that the next
-//! terminal does not continue, and `Syntax` only where nothing is (`Reading` of
-//! specs/Reading.antt). They call themselves only inside brackets; chains and lists are loops.
+//! A terminal is cut first and decoded afterwards: [`iri_value`] and [`string_value`] give the text
+//! that an IRI or a string stands for, or None where an escape names no character that may stand
+//! there.
 //!
-//! To read in this order: `fault`, `names`, `values`, `cursor`, `terminals`, `nodes`, `terms`,
-//! `expressions`, `triples`, `tables`, `groups`, `laws`.
+//! Standard: SPARQL 1.1 Query Language, section 19.8, with what is left out said in the decisions.
 //!
-//! Not there yet: the head of a query, its refusals but `Syntax`, and the expansion of prefixed
-//! names, which stand in the tree as they are written.
+//! To read in this order: specs/Pattern.antt (the standard's notation), then a file a family of
+//! terminals (Angle, Names, Numbers, Strings, Words, Signs), specs/Scan.antt, `scanner`, `laws`.
+//!
+//! Not promised: how long a text takes; by design the time is linear in its length.
 #![tactic(auto)]
 
 mod candidates;
