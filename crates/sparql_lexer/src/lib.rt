@@ -12,7 +12,7 @@
 //! Standard: SPARQL 1.1 Query Language, section 19.8, with what is left out said in the decisions.
 //!
 //! To read in this order: specs/Pattern.antt (the standard's notation), then a file a family of
-//! terminals (Angle, Names, Numbers, Strings, Words, Signs), specs/Scan.antt, `scanner`, `laws`.
+//! terminals (Blanks, Enclosed, Names, Numbers, Words, Signs), specs/Scan.antt, `scanner`, `laws`.
 //!
 //! Not promised: how long a text takes; by design the time is linear in its length.
 #![tactic(auto)]
