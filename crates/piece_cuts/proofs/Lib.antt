@@ -1,2 +1,3 @@
 pub mod CutLaws
 mod BlockSteps
+mod PieceLaws

@@ -8,13 +8,14 @@
 //! A line feed ends a line of N-Quads wherever it stands (RDF 1.1 N-Quads, grammar, EOL), so no line
 //! is cut in two. Where else to cut is our own choice.
 //!
-//! To read in this order: `places` (the search for a cut), `cuts`, `blocks`.
+//! To read in this order: `places` (the search for a cut), `cuts`, `blocks`, `laws`.
 //!
 //! Not promised: that a piece is small; a line longer than the size is one piece.
 #![tactic(auto)]
 
 mod blocks;
 mod cuts;
+pub mod laws;
 mod places;
 #[cfg(test)]
 mod tests;
