@@ -1,0 +1,16 @@
+-- How an evaluation is run (our own).
+use Rattle.std.specs.Prelude.{◌≡◌, ◌≤◌}
+use Rattle.piece_pool.specs.declared.pool.PoolFault.{PoolFault}
+use Rattle.piece_pool.specs.declared.pool.PoolFault.TheVariants as pool
+use Rattle.row_pieces.specs.declared.how.How.{How}
+use Rattle.row_pieces.specs.declared.how.EvalFault.{EvalFault}
+use Rattle.row_pieces.specs.declared.how.EvalFault.TheVariants.{WorkerRefused, Memory}
+
+-- 1 to 64 workers, and at least one row a piece
+abbrev pub IsRunnable : How → Type 0
+IsRunnable how = (1 ≤ how.workers) × (how.workers ≤ 64) × (1 ≤ how.rows)
+
+-- what the pool refuses is refused under the same name
+abbrev pub IsFaultOf : PoolFault → EvalFault → Type 0
+IsFaultOf pool.WorkerRefused fault = fault ≡ WorkerRefused
+IsFaultOf pool.Memory fault = fault ≡ Memory

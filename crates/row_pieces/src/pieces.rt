@@ -1,0 +1,108 @@
+//! Operators run over pieces of rows: each element gives a part of the answer, whatever the cut.
+ghost use Rattle.std.specs.List.{flat_map};
+ghost use Rattle.std.specs.Prelude.{◌≡◌, ◌≤◌, ◌^◌, ℕ, List, length, IfOk, All, take, drop, ◌-◌, ◌*◌};
+ghost use Rattle.algebra_model.specs.Solution.{Solution};
+ghost use Rattle.row_pieces.specs.How.{IsRunnable};
+ghost use Rattle.row_pieces.specs.Pieces.{AreRowsOf, piece_of};
+
+use crate::how::{EvalFault, How};
+use piece_pool::{Gate, Job, JobFault, Outcome, run_pieces};
+use row_core::Rows;
+use std::alloc::{AllocError, Global};
+use std::sync::Wait;
+use std::thread::Threads;
+
+/// Work on a list: each of its elements gives rows by itself.
+pub trait RowWork {
+    /// The width of the rows.
+    ghost width: { Self → ℕ };
+
+    /// The rows that each element gives.
+    ghost parts: { Self → List (List (Solution ℕ)) };
+
+    /// The width of the rows.
+    fn row_width(&self) -> usize
+        ensures value { result ≡ width self.now };
+
+    /// How many elements there are.
+    fn count(&self) -> usize
+        ensures value { result ≡ length (parts self.now) }
+        ensures small { result ≤ 2 ^ 62 };
+
+    /// The rows that the elements from one place up to another give.
+    fn run(&self, alloc: Global, from: usize, to: usize) -> Result<Rows, AllocError>
+        requires places { (from ≤ to) × (to ≤ length (parts self.now)) }
+        ensures rows { IfOk result (λ rows. AreRowsOf (width self.now)
+            (take (to - from) (drop from (parts self.now))) rows) };
+}
+
+/// The work by pieces of `size` elements.
+#[derive(Drop)]
+struct RowPieces<'w, W> {
+    work: &'w W,
+    size: usize,
+}
+
+impl<'w, W: RowWork> Job for RowPieces<'w, W> {
+    ghost use Rattle.row_pieces.specs.Pieces.{AreRowsOf, piece_of};
+
+    type Out = Rows;
+
+    type Fault = ();
+
+    ghost answers = { λ job i out. AreRowsOf (W.width job.work.now) (piece_of job.size i (W.parts job.work.now)) out };
+
+    ghost faults = { λ _ _ _. ⊥ };
+
+    fn run(&self, alloc: Global, i: u64) -> Result<Rows, JobFault<()>> {
+        let count = self.work.count();
+        let from = (i as usize).saturating_mul(self.size).min(count);
+        let to = from.saturating_add(self.size).min(count);
+        match self.work.run(alloc, from, to) {
+            Ok(rows) => Ok(rows),
+            Err(_) => Err(JobFault::Memory),
+        }
+    }
+
+    ghost exclusive = { λ job i out fault _ absurd. absurd };
+}
+
+/// The rows of all elements, element by element and cut into pieces as `how` says: the bag of all
+/// parts. One piece alone is worked by the caller's own thread.
+///
+/// # Errors
+/// - `WorkerRefused`: the start of a worker was refused.
+/// - `Memory`: a growth was refused.
+pub fn over_pieces<R: Threads + Wait, W: RowWork + Sync, G: Gate + Sync>(
+    rt: &R,
+    alloc: Global,
+    work: &W,
+    how: &How,
+    gate: &G,
+) -> Result<Rows, EvalFault>
+    requires how { IsRunnable how.now }
+    ensures rows { IfOk result (AreRowsOf (W.width work.now) (W.parts work.now)) }
+{
+    let pieces = work.count().div_ceil(how.rows) as u64;
+    let job = RowPieces {
+        work,
+        size: how.rows,
+    };
+    match run_pieces(rt, alloc, how.workers, pieces, &job, gate)? {
+        Outcome::All(outs) => Ok(join_pieces(alloc, work.row_width(), outs)?),
+        Outcome::First { .. } => unreachable!(),
+    }
+}
+
+/// The rows of lists of rows of one width, one list behind the other.
+fn join_pieces(alloc: Global, width: usize, outs: Vec<Rows>) -> Result<Rows, AllocError>
+    requires width { All (λ out. out.width ≡ width) outs.items }
+    ensures width { IfOk result (λ rows. rows.width ≡ width) }
+    ensures rows { IfOk result (λ rows. rows.rows ≡ flat_map (λ out. out.rows) outs.items) }
+{
+    let mut rows = Rows::new(alloc, width);
+    for out in outs {
+        rows.append(out)?;
+    }
+    Ok(rows)
+}

@@ -1,7 +1,0 @@
-//! The operators over numbered rows.
-#![tactic(auto)]
-
-mod how;
-mod pieces;
-
-pub use how::{EvalFault, How};

@@ -1,0 +1,27 @@
+-- What the productions derive.
+use Rattle.std.specs.Prelude.{◌≡◌, ℕ, List, ◌∷◌, Bool, true}
+use Rattle.sparql_lexer.specs.declared.token.Kind.{Kind}
+use Rattle.sparql_lexer.specs.Terminal.{Terminal, terminal}
+use Rattle.sparql_grammar.specs.Class.{Class, Picked, Picks}
+use Rattle.sparql_grammar.specs.Values.{Names}
+use Rattle.sparql_grammar.specs.Symbol.{Symbol, Value}
+use Rattle.sparql_grammar.specs.Form.{Form, give, take, part, last, choice, when}
+use Rattle.sparql_grammar.specs.Productions.{right_side}
+
+-- `Matches names s form ts v rest`: the list ts begins with terminals of the form, which give the
+-- value v, and rest stands behind them. A symbol stands for its right side. The form is one of the
+-- symbol s, or what is left of one.
+pub data Matches (names : Names) : (s : Symbol) → Form (Value s) → List Terminal → Value s → List Terminal → Type 0 where
+  gives : {s : Symbol} {v : Value s} {ts : List Terminal} → Matches names s (give v) ts v ts
+  takes : {s : Symbol} {c : Class} {f : Picked c → Form (Value s)} {k : Kind} {x : List ℕ} {ts rest : List Terminal} {v : Value s}
+      → (p : Picked c) → Picks names c k x p → Matches names s (f p) ts v rest → Matches names s (take c f) (terminal k x ∷ ts) v rest
+  parts : {s u : Symbol} {f : Value u → Form (Value s)} {ts mid rest : List Terminal} {a : Value u} {v : Value s}
+      → Matches names u (right_side u) ts a mid → Matches names s (f a) mid v rest → Matches names s (part u f) ts v rest
+  lasts : {s u : Symbol} {g : Value u → Value s} {ts rest : List Terminal} {a : Value u}
+      → Matches names u (right_side u) ts a rest → Matches names s (last u g) ts (g a) rest
+  firsts : {s : Symbol} {l r : Form (Value s)} {ts rest : List Terminal} {v : Value s}
+      → Matches names s l ts v rest → Matches names s (choice l r) ts v rest
+  seconds : {s : Symbol} {l r : Form (Value s)} {ts rest : List Terminal} {v : Value s}
+      → Matches names s r ts v rest → Matches names s (choice l r) ts v rest
+  whens : {s : Symbol} {b : Bool} {f : Form (Value s)} {ts rest : List Terminal} {v : Value s}
+      → b ≡ true → Matches names s f ts v rest → Matches names s (when b f) ts v rest

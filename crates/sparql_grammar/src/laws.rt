@@ -1,0 +1,16 @@
+//! The laws of the grammar.
+
+ghost use Rattle.std.specs.Prelude.{◌≡◌, List, []};
+ghost use Rattle.sparql_lexer.specs.Terminal.{Terminal};
+ghost use Rattle.sparql_grammar.specs.Values.{Names};
+ghost use Rattle.sparql_grammar.specs.Symbol.{Select};
+ghost use Rattle.sparql_grammar.specs.Symbol as the;
+ghost use Rattle.sparql_grammar.specs.Productions.{right_side};
+ghost use Rattle.sparql_grammar.specs.Matches.{Matches};
+
+/// A list of terminals is one query at most.
+pub fn one_query()
+    ensures unique { (names : Names) (ts : List Terminal) (q r : Select)
+        → Matches names the.query (right_side the.query) ts q []
+        → Matches names the.query (right_side the.query) ts r [] → q ≡ r }
+{}
