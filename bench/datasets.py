@@ -1,0 +1,117 @@
+#!/usr/bin/env python3
+"""Writes an N-Quads dataset of a given size to standard output: the catalogue of a library.
+
+    datasets.py QUADS [SEED]
+
+The same arguments give the same bytes. Works, persons and places stand in the default graph, the
+records of each lending branch in a graph of its own (every fifth graph is named by a blank node).
+There are plain, typed and tagged literals, blank nodes, escapes and text beyond ASCII.
+Python 3 standard library only.
+"""
+import random
+import sys
+
+BASE = "http://library.example/"
+XSD = "http://www.w3.org/2001/XMLSchema#"
+TYPE = "<http://www.w3.org/1999/02/22-rdf-syntax-ns#type>"
+WORDS = ("river stone amber letter signal orbit velvet harbor lantern garden winter Zürich déjà naïve "
+         "Ångström Łódź Ελλάδα Москва 東京 北京 mañana coöperate fjörð").split()
+NAMES = "Ana Bo Chloé Dmitri Éva Fátima Günther Hana Ivo José Kaja Liên Nia Olu Petra Søren Tomás".split()
+TAGS = ["en", "de", "fr", "ja", "en-GB", "pt-BR"]
+
+
+def iri(path):
+    return f"<{BASE}{path}>"
+
+
+def plain(text):
+    return '"' + text.replace("\\", "\\\\").replace('"', '\\"').replace("\n", "\\n") + '"'
+
+
+def typed(text, datatype):
+    return f'"{text}"^^<{XSD}{datatype}>'
+
+
+def phrase(dice, least, most):
+    words = [dice.choice(WORDS) for _ in range(dice.randint(least, most))]
+    odd = dice.randrange(10)
+    if odd == 0:
+        words.insert(1, 'called "so"')
+    elif odd == 1:
+        words.insert(1, "a\\b\nc")
+    return " ".join(words)
+
+
+def by_numbers(literal):
+    """The literal with its characters beyond ASCII written as numeric escapes."""
+    return "".join(
+        c if ord(c) < 128 else f"\\u{ord(c):04X}" if ord(c) < 0x10000 else f"\\U{ord(c):08X}"
+        for c in literal)
+
+
+def literal(dice, least, most):
+    text = plain(phrase(dice, least, most))
+    if dice.randrange(10) == 0:
+        text = by_numbers(text)
+    return text if dice.randrange(2) else f"{text}@{dice.choice(TAGS)}"
+
+
+def person(dice, n):
+    me = f"_:person{n}" if n % 4 == 0 else iri(f"person/{n}")
+    yield me, TYPE, iri("terms#Person"), ""
+    yield me, iri("terms#name"), plain(f"{dice.choice(NAMES)} {dice.choice(WORDS)} {n}"), ""
+    yield me, iri("terms#born"), typed(str(dice.randint(1700, 2000)), "integer"), ""
+    yield me, iri("terms#place"), iri(f"place/{dice.randrange(n // 20 + 1)}"), ""
+
+
+def author(dice, n):
+    k = dice.randrange(n + 1)
+    return f"_:person{k}" if k % 4 == 0 else iri(f"person/{k}")
+
+
+def work(dice, n):
+    me = iri(f"work/{n}")
+    yield me, TYPE, iri("terms#" + dice.choice(["Book", "Score", "Map", "Letter"])), ""
+    yield me, iri("terms#title"), literal(dice, 2, 8), ""
+    yield me, iri("terms#issued"), typed(str(dice.randint(1800, 2020)), "integer"), ""
+    yield me, iri("terms#price"), typed(f"{dice.randrange(1, 900)}.{dice.randrange(100):02}", "decimal"), ""
+    for _ in range(dice.randint(1, 3)):
+        yield me, iri("terms#creator"), author(dice, n // 3), ""
+    for _ in range(dice.randrange(4)):
+        yield me, iri("terms#cites"), iri(f"work/{dice.randrange(n + 1)}"), ""
+    if dice.randrange(2):
+        yield me, iri("terms#summary"), literal(dice, 15, 50), ""
+
+
+def record(dice, n):
+    branch = dice.randrange(n // 50 + 5)
+    graph = f"_:branch{branch}" if branch % 5 == 0 else iri(f"branch/{branch}")
+    me = iri(f"copy/{n}")
+    yield me, iri("terms#of"), iri(f"work/{n}"), graph
+    yield me, iri("terms#shelf"), plain(f"{branch}-{dice.randrange(100)}"), graph
+    yield me, iri("terms#since"), typed(f"20{dice.randrange(25):02}-0{dice.randint(1, 9)}-11T00:00:00", "dateTime"), graph
+
+
+def statements(dice):
+    n = 0
+    while True:
+        if n % 3 == 0:
+            yield from person(dice, n // 3)
+        yield from work(dice, n)
+        yield from record(dice, n)
+        n += 1
+
+
+def main():
+    count = int(sys.argv[1])
+    dice = random.Random(int(sys.argv[2]) if len(sys.argv) > 2 else 1)
+    out = sys.stdout.buffer
+    lines = statements(dice)
+    while count > 0:
+        block = [next(lines) for _ in range(min(count, 10000))]
+        count -= len(block)
+        out.write("".join(f"{s} {p} {o} {g}{' ' if g else ''}.\n" for s, p, o, g in block).encode())
+
+
+if __name__ == "__main__":
+    main()
