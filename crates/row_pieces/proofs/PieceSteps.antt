@@ -1,5 +1,5 @@
 -- The rows of all pieces, one piece behind the other, are the rows of the whole.
-use Rattle.std.proofs.Common.{◌≡◌, ℕ, zero, suc, ◌+◌, ◌*◌, ◌<◌, ◌≤◌, List, [], ◌∷◌, ◌++◌, length, take, drop, refl, sym, ap, ◌∙◌, subst, arith, IsPermutation}
+use Rattle.std.proofs.Common.{◌≡◌, ℕ, zero, suc, ◌+◌, ◌*◌, ◌<◌, ◌≤◌, List, [], ◌∷◌, ◌++◌, length, take, drop, refl, sym, ap, ◌∙◌, subst, arith, IsPermutation, lt_of_not-le, mul-le-mul_right, add-mul, one-mul}
 use Rattle.std.specs.List.{flat_map, slice_index_or}
 use Rattle.std.proofs.Math.Nat.{suc-mul, zero-mul}
 use Rattle.std.proofs.lemmas.List.{take-append-drop, length-drop, drop-drop}
@@ -42,3 +42,9 @@ pub enough : (count total size pieces n : ℕ) → 0 < size → count ≡ total 
 enough count total size pieces n h e p q =
     let t : count ≤ div_ceil count size * size = (div_ceil_times count size h).0 in
     subst (λ (x : ℕ). total ≤ x * size) (sym (q ∙ p)) (subst (λ (x : ℕ). x ≤ div_ceil count size * size) e t)
+
+pub few : (n size k : ℕ) → 0 < size → n ≤ k * size → div_ceil n size ≤ k
+few n size k p h =
+    let t : div_ceil n size * size < n + size = (div_ceil_times n size p).1 in
+    let low : div_ceil n size < k + 1 = lt_of_not-le (λ (g : k + 1 ≤ div_ceil n size). let m = mul-le-mul_right size g in omega (arith, add-mul k 1 size, one-mul size)) in
+    omega arith

@@ -8,4 +8,4 @@ mod how;
 mod pieces;
 
 pub use how::{EvalFault, How};
-pub use pieces::{RowWork, over_pieces};
+pub use pieces::{RowWork, over_pieces, piece_size};

@@ -1,4 +1,5 @@
 //! Operators run over pieces of rows: each element gives a part of the answer, whatever the cut.
+ghost use Rattle.std.specs.Int.{div_ceil};
 ghost use Rattle.std.specs.List.{flat_map};
 ghost use Rattle.std.specs.Prelude.{◌≡◌, ◌≤◌, ◌^◌, ℕ, List, length, IfOk, All, take, drop, ◌-◌, ◌*◌};
 ghost use Rattle.algebra_model.specs.Solution.{Solution};
@@ -26,8 +27,7 @@ pub trait RowWork {
 
     /// How many elements there are.
     fn count(&self) -> usize
-        ensures value { result ≡ length (parts self.now) }
-        ensures small { result ≤ 2 ^ 62 };
+        ensures value { result ≡ length (parts self.now) };
 
     /// The rows that the elements from one place up to another give.
     fn run(&self, alloc: Global, from: usize, to: usize) -> Result<Rows, AllocError>
@@ -83,15 +83,24 @@ pub fn over_pieces<R: Threads + Wait, W: RowWork + Sync, G: Gate + Sync>(
     requires how { IsRunnable how.now }
     ensures rows { IfOk result (AreRowsOf (W.width work.now) (W.parts work.now)) }
 {
-    let pieces = work.count().div_ceil(how.rows) as u64;
-    let job = RowPieces {
-        work,
-        size: how.rows,
-    };
+    let count = work.count();
+    let size = piece_size(count, how.rows);
+    let pieces = count.div_ceil(size) as u64;
+    let job = RowPieces { work, size };
     match run_pieces(rt, alloc, how.workers, pieces, &job, gate)? {
         Outcome::All(outs) => Ok(join_pieces(alloc, work.row_width(), outs)?),
         Outcome::First { .. } => unreachable!(),
     }
+}
+
+/// How many elements a piece is to have: as many as asked for, or more where that would make more
+/// than 2^62 pieces, which is the most that a pool takes.
+pub fn piece_size(count: usize, rows: usize) -> usize
+    requires { 1 ≤ rows }
+    ensures some { 1 ≤ result }
+    ensures few { div_ceil count result ≤ 2 ^ 62 }
+{
+    if count > 1 << 62 { rows.max(4) } else { rows }
 }
 
 /// The rows of lists of rows of one width, one list behind the other.

@@ -6,11 +6,11 @@ use Rattle.row_pieces.proofs.pieces.over_pieces.Goals as goal
 
 pub returns : goal.returns
 returns g c =
-    let size = c.args.how.now.rows in
+    let size = c.piece_size-size.result in
     let parts = g.W.RowWork.parts c.args.work.now in
     let all = rw c.in-All.is at c.in_ok-outs.ensures.outcome in
-    let long = enough c.count.result (length parts) size c.div_ceil-pieces.result (length c.in-All.outs.items) c.requires.how.2
-    c.count.ensures.value c.div_ceil-pieces.ensures all.count in
+    let long = enough c.count-count.result (length parts) size c.div_ceil-pieces.result (length c.in-All.outs.items) c.piece_size-size.ensures.some
+    c.count-count.ensures.value c.div_ceil-pieces.ensures all.count in
     record {
       rows = (
         c.in_ok-join_pieces-in-All.ensures.width ∙ c.row_width.ensures.value,
