@@ -14,7 +14,7 @@ use Rattle.sparql_tree.specs.declared.expression.Comparison.TheVariants as op
 use Rattle.sparql_tree.specs.declared.expression.Function.{Function}
 use Rattle.sparql_tree.specs.declared.expression.Function.TheVariants as the_function
 use Rattle.sparql_lexer.specs.Values.{iri_value, string_value}
-use Rattle.sparql_grammar.specs.Values.{Names, capped}
+use Rattle.sparql_grammar.specs.Values.{Names, capped, expanded}
 use Rattle.std.specs.Char.{to_ascii_lowercase}
 
 pub data Class : Type 0 where
@@ -81,11 +81,11 @@ abbrev pub reference_of : Kind → List ℕ → Option (List ℕ)
 reference_of kind.IriRef x = iri_value x
 reference_of _ x = None
 
--- A prefixed name is kept as it is written.
+-- the IRI that is written, or that a prefixed name stands for
 abbrev pub name_of : Names → Kind → List ℕ → Option (List ℕ)
 name_of ns kind.IriRef x = iri_value x
-name_of ns kind.PrefixedName x = Some (encodes x)
-name_of ns kind.PrefixedNamespace x = Some (encodes x)
+name_of ns kind.PrefixedName x = Some (expanded ns x)
+name_of ns kind.PrefixedNamespace x = Some (expanded ns x)
 name_of ns _ x = None
 
 abbrev pub string_of : Kind → List ℕ → Option (List ℕ)

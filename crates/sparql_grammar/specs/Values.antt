@@ -1,12 +1,36 @@
 -- What names, prefixes and counts stand for (SPARQL 1.1 Query Language, sections 4.1.1 and 19.8).
-use Rattle.std.specs.Prelude.{ℕ, ◌+◌, ◌-◌, ◌*◌, List, [], ◌∷◌, ◌++◌, Bool, true, false, if◌then◌else◌, nat_eq, min}
-use Rattle.std.specs.List.{list_any}
+use Rattle.std.specs.Prelude.{ℕ, ◌+◌, ◌-◌, ◌*◌, List, [], ◌∷◌, ◌++◌, Bool, true, false, not, if◌then◌else◌, nat_eq, min, Option, Some, None, take, drop}
+use Rattle.std.specs.List.{list_any, position_or_len, find, filter}
+use lib.Utf8.{encodes}
 use Rattle.std.specs.Cmp.Lexicographic.{pointwise}
 use Rattle.sparql_grammar.specs.declared.names.Declaration.{Declaration}
 
 -- the declarations of a text, the last one first
 abbrev pub Names : Type 0
 Names = List Declaration
+
+-- where the first colon stands, and what a name has before and behind it
+abbrev pub colon_at : List ℕ → ℕ
+colon_at = position_or_len (λ c. nat_eq c 58)
+
+abbrev pub prefix_of : List ℕ → List ℕ
+prefix_of x = take (colon_at x) x
+
+abbrev pub local_of : List ℕ → List ℕ
+local_of x = drop (colon_at x + 1) x
+
+-- what a local name stands for: a backslash goes, and the character behind it stays
+abbrev pub unescaped : List ℕ → List ℕ
+unescaped = filter (λ c. not (nat_eq c 92))
+
+-- the declaration that a prefix has
+abbrev pub declaration_of : Names → List ℕ → Option Declaration
+declaration_of ns prefix = find (λ d. pointwise nat_eq d.prefix prefix) ns
+
+-- The IRI of a prefixed name: that of its prefix, and then the local name. A name whose prefix has no declaration
+-- stands as it is written.
+abbrev pub expanded : Names → List ℕ → List ℕ
+expanded ns x = elim (declaration_of ns (encodes (prefix_of x))) [ None ↦ encodes x | Some d ↦ d.iri ++ encodes (unescaped (local_of x)) ]
 
 -- the number that digits write behind n
 abbrev pub number_of_digits : ℕ → List ℕ → ℕ

@@ -11,8 +11,10 @@
 //! To read in this order: specs/Class.antt, specs/Symbol.antt, specs/Form.antt,
 //! specs/Productions.antt, specs/Matches.antt, then `laws`.
 //!
-//! Not there yet: the readers, the refusals of a query, and the expansion of prefixed names, which
-//! stand in the tree as they are written.
+//! A prefixed name stands for its IRI by the declarations that are given; without a declaration of
+//! its prefix it stands as it is written.
+//!
+//! Not there: the readers, and the refusals of a query.
 #![tactic(auto)]
 
 mod laws;
