@@ -1,3 +1,4 @@
 pub mod ExpressionTree
 pub mod GroupTree
 pub mod QueryTree
+pub mod Scope

@@ -1,0 +1,49 @@
+-- The variables that stand in a group, and those of them that are in scope (SPARQL 1.1 Query Language,
+-- section 18.2.1, variable scope). A name is a list of bytes, without its sign.
+use Rattle.std.specs.Prelude.{ℕ, Bool, false, List, [], ◌∷◌, ◌++◌, flat_map, cond}
+use Rattle.sparql_tree.specs.declared.group.GraphName.{GraphName}
+use Rattle.sparql_tree.specs.declared.group.GraphName.TheVariants as graph
+use Rattle.sparql_tree.specs.declared.group.PatternTerm.{PatternTerm}
+use Rattle.sparql_tree.specs.declared.group.PatternTerm.TheVariants as place
+use Rattle.sparql_tree.specs.declared.group.Triple.{Triple}
+use Rattle.sparql_tree.specs.GroupTree.{GroupTree, ElementTree, none, then, triples, group, union, optional, minus, graph, filter, bind, values}
+
+abbrev pub Name : Type 0
+Name = List ℕ
+
+abbrev pub place_names : PatternTerm → List Name
+place_names (place.Variable x) = x ∷ []
+place_names (place.Blank l) = []
+place_names place.Anonymous = []
+place_names (place.Term t) = []
+
+abbrev pub triple_names : Triple → List Name
+triple_names t = place_names t.subject ++ (place_names t.predicate ++ place_names t.object)
+
+abbrev pub graph_names : GraphName → List Name
+graph_names (graph.Variable x) = x ∷ []
+graph_names (graph.Iri t) = []
+
+-- The variables that a group binds: those of basic patterns, GRAPH's variable, those of both sides
+-- of UNION and OPTIONAL, those of VALUES and BIND's variable, and not those that stand only in FILTER;
+-- where `all` is set, also those of MINUS's right side.
+module _ (all : Bool) where
+  abbrev mutual
+    pub element_names : ElementTree → List Name
+    element_names (triples ts) = flat_map triple_names ts
+    element_names (group g) = group_names g
+    element_names (union e g) = element_names e ++ group_names g
+    element_names (optional g) = group_names g
+    element_names (minus g) = cond all (group_names g) []
+    element_names (graph i g) = graph_names i ++ group_names g
+    element_names (filter e) = []
+    element_names (bind e x) = x ∷ []
+    element_names (values xs rows) = xs
+
+    pub group_names : GroupTree → List Name
+    group_names none = []
+    group_names (then g e) = group_names g ++ element_names e
+
+-- in scope is what a group binds outside MINUS's right sides
+abbrev pub group_scope : GroupTree → List Name
+group_scope = group_names false
