@@ -1,0 +1,140 @@
+//! The solutions of a basic graph pattern, as one job over pieces of the first step's matches.
+ghost use Rattle.std.specs.Prelude.{◌≡◌, ℕ, ◌+◌, ◌≤◌, ◌∷◌, [], nat_eq, map, replicate, None, IfOk, Contains};
+ghost use Rattle.algebra_model.specs.Bag.{IsSameBag, IsWithoutRepeats};
+ghost use Rattle.algebra_model.specs.Bgp.{bgp, occurring};
+ghost use Rattle.algebra_model.specs.Reading.{Each, EachBound};
+ghost use Rattle.algebra_model.specs.Solve.{AreBelow};
+ghost use Rattle.dict_core.proofs.NumQuadLaws.{quad_eq};
+ghost use Rattle.row_pieces.specs.How.{IsRunnable};
+ghost use Rattle.row_pattern.specs.Numbered.{pattern_of, triple_of, triples_of};
+ghost use Rattle.row_pattern.specs.Steps.{solutions_from, solutions_over};
+
+use crate::numbered::NumberedTriple;
+use crate::search::Search;
+use crate::steps::{Step, ordered_steps, unbound};
+use dict_core::NumQuad;
+use piece_pool::Gate;
+use quad_index::Index;
+use row_core::Rows;
+use row_pieces::{EvalFault, How, RowWork, over_pieces};
+use std::alloc::{AllocError, Global};
+use std::sync::Wait;
+use std::thread::Threads;
+
+/// The quads that match the first step, each of which gives the solutions that extend it over the
+/// rest.
+#[derive(Drop)]
+struct Matches<'a> {
+    search: Search<'a>,
+    first: &'a Step,
+    rest: &'a [Step],
+    quads: &'a [NumQuad],
+    cells: usize,
+    ghost wide: { search.width ≤ cells },
+}
+
+impl<'a> RowWork for Matches<'a> {
+    ghost use Rattle.std.specs.Prelude.{map, replicate, None, [], ◌∷◌};
+    ghost use Rattle.row_pattern.specs.Numbered.{triple_of, triples_of};
+    ghost use Rattle.row_pattern.specs.Steps.{solutions_over};
+
+    ghost width = { λ work. work.search.width };
+
+    ghost parts = { λ work. map
+        (λ quad. solutions_over work.search.width
+        (triples_of work.search.graph work.search.index.now)
+        work.first.now work.rest.now (replicate work.cells None) (triple_of quad ∷ []))
+        work.quads.now };
+
+    fn row_width(&self) -> usize {
+        self.search.width
+    }
+
+    fn count(&self) -> usize {
+        self.quads.len()
+    }
+
+    fn run(&self, alloc: Global, from: usize, to: usize) -> Result<Rows, AllocError> {
+        let mut found = Rows::new(alloc, self.search.width);
+        let mut row = unbound(alloc, self.cells)?;
+        let quads = &self.quads[from..to];
+        self.search
+            .add_matches(&mut row, self.first, self.rest, quads, &mut found)?;
+        Ok(found)
+    }
+}
+
+/// The solutions of a basic graph pattern (SPARQL 1.1 Query Language, section 18.3) over one graph of
+/// an index, None for the default graph: rows of the pattern's variables, in which a solution stands
+/// once for each way to assign its blank labels. The empty pattern has the one row that binds
+/// nothing.
+///
+/// # Errors
+/// - `WorkerRefused`: the start of a worker was refused.
+/// - `Memory`: a growth was refused.
+pub fn pattern<R: Threads + Wait, G: Gate + Sync>(
+    rt: &R,
+    alloc: Global,
+    index: &Index,
+    graph: Option<u64>,
+    width: usize,
+    labels: usize,
+    patterns: &[NumberedTriple],
+    how: &How,
+    gate: &G,
+) -> Result<Rows, EvalFault>
+    requires how { IsRunnable how.now }
+    requires below { AreBelow width (width + labels) (map pattern_of patterns.now) }
+    ensures width { IfOk result (λ found. found.width ≡ width) }
+    ensures rows { IfOk result (λ found. IsSameBag found.rows
+        (bgp nat_eq width labels (map pattern_of patterns.now) (triples_of graph index.now))) }
+    ensures known { IfOk result (λ found.
+        Each (EachBound (λ n. Contains (occurring (triples_of graph index.now)) n)) found.rows) }
+{
+    let Some(cells) = width.checked_add(labels) else {
+        return Err(EvalFault::Memory);
+    };
+    quads_stand_once(index);
+    let steps = ordered_steps(alloc, index, graph, width, cells, patterns)?;
+    let search = Search {
+        index,
+        graph,
+        width,
+    };
+    match steps.as_slice().split_first() {
+        None => Ok(empty_pattern(alloc, &search, cells)?),
+        Some((first, rest)) => {
+            let row = unbound(alloc, cells)?;
+            let work = Matches {
+                search,
+                first,
+                rest,
+                quads: search.matches(&row, first),
+                cells,
+            };
+            over_pieces(rt, alloc, &work, how, gate)
+        }
+    }
+}
+
+/// The one solution of no step.
+fn empty_pattern(alloc: Global, search: &Search<'_>, cells: usize) -> Result<Rows, AllocError>
+    requires wide { search.now.width ≤ cells }
+    ensures width { IfOk result (λ found. found.width ≡ search.now.width) }
+    ensures rows { IfOk result (λ found. IsSameBag found.rows
+        (solutions_from search.now.width (triples_of search.now.graph search.now.index.now) []
+        (replicate cells None))) }
+{
+    let mut found = Rows::new(alloc, search.width);
+    let mut row = unbound(alloc, cells)?;
+    search.add_solutions(&mut row, &[], &mut found)?;
+    Ok(found)
+}
+
+/// No quad stands twice in an index: what a solution's count rests on. Nothing runs.
+#[inline(always)]
+fn quads_stand_once(index: &Index)
+    ensures distinct { IsWithoutRepeats quad_eq index.now }
+{
+    let _ = index.quads();
+}

@@ -1,0 +1,147 @@
+//! The steps in which a pattern is solved: its triples with labels as further variables, the most
+//! selective first.
+ghost use Rattle.std.specs.Prelude.{◌≡◌, ◌+◌, ◌<◌, ◌≤◌, ◌^◌, length, map, IfOk, IsPermutation, replicate, None};
+ghost use Rattle.algebra_model.specs.Solve.{IsBelow, IsTripleBelow, AreBelow};
+ghost use Rattle.row_pattern.specs.Numbered.{pattern_term_of, pattern_of};
+ghost use Rattle.row_pattern.specs.Places.{place_term};
+ghost use Rattle.row_pattern.specs.Steps.{step_pattern, placed, placed_pattern};
+
+use crate::cells::{Place, bind, given};
+use crate::numbered::{NumberedTriple, PatternNumber};
+use quad_index::Index;
+use std::alloc::{AllocError, Global};
+
+/// A triple pattern whose labels have their places in a row behind the variables.
+#[derive(Clone, Copy, Debug)]
+pub(crate) struct Step {
+    pub subject: Place,
+    pub predicate: Place,
+    pub object: Place,
+    /// How many quads of the graph have the numbers that the pattern gives.
+    pub matches: usize,
+}
+
+/// Where a row has what stands in a pattern.
+fn place_of(width: usize, number: PatternNumber) -> Place
+    requires below { IsBelow width (2 ^ 64) (pattern_term_of number) }
+    ensures place { place_term result ≡ placed width (pattern_term_of number) }
+{
+    match number {
+        PatternNumber::Variable(v) => Place::Cell(v),
+        PatternNumber::Label(l) => Place::Cell(width + l),
+        PatternNumber::Term(n) => Place::Number(n),
+    }
+}
+
+/// The step of a triple pattern.
+fn step_of(index: &Index, graph: Option<u64>, width: usize, triple: &NumberedTriple) -> Step
+    requires below { IsTripleBelow width (2 ^ 64) (pattern_of triple.now) }
+    ensures step { step_pattern result ≡ placed_pattern width (pattern_of triple.now) }
+{
+    let subject = place_of(width, triple.subject);
+    let predicate = place_of(width, triple.predicate);
+    let object = place_of(width, triple.object);
+    let nothing = [];
+    let matches = index
+        .scan(
+            graph,
+            given(&nothing, subject),
+            given(&nothing, predicate),
+            given(&nothing, object),
+        )
+        .len();
+    Step {
+        subject,
+        predicate,
+        object,
+        matches,
+    }
+}
+
+/// The steps of a pattern, in its own order.
+fn steps_of(
+    alloc: Global,
+    index: &Index,
+    graph: Option<u64>,
+    width: usize,
+    patterns: &[NumberedTriple],
+) -> Result<Vec<Step>, AllocError>
+    requires below { AreBelow width (2 ^ 64) (map pattern_of patterns.now) }
+    ensures steps { IfOk result (λ steps.
+        map step_pattern steps.items ≡ map (placed_pattern width) (map pattern_of patterns.now)) }
+{
+    let mut steps = Vec::with_capacity(alloc, patterns.len())?;
+    for triple in patterns {
+        steps.push(step_of(index, graph, width, triple))?;
+    }
+    Ok(steps)
+}
+
+/// How many quads a step is guessed to give for one row in which these cells are bound: a bound
+/// variable is taken to leave one quad of 256.
+fn cost(step: &Step, row: &[Option<u64>]) -> usize {
+    let mut cost = step.matches;
+    for place in [step.subject, step.predicate, step.object] {
+        if let Place::Cell(_) = place {
+            if given(row, place).is_some() {
+                cost /= 256;
+            }
+        }
+    }
+    cost
+}
+
+/// The first of the steps from a place on that cost least.
+fn least(steps: &[Step], from: usize, row: &[Option<u64>]) -> usize
+    requires inside { from < length steps.now }
+    ensures inside { result < length steps.now }
+{
+    let mut least = from;
+    for i in from..steps.len() {
+        if cost(&steps[i], row) < cost(&steps[least], row) {
+            least = i;
+        }
+    }
+    least
+}
+
+/// A row of so many cells, nothing bound.
+pub(crate) fn unbound(alloc: Global, cells: usize) -> Result<Vec<Option<u64>>, AllocError>
+    ensures row { IfOk result (λ row. row.items ≡ replicate cells None) }
+{
+    let mut row = Vec::new(alloc);
+    row.resize(cells, None)?;
+    Ok(row)
+}
+
+/// The steps of a pattern, each time one of those next that are guessed to cost least once the
+/// steps before it have bound their variables.
+pub(crate) fn ordered_steps(
+    alloc: Global,
+    index: &Index,
+    graph: Option<u64>,
+    width: usize,
+    cells: usize,
+    patterns: &[NumberedTriple],
+) -> Result<Vec<Step>, AllocError>
+    requires below { AreBelow width (2 ^ 64) (map pattern_of patterns.now) }
+    ensures same { IfOk result (λ steps. IsPermutation
+        (map (placed_pattern width) (map pattern_of patterns.now))
+        (map step_pattern steps.items)) }
+{
+    let mut steps = steps_of(alloc, index, graph, width, patterns)?;
+    let mut row = unbound(alloc, cells)?;
+    for i in 0..steps.len() {
+        let next = least(steps.as_slice(), i, row.as_slice());
+        steps.swap(i, next);
+        mark(&mut row, steps[i]);
+    }
+    Ok(steps)
+}
+
+/// Binds the cells of a step, to no matter what.
+fn mark(row: &mut [Option<u64>], step: Step) {
+    let _ = bind(row, step.subject, 0);
+    let _ = bind(row, step.predicate, 0);
+    let _ = bind(row, step.object, 0);
+}
