@@ -1,0 +1,37 @@
+-- What stands at the front of a list of terminals.
+use Rattle.std.specs.Prelude.{◌≡◌, ℕ, List, [], ◌∷◌, Option, Some, None}
+use Rattle.std.specs.Borrow.{Bor}
+use Rattle.sparql_lexer.specs.declared.token.Kind.{Kind}
+use Rattle.sparql_lexer.specs.declared.token.Token.{Token}
+use Rattle.sparql_lexer.specs.Terminal.{Terminal, terminal, terminals}
+use Rattle.sparql_grammar.specs.Class.{Class, Picked, Picks}
+use Rattle.sparql_grammar.specs.Values.{Names}
+
+-- a terminal of the class, which stands for the value, and then these terminals
+pub record Taken (names : Names) (c : Class) (ts : List Terminal) (v : Picked c) (after : List Terminal) : Type 0 where
+  pub kind : Kind
+  pub text : List ℕ
+  pub first : ts ≡ terminal kind text ∷ after
+  pub picks : Picks names c kind text v
+
+-- no terminal of the class stands in front
+pub record Untaken (names : Names) (c : Class) (ts : List Terminal) : Type 0 where
+  pub none : (v : Picked c) (after : List Terminal) → Taken names c ts v after → ⊥
+
+abbrev pub Accepts : (names : Names) (c : Class) → List Terminal → Option (Picked c × List Terminal) → Type 0
+Accepts names c ts (Some p) = Taken names c ts p.0 p.1
+Accepts names c ts None = Untaken names c ts
+
+-- what the code answers: a value and the tokens behind it, or these tokens alone
+abbrev pub accepted : {A : Type 0} → Option (A × Bor (List Token)) → Option (A × List Terminal)
+accepted (Some p) = Some (p.0, terminals p.1.now)
+accepted None = None
+
+abbrev pub followed : Option (Bor (List Token)) → Option (Unit {0} × List Terminal)
+followed (Some after) = Some (tt, terminals after.now)
+followed None = None
+
+-- the first of the tokens by its kind and its characters, and those behind it
+abbrev pub IsNext : List Token → Option (Kind × Bor (List ℕ) × Bor (List Token)) → Type 0
+IsNext ts (Some p) = terminals ts ≡ terminal p.0 p.1.now ∷ terminals p.2.now
+IsNext ts None = terminals ts ≡ []
