@@ -1,3 +1,4 @@
 pub mod StepLaws
 pub mod ScanLaws
 pub mod SearchLaws
+pub mod ReadingLaws

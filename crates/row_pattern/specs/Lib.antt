@@ -1,4 +1,5 @@
 pub mod Numbered
+pub mod Laws
 pub mod Places
 pub mod Steps
 pub mod Search

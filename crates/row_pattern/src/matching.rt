@@ -91,10 +91,9 @@ pub fn pattern<R: Threads + Wait, G: Gate + Sync>(
     ensures known { IfOk result (λ found.
         Each (EachBound (λ n. Contains (occurring (triples_of graph index.now)) n)) found.rows) }
 {
-    let Some(cells) = width.checked_add(labels) else {
-        return Err(EvalFault::Memory);
-    };
     quads_stand_once(index);
+    let cells = width.saturating_add(labels);
+    let row = unbound(alloc, cells)?;
     let steps = ordered_steps(alloc, index, graph, width, cells, patterns)?;
     let search = Search {
         index,
@@ -104,7 +103,6 @@ pub fn pattern<R: Threads + Wait, G: Gate + Sync>(
     match steps.as_slice().split_first() {
         None => Ok(empty_pattern(alloc, &search, cells)?),
         Some((first, rest)) => {
-            let row = unbound(alloc, cells)?;
             let work = Matches {
                 search,
                 first,
