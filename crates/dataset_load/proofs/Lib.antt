@@ -1,0 +1,4 @@
+pub mod LineLaws
+mod ReadingSteps
+mod LoadingSteps
+mod SortingSteps

@@ -1,0 +1,17 @@
+-- Faults of loading.
+use Rattle.std.specs.Prelude.{ℕ, ⊤}
+use Rattle.piece_pool.specs.declared.pool.PoolFault.{PoolFault}
+use Rattle.piece_pool.specs.declared.pool.PoolFault.TheVariants as pool
+use Rattle.dataset_load.specs.declared.fault.LoadFault.{LoadFault}
+use Rattle.dataset_load.specs.declared.fault.LoadFault.TheVariants.{BadLine, WorkerRefused, Memory}
+
+-- P of the line, if it is a bad line; a refusal says nothing of the document
+abbrev pub IfBadLine : (ℕ → Type 0) → LoadFault → Type 0
+IfBadLine P (BadLine n) = P n
+IfBadLine P WorkerRefused = ⊤
+IfBadLine P Memory = ⊤
+
+-- what the pool refuses is refused under the same name
+abbrev pub load_fault_of : PoolFault → LoadFault
+load_fault_of pool.WorkerRefused = WorkerRefused
+load_fault_of pool.Memory = Memory

@@ -1,0 +1,5 @@
+pub mod Lines
+pub mod Store
+pub mod Loaded
+pub mod Fault
+pub mod Reading

@@ -1,0 +1,32 @@
+-- The lines of a document that lies in pieces (our own; RDF 1.1 N-Quads, grammar, EOL, for what ends
+-- a line).
+use Rattle.std.specs.Prelude.{ℕ, ◌+◌, ◌<◌, List, [], length, map, slice_index_or, Vec}
+use Rattle.std.specs.Global.{Global}
+use Rattle.std.specs.List.{flat_map}
+use Rattle.std.specs.Borrow.{Bor}
+use Rattle.nquads_core.specs.Lines.{lines, EndsLine}
+
+-- the bytes of pieces that are lent, and of blocks
+abbrev pub texts : List (Bor (List ℕ)) → List (List ℕ)
+texts pieces = map (λ piece. piece.now) pieces
+
+abbrev pub block_texts : List (Vec ℕ Global) → List (List ℕ)
+block_texts blocks = map (λ block. block.items) blocks
+
+-- all pieces, one behind the other
+abbrev pub joined : List (List ℕ) → List ℕ
+joined pieces = flat_map (λ piece. piece) pieces
+
+-- no line goes over the end of a piece: each but the last is empty or ends with a line feed
+abbrev pub AreWholeLines : List (List ℕ) → Type 0
+AreWholeLines pieces = (i : ℕ) → i + 1 < length pieces → EndsLine (slice_index_or pieces i [])
+
+-- Words that only private clauses cite.
+
+-- the lines of all pieces, piece by piece
+abbrev pub all_lines : List (List ℕ) → List (List ℕ)
+all_lines pieces = flat_map lines pieces
+
+-- piece i, and no bytes behind the last one
+abbrev pub text_at : List (Bor (List ℕ)) → ℕ → List ℕ
+text_at pieces i = slice_index_or (texts pieces) i []

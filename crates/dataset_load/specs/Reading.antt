@@ -1,0 +1,43 @@
+-- Pieces that are read side by side, and then taken in. Only private clauses cite these words.
+use Rattle.std.specs.Prelude.{◌≡◌, ℕ, zero, suc, ◌==◌, List, [], ◌∷◌, IsSorted, IsPermutation, if◌then◌else◌}
+use Rattle.rdf_core.specs.declared.term.Term.{Term}
+use Rattle.rdf_core.specs.QuadParts.{QuadParts}
+use Rattle.nquads_core.specs.Lines.{lines}
+use Rattle.nquads_core.specs.Pieces.{SpellAll, IsFirstBad}
+use Rattle.algebra_model.specs.Bag.{IsWithoutRepeats, without_repeats}
+use Rattle.dict_core.specs.declared.num_quad.NumQuad.{NumQuad}
+use Rattle.dict_core.specs.declared.seen_piece.SeenPiece.{SeenPiece}
+use Rattle.dict_core.specs.SeenPiece.{IsLookedUp}
+use Rattle.dict_core.specs.Numbered.{IsNumbered}
+use Rattle.dict_core.proofs.NumQuadLaws.{quad_eq}
+use Rattle.quad_index.specs.declared.sort_order.SortOrder.{SortOrder}
+use Rattle.quad_index.specs.declared.sort_order.SortOrder.TheVariants.{Gspo, Gpos, Gosp}
+use Rattle.quad_index.specs.SortOrder.{order_cmp}
+
+-- the lines of the bytes spell quads, and these were looked up in the dictionary
+pub record IsRead (dict : List Term) (bytes : List ℕ) (seen : SeenPiece) : Type 0 where
+  pub quads : List QuadParts
+  pub spelled : SpellAll (lines bytes) quads
+  pub looked_up : IsLookedUp dict quads seen
+
+-- the lines spell quads, and these are numbered
+pub record AreNumbered (lines : List (List ℕ)) (dict : List Term) (numbers : List NumQuad) : Type 0 where
+  pub quads : List QuadParts
+  pub spelled : SpellAll lines quads
+  pub numbered : IsNumbered quads dict numbers
+
+-- the order of the i-th list of an index
+abbrev pub order_at : ℕ → SortOrder
+order_at i = if i == 0 then Gspo else if i == 1 then Gpos else Gosp
+
+-- the quads in this order, each once
+pub record IsSortedList (order : SortOrder) (quads list : List NumQuad) : Type 0 where
+  pub sorted : IsSorted (order_cmp order) list
+  pub each_once : IsPermutation (without_repeats quad_eq quads) list
+  pub distinct : IsWithoutRepeats quad_eq list
+
+-- No lines both spell quads and have a first bad line.
+pub not_both : (ls : List (List ℕ)) (quads : List QuadParts) (k : ℕ) → SpellAll ls quads → IsFirstBad ls k → ⊥
+not_both [] quads k s b = b
+not_both (l ∷ ls) quads zero s b = b s.0 s.2
+not_both (l ∷ ls) quads (suc k) s b = not_both ls s.1 k s.4 b.1

@@ -1,0 +1,51 @@
+//! Why a document is not loaded.
+use piece_pool::PoolFault;
+use std::alloc::{AllocError, AllocFailed};
+
+/// Why a document is not loaded.
+#[derive(Clone, Copy, Debug, PartialEq, Eq)]
+pub enum LoadFault {
+    /// The line, counted from 1, is the first that spells nothing.
+    BadLine(u128),
+    /// The start of a worker was refused. Those that were started have been joined. It says nothing
+    /// of the document.
+    WorkerRefused,
+    /// A growth was refused. It says nothing of the document.
+    Memory,
+}
+
+impl From<AllocError> for LoadFault {
+    ghost use Rattle.std.specs.Prelude.{◌≡◌};
+    ghost use Rattle.dataset_load.specs.declared.fault.LoadFault.TheVariants.{Memory};
+
+    ghost from_gives = { λ _ fault. fault ≡ Memory };
+
+    fn from(_refused: AllocError) -> LoadFault {
+        LoadFault::Memory
+    }
+}
+
+impl<T: Drop> From<AllocFailed<T>> for LoadFault {
+    ghost use Rattle.std.specs.Prelude.{◌≡◌};
+    ghost use Rattle.dataset_load.specs.declared.fault.LoadFault.TheVariants.{Memory};
+
+    ghost from_gives = { λ _ fault. fault ≡ Memory };
+
+    fn from(_refused: AllocFailed<T>) -> LoadFault {
+        LoadFault::Memory
+    }
+}
+
+impl From<PoolFault> for LoadFault {
+    ghost use Rattle.std.specs.Prelude.{◌≡◌};
+    ghost use Rattle.dataset_load.specs.Fault.{load_fault_of};
+
+    ghost from_gives = { λ refused fault. fault ≡ load_fault_of refused };
+
+    fn from(refused: PoolFault) -> LoadFault {
+        match refused {
+            PoolFault::WorkerRefused => LoadFault::WorkerRefused,
+            PoolFault::Memory => LoadFault::Memory,
+        }
+    }
+}

@@ -1,0 +1,33 @@
+//! From a document to its dataset: bytes of N-Quads go in, and out comes a [`Store`], or the first
+//! bad line.
+//!
+//! [`load`] reads a document that is cut into pieces, [`load_blocks`] one that lies in blocks, by so
+//! many workers side by side. The crates above use one contract of both: the terms of the store are
+//! the distinct terms of the document by first appearance, its index, read through them, is the set of
+//! the quads that the lines spell (`IsLoaded`), and a fault names the first line that spells nothing
+//! (`IsBadLine`), both in specs/Loaded.antt. No clause names a worker, a cut or a gate.
+//!
+//! Standards: RDF 1.1 N-Quads, grammar; RDF 1.1 Concepts and Abstract Syntax, section 4.
+//!
+//! To read in this order: `fault`, `store`, `reading` (one piece), `rounds` (all pieces), `sorting`
+//! (the lists of the index), `loading`.
+//!
+//! ```text
+//! let cuts = Cuts::every(alloc, doc, 65536)?;
+//! let store = load(&rt, alloc, doc, &cuts, 4, &OpenGate)?;
+//! ```
+//!
+//! Not promised: that a second thread ran, which worker read what, how much memory is used, that a
+//! call returns (it joins its workers).
+#![tactic(auto)]
+
+mod fault;
+mod loading;
+mod reading;
+mod rounds;
+mod sorting;
+mod store;
+
+pub use fault::LoadFault;
+pub use loading::{load, load_blocks};
+pub use store::Store;

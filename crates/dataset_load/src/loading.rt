@@ -1,0 +1,117 @@
+//! From a document to a store.
+ghost use Rattle.std.specs.Prelude.{◌≡◌, ◌≤◌, IfOk, IfErr};
+ghost use Rattle.nquads_core.specs.Lines.{lines};
+ghost use Rattle.piece_cuts.specs.Cuts.{AreCuts};
+ghost use Rattle.dataset_load.specs.Fault.{IfBadLine};
+ghost use Rattle.dataset_load.specs.Lines.{all_lines, AreWholeLines, block_texts, joined, texts};
+ghost use Rattle.dataset_load.specs.Loaded.{IsBadLine, IsLoaded};
+
+use crate::fault::LoadFault;
+use crate::rounds::number_pieces;
+use crate::sorting::sorted_index;
+use crate::store::Store;
+use piece_cuts::Cuts;
+use piece_cuts::laws::pieces_are_the_document;
+use piece_pool::Gate;
+use std::alloc::{AllocError, Global};
+use std::hash::RandomState;
+use std::random::RandomSource;
+use std::sync::Wait;
+use std::thread::Threads;
+
+/// Loads a document that is cut into pieces: its terms by first appearance, within a quad subject,
+/// predicate, object, graph name, and an index of the set of its quads (RDF 1.1 N-Quads; RDF 1.1
+/// Concepts, section 4). Workers read the pieces side by side; neither the cut, nor their number, nor
+/// the gate changes the outcome.
+///
+/// # Errors
+/// - `BadLine(n)`: line n of the document, counted from 1, is the first that spells nothing.
+/// - `WorkerRefused`: the start of a worker was refused. Those that were started have been joined.
+/// - `Memory`: a growth was refused.
+pub fn load<R: Threads + Wait + RandomSource, G: Gate + Sync>(
+    rt: &R,
+    alloc: Global,
+    doc: &[u8],
+    cuts: &Cuts,
+    workers: usize,
+    gate: &G,
+) -> Result<Store, LoadFault>
+    requires fits { AreCuts doc.now cuts.now }
+    requires workers { (1 ≤ workers) × (workers ≤ 64) }
+    ensures loaded { IfOk result (IsLoaded (lines doc.now)) }
+    ensures bad_line { IfErr result (IfBadLine (IsBadLine (lines doc.now))) }
+{
+    let pieces = pieces_of(alloc, doc, cuts)?;
+    load_pieces(rt, alloc, pieces.as_slice(), workers, gate)
+}
+
+/// Loads a document that lies in blocks of whole lines, as `load` does; its bytes are not joined.
+///
+/// # Errors
+/// As `load`, of the blocks joined.
+pub fn load_blocks<R: Threads + Wait + RandomSource, G: Gate + Sync>(
+    rt: &R,
+    alloc: Global,
+    blocks: &[Vec<u8>],
+    workers: usize,
+    gate: &G,
+) -> Result<Store, LoadFault>
+    requires whole_lines { AreWholeLines (block_texts blocks.now) }
+    requires workers { (1 ≤ workers) × (workers ≤ 64) }
+    ensures loaded { IfOk result (IsLoaded (lines (joined (block_texts blocks.now)))) }
+    ensures bad_line { IfErr result
+        (IfBadLine (IsBadLine (lines (joined (block_texts blocks.now))))) }
+{
+    let pieces = lent_blocks(alloc, blocks)?;
+    load_pieces(rt, alloc, pieces.as_slice(), workers, gate)
+}
+
+/// Loads pieces of whole lines.
+fn load_pieces<R: Threads + Wait + RandomSource, G: Gate + Sync>(
+    rt: &R,
+    alloc: Global,
+    pieces: &[&[u8]],
+    workers: usize,
+    gate: &G,
+) -> Result<Store, LoadFault>
+    requires workers { (1 ≤ workers) × (workers ≤ 64) }
+    ensures loaded { IfOk result (IsLoaded (all_lines (texts pieces.now))) }
+    ensures bad_line { IfErr result (IfBadLine (IsBadLine (all_lines (texts pieces.now)))) }
+{
+    let state = hash_state(rt)?;
+    let (dict, quads) = number_pieces(rt, alloc, state, pieces, workers, gate)?;
+    let index = sorted_index(rt, alloc, quads.as_slice(), workers)?;
+    Ok(Store::of_parts(dict, index))
+}
+
+/// A hash state of the runtime's choice, since strangers choose the terms.
+fn hash_state<R: RandomSource>(rt: &R) -> Result<RandomState, AllocError> {
+    match RandomState::new(rt) {
+        Ok(state) => Ok(state),
+        Err(_) => Err(AllocError),
+    }
+}
+
+/// The pieces of a document, in order.
+fn pieces_of<'d>(alloc: Global, doc: &'d [u8], cuts: &Cuts) -> Result<Vec<&'d [u8]>, AllocError>
+    requires fits { AreCuts doc.now cuts.now }
+    ensures lines { IfOk result (λ v. all_lines (texts v.items) ≡ lines doc.now) }
+{
+    pieces_are_the_document();
+    let mut pieces = Vec::new(alloc);
+    for i in 0..cuts.pieces() {
+        pieces.push(cuts.piece(doc, i))?;
+    }
+    Ok(pieces)
+}
+
+/// The bytes of the blocks, in order.
+fn lent_blocks(alloc: Global, blocks: &[Vec<u8>]) -> Result<Vec<&[u8]>, AllocError>
+    ensures texts { IfOk result (λ v. texts v.items ≡ block_texts blocks.now) }
+{
+    let mut pieces = Vec::new(alloc);
+    for block in blocks {
+        pieces.push(block.as_slice())?;
+    }
+    Ok(pieces)
+}

@@ -1,0 +1,77 @@
+//! A piece of a document, read against the dictionary of the rounds before.
+ghost use Rattle.std.specs.Prelude.{◌≡◌, IfOk, IfErr};
+ghost use Rattle.nquads_core.specs.Lines.{lines};
+ghost use Rattle.nquads_core.specs.Pieces.{IsFirstBad};
+ghost use Rattle.piece_pool.specs.Job.{IfOwn};
+ghost use Rattle.dataset_load.specs.Lines.{text_at};
+ghost use Rattle.dataset_load.specs.Reading.{IsRead};
+
+use dict_core::{Dict, SeenPiece, look_up, number_piece};
+use nquads_core::{PieceFault, read_piece};
+use piece_pool::{Job, JobFault};
+use std::alloc::Global;
+use std::hash::RandomState;
+
+/// The pieces of a round, each to be read and looked up in the dictionary of the rounds before.
+#[derive(Drop)]
+pub(crate) struct Round<'d> {
+    pub(crate) pieces: &'d [&'d [u8]],
+    pub(crate) dict: &'d Dict,
+    pub(crate) state: RandomState,
+}
+
+impl<'d> Job for Round<'d> {
+    ghost use Rattle.nquads_core.specs.Lines.{lines};
+    ghost use Rattle.nquads_core.specs.Pieces.{IsFirstBad};
+    ghost use Rattle.dataset_load.specs.Lines.{text_at};
+    ghost use Rattle.dataset_load.specs.Reading.{IsRead, not_both};
+
+    type Out = SeenPiece;
+
+    type Fault = u64;
+
+    ghost answers = { λ job i out. IsRead job.dict.now (text_at job.pieces.now i) out };
+
+    ghost faults = { λ job i line. IsFirstBad (lines (text_at job.pieces.now i)) line };
+
+    fn run(&self, alloc: Global, i: u64) -> Result<SeenPiece, JobFault<u64>> {
+        read_against(alloc, self.state, self.dict, piece_at(self.pieces, i))
+    }
+
+    ghost exclusive = { λ job i out line read bad. not_both _ _ _ read.spelled bad };
+}
+
+/// The piece of this number, and no bytes behind the last one.
+fn piece_at<'d>(pieces: &[&'d [u8]], i: u64) -> &'d [u8]
+    ensures bytes { result.now ≡ text_at pieces.now i }
+{
+    if i < pieces.len() as u64 {
+        pieces[i as usize]
+    } else {
+        &[]
+    }
+}
+
+/// Reads a piece, numbers it by itself, and looks its terms up.
+fn read_against(
+    alloc: Global,
+    state: RandomState,
+    dict: &Dict,
+    bytes: &[u8],
+) -> Result<SeenPiece, JobFault<u64>>
+    ensures read { IfOk result (IsRead dict.now bytes.now) }
+    ensures bad { IfErr result (IfOwn (IsFirstBad (lines bytes.now))) }
+{
+    let piece = match read_piece(alloc, bytes) {
+        Ok(piece) => piece,
+        Err(PieceFault::BadLine(line)) => return Err(JobFault::Own(line)),
+        Err(PieceFault::Memory) => return Err(JobFault::Memory),
+    };
+    let Ok(local) = number_piece(alloc, state, piece) else {
+        return Err(JobFault::Memory);
+    };
+    match look_up(alloc, dict, local) {
+        Ok(seen) => Ok(seen),
+        Err(_) => Err(JobFault::Memory),
+    }
+}

@@ -1,0 +1,84 @@
+//! A loaded dataset.
+ghost use Rattle.std.specs.Prelude.{◌≡◌, length};
+ghost use Rattle.dict_core.specs.NumQuad.{AreBelow};
+ghost use Rattle.dataset_load.specs.Store.{names_in};
+
+use dict_core::Dict;
+use quad_index::Index;
+use std::marker::Model;
+
+/// A dataset: its terms, numbered by first appearance, and an index of its quads of numbers. A
+/// contract sees the terms and the numbered quads. Each number in the index stands for a term.
+#[derive(Drop)]
+pub struct Store {
+    dict: Dict,
+    index: Index,
+}
+
+impl Model for Store {
+    ghost use Rattle.std.specs.Prelude.{length};
+    ghost use Rattle.dict_core.specs.NumQuad.{AreBelow};
+    ghost use Rattle.dataset_load.specs.Store.{StoreView};
+
+    ghost Value = { StoreView };
+
+    ghost view = { λ store. record { dict = store.dict; index = store.index } };
+
+    ghost invariant = { λ store. AreBelow (length store.dict) store.index };
+}
+
+impl Store {
+    /// A store of these parts.
+    pub(crate) fn of_parts(dict: Dict, index: Index) -> Store
+        requires below { AreBelow (length dict) index }
+        ensures parts { result ≡ record { dict = dict; index = index } }
+    {
+        Store { dict, index }
+    }
+
+    /// The terms by number.
+    pub fn dict(&self) -> &Dict
+        ensures terms { result.now ≡ self.now.dict }
+    {
+        &self.dict
+    }
+
+    /// The index of the quads.
+    pub fn index(&self) -> &Index
+        ensures quads { result.now ≡ self.now.index }
+        ensures below { AreBelow (length self.now.dict) self.now.index }
+    {
+        &self.index
+    }
+
+    /// The dictionary and the index, of which the store was made.
+    pub fn into_parts(self) -> (Dict, Index)
+        ensures dict { result.0 ≡ self.dict }
+        ensures index { result.1 ≡ self.index }
+        ensures below { AreBelow (length result.0) result.1 }
+    {
+        let Store { dict, index } = self;
+        (dict, index)
+    }
+
+    /// How many distinct quads there are.
+    pub fn quads(&self) -> u64
+        ensures count { result ≡ length self.now.index }
+    {
+        self.index.quads()
+    }
+
+    /// How many distinct terms there are.
+    pub fn terms(&self) -> u64
+        ensures count { result ≡ length self.now.dict }
+    {
+        self.dict.len() as u64
+    }
+
+    /// How many graphs have a name.
+    pub fn graphs(&self) -> u64
+        ensures count { result ≡ length (names_in self.now.index) }
+    {
+        self.index.graphs().len() as u64
+    }
+}
