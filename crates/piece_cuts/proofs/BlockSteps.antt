@@ -1,6 +1,6 @@
 -- What one more read does to the bytes that are kept, and the first piece of them.
 use Rattle.std.proofs.Common.{◌≡◌, ◌≢◌, ℕ, ◌+◌, ◌-◌, ◌<◌, ◌≤◌, List, [], ◌∷◌, ◌++◌, length, get_or, take, drop, Option, Some, None, rules, max, arith, refl, ap, ◌∙◌, sym, subst, append_assoc, length-append, inl, inr, ◌⊎◌, Vec, Global}
-use Rattle.std.proofs.lemmas.List.{append-nil, take-append-drop, get_or_append_left, length-take}
+use Rattle.std.proofs.lemmas.List.{append-nil, take-append-drop, get_or_append_left, length-take, take_more}
 use Rattle.std.specs.Io.KnownBytes.{IsAtEnd}
 use Rattle.nquads_core.specs.Transfer.{ReadsMore}
 use Rattle.nquads_core.proofs.TransferSteps.{Consumes-more, Consumes-start}
@@ -124,3 +124,11 @@ HasNoNextCut-clear bytes size searched clear none q far below = by (which q sear
     by : (q < searched) ⊎ (searched ≤ q) → get_or bytes (q - 1) 0 ≢ 10
     by (inl low) = (clear q (omega (arith, far)) low).1
     by (inr high) = none q (omega (arith, high)) below
+
+-- a text that ends at a cut ends with a line feed
+pub ends_whole : (all block : List ℕ) (size place : ℕ) → IsNextCut all size 0 place → block ≡ take place all → (front : List ℕ) × (block ≡ front ++ 10 ∷ [])
+ends_whole all block size place h is =
+    let k : place ≡ (place - 1) + 1 = omega (arith, h.cut.inside.0) in (
+      take (place - 1) all,
+      is ∙ ap (λ n. take n all) k ∙ take_more all (place - 1) 0 (omega (arith, h.cut.inside.0, h.cut.inside.1)) ∙ ap (λ x. take (place - 1) all ++ x ∷ []) h.cut.behind,
+    )

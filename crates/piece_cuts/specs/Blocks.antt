@@ -1,5 +1,5 @@
 -- The blocks of a document that is read bit by bit (our own).
-use Rattle.std.specs.Prelude.{◌≡◌, ◌≢◌, ℕ, ◌<◌, ◌≤◌, ◌-◌, slice_index, List, [], ◌++◌, length, ⊤, ◌⊎◌, Option, Some, None, Result, Ok, Err, IfOk, Vec}
+use Rattle.std.specs.Prelude.{◌≡◌, ◌≢◌, ℕ, ◌<◌, ◌≤◌, ◌-◌, slice_index, List, [], ◌∷◌, ◌++◌, length, ⊤, ◌⊎◌, Option, Some, None, Result, Ok, Err, IfOk, Vec}
 use Rattle.std.specs.Global.{Global}
 use Rattle.std.specs.Io.KnownBytes.{Consumes}
 use Rattle.piece_cuts.specs.Cuts.{IsNextCut, HasNoNextCut}
@@ -31,6 +31,11 @@ BothKnown (Some xs) (Some ys) P = P xs ys
 -- the text is the bytes that are kept and what the reader has left
 abbrev pub GivesKnownBlock : ℕ → List ℕ → Option (List ℕ) → List ℕ → Option (List ℕ) → Result (Option (Vec ℕ Global)) ReadFault → Type 0
 GivesKnownBlock size kept left kept' left' r = IfOk r (λ b. BothKnown left left' (λ xs ys. GivesBlock size (kept ++ xs) (kept' ++ ys) b))
+
+-- a block that ends with a line feed
+abbrev pub IsWhole : Option (Vec ℕ Global) → Type 0
+IsWhole None = ⊥
+IsWhole (Some b) = (front : List ℕ) × (b.items ≡ front ++ 10 ∷ [])
 
 -- what is answered from then on
 abbrev pub state_after : {X : Type 0} → Result (Option X) ReadFault → BlockState

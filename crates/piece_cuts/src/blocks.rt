@@ -1,5 +1,5 @@
 //! A document that is read bit by bit, in blocks.
-ghost use Rattle.std.specs.Prelude.{◌≡◌, ◌≤◌, [], IfOk, MatchOption};
+ghost use Rattle.std.specs.Prelude.{◌≡◌, ◌≤◌, ◌⊎◌, [], IfOk, MatchOption};
 ghost use Rattle.std.specs.Io.KnownBytes.{IsAtEnd};
 ghost use Rattle.nquads_core.specs.Transfer.{CountsRead};
 ghost use Rattle.piece_cuts.specs.Blocks.{Grows, IsClear};
@@ -45,7 +45,7 @@ impl Model for Blocks {
 }
 
 impl Blocks {
-    ghost use Rattle.piece_cuts.specs.Blocks.{GivesKnownBlock, state_after};
+    ghost use Rattle.piece_cuts.specs.Blocks.{GivesKnownBlock, IsWhole, state_after};
 
     /// Blocks of at least so many bytes, the last one aside. Nothing has been read yet.
     ///
@@ -65,7 +65,8 @@ impl Blocks {
     }
 
     /// The next block of the document: the first piece of the bytes kept and those that the reader
-    /// still has. None where there are no more bytes; each later call then answers None.
+    /// still has. None where there are no more bytes; each later call then answers None. A block that
+    /// does not end with a line feed, and None, come only at the reader's end.
     ///
     /// # Errors
     /// - `Read`: the reader failed in this call, or in the one that first answered so.
@@ -76,6 +77,8 @@ impl Blocks {
         ensures size { self.new.size ≡ self.old.size }
         ensures block { self.old.state ≡ BlockState.Reading → GivesKnownBlock self.old.size
             self.old.kept (S.left reader.old) self.new.kept (S.left reader.new) result }
+        ensures last { self.old.state ≡ BlockState.Reading → IfOk result
+            (λ block. IsWhole block ⊎ IsAtEnd (S.left reader.new)) }
         ensures state { self.old.state ≡ BlockState.Reading → self.new.state ≡ state_after result }
         ensures count { self.old.state ≡ BlockState.Reading
             → CountsRead (S.failures reader.old) (S.failures reader.new) result }

@@ -1,5 +1,5 @@
-use Rattle.std.proofs.Common.{ap, ◌∙◌}
-use Rattle.piece_cuts.proofs.BlockSteps.{BothKnown-cut, BothKnown-block}
+use Rattle.std.proofs.Common.{ap, ◌∙◌, inl}
+use Rattle.piece_cuts.proofs.BlockSteps.{BothKnown-cut, BothKnown-block, ends_whole}
 use Rattle.piece_cuts.proofs.blocks.Blocks.next.Goals as goal
 
 pub returns-in-Ok-clause-block : goal.returns-in-Ok-clause-block
@@ -12,3 +12,8 @@ returns-in-Ok-clause-block g c e =
     let tail = c.in-Ok.ensures.tail in
     let all = BothKnown-cut _ _ _ _ _ _ c.self.invariant grows cut in
     BothKnown-block _ _ _ _ _ _ _ _ _ c.replace-block.result size kept (ap (λ v. v.items) c.replace-block.ensures.value ∙ front) (ap (λ v. v.items) c.replace-block.ensures.after ∙ tail) all
+
+pub returns-in-Ok-clause-last : goal.returns-in-Ok-clause-last
+returns-in-Ok-clause-last g c e =
+    let cut = rw c.in-Ok-Some.field-0-is at c.in-Ok-Some.ensures.cut in
+    inl (ends_whole _ c.replace-block.result.items _ _ cut (ap (λ v. v.items) c.replace-block.ensures.value ∙ c.in-Ok.ensures.items))
