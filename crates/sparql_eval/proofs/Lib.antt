@@ -1,0 +1,7 @@
+mod ReadingLaws
+mod ProjectSteps
+mod DistinctSteps
+mod TableSteps
+mod FilterSteps
+mod ValueSteps
+mod ExtendSteps

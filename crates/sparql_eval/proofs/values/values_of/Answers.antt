@@ -1,0 +1,24 @@
+use Rattle.std.proofs.Common.{◌<◌, ℕ, length, sym, subst}
+use Rattle.sparql_algebra.specs.ExpressionOf.{expression_of}
+use Rattle.sparql_eval.specs.Values.{AreValues}
+use Rattle.sparql_eval.proofs.ReadingLaws.{rows_known_at}
+use Rattle.sparql_eval.proofs.ValueSteps.{values_joined, enough}
+use Rattle.sparql_eval.proofs.values.values_of.Goals as goal
+
+pub invariant_of-job : goal.invariant_of-job
+invariant_of-job g c = record { known = rows_known_at c.args.dict.now c.args.rows.now.rows c.requires.known }
+
+pub returns : goal.returns
+returns g c =
+    let terms = c.args.dict.now in
+    let e = expression_of c.args.expression.now in
+    let rows = c.args.rows.now.rows in
+    let size = c.piece_size-size.result in
+    let all = rw c.in-All.is at c.in_ok-outs.ensures.outcome in
+    let long = enough c.len-count.result (length rows) size c.div_ceil-pieces.result (length c.in-All.outs.items) c.piece_size-size.ensures.some
+    c.len-count.ensures.value c.div_ceil-pieces.ensures all.count in
+    record {
+      values = subst (AreValues terms e rows) (sym c.in_ok-join_values-in-All.ensures.values)
+          (values_joined terms e (λ out. out.items) size c.in-All.outs.items rows
+          (λ i d low. all.each i d (subst (λ (x : ℕ). i < x) all.count low)) long);
+    }

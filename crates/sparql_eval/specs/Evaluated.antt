@@ -1,0 +1,28 @@
+-- Rows of numbers, read as solutions of terms through a dictionary (our own).
+use Rattle.std.specs.Prelude.{◌≡◌, ℕ, ◌<◌, List, length, map}
+use Rattle.rdf_core.specs.declared.term.Term.{Term}
+use Rattle.algebra_model.specs.Bag.{IsSameBag}
+use Rattle.algebra_model.specs.Solution.{Solution}
+use Rattle.algebra_model.specs.Reading.{Each, EachBound, read_row}
+use Rattle.dict_core.specs.Dict.{term_at, IsGrown}
+use Rattle.row_core.specs.RowList.{RowList}
+
+-- the solutions that the rows stand for, where each number stands for its term
+abbrev pub solutions_of : List Term → RowList → List (Solution Term)
+solutions_of terms rows = map (read_row (term_at terms)) rows.rows
+
+-- each number in the rows stands for a term
+abbrev pub AreKnown : List Term → RowList → Type 0
+AreKnown terms rows = Each (EachBound (λ n. n < length terms)) rows.rows
+
+-- What an operator answers. It was given a dictionary of these terms, and the solutions A of its
+-- definition, over so many variables, are to be its result. It answers rows and a dictionary.
+pub record IsEvaluated
+    (terms : List Term) (width : ℕ) (A : List (Solution Term))
+    (made : RowList) (terms' : List Term) : Type 0 where
+  -- the answered dictionary begins with the given one
+  pub grown : IsGrown terms terms'
+  pub wide : made.width ≡ width
+  pub known : AreKnown terms' made
+  -- the rows, read through the answered dictionary, are the solutions, each as often
+  pub bag : IsSameBag (solutions_of terms' made) A

@@ -1,0 +1,4 @@
+pub mod Evaluated
+pub mod Numbered
+pub mod FilterParts
+pub mod Values

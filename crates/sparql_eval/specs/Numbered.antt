@@ -1,0 +1,20 @@
+-- Rows whose numbers all stand for terms of a dictionary (our own). Only private clauses cite these
+-- words.
+use Rattle.std.specs.Prelude.{◌≡◌, ℕ, ◌<◌, List, length, get_or, slice_get, Option, Some, None}
+use Rattle.rdf_core.specs.declared.term.Term.{Term}
+use Rattle.algebra_model.specs.Solution.{Solution}
+use Rattle.algebra_model.specs.Reading.{EachBound}
+
+abbrev pub IsKnownCell : List Term → Option ℕ → Type 0
+IsKnownCell terms None = Unit {0}
+IsKnownCell terms (Some n) = n < length terms
+
+abbrev pub IsKnownRow : List Term → Solution ℕ → Type 0
+IsKnownRow terms μ = EachBound (λ n. n < length terms) μ
+
+-- the same of a row and of rows, place by place
+abbrev pub IsKnownAt : List Term → Solution ℕ → Type 0
+IsKnownAt terms μ = (k n : ℕ) → get_or μ k None ≡ Some n → n < length terms
+
+abbrev pub AreKnownAt : List Term → List (Solution ℕ) → Type 0
+AreKnownAt terms A = (i : ℕ) (μ : Solution ℕ) → slice_get A i ≡ Some μ → IsKnownAt terms μ

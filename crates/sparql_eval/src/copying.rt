@@ -1,0 +1,17 @@
+//! Rows put behind other rows.
+ghost use Rattle.std.specs.Prelude.{◌≡◌, ◌++◌, OnOk};
+
+use row_core::Rows;
+use std::alloc::AllocError;
+
+/// Adds copies of the rows behind those of `made`.
+pub(crate) fn add_rows(made: &mut Rows, rows: &Rows) -> Result<(), AllocError>
+    requires same_width { rows.now.width ≡ made.old.width }
+    ensures added { OnOk result (made.new.rows ≡ made.old.rows ++ rows.now.rows) }
+    ensures width { made.new.width ≡ made.old.width }
+{
+    for i in 0..rows.len() {
+        made.push(rows.row(i))?;
+    }
+    Ok(())
+}

@@ -1,0 +1,58 @@
+//! Distinct (SPARQL 1.1 Query Language, section 18.5).
+ghost use Rattle.std.specs.Prelude.{◌≡◌, not, [], ◌∷◌, ◌++◌, nat_eq, IfOk, OnOk, if◌then◌else◌};
+ghost use Rattle.std.specs.List.{list_any};
+ghost use Rattle.rdf_core.proofs.TermLaws.{term_eq};
+ghost use Rattle.algebra_model.specs.Operators.{distinct};
+ghost use Rattle.algebra_model.specs.Solution.{same_solution};
+ghost use Rattle.sparql_eval.specs.Evaluated.{AreKnown, IsEvaluated, solutions_of};
+
+use dict_core::Dict;
+use indexmap::IndexSet;
+use row_core::Rows;
+use row_pieces::EvalFault;
+use std::alloc::{AllocError, Global};
+use std::hash::RandomState;
+
+/// Distinct: each row once. Rows are compared by their numbers, since the dictionary has no term
+/// twice, and hashed with the given state.
+///
+/// # Errors
+/// `Memory`: a growth was refused. The dictionary is dropped.
+pub fn distinct(
+    alloc: Global,
+    state: RandomState,
+    dict: Dict,
+    rows: &Rows,
+) -> Result<(Rows, Dict), EvalFault>
+    requires known { AreKnown dict rows.now }
+    ensures evaluated { IfOk result (λ r. IsEvaluated dict rows.now.width
+        (distinct term_eq (solutions_of dict rows.now)) r.0 r.1) }
+{
+    let mut seen = IndexSet::with_hasher(alloc, state);
+    let mut made = Rows::new(alloc, rows.width());
+    for i in 0..rows.len() {
+        let row = rows.row(i);
+        if see(&mut seen, row)? {
+            made.push(row)?;
+        }
+    }
+    let _distinct = dict.len();
+    Ok((made, dict))
+}
+
+/// Whether the row was not seen before; it is now.
+fn see<'r>(
+    seen: &mut IndexSet<&'r [Option<u64>], RandomState>,
+    row: &'r [Option<u64>],
+) -> Result<bool, AllocError>
+    ensures new { IfOk result (λ is_new.
+        is_new ≡ not (list_any (λ k. same_solution nat_eq row.entry.now k.now) seen.old.keys)) }
+    ensures keys { OnOk result (seen.new.keys
+        ≡ (if list_any (λ k. same_solution nat_eq row.entry.now k.now) seen.old.keys
+        then seen.old.keys else seen.old.keys ++ row.entry ∷ [])) }
+{
+    match seen.insert(row) {
+        Ok(is_new) => Ok(is_new),
+        Err(_) => Err(AllocError),
+    }
+}

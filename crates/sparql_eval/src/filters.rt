@@ -1,0 +1,90 @@
+//! Filter (SPARQL 1.1 Query Language, section 18.5).
+ghost use Rattle.std.specs.Prelude.{◌≡◌, filter, IfOk};
+ghost use Rattle.algebra_model.specs.Expression.{holds};
+ghost use Rattle.row_pieces.specs.How.{IsRunnable};
+ghost use Rattle.sparql_algebra.specs.ExpressionOf.{expression_of};
+ghost use Rattle.sparql_eval.specs.Evaluated.{AreKnown, IsEvaluated, solutions_of};
+ghost use Rattle.sparql_eval.specs.Numbered.{AreKnownAt};
+
+use crate::reading::ReadRow;
+use dict_core::Dict;
+use piece_pool::Gate;
+use row_core::Rows;
+use row_pieces::{EvalFault, How, RowWork, over_pieces};
+use sparql_algebra::{Expr, test};
+use std::alloc::{AllocError, Global};
+use std::sync::Wait;
+use std::thread::Threads;
+
+/// Filter: the rows for which the condition's effective boolean value is true. It is tested over
+/// pieces of the rows, side by side.
+///
+/// # Errors
+/// - `WorkerRefused`: the start of a worker was refused.
+/// - `Memory`: a growth was refused.
+///
+/// A refusal drops the dictionary.
+pub fn filter<R: Threads + Wait, G: Gate + Sync>(
+    rt: &R,
+    alloc: Global,
+    dict: Dict,
+    rows: &Rows,
+    condition: &Expr,
+    how: &How,
+    gate: &G,
+) -> Result<(Rows, Dict), EvalFault>
+    requires known { AreKnown dict rows.now }
+    requires how { IsRunnable how.now }
+    ensures evaluated { IfOk result (λ r. IsEvaluated dict rows.now.width
+        (filter (holds (expression_of condition.now)) (solutions_of dict rows.now)) r.0 r.1) }
+{
+    let made = {
+        let work = FilterWork {
+            dict: &dict,
+            rows,
+            condition,
+        };
+        over_pieces(rt, alloc, &work, how, gate)?
+    };
+    Ok((made, dict))
+}
+
+/// The rows, and the condition that they are to pass.
+#[derive(Drop)]
+struct FilterWork<'a> {
+    dict: &'a Dict,
+    rows: &'a Rows,
+    condition: &'a Expr,
+    ghost known: { AreKnownAt dict.now rows.now.rows },
+}
+
+impl<'a> RowWork for FilterWork<'a> {
+    ghost use Rattle.sparql_algebra.specs.ExpressionOf.{expression_of};
+    ghost use Rattle.sparql_eval.specs.FilterParts.{filter_parts};
+
+    ghost width = { λ work. work.rows.now.width };
+
+    ghost parts = { λ work. filter_parts work.dict.now (expression_of work.condition.now) work.rows.now.rows };
+
+    fn row_width(&self) -> usize {
+        self.rows.width()
+    }
+
+    fn count(&self) -> usize {
+        self.rows.len()
+    }
+
+    fn run(&self, alloc: Global, from: usize, to: usize) -> Result<Rows, AllocError> {
+        let mut made = Rows::new(alloc, self.rows.width());
+        for i in from..to {
+            let row = ReadRow {
+                dict: self.dict,
+                row: self.rows.row(i),
+            };
+            if test(alloc, self.condition, &row)? {
+                made.push(row.row)?;
+            }
+        }
+        Ok(made)
+    }
+}

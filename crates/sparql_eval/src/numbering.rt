@@ -1,0 +1,32 @@
+//! Terms taken into the dictionary.
+ghost use Rattle.std.specs.Prelude.{◌≡◌, ◌<◌, length, IfOk, OnOk};
+ghost use Rattle.dict_core.specs.Dict.{IsGrown, term_at};
+
+use dict_core::Dict;
+use rdf_core::Term;
+use std::alloc::{AllocError, Global};
+
+/// The number of a term, which is copied into the dictionary where it was not there.
+#[tactic(auto, using(crate::proofs::ReadingLaws::grown_itself, crate::proofs::ReadingLaws::number_known, crate::proofs::ReadingLaws::number_read))]
+pub(crate) fn number_of_term(alloc: Global, dict: &mut Dict, term: &Term) -> Result<u64, AllocError>
+    ensures grown { OnOk result (IsGrown dict.old dict.new) }
+    ensures known { IfOk result (λ n. n < length dict.new) }
+    ensures read { IfOk result (λ n. term_at dict.new n ≡ term.now) }
+{
+    if let Some(number) = dict.number_of(term) {
+        return Ok(number);
+    }
+    number_new(dict, term.copy(alloc)?)
+}
+
+/// The number of a term that the dictionary takes in.
+pub(crate) fn number_new(dict: &mut Dict, term: Term) -> Result<u64, AllocError>
+    ensures grown { OnOk result (IsGrown dict.old dict.new) }
+    ensures known { IfOk result (λ n. n < length dict.new) }
+    ensures read { IfOk result (λ n. term_at dict.new n ≡ term) }
+{
+    match dict.intern(term) {
+        Ok(number) => Ok(number),
+        Err(_) => Err(AllocError),
+    }
+}

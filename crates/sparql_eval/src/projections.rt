@@ -1,0 +1,72 @@
+//! Project (SPARQL 1.1 Query Language, section 18.5).
+ghost use Rattle.std.specs.Prelude.{◌≡◌, ℕ, ◌<◌, ◌==◌, Bool, false, length, get_or, None, IfOk, OnOk, if◌then◌else◌};
+ghost use Rattle.std.specs.List.{list_any};
+ghost use Rattle.algebra_model.specs.Operators.{project, restrict};
+ghost use Rattle.sparql_eval.specs.Evaluated.{AreKnown, IsEvaluated, solutions_of};
+
+use dict_core::Dict;
+use row_core::Rows;
+use row_pieces::EvalFault;
+use std::alloc::{AllocError, Global};
+
+/// Project: every row, with the listed variables alone bound.
+///
+/// # Errors
+/// `Memory`: a growth was refused. The dictionary is dropped.
+pub fn project(
+    alloc: Global,
+    dict: Dict,
+    rows: &Rows,
+    variables: &[usize],
+) -> Result<(Rows, Dict), EvalFault>
+    requires known { AreKnown dict rows.now }
+    ensures evaluated { IfOk result (λ r. IsEvaluated dict rows.now.width
+        (project variables.now (solutions_of dict rows.now)) r.0 r.1) }
+{
+    let kept = kept_variables(alloc, rows.width(), variables)?;
+    let mut made = Rows::new(alloc, rows.width());
+    let mut cells = Vec::with_capacity(alloc, rows.width())?;
+    for i in 0..rows.len() {
+        restrict_into(&mut cells, rows.row(i), kept.as_slice())?;
+        made.push(cells.as_slice())?;
+    }
+    Ok((made, dict))
+}
+
+/// For each variable whether it is listed.
+fn kept_variables(alloc: Global, width: usize, variables: &[usize]) -> Result<Vec<bool>, AllocError>
+    ensures wide { IfOk result (λ kept. length kept.items ≡ width) }
+    ensures listed { IfOk result (λ kept. (k : ℕ) → k < width
+        → get_or kept.items k false ≡ list_any (λ u. u == k) variables.now) }
+{
+    let mut kept = Vec::with_capacity(alloc, width)?;
+    for v in 0..width {
+        kept.push(variables.contains(&v))?;
+    }
+    Ok(kept)
+}
+
+/// Writes the row with the kept variables alone into `cells`, in place of what it held.
+fn restrict_into(
+    cells: &mut Vec<Option<u64>>,
+    row: &[Option<u64>],
+    kept: &[bool],
+) -> Result<(), AllocError>
+    requires wide { length kept.now ≡ length row.now }
+    ensures wide { OnOk result (length cells.new.items ≡ length row.now) }
+    ensures restricted { OnOk result
+        (cells.new.items ≡ restrict (λ k. get_or kept.now k false) row.now) }
+{
+    cells.clear();
+    for i in 0..row.len() {
+        cells.push(kept_cell(kept[i], row[i]))?;
+    }
+    Ok(())
+}
+
+/// The cell of a kept variable, and None of another.
+fn kept_cell(is_kept: bool, cell: Option<u64>) -> Option<u64>
+    ensures value { result ≡ (if is_kept then cell else None) }
+{
+    if is_kept { cell } else { None }
+}

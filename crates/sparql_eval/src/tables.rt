@@ -1,0 +1,89 @@
+//! Tables of VALUES (SPARQL 1.1 Query Language, section 18.2.2.6).
+ghost use Rattle.std.specs.Prelude.{◌≡◌, ◌<◌, All, length, map, option_map, IfOk, OnOk};
+ghost use Rattle.dict_core.specs.Dict.{IsGrown, term_at};
+ghost use Rattle.algebra_model.specs.Operators.{table, table_row};
+ghost use Rattle.algebra_model.specs.Reading.{read_row};
+ghost use Rattle.sparql_eval.specs.Evaluated.{IsEvaluated};
+ghost use Rattle.sparql_eval.specs.Numbered.{IsKnownCell, IsKnownRow};
+
+use crate::numbering::number_of_term;
+use dict_core::Dict;
+use rdf_core::Term;
+use row_core::Rows;
+use row_pieces::EvalFault;
+use std::alloc::{AllocError, Global};
+
+/// A table: a row for each list of cells, which binds each variable to the cell at its place. A
+/// cell that is None (UNDEF) binds nothing. Where a variable is listed twice its first place counts.
+///
+/// # Errors
+/// `Memory`: a growth was refused. The dictionary is dropped.
+pub fn table(
+    alloc: Global,
+    dict: Dict,
+    width: usize,
+    variables: &[usize],
+    rows: &[Vec<Option<Term>>],
+) -> Result<(Rows, Dict), EvalFault>
+    requires below { All (λ v. v < width) variables.now }
+    ensures evaluated { IfOk result (λ r. IsEvaluated dict width
+        (table width variables.now (map (λ row. row.items) rows.now)) r.0 r.1) }
+{
+    let mut dict = dict;
+    let mut made = Rows::new(alloc, width);
+    let mut row = Vec::with_capacity(alloc, width)?;
+    for cells in rows {
+        number_row(
+            alloc,
+            &mut dict,
+            &mut row,
+            width,
+            variables,
+            cells.as_slice(),
+        )?;
+        made.push(row.as_slice())?;
+    }
+    Ok((made, dict))
+}
+
+/// Writes the numbers of the cells into `row`, in place of what it held.
+fn number_row(
+    alloc: Global,
+    dict: &mut Dict,
+    row: &mut Vec<Option<u64>>,
+    width: usize,
+    variables: &[usize],
+    cells: &[Option<Term>],
+) -> Result<(), AllocError>
+    requires below { All (λ v. v < width) variables.now }
+    ensures grown { OnOk result (IsGrown dict.old dict.new) }
+    ensures wide { OnOk result (length row.new.items ≡ width) }
+    ensures known { OnOk result (IsKnownRow dict.new row.new.items) }
+    ensures read { OnOk result
+        (read_row (term_at dict.new) row.new.items ≡ table_row width variables.now cells.now) }
+{
+    row.clear();
+    row.resize(width, None)?;
+    let count = variables.len().min(cells.len());
+    for i in (0..count).rev() {
+        row[variables[i]] = number_cell(alloc, dict, &cells[i])?;
+    }
+    Ok(())
+}
+
+/// The number of a cell's term, which the dictionary takes in.
+#[tactic(auto, using(crate::proofs::ReadingLaws::grown_itself))]
+fn number_cell(
+    alloc: Global,
+    dict: &mut Dict,
+    cell: &Option<Term>,
+) -> Result<Option<u64>, AllocError>
+    ensures grown { OnOk result (IsGrown dict.old dict.new) }
+    ensures known { IfOk result (λ n. IsKnownCell dict.new n) }
+    ensures read { IfOk result (λ n. option_map (term_at dict.new) n ≡ cell.now) }
+{
+    match cell {
+        Some(term) => Ok(Some(number_of_term(alloc, dict, term)?)),
+        None => Ok(None),
+    }
+}

@@ -1,0 +1,31 @@
+//! Union (SPARQL 1.1 Query Language, section 18.5).
+ghost use Rattle.std.specs.Prelude.{◌≡◌, ◌++◌, IfOk};
+ghost use Rattle.sparql_eval.specs.Evaluated.{AreKnown, IsEvaluated, solutions_of};
+
+use crate::copying::add_rows;
+use dict_core::Dict;
+use row_core::Rows;
+use row_pieces::EvalFault;
+use std::alloc::Global;
+
+/// Union: the rows of both sides, each as often as it stands in them.
+///
+/// # Errors
+/// `Memory`: a growth was refused. The dictionary is dropped.
+pub fn union(
+    alloc: Global,
+    dict: Dict,
+    left: &Rows,
+    right: &Rows,
+) -> Result<(Rows, Dict), EvalFault>
+    requires same_width { left.now.width ≡ right.now.width }
+    requires known_left { AreKnown dict left.now }
+    requires known_right { AreKnown dict right.now }
+    ensures evaluated { IfOk result (λ r. IsEvaluated dict left.now.width
+        (solutions_of dict left.now ++ solutions_of dict right.now) r.0 r.1) }
+{
+    let mut made = Rows::new(alloc, left.width());
+    add_rows(&mut made, left)?;
+    add_rows(&mut made, right)?;
+    Ok((made, dict))
+}
