@@ -77,29 +77,35 @@ fn steps_of(
     Ok(steps)
 }
 
-/// How many quads a step is guessed to give for one row in which these cells are bound: a bound
-/// variable is taken to leave one quad of 256.
+/// How many quads a step is guessed to give for one row in which these cells are bound, and 0 where
+/// it leaves nothing to bind. A place whose variable is bound is taken to leave one quad of 65536:
+/// so triples that share a variable with those before them come first, unless another has few quads.
 fn cost(step: &Step, row: &[Option<u64>]) -> usize {
     let mut cost = step.matches;
+    let mut binds = false;
     for place in [step.subject, step.predicate, step.object] {
-        if let Place::Cell(_) = place {
-            if given(row, place).is_some() {
-                cost /= 256;
-            }
+        if given(row, place).is_none() {
+            binds = true;
+        } else if let Place::Cell(_) = place {
+            cost /= 65_536;
         }
     }
-    cost
+    if binds { cost.saturating_add(1) } else { 0 }
 }
 
-/// The first of the steps from a place on that cost least.
+/// The first of the steps from a place on that cost least, and among these match fewest quads.
 fn least(steps: &[Step], from: usize, row: &[Option<u64>]) -> usize
     requires inside { from < length steps.now }
     ensures inside { result < length steps.now }
 {
     let mut least = from;
+    let mut least_cost = cost(&steps[from], row);
     for i in from..steps.len() {
-        if cost(&steps[i], row) < cost(&steps[least], row) {
+        let next_cost = cost(&steps[i], row);
+        let fewer = steps[i].matches < steps[least].matches;
+        if next_cost < least_cost || (next_cost == least_cost && fewer) {
             least = i;
+            least_cost = next_cost;
         }
     }
     least
