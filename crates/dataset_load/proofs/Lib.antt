@@ -2,3 +2,4 @@ pub mod LineLaws
 mod ReadingSteps
 mod LoadingSteps
 mod SortingSteps
+mod ReaderSteps

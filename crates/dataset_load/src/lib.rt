@@ -10,7 +10,7 @@
 //! Standards: RDF 1.1 N-Quads, grammar; RDF 1.1 Concepts and Abstract Syntax, section 4.
 //!
 //! To read in this order: `fault`, `store`, `reading` (one piece), `rounds` (all pieces), `sorting`
-//! (the lists of the index), `loading`.
+//! (the lists of the index), `loading`, `reader` (blocks of a reader).
 //!
 //! ```text
 //! let cuts = Cuts::every(alloc, doc, 65536)?;
@@ -23,6 +23,7 @@
 
 mod fault;
 mod loading;
+mod reader;
 mod reading;
 mod rounds;
 mod sorting;
@@ -30,4 +31,5 @@ mod store;
 
 pub use fault::LoadFault;
 pub use loading::{load, load_blocks};
+pub use reader::read_blocks;
 pub use store::Store;

@@ -1,0 +1,117 @@
+-- Blocks that are read one after the other.
+use Rattle.std.proofs.Common.{◌≡◌, ℕ, suc, ◌+◌, ◌-◌, ◌<◌, ◌≤◌, Bool, true, List, [], ◌∷◌, ◌++◌, length, get_or, take, map, Option, Some, None, Ok, Vec, Global, refl, sym, ap, ◌∙◌, subst, append_assoc, append-nil, length-append, inl, inr, ◌⊎◌, arith, rules}
+use Rattle.std.specs.List.{flat_map, slice_index_or}
+use Rattle.std.proofs.lemmas.List.{take_more, take_all, map-append, length-map, get_or_append_left}
+use Rattle.std.proofs.lemmas.Grind.{flat_map-append}
+use Rattle.std.specs.Io.KnownBytes.{Consumes, IsAtEnd}
+use Rattle.nquads_core.specs.Lines.{EndsLine}
+use Rattle.piece_cuts.specs.Blocks.{BothKnown, GivesKnownBlock, IsWhole}
+use Rattle.piece_cuts.specs.Laws.{EndsWithLineFeed}
+use Rattle.dataset_load.specs.Lines.{AreWholeLines, block_texts, joined}
+
+pub whole_from_last : (bytes : List ℕ) → 0 < length bytes → get_or bytes (length bytes - 1) 0 ≡ 10 → EndsWithLineFeed bytes
+whole_from_last bytes some last =
+    let k : length bytes ≡ (length bytes - 1) + 1 = omega arith in (
+      take (length bytes - 1) bytes,
+      sym (take_all (length bytes) bytes (omega arith)) ∙ ap (λ n. take n bytes) k ∙ take_more bytes (length bytes - 1) 0 (omega arith)
+          ∙ ap (λ x. take (length bytes - 1) bytes ++ x ∷ []) last,
+    )
+
+at_seam : (front : List ℕ) → get_or (front ++ 10 ∷ []) (length front) 0 ≡ 10
+at_seam [] = refl
+at_seam (b ∷ front) = at_seam front
+
+pub last_of_whole : (bytes : List ℕ) → EndsWithLineFeed bytes → (0 < length bytes) × (get_or bytes (length bytes - 1) 0 ≡ 10)
+last_of_whole bytes h =
+    let n : length bytes ≡ length h.0 + 1 = ap length h.1 ∙ length-append h.0 (10 ∷ []) in
+    let at : length bytes - 1 ≡ length h.0 = omega arith in
+    (omega arith, ap (λ i. get_or bytes i 0) at ∙ ap (λ bs. get_or bs (length h.0) 0) h.1 ∙ at_seam h.0)
+
+-- each of the texts ends with a line feed
+abbrev pub EachEnds : List (List ℕ) → Type 0
+EachEnds ps = (i : ℕ) → i < length ps → EndsLine (slice_index_or ps i [])
+
+pub ends_start : EachEnds []
+ends_start i low = absurd (omega arith)
+
+at_end_of : (ps : List (List ℕ)) (p : List ℕ) → get_or (ps ++ p ∷ []) (length ps) [] ≡ p
+at_end_of [] p = refl
+at_end_of (q ∷ ps) p = at_end_of ps p
+
+pub ends_more : (ps : List (List ℕ)) (p : List ℕ) → EachEnds ps → EndsWithLineFeed p → EachEnds (ps ++ p ∷ [])
+ends_more ps p h k i low = by (which i (length ps))
+  where
+    which : (a b : ℕ) → (a < b) ⊎ (b ≤ a)
+    which a b = search (rules, arith)
+
+    by : (i < length ps) ⊎ (length ps ≤ i) → EndsLine (get_or (ps ++ p ∷ []) i [])
+    by (inl less) = subst EndsLine (sym (get_or_append_left ps (p ∷ []) [] i less)) (h i less)
+    by (inr more) =
+        let l = length-append ps (p ∷ []) in
+        let e : i ≡ length ps = omega arith in
+        subst EndsLine (sym (ap (λ n. get_or (ps ++ p ∷ []) n []) e ∙ at_end_of ps p)) (inr k)
+
+pub whole_but_last : (ps : List (List ℕ)) (p : List ℕ) → EachEnds ps → AreWholeLines (ps ++ p ∷ [])
+whole_but_last ps p h i low =
+    let l = length-append ps (p ∷ []) in
+    let less : i < length ps = omega arith in
+    subst EndsLine (sym (get_or_append_left ps (p ∷ []) [] i less)) (h i less)
+
+pub whole_all : (ps : List (List ℕ)) → EachEnds ps → AreWholeLines ps
+whole_all ps h i low = h i (omega arith)
+
+pub texts_more : (old new : List (Vec ℕ Global)) (block : Vec ℕ Global) → new ≡ old ++ block ∷ [] → block_texts new ≡ block_texts old ++ block.items ∷ []
+texts_more old new block e = ap block_texts e ∙ map-append (λ (b : Vec ℕ Global). b.items) old (block ∷ [])
+
+pub joined_more : (ps : List (List ℕ)) (p : List ℕ) → joined (ps ++ p ∷ []) ≡ joined ps ++ p
+joined_more ps p = flat_map-append (λ (q : List ℕ). q) ps (p ∷ []) ∙ ap (λ bs. joined ps ++ bs) (append-nil p)
+
+-- what was read, what is kept and what is left are what there was
+abbrev pub IsReadIn : Option (List ℕ) → Option (List ℕ) → List ℕ → List ℕ → Type 0
+IsReadIn left left' done kept = BothKnown left left' (λ xs ys. xs ≡ done ++ (kept ++ ys))
+
+pub read_start : (a : Option (List ℕ)) (kept : List ℕ) → kept ≡ [] → IsReadIn a a [] kept
+read_start None kept e = tt
+read_start (Some xs) kept e = sym (ap (λ bs. bs ++ xs) e)
+
+pub read_step : (a b c : Option (List ℕ)) (done done' kept kept' : List ℕ) (size : ℕ) (block : Vec ℕ Global)
+    → IsReadIn a b done kept → GivesKnownBlock size kept b kept' c (Ok (Some block)) → done' ≡ done ++ block.items → IsReadIn a c done' kept'
+read_step None b c done done' kept kept' size block h k e = tt
+read_step (Some xs) None c done done' kept kept' size block h k e = absurd h
+read_step (Some xs) (Some ys) None done done' kept kept' size block h k e = absurd k
+read_step (Some xs) (Some ys) (Some zs) done done' kept kept' size block h k e =
+    h ∙ ap (λ bs. done ++ bs) k.1.joined ∙ sym (append_assoc done block.items (kept' ++ zs)) ∙ ap (λ bs. bs ++ (kept' ++ zs)) (sym e)
+
+-- nothing is kept and nothing is left
+pub read_all : (a b c : Option (List ℕ)) (done kept kept' : List ℕ) (size : ℕ)
+    → IsReadIn a b done kept → GivesKnownBlock size kept b kept' c (Ok None) → IsAtEnd c → Consumes a c done
+read_all None b c done kept kept' size h k e = tt
+read_all (Some xs) None c done kept kept' size h k e = absurd h
+read_all (Some xs) (Some ys) None done kept kept' size h k e = absurd k
+read_all (Some xs) (Some ys) (Some zs) done kept kept' size h k e =
+    h ∙ ap (λ bs. done ++ bs) k ∙ ap (λ bs. done ++ bs) (sym e)
+
+-- the last block, which does not end with a line feed
+pub read_last : (a b c : Option (List ℕ)) (done done' kept kept' : List ℕ) (size : ℕ) (block : Vec ℕ Global)
+    → IsReadIn a b done kept → GivesKnownBlock size kept b kept' c (Ok (Some block)) → done' ≡ done ++ block.items
+    → IsAtEnd c → ¬ EndsWithLineFeed block.items → Consumes a c done'
+read_last None b c done done' kept kept' size block h k e end unended = tt
+read_last (Some xs) None c done done' kept kept' size block h k e end unended = absurd h
+read_last (Some xs) (Some ys) None done done' kept kept' size block h k e end unended = absurd k
+read_last (Some xs) (Some ys) (Some zs) done done' kept kept' size block h k e end unended =
+    let text = h ∙ ap (λ bs. done ++ bs) k.1.joined ∙ sym (append_assoc done block.items (kept' ++ zs)) ∙ ap (λ bs. bs ++ (kept' ++ zs)) (sym e) in
+    elim k.1.cut [
+      | inl cut ↦ absurd (unended (whole_from_last block.items (omega (arith, cut.cut.inside.0))
+          (sym (get_or_append_left block.items (kept' ++ zs) 0 (length block.items - 1) (omega (arith, cut.cut.inside.0)))
+          ∙ ap (λ bs. get_or bs (length block.items - 1) 0) (sym k.1.joined) ∙ cut.cut.behind)))
+      | inr last ↦ text ∙ ap (λ bs. done' ++ bs) last.1 ∙ ap (λ bs. done' ++ bs) (sym end)
+    ]
+
+-- of the two, the reader's end
+pub at_the_end : (left : Option (List ℕ)) (block : Vec ℕ Global) → IsWhole (Some block) ⊎ IsAtEnd left → ¬ EndsWithLineFeed block.items → IsAtEnd left
+at_the_end left block (inl whole) unended = absurd (unended whole)
+at_the_end left block (inr end) unended = end
+
+pub none_at_end : (left : Option (List ℕ)) → IsWhole None ⊎ IsAtEnd left → IsAtEnd left
+none_at_end left (inl whole) = absurd whole
+none_at_end left (inr end) = end

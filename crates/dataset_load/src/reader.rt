@@ -1,0 +1,58 @@
+//! A document that is read in blocks of whole lines.
+ghost use Rattle.std.specs.Prelude.{◌≡◌, ◌≤◌, true, IfOk, OnOk};
+ghost use Rattle.std.specs.Io.KnownBytes.{Consumes, IsAtEnd};
+ghost use Rattle.nquads_core.specs.Transfer.{CountsRead};
+ghost use Rattle.piece_cuts.specs.Laws.{EndsWithLineFeed};
+ghost use Rattle.dataset_load.specs.Lines.{AreWholeLines, block_texts, joined};
+
+use nquads_core::{ReadFault, Source};
+use piece_cuts::Blocks;
+use std::alloc::Global;
+
+/// All bytes that a reader has left, in blocks of whole lines: each has at least `size` bytes, but
+/// the last. The bytes are not joined.
+///
+/// # Errors
+/// - `Read`: the reader failed in this call. Bytes before that may have been taken from it.
+/// - `Memory`: a growth was refused. Bytes may have been taken from the reader.
+pub fn read_blocks<S: Source>(
+    alloc: Global,
+    size: usize,
+    reader: &mut S,
+) -> Result<Vec<Vec<u8>>, ReadFault>
+    requires some { 1 ≤ size }
+    ensures whole_lines { IfOk result (λ blocks. AreWholeLines (block_texts blocks.items)) }
+    ensures bytes { IfOk result (λ blocks. Consumes (S.left reader.old) (S.left reader.new)
+        (joined (block_texts blocks.items))) }
+    ensures at_end { OnOk result (IsAtEnd (S.left reader.new)) }
+    ensures count { CountsRead (S.failures reader.old) (S.failures reader.new) result }
+{
+    let Ok(mut blocks) = Blocks::new(alloc, size) else {
+        return Err(ReadFault::Memory);
+    };
+    let mut read: Vec<Vec<u8>> = Vec::new(alloc);
+    'reading: loop {
+        let block = match blocks.next(reader) {
+            Ok(Some(block)) => block,
+            Ok(None) => return Ok(read),
+            Err(fault) => return Err(fault),
+        };
+        let is_whole = ends_with_line_feed(block.as_slice());
+        let Ok(()) = read.push(block) else {
+            return Err(ReadFault::Memory);
+        };
+        if !is_whole {
+            return Ok(read);
+        }
+    }
+}
+
+fn ends_with_line_feed(bytes: &[u8]) -> bool
+    ensures yes { result ≡ true → EndsWithLineFeed bytes.now }
+    ensures no { EndsWithLineFeed bytes.now → result ≡ true }
+{
+    if bytes.is_empty() {
+        return false;
+    }
+    bytes[bytes.len() - 1] == b'\n'
+}
