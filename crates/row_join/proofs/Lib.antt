@@ -1,0 +1,5 @@
+mod GroupLaws
+mod PlaceLaws
+mod PairLaws
+mod NumberLaws
+mod TurnLaws

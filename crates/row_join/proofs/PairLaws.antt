@@ -1,0 +1,107 @@
+-- What one left row gives, place by place and as a bag; and numbers.
+use Rattle.std.proofs.Common.{◌≡◌, ℕ, ◌+◌, ◌<◌, Bool, true, false, not, cond, ◌&&◌, ◌||◌, List, [], ◌∷◌, ◌++◌, length, map, filter, flat_map, take, get_or, nat_eq, if◌then◌else◌, refl, sym, ap, subst, ◌∙◌, append_assoc}
+use Rattle.std.proofs.lemmas.List.{map-append, map_more}
+use Rattle.std.proofs.lemmas.List.Elements.{filter-append}
+use Rattle.std.proofs.lemmas.List.Folds.{list_all-append}
+use Rattle.std.proofs.lemmas.List.Sorted.{IsPermutation-refl, IsPermutation-append}
+use Rattle.algebra_model.specs.Bag.{IsSameBag}
+use Rattle.algebra_model.specs.Solution.{Solution, is_compatible, merge}
+use Rattle.algebra_model.specs.Operators.{merges, share}
+use Rattle.algebra_model.specs.Solve.{alone, left_row}
+use Rattle.algebra_model.proofs.BagLaws.{same_bag}
+use Rattle.algebra_model.specs.Keys.{may_meet}
+use Rattle.algebra_model.proofs.KeyLaws.{may_meet-covers, merges-tried, left_row-tried, apart-tried}
+use Rattle.std.proofs.lemmas.Bool.Decides.{Decides-eqb}
+use Rattle.row_join.specs.Pairing.{is_apart, row_if}
+use Rattle.row_join.specs.Places.{rows_at}
+
+-- one place more
+pub rows_at-more : (rows : List (Solution ℕ)) (places : List ℕ) (i : ℕ) → i < length places
+    → rows_at rows (take (i + 1) places) ≡ rows_at rows (take i places) ++ get_or rows (get_or places i 0) [] ∷ []
+rows_at-more rows places i h = map_more (λ (k : ℕ). get_or rows k []) places i 0 h
+
+pub merges-more : (μ ν : Solution ℕ) (rows : List (Solution ℕ)) (b : Bool) → b ≡ is_compatible nat_eq μ ν
+    → merges nat_eq μ (rows ++ ν ∷ []) ≡ merges nat_eq μ rows ++ (if b then merge μ ν ∷ [] else [])
+merges-more μ ν rows b e =
+    ap (map (merge μ)) (filter-append (is_compatible nat_eq μ) rows (ν ∷ []))
+    ∙ map-append (merge μ) (filter (is_compatible nat_eq μ) rows) (filter (is_compatible nat_eq μ) (ν ∷ []))
+    ∙ ap (λ (l : List (Solution ℕ)). merges nat_eq μ rows ++ l) (ap (λ c. map (merge μ) (cond c (ν ∷ []) [])) (sym e) ∙ by b)
+  where
+    by : (b : Bool) → map (merge μ) (cond b (ν ∷ []) []) ≡ (if b then merge μ ν ∷ [] else [])
+    by true = refl
+    by false = refl
+
+pub merges-append : (μ : Solution ℕ) (rows more : List (Solution ℕ)) → merges nat_eq μ (rows ++ more) ≡ merges nat_eq μ rows ++ merges nat_eq μ more
+merges-append μ rows more =
+    ap (map (merge μ)) (filter-append (is_compatible nat_eq μ) rows more)
+    ∙ map-append (merge μ) (filter (is_compatible nat_eq μ) rows) (filter (is_compatible nat_eq μ) more)
+
+-- the left rows that pass a test, each by itself
+pub rows_if : (p : Solution ℕ → Bool) (A : List (Solution ℕ)) → flat_map (λ μ. row_if (p μ) μ) A ≡ filter p A
+rows_if p [] = refl
+rows_if p (μ ∷ A) = by (p μ) (rows_if p A)
+  where
+    by : (b : Bool) → flat_map (λ μ. row_if (p μ) μ) A ≡ filter p A → row_if b μ ++ flat_map (λ μ. row_if (p μ) μ) A ≡ cond b (μ ∷ filter p A) (filter p A)
+    by true e = ap (λ (l : List (Solution ℕ)). μ ∷ l) e
+    by false e = e
+
+behind : (old : List (Solution ℕ)) (a b : List (Solution ℕ)) → IsSameBag a b → IsSameBag (old ++ a) (old ++ b)
+behind old a b h = IsPermutation-append old old a b (IsPermutation-refl old) h
+
+-- what is tried with a left row is enough
+module _ (key : List ℕ) (μ : Solution ℕ) (rows : List (Solution ℕ)) (first second : List ℕ)
+    (tried : IsSameBag (rows_at rows (first ++ second)) (filter (may_meet nat_eq key μ) rows)) where
+  two : rows_at rows (first ++ second) ≡ rows_at rows first ++ rows_at rows second
+  two = map-append (λ (i : ℕ). get_or rows i []) first second
+
+  tried_two : IsSameBag (rows_at rows first ++ rows_at rows second) (filter (may_meet nat_eq key μ) rows)
+  tried_two = subst (λ (l : List (Solution ℕ)). IsSameBag l (filter (may_meet nat_eq key μ) rows)) two tried
+
+  pub join-tried : (old half made : List (Solution ℕ)) → half ≡ old ++ merges nat_eq μ (rows_at rows first) → made ≡ half ++ merges nat_eq μ (rows_at rows second)
+      → IsSameBag made (old ++ merges nat_eq μ rows)
+  join-tried old half made e f =
+      subst (λ (l : List (Solution ℕ)). IsSameBag l (old ++ merges nat_eq μ rows)) (sym all)
+      (behind old (merges nat_eq μ (rows_at rows first ++ rows_at rows second)) (merges nat_eq μ rows)
+      (merges-tried nat_eq μ (may_meet nat_eq key μ) (may_meet-covers nat_eq key μ) (rows_at rows first ++ rows_at rows second) rows tried_two Decides-eqb))
+    where
+      all : made ≡ old ++ merges nat_eq μ (rows_at rows first ++ rows_at rows second)
+      all = f ∙ ap (λ (l : List (Solution ℕ)). l ++ merges nat_eq μ (rows_at rows second)) e
+          ∙ append_assoc old (merges nat_eq μ (rows_at rows first)) (merges nat_eq μ (rows_at rows second))
+          ∙ ap (λ (l : List (Solution ℕ)). old ++ l) (sym (merges-append μ (rows_at rows first) (rows_at rows second)))
+
+  pub apart_both : (is_apart (rows_at rows first) μ && is_apart (rows_at rows second) μ) ≡ is_apart rows μ
+  apart_both =
+      sym (list_all-append (λ ν. not (is_compatible nat_eq μ ν) || not (share μ ν)) (rows_at rows first) (rows_at rows second))
+      ∙ apart-tried nat_eq μ (may_meet nat_eq key μ) (may_meet-covers nat_eq key μ) (rows_at rows first ++ rows_at rows second) rows tried_two
+
+  pub left_join-tried : (keeps : Solution ℕ → Bool) (a b : Bool) (old half made all : List (Solution ℕ))
+      → a ≡ alone nat_eq keeps (rows_at rows first) μ → b ≡ alone nat_eq keeps (rows_at rows second) μ
+      → half ≡ old ++ filter keeps (merges nat_eq μ (rows_at rows first)) → made ≡ half ++ filter keeps (merges nat_eq μ (rows_at rows second))
+      → all ≡ made ++ row_if (a && b) μ
+      → IsSameBag all (old ++ left_row nat_eq keeps rows μ)
+  left_join-tried keeps a b old half made all ea eb e f g =
+      subst (λ (l : List (Solution ℕ)). IsSameBag l (old ++ left_row nat_eq keeps rows μ)) (sym whole)
+      (behind old (left_row nat_eq keeps both μ) (left_row nat_eq keeps rows μ)
+      (left_row-tried nat_eq μ (may_meet nat_eq key μ) (may_meet-covers nat_eq key μ) both rows tried_two Decides-eqb keeps))
+    where
+      both : List (Solution ℕ)
+      both = rows_at rows first ++ rows_at rows second
+
+      kept : filter keeps (merges nat_eq μ both) ≡ filter keeps (merges nat_eq μ (rows_at rows first)) ++ filter keeps (merges nat_eq μ (rows_at rows second))
+      kept = ap (filter keeps) (merges-append μ (rows_at rows first) (rows_at rows second)) ∙ filter-append keeps (merges nat_eq μ (rows_at rows first)) (merges nat_eq μ (rows_at rows second))
+
+      open_is : (a && b) ≡ alone nat_eq keeps both μ
+      open_is = (λ j. ea j && eb j) ∙ sym (list_all-append (λ ν. not (is_compatible nat_eq μ ν && keeps (merge μ ν))) (rows_at rows first) (rows_at rows second))
+
+      whole : all ≡ old ++ left_row nat_eq keeps both μ
+      whole =
+          g ∙ (λ j. (f ∙ ap (λ (l : List (Solution ℕ)). l ++ filter keeps (merges nat_eq μ (rows_at rows second))) e) j ++ row_if (open_is j) μ)
+          ∙ ap (λ (l : List (Solution ℕ)). l ++ row_if (alone nat_eq keeps both μ) μ)
+          (append_assoc old (filter keeps (merges nat_eq μ (rows_at rows first))) (filter keeps (merges nat_eq μ (rows_at rows second))) ∙ ap (λ (l : List (Solution ℕ)). old ++ l) (sym kept))
+          ∙ append_assoc old (filter keeps (merges nat_eq μ both)) (row_if (alone nat_eq keeps both μ) μ)
+
+  pub minus-tried : (a b : Bool) → a ≡ is_apart (rows_at rows first) μ → b ≡ is_apart (rows_at rows second) μ
+      → (old made : List (Solution ℕ)) → made ≡ old ++ row_if (a && b) μ → IsSameBag made (old ++ row_if (is_apart rows μ) μ)
+  minus-tried a b e f old made h =
+      same_bag made (old ++ row_if (is_apart rows μ) μ)
+      (h ∙ ap (λ c. old ++ row_if c μ) ((λ j. e j && f j) ∙ apart_both))

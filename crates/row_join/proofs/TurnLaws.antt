@@ -1,0 +1,154 @@
+-- One turn of each loop: one right row more, or one left row more.
+use Rattle.std.proofs.Common.{◌≡◌, ℕ, zero, suc, ◌+◌, ◌-◌, ◌<◌, ◌≤◌, Bool, true, false, not, cond, ◌&&◌, ◌||◌, List, [], ◌∷◌, ◌++◌, length, map, filter, flat_map, take, drop, get_or, slice_get, nat_eq, Some, if◌then◌else◌, refl, sym, ap, subst, ◌∙◌, arith, append_assoc}
+use Rattle.std.specs.List.{list_all}
+use Rattle.std.proofs.lemmas.Bool.{and_parts}
+use Rattle.std.proofs.lemmas.List.{append-nil, take-map, drop-map, get_or-drop, length-drop}
+use Rattle.std.proofs.lemmas.List.Elements.{filter-append}
+use Rattle.std.proofs.lemmas.List.Folds.{list_all-append, list_all-map, list_all_at, flat_map-map}
+use Rattle.std.proofs.lemmas.List.Sorted.{IsPermutation-refl, IsPermutation-append, IsPermutation-trans}
+use Rattle.std.proofs.lemmas.Grind.{flat_map-append}
+use Rattle.std.proofs.lemmas.Option.{get_or_from_slice_get}
+use Rattle.std.proofs.Math.Seq.{take-suc}
+use Rattle.algebra_model.specs.Bag.{IsSameBag}
+use Rattle.algebra_model.specs.Pieces.{joined}
+use Rattle.algebra_model.specs.Solution.{Solution, is_compatible, merge}
+use Rattle.algebra_model.specs.Operators.{merges, share}
+use Rattle.algebra_model.specs.Solve.{alone}
+use Rattle.row_join.specs.Numbers.{passes, all_pass}
+use Rattle.row_join.specs.Pairing.{is_apart, row_if}
+use Rattle.row_join.specs.Places.{rows_at}
+use Rattle.row_join.proofs.NumberLaws.{passes-merge}
+use Rattle.row_join.proofs.PairLaws.{rows_at-more, merges-more}
+
+-- the right row of this turn, ν, stands at the place that the list of places has at i
+module _ (rows : List (Solution ℕ)) (places : List ℕ) (i : ℕ) (μ ν : Solution ℕ) (low : i < length places) (at : slice_get rows (get_or places i 0) ≡ Some ν) where
+  is_row : get_or rows (get_or places i 0) [] ≡ ν
+  is_row = get_or_from_slice_get rows (get_or places i 0) ν [] at
+
+  rows_more : rows_at rows (take (i + 1) places) ≡ rows_at rows (take i places) ++ ν ∷ []
+  rows_more = rows_at-more rows places i low ∙ ap (λ (x : Solution ℕ). rows_at rows (take i places) ++ x ∷ []) is_row
+
+  pub merges-turn : (old made made' : List (Solution ℕ)) (b : Bool) → b ≡ is_compatible nat_eq μ ν
+      → made ≡ old ++ merges nat_eq μ (rows_at rows (take i places))
+      → made' ≡ made ++ (if b then merge μ ν ∷ [] else [])
+      → made' ≡ old ++ merges nat_eq μ (rows_at rows (take (i + 1) places))
+  merges-turn old made made' b e h k =
+      k ∙ ap (λ (l : List (Solution ℕ)). l ++ (if b then merge μ ν ∷ [] else [])) h
+      ∙ append_assoc old (merges nat_eq μ (rows_at rows (take i places))) (if b then merge μ ν ∷ [] else [])
+      ∙ ap (λ (l : List (Solution ℕ)). old ++ l) (sym (merges-more μ ν (rows_at rows (take i places)) b e))
+      ∙ ap (λ (l : List (Solution ℕ)). old ++ merges nat_eq μ l) (sym rows_more)
+
+  -- a right row that takes the left row away
+  differs : Solution ℕ → Bool
+  differs = λ ξ. not (is_compatible nat_eq μ ξ) || not (share μ ξ)
+
+  pub apart-turn : (b s : Bool) → b ≡ is_compatible nat_eq μ ν → s ≡ share μ ν → (not b || not s) ≡ true
+      → is_apart (rows_at rows (take i places)) μ ≡ true → is_apart (rows_at rows (take (i + 1) places)) μ ≡ true
+  apart-turn b s e f h k =
+      ap (list_all (λ ξ. not (is_compatible nat_eq μ ξ) || not (share μ ξ))) rows_more
+      ∙ list_all-append (λ ξ. not (is_compatible nat_eq μ ξ) || not (share μ ξ)) (rows_at rows (take i places)) (ν ∷ [])
+      ∙ (λ j. k j && ((not (sym e j) || not (sym f j)) && true))
+      ∙ ap (λ c. c && true) h
+
+  pub apart-not : (b s : Bool) → b ≡ is_compatible nat_eq μ ν → s ≡ share μ ν → b ≡ true → s ≡ true
+      → false ≡ is_apart (rows_at rows places) μ
+  apart-not b s e f h k =
+      sym (list_all-map (λ ξ. not (is_compatible nat_eq μ ξ) || not (share μ ξ)) (λ (p : ℕ). get_or rows p []) places
+      ∙ list_all_at (λ (p : ℕ). not (is_compatible nat_eq μ (get_or rows p [])) || not (share μ (get_or rows p []))) places i 0 low
+      (ap (λ (x : Solution ℕ). not (is_compatible nat_eq μ x) || not (share μ x)) is_row ∙ (λ j. not ((sym e ∙ h) j) || not ((sym f ∙ k) j))))
+
+  -- what the condition keeps of this turn's merge
+  pub kept-turn : (keeps : Solution ℕ → Bool) (old made made' : List (Solution ℕ)) (b k : Bool) → b ≡ is_compatible nat_eq μ ν
+      → (b ≡ true → k ≡ keeps (merge μ ν))
+      → made ≡ old ++ filter keeps (merges nat_eq μ (rows_at rows (take i places)))
+      → made' ≡ made ++ row_if (b && k) (merge μ ν)
+      → made' ≡ old ++ filter keeps (merges nat_eq μ (rows_at rows (take (i + 1) places)))
+  kept-turn keeps old made made' b k e f h g =
+      g ∙ ap (λ (l : List (Solution ℕ)). l ++ row_if (b && k) (merge μ ν)) h
+      ∙ append_assoc old (filter keeps (merges nat_eq μ (rows_at rows (take i places)))) (row_if (b && k) (merge μ ν))
+      ∙ ap (λ (l : List (Solution ℕ)). old ++ (filter keeps (merges nat_eq μ (rows_at rows (take i places))) ++ l)) (sym (one b k f))
+      ∙ ap (λ (l : List (Solution ℕ)). old ++ l)
+      (sym (ap (filter keeps) (ap (merges nat_eq μ) rows_more ∙ merges-more μ ν (rows_at rows (take i places)) b e)
+      ∙ filter-append keeps (merges nat_eq μ (rows_at rows (take i places))) (if b then merge μ ν ∷ [] else [])))
+    where
+      kept_one : (c : Bool) → cond c (merge μ ν ∷ []) [] ≡ row_if c (merge μ ν)
+      kept_one true = refl
+      kept_one false = refl
+
+      one : (b k : Bool) → (b ≡ true → k ≡ keeps (merge μ ν)) → filter keeps (if b then merge μ ν ∷ [] else []) ≡ row_if (b && k) (merge μ ν)
+      one true k f = ap (λ c. cond c (merge μ ν ∷ []) []) (sym (f refl)) ∙ kept_one k
+      one false k f = refl
+
+  pub alone-turn : (keeps : Solution ℕ → Bool) (was now b k : Bool) → b ≡ is_compatible nat_eq μ ν
+      → (b ≡ true → k ≡ keeps (merge μ ν))
+      → was ≡ alone nat_eq keeps (rows_at rows (take i places)) μ
+      → now ≡ (was && not (b && k))
+      → now ≡ alone nat_eq keeps (rows_at rows (take (i + 1) places)) μ
+  alone-turn keeps was now b k e f h g =
+      g ∙ (λ j. h j && (step b k f ∙ ap (λ c. not (c && keeps (merge μ ν)) && true) e) j)
+      ∙ sym (ap (list_all (λ ξ. not (is_compatible nat_eq μ ξ && keeps (merge μ ξ)))) rows_more
+      ∙ list_all-append (λ ξ. not (is_compatible nat_eq μ ξ && keeps (merge μ ξ))) (rows_at rows (take i places)) (ν ∷ []))
+    where
+      same : (c : Bool) → c ≡ (c && true)
+      same true = refl
+      same false = refl
+
+      step : (b k : Bool) → (b ≡ true → k ≡ keeps (merge μ ν)) → not (b && k) ≡ (not (b && keeps (merge μ ν)) && true)
+      step true k f = ap not (f refl) ∙ same (not (keeps (merge μ ν)))
+      step false k f = refl
+
+-- a row of rows whose numbers all pass
+pub row_passes : (p : ℕ → Bool) (rows : List (Solution ℕ)) (i : ℕ) (ν : Solution ℕ) → all_pass p rows ≡ true → slice_get rows i ≡ Some ν → passes p ν ≡ true
+row_passes p [] i ν h at = none i at
+  where
+    none : (i : ℕ) → slice_get [] i ≡ Some ν → passes p ν ≡ true
+    none i at = cc
+row_passes p (μ ∷ rows) zero ν h at =
+    let e : μ ≡ ν = cc in
+    ap (passes p) (sym e) ∙ (and_parts (passes p μ) (all_pass p rows) h).0
+row_passes p (μ ∷ rows) (suc i) ν h at = row_passes p rows i ν (and_parts (passes p μ) (all_pass p rows) h).1 at
+
+pub merged_passes : (p : ℕ → Bool) (rows : List (Solution ℕ)) (i : ℕ) (μ ν row merged : Solution ℕ) → passes p μ ≡ true → all_pass p rows ≡ true → slice_get rows i ≡ Some ν
+    → row ≡ merged → merged ≡ merge μ ν → passes p row ≡ true
+merged_passes p rows i μ ν row merged h k at e f = ap (passes p) (e ∙ f) ∙ passes-merge p μ ν h (row_passes p rows i ν k at)
+
+-- one left row more
+module _ (gives : Solution ℕ → List (Solution ℕ)) (left : List (Solution ℕ)) where
+  pub left-turn : (from i : ℕ) (μ : Solution ℕ) (made made' : List (Solution ℕ)) → from ≤ i → i < length left → slice_get left i ≡ Some μ
+      → IsSameBag made (flat_map gives (take (i - from) (drop from left)))
+      → IsSameBag made' (made ++ gives μ)
+      → IsSameBag made' (flat_map gives (take (i + 1 - from) (drop from left)))
+  left-turn from i μ made made' le low at h k =
+      let n : i + 1 - from ≡ suc (i - from) = omega arith in
+      let s : from + (i - from) ≡ i = omega arith in
+      let l = length-drop from left in
+      let here : get_or (drop from left) (i - from) [] ≡ μ =
+      get_or-drop from left (i - from) [] ∙ ap (λ (x : ℕ). get_or left x []) s ∙ get_or_from_slice_get left i μ [] at in
+      let more : take (i + 1 - from) (drop from left) ≡ take (i - from) (drop from left) ++ μ ∷ [] =
+      ap (λ (x : ℕ). take x (drop from left)) n ∙ take-suc (drop from left) (i - from) [] (omega arith) ∙ ap (λ (x : Solution ℕ). take (i - from) (drop from left) ++ x ∷ []) here in
+      let parts : flat_map gives (take (i + 1 - from) (drop from left)) ≡ flat_map gives (take (i - from) (drop from left)) ++ gives μ =
+      ap (flat_map gives) more ∙ flat_map-append gives (take (i - from) (drop from left)) (μ ∷ [])
+      ∙ ap (λ (x : List (Solution ℕ)). flat_map gives (take (i - from) (drop from left)) ++ x) (append-nil (gives μ)) in
+      subst (λ (x : List (Solution ℕ)). IsSameBag made' x) (sym parts)
+      (IsPermutation-trans made' (made ++ gives μ) (flat_map gives (take (i - from) (drop from left)) ++ gives μ) k
+      (IsPermutation-append made (flat_map gives (take (i - from) (drop from left))) (gives μ) (gives μ) h (IsPermutation-refl (gives μ))))
+
+  -- all of a piece
+  pub left-piece : (from i to : ℕ) (made : List (Solution ℕ)) → i ≡ to → IsSameBag made (flat_map gives (take (i - from) (drop from left)))
+      → IsSameBag made (joined (take (to - from) (drop from (map gives left))))
+  left-piece from i to made e h =
+      let parts : flat_map gives (take (i - from) (drop from left)) ≡ joined (take (to - from) (drop from (map gives left))) =
+      ap (λ (x : ℕ). flat_map gives (take (x - from) (drop from left))) e
+      ∙ sym (flat_map-map (λ (part : List (Solution ℕ)). part) gives (take (to - from) (drop from left)))
+      ∙ ap joined (sym (ap (take (to - from)) (drop-map gives from left) ∙ take-map gives (to - from) (drop from left))) in
+      subst (λ (x : List (Solution ℕ)). IsSameBag made x) parts h
+
+  pub left-all : (rows : List (Solution ℕ)) → IsSameBag rows (joined (map gives left)) → IsSameBag rows (flat_map gives left)
+  left-all rows h = subst (λ (x : List (Solution ℕ)). IsSameBag rows x) (flat_map-map (λ (part : List (Solution ℕ)). part) gives left) h
+
+  pub length-gives : length (map gives left) ≡ length left
+  length-gives = go left
+    where
+      go : (l : List (Solution ℕ)) → length (map gives l) ≡ length l
+      go [] = refl
+      go (x ∷ l) = ap suc (go l)

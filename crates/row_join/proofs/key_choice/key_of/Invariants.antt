@@ -1,0 +1,8 @@
+use Rattle.std.proofs.Common.{◌<◌, All}
+use Rattle.row_join.proofs.key_choice.key_of.Given as goal
+
+abbrev pub invariant-loop-v : goal.invariant-loop-v
+invariant-loop-v l = record {
+  always : All (λ v. v < l.left.width) l.always.items;
+  ever : All (λ v. v < l.left.width) l.ever.items;
+}

@@ -1,0 +1,16 @@
+-- What is true of every number in rows (our own).
+use Rattle.std.specs.Prelude.{ℕ, Bool, true, List, Option, None, Some}
+use Rattle.std.specs.List.{list_all}
+use Rattle.algebra_model.specs.Solution.{Solution}
+
+abbrev pub cell_passes : (ℕ → Bool) → Option ℕ → Bool
+cell_passes p None = true
+cell_passes p (Some n) = p n
+
+-- each number that the row binds a variable to passes the test
+abbrev pub passes : (ℕ → Bool) → Solution ℕ → Bool
+passes p μ = list_all (cell_passes p) μ
+
+-- each number in the rows does
+abbrev pub all_pass : (ℕ → Bool) → List (Solution ℕ) → Bool
+all_pass p rows = list_all (passes p) rows

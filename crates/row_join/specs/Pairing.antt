@@ -1,0 +1,13 @@
+-- What one row of the left side gives with the right side. Only private clauses cite these words.
+use Rattle.std.specs.Prelude.{ℕ, Bool, not, ◌||◌, List, [], ◌∷◌, nat_eq, if◌then◌else◌}
+use Rattle.std.specs.List.{list_all}
+use Rattle.algebra_model.specs.Solution.{Solution, is_compatible}
+use Rattle.algebra_model.specs.Operators.{share}
+
+-- each of the rows is incompatible with μ, or shares no bound variable with it
+abbrev pub is_apart : List (Solution ℕ) → Solution ℕ → Bool
+is_apart rows μ = list_all (λ ν. not (is_compatible nat_eq μ ν) || not (share μ ν)) rows
+
+-- μ where it passes, and else nothing
+abbrev pub row_if : Bool → Solution ℕ → List (Solution ℕ)
+row_if b μ = if b then μ ∷ [] else []

@@ -1,0 +1,88 @@
+//! Minus (SPARQL 1.1 Query Language, section 18.5).
+ghost use Rattle.std.specs.Prelude.{◌≡◌, ◌<◌, ℕ, Bool, true, All, IfOk, length, nat_eq};
+ghost use Rattle.algebra_model.specs.Bag.{IsSameBag};
+ghost use Rattle.algebra_model.specs.Operators.{minus};
+ghost use Rattle.row_join.specs.Numbers.{all_pass};
+ghost use Rattle.row_join.specs.Pairing.{is_apart};
+ghost use Rattle.row_join.specs.Places.{rows_at};
+ghost use Rattle.row_pieces.specs.How.{IsRunnable};
+
+use crate::left_rows::{Buffers, Pairing, pair_rows};
+use crate::right_side::RightSide;
+use piece_pool::Gate;
+use row_core::{Rows, is_compatible, shares};
+use row_pieces::{EvalFault, How};
+use std::alloc::{AllocError, Global};
+use std::hash::RandomState;
+use std::sync::Wait;
+use std::thread::Threads;
+
+/// Minus: the left rows for which each right row is incompatible or shares no bound variable. The
+/// right side is hashed by variables that both sides bind, and lent to the pieces of the left side.
+///
+/// # Errors
+/// - `WorkerRefused`: the start of a worker was refused.
+/// - `Memory`: a growth was refused.
+pub fn minus<R: Threads + Wait, G: Gate + Sync>(
+    rt: &R,
+    alloc: Global,
+    state: RandomState,
+    left: &Rows,
+    right: &Rows,
+    how: &How,
+    gate: &G,
+) -> Result<Rows, EvalFault>
+    requires same_width { left.now.width ≡ right.now.width }
+    requires how { IsRunnable how.now }
+    ensures width { IfOk result (λ rows. rows.width ≡ left.now.width) }
+    ensures rows { IfOk result (λ rows. IsSameBag rows.rows (minus nat_eq left.now.rows right.now.rows)) }
+    ensures numbers { IfOk result (λ rows. (p : ℕ → Bool) → all_pass p left.now.rows ≡ true
+        → all_pass p rows.rows ≡ true) }
+{
+    let right = RightSide::build(alloc, state, left, right)?;
+    let rows = pair_rows(rt, alloc, left, &right, &Remainder {}, how, gate)?;
+    Ok(rows)
+}
+
+/// A left row gives itself, where no right row takes it away.
+struct Remainder {}
+
+impl Pairing for Remainder {
+    ghost use Rattle.std.specs.Prelude.{true};
+    ghost use Rattle.row_join.specs.Pairing.{is_apart, row_if};
+
+    ghost knows = { λ _ _. true };
+
+    ghost gives = { λ _ rows μ. row_if (is_apart rows μ) μ };
+
+    fn add(
+        &self,
+        _alloc: Global,
+        row: &[Option<u64>],
+        right: &RightSide,
+        buffers: &mut Buffers,
+        made: &mut Rows,
+    ) -> Result<(), AllocError> {
+        let tried = right.tried(row, &mut buffers.numbers)?;
+        if is_apart(row, right.rows, tried.first) && is_apart(row, right.rows, tried.second) {
+            made.push(row)?;
+        }
+        Ok(())
+    }
+}
+
+/// Whether each of the rows at these places is incompatible with the row, or shares no variable
+/// with it that both bind.
+fn is_apart(row: &[Option<u64>], right: &Rows, places: &[usize]) -> bool
+    requires row_wide { length row.now ≡ right.now.width }
+    requires inside { All (λ i. i < length right.now.rows) places.now }
+    ensures value { result ≡ is_apart (rows_at right.now.rows places.now) row.now }
+{
+    for i in 0..places.len() {
+        let other = right.row(places[i]);
+        if is_compatible(row, other) && shares(row, other) {
+            return false;
+        }
+    }
+    true
+}

@@ -1,0 +1,95 @@
+//! Join (SPARQL 1.1 Query Language, section 18.5).
+ghost use Rattle.std.specs.Prelude.{◌≡◌, ◌++◌, ◌<◌, ℕ, Bool, true, All, OnOk, IfOk, length, nat_eq};
+ghost use Rattle.algebra_model.specs.Bag.{IsSameBag};
+ghost use Rattle.algebra_model.specs.Operators.{join, merges};
+ghost use Rattle.row_join.specs.Numbers.{all_pass};
+ghost use Rattle.row_join.specs.Places.{rows_at};
+ghost use Rattle.row_pieces.specs.How.{IsRunnable};
+
+use crate::left_rows::{Buffers, Pairing, pair_rows};
+use crate::right_side::RightSide;
+use piece_pool::Gate;
+use row_core::{Rows, is_compatible, merge_into};
+use row_pieces::{EvalFault, How};
+use std::alloc::{AllocError, Global};
+use std::hash::RandomState;
+use std::sync::Wait;
+use std::thread::Threads;
+
+/// Join: the merge of each compatible pair, once for each pair. The right side is hashed by
+/// variables that both sides bind, and lent to the pieces of the left side.
+///
+/// # Errors
+/// - `WorkerRefused`: the start of a worker was refused.
+/// - `Memory`: a growth was refused.
+pub fn join<R: Threads + Wait, G: Gate + Sync>(
+    rt: &R,
+    alloc: Global,
+    state: RandomState,
+    left: &Rows,
+    right: &Rows,
+    how: &How,
+    gate: &G,
+) -> Result<Rows, EvalFault>
+    requires same_width { left.now.width ≡ right.now.width }
+    requires how { IsRunnable how.now }
+    ensures width { IfOk result (λ rows. rows.width ≡ left.now.width) }
+    ensures rows { IfOk result (λ rows. IsSameBag rows.rows (join nat_eq left.now.rows right.now.rows)) }
+    ensures numbers { IfOk result (λ rows. (p : ℕ → Bool) → all_pass p left.now.rows ≡ true
+        → all_pass p right.now.rows ≡ true → all_pass p rows.rows ≡ true) }
+{
+    let right = RightSide::build(alloc, state, left, right)?;
+    let rows = pair_rows(rt, alloc, left, &right, &Merges {}, how, gate)?;
+    Ok(rows)
+}
+
+/// A left row gives its merges.
+struct Merges {}
+
+impl Pairing for Merges {
+    ghost use Rattle.std.specs.Prelude.{true, nat_eq};
+    ghost use Rattle.algebra_model.specs.Operators.{merges};
+
+    ghost knows = { λ _ _. true };
+
+    ghost gives = { λ _ rows μ. merges nat_eq μ rows };
+
+    fn add(
+        &self,
+        _alloc: Global,
+        row: &[Option<u64>],
+        right: &RightSide,
+        buffers: &mut Buffers,
+        made: &mut Rows,
+    ) -> Result<(), AllocError> {
+        let tried = right.tried(row, &mut buffers.numbers)?;
+        add_merges(row, right.rows, tried.first, &mut buffers.merged, made)?;
+        add_merges(row, right.rows, tried.second, &mut buffers.merged, made)?;
+        Ok(())
+    }
+}
+
+/// Adds the merges of a row with those at these places that are compatible with it.
+fn add_merges(
+    row: &[Option<u64>],
+    right: &Rows,
+    places: &[usize],
+    merged: &mut Vec<Option<u64>>,
+    made: &mut Rows,
+) -> Result<(), AllocError>
+    requires row_wide { length row.now ≡ right.now.width }
+    requires made_wide { made.old.width ≡ right.now.width }
+    requires inside { All (λ i. i < length right.now.rows) places.now }
+    ensures rows { OnOk result (made.new.rows
+        ≡ made.old.rows ++ merges nat_eq row.now (rows_at right.now.rows places.now)) }
+    ensures width { OnOk result (made.new.width ≡ made.old.width) }
+{
+    for i in 0..places.len() {
+        let other = right.row(places[i]);
+        if is_compatible(row, other) {
+            merge_into(merged, row, other)?;
+            made.push(merged)?;
+        }
+    }
+    Ok(())
+}

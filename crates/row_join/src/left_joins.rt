@@ -1,0 +1,148 @@
+//! LeftJoin (SPARQL 1.1 Query Language, section 18.5).
+ghost use Rattle.std.specs.Prelude.{◌≡◌, ◌++◌, ◌<◌, ℕ, Bool, true, filter, All, OnOk, IfOk, length, nat_eq};
+ghost use Rattle.algebra_model.specs.Bag.{IsSameBag};
+ghost use Rattle.algebra_model.specs.Operators.{left_join, merges};
+ghost use Rattle.algebra_model.specs.Solve.{alone};
+ghost use Rattle.row_join.specs.Numbers.{passes, all_pass};
+ghost use Rattle.row_join.specs.Places.{rows_at};
+ghost use Rattle.row_pieces.specs.How.{IsRunnable};
+
+use crate::left_rows::{Buffers, Pairing, pair_rows};
+use crate::right_side::RightSide;
+use piece_pool::Gate;
+use row_core::{Rows, is_compatible, merge_into};
+use row_pieces::{EvalFault, How};
+use std::alloc::{AllocError, Global};
+use std::hash::RandomState;
+use std::sync::Wait;
+use std::thread::Threads;
+
+/// The condition of a left join: a test of merged rows.
+pub trait RowTest {
+    ghost use Rattle.std.specs.Prelude.{◌≡◌, ℕ, Bool, true, IfOk};
+    ghost use Rattle.algebra_model.specs.Solution.{Solution};
+    ghost use Rattle.row_join.specs.Numbers.{passes};
+
+    /// The numbers that the test knows, as those that stand for a term.
+    ghost knows: { Self → ℕ → Bool };
+
+    /// Whether the condition is true of the row; an error is not true.
+    ghost keeps: { Self → Solution ℕ → Bool };
+
+    /// Whether the condition is true of a row of numbers that the test knows.
+    ///
+    /// # Errors
+    /// `AllocError`: a growth was refused.
+    fn keeps(&self, alloc: Global, row: &[Option<u64>]) -> Result<bool, AllocError>
+        requires known { passes (knows self.now) row.now ≡ true }
+        ensures value { IfOk result (λ answer. answer ≡ keeps self.now row.now) };
+}
+
+/// LeftJoin: the merges of compatible pairs of which the condition is true, and each left row that
+/// has none. The right side is hashed by variables that both sides bind, and lent to the pieces of
+/// the left side.
+///
+/// # Errors
+/// - `WorkerRefused`: the start of a worker was refused.
+/// - `Memory`: a growth was refused.
+pub fn left_join<R: Threads + Wait, T: RowTest + Sync, G: Gate + Sync>(
+    rt: &R,
+    alloc: Global,
+    state: RandomState,
+    left: &Rows,
+    right: &Rows,
+    test: &T,
+    how: &How,
+    gate: &G,
+) -> Result<Rows, EvalFault>
+    requires same_width { left.now.width ≡ right.now.width }
+    requires left_known { all_pass (T.knows test.now) left.now.rows ≡ true }
+    requires right_known { all_pass (T.knows test.now) right.now.rows ≡ true }
+    requires how { IsRunnable how.now }
+    ensures width { IfOk result (λ rows. rows.width ≡ left.now.width) }
+    ensures rows { IfOk result (λ rows. IsSameBag rows.rows
+        (left_join nat_eq (T.keeps test.now) left.now.rows right.now.rows)) }
+    ensures numbers { IfOk result (λ rows. (p : ℕ → Bool) → all_pass p left.now.rows ≡ true
+        → all_pass p right.now.rows ≡ true → all_pass p rows.rows ≡ true) }
+{
+    let right = RightSide::build(alloc, state, left, right)?;
+    let rows = pair_rows(rt, alloc, left, &right, &MergesOrItself { test }, how, gate)?;
+    Ok(rows)
+}
+
+/// A left row gives its merges of which the condition is true, or itself where there is none.
+#[derive(Drop)]
+struct MergesOrItself<'t, T> {
+    test: &'t T,
+}
+
+impl<'t, T: RowTest> Pairing for MergesOrItself<'t, T> {
+    ghost use Rattle.std.specs.Prelude.{nat_eq};
+    ghost use Rattle.algebra_model.specs.Solve.{left_row};
+
+    ghost knows = { λ pairing n. T.knows pairing.test.now n };
+
+    ghost gives = { λ pairing rows μ. left_row nat_eq (T.keeps pairing.test.now) rows μ };
+
+    fn add(
+        &self,
+        alloc: Global,
+        row: &[Option<u64>],
+        right: &RightSide,
+        buffers: &mut Buffers,
+        made: &mut Rows,
+    ) -> Result<(), AllocError> {
+        let tried = right.tried(row, &mut buffers.numbers)?;
+        let merged = &mut buffers.merged;
+        let first = add_kept(alloc, self.test, row, right.rows, tried.first, merged, made)?;
+        let second = add_kept(
+            alloc,
+            self.test,
+            row,
+            right.rows,
+            tried.second,
+            merged,
+            made,
+        )?;
+        if first && second {
+            made.push(row)?;
+        }
+        Ok(())
+    }
+}
+
+/// Adds the merges of a row with those at these places of which the condition is true, and answers
+/// whether there are none.
+fn add_kept<T: RowTest>(
+    alloc: Global,
+    test: &T,
+    row: &[Option<u64>],
+    right: &Rows,
+    places: &[usize],
+    merged: &mut Vec<Option<u64>>,
+    made: &mut Rows,
+) -> Result<bool, AllocError>
+    requires row_wide { length row.now ≡ right.now.width }
+    requires made_wide { made.old.width ≡ right.now.width }
+    requires inside { All (λ i. i < length right.now.rows) places.now }
+    requires row_known { passes (T.knows test.now) row.now ≡ true }
+    requires right_known { all_pass (T.knows test.now) right.now.rows ≡ true }
+    ensures rows { OnOk result (made.new.rows ≡ made.old.rows
+        ++ filter (T.keeps test.now) (merges nat_eq row.now (rows_at right.now.rows places.now))) }
+    ensures alone { IfOk result (λ answer. answer
+        ≡ alone nat_eq (T.keeps test.now) (rows_at right.now.rows places.now) row.now) }
+    ensures width { OnOk result (made.new.width ≡ made.old.width) }
+{
+    let mut alone = true;
+    for i in 0..places.len() {
+        let other = right.row(places[i]);
+        if is_compatible(row, other) {
+            merge_into(merged, row, other)?;
+            if test.keeps(alloc, merged)? {
+                made.push(merged)?;
+                alone = false;
+            }
+        }
+    }
+    Ok(alone)
+}

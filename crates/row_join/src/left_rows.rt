@@ -1,0 +1,117 @@
+//! The left side of a join, run row by row over pieces.
+ghost use Rattle.std.specs.Prelude.{◌≡◌, ◌++◌, ℕ, Bool, true, List, OnOk, IfOk, length, flat_map};
+ghost use Rattle.algebra_model.specs.Bag.{IsSameBag};
+ghost use Rattle.algebra_model.specs.Solution.{Solution};
+ghost use Rattle.row_join.specs.Numbers.{passes, all_pass};
+ghost use Rattle.row_pieces.specs.How.{IsRunnable};
+
+use crate::right_side::RightSide;
+use piece_pool::Gate;
+use row_core::Rows;
+use row_pieces::{EvalFault, How, RowWork, over_pieces};
+use std::alloc::{AllocError, Global};
+use std::sync::Wait;
+use std::thread::Threads;
+
+/// Lists that are filled anew for each left row, so that no row takes memory of its own.
+#[derive(Drop)]
+pub(crate) struct Buffers {
+    pub(crate) numbers: Vec<u64>,
+    pub(crate) merged: Vec<Option<u64>>,
+}
+
+/// What one left row gives with the right rows.
+pub(crate) trait Pairing {
+    /// The numbers that may stand in the rows.
+    ghost knows: { Self → ℕ → Bool };
+
+    /// The rows that a left row gives with the right rows.
+    ghost gives: { Self → List (Solution ℕ) → Solution ℕ → List (Solution ℕ) };
+
+    /// Adds what the left row gives behind the rows of `made`.
+    fn add(
+        &self,
+        alloc: Global,
+        row: &[Option<u64>],
+        right: &RightSide,
+        buffers: &mut Buffers,
+        made: &mut Rows,
+    ) -> Result<(), AllocError>
+        requires row_wide { length row.now ≡ right.now.rows.now.width }
+        requires made_wide { made.old.width ≡ right.now.rows.now.width }
+        requires row_known { passes (knows self.now) row.now ≡ true }
+        requires right_known { all_pass (knows self.now) right.now.rows.now.rows ≡ true }
+        ensures rows { OnOk result (IsSameBag made.new.rows
+            (made.old.rows ++ gives self.now right.now.rows.now.rows row.now)) }
+        ensures width { OnOk result (made.new.width ≡ made.old.width) };
+}
+
+/// The left rows, each to be paired with the right side.
+#[derive(Drop)]
+struct LeftRows<'w, 'r, P: Pairing> {
+    left: &'w Rows,
+    right: &'w RightSide<'r>,
+    pairing: &'w P,
+    ghost same_width: { left.now.width ≡ right.now.rows.now.width },
+    ghost left_known: { all_pass (P.knows pairing.now) left.now.rows ≡ true },
+    ghost right_known: { all_pass (P.knows pairing.now) right.now.rows.now.rows ≡ true },
+}
+
+impl<'w, 'r, P: Pairing> RowWork for LeftRows<'w, 'r, P> {
+    ghost use Rattle.std.specs.Prelude.{map};
+
+    ghost width = { λ work. work.left.now.width };
+
+    ghost parts = { λ work. map (P.gives work.pairing.now work.right.now.rows.now.rows) work.left.now.rows };
+
+    fn row_width(&self) -> usize {
+        self.left.width()
+    }
+
+    fn count(&self) -> usize {
+        self.left.len()
+    }
+
+    fn run(&self, alloc: Global, from: usize, to: usize) -> Result<Rows, AllocError> {
+        let mut made = Rows::new(alloc, self.left.width());
+        let mut buffers = Buffers {
+            numbers: Vec::new(alloc),
+            merged: Vec::new(alloc),
+        };
+        for i in from..to {
+            self.pairing.add(alloc, self.left.row(i), self.right, &mut buffers, &mut made)?;
+        }
+        Ok(made)
+    }
+}
+
+/// What all left rows give with the right side, cut into pieces as `how` says.
+///
+/// # Errors
+/// - `WorkerRefused`: the start of a worker was refused.
+/// - `Memory`: a growth was refused.
+pub(crate) fn pair_rows<R: Threads + Wait, P: Pairing + Sync, G: Gate + Sync>(
+    rt: &R,
+    alloc: Global,
+    left: &Rows,
+    right: &RightSide,
+    pairing: &P,
+    how: &How,
+    gate: &G,
+) -> Result<Rows, EvalFault>
+    requires same_width { left.now.width ≡ right.now.rows.now.width }
+    requires left_known { all_pass (P.knows pairing.now) left.now.rows ≡ true }
+    requires right_known { all_pass (P.knows pairing.now) right.now.rows.now.rows ≡ true }
+    requires how { IsRunnable how.now }
+    ensures width { IfOk result (λ rows. rows.width ≡ left.now.width) }
+    ensures rows { IfOk result (λ rows. IsSameBag rows.rows
+        (flat_map (P.gives pairing.now right.now.rows.now.rows) left.now.rows)) }
+{
+    let work = LeftRows {
+        left,
+        right,
+        pairing,
+    };
+    let rows = over_pieces(rt, alloc, &work, how, gate)?;
+    Ok(rows)
+}

@@ -1,0 +1,98 @@
+//! The right side of a join: rows that are keyed once, and lent to all pieces of the left side.
+ghost use Rattle.std.specs.Prelude.{◌≡◌, ◌<◌, ◌++◌, ℕ, All, IfOk, filter, length, nat_eq};
+ghost use Rattle.std.specs.List.{range_with_len};
+ghost use Rattle.algebra_model.specs.Bag.{IsSameBag};
+ghost use Rattle.algebra_model.specs.Keys.{may_meet};
+ghost use Rattle.row_join.specs.Places.{IsTableOf, rows_at};
+
+use crate::key_choice::key_of;
+use crate::keyed::{Keyed, read_key};
+use row_core::Rows;
+use std::alloc::{AllocError, Global};
+use std::hash::RandomState;
+
+/// The rows of the right side, their places by a key, and all their places.
+#[derive(Drop)]
+pub(crate) struct RightSide<'r> {
+    pub(crate) rows: &'r Rows,
+    key: Vec<usize>,
+    keyed: Keyed,
+    all: Vec<usize>,
+    ghost below: { All (λ v. v < rows.now.width) key.items },
+    ghost table: { IsTableOf key.items rows.now.rows keyed },
+    ghost each: { all.items ≡ range_with_len 0 (length rows.now.rows) },
+}
+
+/// The places of right rows that a left row is tried with, in two lists.
+#[derive(Drop)]
+pub(crate) struct Tried<'k> {
+    pub(crate) first: &'k [usize],
+    pub(crate) second: &'k [usize],
+}
+
+/// The places of so many rows.
+fn places_of(alloc: Global, count: usize) -> Result<Vec<usize>, AllocError>
+    ensures places { IfOk result (λ places. places.items ≡ range_with_len 0 count) }
+{
+    let mut places = Vec::with_capacity(alloc, count)?;
+    for place in 0..count {
+        places.push_reserved(place);
+    }
+    Ok(places)
+}
+
+impl<'r> RightSide<'r> {
+    /// The rows by the values of variables that both sides bind.
+    ///
+    /// # Errors
+    /// `AllocError`: a growth was refused.
+    pub(crate) fn build(
+        alloc: Global,
+        state: RandomState,
+        left: &Rows,
+        rows: &'r Rows,
+    ) -> Result<RightSide<'r>, AllocError>
+        requires same_width { left.now.width ≡ rows.now.width }
+        ensures rows { IfOk result (λ right. right.rows.now ≡ rows.now) }
+    {
+        let key = key_of(alloc, left, rows)?;
+        let keyed = Keyed::build(alloc, state, rows, &key)?;
+        let all = places_of(alloc, rows.len())?;
+        Ok(RightSide {
+            rows,
+            key,
+            keyed,
+            all,
+        })
+    }
+
+    /// The right rows that a left row is tried with: where it binds all variables of the key, those
+    /// with its numbers and those that have no key, and else all. Each other row is incompatible
+    /// with it.
+    ///
+    /// # Errors
+    /// `AllocError`: a growth was refused.
+    pub(crate) fn tried(
+        &self,
+        row: &[Option<u64>],
+        numbers: &mut Vec<u64>,
+    ) -> Result<Tried<'_>, AllocError>
+        requires wide { length row.now ≡ self.now.rows.now.width }
+        ensures tried { IfOk result (λ tried. IsSameBag
+            (rows_at self.now.rows.now.rows (tried.first.now ++ tried.second.now))
+            (filter (may_meet nat_eq self.now.key.items row.now) self.now.rows.now.rows)) }
+        ensures first { IfOk result (λ tried. All (λ i. i < length self.now.rows.now.rows) tried.first.now) }
+        ensures second { IfOk result (λ tried. All (λ i. i < length self.now.rows.now.rows) tried.second.now) }
+    {
+        if read_key(row, &self.key, numbers)? {
+            return Ok(Tried {
+                first: self.keyed.places(numbers),
+                second: self.keyed.apart(),
+            });
+        }
+        Ok(Tried {
+            first: &self.all,
+            second: &[],
+        })
+    }
+}
