@@ -5,3 +5,4 @@ mod TableSteps
 mod FilterSteps
 mod ValueSteps
 mod ExtendSteps
+mod PatternSteps

@@ -2,3 +2,4 @@ pub mod Evaluated
 pub mod Numbered
 pub mod FilterParts
 pub mod Values
+pub mod Constants

@@ -1,4 +1,19 @@
-//! The operators of the SPARQL algebra over rows of numbers, and the evaluation of a plan.
+//! The operators of the SPARQL algebra over rows of numbers with a dictionary.
+//!
+//! Rows of numbers, the dictionary that says which terms they stand for, and what else an operator
+//! takes go in; rows and the dictionary come out. The contract of each operator is one record,
+//! `IsEvaluated` of specs/Evaluated.antt: the answered dictionary begins with the given one, and the
+//! rows, read through it, are the bag of solutions that the operator's definition gives of the
+//! arguments so read. Numbers may be compared in place of terms, since a dictionary has no term
+//! twice.
+//!
+//! Standard: SPARQL 1.1 Query Language, section 18.5; the definitions are those of `algebra_model`.
+//!
+//! To read in this order: `copying`, `unions`, `projections`, `distinctness` (rows alone);
+//! `numbering`, `tables` (terms taken in); `reading`, `filters`, `values`, `extensions`
+//! (expressions); `patterns` (the index).
+//!
+//! Not promised: the order of the rows, and which numbers computed terms get.
 #![tactic(auto)]
 
 mod copying;
@@ -6,6 +21,7 @@ mod distinctness;
 mod extensions;
 mod filters;
 mod numbering;
+mod patterns;
 mod projections;
 mod reading;
 mod tables;
@@ -15,6 +31,7 @@ mod values;
 pub use distinctness::distinct;
 pub use extensions::extend;
 pub use filters::filter;
+pub use patterns::pattern;
 pub use projections::project;
 pub use tables::table;
 pub use unions::union;
