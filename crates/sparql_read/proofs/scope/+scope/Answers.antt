@@ -1,0 +1,66 @@
+use Rattle.std.proofs.Common.{◌≡◌, ◌∙◌, true, false, sym, ap, subst, arith}
+use Rattle.std.proofs.lemmas.Result.{IfOk-weaker}
+use Rattle.sparql_tree.specs.GroupTree.{element_of, group, group_of}
+use Rattle.sparql_read.specs.ScopeSteps.{AddsScope, IsScopeOf}
+use Rattle.sparql_read.proofs.GroupLaws.{graph_stands_for, union_stands_for}
+use Rattle.sparql_read.proofs.ScopeSteps.{scope_bound, scope_broken, scope_joined, scope_more, scope_named, scope_then}
+use Rattle.sparql_read.proofs.scope.+scope.Goals as goal
+
+pub add_element-returns-else-not-branch : goal.add_element-returns-else-not-branch
+add_element-returns-else-not-branch t c =
+    let xs = c.args.scope.now in
+    let ys = c.add_element.new.scope in
+    let zs = c.add_group-in-Union.new.scope in
+    let f : c.in_ok-add_element-in-Union.field-0 ≡ true = grind (arith, c.if-not-branch.false) in
+    let h = subst (λ b. AddsScope (element_of c.deref-in-Union.result.now) b xs ys) f c.in_ok-add_element-in-Union.ensures.scope in
+    let l = subst (λ e. AddsScope (element_of e) true xs ys) c.deref-in-Union.ensures h in
+    let e = ap element_of c.in-Union.is ∙ union_stands_for c.in-Union.left c.in-Union.elements in
+    record {
+      scope = IfOk-weaker c.add_group-in-Union.result _ _
+          (λ b k. subst (λ e. AddsScope e b xs zs) (sym e)
+          (scope_then b (element_of c.in-Union.left.value) (group_of c.in-Union.elements.items) xs ys zs l
+          (subst (λ es. AddsScope (group (group_of es)) b ys zs) c.deref-in-Union-2.ensures.value k)))
+          c.add_group-in-Union.ensures.scope;
+    }
+
+pub add_element-returns-in_ok-add_graph_name-in-Graph : goal.add_element-returns-in_ok-add_graph_name-in-Graph
+add_element-returns-in_ok-add_graph_name-in-Graph t c =
+    let xs = c.args.scope.now in
+    let ys = c.add_graph_name.new.scope in
+    let zs = c.add_group-in-Graph.new.scope in
+    let e = ap element_of c.in-Graph.is ∙ graph_stands_for c.in-Graph.name c.in-Graph.elements in
+    record {
+      scope = IfOk-weaker c.add_group-in-Graph.result _ _
+          (λ b k. subst (λ e. AddsScope e b xs zs) (sym e)
+          (scope_named b c.in-Graph.name (group_of c.in-Graph.elements.items) xs ys zs c.in_ok-add_graph_name-in-Graph.ensures.names
+          (subst (λ es. AddsScope (group (group_of es)) b ys zs) c.deref-in-Graph.ensures.value k)))
+          c.add_group-in-Graph.ensures.scope;
+    }
+
+pub add_group-returns-in_ok-absorb-in-Some : goal.add_group-returns-in_ok-absorb-in-Some
+add_group-returns-in_ok-absorb-in-Some t c =
+    let h = subst (IsScopeOf (group_of c.args.elements.now)) c.in-Some.is c.in_ok-inner.ensures.scope in
+    record { scope = scope_joined (group_of c.args.elements.now) c.in-Some.inner c.args.scope.now c.absorb.new.self h c.in_ok-absorb-in-Some.ensures.names }
+
+pub scope_of-returns-then-binds_among : goal.scope_of-returns-then-binds_among
+scope_of-returns-then-binds_among t c = record {
+  scope =
+      scope_bound c.args.elements.now c.loop-element.element-index c.element-item.result c.loop-element.scope
+      c.loop-element-test.true c.element-item.is c.loop-element.invariant c.if-binds_among.ensures.value;
+}
+
+pub scope_of-returns-then-not-branch : goal.scope_of-returns-then-not-branch
+scope_of-returns-then-not-branch t c =
+    let f : c.in_ok-add_element.field-0 ≡ false = grind (arith, c.if-not-branch.true) in
+    record {
+      scope = scope_broken c.args.elements.now c.loop-element.element-index c.element-item.result
+          c.loop-element-test.true c.element-item.is
+          (subst (λ b. AddsScope (element_of c.element-item.result) b c.loop-element.scope c.add_element.new.scope) f c.in_ok-add_element.ensures.scope);
+    }
+
+pub scope_of-loop-element-preserved : goal.scope_of-loop-element-preserved
+scope_of-loop-element-preserved t c =
+    let f : c.in_ok-add_element.field-0 ≡ true = grind (arith, c.if-not-branch.false) in
+    scope_more c.args.elements.now c.loop-element.element-index c.element-item.result c.loop-element.scope c.add_element.new.scope
+    c.loop-element-test.true c.element-item.is c.loop-element.invariant c.if-binds_among.ensures.value
+    (subst (λ b. AddsScope (element_of c.element-item.result) b c.loop-element.scope c.add_element.new.scope) f c.in_ok-add_element.ensures.scope)

@@ -1,0 +1,12 @@
+pub mod Depth
+pub mod Prologue
+pub mod RelativeIri
+pub mod Mentioned
+pub mod NameSet
+pub mod BindScope
+pub mod BlankReuse
+pub mod Derives
+pub mod Refusal
+pub mod ScopeSteps
+pub mod LabelSteps
+pub mod Judged

@@ -1,0 +1,61 @@
+-- The declarations of a query, and its names that lack one (SPARQL 1.1 Query Language, sections 4.1.1
+-- and 19.8, PrefixDecl). A text is given by its terminals.
+use Rattle.std.specs.Prelude.{ℕ, List, [], ◌∷◌, ◌&&◌, Bool, true, false, is_none, Option, Some, None, if◌then◌else◌}
+use Rattle.std.specs.List.{list_any}
+use lib.Utf8.{encodes}
+use Rattle.sparql_lexer.specs.declared.token.Kind.{Kind}
+use Rattle.sparql_lexer.specs.declared.token.Kind.TheVariants as kind
+use Rattle.sparql_lexer.specs.declared.token.Keyword.TheVariants as word
+use Rattle.sparql_lexer.specs.Terminal.{Terminal, terminal}
+use Rattle.sparql_lexer.specs.Values.{iri_value}
+use Rattle.sparql_grammar.specs.Values.{Names, prefix_of, declaration_of}
+use Rattle.sparql_grammar.specs.declared.names.Declaration.{Declaration}
+
+abbrev pub is_prefix_word : Kind → Bool
+is_prefix_word (kind.Keyword word.Prefix) = true
+is_prefix_word _ = false
+
+abbrev pub is_namespace : Kind → Bool
+is_namespace kind.PrefixedNamespace = true
+is_namespace _ = false
+
+abbrev pub is_reference : Kind → Bool
+is_reference kind.IriRef = true
+is_reference _ = false
+
+-- `e:` or `e:a`
+abbrev pub is_prefixed : Kind → Bool
+is_prefixed kind.PrefixedNamespace = true
+is_prefixed kind.PrefixedName = true
+is_prefixed _ = false
+
+-- `PREFIX e: <iri>` of these three terminals; an IRI whose escape names nothing declares nothing
+abbrev pub declared : List ℕ → Option (List ℕ) → Option Declaration
+declared x None = None
+declared x (Some i) = Some (record { prefix = encodes (prefix_of x); iri = i })
+
+-- the declaration at the head of the terminals
+abbrev pub declaration_at : List Terminal → Option Declaration
+declaration_at (terminal k w ∷ (terminal l x ∷ (terminal m i ∷ ts))) =
+    if is_prefix_word k && (is_namespace l && is_reference m) then declared x (iri_value i) else None
+declaration_at _ = None
+
+abbrev pub and_declared : Option Declaration → Names → Names
+and_declared None ns = ns
+and_declared (Some d) ns = d ∷ ns
+
+-- The declarations among the terminals, the last one first, on top of others. (In a query PREFIX
+-- stands in the prologue alone.)
+abbrev pub declared_onto : Names → List Terminal → Names
+declared_onto ns [] = ns
+declared_onto ns (t ∷ ts) = declared_onto (and_declared (declaration_at (t ∷ ts)) ns) ts
+
+abbrev pub declarations : List Terminal → Names
+declarations ts = declared_onto [] ts
+
+-- a prefixed name without a declaration
+abbrev pub is_undefined : Names → Terminal → Bool
+is_undefined ns (terminal k x) = is_prefixed k && is_none (declaration_of ns (encodes (prefix_of x)))
+
+abbrev pub has_undefined_prefix : List Terminal → Bool
+has_undefined_prefix ts = list_any (is_undefined (declarations ts)) ts

@@ -1,0 +1,68 @@
+-- The rules that refuse a query, and which of them is answered.
+use Rattle.std.specs.Prelude.{◌≡◌, ◌<◌, ℕ, List, Bool, true, Result, Ok, Err}
+use Rattle.sparql_lexer.specs.Terminal.{Terminal}
+use Rattle.sparql_lexer.specs.Scan.{Scans}
+use Rattle.sparql_tree.specs.QueryTree.{QueryTree}
+use Rattle.sparql_read.specs.declared.fault.QueryFault.{QueryFault}
+use Rattle.sparql_read.specs.declared.fault.QueryFault.TheVariants.{Syntax, UndefinedPrefix, RelativeIri, BindScope, BlankReuse, TooDeep, Memory}
+use Rattle.sparql_read.specs.Depth.{is_too_deep}
+use Rattle.sparql_read.specs.Prologue.{has_undefined_prefix}
+use Rattle.sparql_read.specs.RelativeIri.{has_relative_iri}
+use Rattle.sparql_read.specs.BindScope.{breaks_bind_scope}
+use Rattle.sparql_read.specs.BlankReuse.{reuses_blank}
+use Rattle.sparql_read.specs.Derives.{Derives}
+
+-- brackets are nested too deep in the terminals of the text, up to the first place where none can be read
+pub record IsTooDeep (text : List ℕ) : Type 0 where
+  pub terminals : List Terminal
+  pub end : List ℕ
+  pub scans : Scans text terminals end
+  pub deep : is_too_deep terminals ≡ true
+
+-- the text derives a query, of whose terminals and tree the test holds
+pub record IsQueryWith (text : List ℕ) (test : List Terminal → QueryTree → Bool) : Type 0 where
+  pub query : QueryTree
+  pub derives : Derives text query
+  pub holds : test derives.terminals query ≡ true
+
+-- the rule refuses the text
+abbrev pub Applies : QueryFault → List ℕ → Type 0
+Applies Syntax text = (q : QueryTree) → Derives text q → ⊥
+Applies UndefinedPrefix text = IsQueryWith text (λ ts q. has_undefined_prefix ts)
+Applies RelativeIri text = IsQueryWith text (λ ts q. has_relative_iri ts)
+Applies BindScope text = IsQueryWith text (λ ts q. breaks_bind_scope q.group)
+Applies BlankReuse text = IsQueryWith text (λ ts q. reuses_blank q.group)
+Applies TooDeep text = IsTooDeep text
+Applies Memory text = ⊥
+
+-- Depth goes before all others, and these stand in their order.
+abbrev pub rank : QueryFault → ℕ
+rank TooDeep = 0
+rank Syntax = 1
+rank UndefinedPrefix = 2
+rank RelativeIri = 3
+rank BindScope = 4
+rank BlankReuse = 5
+rank Memory = 6
+
+-- the first of the rules that refuse the text
+pub record IsRefusal (text : List ℕ) (r : QueryFault) : Type 0 where
+  pub applies : Applies r text
+  pub first : (s : QueryFault) → rank s < rank r → Applies s text → ⊥
+
+-- no rule refuses the text, and it derives the query
+pub record IsRead (text : List ℕ) (q : QueryTree) : Type 0 where
+  pub derives : Derives text q
+  pub allowed : (r : QueryFault) → Applies r text → ⊥
+
+-- What a reader of queries answers: the query where no rule refuses the text, else the first that does.
+-- Memory says nothing of the text.
+abbrev pub Answers : List ℕ → Result QueryTree QueryFault → Type 0
+Answers text (Ok q) = IsRead text q
+Answers text (Err Memory) = Unit {0}
+Answers text (Err Syntax) = IsRefusal text Syntax
+Answers text (Err UndefinedPrefix) = IsRefusal text UndefinedPrefix
+Answers text (Err RelativeIri) = IsRefusal text RelativeIri
+Answers text (Err BindScope) = IsRefusal text BindScope
+Answers text (Err BlankReuse) = IsRefusal text BlankReuse
+Answers text (Err TooDeep) = IsRefusal text TooDeep

@@ -1,0 +1,20 @@
+-- Relative IRIs (our own rule: a query has no base).
+use Rattle.std.specs.Prelude.{ℕ, List, Bool, false, not, Option, Some, None}
+use Rattle.std.specs.List.{list_any}
+use Rattle.rdf_core.specs.Lexical.{has_scheme}
+use Rattle.sparql_lexer.specs.declared.token.Kind.{Kind}
+use Rattle.sparql_lexer.specs.declared.token.Kind.TheVariants as kind
+use Rattle.sparql_lexer.specs.Terminal.{Terminal, terminal}
+use Rattle.sparql_grammar.specs.Class.{reference_of}
+
+abbrev pub lacks_scheme : Option (List ℕ) → Bool
+lacks_scheme None = false
+lacks_scheme (Some i) = not (has_scheme i)
+
+-- an IRI in angle brackets whose value, with its escapes decoded, has no scheme
+abbrev pub is_relative : Terminal → Bool
+is_relative (terminal k x) = lacks_scheme (reference_of k x)
+
+-- in a declaration too
+abbrev pub has_relative_iri : List Terminal → Bool
+has_relative_iri ts = list_any is_relative ts

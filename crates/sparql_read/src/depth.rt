@@ -1,0 +1,39 @@
+//! How deep brackets are nested.
+
+ghost use Rattle.std.specs.Prelude.{◌≡◌, ◌≤◌};
+ghost use Rattle.sparql_lexer.specs.Terminal.{terminals};
+ghost use Rattle.sparql_read.specs.Depth.{is_too_deep, open_after};
+
+use sparql_lexer::{Kind, Sign, Token};
+
+/// The most brackets that may be open at once.
+const MAX_DEPTH: usize = 100;
+
+/// How many brackets are open behind a terminal, where so many are open before it.
+fn open_after(kind: Kind, depth: usize) -> usize
+    requires room { depth ≤ 100 }
+    ensures value { result ≡ open_after kind depth }
+{
+    match kind {
+        Kind::Sign(Sign::OpenBrace) | Kind::Sign(Sign::OpenParenthesis) => depth + 1,
+        Kind::Sign(Sign::CloseBrace) | Kind::Sign(Sign::CloseParenthesis) => depth.saturating_sub(
+            1,
+        ),
+        _ => depth,
+    }
+}
+
+/// Whether brackets are nested over 100 deep: `{` and `(` add one, `}` and `)` take one away where
+/// some are open. 100 is allowed.
+pub fn is_too_deep(tokens: &[Token<'_>]) -> bool
+    ensures value { result ≡ is_too_deep (terminals tokens.now) }
+{
+    let mut depth: usize = 0;
+    for token in tokens {
+        depth = open_after(token.kind, depth);
+        if depth > MAX_DEPTH {
+            return true;
+        }
+    }
+    false
+}

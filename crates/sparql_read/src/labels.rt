@@ -1,0 +1,173 @@
+//! Blank labels and the basic patterns that they stand in (SPARQL 1.1 Query Language, section 5.1.1).
+
+ghost use Rattle.std.specs.Prelude.{◌≡◌, [], ◌∷◌, IfOk};
+ghost use Rattle.sparql_tree.specs.GroupTree.{element_of, group_of};
+ghost use Rattle.sparql_read.specs.BlankReuse.{basic_patterns, ends_run, labels_of, patterns_inside, place_labels, reuses_blank, triple_labels};
+ghost use Rattle.sparql_read.specs.LabelSteps.{AddsElement, AddsLabels, AddsPatterns, run_of};
+
+use crate::names::NameSet;
+use sparql_tree::{Element, PatternTerm, Triple};
+use std::alloc::{AllocError, Global};
+use std::mem::replace;
+
+/// Adds the label at a place of a triple to those of its pattern; false where it stands in an earlier
+/// pattern.
+fn add_place(
+    alloc: Global,
+    earlier: &NameSet,
+    labels: &mut NameSet,
+    place: &PatternTerm,
+) -> Result<bool, AllocError>
+    ensures labels { IfOk result (λ fits. AddsLabels earlier.now (place_labels place.now) fits labels.old labels.new) }
+{
+    match place {
+        PatternTerm::Blank(label) => {
+            if earlier.has(label) {
+                return Ok(false);
+            }
+            labels.add(label.copy(alloc)?)?;
+            Ok(true)
+        }
+        _ => Ok(true),
+    }
+}
+
+fn add_triple(
+    alloc: Global,
+    earlier: &NameSet,
+    labels: &mut NameSet,
+    triple: &Triple,
+) -> Result<bool, AllocError>
+    ensures labels { IfOk result (λ fits. AddsLabels earlier.now (triple_labels triple.now) fits labels.old labels.new) }
+{
+    if !add_place(alloc, earlier, labels, &triple.subject)? {
+        return Ok(false);
+    }
+    if !add_place(alloc, earlier, labels, &triple.predicate)? {
+        return Ok(false);
+    }
+    add_place(alloc, earlier, labels, &triple.object)
+}
+
+/// Adds the labels of triples to those of their pattern; false where one stands in an earlier pattern.
+fn add_triples(
+    alloc: Global,
+    earlier: &NameSet,
+    labels: &mut NameSet,
+    triples: &[Triple],
+) -> Result<bool, AllocError>
+    ensures labels { IfOk result (λ fits. AddsLabels earlier.now (labels_of triples.now) fits labels.old labels.new) }
+{
+    for triple in triples {
+        if !add_triple(alloc, earlier, labels, triple)? {
+            return Ok(false);
+        }
+    }
+    Ok(true)
+}
+
+/// Adds the labels of one basic pattern; false where one of them stands in an earlier pattern.
+fn add_pattern(alloc: Global, earlier: &mut NameSet, triples: &[Triple]) -> Result<bool, AllocError>
+    ensures labels { IfOk result (λ fits. AddsPatterns (triples.now ∷ []) fits earlier.old earlier.new) }
+{
+    let mut labels = NameSet::new(alloc);
+    if !add_triples(alloc, earlier, &mut labels, triples)? {
+        return Ok(false);
+    }
+    earlier.absorb(labels)?;
+    Ok(true)
+}
+
+/// Adds the labels of the basic patterns inside an element; false where one stands in two patterns.
+#[cycle(labels)]
+fn add_inside(alloc: Global, earlier: &mut NameSet, element: &Element) -> Result<bool, AllocError>
+    ensures labels { IfOk result (λ fits. AddsPatterns (patterns_inside (element_of element.now)) fits earlier.old earlier.new) }
+{
+    match element {
+        Element::Triples(triples) => add_pattern(alloc, earlier, triples),
+        Element::Group(elements) => add_group(alloc, earlier, elements),
+        Element::Union(left, elements) => {
+            if !add_inside(alloc, earlier, left)? {
+                return Ok(false);
+            }
+            add_group(alloc, earlier, elements)
+        }
+        Element::Optional(elements) => add_group(alloc, earlier, elements),
+        Element::Minus(elements) => add_group(alloc, earlier, elements),
+        Element::Graph(_, elements) => add_group(alloc, earlier, elements),
+        Element::Filter(_) => Ok(true),
+        Element::Bind(_, _) => Ok(true),
+        Element::Values(_, _) => Ok(true),
+    }
+}
+
+/// Whether the element ends the run of triples before it: every element but FILTER and triples.
+fn ends_run(element: &Element) -> bool
+    ensures value { result ≡ ends_run (element_of element.now) }
+{
+    match element {
+        Element::Triples(_) => false,
+        Element::Filter(_) => false,
+        _ => true,
+    }
+}
+
+/// Adds the labels of triples that go on with the run before them.
+fn add_run(
+    alloc: Global,
+    earlier: &NameSet,
+    labels: &mut NameSet,
+    element: &Element,
+) -> Result<bool, AllocError>
+    ensures labels { IfOk result (λ fits. AddsLabels earlier.now (labels_of (run_of (element_of element.now))) fits labels.old labels.new) }
+{
+    match element {
+        Element::Triples(triples) => add_triples(alloc, earlier, labels, triples),
+        _ => Ok(true),
+    }
+}
+
+/// Adds the labels of an element, where the run before it has these labels; false where one stands in
+/// two patterns.
+#[cycle(labels)]
+fn add_element(
+    alloc: Global,
+    earlier: &mut NameSet,
+    labels: &mut NameSet,
+    element: &Element,
+) -> Result<bool, AllocError>
+    ensures labels { IfOk result (λ fits. AddsElement (element_of element.now) fits earlier.old labels.old earlier.new labels.new) }
+{
+    if ends_run(element) {
+        let run = replace(labels, NameSet::new(alloc));
+        earlier.absorb(run)?;
+        return add_inside(alloc, earlier, element);
+    }
+    add_run(alloc, earlier, labels, element)
+}
+
+/// Adds the labels of the basic patterns of a group; false where one stands in two patterns.
+#[cycle(labels)]
+fn add_group(alloc: Global, earlier: &mut NameSet, elements: &[Element]) -> Result<bool, AllocError>
+    ensures labels { IfOk result (λ fits. AddsPatterns (basic_patterns (group_of elements.now)) fits earlier.old earlier.new) }
+{
+    let mut labels = NameSet::new(alloc);
+    for element in elements {
+        if !add_element(alloc, earlier, &mut labels, element)? {
+            return Ok(false);
+        }
+    }
+    earlier.absorb(labels)?;
+    Ok(true)
+}
+
+/// Whether a blank label stands in two basic patterns of the group, at any depth.
+///
+/// # Errors
+/// A growth was refused.
+pub fn reuses_blank(alloc: Global, group: &[Element]) -> Result<bool, AllocError>
+    ensures value { IfOk result (λ reuses. reuses ≡ reuses_blank (group_of group.now)) }
+{
+    let mut labels = NameSet::new(alloc);
+    Ok(!add_group(alloc, &mut labels, group)?)
+}

@@ -1,0 +1,42 @@
+//! Which queries are refused, and by which rule.
+//!
+//! A text of terminals that the grammar derives may still be refused: brackets may be nested too deep
+//! ([`is_too_deep`]), a prefixed name may have no declaration ([`has_undefined_prefix`]), an IRI no
+//! scheme ([`has_relative_iri`]), a BIND may be to a variable in scope ([`breaks_bind_scope`]), and a
+//! blank label may stand in two basic patterns ([`reuses_blank`]). [`declarations_of`] gives the
+//! declarations of a text, and [`mentioned`] its variables at each place. Each answers exactly what its
+//! definition says of the terminals or of the tree.
+//!
+//! Which of the rules is the answer of a text is specs/Refusal.antt: depth before all others, and then
+//! the first that applies.
+//!
+//! Standard: SPARQL 1.1 Query Language, sections 4.1.1 (prefixes), 5.1.1 (blank labels), 10.1 and
+//! 18.2.1 (BIND and variable scope); the limit of depth and the refusal of relative IRIs are our own.
+//!
+//! To read in this order: specs/Depth.antt, specs/Prologue.antt, specs/RelativeIri.antt,
+//! specs/BindScope.antt, specs/BlankReuse.antt, specs/Derives.antt, specs/Refusal.antt; then `depth`,
+//! `prologue`, `iris`, `names`, `scope`, `labels`, `judging`.
+//!
+//! Not there yet: the reader of a whole text.
+//!
+//! Not promised: how long a text takes. By design the time is that of sorting its names, but for the
+//! look-up of a name among the declarations, which goes through them one by one.
+#![tactic(auto)]
+
+mod depth;
+mod fault;
+mod iris;
+mod judging;
+mod labels;
+mod names;
+mod prologue;
+mod scope;
+mod variables;
+
+pub use depth::is_too_deep;
+pub use fault::QueryFault;
+pub use iris::has_relative_iri;
+pub use labels::reuses_blank;
+pub use prologue::{declarations_of, has_undefined_prefix};
+pub use scope::breaks_bind_scope;
+pub use variables::mentioned;

@@ -1,0 +1,179 @@
+//! The declarations of a query, and its names that lack one (SPARQL 1.1 Query Language, sections
+//! 4.1.1 and 19.8, PrefixDecl).
+
+ghost use Rattle.std.specs.Prelude.{◌≡◌, IfOk, OnOk, is_some, reverse};
+ghost use lib.Utf8.{encodes};
+ghost use Rattle.sparql_lexer.specs.Values.{iri_value};
+ghost use Rattle.sparql_lexer.specs.Terminal.{terminals};
+ghost use Rattle.sparql_grammar.specs.Values.{declaration_of, prefix_of};
+ghost use Rattle.sparql_read.specs.Prologue.{and_declared, declaration_at, declarations, declared, has_undefined_prefix, is_namespace, is_prefix_word, is_prefixed, is_reference};
+
+use rdf_core::Text;
+use sparql_grammar::Declaration;
+use sparql_lexer::{Keyword, Kind, Token, iri_value, text_of};
+use std::alloc::{AllocError, Global};
+
+fn is_prefix_word(kind: Kind) -> bool
+    ensures value { result ≡ is_prefix_word kind }
+{
+    match kind {
+        Kind::Keyword(Keyword::Prefix) => true,
+        _ => false,
+    }
+}
+
+fn is_namespace(kind: Kind) -> bool
+    ensures value { result ≡ is_namespace kind }
+{
+    match kind {
+        Kind::PrefixedNamespace => true,
+        _ => false,
+    }
+}
+
+fn is_reference(kind: Kind) -> bool
+    ensures value { result ≡ is_reference kind }
+{
+    match kind {
+        Kind::IriRef => true,
+        _ => false,
+    }
+}
+
+fn is_prefixed(kind: Kind) -> bool
+    ensures value { result ≡ is_prefixed kind }
+{
+    match kind {
+        Kind::PrefixedNamespace | Kind::PrefixedName => true,
+        _ => false,
+    }
+}
+
+/// What stands before the first colon of a prefixed name.
+fn prefix_of(name: &[char]) -> &[char]
+    ensures value { result.now ≡ prefix_of name.now }
+{
+    let mut end: usize = 0;
+    while end < name.len() && name[end] != ':' {
+        end += 1;
+    }
+    &name[..end]
+}
+
+/// The prefix of a name as a text.
+///
+/// # Errors
+/// A growth was refused.
+fn prefix_text(alloc: Global, name: &[char]) -> Result<Text, AllocError>
+    ensures value { IfOk result (λ prefix. prefix ≡ encodes (prefix_of name.now)) }
+{
+    Ok(Text::from_string(text_of(alloc, prefix_of(name))?))
+}
+
+/// `PREFIX e: <iri>` of a namespace and an IRI reference; None where an escape of the IRI names
+/// nothing.
+///
+/// # Errors
+/// A growth was refused.
+fn declare(
+    alloc: Global,
+    namespace: &[char],
+    reference: &[char],
+) -> Result<Option<Declaration>, AllocError>
+    ensures value { IfOk result (λ found. found ≡ declared namespace.now (iri_value reference.now)) }
+{
+    match iri_value(alloc, reference)? {
+        Some(iri) => Ok(Some(Declaration {
+            prefix: prefix_text(alloc, namespace)?,
+            iri,
+        })),
+        None => Ok(None),
+    }
+}
+
+/// The declaration that begins at a terminal.
+///
+/// # Errors
+/// A growth was refused.
+fn declaration_at(alloc: Global, tokens: &[Token<'_>]) -> Result<Option<Declaration>, AllocError>
+    ensures value { IfOk result (λ found. found ≡ declaration_at (terminals tokens.now)) }
+{
+    if tokens.len() < 3 {
+        return Ok(None);
+    }
+    let opens = is_prefix_word(tokens[0].kind)
+        && is_namespace(tokens[1].kind)
+        && is_reference(tokens[2].kind);
+    if !opens {
+        return Ok(None);
+    }
+    declare(alloc, tokens[1].text, tokens[2].text)
+}
+
+/// Adds a declaration behind the others, where there is one.
+fn add_declaration(
+    found: &mut Vec<Declaration>,
+    declaration: Option<Declaration>,
+) -> Result<(), AllocError>
+    ensures names { OnOk result (reverse found.new.items ≡ and_declared declaration (reverse found.old.items)) }
+{
+    match declaration {
+        Some(declaration) => {
+            found.push(declaration)?;
+            Ok(())
+        }
+        None => Ok(()),
+    }
+}
+
+/// The declarations of a query, given by its terminals, the last one first: of two with one prefix the
+/// first one here holds.
+///
+/// # Errors
+/// A growth was refused.
+pub fn declarations_of(alloc: Global, tokens: &[Token<'_>]) -> Result<Vec<Declaration>, AllocError>
+    ensures value { IfOk result (λ v. v.items ≡ declarations (terminals tokens.now)) }
+{
+    let mut found = Vec::new(alloc);
+    for i in 0..tokens.len() {
+        let declaration = declaration_at(alloc, &tokens[i..])?;
+        add_declaration(&mut found, declaration)?;
+    }
+    found.reverse();
+    Ok(found)
+}
+
+/// Whether one of the declarations is of this prefix.
+fn is_declared(declarations: &[Declaration], prefix: &Text) -> bool
+    ensures value { result ≡ is_some (declaration_of declarations.now prefix.now) }
+{
+    for declaration in declarations {
+        if declaration.prefix == *prefix {
+            return true;
+        }
+    }
+    false
+}
+
+/// Whether a prefixed name among the terminals has no declaration, where these are the declarations.
+///
+/// # Errors
+/// A growth was refused.
+pub fn has_undefined_prefix(
+    alloc: Global,
+    names: &[Declaration],
+    tokens: &[Token<'_>],
+) -> Result<bool, AllocError>
+    requires names { names.now ≡ declarations (terminals tokens.now) }
+    ensures value { IfOk result (λ found. found ≡ has_undefined_prefix (terminals tokens.now)) }
+{
+    for token in tokens {
+        if is_prefixed(token.kind) {
+            let prefix = prefix_text(alloc, token.text)?;
+            if !is_declared(names, &prefix) {
+                return Ok(true);
+            }
+        }
+    }
+    Ok(false)
+}
