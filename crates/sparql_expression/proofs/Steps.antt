@@ -1,5 +1,5 @@
 -- Reading a production from left to right: what is left of it, and what each step makes of that.
-use Rattle.std.proofs.Common.{◌≡◌, ℕ, ◌<◌, List, [], ◌∷◌, Ok, Err, Bool, true, false, if◌then◌else◌, refl, sym, ap, ◌∙◌, subst}
+use Rattle.std.proofs.Common.{Result, Ok, Err, ◌≡◌, ℕ, ◌<◌, List, [], ◌∷◌, Bool, true, false, if◌then◌else◌, refl, sym, ap, ◌∙◌, subst}
 use Rattle.sparql_lexer.specs.declared.token.Kind.{Kind}
 use Rattle.sparql_lexer.specs.Terminal.{Terminal, terminal}
 use Rattle.sparql_grammar.specs.Class.{Class, Picked, Picks, exactly}
@@ -19,19 +19,23 @@ use Rattle.sparql_expression.specs.Reading.{Answer, Reading, Reads}
 use Rattle.sparql_expression.specs.Front.{Taken, Untaken}
 
 -- an answer with another value
-abbrev pub mapped : (s u : Symbol) → (Value u → Value s) → Answer u → Answer s
-mapped s u g (Ok p) = Ok (g p.0, p.1)
-mapped s u g (Err e) = Err e
+abbrev pub mapped : {A B : Type 0} → (A → B) → Result (A × List Terminal) ReadFault → Result (B × List Terminal) ReadFault
+mapped g (Ok p) = Ok (g p.0, p.1)
+mapped g (Err e) = Err e
+
+pub mapped_same : {A : Type 0} (answer : Result (A × List Terminal) ReadFault) → mapped (λ v. v) answer ≡ answer
+mapped_same (Ok p) = refl
+mapped_same (Err e) = refl
 
 -- A reader of the symbol s stands in front of mid, and the form is what it still has to read: of s itself, or of a
 -- symbol u at its end. An answer for the form is an answer for s.
 pub record Left (names : Names) (s : Symbol) (ts : List Terminal) (u : Symbol) (g : Value u → Value s) (form : Form (Value u)) (mid : List Terminal) : Type 0 where
   pub good : Good (reach u) form
-  pub goes : (answer : Answer u) → Reading names u form mid answer → Reads names s ts (mapped s u g answer)
+  pub goes : (answer : Answer u) → Reading names u form mid answer → Reads names s ts (mapped g answer)
 
 -- the whole production
 
-begin_goes : {names : Names} {s : Symbol} {ts : List Terminal} (answer : Answer s) → Reads names s ts answer → Reads names s ts (mapped s s (λ v. v) answer)
+begin_goes : {names : Names} {s : Symbol} {ts : List Terminal} (answer : Answer s) → Reads names s ts answer → Reads names s ts (mapped (λ v. v) answer)
 begin_goes (Ok p) h = h
 begin_goes (Err e) h = h
 
@@ -109,7 +113,7 @@ unlast : {names : Names} {u w : Symbol} {h : Value w → Value u} {ts rest : Lis
 unlast (lasts {a = a} d) = (a, d, refl)
 
 last_reading : {names : Names} {u w : Symbol} {h : Value w → Value u} {ts : List Terminal}
-    → Good (reach u) (last w h) → (answer : Answer w) → Reads names w ts answer → Reading names u (last w h) ts (mapped u w h answer)
+    → Good (reach u) (last w h) → (answer : Answer w) → Reads names w ts answer → Reading names u (last w h) ts (mapped h answer)
 last_reading {u = u} {w = w} {h = h} q (Ok p) r = record {
   is = (
     lasts {g = h} r.is.0,
@@ -126,7 +130,7 @@ last_reading {u = u} {w = w} {h = h} q (Err Syntax) r = record {
 last_reading q (Err Memory) r = record { is = tt }
 
 enter_goes : {names : Names} {s : Symbol} {ts : List Terminal} {u : Symbol} {g : Value u → Value s} {w : Symbol} {h : Value w → Value u} {mid : List Terminal}
-    → Left names s ts u g (last w h) mid → (answer : Answer w) → Reads names w mid answer → Reads names s ts (mapped s w (λ v. g (h v)) answer)
+    → Left names s ts u g (last w h) mid → (answer : Answer w) → Reads names w mid answer → Reads names s ts (mapped (λ v. g (h v)) answer)
 enter_goes {h = h} l (Ok p) r = l.goes (Ok (h p.0, p.1)) (last_reading {h = h} l.good (Ok p) r)
 enter_goes {h = h} l (Err e) r = l.goes (Err e) (last_reading {h = h} l.good (Err e) r)
 
@@ -138,6 +142,11 @@ enter {w = w} l = record { good = good w; goes = λ answer r. enter_goes l answe
 pub last_reads : {names : Names} {s : Symbol} {ts : List Terminal} {u : Symbol} {g : Value u → Value s} {w : Symbol} {h : Value w → Value u} {mid after : List Terminal} {a : Value w} {b : Value s}
     → Left names s ts u g (last w h) mid → Reads names w mid (Ok (a, after)) → b ≡ g (h a) → Reads names s ts (Ok (b, after))
 last_reads {names = names} {s = s} {ts = ts} {after = after} {a = a} l r e = subst (λ b. Reads names s ts (Ok (b, after))) (sym e) (enter_goes l (Ok (a, after)) r)
+
+-- the same where the answer is handed on as it is
+pub last_same : {names : Names} {s : Symbol} {ts : List Terminal} {u : Symbol} {g : Value u → Value s} {w : Symbol} {h : Value w → Value u} {mid : List Terminal} {answer : Answer w} {whole : Answer s}
+    → Left names s ts u g (last w h) mid → Reads names w mid answer → mapped (λ v. g (h v)) answer ≡ whole → Reads names s ts whole
+last_same {names = names} {s = s} {ts = ts} {answer = answer} l r e = subst (λ a. Reads names s ts a) e (enter_goes l answer r)
 
 pub last_fails : {names : Names} {s : Symbol} {ts : List Terminal} {u : Symbol} {g : Value u → Value s} {w : Symbol} {h : Value w → Value u} {mid : List Terminal} {e : ReadFault}
     → Left names s ts u g (last w h) mid → Reads names w mid (Err e) → Reads names s ts (Err e)

@@ -1,0 +1,288 @@
+//! Reads expressions: a function a production.
+//!
+//! `names` has the declarations, the last one of the text first. Each reader answers the tree of
+//! the production at the front of the tokens and what stands behind it. Each of them fails with
+//! `Syntax`, where the tokens begin with no such text, and with `Memory`, where a growth was
+//! refused.
+
+ghost use Rattle.std.specs.Prelude.{◌≡◌, ◌<◌, IfOk, length};
+ghost use Rattle.sparql_lexer.specs.Terminal.{terminals};
+ghost use Rattle.sparql_tree.specs.ExpressionTree.{expression_of, expressions_of};
+ghost use Rattle.sparql_grammar.specs.Follow.{heads, is_call};
+ghost use Rattle.sparql_grammar.specs.Symbol as the;
+ghost use Rattle.sparql_grammar.specs.Values.{Names};
+ghost use Rattle.sparql_expression.specs.Reading.{Reads, seen};
+
+use crate::classes::{accept_comparison, accept_function, accept_variable};
+use crate::fault::ReadFault;
+use crate::front::{accept, accept_word, next};
+use crate::terms::read_term;
+use crate::trees::{
+    make_and, make_bound, make_call, make_comparison, make_constant, make_in, make_not, make_or,
+    make_same_term, make_variable,
+};
+use sparql_grammar::Declaration;
+use sparql_lexer::{Keyword, Kind, Sign, Token};
+use sparql_tree::Expression;
+use std::alloc::Global;
+
+/// Reads a whole expression: conjunctions with `||` between them.
+///
+/// `names` has the declarations, the last one of the text first.
+///
+/// # Errors
+/// `Syntax`: no expression stands at the front. `Memory`: a growth was refused.
+#[cycle(expression)]
+pub fn read_disjunction<'t, 'a>(
+    alloc: Global,
+    names: &[Declaration],
+    tokens: &'t [Token<'a>],
+) -> Result<(Expression, &'t [Token<'a>]), ReadFault>
+    ensures reads { Reads names.now the.disjunction (terminals tokens.now) (seen expression_of result) }
+    ensures shorter { IfOk result (λ p. length p.1.now < length tokens.now) }
+{
+    let (mut left, mut rest) = read_conjunction(alloc, names, tokens)?;
+    'parts: while let Some(after) = accept(rest, Sign::Or) {
+        let (right, behind) = read_conjunction(alloc, names, after)?;
+        left = make_or(alloc, left, right)?;
+        rest = behind;
+    }
+    Ok((left, rest))
+}
+
+#[cycle(expression)]
+fn read_conjunction<'t, 'a>(
+    alloc: Global,
+    names: &[Declaration],
+    tokens: &'t [Token<'a>],
+) -> Result<(Expression, &'t [Token<'a>]), ReadFault>
+    ensures reads { Reads names.now the.conjunction (terminals tokens.now) (seen expression_of result) }
+    ensures shorter { IfOk result (λ p. length p.1.now < length tokens.now) }
+{
+    let (mut left, mut rest) = read_relation(alloc, names, tokens)?;
+    'parts: while let Some(after) = accept(rest, Sign::And) {
+        let (right, behind) = read_relation(alloc, names, after)?;
+        left = make_and(alloc, left, right)?;
+        rest = behind;
+    }
+    Ok((left, rest))
+}
+
+#[cycle(expression)]
+fn read_relation<'t, 'a>(
+    alloc: Global,
+    names: &[Declaration],
+    tokens: &'t [Token<'a>],
+) -> Result<(Expression, &'t [Token<'a>]), ReadFault>
+    ensures reads { Reads names.now the.relation (terminals tokens.now) (seen expression_of result) }
+    ensures shorter { IfOk result (λ p. length p.1.now < length tokens.now) }
+{
+    let (left, rest) = read_unary(alloc, names, tokens)?;
+    if let Some((op, after)) = accept_comparison(rest) {
+        let (right, behind) = read_unary(alloc, names, after)?;
+        return Ok((make_comparison(alloc, op, left, right)?, behind));
+    }
+    if let Some(after) = accept_word(rest, Keyword::In) {
+        let (members, behind) = read_members(alloc, names, after)?;
+        return Ok((make_in(alloc, left, members)?, behind));
+    }
+    let Some(denied) = accept_word(rest, Keyword::Not) else {
+        return Ok((left, rest));
+    };
+    let Some(after) = accept_word(denied, Keyword::In) else {
+        return Err(ReadFault::Syntax);
+    };
+    let (members, behind) = read_members(alloc, names, after)?;
+    let inner = make_in(alloc, left, members)?;
+    Ok((make_not(alloc, inner)?, behind))
+}
+
+#[cycle(expression)]
+fn read_unary<'t, 'a>(
+    alloc: Global,
+    names: &[Declaration],
+    tokens: &'t [Token<'a>],
+) -> Result<(Expression, &'t [Token<'a>]), ReadFault>
+    ensures reads { Reads names.now the.unary (terminals tokens.now) (seen expression_of result) }
+    ensures shorter { IfOk result (λ p. length p.1.now < length tokens.now) }
+{
+    let Some(after) = accept(tokens, Sign::Not) else {
+        return read_primary(alloc, names, tokens);
+    };
+    let (inner, behind) = read_primary(alloc, names, after)?;
+    Ok((make_not(alloc, inner)?, behind))
+}
+
+fn is_call(kind: Kind) -> bool
+    ensures { result ≡ is_call kind }
+{
+    match kind {
+        Kind::Keyword(word) => matches!(
+            word,
+            Keyword::Str
+                | Keyword::Lang
+                | Keyword::Datatype
+                | Keyword::IsIri
+                | Keyword::IsBlank
+                | Keyword::IsLiteral
+                | Keyword::Bound
+                | Keyword::SameTerm
+        ),
+        _ => false,
+    }
+}
+
+/// Whether a call stands at the front.
+pub fn is_call_next(tokens: &[Token]) -> bool
+    ensures { result ≡ heads is_call (terminals tokens.now) }
+{
+    match next(tokens) {
+        Some((kind, _, _)) => is_call(kind),
+        None => false,
+    }
+}
+
+#[cycle(expression)]
+fn read_primary<'t, 'a>(
+    alloc: Global,
+    names: &[Declaration],
+    tokens: &'t [Token<'a>],
+) -> Result<(Expression, &'t [Token<'a>]), ReadFault>
+    ensures reads { Reads names.now the.primary (terminals tokens.now) (seen expression_of result) }
+    ensures shorter { IfOk result (λ p. length p.1.now < length tokens.now) }
+{
+    if let Some(_after) = accept(tokens, Sign::OpenParenthesis) {
+        return read_bracket(alloc, names, tokens);
+    }
+    if is_call_next(tokens) {
+        return read_call(alloc, names, tokens);
+    }
+    if let Some((name, after)) = accept_variable(alloc, tokens)? {
+        return Ok((make_variable(name), after));
+    }
+    let (term, rest) = read_term(alloc, names, tokens)?;
+    Ok((make_constant(term), rest))
+}
+
+/// Reads an expression in parentheses.
+///
+/// # Errors
+/// `Syntax`: none stands at the front. `Memory`: a growth was refused.
+#[cycle(expression)]
+pub fn read_bracket<'t, 'a>(
+    alloc: Global,
+    names: &[Declaration],
+    tokens: &'t [Token<'a>],
+) -> Result<(Expression, &'t [Token<'a>]), ReadFault>
+    ensures reads { Reads names.now the.bracket (terminals tokens.now) (seen expression_of result) }
+    ensures shorter { IfOk result (λ p. length p.1.now < length tokens.now) }
+{
+    let Some(after) = accept(tokens, Sign::OpenParenthesis) else {
+        return Err(ReadFault::Syntax);
+    };
+    let (inner, rest) = read_disjunction(alloc, names, after)?;
+    let Some(behind) = accept(rest, Sign::CloseParenthesis) else {
+        return Err(ReadFault::Syntax);
+    };
+    Ok((inner, behind))
+}
+
+/// Reads a call of a function.
+///
+/// # Errors
+/// `Syntax`: none stands at the front. `Memory`: a growth was refused.
+#[cycle(expression)]
+pub fn read_call<'t, 'a>(
+    alloc: Global,
+    names: &[Declaration],
+    tokens: &'t [Token<'a>],
+) -> Result<(Expression, &'t [Token<'a>]), ReadFault>
+    ensures reads { Reads names.now the.call (terminals tokens.now) (seen expression_of result) }
+    ensures shorter { IfOk result (λ p. length p.1.now < length tokens.now) }
+{
+    if let Some((function, after)) = accept_function(tokens) {
+        let (argument, rest) = read_bracket(alloc, names, after)?;
+        return Ok((make_call(alloc, function, argument)?, rest));
+    }
+    if let Some(after) = accept_word(tokens, Keyword::Bound) {
+        return read_bound(alloc, after);
+    }
+    let Some(after) = accept_word(tokens, Keyword::SameTerm) else {
+        return Err(ReadFault::Syntax);
+    };
+    read_same_term(alloc, names, after)
+}
+
+/// Reads a variable in parentheses, behind `BOUND`.
+fn read_bound<'t, 'a>(
+    alloc: Global,
+    tokens: &'t [Token<'a>],
+) -> Result<(Expression, &'t [Token<'a>]), ReadFault>
+    ensures reads { (names : Names) → Reads names the.bound (terminals tokens.now) (seen expression_of result) }
+    ensures shorter { IfOk result (λ p. length p.1.now < length tokens.now) }
+{
+    let Some(after) = accept(tokens, Sign::OpenParenthesis) else {
+        return Err(ReadFault::Syntax);
+    };
+    let Some((name, rest)) = accept_variable(alloc, after)? else {
+        return Err(ReadFault::Syntax);
+    };
+    let Some(behind) = accept(rest, Sign::CloseParenthesis) else {
+        return Err(ReadFault::Syntax);
+    };
+    Ok((make_bound(name), behind))
+}
+
+/// Reads two expressions in parentheses, behind `SAMETERM`.
+#[cycle(expression)]
+fn read_same_term<'t, 'a>(
+    alloc: Global,
+    names: &[Declaration],
+    tokens: &'t [Token<'a>],
+) -> Result<(Expression, &'t [Token<'a>]), ReadFault>
+    ensures reads { Reads names.now the.same_term (terminals tokens.now) (seen expression_of result) }
+    ensures shorter { IfOk result (λ p. length p.1.now < length tokens.now) }
+{
+    let Some(after) = accept(tokens, Sign::OpenParenthesis) else {
+        return Err(ReadFault::Syntax);
+    };
+    let (left, middle) = read_disjunction(alloc, names, after)?;
+    let Some(second) = accept(middle, Sign::Comma) else {
+        return Err(ReadFault::Syntax);
+    };
+    let (right, rest) = read_disjunction(alloc, names, second)?;
+    let Some(behind) = accept(rest, Sign::CloseParenthesis) else {
+        return Err(ReadFault::Syntax);
+    };
+    Ok((make_same_term(alloc, left, right)?, behind))
+}
+
+/// Reads the members of `IN`.
+#[cycle(expression)]
+fn read_members<'t, 'a>(
+    alloc: Global,
+    names: &[Declaration],
+    tokens: &'t [Token<'a>],
+) -> Result<(Vec<Expression>, &'t [Token<'a>]), ReadFault>
+    ensures reads { Reads names.now the.members (terminals tokens.now) (seen (λ es. expressions_of es.items) result) }
+    ensures shorter { IfOk result (λ p. length p.1.now < length tokens.now) }
+{
+    let Some(mut rest) = accept(tokens, Sign::OpenParenthesis) else {
+        return Err(ReadFault::Syntax);
+    };
+    let mut members = Vec::new(alloc);
+    if let Some(behind) = accept(rest, Sign::CloseParenthesis) {
+        return Ok((members, behind));
+    }
+    'members: loop {
+        let (member, end) = read_disjunction(alloc, names, rest)?;
+        members.push(member)?;
+        let Some(after) = accept(end, Sign::Comma) else {
+            let Some(behind) = accept(end, Sign::CloseParenthesis) else {
+                return Err(ReadFault::Syntax);
+            };
+            return Ok((members, behind));
+        };
+        rest = after;
+    }
+}
