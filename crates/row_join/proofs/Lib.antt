@@ -3,3 +3,4 @@ mod PlaceLaws
 mod PairLaws
 mod NumberLaws
 mod TurnLaws
+mod KnownLaws

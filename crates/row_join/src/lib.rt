@@ -35,6 +35,8 @@ mod keyed;
 mod left_joins;
 mod left_rows;
 mod right_side;
+#[cfg(test)]
+mod tests;
 
 pub use differences::minus;
 pub use joins::join;
