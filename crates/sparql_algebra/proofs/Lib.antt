@@ -1,5 +1,12 @@
 pub mod FoldSteps
 pub mod LogicSteps
+pub mod NameSteps
 pub mod NumberLaws
 pub mod NumberSteps
+pub mod PartSteps
+pub mod PatternSteps
+pub mod ProjectionSteps
+pub mod RepeatSteps
 pub mod SignLaws
+pub mod TreeSteps
+pub mod WithinLaws

@@ -8,3 +8,5 @@ pub mod HeldTerm
 pub mod MemberTruth
 pub mod Names
 pub mod Translation
+pub mod PartOf
+pub mod Added

@@ -1,5 +1,7 @@
 //! Plans of the SPARQL algebra, and the values of expressions over a row.
 //!
+//! [`translate`] answers the plan of a query: exactly what specs/Translation.antt says.
+//!
 //! A [`Plan`] is the names of a query's variables and a tree of [`Operator`]s over their numbers.
 //! A contract sees the tree as the algebra expression that it stands for: `algebra_of` of
 //! specs/AlgebraOf.antt, into `Algebra` of `algebra_model`. A plan holds the fact that its variables
@@ -14,7 +16,9 @@
 //! 3.4 (forms of numbers and booleans). The definitions are those of `algebra_model`.
 //!
 //! To read in this order: `operator`, `plan`, `expression` (the trees); `digits`, `number`, `literal`,
-//! `comparison` (terms by value); `lookup`, `held`, `evaluation` (expressions over a row).
+//! `comparison` (terms by value); `lookup`, `held`, `evaluation` (expressions over a row); `names`,
+//! `naming` (the variables of a query and their numbers); `conversion`, `pattern`, `table`, `making`,
+//! `part`, `addition`, `group`, `translation` (a query, element by element).
 //!
 //! ```text
 //! compare(Comparison::Equal, &one, &one_point_zero)   // "01"^^xsd:integer and 1.0: Some(true)
@@ -22,20 +26,29 @@
 //! truth(&ill_formed)                                  // "abc"^^xsd:integer: Some(false)
 //! ```
 //!
-//! Not promised: room on the stack for an
-//! expression of any depth.
+//! Not promised: room on the stack for a query or an expression of any depth.
 #![tactic(auto)]
 
+mod addition;
 mod comparison;
+mod conversion;
 mod digits;
 mod evaluation;
 mod expression;
+mod group;
 mod held;
 mod literal;
 mod lookup;
+mod making;
+mod names;
+mod naming;
 mod number;
 mod operator;
+mod part;
+mod pattern;
 mod plan;
+mod table;
+mod translation;
 
 pub use comparison::{compare, truth};
 pub use evaluation::{ExprFault, test, value};
@@ -44,3 +57,4 @@ pub use lookup::Lookup;
 pub use operator::{GraphName, Operator, PatternTerm, TriplePattern};
 pub use plan::Plan;
 pub use sparql_tree::{Comparison, Function};
+pub use translation::translate;

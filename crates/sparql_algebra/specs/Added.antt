@@ -1,0 +1,24 @@
+-- A group with one more element, of which the program has read what it adds. Only private clauses
+-- cite this word.
+use Rattle.std.specs.Prelude.{List, [], ◌++◌}
+use Rattle.algebra_model.specs.Algebra as algebra
+use Rattle.sparql_algebra.specs.AlgebraOf.{algebra_of}
+use Rattle.sparql_algebra.specs.ExpressionOf.{expression_of}
+use Rattle.sparql_algebra.specs.Names.{Name}
+use Rattle.sparql_algebra.specs.Translation.{Part, behind, closed, joined_filters}
+use Rattle.sparql_algebra.specs.declared.addition.Addition.{Addition}
+use Rattle.sparql_algebra.specs.declared.addition.Addition.TheVariants.{Triples, Filter, Optional, Minus, Extend, Join}
+
+abbrev pub added : List Name → Part → Addition → Part
+added names p (Triples ts) =
+    record { before = p.before; triples = p.triples ++ ts.now; filters = p.filters }
+added names p (Filter e) = record {
+  before = p.before;
+  triples = p.triples;
+  filters = joined_filters p.filters (expression_of e);
+}
+added names p (Optional o e) =
+    behind p (algebra.LeftJoin (closed names p) (algebra_of o) (expression_of e))
+added names p (Minus o) = behind p (algebra.Minus (closed names p) (algebra_of o))
+added names p (Extend v e) = behind p (algebra.Extend v (expression_of e) (closed names p))
+added names p (Join o) = behind p (algebra.Join (closed names p) (algebra_of o))

@@ -1,0 +1,14 @@
+-- The part of a group that the program holds on the way, apart from how it lies in memory. Only
+-- private clauses cite this word.
+use Rattle.std.specs.Prelude.{map, option_map}
+use Rattle.sparql_algebra.specs.AlgebraOf.{algebra_of}
+use Rattle.sparql_algebra.specs.ExpressionOf.{expression_of}
+use Rattle.sparql_algebra.specs.Translation as translation
+use Rattle.sparql_algebra.specs.declared.part.Part.{Part}
+
+abbrev pub part_of : Part → translation.Part
+part_of p = record {
+  before = algebra_of p.before;
+  triples = map (λ t. t.now) p.triples.items;
+  filters = option_map expression_of p.filters;
+}

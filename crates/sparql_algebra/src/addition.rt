@@ -1,0 +1,115 @@
+//! What an element adds to its group.
+ghost use Rattle.std.specs.Prelude.{◌≡◌, IfOk};
+ghost use Rattle.algebra_model.specs.Algebra.{Extend, Join, LeftJoin, Minus};
+ghost use Rattle.sparql_algebra.specs.Added.{added};
+ghost use Rattle.sparql_algebra.specs.AlgebraOf.{algebra_of};
+ghost use Rattle.sparql_algebra.specs.ExpressionOf.{expression_of};
+ghost use Rattle.sparql_algebra.specs.PartOf.{part_of};
+ghost use Rattle.sparql_algebra.specs.Translation.{behind, closed};
+
+use crate::expression::Expr;
+use crate::making;
+use crate::names::Names;
+use crate::operator::Operator;
+use crate::part::Part;
+use sparql_tree::Triple;
+use std::alloc::{AllocError, Global};
+
+/// What an element adds: triples and a filter leave the basic pattern open, every other ends it.
+#[derive(Drop)]
+pub enum Addition<'a> {
+    Triples(&'a [Triple]),
+    Filter(Expr),
+    /// The right side of an OPTIONAL, and its condition.
+    Optional(Operator, Expr),
+    /// The right side of a MINUS.
+    Minus(Operator),
+    /// The variable of a BIND by its number, and its expression.
+    Extend(usize, Expr),
+    /// What is joined: of every other element.
+    Join(Operator),
+}
+
+/// The group with what the element adds.
+///
+/// # Errors
+/// `AllocError`: a growth was refused.
+pub fn with_addition<'a>(
+    alloc: Global,
+    names: &Names,
+    part: Part<'a>,
+    addition: Addition<'a>,
+) -> Result<Part<'a>, AllocError>
+    ensures part { IfOk result
+        (λ made. part_of made ≡ added names.now (part_of part.entry) addition.entry) }
+{
+    match addition {
+        Addition::Triples(triples) => part.with_triples(triples),
+        Addition::Filter(filter) => part.with_filter(alloc, filter),
+        Addition::Optional(right, condition) => {
+            with_optional(alloc, names, part, right, condition)
+        }
+        Addition::Minus(right) => with_minus(alloc, names, part, right),
+        Addition::Extend(variable, value) => with_extend(alloc, names, part, variable, value),
+        Addition::Join(right) => with_join(alloc, names, part, right),
+    }
+}
+
+fn with_join<'a>(
+    alloc: Global,
+    names: &Names,
+    part: Part<'a>,
+    right: Operator,
+) -> Result<Part<'a>, AllocError>
+    ensures part { IfOk result (λ made. part_of made
+        ≡ behind (part_of part.entry) (Join (closed names.now (part_of part.entry)) (algebra_of right))) }
+{
+    let (left, filters) = part.close(alloc, names)?;
+    Ok(Part::behind(alloc, making::join(alloc, left, right)?, filters))
+}
+
+fn with_optional<'a>(
+    alloc: Global,
+    names: &Names,
+    part: Part<'a>,
+    right: Operator,
+    condition: Expr,
+) -> Result<Part<'a>, AllocError>
+    ensures part { IfOk result (λ made. part_of made ≡ behind (part_of part.entry)
+        (LeftJoin (closed names.now (part_of part.entry)) (algebra_of right) (expression_of condition))) }
+{
+    let (left, filters) = part.close(alloc, names)?;
+    let made = making::left_join(alloc, left, right, condition)?;
+    Ok(Part::behind(alloc, made, filters))
+}
+
+fn with_minus<'a>(
+    alloc: Global,
+    names: &Names,
+    part: Part<'a>,
+    right: Operator,
+) -> Result<Part<'a>, AllocError>
+    ensures part { IfOk result (λ made. part_of made
+        ≡ behind (part_of part.entry) (Minus (closed names.now (part_of part.entry)) (algebra_of right))) }
+{
+    let (left, filters) = part.close(alloc, names)?;
+    Ok(Part::behind(alloc, making::minus(alloc, left, right)?, filters))
+}
+
+fn with_extend<'a>(
+    alloc: Global,
+    names: &Names,
+    part: Part<'a>,
+    variable: usize,
+    value: Expr,
+) -> Result<Part<'a>, AllocError>
+    ensures part { IfOk result (λ made. part_of made ≡ behind (part_of part.entry)
+        (Extend variable (expression_of value) (closed names.now (part_of part.entry)))) }
+{
+    let (inner, filters) = part.close(alloc, names)?;
+    Ok(Part::behind(
+        alloc,
+        making::extend(alloc, variable, value, inner)?,
+        filters,
+    ))
+}

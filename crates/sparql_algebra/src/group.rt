@@ -1,0 +1,129 @@
+//! The translation of a group, element by element (SPARQL 1.1 Query Language, section 18.2.2).
+ghost use Rattle.std.specs.Prelude.{◌≡◌, IfOk};
+ghost use Rattle.sparql_tree.specs.GroupTree.{element_of, group_of};
+ghost use Rattle.sparql_algebra.specs.Added.{added};
+ghost use Rattle.sparql_algebra.specs.AlgebraOf.{algebra_of, graph_name_of};
+ghost use Rattle.sparql_algebra.specs.PartOf.{part_of};
+ghost use Rattle.sparql_algebra.specs.Translation.{Part as GroupPart, add_element, group_part, translate_graph_name, translate_group, translate_side};
+
+use crate::addition::{Addition, with_addition};
+use crate::conversion::convert;
+use crate::making;
+use crate::names::Names;
+use crate::operator::{self, Operator};
+use crate::part::Part;
+use crate::table::convert_table;
+use rdf_core::Term;
+use sparql_tree::{Element, GraphName};
+use std::alloc::{AllocError, Global};
+
+/// The operator that a group means.
+///
+/// # Errors
+/// `AllocError`: a growth was refused.
+#[cycle(group)]
+pub fn convert_group(
+    alloc: Global,
+    names: &Names,
+    group: &[Element],
+) -> Result<Operator, AllocError>
+    ensures operator { IfOk result
+        (λ made. algebra_of made ≡ translate_group names.now (group_of group.now)) }
+{
+    read_group(alloc, names, group)?.finish(alloc, names)
+}
+
+#[cycle(group)]
+fn read_group<'a>(
+    alloc: Global,
+    names: &Names,
+    group: &'a [Element],
+) -> Result<Part<'a>, AllocError>
+    ensures part { IfOk result
+        (λ part. part_of part ≡ group_part names.now (group_of group.entry.now)) }
+{
+    let mut part = Part::new(alloc);
+    for element in group {
+        let addition = read_element(alloc, names, element)?;
+        part = with_addition(alloc, names, part, addition)?;
+    }
+    Ok(part)
+}
+
+/// What an element adds to its group.
+#[cycle(group)]
+fn read_element<'a>(
+    alloc: Global,
+    names: &Names,
+    element: &'a Element,
+) -> Result<Addition<'a>, AllocError>
+    ensures addition { IfOk result (λ addition. (p : GroupPart) →
+        added names.now p addition ≡ add_element names.now p (element_of element.entry.now)) }
+{
+    match element {
+        Element::Triples(triples) => Ok(Addition::Triples(triples)),
+        Element::Filter(filter) => Ok(Addition::Filter(convert(alloc, names, filter)?)),
+        Element::Bind(value, variable) => Ok(Addition::Extend(
+            names.number(variable),
+            convert(alloc, names, value)?,
+        )),
+        Element::Optional(group) => {
+            let (right, condition) = read_group(alloc, names, group)?.split(alloc, names)?;
+            Ok(Addition::Optional(right, condition))
+        }
+        Element::Minus(group) => Ok(Addition::Minus(convert_group(alloc, names, group)?)),
+        Element::Group(group) => Ok(Addition::Join(convert_group(alloc, names, group)?)),
+        Element::Union(left, right) => {
+            let left = convert_side(alloc, names, left)?;
+            let right = convert_group(alloc, names, right)?;
+            Ok(Addition::Join(making::union(alloc, left, right)?))
+        }
+        Element::Graph(name, group) => {
+            let name = convert_graph_name(alloc, names, name)?;
+            let inner = convert_group(alloc, names, group)?;
+            Ok(Addition::Join(making::graph(alloc, name, inner)?))
+        }
+        Element::Values(variables, rows) => Ok(Addition::Join(convert_table(
+            alloc, names, variables, rows,
+        )?)),
+    }
+}
+
+/// A side of a UNION, which is a group or a UNION itself.
+#[cycle(group)]
+fn convert_side(alloc: Global, names: &Names, side: &Element) -> Result<Operator, AllocError>
+    ensures operator { IfOk result
+        (λ made. algebra_of made ≡ translate_side names.now (element_of side.now)) }
+{
+    match side {
+        Element::Group(group) => convert_group(alloc, names, group),
+        Element::Union(left, right) => {
+            let left = convert_side(alloc, names, left)?;
+            let right = convert_group(alloc, names, right)?;
+            making::union(alloc, left, right)
+        }
+        Element::Triples(_)
+        | Element::Optional(_)
+        | Element::Minus(_)
+        | Element::Graph(_, _)
+        | Element::Filter(_)
+        | Element::Bind(_, _)
+        | Element::Values(_, _) => Ok(making::empty_pattern(alloc)),
+    }
+}
+
+fn convert_graph_name(
+    alloc: Global,
+    names: &Names,
+    name: &GraphName,
+) -> Result<operator::GraphName, AllocError>
+    ensures name { IfOk result
+        (λ made. graph_name_of made ≡ translate_graph_name names.now name.now) }
+{
+    match name {
+        GraphName::Variable(variable) => {
+            Ok(operator::GraphName::Variable(names.number(variable)))
+        }
+        GraphName::Iri(iri) => Ok(operator::GraphName::Iri(Term::Iri(iri.copy(alloc)?))),
+    }
+}

@@ -1,0 +1,92 @@
+//! Names in the order in which they first came, each once, and their numbers.
+ghost use Rattle.std.specs.Prelude.{◌≡◌, ◌<◌, ◌^◌, [], length, IfOk, OnOk};
+ghost use Rattle.std.specs.Str.{bytes_eq};
+ghost use Rattle.indexmap.specs.IndexSet.{insert_key};
+ghost use Rattle.sparql_algebra.specs.Names.{is_name_among, number_of};
+
+use indexmap::IndexSet;
+use rdf_core::Text;
+use std::alloc::{AllocError, Global};
+use std::marker::Model;
+
+/// Distinct names, numbered from 0 in the order in which they came. A contract sees their list.
+#[derive(Drop)]
+pub struct Names {
+    set: IndexSet<Text>,
+}
+
+impl Model for Names {
+    ghost use Rattle.std.specs.Prelude.{ℕ, List};
+
+    ghost Value = { List (List ℕ) };
+
+    ghost view = { λ n. n.set.keys };
+}
+
+impl Names {
+    /// No names; takes no memory.
+    pub fn new(alloc: Global) -> Names
+        ensures empty { result ≡ [] }
+    {
+        Names {
+            set: IndexSet::new(alloc),
+        }
+    }
+
+    /// How many names there are.
+    pub fn len(&self) -> usize
+        ensures value { result ≡ length self.now }
+        ensures small { result < 2 ^ 63 }
+    {
+        self.set.len()
+    }
+
+    /// Puts the name last where it is not there. It is copied only then.
+    ///
+    /// # Errors
+    /// `AllocError`: a growth was refused.
+    pub fn note(&mut self, name: &Text) -> Result<(), AllocError>
+        ensures noted { OnOk result (self.new ≡ insert_key bytes_eq self.old name.now) }
+    {
+        if !self.set.contains(name) {
+            let alloc = *self.set.allocator();
+            self.set.insert(name.copy(alloc)?)?;
+        }
+        Ok(())
+    }
+
+    /// Whether the name is there.
+    pub fn contains(&self, name: &Text) -> bool
+        ensures among { result ≡ is_name_among name.now self.now }
+    {
+        self.set.contains(name)
+    }
+
+    /// The number of the name, and the count of names where it is not there.
+    pub fn number(&self, name: &Text) -> usize
+        ensures number { result ≡ number_of self.now name.now }
+    {
+        match self.set.get_index_of(name) {
+            Some(number) => number,
+            None => self.set.len(),
+        }
+    }
+
+    /// The names, lent.
+    pub fn as_slice(&self) -> &[Text]
+        ensures names { result.now ≡ self.now }
+    {
+        self.set.as_slice()
+    }
+
+    /// The names, moved into a list.
+    ///
+    /// # Errors
+    /// `AllocError`: a growth was refused.
+    pub fn into_list(self, alloc: Global) -> Result<Vec<Text>, AllocError>
+        ensures names { IfOk result (λ list. list.items ≡ self) }
+    {
+        let Names { set } = self;
+        set.into_iter().collect(alloc)
+    }
+}

@@ -1,0 +1,138 @@
+//! The names that a query's tree mentions, in order (SPARQL 1.1 Query Language, section 18.2.1).
+ghost use Rattle.std.specs.Prelude.{◌≡◌, [], IfOk, OnOk, flat_map};
+ghost use Rattle.std.specs.Str.{bytes_eq};
+ghost use Rattle.indexmap.specs.IndexSet.{insert_all};
+ghost use Rattle.sparql_tree.specs.GroupTree.{element_of, group_of};
+ghost use Rattle.sparql_tree.specs.QueryTree.{query_of, selection_of};
+ghost use Rattle.sparql_tree.specs.Scope.{element_names, graph_names, group_names, group_scope, place_names, triple_names};
+ghost use Rattle.sparql_algebra.specs.Names.{listed_names, names_of};
+
+use crate::names::Names;
+use rdf_core::Text;
+use sparql_tree::{Element, GraphName, PatternTerm, Query, Selection, Triple};
+use std::alloc::{AllocError, Global};
+
+/// The names of a query by their numbers: first as the text mentions them, behind them what a tree
+/// that no reader made lists or binds besides.
+///
+/// # Errors
+/// `AllocError`: a growth was refused.
+pub fn query_names(alloc: Global, query: &Query) -> Result<Names, AllocError>
+    ensures names { IfOk result (λ names. names ≡ names_of (query_of query.now)) }
+{
+    let mut names = Names::new(alloc);
+    note_list(&mut names, &query.mentioned)?;
+    note_selection(&mut names, &query.selection)?;
+    note_group(&mut names, true, &query.group)?;
+    Ok(names)
+}
+
+/// The names in scope of a group.
+///
+/// # Errors
+/// `AllocError`: a growth was refused.
+pub fn scope(alloc: Global, group: &[Element]) -> Result<Names, AllocError>
+    ensures names { IfOk result (λ names. names ≡ insert_all bytes_eq [] (group_scope (group_of group.now))) }
+{
+    let mut names = Names::new(alloc);
+    note_group(&mut names, false, group)?;
+    Ok(names)
+}
+
+/// Notes each name of a list.
+pub fn note_list(names: &mut Names, list: &[Text]) -> Result<(), AllocError>
+    ensures noted { OnOk result (names.new ≡ insert_all bytes_eq names.old list.now) }
+{
+    for name in list {
+        names.note(name)?;
+    }
+    Ok(())
+}
+
+fn note_selection(names: &mut Names, selection: &Selection) -> Result<(), AllocError>
+    ensures noted { OnOk result
+        (names.new ≡ insert_all bytes_eq names.old (listed_names (selection_of selection.now))) }
+{
+    match selection {
+        Selection::All => Ok(()),
+        Selection::Variables(listed) => note_list(names, listed),
+    }
+}
+
+/// Notes what the elements of a group bind; where `all` is set, also in the right sides of MINUS.
+#[cycle(naming)]
+fn note_group(names: &mut Names, all: bool, group: &[Element]) -> Result<(), AllocError>
+    ensures noted { OnOk result
+        (names.new ≡ insert_all bytes_eq names.old (group_names all (group_of group.now))) }
+{
+    for element in group {
+        note_element(names, all, element)?;
+    }
+    Ok(())
+}
+
+#[cycle(naming)]
+fn note_element(names: &mut Names, all: bool, element: &Element) -> Result<(), AllocError>
+    ensures noted { OnOk result
+        (names.new ≡ insert_all bytes_eq names.old (element_names all (element_of element.now))) }
+{
+    match element {
+        Element::Triples(triples) => note_triples(names, triples),
+        Element::Group(group) => note_group(names, all, group),
+        Element::Union(left, right) => {
+            note_element(names, all, left)?;
+            note_group(names, all, right)
+        }
+        Element::Optional(group) => note_group(names, all, group),
+        Element::Minus(group) => {
+            if all {
+                note_group(names, all, group)
+            } else {
+                Ok(())
+            }
+        }
+        Element::Graph(name, group) => {
+            note_graph_name(names, name)?;
+            note_group(names, all, group)
+        }
+        Element::Filter(_) => Ok(()),
+        Element::Bind(_, variable) => names.note(variable),
+        Element::Values(variables, _) => note_list(names, variables),
+    }
+}
+
+fn note_graph_name(names: &mut Names, name: &GraphName) -> Result<(), AllocError>
+    ensures noted { OnOk result (names.new ≡ insert_all bytes_eq names.old (graph_names name.now)) }
+{
+    match name {
+        GraphName::Variable(variable) => names.note(variable),
+        GraphName::Iri(_) => Ok(()),
+    }
+}
+
+fn note_triples(names: &mut Names, triples: &[Triple]) -> Result<(), AllocError>
+    ensures noted { OnOk result
+        (names.new ≡ insert_all bytes_eq names.old (flat_map triple_names triples.now)) }
+{
+    for triple in triples {
+        note_triple(names, triple)?;
+    }
+    Ok(())
+}
+
+fn note_triple(names: &mut Names, triple: &Triple) -> Result<(), AllocError>
+    ensures noted { OnOk result (names.new ≡ insert_all bytes_eq names.old (triple_names triple.now)) }
+{
+    note_place(names, &triple.subject)?;
+    note_place(names, &triple.predicate)?;
+    note_place(names, &triple.object)
+}
+
+fn note_place(names: &mut Names, place: &PatternTerm) -> Result<(), AllocError>
+    ensures noted { OnOk result (names.new ≡ insert_all bytes_eq names.old (place_names place.now)) }
+{
+    match place {
+        PatternTerm::Variable(variable) => names.note(variable),
+        PatternTerm::Blank(_) | PatternTerm::Anonymous | PatternTerm::Term(_) => Ok(()),
+    }
+}
