@@ -6,3 +6,4 @@ mod FilterSteps
 mod ValueSteps
 mod ExtendSteps
 mod PatternSteps
+mod JoinSteps

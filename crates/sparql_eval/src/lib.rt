@@ -11,7 +11,7 @@
 //!
 //! To read in this order: `copying`, `unions`, `projections`, `distinctness` (rows alone);
 //! `numbering`, `tables` (terms taken in); `reading`, `filters`, `values`, `extensions`
-//! (expressions); `patterns` (the index).
+//! (expressions); `patterns` (the index); `joins` (two lists of rows).
 //!
 //! Not promised: the order of the rows, and which numbers computed terms get.
 #![tactic(auto)]
@@ -20,6 +20,7 @@ mod copying;
 mod distinctness;
 mod extensions;
 mod filters;
+mod joins;
 mod numbering;
 mod patterns;
 mod projections;
@@ -31,6 +32,7 @@ mod values;
 pub use distinctness::distinct;
 pub use extensions::extend;
 pub use filters::filter;
+pub use joins::{join, left_join, minus};
 pub use patterns::pattern;
 pub use projections::project;
 pub use tables::table;

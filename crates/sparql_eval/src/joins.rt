@@ -1,0 +1,144 @@
+//! Join, LeftJoin and Minus (SPARQL 1.1 Query Language, section 18.5).
+ghost use Rattle.std.specs.Prelude.{◌≡◌, IfOk};
+ghost use Rattle.rdf_core.proofs.TermLaws.{term_eq};
+ghost use Rattle.algebra_model.specs.Expression.{holds};
+ghost use Rattle.algebra_model.specs.Operators.{join, left_join, minus};
+ghost use Rattle.row_pieces.specs.How.{IsRunnable};
+ghost use Rattle.sparql_algebra.specs.ExpressionOf.{expression_of};
+ghost use Rattle.sparql_eval.specs.Evaluated.{AreKnown, IsEvaluated, solutions_of};
+
+use crate::reading::ReadRow;
+use dict_core::Dict;
+use piece_pool::Gate;
+use row_core::Rows;
+use row_join::RowTest;
+use row_pieces::{EvalFault, How};
+use sparql_algebra::{Expr, test};
+use std::alloc::{AllocError, Global};
+use std::hash::RandomState;
+use std::sync::Wait;
+use std::thread::Threads;
+
+/// Join: the merge of each compatible pair, once for each pair. The right side is hashed with the
+/// given state, and lent to the pieces of the left side.
+///
+/// # Errors
+/// - `WorkerRefused`: the start of a worker was refused.
+/// - `Memory`: a growth was refused.
+///
+/// A refusal drops the dictionary.
+pub fn join<R: Threads + Wait, G: Gate + Sync>(
+    rt: &R,
+    alloc: Global,
+    state: RandomState,
+    dict: Dict,
+    left: &Rows,
+    right: &Rows,
+    how: &How,
+    gate: &G,
+) -> Result<(Rows, Dict), EvalFault>
+    requires same_width { left.now.width ≡ right.now.width }
+    requires known_left { AreKnown dict left.now }
+    requires known_right { AreKnown dict right.now }
+    requires how { IsRunnable how.now }
+    ensures evaluated { IfOk result (λ r. IsEvaluated dict left.now.width
+        (join term_eq (solutions_of dict left.now) (solutions_of dict right.now)) r.0 r.1) }
+{
+    let _distinct = dict.len();
+    let made = row_join::join(rt, alloc, state, left, right, how, gate)?;
+    Ok((made, dict))
+}
+
+/// LeftJoin: the merges of compatible pairs of which the condition is true, and each left row that
+/// has none.
+///
+/// # Errors
+/// - `WorkerRefused`: the start of a worker was refused.
+/// - `Memory`: a growth was refused.
+///
+/// A refusal drops the dictionary.
+pub fn left_join<R: Threads + Wait, G: Gate + Sync>(
+    rt: &R,
+    alloc: Global,
+    state: RandomState,
+    dict: Dict,
+    left: &Rows,
+    right: &Rows,
+    condition: &Expr,
+    how: &How,
+    gate: &G,
+) -> Result<(Rows, Dict), EvalFault>
+    requires same_width { left.now.width ≡ right.now.width }
+    requires known_left { AreKnown dict left.now }
+    requires known_right { AreKnown dict right.now }
+    requires how { IsRunnable how.now }
+    ensures evaluated { IfOk result (λ r. IsEvaluated dict left.now.width
+        (left_join term_eq (holds (expression_of condition.now))
+        (solutions_of dict left.now) (solutions_of dict right.now)) r.0 r.1) }
+{
+    let _distinct = dict.len();
+    let made = {
+        let test = Condition {
+            dict: &dict,
+            condition,
+        };
+        row_join::left_join(rt, alloc, state, left, right, &test, how, gate)?
+    };
+    Ok((made, dict))
+}
+
+/// Minus: each left row with which every right row is incompatible or shares no bound variable.
+///
+/// # Errors
+/// - `WorkerRefused`: the start of a worker was refused.
+/// - `Memory`: a growth was refused.
+///
+/// A refusal drops the dictionary.
+pub fn minus<R: Threads + Wait, G: Gate + Sync>(
+    rt: &R,
+    alloc: Global,
+    state: RandomState,
+    dict: Dict,
+    left: &Rows,
+    right: &Rows,
+    how: &How,
+    gate: &G,
+) -> Result<(Rows, Dict), EvalFault>
+    requires same_width { left.now.width ≡ right.now.width }
+    requires known_left { AreKnown dict left.now }
+    requires known_right { AreKnown dict right.now }
+    requires how { IsRunnable how.now }
+    ensures evaluated { IfOk result (λ r. IsEvaluated dict left.now.width
+        (minus term_eq (solutions_of dict left.now) (solutions_of dict right.now)) r.0 r.1) }
+{
+    let _distinct = dict.len();
+    let made = row_join::minus(rt, alloc, state, left, right, how, gate)?;
+    Ok((made, dict))
+}
+
+/// The condition of a left join, and the dictionary that the rows are read through.
+#[derive(Drop)]
+struct Condition<'a> {
+    dict: &'a Dict,
+    condition: &'a Expr,
+}
+
+impl<'a> RowTest for Condition<'a> {
+    ghost use Rattle.std.specs.Prelude.{length, nat_lt};
+    ghost use Rattle.algebra_model.specs.Expression.{holds};
+    ghost use Rattle.algebra_model.specs.Reading.{read_row};
+    ghost use Rattle.dict_core.specs.Dict.{term_at};
+    ghost use Rattle.sparql_algebra.specs.ExpressionOf.{expression_of};
+
+    ghost knows = { λ t n. nat_lt n (length t.dict.now) };
+
+    ghost keeps = { λ t μ. holds (expression_of t.condition.now) (read_row (term_at t.dict.now) μ) };
+
+    fn keeps(&self, alloc: Global, row: &[Option<u64>]) -> Result<bool, AllocError> {
+        let row = ReadRow {
+            dict: self.dict,
+            row,
+        };
+        test(alloc, self.condition, &row)
+    }
+}
