@@ -1,0 +1,6 @@
+pub mod FrontSteps
+pub mod ElementSteps
+pub mod TripleSteps
+pub mod ValueSteps
+pub mod GroupSteps
+pub mod QuerySteps

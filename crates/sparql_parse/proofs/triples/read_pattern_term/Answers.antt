@@ -1,0 +1,41 @@
+use Rattle.std.proofs.Common.{refl}
+use Rattle.std.proofs.lemmas.Result.{err_from_is_err_and}
+use Rattle.sparql_lexer.specs.Terminal.{terminals}
+use Rattle.sparql_grammar.specs.Class.{variable, blank}
+use Rattle.sparql_grammar.specs.Symbol as the
+use Rattle.sparql_expression.proofs.Steps.{begin, last_reads, last_fails, done, here, left, took_branch, skipped}
+use Rattle.sparql_parse.proofs.FrontSteps.{some_taken, none_untaken}
+use Rattle.sparql_parse.proofs.triples.read_pattern_term.Goals as goal
+
+pub returns-in-Some-clause-reads : goal.returns-in-Some-clause-reads
+returns-in-Some-clause-reads c =
+    let l = begin c.args.names.now the.pattern_term (terminals c.args.tokens.now) in
+    done (took_branch l (left here) (some_taken {c = variable} (c.in_ok-name.ensures.accepts c.args.names.now) c.in-Some.is)) refl
+
+pub returns-in-Some-2-clause-reads : goal.returns-in-Some-2-clause-reads
+returns-in-Some-2-clause-reads c =
+    let l = begin c.args.names.now the.pattern_term (terminals c.args.tokens.now) in
+    let m = skipped l (none_untaken {c = variable} (c.in_ok-name.ensures.accepts c.args.names.now) c.in_default.is) in
+    done (took_branch m (left here) (some_taken {c = blank} (c.in_ok-label.ensures.accepts c.args.names.now) c.in-Some-2.is)) refl
+
+pub returns-in-Some-accept_anonymous-clause-reads : goal.returns-in-Some-accept_anonymous-clause-reads
+returns-in-Some-accept_anonymous-clause-reads c =
+    let l = begin c.args.names.now the.pattern_term (terminals c.args.tokens.now) in
+    let m = skipped l (none_untaken {c = variable} (c.in_ok-name.ensures.accepts c.args.names.now) c.in_default.is) in
+    let n = skipped m (none_untaken {c = blank} (c.in_ok-label.ensures.accepts c.args.names.now) c.in_default-2.is) in
+    done (took_branch n (left here) (c.in-Some-accept_anonymous.ensures.accepts c.args.names.now)) refl
+
+pub returns-in_err-term-clause-reads : goal.returns-in_err-term-clause-reads
+returns-in_err-term-clause-reads c =
+    let l = begin c.args.names.now the.pattern_term (terminals c.args.tokens.now) in
+    let m = skipped l (none_untaken {c = variable} (c.in_ok-name.ensures.accepts c.args.names.now) c.in_default.is) in
+    let n = skipped m (none_untaken {c = blank} (c.in_ok-label.ensures.accepts c.args.names.now) c.in_default-2.is) in
+    let p = err_from_is_err_and c.from_residual-in_err-term.result c.from_residual-in_err-term.ensures.1 in
+    rw (p.1, p.2) (last_fails (skipped n (c.in_default-accept_anonymous.ensures.accepts c.args.names.now)) c.in_err-term.ensures.reads)
+
+pub returns-clause-reads : goal.returns-clause-reads
+returns-clause-reads c =
+    let l = begin c.args.names.now the.pattern_term (terminals c.args.tokens.now) in
+    let m = skipped l (none_untaken {c = variable} (c.in_ok-name.ensures.accepts c.args.names.now) c.in_default.is) in
+    let n = skipped m (none_untaken {c = blank} (c.in_ok-label.ensures.accepts c.args.names.now) c.in_default-2.is) in
+    last_reads (skipped n (c.in_default-accept_anonymous.ensures.accepts c.args.names.now)) c.in_ok-term.ensures.reads refl

@@ -1,0 +1,42 @@
+use Rattle.std.proofs.Common.{refl}
+use Rattle.std.proofs.lemmas.Result.{err_from_is_err_and}
+use Rattle.sparql_lexer.specs.Terminal.{terminals}
+use Rattle.sparql_grammar.specs.Symbol as the
+use Rattle.sparql_expression.proofs.Steps.{begin, then_read, part_fails, enter, done, here, left, took_branch, skipped}
+use Rattle.sparql_parse.proofs.TripleSteps.{behind_property, whole, shorter_twice, no_longer}
+use Rattle.sparql_parse.proofs.triples.read_same_subject.Goals as goal
+
+pub returns-in_err-subject-clause-reads : goal.returns-in_err-subject-clause-reads
+returns-in_err-subject-clause-reads c =
+    let p = err_from_is_err_and c.from_residual.result c.from_residual.ensures.1 in
+    rw (p.1, p.2) (part_fails (begin c.args.names.now (the.same_subject c.args.triples.now.items) (terminals c.args.tokens.now)) c.in_err-subject.ensures.reads)
+
+pub returns-in_err-rest-clause-reads : goal.returns-in_err-rest-clause-reads
+returns-in_err-rest-clause-reads c =
+    let l = then_read (begin c.args.names.now (the.same_subject c.args.triples.now.items) (terminals c.args.tokens.now)) c.in_ok-subject.ensures.reads in
+    let p = err_from_is_err_and c.from_residual-in_err-rest.result c.from_residual-in_err-rest.ensures.1 in
+    rw (p.1, p.2) (part_fails l c.in_err-rest.ensures.reads)
+
+pub properties-init : goal.properties-init
+properties-init c =
+    let l = then_read (begin c.args.names.now (the.same_subject c.args.triples.now.items) (terminals c.args.tokens.now)) c.in_ok-subject.ensures.reads in
+    record { left = enter (then_read l c.in_ok-rest.ensures.reads); shorter = shorter_twice c.in_ok-rest.ensures.shorter c.in_ok-subject.ensures.shorter }
+
+pub returns-in_err-rest-2-clause-reads : goal.returns-in_err-rest-2-clause-reads
+returns-in_err-rest-2-clause-reads c =
+    let l = c.properties.invariant.left in
+    let p = err_from_is_err_and c.from_residual-in_err-rest-2.result c.from_residual-in_err-rest-2.ensures.1 in
+    rw (p.1, p.2) (whole (enter (took_branch l (left here) (c.in-Some.ensures.accepts c.args.names.now))) c.in_err-rest-2.ensures.reads)
+
+pub properties-preserved : goal.properties-preserved
+properties-preserved c =
+    let l = c.properties.invariant.left in
+    record {
+      left = behind_property (enter (took_branch l (left here) (c.in-Some.ensures.accepts c.args.names.now))) c.in_ok-rest-2.ensures.reads;
+      shorter = no_longer c.in_ok-rest-2.ensures.shorter c.in-Some.ensures.shorter c.properties.invariant.shorter;
+    }
+
+pub returns-clause-reads : goal.returns-clause-reads
+returns-clause-reads c =
+    let l = c.properties.invariant.left in
+    done (skipped l (c.in_default.ensures.accepts c.args.names.now)) refl

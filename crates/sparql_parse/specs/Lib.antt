@@ -1,0 +1,4 @@
+pub mod Seen
+pub mod Objects
+pub mod Groups
+pub mod Queries

@@ -1,0 +1,51 @@
+-- What the reader of a query answers.
+use Rattle.std.specs.Prelude.{ℕ, List, [], Result, Ok, Err}
+use Rattle.std.specs.Borrow.{Bor}
+use Rattle.sparql_lexer.specs.declared.token.Token.{Token}
+use Rattle.sparql_lexer.specs.Terminal.{Terminal, terminals}
+use Rattle.sparql_tree.specs.GroupTree.{group_of}
+use Rattle.sparql_tree.specs.QueryTree.{selection_of}
+use Rattle.sparql_grammar.specs.Values.{Names}
+use Rattle.sparql_grammar.specs.Symbol.{Select}
+use Rattle.sparql_grammar.specs.Symbol as the
+use Rattle.sparql_grammar.specs.Productions.{right_side}
+use Rattle.sparql_grammar.specs.Matches.{Matches}
+use Rattle.sparql_expression.specs.declared.fault.ReadFault.{ReadFault}
+use Rattle.sparql_expression.specs.declared.fault.ReadFault.TheVariants.{Syntax, Memory}
+use Rattle.sparql_expression.specs.Reading.{Answer, Reads}
+use Rattle.sparql_expression.specs.Front.{Taken, Untaken}
+use Rattle.sparql_grammar.specs.Class.{count}
+use Rattle.sparql_parse.specs.declared.select.Select as code
+
+-- the query that the code holds
+abbrev pub select_of : code.Select → Select
+select_of q = record {
+  distinct = q.distinct;
+  selection = selection_of q.selection;
+  group = group_of q.group.items;
+  limit = q.limit;
+  offset = q.offset;
+}
+
+-- the terminals are the query, to the last
+abbrev pub IsQuery : (names : Names) → List Terminal → Select → Type 0
+IsQuery names ts q = Matches names the.query (right_side the.query) ts q []
+
+-- A query is answered where the terminals are it, and Syntax where they are none. Memory says nothing of them.
+abbrev pub IsParsed : (names : Names) → List Terminal → Result code.Select ReadFault → Type 0
+IsParsed names ts (Ok q) = IsQuery names ts (select_of q)
+IsParsed names ts (Err Syntax) = (q : Select) → IsQuery names ts q → ⊥
+IsParsed names ts (Err Memory) = Unit {0}
+
+-- What is answered for the terminals behind a declaration is answered for it and them.
+abbrev pub IsDeclaration : (names : Names) (before after : List Terminal) → Type 0
+IsDeclaration names before after = (answer : Answer the.query) → Reads names the.query after answer → Reads names the.declared before answer
+
+abbrev pub ReadsDeclaration : (names : Names) → List Terminal → Result (Bor (List Token)) ReadFault → Type 0
+ReadsDeclaration names before (Ok after) = IsDeclaration names before (terminals after.now)
+ReadsDeclaration names before (Err e) = Reads names the.declared before (Err e)
+
+abbrev pub ReadsCount : (names : Names) → List Terminal → Result (ℕ × Bor (List Token)) ReadFault → Type 0
+ReadsCount names before (Ok p) = Taken names count before p.0 (terminals p.1.now)
+ReadsCount names before (Err Syntax) = Untaken names count before
+ReadsCount names before (Err Memory) = Unit {0}

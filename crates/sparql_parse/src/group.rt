@@ -1,0 +1,217 @@
+//! Reads groups of patterns (SPARQL 1.1 Query Language, section 19.8, GroupGraphPattern).
+
+ghost use Rattle.std.specs.Prelude.{◌≡◌, ◌<◌, ◌≤◌, IfOk, length};
+ghost use Rattle.sparql_lexer.specs.Terminal.{terminals};
+ghost use Rattle.sparql_tree.specs.ExpressionTree.{expression_of};
+ghost use Rattle.sparql_tree.specs.GroupTree.{element_of, group_of};
+ghost use Rattle.sparql_grammar.specs.Symbol as the;
+ghost use Rattle.sparql_expression.specs.Reading.{Reads, seen};
+ghost use Rattle.sparql_parse.specs.Groups.{IsBehindDot, ReadsRun};
+
+use crate::triples::{read_triples, starts_place};
+use crate::values::read_data_block;
+use sparql_expression::{
+    ReadFault, accept, accept_name, accept_variable, accept_word, read_bracket, read_call,
+    read_disjunction,
+};
+use sparql_grammar::Declaration;
+use sparql_lexer::{Keyword, Sign, Token};
+use sparql_tree::{Element, Expression, GraphName};
+use std::alloc::Global;
+
+/// Reads a group, and answers what stands behind it too.
+#[cycle(group)]
+pub fn read_group<'t, 'a>(
+    alloc: Global,
+    names: &[Declaration],
+    tokens: &'t [Token<'a>],
+) -> Result<(Vec<Element>, &'t [Token<'a>]), ReadFault>
+    ensures reads { Reads names.now the.group (terminals tokens.now) (seen (λ v. group_of v.items) result) }
+    ensures shorter { IfOk result (λ p. length p.1.now < length tokens.now) }
+{
+    let Some(inside) = accept(tokens, Sign::OpenBrace) else {
+        return Err(ReadFault::Syntax);
+    };
+    let mut elements = Vec::new(alloc);
+    let mut rest = read_run(alloc, names, &mut elements, inside)?;
+    'elements: loop {
+        if let Some(behind) = accept(rest, Sign::CloseBrace) {
+            return Ok((elements, behind));
+        }
+        let (element, behind) = read_other(alloc, names, rest)?;
+        elements.push(element)?;
+        rest = read_run(alloc, names, &mut elements, skip_dot(behind))?;
+    }
+}
+
+/// Reads the triples in front, where some stand there, and adds them to the elements.
+fn read_run<'t, 'a>(
+    alloc: Global,
+    names: &[Declaration],
+    elements: &mut Vec<Element>,
+    tokens: &'t [Token<'a>],
+) -> Result<&'t [Token<'a>], ReadFault>
+    ensures reads { ReadsRun names.now (group_of elements.old.items) (group_of elements.new.items) (terminals tokens.now) result }
+    ensures shorter { IfOk result (λ rest. length rest.now ≤ length tokens.now) }
+{
+    if !starts_place(tokens) {
+        return Ok(tokens);
+    }
+    let mut triples = Vec::new(alloc);
+    let rest = read_triples(alloc, names, &mut triples, tokens)?;
+    elements.push(Element::Triples(triples))?;
+    Ok(rest)
+}
+
+/// What stands behind the dot in front, or all where none stands there.
+fn skip_dot<'t, 'a>(tokens: &'t [Token<'a>]) -> &'t [Token<'a>]
+    ensures reads { IsBehindDot (terminals tokens.now) (terminals result.now) }
+    ensures shorter { length result.now ≤ length tokens.now }
+{
+    let Some(after) = accept(tokens, Sign::Dot) else {
+        return tokens;
+    };
+    after
+}
+
+/// Reads an element other than triples.
+#[cycle(group)]
+fn read_other<'t, 'a>(
+    alloc: Global,
+    names: &[Declaration],
+    tokens: &'t [Token<'a>],
+) -> Result<(Element, &'t [Token<'a>]), ReadFault>
+    ensures reads { Reads names.now the.other (terminals tokens.now) (seen element_of result) }
+    ensures shorter { IfOk result (λ p. length p.1.now < length tokens.now) }
+{
+    if let Some(after) = accept_word(tokens, Keyword::Optional) {
+        let (inner, behind) = read_group(alloc, names, after)?;
+        return Ok((Element::Optional(inner), behind));
+    }
+    if let Some(after) = accept_word(tokens, Keyword::Minus) {
+        let (inner, behind) = read_group(alloc, names, after)?;
+        return Ok((Element::Minus(inner), behind));
+    }
+    if let Some(after) = accept_word(tokens, Keyword::Graph) {
+        return read_named_graph(alloc, names, after);
+    }
+    if let Some(_inside) = accept(tokens, Sign::OpenBrace) {
+        return read_unions(alloc, names, tokens);
+    }
+    read_simple(alloc, names, tokens)
+}
+
+/// Reads groups with UNION between them.
+#[cycle(group)]
+fn read_unions<'t, 'a>(
+    alloc: Global,
+    names: &[Declaration],
+    tokens: &'t [Token<'a>],
+) -> Result<(Element, &'t [Token<'a>]), ReadFault>
+    ensures reads { Reads names.now the.unions (terminals tokens.now) (seen element_of result) }
+    ensures shorter { IfOk result (λ p. length p.1.now < length tokens.now) }
+{
+    let (first, mut rest) = read_group(alloc, names, tokens)?;
+    let mut left = Element::Group(first);
+    'groups: while let Some(after) = accept_word(rest, Keyword::Union) {
+        let (right, behind) = read_group(alloc, names, after)?;
+        left = Element::Union(Box::new(alloc, left)?, right);
+        rest = behind;
+    }
+    Ok((left, rest))
+}
+
+/// Reads a name and the group of its graph.
+#[cycle(group)]
+fn read_named_graph<'t, 'a>(
+    alloc: Global,
+    names: &[Declaration],
+    tokens: &'t [Token<'a>],
+) -> Result<(Element, &'t [Token<'a>]), ReadFault>
+    ensures reads { Reads names.now the.named_graph (terminals tokens.now) (seen element_of result) }
+    ensures shorter { IfOk result (λ p. length p.1.now < length tokens.now) }
+{
+    let (name, rest) = read_graph_name(alloc, names, tokens)?;
+    let (inner, behind) = read_group(alloc, names, rest)?;
+    Ok((Element::Graph(name, inner), behind))
+}
+
+/// Reads a variable or an IRI.
+fn read_graph_name<'t, 'a>(
+    alloc: Global,
+    names: &[Declaration],
+    tokens: &'t [Token<'a>],
+) -> Result<(GraphName, &'t [Token<'a>]), ReadFault>
+    ensures reads { Reads names.now the.graph_name (terminals tokens.now) (seen (λ v. v) result) }
+    ensures shorter { IfOk result (λ p. length p.1.now < length tokens.now) }
+{
+    if let Some((name, after)) = accept_variable(alloc, tokens)? {
+        return Ok((GraphName::Variable(name), after));
+    }
+    let Some((iri, after)) = accept_name(alloc, names, tokens)? else {
+        return Err(ReadFault::Syntax);
+    };
+    Ok((GraphName::Iri(iri), after))
+}
+
+/// Reads FILTER, BIND or VALUES, and what belongs to it.
+fn read_simple<'t, 'a>(
+    alloc: Global,
+    names: &[Declaration],
+    tokens: &'t [Token<'a>],
+) -> Result<(Element, &'t [Token<'a>]), ReadFault>
+    ensures reads { Reads names.now the.simple (terminals tokens.now) (seen element_of result) }
+    ensures shorter { IfOk result (λ p. length p.1.now < length tokens.now) }
+{
+    if let Some(after) = accept_word(tokens, Keyword::Filter) {
+        let (condition, behind) = read_condition(alloc, names, after)?;
+        return Ok((Element::Filter(condition), behind));
+    }
+    if let Some(after) = accept_word(tokens, Keyword::Bind) {
+        return read_binding(alloc, names, after);
+    }
+    let Some(after) = accept_word(tokens, Keyword::Values) else {
+        return Err(ReadFault::Syntax);
+    };
+    read_data_block(alloc, names, after)
+}
+
+/// Reads an expression in parentheses, or a call.
+fn read_condition<'t, 'a>(
+    alloc: Global,
+    names: &[Declaration],
+    tokens: &'t [Token<'a>],
+) -> Result<(Expression, &'t [Token<'a>]), ReadFault>
+    ensures reads { Reads names.now the.condition (terminals tokens.now) (seen expression_of result) }
+    ensures shorter { IfOk result (λ p. length p.1.now < length tokens.now) }
+{
+    if let Some(_inside) = accept(tokens, Sign::OpenParenthesis) {
+        return read_bracket(alloc, names, tokens);
+    }
+    read_call(alloc, names, tokens)
+}
+
+/// Reads what stands behind BIND.
+fn read_binding<'t, 'a>(
+    alloc: Global,
+    names: &[Declaration],
+    tokens: &'t [Token<'a>],
+) -> Result<(Element, &'t [Token<'a>]), ReadFault>
+    ensures reads { Reads names.now the.binding (terminals tokens.now) (seen element_of result) }
+    ensures shorter { IfOk result (λ p. length p.1.now < length tokens.now) }
+{
+    let Some(inside) = accept(tokens, Sign::OpenParenthesis) else {
+        return Err(ReadFault::Syntax);
+    };
+    let (value, rest) = read_disjunction(alloc, names, inside)?;
+    let Some(after) = accept_word(rest, Keyword::As) else {
+        return Err(ReadFault::Syntax);
+    };
+    let Some((variable, behind)) = accept_variable(alloc, after)? else {
+        return Err(ReadFault::Syntax);
+    };
+    let Some(end) = accept(behind, Sign::CloseParenthesis) else {
+        return Err(ReadFault::Syntax);
+    };
+    Ok((Element::Bind(value, variable), end))
+}

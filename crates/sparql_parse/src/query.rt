@@ -1,0 +1,189 @@
+//! Reads a query (SPARQL 1.1 Query Language, section 19.8, QueryUnit).
+
+ghost use Rattle.std.specs.Prelude.{◌≡◌, ◌<◌, ◌≤◌, List, [], IfOk, length, Some};
+ghost use Rattle.sparql_lexer.specs.Terminal.{terminals};
+ghost use Rattle.sparql_grammar.specs.Values.{Names};
+ghost use Rattle.sparql_grammar.specs.Symbol as the;
+ghost use Rattle.sparql_expression.specs.Reading.{Reads, seen};
+ghost use Rattle.sparql_tree.specs.QueryTree.{selection_of};
+ghost use Rattle.sparql_parse.specs.Queries.{IsParsed, ReadsCount, ReadsDeclaration, select_of};
+
+use crate::group::read_group;
+use crate::select::Select;
+use sparql_expression::{
+    ReadFault, accept, accept_count, accept_namespace, accept_reference, accept_variable,
+    accept_word,
+};
+use sparql_grammar::Declaration;
+use sparql_lexer::{Keyword, Sign, Token};
+use sparql_tree::Selection;
+use std::alloc::Global;
+
+/// Reads a query from its terminals, names being what its prefixes stand for.
+///
+/// # Errors
+/// `Syntax`: the tokens are no query. `Memory`: a growth was refused, which says nothing of them.
+pub fn parse(alloc: Global, names: &[Declaration], tokens: &[Token]) -> Result<Select, ReadFault>
+    ensures query { IsParsed names.now (terminals tokens.now) result }
+{
+    let (query, rest) = read_query(alloc, names, tokens)?;
+    if rest.is_empty() {
+        Ok(query)
+    } else {
+        Err(ReadFault::Syntax)
+    }
+}
+
+/// Reads a query with its declarations. What they declare, the names say already.
+fn read_query<'t, 'a>(
+    alloc: Global,
+    names: &[Declaration],
+    tokens: &'t [Token<'a>],
+) -> Result<(Select, &'t [Token<'a>]), ReadFault>
+    ensures reads { Reads names.now the.query (terminals tokens.now) (seen select_of result) }
+{
+    let Some(first) = accept_word(tokens, Keyword::Prefix) else {
+        return read_select_query(alloc, names, tokens);
+    };
+    let mut rest = read_declaration(alloc, first)?;
+    'declarations: while let Some(after) = accept_word(rest, Keyword::Prefix) {
+        rest = read_declaration(alloc, after)?;
+    }
+    read_select_query(alloc, names, rest)
+}
+
+/// Reads a declaration behind PREFIX.
+fn read_declaration<'t, 'a>(
+    alloc: Global,
+    tokens: &'t [Token<'a>],
+) -> Result<&'t [Token<'a>], ReadFault>
+    ensures reads { (names : Names) → ReadsDeclaration names (terminals tokens.now) result }
+    ensures shorter { IfOk result (λ rest. length rest.now < length tokens.now) }
+{
+    let Some(after) = accept_namespace(tokens) else {
+        return Err(ReadFault::Syntax);
+    };
+    let Some((_iri, rest)) = accept_reference(alloc, after)? else {
+        return Err(ReadFault::Syntax);
+    };
+    Ok(rest)
+}
+
+/// Reads a query behind its declarations.
+fn read_select_query<'t, 'a>(
+    alloc: Global,
+    names: &[Declaration],
+    tokens: &'t [Token<'a>],
+) -> Result<(Select, &'t [Token<'a>]), ReadFault>
+    ensures reads { Reads names.now the.select_query (terminals tokens.now) (seen select_of result) }
+{
+    let Some(after) = accept_word(tokens, Keyword::Select) else {
+        return Err(ReadFault::Syntax);
+    };
+    let Some(behind) = accept_word(after, Keyword::Distinct) else {
+        return read_selected(alloc, names, false, after);
+    };
+    read_selected(alloc, names, true, behind)
+}
+
+/// Reads a query behind SELECT and DISTINCT.
+fn read_selected<'t, 'a>(
+    alloc: Global,
+    names: &[Declaration],
+    distinct: bool,
+    tokens: &'t [Token<'a>],
+) -> Result<(Select, &'t [Token<'a>]), ReadFault>
+    ensures reads { Reads names.now (the.select distinct) (terminals tokens.now) (seen select_of result) }
+{
+    if let Some(after) = accept(tokens, Sign::Star) {
+        return read_pattern(alloc, names, distinct, Selection::All, after);
+    }
+    let Some((first, mut rest)) = accept_variable(alloc, tokens)? else {
+        return Err(ReadFault::Syntax);
+    };
+    let mut variables = vec![in alloc; first]?;
+    'variables: while let Some((variable, behind)) = accept_variable(alloc, rest)? {
+        variables.push(variable)?;
+        rest = behind;
+    }
+    read_pattern(
+        alloc,
+        names,
+        distinct,
+        Selection::Variables(variables),
+        rest,
+    )
+}
+
+/// Reads a query behind its selection.
+fn read_pattern<'t, 'a>(
+    alloc: Global,
+    names: &[Declaration],
+    distinct: bool,
+    selection: Selection,
+    tokens: &'t [Token<'a>],
+) -> Result<(Select, &'t [Token<'a>]), ReadFault>
+    ensures reads { Reads names.now (the.pattern distinct (selection_of selection)) (terminals tokens.now) (seen select_of result) }
+{
+    let Some(after) = accept_word(tokens, Keyword::Where) else {
+        return read_pattern_group(alloc, names, distinct, selection, tokens);
+    };
+    read_pattern_group(alloc, names, distinct, selection, after)
+}
+
+/// Reads a query behind WHERE.
+fn read_pattern_group<'t, 'a>(
+    alloc: Global,
+    names: &[Declaration],
+    distinct: bool,
+    selection: Selection,
+    tokens: &'t [Token<'a>],
+) -> Result<(Select, &'t [Token<'a>]), ReadFault>
+    ensures reads { Reads names.now (the.pattern_group distinct (selection_of selection)) (terminals tokens.now) (seen select_of result) }
+{
+    let (group, behind) = read_group(alloc, names, tokens)?;
+    let ((limit, offset), rest) = read_modifiers(behind)?;
+    let query = Select {
+        distinct,
+        selection,
+        group,
+        limit,
+        offset,
+    };
+    Ok((query, rest))
+}
+
+/// Reads LIMIT and OFFSET, in either order.
+fn read_modifiers<'t, 'a>(
+    tokens: &'t [Token<'a>],
+) -> Result<((Option<u64>, Option<u64>), &'t [Token<'a>]), ReadFault>
+    ensures reads { (names : Names) → Reads names the.modifiers (terminals tokens.now) (seen (λ v. v) result) }
+{
+    if let Some(after) = accept_word(tokens, Keyword::Limit) {
+        let (limit, behind) = read_count(after)?;
+        let Some(after_offset) = accept_word(behind, Keyword::Offset) else {
+            return Ok(((Some(limit), None), behind));
+        };
+        let (offset, rest) = read_count(after_offset)?;
+        return Ok(((Some(limit), Some(offset)), rest));
+    }
+    if let Some(after) = accept_word(tokens, Keyword::Offset) {
+        let (offset, behind) = read_count(after)?;
+        let Some(after_limit) = accept_word(behind, Keyword::Limit) else {
+            return Ok(((None, Some(offset)), behind));
+        };
+        let (limit, rest) = read_count(after_limit)?;
+        return Ok(((Some(limit), Some(offset)), rest));
+    }
+    Ok(((None, None), tokens))
+}
+
+/// Reads a count.
+fn read_count<'t, 'a>(tokens: &'t [Token<'a>]) -> Result<(u64, &'t [Token<'a>]), ReadFault>
+    ensures reads { (names : Names) → ReadsCount names (terminals tokens.now) result }
+{
+    let Some((count, after)) = accept_count(tokens) else {
+        return Err(ReadFault::Syntax);
+    };
+    Ok((count, after))
+}

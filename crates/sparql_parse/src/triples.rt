@@ -1,0 +1,224 @@
+//! Reads triples (SPARQL 1.1 Query Language, section 19.8, from TriplesTemplate on).
+
+ghost use Rattle.std.specs.Prelude.{◌≡◌, ◌<◌, ◌≤◌, IfOk, length};
+ghost use Rattle.sparql_lexer.specs.Terminal.{terminals};
+ghost use Rattle.sparql_grammar.specs.Symbol as the;
+ghost use Rattle.sparql_grammar.specs.Follow.{heads, is_place, is_verb};
+ghost use Rattle.sparql_expression.specs.Reading.{Reads, seen};
+ghost use Rattle.sparql_parse.specs.Seen.{seen_out};
+ghost use Rattle.sparql_parse.specs.Objects.{ReadsObject, ReadsProperty};
+
+use rdf_core::vocabulary::RDF_TYPE;
+use rdf_core::{Term, Text};
+use sparql_expression::{
+    ReadFault, accept, accept_anonymous, accept_blank, accept_name, accept_variable, accept_word,
+    read_term,
+};
+use sparql_grammar::Declaration;
+use sparql_lexer::{Keyword, Kind, Sign, Token};
+use sparql_tree::{PatternTerm, Triple};
+use std::alloc::{AllocError, Global};
+
+/// An equal place, with texts of its own.
+fn copy_place(alloc: Global, place: &PatternTerm) -> Result<PatternTerm, AllocError>
+    ensures equal { IfOk result (λ copy. copy ≡ place.now) }
+{
+    match place {
+        PatternTerm::Variable(name) => Ok(PatternTerm::Variable(name.copy(alloc)?)),
+        PatternTerm::Blank(label) => Ok(PatternTerm::Blank(label.copy(alloc)?)),
+        PatternTerm::Anonymous => Ok(PatternTerm::Anonymous),
+        PatternTerm::Term(term) => Ok(PatternTerm::Term(term.copy(alloc)?)),
+    }
+}
+
+/// Whether what may stand at a place of a triple begins with the first of the tokens.
+pub fn starts_place(tokens: &[Token]) -> bool
+    ensures value { result ≡ heads is_place (terminals tokens.now) }
+{
+    let Some(first) = tokens.first() else {
+        return false;
+    };
+    match first.kind {
+        Kind::IriRef | Kind::Variable | Kind::PrefixedNamespace | Kind::PrefixedName => true,
+        Kind::BlankLabel | Kind::Anonymous => true,
+        Kind::Integer | Kind::Decimal | Kind::Double => true,
+        Kind::SignedInteger | Kind::SignedDecimal | Kind::SignedDouble => true,
+        Kind::ShortString | Kind::LongString => true,
+        Kind::Keyword(word) => match word {
+            Keyword::True | Keyword::False => true,
+            _ => false,
+        },
+        _ => false,
+    }
+}
+
+/// Whether a verb begins with the first of the tokens.
+fn starts_verb(tokens: &[Token]) -> bool
+    ensures value { result ≡ heads is_verb (terminals tokens.now) }
+{
+    let Some(first) = tokens.first() else {
+        return false;
+    };
+    match first.kind {
+        Kind::IriRef | Kind::Variable | Kind::PrefixedNamespace | Kind::PrefixedName => true,
+        Kind::Keyword(word) => match word {
+            Keyword::A => true,
+            _ => false,
+        },
+        _ => false,
+    }
+}
+
+/// Reads a variable, a blank node or a term.
+fn read_pattern_term<'t, 'a>(
+    alloc: Global,
+    names: &[Declaration],
+    tokens: &'t [Token<'a>],
+) -> Result<(PatternTerm, &'t [Token<'a>]), ReadFault>
+    ensures reads { Reads names.now the.pattern_term (terminals tokens.now) (seen (λ v. v) result) }
+    ensures shorter { IfOk result (λ p. length p.1.now < length tokens.now) }
+{
+    if let Some((name, after)) = accept_variable(alloc, tokens)? {
+        return Ok((PatternTerm::Variable(name), after));
+    }
+    if let Some((label, after)) = accept_blank(alloc, tokens)? {
+        return Ok((PatternTerm::Blank(label), after));
+    }
+    if let Some(after) = accept_anonymous(tokens) {
+        return Ok((PatternTerm::Anonymous, after));
+    }
+    let (term, after) = read_term(alloc, names, tokens)?;
+    Ok((PatternTerm::Term(term), after))
+}
+
+/// Reads a variable, an IRI or `a`.
+fn read_verb<'t, 'a>(
+    alloc: Global,
+    names: &[Declaration],
+    tokens: &'t [Token<'a>],
+) -> Result<(PatternTerm, &'t [Token<'a>]), ReadFault>
+    ensures reads { Reads names.now the.verb (terminals tokens.now) (seen (λ v. v) result) }
+    ensures shorter { IfOk result (λ p. length p.1.now < length tokens.now) }
+{
+    if let Some((name, after)) = accept_variable(alloc, tokens)? {
+        return Ok((PatternTerm::Variable(name), after));
+    }
+    if let Some((iri, after)) = accept_name(alloc, names, tokens)? {
+        return Ok((PatternTerm::Term(Term::Iri(iri)), after));
+    }
+    let Some(after) = accept_word(tokens, Keyword::A) else {
+        return Err(ReadFault::Syntax);
+    };
+    let iri = Text::from_string(String::from_str(alloc, RDF_TYPE)?);
+    Ok((PatternTerm::Term(Term::Iri(iri)), after))
+}
+
+/// Reads the objects of one subject and verb, and adds their triples.
+fn read_objects<'t, 'a>(
+    alloc: Global,
+    names: &[Declaration],
+    subject: &PatternTerm,
+    verb: &PatternTerm,
+    triples: &mut Vec<Triple>,
+    tokens: &'t [Token<'a>],
+) -> Result<&'t [Token<'a>], ReadFault>
+    ensures reads { Reads names.now (the.objects subject.now verb.now triples.old.items) (terminals tokens.now) (seen_out triples.new.items result) }
+    ensures shorter { IfOk result (λ rest. length rest.now < length tokens.now) }
+{
+    let mut rest = read_object(alloc, names, subject, verb, triples, tokens)?;
+    'objects: while let Some(after) = accept(rest, Sign::Comma) {
+        rest = read_object(alloc, names, subject, verb, triples, after)?;
+    }
+    Ok(rest)
+}
+
+/// Reads one object, and adds the triple.
+fn read_object<'t, 'a>(
+    alloc: Global,
+    names: &[Declaration],
+    subject: &PatternTerm,
+    verb: &PatternTerm,
+    triples: &mut Vec<Triple>,
+    tokens: &'t [Token<'a>],
+) -> Result<&'t [Token<'a>], ReadFault>
+    ensures reads { ReadsObject names.now subject.now verb.now triples.old.items triples.new.items (terminals tokens.now) result }
+    ensures shorter { IfOk result (λ rest. length rest.now < length tokens.now) }
+{
+    let (object, rest) = read_pattern_term(alloc, names, tokens)?;
+    triples.push(Triple {
+        subject: copy_place(alloc, subject)?,
+        predicate: copy_place(alloc, verb)?,
+        object,
+    })?;
+    Ok(rest)
+}
+
+/// Reads a verb and its objects, and adds the triples of this subject.
+fn read_property<'t, 'a>(
+    alloc: Global,
+    names: &[Declaration],
+    subject: &PatternTerm,
+    triples: &mut Vec<Triple>,
+    tokens: &'t [Token<'a>],
+) -> Result<&'t [Token<'a>], ReadFault>
+    ensures reads { Reads names.now (the.property subject.now triples.old.items) (terminals tokens.now) (seen_out triples.new.items result) }
+    ensures shorter { IfOk result (λ rest. length rest.now < length tokens.now) }
+{
+    let (verb, rest) = read_verb(alloc, names, tokens)?;
+    read_objects(alloc, names, subject, &verb, triples, rest)
+}
+
+/// Reads what stands behind `;`: a verb and its objects, or nothing.
+fn read_other_property<'t, 'a>(
+    alloc: Global,
+    names: &[Declaration],
+    subject: &PatternTerm,
+    triples: &mut Vec<Triple>,
+    tokens: &'t [Token<'a>],
+) -> Result<&'t [Token<'a>], ReadFault>
+    ensures reads { ReadsProperty names.now subject.now triples.old.items triples.new.items (terminals tokens.now) result }
+    ensures shorter { IfOk result (λ rest. length rest.now ≤ length tokens.now) }
+{
+    if !starts_verb(tokens) {
+        return Ok(tokens);
+    }
+    read_property(alloc, names, subject, triples, tokens)
+}
+
+/// Reads the triples of one subject.
+fn read_same_subject<'t, 'a>(
+    alloc: Global,
+    names: &[Declaration],
+    triples: &mut Vec<Triple>,
+    tokens: &'t [Token<'a>],
+) -> Result<&'t [Token<'a>], ReadFault>
+    ensures reads { Reads names.now (the.same_subject triples.old.items) (terminals tokens.now) (seen_out triples.new.items result) }
+    ensures shorter { IfOk result (λ rest. length rest.now < length tokens.now) }
+{
+    let (subject, behind) = read_pattern_term(alloc, names, tokens)?;
+    let mut rest = read_property(alloc, names, &subject, triples, behind)?;
+    'properties: while let Some(after) = accept(rest, Sign::Semicolon) {
+        rest = read_other_property(alloc, names, &subject, triples, after)?;
+    }
+    Ok(rest)
+}
+
+/// Reads a run of triples, and adds them.
+pub fn read_triples<'t, 'a>(
+    alloc: Global,
+    names: &[Declaration],
+    triples: &mut Vec<Triple>,
+    tokens: &'t [Token<'a>],
+) -> Result<&'t [Token<'a>], ReadFault>
+    ensures reads { Reads names.now (the.triples triples.old.items) (terminals tokens.now) (seen_out triples.new.items result) }
+    ensures shorter { IfOk result (λ rest. length rest.now < length tokens.now) }
+{
+    let mut rest = read_same_subject(alloc, names, triples, tokens)?;
+    'subjects: while let Some(after) = accept(rest, Sign::Dot) {
+        if !starts_place(after) {
+            return Ok(after);
+        }
+        rest = read_same_subject(alloc, names, triples, after)?;
+    }
+    Ok(rest)
+}
