@@ -40,3 +40,6 @@ pub use labels::reuses_blank;
 pub use prologue::{declarations_of, has_undefined_prefix};
 pub use scope::breaks_bind_scope;
 pub use variables::mentioned;
+
+#[cfg(test)]
+mod tests;
