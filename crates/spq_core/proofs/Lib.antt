@@ -1,7 +1,9 @@
 pub mod AnsweringSteps
 pub mod ColumnLaws
+pub mod DocumentSteps
 pub mod FirstQueryLaws
 pub mod JsonLaws
+pub mod ListingSteps
 pub mod PatternSteps
 pub mod PrintedLaws
 pub mod RepeatSteps

@@ -6,6 +6,7 @@ pub mod Printed
 pub mod Results
 pub mod Outcome
 pub mod Faults
+pub mod Listing
 pub mod Output
 pub mod Run
 pub mod Report

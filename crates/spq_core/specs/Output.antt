@@ -1,15 +1,37 @@
 -- What a command must put out for a document.
-use Rattle.std.specs.Prelude.{ℕ, List, Result}
-use Rattle.spq_core.specs.Outcome.{Refusal, IsOutcome}
+use Rattle.std.specs.Prelude.{◌≡◌, ℕ, List, Result, Ok, Err}
+use Rattle.rdf_core.specs.QuadParts.{QuadParts}
+use Rattle.nquads_core.specs.Lines.{lines}
+use Rattle.nquads_core.specs.Pieces.{SpellAll}
+use Rattle.spq_core.specs.Listing.{counts_of, listing_of}
+use Rattle.spq_core.specs.Outcome.{Refusal, syntax, bad_line, IsBadLine, IsOutcome}
 use Rattle.spq_core.specs.declared.command.Command.{Command}
-use Rattle.spq_core.specs.declared.command.Command.TheVariants.{Select}
+use Rattle.spq_core.specs.declared.command.Command.TheVariants.{Select, Check, Terms}
 
 -- what a command asks for; how it is to be done is left out
 pub data Request : Type 0 where
   select : List ℕ → Request
+  check : Request
+  terms : Request
 
 abbrev pub request_of : Command → Request
-request_of (Select query) = select query
+request_of (Select query reading rows) = select query
+request_of (Check reading) = check
+request_of (Terms reading) = terms
+
+-- every line spells a quad or nothing, and this is the text of the quads
+pub record IsTextOf (text_of : List QuadParts → List ℕ) (doc text : List ℕ) : Type 0 where
+  pub quads : List QuadParts
+  pub spelled : SpellAll (lines doc) quads
+  pub printed : text ≡ text_of quads
+
+-- the text of the quads, or the first bad line
+abbrev pub IsListing : (List QuadParts → List ℕ) → List ℕ → Result (List ℕ) Refusal → Type 0
+IsListing text_of doc (Ok text) = IsTextOf text_of doc text
+IsListing text_of doc (Err syntax) = ⊥
+IsListing text_of doc (Err (bad_line n)) = IsBadLine doc n
 
 abbrev pub IsOutput : Request → List ℕ → Result (List ℕ) Refusal → Type 0
 IsOutput (select text) doc result = IsOutcome doc text result
+IsOutput check doc result = IsListing counts_of doc result
+IsOutput terms doc result = IsListing listing_of doc result

@@ -5,13 +5,16 @@ use Rattle.nquads_core.specs.Device.{Rises}
 use Rattle.nquads_core.specs.Transfer.{TookNone, WroteBeginning}
 use Rattle.nquads_core.specs.declared.device.DeviceFailed.{DeviceFailed}
 use Rattle.spq_core.specs.Faults.{IsQueryFaultOf}
-use Rattle.spq_core.specs.Outcome.{bad_line}
-use Rattle.spq_core.specs.Output.{Request, select, IsOutput}
+use Rattle.nquads_core.specs.Lines.{lines}
+use Rattle.dataset_load.specs.Store.{StoreView}
+use Rattle.dataset_load.specs.Loaded.{IsLoaded}
+use Rattle.spq_core.specs.Outcome.{bad_line, IsBadLine}
+use Rattle.spq_core.specs.Output.{Request, select, check, terms, IsOutput}
 use Rattle.spq_core.specs.declared.fault.Fault.{Fault}
 use Rattle.spq_core.specs.declared.fault.Fault.TheVariants as fault
 use Rattle.spq_core.specs.declared.fault.QueryFault.{QueryFault}
 use Rattle.spq_core.specs.declared.program.RunFault.{RunFault}
-use Rattle.spq_core.specs.declared.program.RunFault.TheVariants.{Query, BadLine, Memory, Read, Write, Line}
+use Rattle.spq_core.specs.declared.program.RunFault.TheVariants.{Query, BadLine, WorkerRefused, Memory, Read, Write, Line}
 
 abbrev pub run_fault_of : Fault → RunFault
 run_fault_of (fault.Query f) = Query f
@@ -41,12 +44,29 @@ pub record IsBadLineOf (request : Request) (left left' : Option (List ℕ)) (lin
 -- The command selects, and its query is refused so.
 abbrev pub IsQueryOf : Request → QueryFault → Type 0
 IsQueryOf (select text) f = IsQueryFaultOf text f
+IsQueryOf check f = ⊥
+IsQueryOf terms f = ⊥
+
+-- The reader was read to its end, and this is the dataset of what was read.
+pub record IsLoadedFrom (left left' : Option (List ℕ)) (store : StoreView) : Type 0 where
+  pub doc : List ℕ
+  pub consumed : Consumes left left' doc
+  pub at_end : IsAtEnd left'
+  pub loaded : IsLoaded (lines doc) store
+
+-- The reader was read to its end, and this line of what was read is the first bad one.
+pub record IsBadLineFrom (left left' : Option (List ℕ)) (line : ℕ) : Type 0 where
+  pub doc : List ℕ
+  pub consumed : Consumes left left' doc
+  pub at_end : IsAtEnd left'
+  pub bad : IsBadLine doc line
 
 -- ---- a fact for one fault, or for all but one
 
 abbrev pub IfQuery : (QueryFault → Type 0) → RunFault → Type 0
 IfQuery P (Query f) = P f
 IfQuery P (BadLine n) = ⊤
+IfQuery P WorkerRefused = ⊤
 IfQuery P Memory = ⊤
 IfQuery P Read = ⊤
 IfQuery P Write = ⊤
@@ -55,6 +75,7 @@ IfQuery P Line = ⊤
 abbrev pub IfBadLine : (ℕ → Type 0) → RunFault → Type 0
 IfBadLine P (Query f) = ⊤
 IfBadLine P (BadLine n) = P n
+IfBadLine P WorkerRefused = ⊤
 IfBadLine P Memory = ⊤
 IfBadLine P Read = ⊤
 IfBadLine P Write = ⊤
@@ -63,6 +84,7 @@ IfBadLine P Line = ⊤
 abbrev pub IfRead : Type 0 → RunFault → Type 0
 IfRead P (Query f) = ⊤
 IfRead P (BadLine n) = ⊤
+IfRead P WorkerRefused = ⊤
 IfRead P Memory = ⊤
 IfRead P Read = P
 IfRead P Write = ⊤
@@ -71,6 +93,7 @@ IfRead P Line = ⊤
 abbrev pub IfWrite : Type 0 → RunFault → Type 0
 IfWrite P (Query f) = ⊤
 IfWrite P (BadLine n) = ⊤
+IfWrite P WorkerRefused = ⊤
 IfWrite P Memory = ⊤
 IfWrite P Read = ⊤
 IfWrite P Write = P
@@ -79,6 +102,7 @@ IfWrite P Line = ⊤
 abbrev pub UnlessWrite : Type 0 → RunFault → Type 0
 UnlessWrite P (Query f) = P
 UnlessWrite P (BadLine n) = P
+UnlessWrite P WorkerRefused = P
 UnlessWrite P Memory = P
 UnlessWrite P Read = P
 UnlessWrite P Write = ⊤
@@ -87,6 +111,7 @@ UnlessWrite P Line = P
 abbrev pub IsNotLine : RunFault → Type 0
 IsNotLine (Query f) = ⊤
 IsNotLine (BadLine n) = ⊤
+IsNotLine WorkerRefused = ⊤
 IsNotLine Memory = ⊤
 IsNotLine Read = ⊤
 IsNotLine Write = ⊤
@@ -96,6 +121,7 @@ IsNotLine Line = ⊥
 abbrev pub IsOfReading : Type 0 → Type 0 → RunFault → Type 0
 IsOfReading P Q (Query f) = ⊥
 IsOfReading P Q (BadLine n) = ⊥
+IsOfReading P Q WorkerRefused = ⊥
 IsOfReading P Q Memory = Q
 IsOfReading P Q Read = P
 IsOfReading P Q Write = ⊥
@@ -115,7 +141,18 @@ WriterFailed gives fails fails' = Rises fails fails' ⊎ ((text : List ℕ) × T
 abbrev pub IsOfComposing : RunFault → Type 0
 IsOfComposing (Query f) = ⊤
 IsOfComposing (BadLine n) = ⊤
+IsOfComposing WorkerRefused = ⊤
 IsOfComposing Memory = ⊤
 IsOfComposing Read = ⊤
 IsOfComposing Write = ⊥
 IsOfComposing Line = ⊥
+
+-- reading and loading a document answers none of these
+abbrev pub IsOfDocument : RunFault → Type 0
+IsOfDocument (Query f) = ⊥
+IsOfDocument (BadLine n) = ⊤
+IsOfDocument WorkerRefused = ⊤
+IsOfDocument Memory = ⊤
+IsOfDocument Read = ⊤
+IsOfDocument Write = ⊥
+IsOfDocument Line = ⊥

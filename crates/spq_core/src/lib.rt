@@ -11,8 +11,9 @@
 //! RDF 1.1 N-Quads.
 //!
 //! To read in this order: `first_query` and `first_plan` (queries of one pattern), `store` and
-//! `pattern` (their solutions), `ordering`, `results` (JSON), `answering` (the outcome), `command`
-//! and `command_line`, `program` (`run`), `report` (lines and statuses of faults).
+//! `pattern` (their solutions), `ordering`, `results` (JSON), `answering` (the outcome), `listing`
+//! (what is told of a dataset), `command` and `command_line`, `program` (`run`), `report` (lines and
+//! statuses of faults).
 //!
 //! Example: the document `<http://e/a> <http://e/p> "x" .` and the query
 //! `SELECT ?o { <http://e/a> <http://e/p> ?o }` give
@@ -29,6 +30,7 @@ mod command_line;
 mod fault;
 mod first_plan;
 mod first_query;
+mod listing;
 mod ordering;
 mod pattern;
 mod program;
@@ -39,7 +41,7 @@ mod store;
 mod tests;
 
 pub use answering::answer;
-pub use command::Command;
+pub use command::{Command, Reading};
 pub use command_line::{CommandFault, read_command};
 pub use fault::{Fault, QueryFault};
 pub use ordering::sort_rows;

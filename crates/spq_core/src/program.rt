@@ -2,14 +2,20 @@
 ghost use Rattle.std.specs.Prelude.{◌≡◌, IfErr, IfOk, OnOk};
 ghost use Rattle.std.specs.Io.KnownBytes.{Consumes, IsAtEnd};
 ghost use Rattle.nquads_core.specs.Device.{Rises, Stays};
-ghost use Rattle.spq_core.specs.Output.{request_of, select};
-ghost use Rattle.spq_core.specs.Run.{IfBadLine, IfQuery, IfRead, IfWrite, IsBadLineOf, IsComposed, IsDone, IsNotLine, IsOfComposing, IsOfReading, IsQueryOf, IsWrittenInPart, UnlessWrite, WriterFailed};
+ghost use Rattle.spq_core.specs.Output.{check, request_of, select, terms};
+ghost use Rattle.spq_core.specs.Run.{IfBadLine, IfQuery, IfRead, IfWrite, IsBadLineFrom, IsBadLineOf, IsComposed, IsDone, IsLoadedFrom, IsNotLine, IsOfComposing, IsOfDocument, IsOfReading, IsQueryOf, IsWrittenInPart, UnlessWrite, WriterFailed};
 
 use crate::answering::{answer_query, judged};
-use crate::command::Command;
+use crate::command::{Command, Reading};
 use crate::fault::{Fault, QueryFault};
+use crate::listing::{counts_text, terms_text};
+use dataset_load::{LoadFault, Store, load_blocks, read_blocks};
 use nquads_core::{ReadFault, Sink, Source, read_to_end, write_all};
+use piece_pool::OpenGate;
 use std::alloc::Global;
+use std::random::RandomSource;
+use std::sync::Wait;
+use std::thread::Threads;
 
 /// Why the program did not do what it was told to.
 #[derive(Clone, Copy, Debug, Drop, PartialEq, Eq)]
@@ -18,6 +24,8 @@ pub enum RunFault {
     Query(QueryFault),
     /// The line of the document, counted from 1, is the first that spells nothing.
     BadLine(u128),
+    /// The start of a worker was refused. Those that were started have been joined.
+    WorkerRefused,
     /// A growth was refused.
     Memory,
     /// The reader failed.
@@ -83,8 +91,80 @@ fn selected<S: Source>(alloc: Global, query: &str, reader: &mut S) -> Result<Vec
     }
 }
 
+/// The dataset of the document that the reader has left. It is read in blocks, which are not joined.
+fn load_document<R: Threads + Wait + RandomSource, S: Source>(
+    rt: &R,
+    alloc: Global,
+    reading: Reading,
+    reader: &mut S,
+) -> Result<Store, RunFault>
+    ensures loaded { IfOk result (IsLoadedFrom (S.left reader.old) (S.left reader.new)) }
+    ensures bad_line { IfErr result
+        (IfBadLine (IsBadLineFrom (S.left reader.old) (S.left reader.new))) }
+    ensures count { OnOk result (Stays (S.failures reader.old) (S.failures reader.new)) }
+    ensures read { IfErr result (IfRead (Rises (S.failures reader.old) (S.failures reader.new))) }
+    ensures kind { IfErr result IsOfDocument }
+{
+    let blocks = match read_blocks(alloc, reading.piece, reader) {
+        Ok(blocks) => blocks,
+        Err(ReadFault::Read) => return Err(RunFault::Read),
+        Err(ReadFault::Memory) => return Err(RunFault::Memory),
+    };
+    match load_blocks(rt, alloc, blocks.as_slice(), reading.workers, &OpenGate) {
+        Ok(store) => Ok(store),
+        Err(LoadFault::BadLine(line)) => Err(RunFault::BadLine(line)),
+        Err(LoadFault::WorkerRefused) => Err(RunFault::WorkerRefused),
+        Err(LoadFault::Memory) => Err(RunFault::Memory),
+    }
+}
+
+/// How many quads, terms and graphs the document has that the reader has left.
+fn checked<R: Threads + Wait + RandomSource, S: Source>(
+    rt: &R,
+    alloc: Global,
+    reading: Reading,
+    reader: &mut S,
+) -> Result<Vec<u8>, RunFault>
+    ensures composed { IfOk result
+        (λ text. IsComposed check (S.left reader.old) (S.left reader.new) text.items) }
+    ensures bad_line { IfErr result
+        (IfBadLine (IsBadLineOf check (S.left reader.old) (S.left reader.new))) }
+    ensures count { OnOk result (Stays (S.failures reader.old) (S.failures reader.new)) }
+    ensures read { IfErr result (IfRead (Rises (S.failures reader.old) (S.failures reader.new))) }
+    ensures kind { IfErr result IsOfDocument }
+{
+    let store = load_document(rt, alloc, reading, reader)?;
+    match counts_text(alloc, &store) {
+        Ok(text) => Ok(text),
+        Err(_) => Err(RunFault::Memory),
+    }
+}
+
+/// The terms of the document that the reader has left.
+fn listed<R: Threads + Wait + RandomSource, S: Source>(
+    rt: &R,
+    alloc: Global,
+    reading: Reading,
+    reader: &mut S,
+) -> Result<Vec<u8>, RunFault>
+    ensures composed { IfOk result
+        (λ text. IsComposed terms (S.left reader.old) (S.left reader.new) text.items) }
+    ensures bad_line { IfErr result
+        (IfBadLine (IsBadLineOf terms (S.left reader.old) (S.left reader.new))) }
+    ensures count { OnOk result (Stays (S.failures reader.old) (S.failures reader.new)) }
+    ensures read { IfErr result (IfRead (Rises (S.failures reader.old) (S.failures reader.new))) }
+    ensures kind { IfErr result IsOfDocument }
+{
+    let store = load_document(rt, alloc, reading, reader)?;
+    match terms_text(alloc, store.dict()) {
+        Ok(text) => Ok(text),
+        Err(_) => Err(RunFault::Memory),
+    }
+}
+
 /// The whole output of a command, which is composed before anything is written.
-fn composed<S: Source>(
+fn composed<R: Threads + Wait + RandomSource, S: Source>(
+    rt: &R,
     alloc: Global,
     command: &Command,
     reader: &mut S,
@@ -100,7 +180,9 @@ fn composed<S: Source>(
     ensures kind { IfErr result IsOfComposing }
 {
     match command {
-        Command::Select { query } => selected(alloc, query.as_str(), reader),
+        Command::Select { query, .. } => selected(alloc, query.as_str(), reader),
+        Command::Check { reading } => checked(rt, alloc, *reading, reader),
+        Command::Terms { reading } => listed(rt, alloc, *reading, reader),
     }
 }
 
@@ -111,14 +193,15 @@ fn composed<S: Source>(
 /// - `Query`: the query of a `select` is refused. Nothing was read.
 /// - `BadLine(n)`: line n of the document, counted from 1, is the first that spells nothing. The
 ///   reader was read to its end.
+/// - `WorkerRefused`: the start of a worker was refused.
 /// - `Memory`: a growth was refused.
 /// - `Read`: the reader failed in this call.
 /// - `Write`: the writer failed in this call, or took no byte of a text that was not empty. A
 ///   beginning of the output was written.
 ///
 /// But for `Write`, nothing was written.
-pub fn run<R, S: Source, K: Sink>(
-    _rt: &R,
+pub fn run<R: Threads + Wait + RandomSource, S: Source, K: Sink>(
+    rt: &R,
     alloc: Global,
     command: &Command,
     reader: &mut S,
@@ -140,7 +223,7 @@ pub fn run<R, S: Source, K: Sink>(
     ensures unwritten { IfErr result (UnlessWrite (writer.new ≡ writer.old)) }
     ensures line { IfErr result IsNotLine }
 {
-    let text = composed(alloc, command, reader)?;
+    let text = composed(rt, alloc, command, reader)?;
     match write_all(writer, &text) {
         Ok(()) => Ok(()),
         Err(_failed) => Err(RunFault::Write),

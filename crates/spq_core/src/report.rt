@@ -10,7 +10,7 @@ use itoa::Buffer;
 use nquads_core::{DeviceFailed, Sink, write_all};
 
 /// The status with which the program ends after a fault: 1 for a bad line, 2 for a query, 3 for the
-/// command line, 4 for want of memory, 5 for a reader or a writer. (0 is for no fault.)
+/// command line, 4 for want of memory or of a worker, 5 for a reader or a writer. (0 is for no fault.)
 pub fn status(fault: &RunFault) -> u8
     ensures status { result ≡ status_of fault.now }
 {
@@ -19,6 +19,7 @@ pub fn status(fault: &RunFault) -> u8
         RunFault::Query(QueryFault::Memory) => 4,
         RunFault::Query(QueryFault::Syntax) => 2,
         RunFault::Line => 3,
+        RunFault::WorkerRefused => 4,
         RunFault::Memory => 4,
         RunFault::Read | RunFault::Write => 5,
     }
@@ -77,6 +78,7 @@ pub fn write_fault<K: Sink>(fault: &RunFault, writer: &mut K) -> Result<(), Devi
         RunFault::Query(QueryFault::Memory) => write_all(writer, b"error: memory\n"),
         RunFault::Query(QueryFault::Syntax) => write_all(writer, b"error: query syntax\n"),
         RunFault::Line => write_all(writer, b"error: command line\n"),
+        RunFault::WorkerRefused => write_all(writer, b"error: worker\n"),
         RunFault::Memory => write_all(writer, b"error: memory\n"),
         RunFault::Read => write_all(writer, b"error: input\n"),
         RunFault::Write => write_all(writer, b"error: output\n"),

@@ -1,11 +1,16 @@
 //! The program over devices in memory: worked examples of documents, queries and outputs, and every
 //! failing read and write.
-ghost use Rattle.std.specs.Prelude.{◌<◌};
+ghost use Rattle.std.specs.Prelude.{◌<◌, ◌≤◌};
 
-use crate::{Command, CommandFault, QueryFault, RunFault, read_command, run, status, write_fault};
+use crate::{
+    Command, CommandFault, QueryFault, Reading, RunFault, read_command, run, status, write_fault,
+};
 use nquads_core::{DeviceFailed, Sink, Source};
 use rdf_core::Text;
 use std::alloc::Global;
+use std::random::RandomSource;
+use std::sync::Wait;
+use std::thread::Threads;
 
 /// Gives `chunk` bytes a call at most, and fails once `until` bytes were read.
 #[derive(Drop)]
@@ -94,6 +99,29 @@ fn select(alloc: Global, query: &str) -> Command {
     let string = String::from_str(alloc, query).unwrap_or(String::new(alloc));
     Command::Select {
         query: Text::from_string(string),
+        reading: Reading {
+            workers: 4,
+            piece: 65536,
+        },
+        rows: 1024,
+    }
+}
+
+fn check(workers: usize, piece: usize) -> Command
+    requires workers { (1 ≤ workers) × (workers ≤ 64) }
+    requires piece { (1 ≤ piece) × (piece ≤ 1073741824) }
+{
+    Command::Check {
+        reading: Reading { workers, piece },
+    }
+}
+
+fn terms(workers: usize, piece: usize) -> Command
+    requires workers { (1 ≤ workers) × (workers ≤ 64) }
+    requires piece { (1 ≤ piece) × (piece ≤ 1073741824) }
+{
+    Command::Terms {
+        reading: Reading { workers, piece },
     }
 }
 
@@ -108,12 +136,16 @@ const OBJECTS: &str = "SELECT ?o { <http://e/a> <http://e/p> ?o }";
 const OBJECTS_OUTPUT: &[u8] =
     b"{\"head\":{\"vars\":[\"o\"]},\"results\":{\"bindings\":[{\"o\":{\"type\":\"uri\",\"value\":\"http://e/b\"}},{\"o\":{\"type\":\"literal\",\"value\":\"x\"}}]}}\n";
 
-/// The output of a select, or the line of its fault.
-fn output(rt: &HostRuntime, doc: &[u8], query: &str) -> Vec<u8> {
-    let alloc = rt.alloc();
+/// The output of a command, or the line of its fault.
+fn told<R: Threads + Wait + RandomSource>(
+    rt: &R,
+    alloc: Global,
+    command: &Command,
+    doc: &[u8],
+) -> Vec<u8> {
     let mut reader = source(doc, usize::MAX);
     let mut writer = sink(alloc, 1000, usize::MAX);
-    if let Err(fault) = run(rt, alloc, &select(alloc, query), &mut reader, &mut writer) {
+    if let Err(fault) = run(rt, alloc, command, &mut reader, &mut writer) {
         let _tried = write_fault(&fault, &mut writer);
     }
     writer.bytes
@@ -173,7 +205,7 @@ fn selects_are_answered(rt: HostRuntime) {
         ),
     ];
     for (name, doc, query, wanted) in cases {
-        let given = output(&rt, doc, query);
+        let given = told(&rt, rt.alloc(), &select(rt.alloc(), query), doc);
         assert!(rt; given.as_slice() == wanted, "{name}");
     }
 }
@@ -266,8 +298,8 @@ fn a_bad_query_reads_nothing(rt: HostRuntime) {
     );
 }
 
-/// Whether the words are a select of this query.
-fn is_select(rt: &HostRuntime, words: &[&str], query: &str) -> Result<bool, CommandFault> {
+/// The command that the words are.
+fn command(rt: &HostRuntime, words: &[&str]) -> Result<Command, CommandFault> {
     let alloc = rt.alloc();
     let mut line = Vec::new(alloc);
     for word in words {
@@ -275,31 +307,238 @@ fn is_select(rt: &HostRuntime, words: &[&str], query: &str) -> Result<bool, Comm
             return Err(CommandFault::Memory);
         };
     }
-    let Command::Select { query: read } = read_command(alloc, &line)?;
-    Ok(read.as_str() == query)
+    read_command(alloc, &line)
+}
+
+/// Whether the words are a select of this query, with these numbers.
+fn is_select(
+    rt: &HostRuntime,
+    words: &[&str],
+    query: &str,
+    numbers: (usize, usize, usize),
+) -> bool {
+    match command(rt, words) {
+        Ok(
+            Command::Select {
+                query: read,
+                reading,
+                rows,
+            },
+        ) => read.as_str() == query && (reading.workers, reading.piece, rows) == numbers,
+        _ => false,
+    }
+}
+
+/// Whether the words are a check, with these numbers.
+fn is_check(rt: &HostRuntime, words: &[&str], numbers: (usize, usize)) -> bool {
+    match command(rt, words) {
+        Ok(Command::Check { reading }) => (reading.workers, reading.piece) == numbers,
+        _ => false,
+    }
+}
+
+/// Whether the words ask for the terms, with these numbers.
+fn is_terms(rt: &HostRuntime, words: &[&str], numbers: (usize, usize)) -> bool {
+    match command(rt, words) {
+        Ok(Command::Terms { reading }) => (reading.workers, reading.piece) == numbers,
+        _ => false,
+    }
+}
+
+/// Whether the words are none of the program's.
+fn is_refused(rt: &HostRuntime, words: &[&str]) -> bool {
+    match command(rt, words) {
+        Err(fault) => fault == CommandFault::Line,
+        Ok(_) => false,
+    }
 }
 
 #[test]
 fn command_lines_are_read(rt: HostRuntime) {
     let good = ["spq", "select", "--query", "SELECT"];
-    assert!(rt; is_select(&rt, &good, "SELECT") == Ok(true), "a query");
-    let joined = ["spq", "select", "--query=S"];
-    assert!(rt; is_select(&rt, &joined, "S") == Ok(true), "an equals sign");
-    let bad: [&[&str]; 5] = [
+    assert!(rt;
+        is_select(&rt, &good, "SELECT", (4, 65536, 1024)),
+        "a query, and the defaults"
+    );
+    let joined = [
+        "spq",
+        "select",
+        "--query=S",
+        "--rows",
+        "7",
+        "--piece=1",
+        "--workers",
+        "64",
+    ];
+    assert!(rt;
+        is_select(&rt, &joined, "S", (64, 1, 7)),
+        "an equals sign, and numbers"
+    );
+    let check = ["spq", "check", "--workers", "8", "--piece", "1073741824"];
+    assert!(rt; is_check(&rt, &check, (8, 1073741824)), "the largest piece");
+    assert!(rt;
+        is_terms(&rt, &["spq", "terms"], (4, 65536)),
+        "the defaults"
+    );
+    let bad: [&[&str]; 13] = [
         &["spq"],
         &["spq", "select"],
         &["spq", "select", "--query"],
         &["spq", "select", "--help"],
         &["spq", "other"],
+        &["spq", "check", "--workers", "65"],
+        &["spq", "check", "--workers", "0"],
+        &["spq", "check", "--workers", "x"],
+        &["spq", "check", "--piece", "1073741825"],
+        &["spq", "check", "--piece", "0"],
+        &["spq", "check", "--rows", "1"],
+        &["spq", "select", "--query", "S", "--rows", "0"],
+        &["spq", "terms", "more"],
     ];
     for words in bad {
-        assert!(rt;
-            is_select(&rt, words, "") == Err(CommandFault::Line),
-            "no command"
-        );
+        assert!(rt; is_refused(&rt, words), "no command");
     }
     assert!(rt;
         status(&RunFault::Line) == 3,
         "the status of a command line"
     );
+}
+
+const GRAPHS: &[u8] =
+    b"<http://e/a> <http://e/p> <http://e/b> .\n<http://e/a> <http://e/p> <http://e/c> <http://e/g> .\n<http://e/a> <http://e/p> <http://e/d> _:g .\n";
+
+const CUT_SHORT: &[u8] =
+    b"<http://e/a> <http://e/p> <http://e/b> .\n<http://e/a> <http://e/p> <http://e/b> .\n<http://e/a> <http://e/p> \"x\" ";
+
+const LINE_ENDS: &[u8] =
+    b"<http://e/a> <http://e/p> <http://e/b> .\r\n# c\n<http://e/a> <http://e/p> .\n";
+
+const TWO_LINES: &[u8] = b"<http://e/a><http://e/p>_:b.\n_:b <http://e/q> \"\\u00e9\\n\"@EN .\n";
+
+#[test]
+fn documents_are_checked(rt: HostRuntime) {
+    let cases: [(&str, &[u8], &[u8]); 14] = [
+        (
+            "a repeated statement counts once",
+            REPEATED,
+            b"ok 2 quads 4 terms 0 graphs\n",
+        ),
+        ("the empty document", b"", b"ok 0 quads 0 terms 0 graphs\n"),
+        ("two graphs", GRAPHS, b"ok 3 quads 7 terms 2 graphs\n"),
+        ("three kinds of line ends", LINE_ENDS, b"error: line 3\n"),
+        (
+            "no blanks, and a tag",
+            TWO_LINES,
+            b"ok 2 quads 5 terms 0 graphs\n",
+        ),
+        (
+            "half a pair of surrogates",
+            b"<http://e/a> <http://e/p> \"\\uD800\" .\n",
+            b"error: line 1\n",
+        ),
+        (
+            "a lone CR ends a line",
+            b"<http://e/a> <http://e/p> <http://e/b> .\rx",
+            b"error: line 2\n",
+        ),
+        ("the last line lacks its dot", CUT_SHORT, b"error: line 3\n"),
+        (
+            "a label takes all it can",
+            b"<http://e/a> <http://e/p> _:o_:g .\n",
+            b"ok 1 quads 3 terms 0 graphs\n",
+        ),
+        (
+            "escapes in an IRI, and the datatype of plain literals",
+            b"<http://e/\\u0061> <http://e/p> \"x\" .\n<http://e/a> <http://e/p> \"x\"^^<http://www.w3.org/2001/XMLSchema#string> .\n",
+            b"ok 1 quads 3 terms 0 graphs\n",
+        ),
+        (
+            "an escaped blank in an IRI",
+            b"<http://e/\\u0020> <http://e/p> \"x\" .\n",
+            b"error: line 1\n",
+        ),
+        (
+            "a byte order mark",
+            b"\xEF\xBB\xBF<http://e/a> <http://e/p> \"x\" .\n",
+            b"error: line 1\n",
+        ),
+        (
+            "a label does not end with a dot",
+            b"<http://e/a> <http://e/p> _:b..\n",
+            b"error: line 1\n",
+        ),
+        (
+            "a byte that is no text in a comment",
+            b"# \xFF\n",
+            b"error: line 1\n",
+        ),
+    ];
+    for (name, doc, wanted) in cases {
+        let whole = told(&rt, rt.alloc(), &check(1, 65536), doc);
+        assert!(rt; whole.as_slice() == wanted, "{name}, in one piece");
+        let cut = told(&rt, rt.alloc(), &check(8, 1), doc);
+        assert!(rt; cut.as_slice() == wanted, "{name}, line by line");
+    }
+}
+
+#[test]
+fn the_first_of_two_bad_lines_is_named(rt: HostRuntime) {
+    let alloc = rt.alloc();
+    let mut doc = Vec::new(alloc);
+    for line in 1..1001 {
+        let text = if line == 2 || line == 900 {
+            b"x\n".as_slice()
+        } else {
+            b"<http://e/a> <http://e/p> <http://e/b> .\n".as_slice()
+        };
+        if doc.extend_from_slice(text).is_err() {
+            return;
+        }
+    }
+    let given = told(&rt, alloc, &check(8, 1), &doc);
+    assert!(rt;
+        given.as_slice() == b"error: line 2\n".as_slice(),
+        "line 2 of 1000 pieces"
+    );
+    assert!(rt;
+        status(&RunFault::BadLine(2)) == 1,
+        "the status of a bad line"
+    );
+}
+
+#[test]
+fn terms_are_listed(rt: HostRuntime) {
+    let cases: [(&str, &[u8], &[u8]); 5] = [
+        (
+            "by first appearance",
+            REPEATED,
+            b"<http://e/a>\n<http://e/p>\n<http://e/b>\n\"x\"\n",
+        ),
+        (
+            "a tag in lower case, and a line feed escaped",
+            TWO_LINES,
+            b"<http://e/a>\n<http://e/p>\n_:b\n<http://e/q>\n\"\xC3\xA9\\n\"@en\n",
+        ),
+        (
+            "control characters as they are, a backslash escaped",
+            b"<http://e/a> <http://e/p> \"\\t\\u0001\\\\\" .\n",
+            b"<http://e/a>\n<http://e/p>\n\"\t\x01\\\\\"\n",
+        ),
+        (
+            "a label takes all it can",
+            b"<http://e/a> <http://e/p> _:o_:g .\n",
+            b"<http://e/a>\n<http://e/p>\n_:o_:g\n",
+        ),
+        (
+            "a dot behind a tag",
+            b"<http://e/a> <http://e/p> \"x\"@en-GB.\n",
+            b"<http://e/a>\n<http://e/p>\n\"x\"@en-gb\n",
+        ),
+    ];
+    for (name, doc, wanted) in cases {
+        let whole = told(&rt, rt.alloc(), &terms(4, 65536), doc);
+        assert!(rt; whole.as_slice() == wanted, "{name}, in one piece");
+        let cut = told(&rt, rt.alloc(), &terms(2, 1), doc);
+        assert!(rt; cut.as_slice() == wanted, "{name}, line by line");
+    }
 }

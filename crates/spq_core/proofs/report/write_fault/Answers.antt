@@ -13,3 +13,9 @@ returns-in-Write-clause-written g c = subst (λ (f : RunFault). OnOk c.write_all
 
 pub returns-in-Write-clause-failed : goal.returns-in-Write-clause-failed
 returns-in-Write-clause-failed g c = subst (λ (f : RunFault). OnErr c.write_all-in-Write.result (WroteBeginning (g.K.Sink.held c.args.writer.now) (g.K.Sink.held c.write_all-in-Write.new.writer) (fault_line f))) (sym c.in-Write.is) c.write_all-in-Write.ensures.failed
+
+pub returns-in-WorkerRefused-clause-failed : goal.returns-in-WorkerRefused-clause-failed
+returns-in-WorkerRefused-clause-failed g c = subst (λ (f : RunFault). OnErr c.write_all-in-WorkerRefused.result (WroteBeginning (g.K.Sink.held c.args.writer.now) (g.K.Sink.held c.write_all-in-WorkerRefused.new.writer) (fault_line f))) (sym c.in-WorkerRefused.is) c.write_all-in-WorkerRefused.ensures.failed
+
+pub returns-in-Read-clause-written : goal.returns-in-Read-clause-written
+returns-in-Read-clause-written g c = subst (λ (f : RunFault). OnOk c.write_all-in-Read.result (Appends (g.K.Sink.held c.args.writer.now) (g.K.Sink.held c.write_all-in-Read.new.writer) (fault_line f))) (sym c.in-Read.is) c.write_all-in-Read.ensures.ok

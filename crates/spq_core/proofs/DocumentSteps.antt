@@ -1,0 +1,110 @@
+-- What is told of a document that was read in blocks and loaded.
+use Rattle.std.proofs.Common.{◌≡◌, ℕ, ◌+◌, List, [], ◌∷◌, ◌++◌, length, take, map, codes, Option, Some, None, Vec, Global, IsPermutation, refl, sym, ap, ◌∙◌, subst}
+use Rattle.std.specs.List.{flat_map}
+use Rattle.std.proofs.lemmas.List.{length-map}
+use Rattle.std.proofs.lemmas.List.Sorted.{length_permutation}
+use Rattle.std.specs.Io.KnownBytes.{Consumes, IsAtEnd}
+use Rattle.rdf_core.specs.declared.term.Term.{Term}
+use Rattle.rdf_core.specs.QuadParts.{QuadParts}
+use Rattle.nquads_core.specs.Lines.{lines}
+use Rattle.algebra_model.specs.Bag.{without_repeats}
+use Rattle.algebra_model.specs.Dataset.{names}
+use Rattle.dict_core.specs.Appearances.{terms_of, first_appearances}
+use Rattle.dict_core.specs.Dict.{term_at}
+use Rattle.dict_core.specs.NumQuad.{quad_at, quads_at}
+use Rattle.quad_index.specs.Laws.{same_parts}
+use Rattle.dataset_load.specs.Lines.{block_texts, joined}
+use Rattle.dataset_load.specs.Store.{StoreView, names_in}
+use Rattle.dataset_load.specs.Loaded as load
+use Rattle.spq_core.specs.Listing.{counts_line, counts_of, term_lines, listing_of}
+use Rattle.spq_core.specs.Output.{check, terms}
+use Rattle.spq_core.specs.Run.{IfBadLine, IfQuery, IsBadLineFrom, IsBadLineOf, IsComposed, IsLoadedFrom, IsOfComposing, IsOfDocument}
+use Rattle.spq_core.specs.declared.fault.QueryFault.{QueryFault}
+use Rattle.spq_core.specs.declared.program.RunFault.{RunFault}
+use Rattle.spq_core.specs.declared.program.RunFault.TheVariants.{Query, BadLine, WorkerRefused, Memory, Read, Write, Line}
+
+pub counts_are : (ls : List (List ℕ)) (store : StoreView) (l : load.IsLoaded ls store)
+    → counts_line (length store.index) (length store.dict) (length (names_in store.index)) ≡ counts_of l.quads
+counts_are ls store l =
+    let q : length store.index ≡ length (without_repeats same_parts l.quads) =
+    sym (length-map store.index (quad_at store.dict)) ∙ length_permutation (without_repeats same_parts l.quads) (quads_at store.dict store.index) l.each_once in
+    let t : length store.dict ≡ length (first_appearances (terms_of l.quads)) = ap length l.terms in
+    let g : length (names_in store.index) ≡ length (names l.quads) =
+    sym (length-map (names_in store.index) (term_at store.dict)) ∙ length_permutation (names l.quads) (map (term_at store.dict) (names_in store.index)) l.graphs in
+    ap (λ n. counts_line n (length store.dict) (length (names_in store.index))) q
+    ∙ ap (λ n. counts_line (length (without_repeats same_parts l.quads)) n (length (names_in store.index))) t
+    ∙ ap (λ n. counts_line (length (without_repeats same_parts l.quads)) (length (first_appearances (terms_of l.quads))) n) g
+
+pub composed_check : (left left' : Option (List ℕ)) (store : StoreView) (text : List ℕ) → IsLoadedFrom left left' store
+    → text ≡ counts_line (length store.index) (length store.dict) (length (names_in store.index)) → IsComposed check left left' text
+composed_check left left' store text h e = record {
+  doc = h.doc;
+  consumed = h.consumed;
+  at_end = h.at_end;
+  output = record { quads = h.loaded.quads; spelled = h.loaded.spelled; printed = e ∙ counts_are (lines h.doc) store h.loaded };
+}
+
+pub composed_terms : (left left' : Option (List ℕ)) (store : StoreView) (dict : List Term) (text : List ℕ) → IsLoadedFrom left left' store
+    → dict ≡ store.dict → text ≡ term_lines dict → IsComposed terms left left' text
+composed_terms left left' store dict text h d e = record {
+  doc = h.doc;
+  consumed = h.consumed;
+  at_end = h.at_end;
+  output = record { quads = h.loaded.quads; spelled = h.loaded.spelled; printed = e ∙ ap term_lines (d ∙ h.loaded.terms) };
+}
+
+pub bad_check : (left left' : Option (List ℕ)) (f : RunFault) → IfBadLine (IsBadLineFrom left left') f → IfBadLine (IsBadLineOf check left left') f
+bad_check left left' (Query q) h = tt
+bad_check left left' (BadLine n) h = record { doc = h.doc; consumed = h.consumed; at_end = h.at_end; output = h.bad }
+bad_check left left' WorkerRefused h = tt
+bad_check left left' Memory h = tt
+bad_check left left' Read h = tt
+bad_check left left' Write h = tt
+bad_check left left' Line h = tt
+
+pub bad_terms : (left left' : Option (List ℕ)) (f : RunFault) → IfBadLine (IsBadLineFrom left left') f → IfBadLine (IsBadLineOf terms left left') f
+bad_terms left left' (Query q) h = tt
+bad_terms left left' (BadLine n) h = record { doc = h.doc; consumed = h.consumed; at_end = h.at_end; output = h.bad }
+bad_terms left left' WorkerRefused h = tt
+bad_terms left left' Memory h = tt
+bad_terms left left' Read h = tt
+bad_terms left left' Write h = tt
+bad_terms left left' Line h = tt
+
+pub no_query : (P : QueryFault → Type 0) (f : RunFault) → IsOfDocument f → IfQuery P f
+no_query P (Query q) h = absurd h
+no_query P (BadLine n) h = tt
+no_query P WorkerRefused h = tt
+no_query P Memory h = tt
+no_query P Read h = tt
+no_query P Write h = tt
+no_query P Line h = tt
+
+pub of_composing : (f : RunFault) → IsOfDocument f → IsOfComposing f
+of_composing (Query q) h = tt
+of_composing (BadLine n) h = tt
+of_composing WorkerRefused h = tt
+of_composing Memory h = tt
+of_composing Read h = tt
+of_composing Write h = h
+of_composing Line h = h
+
+pub from_blocks : (left left' : Option (List ℕ)) (blocks slice : List (Vec ℕ Global)) (store : StoreView)
+    → Consumes left left' (joined (block_texts blocks)) → IsAtEnd left' → slice ≡ blocks
+    → load.IsLoaded (lines (joined (block_texts slice))) store → IsLoadedFrom left left' store
+from_blocks left left' blocks slice store c end e l = record {
+  doc = joined (block_texts blocks);
+  consumed = c;
+  at_end = end;
+  loaded = subst (λ (bs : List (Vec ℕ Global)). load.IsLoaded (lines (joined (block_texts bs))) store) e l;
+}
+
+pub bad_blocks : (left left' : Option (List ℕ)) (blocks slice : List (Vec ℕ Global)) (n : ℕ)
+    → Consumes left left' (joined (block_texts blocks)) → IsAtEnd left' → slice ≡ blocks
+    → load.IsBadLine (lines (joined (block_texts slice))) n → IsBadLineFrom left left' n
+bad_blocks left left' blocks slice n c end e b = record {
+  doc = joined (block_texts blocks);
+  consumed = c;
+  at_end = end;
+  bad = subst (λ (bs : List (Vec ℕ Global)). load.IsBadLine (lines (joined (block_texts bs))) n) e b;
+}

@@ -1,0 +1,27 @@
+-- What `check` and `terms` print (our own).
+use Rattle.std.specs.Prelude.{◌≡◌, ℕ, List, [], ◌++◌, flat_map, codes, decimal, length}
+use Rattle.rdf_core.specs.declared.term.Term.{Term}
+use Rattle.rdf_core.specs.QuadParts.{QuadParts}
+use Rattle.rdf_core.specs.Spelling.{spelling}
+use Rattle.algebra_model.specs.Bag.{without_repeats}
+use Rattle.algebra_model.specs.Dataset.{names}
+use Rattle.dict_core.specs.Appearances.{terms_of, first_appearances}
+use Rattle.quad_index.specs.Laws.{same_parts}
+
+-- so many quads, terms and graph names
+abbrev pub counts_line : ℕ → ℕ → ℕ → List ℕ
+counts_line quads terms graphs =
+    codes "ok " ++ (decimal quads ++ (codes " quads " ++ (decimal terms ++ (codes " terms " ++ (decimal graphs ++ codes " graphs\n")))))
+
+-- the distinct quads, their distinct terms and the names of their graphs are counted
+abbrev pub counts_of : List QuadParts → List ℕ
+counts_of quads = counts_line
+    (length (without_repeats same_parts quads)) (length (first_appearances (terms_of quads))) (length (names quads))
+
+-- each term on a line of its own
+abbrev pub term_lines : List Term → List ℕ
+term_lines terms = flat_map (λ t. spelling t ++ codes "\n") terms
+
+-- the terms by first appearance
+abbrev pub listing_of : List QuadParts → List ℕ
+listing_of quads = term_lines (first_appearances (terms_of quads))
