@@ -28,6 +28,8 @@ mod reading;
 mod rounds;
 mod sorting;
 mod store;
+#[cfg(test)]
+mod tests;
 
 pub use fault::LoadFault;
 pub use loading::{load, load_blocks};
