@@ -50,12 +50,9 @@ def peers(path, folder):
 
 
 def commands(spq, workers):
-    query = "SELECT ?t { ?w <http://library.example/terms#title> ?t }"
     for n in workers:
         yield f"spq check, {n} workers", [spq, "check", "--workers", n]
     yield f"spq terms, {workers[-1]} workers", [spq, "terms", "--workers", workers[-1]]
-    for n in workers:
-        yield f"spq select, all titles, {n} workers", [spq, "select", "--workers", n, "--query", query]
 
 
 def report(rows, quads):
