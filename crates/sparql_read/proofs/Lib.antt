@@ -4,3 +4,4 @@ pub mod PrologueSteps
 pub mod ScopeSteps
 pub mod LabelLaws
 pub mod RefusalLaws
+pub mod AnswerLaws

@@ -1,5 +1,6 @@
 -- A text has one list of terminals and one query, so what is judged of these is judged of the text.
-use Rattle.std.proofs.Common.{◌≡◌, ◌<◌, ◌≤◌, ℕ, List, [], Bool, true, false, Result, Ok, Err, refl, sym, ap, ◌∙◌, subst, arith}
+use Rattle.std.proofs.Common.{◌≡◌, ◌==◌, ◌<◌, ◌≤◌, ℕ, List, [], ◌∷◌, length, Bool, true, false, Result, Ok, Err, refl, sym, ap, ◌∙◌, subst, arith}
+use Rattle.std.proofs.lemmas.Bool.Decides.{nat_tests}
 use Rattle.sparql_lexer.specs.Terminal.{Terminal}
 use Rattle.sparql_lexer.specs.Scan.{Scans}
 use Rattle.sparql_tree.specs.QueryTree.{QueryTree}
@@ -15,6 +16,7 @@ use Rattle.sparql_read.specs.Prologue.{declarations, has_undefined_prefix}
 use Rattle.sparql_read.specs.RelativeIri.{has_relative_iri}
 use Rattle.sparql_read.specs.BindScope.{breaks_bind_scope}
 use Rattle.sparql_read.specs.BlankReuse.{reuses_blank}
+use Rattle.sparql_read.specs.Mentioned.{mentioned}
 use Rattle.sparql_read.specs.Derives.{Derives, tree_of}
 use Rattle.sparql_read.specs.Refusal.{Answers, Applies, IsQueryWith, IsRefusal, IsTooDeep, rank}
 use Rattle.sparql_read.specs.Judged.{Judged}
@@ -73,6 +75,13 @@ pub not_derived : OneScan → (text : List ℕ) (ts : List Terminal) → Scans t
     → ((s : Select) → Matches (declarations ts) the.query (right_side the.query) ts s [] → ⊥) → Answers text (Err Syntax)
 not_derived one text ts scans e none = syntax_refused text (not_deep one text [] ts scans e)
     (λ q d. none d.select (subst (λ us. Matches (declarations us) the.query (right_side the.query) us d.select []) (one text [] [] d.terminals ts d.scans scans).0 d.derived))
+
+pub empty_list : {A : Type 0} (xs : List A) → true ≡ (length xs == 0) → xs ≡ []
+empty_list [] h = refl
+empty_list (x ∷ xs) h = absurd (grind (arith, nat_tests))
+
+pub some_list : {A : Type 0} (xs : List A) → false ≡ (length xs == 0) → xs ≡ [] → ⊥
+some_list xs h e = let k = ap length e in grind (arith, nat_tests)
 
 module _ {text : List ℕ} {ts : List Terminal} {s : Select} (known : Known text ts s) where
   abbrev derives : Derives text (tree_of s ts)
@@ -147,3 +156,8 @@ module _ {text : List ℕ} {ts : List Terminal} {s : Select} (known : Known text
 
   pub allowed : Judged ts s.group (Ok tt) → Answers text (Ok (tree_of s ts))
   allowed h = record { derives = derives; allowed = none_applies h }
+
+  -- where the variables were gathered apart
+  pub allowed_as : Judged ts s.group (Ok tt) → (xs : List (List ℕ)) → xs ≡ mentioned ts
+      → Answers text (Ok (record { distinct = s.distinct; selection = s.selection; group = s.group; limit = s.limit; offset = s.offset; mentioned = xs }))
+  allowed_as h xs e = subst (λ ys. Answers text (Ok (record { distinct = s.distinct; selection = s.selection; group = s.group; limit = s.limit; offset = s.offset; mentioned = ys }))) (sym e) (allowed h)

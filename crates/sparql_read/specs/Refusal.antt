@@ -2,7 +2,8 @@
 use Rattle.std.specs.Prelude.{◌≡◌, ◌<◌, ℕ, List, Bool, true, Result, Ok, Err}
 use Rattle.sparql_lexer.specs.Terminal.{Terminal}
 use Rattle.sparql_lexer.specs.Scan.{Scans}
-use Rattle.sparql_tree.specs.QueryTree.{QueryTree}
+use Rattle.sparql_tree.specs.declared.query.Query.{Query}
+use Rattle.sparql_tree.specs.QueryTree.{QueryTree, query_of}
 use Rattle.sparql_read.specs.declared.fault.QueryFault.{QueryFault}
 use Rattle.sparql_read.specs.declared.fault.QueryFault.TheVariants.{Syntax, UndefinedPrefix, RelativeIri, BindScope, BlankReuse, TooDeep, Memory}
 use Rattle.sparql_read.specs.Depth.{is_too_deep}
@@ -66,3 +67,8 @@ Answers text (Err RelativeIri) = IsRefusal text RelativeIri
 Answers text (Err BindScope) = IsRefusal text BindScope
 Answers text (Err BlankReuse) = IsRefusal text BlankReuse
 Answers text (Err TooDeep) = IsRefusal text TooDeep
+
+-- what the code answers, as the model sees it
+abbrev pub seen : Result Query QueryFault → Result QueryTree QueryFault
+seen (Ok q) = Ok (query_of q)
+seen (Err e) = Err e

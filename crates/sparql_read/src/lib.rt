@@ -1,6 +1,10 @@
-//! Which queries are refused, and by which rule.
+//! From the text of a SPARQL query to its tree, or to the rule that refuses it.
 //!
-//! A text of terminals that the grammar derives may still be refused: brackets may be nested too deep
+//! [`read_query`] is what the crate above uses: it answers the tree that the grammar derives from the
+//! text, or the first rule that refuses it (`Answers` of specs/Refusal.antt). The law [`one_answer`] says
+//! that one answer at most holds of a text, besides want of memory.
+//!
+//! A text that the grammar derives may still be refused: brackets may be nested too deep
 //! ([`is_too_deep`]), a prefixed name may have no declaration ([`has_undefined_prefix`]), an IRI no
 //! scheme ([`has_relative_iri`]), a BIND may be to a variable in scope ([`breaks_bind_scope`]), and a
 //! blank label may stand in two basic patterns ([`reuses_blank`]). [`declarations_of`] gives the
@@ -15,9 +19,8 @@
 //!
 //! To read in this order: specs/Depth.antt, specs/Prologue.antt, specs/RelativeIri.antt,
 //! specs/BindScope.antt, specs/BlankReuse.antt, specs/Derives.antt, specs/Refusal.antt; then `depth`,
-//! `prologue`, `iris`, `names`, `scope`, `labels`, `judging`.
-//!
-//! Not there yet: the reader of a whole text.
+//! `prologue`, `iris`, `names`, `scope`, `labels`, `judging`, `reader`, `laws`. Texts and what is
+//! answered of them: `each_rule_is_answered` of tests/queries.
 //!
 //! Not promised: how long a text takes. By design the time is that of sorting its names, but for the
 //! look-up of a name among the declarations, which goes through them one by one.
@@ -28,8 +31,10 @@ mod fault;
 mod iris;
 mod judging;
 mod labels;
+mod laws;
 mod names;
 mod prologue;
+mod reader;
 mod scope;
 mod variables;
 
@@ -37,7 +42,9 @@ pub use depth::is_too_deep;
 pub use fault::QueryFault;
 pub use iris::has_relative_iri;
 pub use labels::reuses_blank;
+pub use laws::one_answer;
 pub use prologue::{declarations_of, has_undefined_prefix};
+pub use reader::read_query;
 pub use scope::breaks_bind_scope;
 pub use variables::mentioned;
 

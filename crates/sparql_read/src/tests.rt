@@ -10,6 +10,8 @@ use sparql_lexer::{characters_of, scan_text};
 use sparql_tree::{Element, Expression, PatternTerm, Triple};
 use std::alloc::{AllocError, AllocGlobal, Global};
 
+mod queries;
+
 /// Whether brackets are too deep, a prefix is undefined, and an IRI is relative.
 fn judged(alloc: Global, text: &str) -> Result<(bool, bool, bool), AllocError> {
     let characters = characters_of(alloc, text)?;
