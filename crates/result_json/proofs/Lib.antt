@@ -1,0 +1,6 @@
+pub mod ColumnLaws
+pub mod JsonLaws
+pub mod PrintedLaws
+pub mod SeparatedLaws
+pub mod SliceLaws
+pub mod SortSteps
