@@ -2,11 +2,13 @@
 //!
 //! The document comes on standard input, and the output goes to standard output, a fault's line
 //! too. The exit status is 0, or that of the fault. All that is promised is promised by `run`,
-//! `read_command`, `write_fault` and `status` of `spq_core`; here they meet the two devices.
+//! `write_fault` and `status` of `spq_core` and `read_command` of `spq_command`; here they meet the
+//! two devices.
 #![tactic(auto)]
 
 use nquads_core::{Device, Sink, Source};
-use spq_core::{CommandFault, RunFault, read_command, run, status, write_fault};
+use spq_command::{CommandFault, read_command};
+use spq_core::{RunFault, run, status, write_fault};
 use std::alloc::Global;
 use std::env;
 use std::process::ExitCode;

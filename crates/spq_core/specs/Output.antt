@@ -5,8 +5,8 @@ use Rattle.nquads_core.specs.Lines.{lines}
 use Rattle.nquads_core.specs.Pieces.{SpellAll}
 use Rattle.spq_core.specs.Listing.{counts_of, listing_of}
 use Rattle.spq_core.specs.Outcome.{Refusal, syntax, bad_line, IsBadLine, IsOutcome}
-use Rattle.spq_core.specs.declared.command.Command.{Command}
-use Rattle.spq_core.specs.declared.command.Command.TheVariants.{Select, Check, Terms}
+use Rattle.spq_command.specs.declared.command.Command.{Command}
+use Rattle.spq_command.specs.declared.command.Command.TheVariants.{Select, Check, Terms}
 
 -- what a command asks for; how it is to be done is left out
 pub data Request : Type 0 where

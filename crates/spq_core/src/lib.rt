@@ -12,8 +12,8 @@
 //!
 //! To read in this order: `first_query` and `first_plan` (queries of one pattern), `store` and
 //! `pattern` (their solutions), `ordering`, `results` (JSON), `answering` (the outcome), `listing`
-//! (what is told of a dataset), `command` and `command_line`, `program` (`run`), `report` (lines and
-//! statuses of faults).
+//! (what is told of a dataset), `program` (`run`), `report` (lines and statuses of faults). The
+//! commands are of `spq_command`.
 //!
 //! Example: the document `<http://e/a> <http://e/p> "x" .` and the query
 //! `SELECT ?o { <http://e/a> <http://e/p> ?o }` give
@@ -25,8 +25,6 @@
 
 mod answering;
 mod cells;
-mod command;
-mod command_line;
 mod fault;
 mod first_plan;
 mod first_query;
@@ -41,8 +39,6 @@ mod store;
 mod tests;
 
 pub use answering::answer;
-pub use command::{Command, Reading};
-pub use command_line::{CommandFault, read_command};
 pub use fault::{Fault, QueryFault};
 pub use ordering::sort_rows;
 pub use program::{RunFault, run};

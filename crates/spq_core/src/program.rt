@@ -6,12 +6,12 @@ ghost use Rattle.spq_core.specs.Output.{check, request_of, select, terms};
 ghost use Rattle.spq_core.specs.Run.{IfBadLine, IfQuery, IfRead, IfWrite, IsBadLineFrom, IsBadLineOf, IsComposed, IsDone, IsLoadedFrom, IsNotLine, IsOfComposing, IsOfDocument, IsOfReading, IsQueryOf, IsWrittenInPart, UnlessWrite, WriterFailed};
 
 use crate::answering::{answer_query, judged};
-use crate::command::{Command, Reading};
 use crate::fault::{Fault, QueryFault};
 use crate::listing::{counts_text, terms_text};
 use dataset_load::{LoadFault, Store, load_blocks, read_blocks};
 use nquads_core::{ReadFault, Sink, Source, read_to_end, write_all};
 use piece_pool::OpenGate;
+use spq_command::{Command, Reading};
 use std::alloc::Global;
 use std::random::RandomSource;
 use std::sync::Wait;

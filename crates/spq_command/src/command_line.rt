@@ -1,6 +1,6 @@
 //! The command line.
 ghost use Rattle.std.specs.Prelude.{◌≡◌, ◌≤◌, IfOk};
-ghost use Rattle.spq_core.specs.declared.command_line.CommandFault.TheVariants.{Memory};
+ghost use Rattle.spq_command.specs.declared.command_line.CommandFault.TheVariants.{Memory};
 
 use crate::command::{Command, Reading};
 use clap::builder::ValueParser;

@@ -1,0 +1,20 @@
+//! The command line of spq: words go in; a [`Command`] comes out, or the reason why there is none.
+//!
+//! What the crates above use: a [`Command`] as a value whose type keeps the limits of its numbers
+//! ([`Reading`]), and [`read_command`], which makes one of the words.
+//!
+//! To read in this order: `command` (commands), `command_line` (words).
+//!
+//! Example: the words `spq`, `check`, `--workers`, `8` are a check by 8 workers, in pieces of 65,536
+//! bytes; the test `command_lines_are_read` runs such examples.
+//!
+//! Not promised: that memory suffices, and what the library of command lines says to a user.
+#![tactic(auto)]
+
+mod command;
+mod command_line;
+#[cfg(test)]
+mod tests;
+
+pub use command::{Command, Reading};
+pub use command_line::{CommandFault, read_command};
