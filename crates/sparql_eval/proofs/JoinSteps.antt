@@ -1,6 +1,5 @@
 -- Join, LeftJoin and Minus at numbers, read as terms.
-use Rattle.std.proofs.Common.{◌≡◌, ℕ, zero, suc, ◌<◌, Bool, true, ◌&&◌, List, [], ◌∷◌, length, get_or, map, nat_eq, nat_lt, Option, None, Some, refl, sym, ap, ◌∙◌, subst}
-use Rattle.std.specs.List.{list_all}
+use Rattle.std.proofs.Common.{◌≡◌, ℕ, zero, suc, ◌<◌, Bool, true, ◌&&◌, List, [], ◌∷◌, length, map, nat_eq, nat_lt, None, Some, refl, sym, subst}
 use Rattle.std.proofs.lemmas.Bool.{and_parts}
 use Rattle.std.proofs.lemmas.Bool.Decides.{Decides-ltb}
 use Rattle.std.proofs.lemmas.List.Sorted.{IsPermutation-map, IsPermutation-sym}
@@ -16,7 +15,7 @@ use Rattle.algebra_model.proofs.RangeLaws.{Each-IsSameBag, join-bound, left_join
 use Rattle.algebra_model.proofs.ReadingLaws.{join-read, minus-read}
 use Rattle.dict_core.specs.Dict.{IsWithoutRepeats, term_at}
 use Rattle.row_core.specs.RowList.{RowList}
-use Rattle.row_join.specs.Numbers.{cell_passes, passes, all_pass}
+use Rattle.row_join.specs.Numbers.{passes, all_pass}
 use Rattle.sparql_eval.specs.Evaluated.{AreKnown, IsEvaluated}
 use Rattle.sparql_eval.specs.Numbered.{IsKnownAt}
 use Rattle.sparql_eval.proofs.ReadingLaws.{Known, read_by, tells, grown_itself}

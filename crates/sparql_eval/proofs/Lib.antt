@@ -7,3 +7,7 @@ mod ValueSteps
 mod ExtendSteps
 mod PatternSteps
 mod JoinSteps
+mod GraphSteps
+mod NamedSteps
+mod TreeSteps
+mod EvaluateSteps

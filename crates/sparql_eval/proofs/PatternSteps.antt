@@ -1,6 +1,6 @@
 -- Patterns whose constants are looked up in a dictionary.
-use Rattle.std.proofs.Common.{◌≡◌, ℕ, ◌+◌, ◌<◌, Bool, true, false, cond, ◌||◌, List, [], ◌∷◌, ◌++◌, length, map, filter, nat_eq, slice_get, take, zero, suc, Contains, Option, None, Some, MatchOption, refl, sym, ap, ◌∙◌, subst, true≢false, arith}
-use Rattle.std.specs.List.{list_any, list_all, All}
+use Rattle.std.proofs.Common.{◌≡◌, ℕ, ◌+◌, ◌<◌, Bool, true, false, cond, ◌||◌, List, [], ◌∷◌, ◌++◌, length, map, filter, nat_eq, slice_get, zero, suc, Contains, Option, None, Some, MatchOption, refl, sym, ap, ◌∙◌, subst}
+use Rattle.std.specs.List.{list_any, list_all}
 use Rattle.std.specs.Option.{option_map, option_eq, ForSome}
 use Rattle.std.proofs.lemmas.List.Elements.{All-head, All-tail, Contains-get_or}
 use Rattle.rdf_core.specs.declared.term.Term.{Term}
@@ -9,12 +9,10 @@ use Rattle.rdf_core.specs.QuadParts.{QuadParts}
 use Rattle.rdf_core.proofs.TermLaws.{term_eq, term_decides}
 use Rattle.algebra_model.specs.Algebra.{is_triple_below}
 use Rattle.algebra_model.specs.Bag.{IsSameBag, IsWithoutRepeats}
-use Rattle.algebra_model.specs.Bgp.{Triple, PatternTerm, TriplePattern, variable, label, constant, bgp, occurring}
+use Rattle.algebra_model.specs.Bgp.{PatternTerm, TriplePattern, constant, bgp, occurring}
 use Rattle.algebra_model.specs.Dataset.{graph, triple_of}
-use Rattle.algebra_model.specs.Reading.{Each, EachOfPattern, read_pattern, read_pattern_term}
-use Rattle.algebra_model.specs.Solution.{Solution}
+use Rattle.algebra_model.specs.Reading.{Each, EachOfPattern, read_pattern}
 use Rattle.algebra_model.specs.Solve as solve
-use Rattle.algebra_model.proofs.BagLaws.{same_bag}
 use Rattle.algebra_model.proofs.WithinLaws.{are_below, are_below-unread, bgp-absent, has_term, is_the_term}
 use Rattle.algebra_model.proofs.RangeLaws.{Each-append}
 use Rattle.std.proofs.lemmas.List.{map-append}
@@ -36,7 +34,7 @@ numbers_below terms w l P N below h =
     are_below-unread (term_at terms) w (w + l) N (subst (solve.AreBelow w (w + l)) (sym h.0) (are_below w l P below))
 
 -- a term that the dictionary lacks is no term of the quads
-not_at : (terms : List Term) (c : Term) → (Contains terms c → ⊥) → (n : ℕ) → n < length terms → term_eq c (term_at terms n) ≡ false
+pub not_at : (terms : List Term) (c : Term) → (Contains terms c → ⊥) → (n : ℕ) → n < length terms → term_eq c (term_at terms n) ≡ false
 not_at terms c lacks n below = by (term_eq c (term_at terms n)) refl
   where
     by : (b : Bool) → term_eq c (term_at terms n) ≡ b → term_eq c (term_at terms n) ≡ false

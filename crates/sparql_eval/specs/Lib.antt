@@ -3,3 +3,5 @@ pub mod Numbered
 pub mod FilterParts
 pub mod Values
 pub mod Constants
+pub mod GraphNumbers
+pub mod TreeSolutions

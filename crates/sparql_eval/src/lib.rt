@@ -11,15 +11,19 @@
 //!
 //! To read in this order: `copying`, `unions`, `projections`, `distinctness` (rows alone);
 //! `numbering`, `tables` (terms taken in); `reading`, `filters`, `values`, `extensions`
-//! (expressions); `patterns` (the index); `joins` (two lists of rows).
+//! (expressions); `patterns`, `graphs` (the index); `joins` (two lists of rows);
+//! `evaluator`, `evaluation` (a plan).
 //!
 //! Not promised: the order of the rows, and which numbers computed terms get.
 #![tactic(auto)]
 
 mod copying;
 mod distinctness;
+mod evaluation;
+mod evaluator;
 mod extensions;
 mod filters;
+mod graphs;
 mod joins;
 mod numbering;
 mod patterns;
@@ -30,6 +34,7 @@ mod unions;
 mod values;
 
 pub use distinctness::distinct;
+pub use evaluation::{evaluate, graph};
 pub use extensions::extend;
 pub use filters::filter;
 pub use joins::{join, left_join, minus};

@@ -29,3 +29,16 @@ pub fn union(
     add_rows(&mut made, right)?;
     Ok((made, dict))
 }
+
+/// The union of rows that nobody needs any more: the right ones are put behind the left ones.
+pub(crate) fn union_of(dict: Dict, left: Rows, right: Rows) -> Result<(Rows, Dict), EvalFault>
+    requires same_width { left.width ≡ right.width }
+    requires known_left { AreKnown dict left }
+    requires known_right { AreKnown dict right }
+    ensures evaluated { IfOk result (λ r. IsEvaluated dict left.width
+        (solutions_of dict left ++ solutions_of dict right) r.0 r.1) }
+{
+    let mut made = left;
+    made.append(right)?;
+    Ok((made, dict))
+}

@@ -1,10 +1,10 @@
-use Rattle.std.proofs.Common.{◌≡◌, List, map, ap, sym, subst}
+use Rattle.std.proofs.Common.{List, map, ap, sym, subst}
 use Rattle.std.specs.Option.{option_map}
 use Rattle.dict_core.specs.Dict.{term_at}
 use Rattle.row_pattern.specs.Numbered.{pattern_of}
 use Rattle.row_pattern.specs.declared.numbered.NumberedTriple.{NumberedTriple}
 use Rattle.sparql_algebra.specs.AlgebraOf.{triple_pattern_of}
-use Rattle.sparql_eval.specs.Constants.{ArePatternsOf, LacksSome}
+use Rattle.sparql_eval.specs.Constants.{ArePatternsOf}
 use Rattle.sparql_eval.proofs.PatternSteps.{numbers_below, lacking, solved, none_lacks}
 use Rattle.sparql_eval.proofs.patterns.pattern.Goals as goal
 

@@ -1,0 +1,246 @@
+use Rattle.std.proofs.Common.{◌≡◌, ℕ, ◌<◌, List, [], ◌∷◌, ◌++◌, true, length, map, filter, flat_map, get_or, slice_get, nat_eq, nat_lt, Option, Some, IfOk, sym, ap, subst, ◌∙◌, arith}
+use Rattle.std.specs.List.{list_all}
+use Rattle.std.proofs.lemmas.List.Sorted.{IsPermutation-refl}
+use Rattle.std.proofs.lemmas.Option.{slice_get-get_or}
+use Rattle.rdf_core.specs.declared.term.Term.{Term}
+use Rattle.rdf_core.proofs.TermLaws.{term_eq}
+use Rattle.algebra_model.specs.Algebra.{Algebra, is_within}
+use Rattle.algebra_model.specs.Bag.{IsSameBag}
+use Rattle.algebra_model.specs.Eval.{eval, named}
+use Rattle.algebra_model.specs.Expression.{holds, val}
+use Rattle.algebra_model.specs.Operators.{distinct, extend, join, left_join, minus, project, table}
+use Rattle.algebra_model.specs.Reading.{Each}
+use Rattle.algebra_model.specs.Solution.{Solution}
+use Rattle.dict_core.specs.Dict.{term_at}
+use Rattle.dict_core.specs.NumQuad.{quads_at}
+use Rattle.row_core.specs.RowList.{RowList}
+use Rattle.sparql_algebra.specs.AlgebraOf.{algebra_of, graph_name_of}
+use Rattle.sparql_algebra.specs.ExpressionOf.{expression_of}
+use Rattle.sparql_algebra.specs.declared.operator.Operator.{Operator}
+use Rattle.sparql_eval.specs.Evaluated.{IsEvaluated}
+use Rattle.sparql_eval.specs.TreeSolutions.{graph_solutions, tree_solutions}
+use Rattle.sparql_eval.proofs.NamedSteps.{each_done, each_more, graph_known}
+use Rattle.sparql_eval.proofs.ReadingLaws.{Known, all_taken, grown_itself, grown_twice, read_by, rows_kept}
+use Rattle.sparql_eval.proofs.EvaluateSteps.{active_kept, after_one, after_two, all_below, index_kept, still_evaluated, tree_kept, join_keeps, left_join_keeps, union_keeps, minus_keeps, filter_keeps, extend_keeps, project_keeps, distinct_keeps}
+use Rattle.sparql_eval.proofs.TreeSteps.{distinct_tree, extend_tree, filter_tree, graph_tree, join_tree, left_join_tree, minus_tree, project_tree, table_stands_for, table_tree, union_tree}
+use Rattle.sparql_eval.proofs.evaluator.Evaluator.+solve.Goals as goal
+
+-- ---- Join
+
+pub solve-solve-requires-in-Join-clause-index : goal.solve-solve-requires-in-Join-clause-index
+solve-solve-requires-in-Join-clause-index g t c κs within = (index_kept c.args.dict c.in_ok-left-in-Join.dict c.in_ok-left-in-Join.ensures.evaluated.grown c.args.self.now.index.now c.requires.index).0
+
+pub solve-solve-requires-in-Join-clause-active : goal.solve-solve-requires-in-Join-clause-active
+solve-solve-requires-in-Join-clause-active g t c κs within = (active_kept c.args.dict c.in_ok-left-in-Join.dict c.in_ok-left-in-Join.ensures.evaluated.grown c.args.active c.requires.active).0
+
+pub solve-join-requires-clause-known_left : goal.solve-join-requires-clause-known_left
+solve-join-requires-clause-known_left g t c κs within = (rows_kept c.in_ok-left-in-Join.dict c.in_ok-right-in-Join.dict c.in_ok-right-in-Join.ensures.evaluated.grown c.in_ok-left-in-Join.left.rows c.in_ok-left-in-Join.ensures.evaluated.known).0
+
+pub solve-returns-in_ok-right-in-Join : goal.solve-returns-in_ok-right-in-Join
+solve-returns-in_ok-right-in-Join g t c =
+    let s = c.args.self.now in
+    let S : Operator → List (Solution Term) = λ tree. tree_solutions c.args.dict s.index.now s.width c.args.active tree in
+    let h = c.in_ok-left-in-Join.ensures.evaluated in
+    let k = still_evaluated c.args.dict c.in_ok-left-in-Join.dict h.grown s.index.now s.width c.args.active c.deref-in-Join.result.now c.requires.index c.requires.active c.in_ok-right-in-Join.right c.in_ok-right-in-Join.dict c.in_ok-right-in-Join.ensures.evaluated in
+    record {
+      evaluated = after_two c.args.dict c.in_ok-left-in-Join.dict c.in_ok-right-in-Join.dict s.width c.join.result (join term_eq) (join_keeps) (S c.deref.result.now) (S c.deref-in-Join.result.now) c.in_ok-left-in-Join.left c.in_ok-right-in-Join.right h k
+          (S c.args.tree.now) (ap S c.in-Join.is ∙ join_tree c.args.dict s.index.now s.width c.args.active c.in-Join.left c.in-Join.right ∙ (λ i. join term_eq (S ((sym c.deref.ensures) i)) (S ((sym c.deref-in-Join.ensures) i)))) c.join.ensures.evaluated;
+    }
+
+-- ---- LeftJoin
+
+pub solve-solve-requires-in-LeftJoin-2-clause-index : goal.solve-solve-requires-in-LeftJoin-2-clause-index
+solve-solve-requires-in-LeftJoin-2-clause-index g t c κs within = (index_kept c.args.dict c.in_ok-left-in-LeftJoin.dict c.in_ok-left-in-LeftJoin.ensures.evaluated.grown c.args.self.now.index.now c.requires.index).0
+
+pub solve-solve-requires-in-LeftJoin-2-clause-active : goal.solve-solve-requires-in-LeftJoin-2-clause-active
+solve-solve-requires-in-LeftJoin-2-clause-active g t c κs within = (active_kept c.args.dict c.in_ok-left-in-LeftJoin.dict c.in_ok-left-in-LeftJoin.ensures.evaluated.grown c.args.active c.requires.active).0
+
+pub solve-left_join-requires-clause-known_left : goal.solve-left_join-requires-clause-known_left
+solve-left_join-requires-clause-known_left g t c κs within = (rows_kept c.in_ok-left-in-LeftJoin.dict c.in_ok-right-in-LeftJoin.dict c.in_ok-right-in-LeftJoin.ensures.evaluated.grown c.in_ok-left-in-LeftJoin.left.rows c.in_ok-left-in-LeftJoin.ensures.evaluated.known).0
+
+pub solve-returns-in_ok-right-in-LeftJoin : goal.solve-returns-in_ok-right-in-LeftJoin
+solve-returns-in_ok-right-in-LeftJoin g t c =
+    let s = c.args.self.now in
+    let S : Operator → List (Solution Term) = λ tree. tree_solutions c.args.dict s.index.now s.width c.args.active tree in
+    let h = c.in_ok-left-in-LeftJoin.ensures.evaluated in
+    let k = still_evaluated c.args.dict c.in_ok-left-in-LeftJoin.dict h.grown s.index.now s.width c.args.active c.deref-in-LeftJoin-2.result.now c.requires.index c.requires.active c.in_ok-right-in-LeftJoin.right c.in_ok-right-in-LeftJoin.dict c.in_ok-right-in-LeftJoin.ensures.evaluated in
+    record {
+      evaluated = after_two c.args.dict c.in_ok-left-in-LeftJoin.dict c.in_ok-right-in-LeftJoin.dict s.width c.left_join.result (left_join term_eq (holds (expression_of c.in-LeftJoin.condition))) (left_join_keeps (holds (expression_of c.in-LeftJoin.condition))) (S c.deref-in-LeftJoin.result.now) (S c.deref-in-LeftJoin-2.result.now) c.in_ok-left-in-LeftJoin.left c.in_ok-right-in-LeftJoin.right h k
+          (S c.args.tree.now) (ap S c.in-LeftJoin.is ∙ left_join_tree c.args.dict s.index.now s.width c.args.active c.in-LeftJoin.left c.in-LeftJoin.right c.in-LeftJoin.condition ∙ (λ i. left_join term_eq (holds (expression_of c.in-LeftJoin.condition)) (S ((sym c.deref-in-LeftJoin.ensures) i)) (S ((sym c.deref-in-LeftJoin-2.ensures) i)))) c.left_join.ensures.evaluated;
+    }
+
+-- ---- Union
+
+pub solve-solve-requires-in-Union-2-clause-index : goal.solve-solve-requires-in-Union-2-clause-index
+solve-solve-requires-in-Union-2-clause-index g t c κs within = (index_kept c.args.dict c.in_ok-left-in-Union.dict c.in_ok-left-in-Union.ensures.evaluated.grown c.args.self.now.index.now c.requires.index).0
+
+pub solve-solve-requires-in-Union-2-clause-active : goal.solve-solve-requires-in-Union-2-clause-active
+solve-solve-requires-in-Union-2-clause-active g t c κs within = (active_kept c.args.dict c.in_ok-left-in-Union.dict c.in_ok-left-in-Union.ensures.evaluated.grown c.args.active c.requires.active).0
+
+pub solve-union_of-requires-clause-known_left : goal.solve-union_of-requires-clause-known_left
+solve-union_of-requires-clause-known_left g t c = (rows_kept c.in_ok-left-in-Union.dict c.in_ok-right-in-Union.dict c.in_ok-right-in-Union.ensures.evaluated.grown c.in_ok-left-in-Union.left.rows c.in_ok-left-in-Union.ensures.evaluated.known).0
+
+pub solve-returns-in_ok-right-in-Union : goal.solve-returns-in_ok-right-in-Union
+solve-returns-in_ok-right-in-Union g t c =
+    let s = c.args.self.now in
+    let S : Operator → List (Solution Term) = λ tree. tree_solutions c.args.dict s.index.now s.width c.args.active tree in
+    let h = c.in_ok-left-in-Union.ensures.evaluated in
+    let k = still_evaluated c.args.dict c.in_ok-left-in-Union.dict h.grown s.index.now s.width c.args.active c.deref-in-Union-2.result.now c.requires.index c.requires.active c.in_ok-right-in-Union.right c.in_ok-right-in-Union.dict c.in_ok-right-in-Union.ensures.evaluated in
+    record {
+      evaluated = after_two c.args.dict c.in_ok-left-in-Union.dict c.in_ok-right-in-Union.dict s.width c.union_of.result (λ A B. A ++ B) (union_keeps) (S c.deref-in-Union.result.now) (S c.deref-in-Union-2.result.now) c.in_ok-left-in-Union.left c.in_ok-right-in-Union.right h k
+          (S c.args.tree.now) (ap S c.in-Union.is ∙ union_tree c.args.dict s.index.now s.width c.args.active c.in-Union.left c.in-Union.right ∙ (λ i. (S ((sym c.deref-in-Union.ensures) i)) ++ (S ((sym c.deref-in-Union-2.ensures) i)))) c.union_of.ensures.evaluated;
+    }
+
+-- ---- Minus
+
+pub solve-solve-requires-in-Minus-2-clause-index : goal.solve-solve-requires-in-Minus-2-clause-index
+solve-solve-requires-in-Minus-2-clause-index g t c κs within = (index_kept c.args.dict c.in_ok-left-in-Minus.dict c.in_ok-left-in-Minus.ensures.evaluated.grown c.args.self.now.index.now c.requires.index).0
+
+pub solve-solve-requires-in-Minus-2-clause-active : goal.solve-solve-requires-in-Minus-2-clause-active
+solve-solve-requires-in-Minus-2-clause-active g t c κs within = (active_kept c.args.dict c.in_ok-left-in-Minus.dict c.in_ok-left-in-Minus.ensures.evaluated.grown c.args.active c.requires.active).0
+
+pub solve-minus-requires-clause-known_left : goal.solve-minus-requires-clause-known_left
+solve-minus-requires-clause-known_left g t c κs within = (rows_kept c.in_ok-left-in-Minus.dict c.in_ok-right-in-Minus.dict c.in_ok-right-in-Minus.ensures.evaluated.grown c.in_ok-left-in-Minus.left.rows c.in_ok-left-in-Minus.ensures.evaluated.known).0
+
+pub solve-returns-in_ok-right-in-Minus : goal.solve-returns-in_ok-right-in-Minus
+solve-returns-in_ok-right-in-Minus g t c =
+    let s = c.args.self.now in
+    let S : Operator → List (Solution Term) = λ tree. tree_solutions c.args.dict s.index.now s.width c.args.active tree in
+    let h = c.in_ok-left-in-Minus.ensures.evaluated in
+    let k = still_evaluated c.args.dict c.in_ok-left-in-Minus.dict h.grown s.index.now s.width c.args.active c.deref-in-Minus-2.result.now c.requires.index c.requires.active c.in_ok-right-in-Minus.right c.in_ok-right-in-Minus.dict c.in_ok-right-in-Minus.ensures.evaluated in
+    record {
+      evaluated = after_two c.args.dict c.in_ok-left-in-Minus.dict c.in_ok-right-in-Minus.dict s.width c.minus.result (minus term_eq) (minus_keeps) (S c.deref-in-Minus.result.now) (S c.deref-in-Minus-2.result.now) c.in_ok-left-in-Minus.left c.in_ok-right-in-Minus.right h k
+          (S c.args.tree.now) (ap S c.in-Minus.is ∙ minus_tree c.args.dict s.index.now s.width c.args.active c.in-Minus.left c.in-Minus.right ∙ (λ i. minus term_eq (S ((sym c.deref-in-Minus.ensures) i)) (S ((sym c.deref-in-Minus-2.ensures) i)))) c.minus.ensures.evaluated;
+    }
+
+-- ---- Filter
+
+pub solve-returns-in_ok-rows-in-Filter : goal.solve-returns-in_ok-rows-in-Filter
+solve-returns-in_ok-rows-in-Filter g t c =
+    let s = c.args.self.now in
+    let S : Operator → List (Solution Term) = λ tree. tree_solutions c.args.dict s.index.now s.width c.args.active tree in
+    record {
+      evaluated = after_one c.args.dict c.in_ok-rows-in-Filter.dict s.width c.filter.result (filter (holds (expression_of c.in-Filter.condition))) (filter_keeps (holds (expression_of c.in-Filter.condition))) (S c.deref-in-Filter.result.now) c.in_ok-rows-in-Filter.rows c.in_ok-rows-in-Filter.ensures.evaluated
+          (S c.args.tree.now) (ap S c.in-Filter.is ∙ filter_tree c.args.dict s.index.now s.width c.args.active c.in-Filter.condition c.in-Filter.inner ∙ (λ i. filter (holds (expression_of c.in-Filter.condition)) (S ((sym c.deref-in-Filter.ensures) i)))) c.filter.ensures.evaluated;
+    }
+
+-- ---- Extend
+
+pub solve-returns-in_ok-rows-in-Extend : goal.solve-returns-in_ok-rows-in-Extend
+solve-returns-in_ok-rows-in-Extend g t c =
+    let s = c.args.self.now in
+    let S : Operator → List (Solution Term) = λ tree. tree_solutions c.args.dict s.index.now s.width c.args.active tree in
+    record {
+      evaluated = after_one c.args.dict c.in_ok-rows-in-Extend.dict s.width c.extend.result (extend c.in-Extend.variable (val (expression_of c.in-Extend.expression))) (extend_keeps c.in-Extend.variable (val (expression_of c.in-Extend.expression))) (S c.deref-in-Extend.result.now) c.in_ok-rows-in-Extend.rows c.in_ok-rows-in-Extend.ensures.evaluated
+          (S c.args.tree.now) (ap S c.in-Extend.is ∙ extend_tree c.args.dict s.index.now s.width c.args.active c.in-Extend.variable c.in-Extend.expression c.in-Extend.inner ∙ (λ i. extend c.in-Extend.variable (val (expression_of c.in-Extend.expression)) (S ((sym c.deref-in-Extend.ensures) i)))) c.extend.ensures.evaluated;
+    }
+
+-- ---- Project
+
+pub solve-returns-in_ok-rows-in-Project : goal.solve-returns-in_ok-rows-in-Project
+solve-returns-in_ok-rows-in-Project g t c =
+    let s = c.args.self.now in
+    let S : Operator → List (Solution Term) = λ tree. tree_solutions c.args.dict s.index.now s.width c.args.active tree in
+    record {
+      evaluated = after_one c.args.dict c.in_ok-rows-in-Project.dict s.width c.project.result (project c.as_slice-in-Project.result.now) (project_keeps c.as_slice-in-Project.result.now) (S c.deref-in-Project.result.now) c.in_ok-rows-in-Project.rows c.in_ok-rows-in-Project.ensures.evaluated
+          (S c.args.tree.now) (ap S c.in-Project.is ∙ project_tree c.args.dict s.index.now s.width c.args.active c.in-Project.variables c.in-Project.inner ∙ (λ i. project ((sym c.as_slice-in-Project.ensures.value) i) (S ((sym c.deref-in-Project.ensures) i)))) c.project.ensures.evaluated;
+    }
+
+-- ---- Distinct
+
+pub solve-returns-in_ok-rows-in-Distinct : goal.solve-returns-in_ok-rows-in-Distinct
+solve-returns-in_ok-rows-in-Distinct g t c =
+    let s = c.args.self.now in
+    let S : Operator → List (Solution Term) = λ tree. tree_solutions c.args.dict s.index.now s.width c.args.active tree in
+    record {
+      evaluated = after_one c.args.dict c.in_ok-rows-in-Distinct.dict s.width c.distinct.result (distinct term_eq) (distinct_keeps) (S c.deref-in-Distinct.result.now) c.in_ok-rows-in-Distinct.rows c.in_ok-rows-in-Distinct.ensures.evaluated
+          (S c.args.tree.now) (ap S c.in-Distinct.is ∙ distinct_tree c.args.dict s.index.now s.width c.args.active c.in-Distinct.inner ∙ (λ i. distinct term_eq (S ((sym c.deref-in-Distinct.ensures) i)))) c.distinct.ensures.evaluated;
+    }
+
+-- ---- Table
+
+pub solve-table-requires : goal.solve-table-requires
+solve-table-requires g t c = record {
+  below = all_below c.args.self.now.width c.as_slice-variables.result.now
+      (subst (λ (vs : List ℕ). list_all (λ v. nat_lt v c.args.self.now.width) vs ≡ true) (sym c.as_slice-variables.ensures.value)
+      (subst (λ (A : Algebra). is_within c.args.self.now.width A ≡ true) (ap algebra_of c.in-Table.is ∙ table_stands_for c.in-Table.variables c.in-Table.rows) c.requires.within));
+}
+
+pub solve-returns-in-Table : goal.solve-returns-in-Table
+solve-returns-in-Table g t c =
+    let s = c.args.self.now in
+    let S : Operator → List (Solution Term) = λ tree. tree_solutions c.args.dict s.index.now s.width c.args.active tree in
+    let is : S c.args.tree.now ≡ table s.width c.as_slice-variables.result.now (map (λ row. row.items) c.as_slice-in-Table.result.now) =
+    ap S c.in-Table.is ∙ table_tree c.args.dict s.index.now s.width c.args.active c.in-Table.variables c.in-Table.rows ∙ (λ i. table s.width ((sym c.as_slice-variables.ensures.value) i) (map (λ row. row.items) ((sym c.as_slice-in-Table.ensures.value) i))) in
+    record { evaluated = subst (λ (A : List (Solution Term)). IfOk c.table.result (λ r. IsEvaluated c.args.dict s.width A r.0 r.1)) (sym is) c.table.ensures.evaluated }
+
+-- ---- Graph
+
+pub solve-returns-in-Graph : goal.solve-returns-in-Graph
+solve-returns-in-Graph g t c =
+    let s = c.args.self.now in
+    let S : Operator → List (Solution Term) = λ tree. tree_solutions c.args.dict s.index.now s.width c.args.active tree in
+    let is : S c.args.tree.now ≡ graph_solutions c.args.dict s.index.now s.width (graph_name_of c.in-Graph.name) c.deref-in-Graph.result.now =
+    ap S c.in-Graph.is ∙ graph_tree c.args.dict s.index.now s.width c.args.active c.in-Graph.name c.in-Graph.inner ∙ ap (λ (tree : Operator). graph_solutions c.args.dict s.index.now s.width (graph_name_of c.in-Graph.name) tree) (sym c.deref-in-Graph.ensures) in
+    record { evaluated = subst (λ (A : List (Solution Term)). IfOk c.solve_graph.result (λ r. IsEvaluated c.args.dict s.width A r.0 r.1)) (sym is) c.solve_graph.ensures.evaluated }
+
+pub solve_each-solve-requires-clause-active : goal.solve_each-solve-requires-clause-active
+solve_each-solve-requires-clause-active g t c κs within =
+    let terms = c.args.dict in
+    let graphs = c.graphs-names.result.now in
+    let n = get_or graphs c.loop-i.i 0 in
+    let at : slice_get graphs c.loop-i.i ≡ Some n = slice_get-get_or graphs c.loop-i.i 0 (omega arith) in
+    let low = graph_known terms c.len-distinct.ensures.distinct c.args.self.now.index.now c.requires.index graphs c.graphs-names.ensures.names c.loop-i.i n at in
+    (active_kept terms c.loop-i.dict c.loop-i.invariant.grown (Some n) (λ m e. let p : n ≡ m = cc in subst (λ (x : ℕ). x < length terms) p low)).0
+
+pub solve_each-loop-i-init : goal.solve_each-loop-i-init
+solve_each-loop-i-init g t c =
+    let e = c.new-made.ensures.empty in
+    let none = ap (λ (r : RowList). r.rows) e in
+    record {
+      width = ap (λ (r : RowList). r.width) e;
+      grown = grown_itself c.args.dict;
+      known = subst (Each (Known c.args.dict)) (sym none) tt;
+      bag = subst (λ (l : List (Solution ℕ)). IsSameBag (map (read_by c.args.dict) l) []) (sym none) (IsPermutation-refl []);
+    }
+
+pub solve_each-loop-i-preserved : goal.solve_each-loop-i-preserved
+solve_each-loop-i-preserved g t c =
+    let was = c.loop-i.invariant in
+    let s = c.args.self.now in
+    let terms = c.args.dict in
+    let now = c.loop-i.dict in
+    let later = c.in_ok-rows.grown in
+    let h = c.in_ok-rows.ensures.evaluated in
+    let tree = c.args.inner.now in
+    let P : Term → List (Solution Term) = λ i. eval s.width (quads_at terms s.index.now) (Some i) (algebra_of tree) in
+    let graphs = c.graphs-names.result.now in
+    let n = get_or graphs c.loop-i.i 0 in
+    let at : slice_get graphs c.loop-i.i ≡ Some n = slice_get-get_or graphs c.loop-i.i 0 (omega arith) in
+    let low = graph_known terms c.len-distinct.ensures.distinct s.index.now c.requires.index graphs c.graphs-names.ensures.names c.loop-i.i n at in
+    let got = subst (λ (A : List (Solution Term)). IsEvaluated now s.width A c.in_ok-rows.rows later)
+    (tree_kept terms now was.grown s.index.now s.width (Some n) tree c.requires.index (λ m e. let p : n ≡ m = cc in subst (λ (x : ℕ). x < length terms) p low)) h in
+    let name = c.as_slice.ensures.value ∙ c.in_ok-name.ensures.row in
+    let added = c.in_ok-add_named.ensures.added ∙ ap (λ (ν : List (Option ℕ)). c.loop-i.made.rows ++ join nat_eq c.in_ok-rows.rows.rows (ν ∷ [])) name in
+    let grown = grown_twice terms now later was.grown h.grown in
+    let more = each_more terms now later c.len-still_distinct.ensures.distinct was.grown h.grown grown s.width c.args.variable P
+    c.loop-i.made.rows c.add_named.new.made.rows c.in_ok-rows.rows graphs c.loop-i.i n at low was.known was.bag got added in
+    record {
+      width = c.in_ok-add_named.ensures.width ∙ was.width;
+      grown = grown;
+      known = more.0;
+      bag = more.1;
+    }
+
+pub solve_each-returns : goal.solve_each-returns
+solve_each-returns g t c =
+    let was = c.loop-i.invariant in
+    let s = c.args.self.now in
+    let terms = c.args.dict in
+    let now = c.loop-i.dict in
+    let graphs = c.graphs-names.result.now in
+    let F : Term → List (Solution Term) = λ i. join term_eq (eval s.width (quads_at terms s.index.now) (Some i) (algebra_of c.args.inner.now)) (named s.width c.args.variable i) in
+    let bag = subst (λ (l : List ℕ). IsSameBag (map (read_by now) c.loop-i.made.rows) (flat_map F (map (term_at terms) l))) (all_taken graphs c.loop-i.i (omega arith)) was.bag in
+    record {
+      evaluated = each_done terms c.len-distinct.ensures.distinct s.index.now c.requires.index graphs c.graphs-names.ensures.names F s.width now was.grown c.loop-i.made was.width was.known bag;
+    }

@@ -1,0 +1,28 @@
+use Rattle.std.proofs.Common.{◌++◌, ◌∷◌, [], ℕ, Bool, cond, sym, ap, ◌∙◌}
+use Rattle.std.proofs.lemmas.List.{append-nil}
+use Rattle.algebra_model.specs.Solution.{Solution, merge}
+use Rattle.row_core.specs.RowList.{RowList}
+use Rattle.sparql_eval.proofs.GraphSteps.{named_turn}
+use Rattle.sparql_eval.proofs.graphs.add_named.Goals as goal
+use Rattle.sparql_eval.proofs.graphs.add_named.Goals.{then-is_compatible+in_ok-merge_into+in_ok-push, else-is_compatible}
+
+pub loop-i-preserved : goal.loop-i-preserved
+loop-i-preserved c =
+    let was = c.loop-i.invariant in
+    let made = c.loop-i.made.rows in
+    let μ = c.row-row.result.now in
+    let ν = c.args.name.now in
+    let turn = named_turn c.args.rows.now.rows ν c.loop-i.i μ c.row-row.ensures.found c.args.made.now.rows made c.if-is_compatible.made.rows c.is_compatible.result c.is_compatible.ensures.value was.added in
+    elim c.if-is_compatible.branch [
+      | then-is_compatible+in_ok-merge_into+in_ok-push w ↦ record {
+        width = ap (λ (r : RowList). r.width) w.made-is ∙ w.in_ok-push.ensures.width ∙ was.width;
+        added = turn (ap (λ (r : RowList). r.rows) w.made-is ∙ w.in_ok-push.ensures.added
+            ∙ ap (λ (x : Solution ℕ). made ++ x ∷ []) (w.as_slice.ensures.value ∙ w.in_ok-merge_into.ensures.merged)
+            ∙ ap (λ (b : Bool). made ++ cond b (merge μ ν ∷ []) []) (sym w.if-is_compatible.true));
+      }
+      | else-is_compatible w ↦ record {
+        width = ap (λ (r : RowList). r.width) w.made-is ∙ was.width;
+        added = turn (ap (λ (r : RowList). r.rows) w.made-is ∙ sym (append-nil made)
+            ∙ ap (λ (b : Bool). made ++ cond b (merge μ ν ∷ []) []) (sym w.if-is_compatible.false));
+      }
+    ]

@@ -1,0 +1,270 @@
+//! The recursion over a plan's tree: each operator over the rows of its inputs.
+ghost use Rattle.std.specs.Prelude.{◌≡◌, ◌<◌, true, filter, length, map, option_map, IfOk};
+ghost use Rattle.std.specs.List.{list_all};
+ghost use Rattle.std.specs.Option.{ForSome};
+ghost use Rattle.rdf_core.proofs.TermLaws.{term_eq};
+ghost use Rattle.algebra_model.specs.Algebra.{each_graph, is_name_below, is_triple_below, is_within};
+ghost use Rattle.algebra_model.specs.Bgp.{bgp};
+ghost use Rattle.algebra_model.specs.Dataset.{graph};
+ghost use Rattle.algebra_model.specs.Expression.{holds, val};
+ghost use Rattle.algebra_model.specs.Operators.{extend, join, left_join, minus};
+ghost use Rattle.dict_core.specs.Dict.{term_at};
+ghost use Rattle.dict_core.specs.NumQuad.{AreBelow, quads_at};
+ghost use Rattle.row_pieces.specs.How.{IsRunnable};
+ghost use Rattle.sparql_algebra.specs.AlgebraOf.{algebra_of, graph_name_of, triple_pattern_of};
+ghost use Rattle.sparql_algebra.specs.ExpressionOf.{expression_of};
+ghost use Rattle.sparql_eval.specs.Evaluated.{AreKnown, IsEvaluated, solutions_of};
+ghost use Rattle.sparql_eval.specs.TreeSolutions.{graph_solutions, tree_solutions};
+
+use crate::distinctness::distinct;
+use crate::extensions::extend;
+use crate::filters::filter;
+use crate::graphs::{add_named, graph_number, name_row};
+use crate::joins::{join, left_join, minus};
+use crate::patterns::pattern;
+use crate::projections::project;
+use crate::tables::table;
+use crate::unions::union_of;
+use dict_core::Dict;
+use piece_pool::Gate;
+use quad_index::Index;
+use row_core::Rows;
+use row_pieces::{EvalFault, How};
+use sparql_algebra::{Expr, GraphName, Operator, TriplePattern};
+use std::alloc::Global;
+use std::hash::RandomState;
+use std::sync::Wait;
+use std::thread::Threads;
+
+/// What a tree is evaluated over, and how: the index, the count of variables, what rows are hashed
+/// with, and the workers.
+#[derive(Drop)]
+pub(crate) struct Evaluator<'a, R, G> {
+    pub(crate) rt: &'a R,
+    pub(crate) alloc: Global,
+    pub(crate) state: RandomState,
+    pub(crate) index: &'a Index,
+    pub(crate) width: usize,
+    pub(crate) how: &'a How,
+    pub(crate) gate: &'a G,
+    pub(crate) ghost runnable: { IsRunnable how.now },
+}
+
+impl<'a, R: Threads + Wait, G: Gate + Sync> Evaluator<'a, R, G> {
+    /// The solutions of a tree, with the graph of this number active, the default graph where None.
+    #[cycle(solve)]
+    pub(crate) fn solve(
+        &self,
+        dict: Dict,
+        active: Option<u64>,
+        tree: &Operator,
+    ) -> Result<(Rows, Dict), EvalFault>
+        requires index { AreBelow (length dict) self.now.index.now }
+        requires active { ForSome active (λ g. g < length dict) }
+        requires within { is_within self.now.width (algebra_of tree.now) ≡ true }
+        ensures evaluated { IfOk result (λ r. IsEvaluated dict self.now.width
+            (tree_solutions dict self.now.index.now self.now.width active tree.now) r.0 r.1) }
+    {
+        match tree {
+            Operator::Pattern { labels, triples } => {
+                self.pattern(dict, active, *labels, triples.as_slice())
+            }
+            Operator::Join { left, right } => {
+                let (left, dict) = self.solve(dict, active, left)?;
+                let (right, dict) = self.solve(dict, active, right)?;
+                self.join(dict, &left, &right)
+            }
+            Operator::LeftJoin {
+                left,
+                right,
+                condition,
+            } => {
+                let (left, dict) = self.solve(dict, active, left)?;
+                let (right, dict) = self.solve(dict, active, right)?;
+                self.left_join(dict, &left, &right, condition)
+            }
+            Operator::Union { left, right } => {
+                let (left, dict) = self.solve(dict, active, left)?;
+                let (right, dict) = self.solve(dict, active, right)?;
+                union_of(dict, left, right)
+            }
+            Operator::Minus { left, right } => {
+                let (left, dict) = self.solve(dict, active, left)?;
+                let (right, dict) = self.solve(dict, active, right)?;
+                self.minus(dict, &left, &right)
+            }
+            Operator::Graph { name, inner } => self.solve_graph(dict, name, inner),
+            Operator::Filter { condition, inner } => {
+                let (rows, dict) = self.solve(dict, active, inner)?;
+                self.filter(dict, &rows, condition)
+            }
+            Operator::Extend {
+                variable,
+                expression,
+                inner,
+            } => {
+                let (rows, dict) = self.solve(dict, active, inner)?;
+                self.extend(dict, &rows, *variable, expression)
+            }
+            Operator::Project { variables, inner } => {
+                let (rows, dict) = self.solve(dict, active, inner)?;
+                project(self.alloc, dict, &rows, variables.as_slice())
+            }
+            Operator::Distinct { inner } => {
+                let (rows, dict) = self.solve(dict, active, inner)?;
+                distinct(self.alloc, self.state, dict, &rows)
+            }
+            Operator::Table { variables, rows } => {
+                let variables = variables.as_slice();
+                table(self.alloc, dict, self.width, variables, rows.as_slice())
+            }
+        }
+    }
+
+    /// The solutions of a tree in a named graph, or in each of them in turn.
+    #[cycle(solve)]
+    pub(crate) fn solve_graph(
+        &self,
+        dict: Dict,
+        name: &GraphName,
+        inner: &Operator,
+    ) -> Result<(Rows, Dict), EvalFault>
+        requires index { AreBelow (length dict) self.now.index.now }
+        requires name { is_name_below self.now.width (graph_name_of name.now) ≡ true }
+        requires within { is_within self.now.width (algebra_of inner.now) ≡ true }
+        ensures evaluated { IfOk result (λ r. IsEvaluated dict self.now.width
+            (graph_solutions dict self.now.index.now self.now.width (graph_name_of name.now)
+            inner.now) r.0 r.1) }
+    {
+        match name {
+            GraphName::Variable(variable) => self.solve_each(dict, *variable, inner),
+            GraphName::Iri(term) => match graph_number(&dict, self.index, term) {
+                Some(number) => self.solve(dict, Some(number), inner),
+                None => Ok((Rows::new(self.alloc, self.width), dict)),
+            },
+        }
+    }
+
+    /// The solutions of a tree in each named graph, those of a graph joined with the variable bound
+    /// to the graph's name.
+    #[cycle(solve)]
+    fn solve_each(
+        &self,
+        dict: Dict,
+        variable: usize,
+        inner: &Operator,
+    ) -> Result<(Rows, Dict), EvalFault>
+        requires index { AreBelow (length dict) self.now.index.now }
+        requires variable { variable < self.now.width }
+        requires within { is_within self.now.width (algebra_of inner.now) ≡ true }
+        ensures evaluated { IfOk result (λ r. IsEvaluated dict self.now.width
+            (graph_solutions dict self.now.index.now self.now.width (each_graph variable)
+            inner.now) r.0 r.1) }
+    {
+        let _distinct = dict.len();
+        let mut dict = dict;
+        let mut made = Rows::new(self.alloc, self.width);
+        let names = self.index.graphs();
+        for i in 0..names.len() {
+            let (rows, grown) = self.solve(dict, Some(names[i]), inner)?;
+            let _still_distinct = grown.len();
+            dict = grown;
+            let name = name_row(self.alloc, self.width, variable, names[i])?;
+            add_named(self.alloc, &mut made, &rows, name.as_slice())?;
+        }
+        Ok((made, dict))
+    }
+
+    fn pattern(
+        &self,
+        dict: Dict,
+        active: Option<u64>,
+        labels: usize,
+        triples: &[TriplePattern],
+    ) -> Result<(Rows, Dict), EvalFault>
+        requires index { AreBelow (length dict) self.now.index.now }
+        requires active { ForSome active (λ g. g < length dict) }
+        requires below { list_all (is_triple_below self.now.width labels)
+            (map triple_pattern_of triples.now) ≡ true }
+        ensures evaluated { IfOk result (λ r. IsEvaluated dict self.now.width
+            (bgp term_eq self.now.width labels (map triple_pattern_of triples.now)
+            (graph (quads_at dict self.now.index.now) (option_map (term_at dict) active)))
+            r.0 r.1) }
+    {
+        pattern(
+            self.rt, self.alloc, dict, self.index, active, self.width, labels, triples, self.how,
+            self.gate,
+        )
+    }
+
+    fn join(&self, dict: Dict, left: &Rows, right: &Rows) -> Result<(Rows, Dict), EvalFault>
+        requires same_width { left.now.width ≡ right.now.width }
+        requires known_left { AreKnown dict left.now }
+        requires known_right { AreKnown dict right.now }
+        ensures evaluated { IfOk result (λ r. IsEvaluated dict left.now.width
+            (join term_eq (solutions_of dict left.now) (solutions_of dict right.now)) r.0 r.1) }
+    {
+        join(
+            self.rt, self.alloc, self.state, dict, left, right, self.how, self.gate,
+        )
+    }
+
+    fn left_join(
+        &self,
+        dict: Dict,
+        left: &Rows,
+        right: &Rows,
+        condition: &Expr,
+    ) -> Result<(Rows, Dict), EvalFault>
+        requires same_width { left.now.width ≡ right.now.width }
+        requires known_left { AreKnown dict left.now }
+        requires known_right { AreKnown dict right.now }
+        ensures evaluated { IfOk result (λ r. IsEvaluated dict left.now.width
+            (left_join term_eq (holds (expression_of condition.now))
+            (solutions_of dict left.now) (solutions_of dict right.now)) r.0 r.1) }
+    {
+        left_join(
+            self.rt, self.alloc, self.state, dict, left, right, condition, self.how, self.gate,
+        )
+    }
+
+    fn minus(&self, dict: Dict, left: &Rows, right: &Rows) -> Result<(Rows, Dict), EvalFault>
+        requires same_width { left.now.width ≡ right.now.width }
+        requires known_left { AreKnown dict left.now }
+        requires known_right { AreKnown dict right.now }
+        ensures evaluated { IfOk result (λ r. IsEvaluated dict left.now.width
+            (minus term_eq (solutions_of dict left.now) (solutions_of dict right.now)) r.0 r.1) }
+    {
+        minus(
+            self.rt, self.alloc, self.state, dict, left, right, self.how, self.gate,
+        )
+    }
+
+    fn filter(&self, dict: Dict, rows: &Rows, condition: &Expr) -> Result<(Rows, Dict), EvalFault>
+        requires known { AreKnown dict rows.now }
+        ensures evaluated { IfOk result (λ r. IsEvaluated dict rows.now.width
+            (filter (holds (expression_of condition.now)) (solutions_of dict rows.now)) r.0 r.1) }
+    {
+        filter(
+            self.rt, self.alloc, dict, rows, condition, self.how, self.gate,
+        )
+    }
+
+    fn extend(
+        &self,
+        dict: Dict,
+        rows: &Rows,
+        variable: usize,
+        expression: &Expr,
+    ) -> Result<(Rows, Dict), EvalFault>
+        requires known { AreKnown dict rows.now }
+        requires variable { variable < rows.now.width }
+        ensures evaluated { IfOk result (λ r. IsEvaluated dict rows.now.width
+            (extend variable (val (expression_of expression.now)) (solutions_of dict rows.now))
+            r.0 r.1) }
+    {
+        extend(
+            self.rt, self.alloc, dict, rows, variable, expression, self.how, self.gate,
+        )
+    }
+}

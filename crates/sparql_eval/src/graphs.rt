@@ -1,0 +1,70 @@
+//! Named graphs (SPARQL 1.1 Query Language, section 18.6, Graph).
+ghost use Rattle.std.specs.Prelude.{◌≡◌, ◌<◌, ◌++◌, ◌∷◌, [], true, false, Some, None, length, nat_eq, replicate, set, slice_get, IfOk, OnOk, MatchOption};
+ghost use Rattle.std.specs.List.{list_any};
+ghost use Rattle.rdf_core.proofs.TermLaws.{term_eq};
+ghost use Rattle.algebra_model.specs.Dataset.{names};
+ghost use Rattle.algebra_model.specs.Operators.{join};
+ghost use Rattle.dict_core.specs.NumQuad.{AreBelow, quads_at};
+ghost use Rattle.sparql_eval.specs.GraphNumbers.{IsGraphNumber};
+
+use dict_core::Dict;
+use quad_index::Index;
+use rdf_core::Term;
+use row_core::{Rows, is_compatible, merge_into};
+use std::alloc::{AllocError, Global};
+
+/// The number of a graph's name, and None where no graph has that name.
+pub(crate) fn graph_number(dict: &Dict, index: &Index, name: &Term) -> Option<u64>
+    requires index { AreBelow (length dict.now) index.now }
+    ensures number { MatchOption result
+        (list_any (term_eq name.now) (names (quads_at dict.now index.now)) ≡ false)
+        (λ n. IsGraphNumber dict.now index.now name.now n) }
+{
+    let _distinct = dict.len();
+    let number = dict.number_of(name)?;
+    if index.graphs().contains(&number) {
+        Some(number)
+    } else {
+        None
+    }
+}
+
+/// The row that binds one variable.
+pub(crate) fn name_row(
+    alloc: Global,
+    width: usize,
+    variable: usize,
+    number: u64,
+) -> Result<Vec<Option<u64>>, AllocError>
+    requires variable { variable < width }
+    ensures row { IfOk result (λ row. row.items ≡ set (replicate width None) variable (Some number)) }
+    ensures wide { IfOk result (λ row. length row.items ≡ width) }
+{
+    let mut row = Vec::new(alloc);
+    row.resize(width, None)?;
+    row[variable] = Some(number);
+    Ok(row)
+}
+
+/// Adds the merges of the rows with one row.
+pub(crate) fn add_named(
+    alloc: Global,
+    made: &mut Rows,
+    rows: &Rows,
+    name: &[Option<u64>],
+) -> Result<(), AllocError>
+    requires same_width { rows.now.width ≡ made.old.width }
+    requires wide { length name.now ≡ rows.now.width }
+    ensures added { OnOk result (made.new.rows ≡ made.old.rows ++ join nat_eq rows.now.rows (name.now ∷ [])) }
+    ensures width { made.new.width ≡ made.old.width }
+{
+    let mut merged = Vec::with_capacity(alloc, rows.width())?;
+    for i in 0..rows.len() {
+        let row = rows.row(i);
+        if is_compatible(row, name) {
+            merge_into(&mut merged, row, name)?;
+            made.push(merged.as_slice())?;
+        }
+    }
+    Ok(())
+}
