@@ -27,3 +27,6 @@ mod values;
 
 pub use query::parse;
 pub use select::Select;
+
+#[cfg(test)]
+mod tests;
