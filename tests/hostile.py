@@ -1,0 +1,463 @@
+#!/usr/bin/env python3
+"""Deep, long and broken input for the built program: it has to answer each with its own line and status.
+
+    hostile.py [PATH] [--only WORD] [--size N]
+
+PATH is the program (crates/spq/out/spq where none is given). A case is a command line, a document, and
+the line and status that must come. A program that ends by a signal, prints anything else, or runs for
+longer than two minutes has failed. The documents of `growth` are read at a size and at four times that
+size: time and memory may grow by twice that factor, but not by its square.
+`--size N` scales the large documents: N percent of their full size, so that a first try is quick.
+Python 3 standard library only.
+"""
+import argparse
+import os
+import resource
+import shutil
+import signal
+import subprocess
+import sys
+import tempfile
+import time
+
+HERE = os.path.dirname(os.path.abspath(__file__))
+SECONDS = 120
+MIB = 1 << 20
+STATEMENT = b"<http://e/s> <http://e/p> <http://e/o> .\n"
+
+
+class Failed(Exception):
+    pass
+
+
+def expect(holds, text):
+    if not holds:
+        raise Failed(text)
+
+
+class Answer:
+    def __init__(self, status, output, seconds, peak):
+        self.status, self.output, self.seconds, self.peak = status, output, seconds, peak
+
+    def is_exactly(self, status, line):
+        shown = self.output[:200]
+        expect(self.status == status, f"status {self.status} and {shown!r}, not {status}")
+        expect(self.output == line, f"{shown!r}, not {line[:200]!r}")
+
+
+class Program:
+    """The program under test, and the folder for documents and outputs."""
+
+    def __init__(self, path, folder, percent):
+        self.path, self.folder, self.percent = path, folder, percent
+
+    def scaled(self, n):
+        return max(1, n * self.percent // 100)
+
+    def file(self, parts):
+        path = os.path.join(self.folder, "document")
+        with open(path, "wb") as out:
+            for part in parts:
+                out.write(part)
+        return path
+
+    def run(self, words, document, limit=None, output=None):
+        """Runs it on a document, the parts of one or the path of a file, with stdout read or sent to a file."""
+        path = document if isinstance(document, str) else self.file(document)
+        kept = os.path.join(self.folder, "output")
+        with open(path, "rb") as source, open(output or kept, "wb") as sink:
+            child = subprocess.Popen([self.path, *words], stdin=source, stdout=sink, preexec_fn=limit)
+            status, seconds, peak = self.wait(child)
+        with open(kept, "rb") as made:
+            text = b"" if output else made.read()
+        return Answer(status, text, seconds, peak)
+
+    def wait(self, child):
+        """The status, the processor's seconds, and the most memory that was seen, in MiB."""
+        peak, end = 0.0, time.monotonic() + SECONDS
+        while time.monotonic() < end:
+            peak = high_water(child.pid) or peak
+            pid, raw, usage = os.wait4(child.pid, os.WNOHANG)
+            if pid:
+                child.returncode = os.waitstatus_to_exitcode(raw)
+                if child.returncode < 0:
+                    raise Failed(f"ended by {signal.Signals(-child.returncode).name}")
+                return child.returncode, usage.ru_utime + usage.ru_stime, peak
+            time.sleep(0.002)
+        child.kill()
+        child.wait()
+        raise Failed(f"still running after {SECONDS} seconds")
+
+
+def high_water(pid):
+    """The peak of a process so far; what wait4 tells has that of this script in it, from before the exec."""
+    try:
+        with open(f"/proc/{pid}/status") as lines:
+            return next((int(line.split()[1]) / 1024 for line in lines if line.startswith("VmHWM:")), None)
+    except OSError:
+        return None
+
+
+def repeated(part, count):
+    """A long document in parts of some megabytes."""
+    whole = max(1, MIB // len(part))
+    for _ in range(count // whole):
+        yield part * whole
+    yield part * (count % whole)
+
+
+def counts(quads, terms, graphs):
+    return b"ok %d quads %d terms %d graphs\n" % (quads, terms, graphs)
+
+
+def bad_line(number):
+    return b"error: line %d\n" % number
+
+
+# ---- documents of a few bytes
+
+SMALL = [
+    ("an empty document", b"", 0, counts(0, 0, 0)),
+    ("one line feed", b"\n", 0, counts(0, 0, 0)),
+    ("no line feed", STATEMENT[:-1], 0, counts(1, 3, 0)),
+    ("a bad line without a line feed", STATEMENT + b"x", 1, bad_line(2)),
+    ("a lone CR at the end", STATEMENT[:-1] + b"\r", 0, counts(1, 3, 0)),
+    ("a NUL byte alone", b"\0", 1, bad_line(1)),
+    ("a NUL byte behind a statement", STATEMENT + STATEMENT[:-1] + b"\0\n", 1, bad_line(2)),
+    ("a NUL byte in an IRI", b"<http://e/\0> <http://e/p> <http://e/o> .\n", 1, bad_line(1)),
+    ("a NUL byte in a literal", b'<http://e/s> <http://e/p> "\0" .\n', 0, counts(1, 3, 0)),
+    ("a byte that begins no character", STATEMENT + b'<http://e/s> <http://e/p> "\xff" .\n', 1, bad_line(2)),
+    ("half a character at the end", STATEMENT + b'<http://e/s> <http://e/p> "\xe6\x9d', 1, bad_line(2)),
+    ("a surrogate in UTF-8", b'<http://e/s> <http://e/p> "\xed\xa0\x80" .\n', 1, bad_line(1)),
+    ("a surrogate as an escape", rb'<http://e/s> <http://e/p> "\ud800" .' + b"\n", 1, bad_line(1)),
+    ("an overlong slash", b"<http:\xc0\xaf/e/s> <http://e/p> <http://e/o> .\n", 1, bad_line(1)),
+    ("invalid UTF-8 in a comment", b"# \xff\n", 1, bad_line(1)),
+    ("a byte order mark", b"\xef\xbb\xbf" + STATEMENT, 1, bad_line(1)),
+    ("a quote that never closes", b'<http://e/s> <http://e/p> "x .\n' + STATEMENT, 1, bad_line(1)),
+    ("an IRI that never closes", b"<http://e/s <http://e/p> <http://e/o> .\n", 1, bad_line(1)),
+]
+
+
+def small_documents(program):
+    for name, document, status, line in SMALL:
+        for words in (["check"], ["check", "--workers", "64", "--piece", "1"]):
+            try:
+                program.run(words, [document]).is_exactly(status, line)
+            except Failed as fault:
+                raise Failed(f"{name}, {' '.join(words)}: {fault}") from None
+
+
+# ---- long lines and many of them
+
+def a_line_of_blanks(program):
+    parts = [*repeated(b" ", program.scaled(100 * MIB)), b"#\n", STATEMENT]
+    program.run(["check"], parts).is_exactly(0, counts(1, 3, 0))
+
+
+def a_long_comment(program):
+    parts = [STATEMENT[:-1], b" # ", *repeated("é".encode(), program.scaled(50 * MIB)), b"\n"]
+    program.run(["check"], parts).is_exactly(0, counts(1, 3, 0))
+
+
+def a_long_bad_line(program):
+    parts = [STATEMENT, *repeated(b"x", program.scaled(100 * MIB)), b"\n", STATEMENT]
+    program.run(["check"], parts).is_exactly(1, bad_line(2))
+
+
+def a_long_document_without_a_line_feed(program):
+    parts = repeated(b"x", program.scaled(100 * MIB))
+    program.run(["check"], parts).is_exactly(1, bad_line(1))
+
+
+def a_long_literal(program):
+    size = program.scaled(50 * MIB)
+    parts = [b'<http://e/s> <http://e/p> "', *repeated(b"a", size), b'" .\n']
+    answer = program.run(["terms"], parts)
+    wanted = b'<http://e/s>\n<http://e/p>\n"' + b"a" * size + b'"\n'
+    answer.is_exactly(0, wanted)
+
+
+def a_long_literal_of_escapes(program):
+    size = program.scaled(10 * MIB)
+    parts = [b'<http://e/s> <http://e/p> "', *repeated(rb"\U0000000A", size), b'" .\n']
+    answer = program.run(["terms"], parts)
+    answer.is_exactly(0, b'<http://e/s>\n<http://e/p>\n"' + rb"\n" * size + b'"\n')
+
+
+def a_long_iri_and_label_and_tag(program):
+    size = program.scaled(10 * MIB)
+    iri = b"<http://e/" + b"i" * size + b">"
+    label = b"_:" + b"b." * size + b"b"
+    literal = b'"x"@en' + b"-a" * size
+    parts = [label, b" ", iri, b" ", literal, b" ", iri, b" .\n"]
+    program.run(["terms"], parts).is_exactly(0, label + b"\n" + iri + b"\n" + literal + b"\n")
+
+
+def a_label_of_dots(program):
+    parts = [b"_:b", *repeated(b".", program.scaled(50 * MIB)), b" <http://e/p> _:c .\n"]
+    program.run(["check"], parts).is_exactly(1, bad_line(1))
+
+
+def many_empty_lines(program):
+    lines = program.scaled(20_000_000)
+    parts = [*repeated(b"\n", lines), b"x\n"]
+    program.run(["check"], parts).is_exactly(1, bad_line(lines + 1))
+
+
+def many_lone_returns(program):
+    lines = program.scaled(20_000_000)
+    parts = [*repeated(b"\r", lines), b"x"]
+    program.run(["check"], parts).is_exactly(1, bad_line(lines + 1))
+
+
+def one_statement_many_times(program):
+    lines = program.scaled(1_000_000)
+    program.run(["check"], repeated(STATEMENT, lines)).is_exactly(0, counts(1, 3, 0))
+
+
+def many_graphs(program):
+    graphs = program.scaled(1_000_000)
+    parts = (b"<http://e/s> <http://e/p> <http://e/o> <http://e/g%d> .\n" % n for n in range(graphs))
+    program.run(["check"], parts).is_exactly(0, counts(graphs, 3 + graphs, graphs))
+
+
+# ---- many workers and pieces
+
+def many_workers_over_many_pieces(program):
+    lines = [b"<http://e/s%d> <http://e/p> _:b%d .\n" % (n, n % 7) for n in range(10_000)]
+    for words in (["--workers", "64", "--piece", "1"], ["--workers", "1"], ["--workers", "64"]):
+        program.run(["check", *words], lines).is_exactly(0, counts(10_000, 10_008, 0))
+
+
+def the_least_of_many_bad_lines(program):
+    lines = [STATEMENT] * 10_000
+    for at in range(4321, 10_000, 3):
+        lines[at] = b"x\n"
+    for workers in ("1", "2", "64"):
+        words = ["check", "--workers", workers, "--piece", "1"]
+        program.run(words, lines).is_exactly(1, bad_line(4322))
+
+
+# ---- devices
+
+def a_full_output(program):
+    for words in (["check"], ["terms"]):
+        answer = program.run(words, [STATEMENT], output="/dev/full")
+        expect(answer.status == 5, f"{words[0]}: status {answer.status}, not 5")
+
+
+def a_reader_that_closes_early(program):
+    path = program.file(b"<http://e/s%d> <http://e/p> _:b .\n" % n for n in range(200_000))
+    with open(path, "rb") as source:
+        child = subprocess.Popen([program.path, "terms"], stdin=source, stdout=subprocess.PIPE)
+        expect(child.stdout.read(10) == b"<http://e/", "no terms came")
+        child.stdout.close()
+        status, _, _ = program.wait(child)
+    expect(status == 5, f"status {status}, not 5")
+
+
+def a_closed_output(program):
+    answer = program.run(["check"], [STATEMENT], limit=lambda: os.close(1))
+    expect(answer.status == 5, f"status {answer.status}, not 5")
+
+
+def an_input_that_fails(program):
+    kept = os.path.join(program.folder, "output")
+    for what in ("a folder", "nothing"):
+        with open(kept, "wb") as sink:
+            source = os.open(program.folder, os.O_RDONLY)
+            closed = (lambda: os.close(0)) if what == "nothing" else None
+            child = subprocess.Popen([program.path, "check"], stdin=source, stdout=sink, preexec_fn=closed)
+            os.close(source)
+            status, _, _ = program.wait(child)
+        with open(kept, "rb") as made:
+            text = made.read()
+        expect((status, text) == (5, b"error: input\n"), f"{what}: status {status} and {text[:200]!r}")
+
+
+# ---- refusals of the system
+
+def little_memory(program):
+    """Under every limit on the address space the answer stands, or memory or a worker is refused."""
+    lines = [b"<http://e/s%d> <http://e/p> _:b%d .\n" % (n, n) for n in range(20_000)]
+    path = program.file(lines)
+    answers = {
+        (0, counts(20_000, 40_001, 0)),
+        (4, b"error: memory\n"),
+        (4, b"error: worker\n"),
+    }
+    seen = set()
+    for size in (6, 8, 10, 12, 14, 16, 20, 24, 28, 32, 48, 64, 96, 128, 256, 512, 1024):
+        for workers in ("1", "4", "64"):
+            room = size * MIB
+            limit = lambda: resource.setrlimit(resource.RLIMIT_AS, (room, room))
+            answer = program.run(["check", "--workers", workers], path, limit=limit)
+            got = (answer.status, answer.output)
+            expect(got in answers, f"{size} MiB, {workers} workers: status {got[0]} and {got[1][:200]!r}")
+            seen.add(got)
+    expect(len(seen) > 1, "no limit was small enough to be felt")
+
+
+def few_processes(program):
+    """No further thread may start: the answer, or a worker is refused (a single one may need a thread too)."""
+    copied = shutil.copy(program.path, os.path.join(program.folder, "program"))
+    program = Program(copied, program.folder, program.percent)
+
+    def limit():
+        if os.getuid() == 0:
+            os.setgid(65534)
+            os.setuid(65534)
+        resource.setrlimit(resource.RLIMIT_NPROC, (1, 1))
+
+    os.chmod(program.folder, 0o755)
+    answers = {(0, counts(1, 3, 0)), (4, b"error: worker\n")}
+    for workers in ("1", "2", "64"):
+        answer = program.run(["check", "--workers", workers], [STATEMENT], limit=limit)
+        got = (answer.status, answer.output)
+        expect(got in answers, f"{workers} workers: status {got[0]} and {got[1][:200]!r}")
+
+
+# ---- command lines
+
+def wrong_words(program):
+    lines = [
+        [], [""], ["chek"], ["check", "x"], ["check", "--workers"], ["check", "--workers", ""],
+        ["check", "--workers", "0"], ["check", "--workers", "65"], ["check", "--workers", "-1"],
+        ["check", "--workers", "18446744073709551617"], ["check", "--workers", "9" * 100_000],
+        ["check", "--piece", "0"], ["check", "--piece", "1073741825"], ["check", b"\xff"],
+        ["check", "--" + "x" * 100_000], ["terms"] + ["x"] * 10_000, ["select"],
+    ]
+    for words in lines:
+        answer = program.run(words, [STATEMENT])
+        got = (answer.status, answer.output)
+        expect(got == (3, b"error: command line\n"), f"{str(words)[:80]}: status {got[0]} and {got[1][:200]!r}")
+
+
+# ---- growth
+
+def distinct_statements(n):
+    return (b'<http://e/s%d> <http://e/p> "%d" <http://e/g%d> .\n' % (k, k, k) for k in range(n))
+
+
+def escaped_statements(n):
+    return (rb'<http://e/\u0073%d> <http://e/p> "\t%d" .' % (k, k) + b"\n" for k in range(n))
+
+
+def one_long_literal(n):
+    return [b'<http://e/s> <http://e/p> "', *repeated(rb"\tab", 20 * n), b'" .\n']
+
+
+def growth(program):
+    """Four times the input: at most eight times the seconds and the memory, over those of an empty document."""
+    empty = program.run(["check"], [b""])
+    n = program.scaled(200_000)
+    for made, line in (
+        (distinct_statements, lambda k: counts(k, 3 * k + 1, k)),
+        (escaped_statements, lambda k: counts(k, 2 * k + 1, 0)),
+        (one_long_literal, lambda k: counts(1, 3, 0)),
+    ):
+        less = program.run(["check"], made(n))
+        more = program.run(["check"], made(4 * n))
+        less.is_exactly(0, line(n))
+        more.is_exactly(0, line(4 * n))
+        for name, start, a, b, least in (
+            ("seconds", empty.seconds, less.seconds, more.seconds, 0.2),
+            ("MiB", empty.peak, less.peak, more.peak, 16),
+        ):
+            expect(b - start <= 8 * max(a - start, least), f"{made.__name__}: {a:.2f} and {b:.2f} {name}")
+
+
+# ---- queries
+
+NO_NAMES = b'{"head":{"vars":[]},"results":{"bindings":[{}]}}\n'
+
+
+def brackets(program):
+    """100 deep is answered; 101 deep, and as deep as a command line can be, is refused as too deep."""
+    for depth in (1, 99, 100, 101, 1000, 60_000):
+        status, line = (0, NO_NAMES) if depth <= 100 else (2, b"error: query depth\n")
+        for query in (
+            "SELECT * " + "{" * depth + "}" * depth,
+            "SELECT * { FILTER" + "(" * (depth - 1) + "true" + ")" * (depth - 1) + " }" if depth > 1 else "SELECT * {}",
+        ):
+            program.run(["select", "--query", query], [b""]).is_exactly(status, line)
+    for query, line in (
+        ("SELECT * " + "{" * 130_000, b"error: query depth\n"),
+        ("SELECT * " + "}" * 130_000, b"error: query syntax\n"),
+        ("SELECT ~ " + "{" * 130_000, b"error: query syntax\n"),
+        ("SELECT * {" + "!" * 100, b"error: query syntax\n"),
+    ):
+        program.run(["select", "--query", query], [STATEMENT]).is_exactly(2, line)
+
+
+def a_query_before_a_bad_document(program):
+    parts = [b"x\n"]
+    program.run(["select", "--query", "SELECT * {"], parts).is_exactly(2, b"error: query syntax\n")
+    program.run(["select", "--query", "SELECT * {}"], parts).is_exactly(1, bad_line(1))
+
+
+def long_queries(program):
+    """As long as a command line can be, and nested nowhere by brackets."""
+    both = b'{"head":{"vars":[]},"results":{"bindings":[%s]}}\n'
+    triple = (
+        b'{"head":{"vars":["s","p","o"]},"results":{"bindings":[{"o":{"type":"uri","value":"http://e/o"},'
+        b'"p":{"type":"uri","value":"http://e/p"},"s":{"type":"uri","value":"http://e/s"}}]}}\n'
+    )
+    for name, query, line in (
+        ("signs of not", "SELECT * { FILTER(" + "!" * 100_000 + "true) }", NO_NAMES),
+        ("both", "SELECT * { FILTER(" + "true && " * 15_000 + "true) }", NO_NAMES),
+        ("either", "SELECT * { FILTER(" + "false || " * 13_000 + "true) }", NO_NAMES),
+        ("unions", "SELECT * { " + "{} UNION " * 10_000 + "{} }", both % b",".join([b"{}"] * 10_001)),
+        ("groups", "SELECT * { " + "{} " * 40_000 + "}", NO_NAMES),
+        ("optional groups", "SELECT * { " + "OPTIONAL {} " * 10_000 + "}", NO_NAMES),
+        ("triples", "SELECT * { " + "?s ?p ?o . " * 10_000 + "}", triple),
+    ):
+        try:
+            program.run(["select", "--query", query], [STATEMENT]).is_exactly(0, line)
+        except Failed as fault:
+            raise Failed(f"{name}: {fault}") from None
+
+
+SELECT_CASES = [brackets, a_query_before_a_bad_document, long_queries]
+
+CASES = [
+    small_documents, a_line_of_blanks, a_long_comment, a_long_bad_line, a_long_document_without_a_line_feed,
+    a_long_literal, a_long_literal_of_escapes, a_long_iri_and_label_and_tag, a_label_of_dots, many_empty_lines,
+    many_lone_returns, one_statement_many_times, many_graphs, many_workers_over_many_pieces,
+    the_least_of_many_bad_lines, a_full_output, a_reader_that_closes_early, a_closed_output,
+    an_input_that_fails, little_memory, few_processes, wrong_words, growth,
+]
+
+
+def main():
+    words = argparse.ArgumentParser(description=__doc__.split("\n")[0])
+    words.add_argument("program", nargs="?", default=os.path.join(HERE, "..", "crates", "spq", "out", "spq"))
+    words.add_argument("--only", default="")
+    words.add_argument("--size", type=int, default=100)
+    given = words.parse_args()
+    if not os.path.exists(given.program):
+        sys.exit(f"no program at {given.program}: build it first (see README)")
+    failed = 0
+    with tempfile.TemporaryDirectory() as folder:
+        program = Program(os.path.abspath(given.program), folder, given.size)
+        cases = list(CASES)
+        if program.run(["select", "--query", "SELECT * {}"], [b""]).output == NO_NAMES:
+            cases += SELECT_CASES
+        else:
+            print("skipped the queries: this program does not read all of them")
+        for case in cases:
+            name = case.__name__.replace("_", " ")
+            if given.only not in name:
+                continue
+            start = time.perf_counter()
+            try:
+                case(program)
+                print(f"ok      {name} ({time.perf_counter() - start:.1f} s)", flush=True)
+            except Failed as fault:
+                failed += 1
+                print(f"FAILED  {name}: {fault}", flush=True)
+    sys.exit(1 if failed else 0)
+
+
+if __name__ == "__main__":
+    main()
