@@ -1,5 +1,8 @@
 //! The command line.
-ghost use Rattle.std.specs.Prelude.{◌≡◌, ◌≤◌, IfOk};
+ghost use Rattle.std.specs.Prelude.{◌≡◌, ◌≤◌, IfErr, IfOk, codes, false, map, string_bytes};
+ghost use Rattle.clap.specs.Words.{app_of, found_of, rows_of, rule_of, subcommand_rows_of};
+ghost use Rattle.clap.specs.declared.builder.command.Command.TheViews.{out-Command as fields_of};
+ghost use Rattle.spq_command.specs.Program.{HasNumber, HasReading, HasSelect, IsCommandLine, IsCommandMet, IsCommandOf, number_option, program, reading_options, select_options, with_options};
 ghost use Rattle.spq_command.specs.declared.command_line.CommandFault.TheVariants.{Memory};
 
 use crate::command::{Command, Reading};
@@ -42,28 +45,43 @@ impl From<AllocError> for CommandFault {
 }
 
 /// An argument that takes a number from 1 to `most`.
-fn number<'a>(alloc: Global, name: &'a str, most: u64) -> Arg<'a> {
+fn number<'a>(alloc: Global, name: &'a str, most: u64) -> Arg<'a>
+    ensures rule { rule_of result ≡ number_option name.entry.now most }
+    ensures local { result.global ≡ false }
+{
     Arg::new(alloc, name)
         .long(name)
         .value_parser(ValueParser::Unsigned(1, most))
 }
 
 /// A subcommand with the arguments that tell how a document is read.
-fn reading_line<'a>(alloc: Global, name: &'a str) -> Result<Line<'a>, AllocError> {
+fn reading_line<'a>(alloc: Global, name: &'a str) -> Result<Line<'a>, AllocError>
+    ensures app { IfOk result (λ line. app_of line ≡ with_options name.entry.now reading_options) }
+    ensures local { IfOk result (λ line. (fields_of line).has_globals ≡ false) }
+{
     Line::new(alloc, name)
         .arg(number(alloc, "workers", MOST_WORKERS))?
         .arg(number(alloc, "piece", MOST_BYTES))
 }
 
-/// The command lines of the program.
-fn program_line<'a>(alloc: Global) -> Result<Line<'a>, AllocError> {
+/// The subcommand that answers a query.
+fn select_line<'a>(alloc: Global) -> Result<Line<'a>, AllocError>
+    ensures app { IfOk result (λ line. app_of line ≡ with_options (codes "select") select_options) }
+    ensures local { IfOk result (λ line. (fields_of line).has_globals ≡ false) }
+{
     let query = Arg::new(alloc, "query").long("query").required(true);
-    let select = reading_line(alloc, "select")?
+    reading_line(alloc, "select")?
         .arg(query)?
-        .arg(number(alloc, "rows", MOST_ROWS))?;
+        .arg(number(alloc, "rows", MOST_ROWS))
+}
+
+/// The command lines of the program.
+fn program_line<'a>(alloc: Global) -> Result<Line<'a>, AllocError>
+    ensures app { IfOk result (λ line. app_of line ≡ program) }
+{
     Line::new(alloc, "spq")
         .subcommand_required(true)
-        .subcommand(select)?
+        .subcommand(select_line(alloc)?)?
         .subcommand(reading_line(alloc, "check")?)?
         .subcommand(reading_line(alloc, "terms")?)
 }
@@ -77,25 +95,39 @@ fn number_of(
 ) -> Result<usize, CommandFault>
     requires default { (1 ≤ default) × (default ≤ most) }
     ensures within { IfOk result (λ n. (1 ≤ n) × (n ≤ most)) }
+    ensures ok { IfOk result (HasNumber name.now default most (rows_of (found_of found.now))) }
+    ensures line { IfErr result (λ _.
+        (n : _) → HasNumber name.now default most (rows_of (found_of found.now)) n → ⊥) }
 {
-    if !found.contains_id(name) {
-        return Ok(default as usize);
-    }
-    match found.get_one::<u64>(name) {
-        Some(n) if 1 <= n && n <= most => Ok(n as usize),
-        _ => Err(CommandFault::Line),
+    match found.try_get_one::<u64>(name) {
+        Ok(None) => Ok(default as usize),
+        Ok(Some(n)) => {
+            if n < 1 || most < n {
+                return Err(CommandFault::Line);
+            }
+            Ok(n as usize)
+        }
+        Err(_) => Err(CommandFault::Line),
     }
 }
 
 /// How the document is to be read.
-fn reading_of(found: &ArgMatches<'_>) -> Result<Reading, CommandFault> {
+fn reading_of(found: &ArgMatches<'_>) -> Result<Reading, CommandFault>
+    ensures ok { IfOk result (HasReading (rows_of (found_of found.now))) }
+    ensures line { IfErr result (λ _.
+        (reading : _) → HasReading (rows_of (found_of found.now)) reading → ⊥) }
+{
     let workers = number_of(found, "workers", WORKERS, MOST_WORKERS)?;
     let piece = number_of(found, "piece", BYTES, MOST_BYTES)?;
     Ok(Reading { workers, piece })
 }
 
 /// The query of a `select`, and how it is to be answered.
-fn select_of(alloc: Global, found: &ArgMatches<'_>) -> Result<Command, CommandFault> {
+fn select_of(alloc: Global, found: &ArgMatches<'_>) -> Result<Command, CommandFault>
+    ensures ok { IfOk result (IsCommandOf (codes "select", rows_of (found_of found.now))) }
+    ensures line { IfErr result (λ fault. fault ≡ CommandFault.Line → (query : _) (reading : _)
+        (rows : _) → HasSelect (rows_of (found_of found.now)) query reading rows → ⊥) }
+{
     let Some(query) = found.get_str("query") else {
         return Err(CommandFault::Line);
     };
@@ -110,25 +142,38 @@ fn select_of(alloc: Global, found: &ArgMatches<'_>) -> Result<Command, CommandFa
 }
 
 /// The command of a line that was taken.
-fn command_of(alloc: Global, matches: &ArgMatches<'_>) -> Result<Command, CommandFault> {
-    match matches.subcommand() {
-        Some(("select", found)) => select_of(alloc, found),
-        Some(("check", found)) => Ok(Command::Check {
+fn command_of(alloc: Global, matches: &ArgMatches<'_>) -> Result<Command, CommandFault>
+    ensures ok { IfOk result (IsCommandMet (subcommand_rows_of matches.now)) }
+    ensures line { IfErr result (λ fault. fault ≡ CommandFault.Line
+        → (command : _) → IsCommandMet (subcommand_rows_of matches.now) command → ⊥) }
+{
+    let Some((name, found)) = matches.subcommand() else {
+        return Err(CommandFault::Line);
+    };
+    match name {
+        "select" => select_of(alloc, found),
+        "check" => Ok(Command::Check {
             reading: reading_of(found)?,
         }),
-        Some(("terms", found)) => Ok(Command::Terms {
+        "terms" => Ok(Command::Terms {
             reading: reading_of(found)?,
         }),
         _ => Err(CommandFault::Line),
     }
 }
 
-/// Reads the command line; the program's name comes first.
+/// The command that the words of a command line are; the program's name comes first.
+///
+/// A number that is not given is 4 workers, 65,536 bytes or 1,024 rows.
 ///
 /// # Errors
-/// - `Line`: the words are no command, or ask for help.
-/// - `Memory`: a growth was refused.
-pub fn read_command(alloc: Global, words: &[String]) -> Result<Command, CommandFault> {
+/// - `Line`: the words are no command, or ask for help; a number is none, or not within its limits.
+/// - `Memory`: a growth was refused. It says nothing of the words.
+pub fn read_command(alloc: Global, words: &[String]) -> Result<Command, CommandFault>
+    ensures ok { IfOk result (IsCommandLine (map string_bytes words.now)) }
+    ensures line { IfErr result (λ fault. fault ≡ CommandFault.Line
+        → (command : _) → IsCommandLine (map string_bytes words.now) command → ⊥) }
+{
     let line = program_line(alloc)?;
     match line.try_get_matches_from(words) {
         Ok(matches) => command_of(alloc, &matches),

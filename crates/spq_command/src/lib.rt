@@ -1,7 +1,8 @@
 //! The command line of spq: words go in; a [`Command`] comes out, or the reason why there is none.
 //!
 //! What the crates above use: a [`Command`] as a value whose type keeps the limits of its numbers
-//! ([`Reading`]), and [`read_command`], which makes one of the words.
+//! ([`Reading`]), and [`read_command`]: the command that the words are (`IsCommandLine` of
+//! specs/Program.antt), and `Line` exactly where they are none.
 //!
 //! To read in this order: `command` (commands), `command_line` (words).
 //!

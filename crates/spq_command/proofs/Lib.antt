@@ -1,0 +1,2 @@
+pub mod NumberSteps
+pub mod CommandSteps

@@ -1,0 +1,91 @@
+-- The command lines of the program, as a command of the library of command lines, and the command
+-- that its matches are.
+use Rattle.std.specs.Prelude.{◌≡◌, ℕ, true, false, List, [], ◌∷◌, ◌++◌, Option, Some, None, codes}
+use Rattle.std.specs.Str.Parse.{digits_value, without_leading_plus}
+use Rattle.clap.specs.Words.{App, Row, Rule, Text, fault_of, first_of, new_rule, one_of, subcommand_of}
+use Rattle.clap.specs.Simple.{new_shape}
+use Rattle.clap.specs.Values.{IsUnsignedIn}
+use Rattle.clap.specs.declared.builder.value_parser.ValueParser.TheVariants.{Unsigned}
+use Rattle.spq_command.specs.declared.command.Command.{Command}
+use Rattle.spq_command.specs.declared.command.Command.TheVariants.{Select, Check, Terms}
+use Rattle.spq_command.specs.declared.command.Reading.{Reading}
+
+-- ---- the options and the subcommands
+
+-- `--name TEXT`
+abbrev pub text_option : Text → Rule
+text_option name = record (new_rule name) { long = Some name }
+
+-- `--name N`, a number from 1 to `most`
+abbrev pub number_option : Text → ℕ → Rule
+number_option name most = record (text_option name) { parser = Some (Unsigned 1 most) }
+
+abbrev pub query_option : Rule
+query_option = record (text_option (codes "query")) { required = true }
+
+abbrev pub rows_option : Rule
+rows_option = number_option (codes "rows") 1073741824
+
+abbrev pub workers_option : Rule
+workers_option = number_option (codes "workers") 64
+
+abbrev pub piece_option : Rule
+piece_option = number_option (codes "piece") 1073741824
+
+-- how a document is read
+abbrev pub reading_options : List Rule
+reading_options = workers_option ∷ piece_option ∷ []
+
+abbrev pub select_options : List Rule
+select_options = reading_options ++ query_option ∷ rows_option ∷ []
+
+-- a command with these options
+abbrev pub with_options : Text → List Rule → App
+with_options name rules = record { top = record (new_shape name) { rules = rules }; subs = [] }
+
+-- the program, which wants one of its subcommands
+abbrev pub program : App
+program = record {
+  top = record (new_shape (codes "spq")) { is_leaf = false; subcommand_required = true };
+  subs = (with_options (codes "select") select_options).top
+      ∷ (with_options (codes "check") reading_options).top
+      ∷ (with_options (codes "terms") reading_options).top ∷ [];
+}
+
+-- ---- the command of the matches
+
+-- the number that an option has: its default where it is not given, and else what its text spells
+-- in decimal digits, a plus before them or not, from 1 to `most`
+abbrev pub IsNumber : ℕ → ℕ → Option Text → ℕ → Type 0
+IsNumber default most None n = n ≡ default
+IsNumber default most (Some text) n =
+    IsUnsignedIn 1 most text × (n ≡ digits_value 10 (without_leading_plus text))
+
+abbrev pub HasNumber : Text → ℕ → ℕ → List Row → ℕ → Type 0
+HasNumber name default most found n = IsNumber default most (one_of name found) n
+
+pub record HasReading (found : List Row) (reading : Reading) : Type 0 where
+  pub workers : HasNumber (codes "workers") 4 64 found reading.workers
+  pub piece : HasNumber (codes "piece") 65536 1073741824 found reading.piece
+
+pub record HasSelect (found : List Row) (query : Text) (reading : Reading) (rows : ℕ) : Type 0 where
+  pub text : first_of (codes "query") found ≡ Some query
+  pub how : HasReading found reading
+  pub size : HasNumber (codes "rows") 1024 1073741824 found rows
+
+-- the name of the subcommand, and what its rows have
+abbrev pub IsCommandOf : Text × List Row → Command → Type 0
+IsCommandOf found (Select query reading rows) =
+    (found.0 ≡ codes "select") × HasSelect found.1 query reading rows
+IsCommandOf found (Check reading) = (found.0 ≡ codes "check") × HasReading found.1 reading
+IsCommandOf found (Terms reading) = (found.0 ≡ codes "terms") × HasReading found.1 reading
+
+-- the subcommand that was met is this command
+abbrev pub IsCommandMet : Option (Text × List Row) → Command → Type 0
+IsCommandMet None command = ⊥
+IsCommandMet (Some found) command = IsCommandOf found command
+
+-- the library takes the words, and the command is that of their matches
+pub record IsCommandLine (words : List Text) (command : Command) : Type 0 where
+  pub taken : fault_of program words ≡ []
+  pub matches : IsCommandMet (subcommand_of program words) command
