@@ -1,26 +1,20 @@
 //! The operators, by running through all solutions or all pairs of them.
-ghost use Rattle.std.specs.Prelude.{◌≡◌, ◌∷◌, ◌&&◌, ◌||◌, not, IfOk, OnOk, filter};
+ghost use Rattle.std.specs.Prelude.{◌≡◌, ◌∷◌, ◌++◌, ◌&&◌, ◌||◌, not, IfOk, OnOk, filter, map};
 ghost use Rattle.std.specs.List.{list_all};
 ghost use Rattle.rdf_core.proofs.TermLaws.{term_eq};
 ghost use Rattle.algebra_model.specs.Solution.{is_compatible, merge, same_solution};
-ghost use Rattle.algebra_model.specs.Operators.{share, merges, join, left_join, minus, extend, distinct, table};
+ghost use Rattle.algebra_model.specs.Operators.{share, merges, join, left_join, minus, extend, project, distinct, table};
 ghost use Rattle.algebra_model.specs.Solve.{alone};
 
 use crate::condition::{Condition, Value};
+use crate::lists::with_first;
+use crate::places::listed_places;
 use crate::solution::{
-    Solution, bound_cells, cells_agree, cells_share, copy_cells, merged_cells, same_cells,
-    table_cells,
+    Solution, bound_cells, cells_agree, cells_share, copy_cells, merged_cells, restricted_cells,
+    same_cells, table_cells,
 };
+use rdf_core::Term;
 use std::alloc::{AllocError, Global};
-
-/// The solutions with one more in front.
-fn with_first(first: Solution, rest: Vec<Solution>) -> Result<Vec<Solution>, AllocError>
-    ensures value { IfOk result (λ solutions. solutions.items ≡ first ∷ rest.items) }
-{
-    let mut solutions = rest;
-    solutions.insert(0, first)?;
-    Ok(solutions)
-}
 
 /// An equal solution.
 fn copy(alloc: Global, solution: &Solution) -> Result<Solution, AllocError>
@@ -229,6 +223,63 @@ pub fn extend<V: Value>(
     }
 }
 
+/// Project: all solutions, each on the listed variables alone.
+///
+/// The others become unbound, and every solution keeps its width.
+///
+/// # Errors
+/// `AllocError`: a growth was refused.
+pub fn project(
+    alloc: Global,
+    variables: &[usize],
+    solutions: &[Solution],
+) -> Result<Vec<Solution>, AllocError>
+    ensures value { IfOk result (λ kept. kept.items ≡ project variables.now solutions.now) }
+{
+    match solutions.split_first() {
+        None => Ok(Vec::new(alloc)),
+        Some((solution, rest)) => {
+            let kept = project(alloc, variables, rest)?;
+            let listed = listed_places(alloc, solution.terms().len(), variables)?;
+            let cells = restricted_cells(alloc, &listed, solution.terms())?;
+            with_first(Solution::of(cells), kept)
+        }
+    }
+}
+
+/// Union: all solutions of both, the left ones first.
+///
+/// # Errors
+/// `AllocError`: a growth was refused.
+pub fn union(
+    alloc: Global,
+    left: &[Solution],
+    right: &[Solution],
+) -> Result<Vec<Solution>, AllocError>
+    ensures value { IfOk result (λ all. all.items ≡ left.now ++ right.now) }
+{
+    match left.split_first() {
+        None => copies(alloc, right),
+        Some((solution, rest)) => {
+            let all = union(alloc, rest, right)?;
+            with_first(copy(alloc, solution)?, all)
+        }
+    }
+}
+
+/// Equal solutions.
+fn copies(alloc: Global, solutions: &[Solution]) -> Result<Vec<Solution>, AllocError>
+    ensures value { IfOk result (λ copies. copies.items ≡ solutions.now) }
+{
+    match solutions.split_first() {
+        None => Ok(Vec::new(alloc)),
+        Some((solution, rest)) => {
+            let copied = copies(alloc, rest)?;
+            with_first(copy(alloc, solution)?, copied)
+        }
+    }
+}
+
 /// The solutions that differ from the given one.
 fn others(
     alloc: Global,
@@ -267,8 +318,8 @@ pub fn distinct(alloc: Global, solutions: &[Solution]) -> Result<Vec<Solution>, 
     }
 }
 
-/// A table: one solution of `width` variables for each row of cells, in which the listed variables
-/// have the row's cells; None is UNDEF, which binds nothing.
+/// A table (section 18.2.2.6, inline data): one solution of `width` variables for each row of cells,
+/// in which the listed variables have the row's cells; None is UNDEF, which binds nothing.
 ///
 /// # Errors
 /// `AllocError`: a growth was refused.
@@ -276,15 +327,16 @@ pub fn table(
     alloc: Global,
     width: usize,
     variables: &[usize],
-    rows: &[Solution],
+    rows: &[Vec<Option<Term>>],
 ) -> Result<Vec<Solution>, AllocError>
-    ensures value { IfOk result (λ solutions. solutions.items ≡ table width variables.now rows.now) }
+    ensures value { IfOk result (λ solutions. solutions.items
+        ≡ table width variables.now (map (λ row. row.items) rows.now)) }
 {
     match rows.split_first() {
         None => Ok(Vec::new(alloc)),
         Some((row, rest)) => {
             let solutions = table(alloc, width, variables, rest)?;
-            let cells = table_cells(alloc, width, variables, row.terms())?;
+            let cells = table_cells(alloc, width, variables, row)?;
             with_first(Solution::of(cells), solutions)
         }
     }

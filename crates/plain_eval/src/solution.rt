@@ -1,10 +1,11 @@
 //! One solution of terms.
-ghost use Rattle.std.specs.Prelude.{◌≡◌, ◌∷◌, IfOk, Some, None, replicate};
+ghost use Rattle.std.specs.Prelude.{◌≡◌, ◌∷◌, IfOk, Some, None, false, get_or, replicate};
 ghost use Rattle.std.specs.Option.{option_eq};
 ghost use Rattle.rdf_core.proofs.TermLaws.{term_eq};
 ghost use Rattle.algebra_model.specs.Solution.{agree, bound_or, is_compatible, merge, same_solution};
-ghost use Rattle.algebra_model.specs.Operators.{share, bind, table_row};
+ghost use Rattle.algebra_model.specs.Operators.{share, bind, restrict, table_row};
 
+use crate::lists::with_first;
 use rdf_core::Term;
 use std::alloc::{AllocError, Global};
 use std::marker::Model;
@@ -41,25 +42,13 @@ impl Solution {
 }
 
 /// An equal cell.
-fn copy_cell(alloc: Global, cell: &Option<Term>) -> Result<Option<Term>, AllocError>
+pub(crate) fn copy_cell(alloc: Global, cell: &Option<Term>) -> Result<Option<Term>, AllocError>
     ensures value { IfOk result (λ copy. copy ≡ cell.now) }
 {
     match cell {
         None => Ok(None),
         Some(term) => Ok(Some(term.copy(alloc)?)),
     }
-}
-
-/// The cells with one more in front.
-pub(crate) fn with_first(
-    first: Option<Term>,
-    rest: Vec<Option<Term>>,
-) -> Result<Vec<Option<Term>>, AllocError>
-    ensures value { IfOk result (λ cells. cells.items ≡ first ∷ rest.items) }
-{
-    let mut cells = rest;
-    cells.insert(0, first)?;
-    Ok(cells)
 }
 
 /// Equal cells.
@@ -124,7 +113,7 @@ pub(crate) fn cells_share(a: &[Option<Term>], b: &[Option<Term>]) -> bool
 }
 
 /// Whether two cells are the same.
-fn same_cell(x: &Option<Term>, y: &Option<Term>) -> bool
+pub(crate) fn same_cell(x: &Option<Term>, y: &Option<Term>) -> bool
     ensures value { result ≡ option_eq term_eq x.now y.now }
 {
     match x {
@@ -238,6 +227,34 @@ pub(crate) fn table_cells(
                     row[variable] = copy_cell(alloc, x)?;
                 }
                 Ok(row)
+            }
+        },
+    }
+}
+
+/// The cells of the kept variables, the others bound to nothing.
+pub(crate) fn restricted_cells(
+    alloc: Global,
+    kept: &[bool],
+    cells: &[Option<Term>],
+) -> Result<Vec<Option<Term>>, AllocError>
+    ensures value { IfOk result
+        (λ restricted. restricted.items ≡ restrict (λ k. get_or kept.now k false) cells.now) }
+{
+    match cells.split_first() {
+        None => Ok(Vec::new(alloc)),
+        Some((x, cells)) => match kept.split_first() {
+            None => {
+                let restricted = restricted_cells(alloc, kept, cells)?;
+                with_first(None, restricted)
+            }
+            Some((&is_kept, kept)) => {
+                let restricted = restricted_cells(alloc, kept, cells)?;
+                if is_kept {
+                    with_first(copy_cell(alloc, x)?, restricted)
+                } else {
+                    with_first(None, restricted)
+                }
             }
         },
     }

@@ -1,6 +1,6 @@
 //! One call of each public function.
 use crate::condition::{Condition, Value};
-use crate::operators::{distinct, extend, filter, join, left_join, minus, table};
+use crate::operators::{distinct, extend, filter, join, left_join, minus, project, union};
 use crate::solution::Solution;
 use rdf_core::{Term, Text};
 use std::alloc::{AllocError, AllocGlobal, Global};
@@ -99,8 +99,22 @@ fn solutions_are_chosen_and_changed(rt: HostRuntime) -> Result<(), AllocError> {
     assert!(rt; are(alloc, &once, &[["a", "b"], ["a", "."]])?);
     let same = extend(alloc, 1, &NoValue {}, &once)?;
     assert!(rt; are(alloc, &same, &[["a", "b"], ["a", "."]])?);
-    let rows = solutions(alloc, &[["a", "b"], [".", "c"]])?;
-    let made = table(alloc, 2, &[1, 0], &rows)?;
-    assert!(rt; are(alloc, &made, &[["b", "a"], ["c", "."]])?);
+    Ok(())
+}
+
+#[test]
+fn solutions_are_put_together(rt: HostRuntime) -> Result<(), AllocError> {
+    let alloc = rt.alloc();
+    let some = solutions(alloc, &[["a", "b"], ["c", "."]])?;
+    let both = union(alloc, &some, &some)?;
+    assert!(rt;
+        are(
+            alloc,
+            &both,
+            &[["a", "b"], ["c", "."], ["a", "b"], ["c", "."]]
+        )?
+    );
+    let first = project(alloc, &[0], &some)?;
+    assert!(rt; are(alloc, &first, &[["a", "."], ["c", "."]])?);
     Ok(())
 }
