@@ -25,6 +25,8 @@ mod fault;
 mod loading;
 mod reader;
 mod reading;
+#[cfg(test)]
+mod refusals;
 mod rounds;
 mod sorting;
 mod store;

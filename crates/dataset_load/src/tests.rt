@@ -10,13 +10,13 @@ use std::random::RandomSource;
 use std::sync::Wait;
 use std::thread::Threads;
 
-const REPEATED: &[u8] =
+pub(crate) const REPEATED: &[u8] =
     b"<http://e/a> <http://e/p> <http://e/b> .\n<http://e/a> <http://e/p> <http://e/b> .\n<http://e/a> <http://e/p> \"x\" .\n";
 
-const GRAPHS: &[u8] =
+pub(crate) const GRAPHS: &[u8] =
     b"<http://e/a> <http://e/p> <http://e/b> .\n<http://e/a> <http://e/p> <http://e/c> <http://e/g> .\n<http://e/a> <http://e/p> <http://e/d> _:g .\n";
 
-const BAD: &[u8] =
+pub(crate) const BAD: &[u8] =
     b"<http://e/a> <http://e/p> <http://e/b> .\r\n# c\n<http://e/a> <http://e/p> .\nx\n";
 
 /// The document, cut into pieces of at least so many bytes.
@@ -54,7 +54,7 @@ fn loaded_blocks<R: Threads + Wait + RandomSource>(
 }
 
 /// The counts of quads, terms and graph names.
-fn counts(loaded: Result<Store, LoadFault>) -> Result<(u64, u64, u64), LoadFault> {
+pub(crate) fn counts(loaded: Result<Store, LoadFault>) -> Result<(u64, u64, u64), LoadFault> {
     let store = loaded?;
     Ok((store.quads(), store.terms(), store.graphs()))
 }

@@ -24,6 +24,8 @@ mod laws;
 mod local_piece;
 mod merging;
 mod num_quad;
+#[cfg(test)]
+mod refusals;
 mod rounds;
 mod seen;
 mod seen_piece;

@@ -11,19 +11,19 @@ use std::alloc::{AllocError, Global};
 use std::hash::RandomState;
 
 /// The spellings of the terms that the examples name.
-const A: &str = "http://e/a";
+pub(crate) const A: &str = "http://e/a";
 
-const B: &str = "http://e/b";
+pub(crate) const B: &str = "http://e/b";
 
-const C: &str = "http://e/c";
+pub(crate) const C: &str = "http://e/c";
 
-const G: &str = "http://e/g";
+pub(crate) const G: &str = "http://e/g";
 
-const P: &str = "http://e/p";
+pub(crate) const P: &str = "http://e/p";
 
-const Q: &str = "http://e/q";
+pub(crate) const Q: &str = "http://e/q";
 
-fn iri(alloc: Global, text: &str) -> Result<Term, AllocError> {
+pub(crate) fn iri(alloc: Global, text: &str) -> Result<Term, AllocError> {
     Ok(Term::Iri(Text::from_string(String::from_str(alloc, text)?)))
 }
 
@@ -32,7 +32,7 @@ fn blank(alloc: Global, label: &str) -> Result<Term, AllocError> {
 }
 
 /// The piece that a text is, numbered; none where it is bad or a growth was refused.
-fn numbered(alloc: Global, state: RandomState, text: &str) -> Option<LocalPiece> {
+pub(crate) fn numbered(alloc: Global, state: RandomState, text: &str) -> Option<LocalPiece> {
     let Ok(piece) = read_piece(alloc, text.as_bytes()) else {
         return None;
     };
@@ -42,7 +42,11 @@ fn numbered(alloc: Global, state: RandomState, text: &str) -> Option<LocalPiece>
     Some(local)
 }
 
-fn dict_of(alloc: Global, state: RandomState, names: &[&str]) -> Result<Dict, AllocError> {
+pub(crate) fn dict_of(
+    alloc: Global,
+    state: RandomState,
+    names: &[&str],
+) -> Result<Dict, AllocError> {
     let mut dict = Dict::new(alloc, state)?;
     for name in names {
         let Ok(_) = dict.intern(iri(alloc, name)?) else {
@@ -53,7 +57,7 @@ fn dict_of(alloc: Global, state: RandomState, names: &[&str]) -> Result<Dict, Al
 }
 
 /// Whether the dictionary has just these terms, in this order, by each of its look-ups.
-fn has(dict: &Dict, terms: &[Term]) -> bool {
+pub(crate) fn has(dict: &Dict, terms: &[Term]) -> bool {
     if dict.len() != terms.len() {
         return false;
     }
@@ -68,15 +72,15 @@ fn has(dict: &Dict, terms: &[Term]) -> bool {
     true
 }
 
-fn quad(g: Option<u64>, s: u64, p: u64, o: u64) -> NumQuad {
+pub(crate) fn quad(g: Option<u64>, s: u64, p: u64, o: u64) -> NumQuad {
     NumQuad { g, s, p, o }
 }
 
-const FIRST: &str = "<http://e/a> <http://e/p> <http://e/b> .\n";
+pub(crate) const FIRST: &str = "<http://e/a> <http://e/p> <http://e/b> .\n";
 
-const SECOND: &str = "<http://e/b> <http://e/p> <http://e/a> .\n";
+pub(crate) const SECOND: &str = "<http://e/b> <http://e/p> <http://e/a> .\n";
 
-const THIRD: &str = "<http://e/a> <http://e/q> _:x <http://e/g> .\n";
+pub(crate) const THIRD: &str = "<http://e/a> <http://e/q> _:x <http://e/g> .\n";
 
 /// A term that is there keeps its number, a new one goes last, and one that is not there has none.
 #[test]

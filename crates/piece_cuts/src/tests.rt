@@ -49,10 +49,21 @@ fn source(document: &[u8], until: usize) -> ByteSource<'_> {
 fn every_cuts_behind_line_feeds(rt: HostRuntime) -> Result<(), AllocError> {
     let alloc = rt.alloc();
     let small = Cuts::every(alloc, DOCUMENT, 1)?;
-    assert!(rt; small.fits(DOCUMENT));
     assert_eq!(rt; small.pieces(), 4);
+    assert!(rt; small.fits(DOCUMENT));
+    if small.fits(DOCUMENT) && small.pieces() == 4 {
+        assert!(rt; small.piece(DOCUMENT, 0) == b"a\n".as_slice());
+        assert!(rt; small.piece(DOCUMENT, 1) == b"b\n".as_slice());
+        assert!(rt; small.piece(DOCUMENT, 2) == b"\n".as_slice());
+        assert!(rt; small.piece(DOCUMENT, 3) == b"c".as_slice());
+    }
     let middle = Cuts::every(alloc, DOCUMENT, 3)?;
     assert_eq!(rt; middle.pieces(), 2);
+    assert!(rt; middle.fits(DOCUMENT));
+    if middle.fits(DOCUMENT) && middle.pieces() == 2 {
+        assert!(rt; middle.piece(DOCUMENT, 0) == b"a\nb\n".as_slice());
+        assert!(rt; middle.piece(DOCUMENT, 1) == b"\nc".as_slice());
+    }
     assert_eq!(rt; Cuts::every(alloc, DOCUMENT, 6)?.pieces(), 1);
     for size in 1..4 {
         assert_eq!(rt; Cuts::every(alloc, b"a\n", size)?.pieces(), 1);

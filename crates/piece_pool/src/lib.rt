@@ -25,6 +25,8 @@ mod gate;
 mod job;
 mod pool;
 #[cfg(test)]
+mod refusals;
+#[cfg(test)]
 mod tests;
 mod worker;
 

@@ -14,13 +14,13 @@ use std::thread::{Threads, yield_now};
 /// Answers each piece below `sound` with its number, and faults at every other one with it. It
 /// counts its runs.
 #[derive(Drop)]
-struct Numbers {
+pub(crate) struct Numbers {
     sound: u64,
     runs: AtomicU64,
 }
 
 impl Numbers {
-    fn sound_below(sound: u64) -> Numbers {
+    pub(crate) fn sound_below(sound: u64) -> Numbers {
         Numbers {
             sound,
             runs: AtomicU64::new(0),
@@ -77,14 +77,14 @@ impl Job for Starved {
 
 /// Counts its calls, and adds up the numbers that entered.
 #[derive(Drop)]
-struct Counter {
-    entered: AtomicU64,
-    left: AtomicU64,
+pub(crate) struct Counter {
+    pub(crate) entered: AtomicU64,
+    pub(crate) left: AtomicU64,
     sum: AtomicU64,
 }
 
 impl Counter {
-    fn fresh() -> Counter {
+    pub(crate) fn fresh() -> Counter {
         Counter {
             entered: AtomicU64::new(0),
             left: AtomicU64::new(0),

@@ -18,6 +18,8 @@ mod index;
 mod laws;
 mod prefix;
 mod range;
+#[cfg(test)]
+mod refusals;
 mod sort_order;
 #[cfg(test)]
 mod tests;

@@ -7,12 +7,12 @@ use crate::{
 use dict_core::NumQuad;
 use std::alloc::{AllocError, Global};
 
-fn quad(g: Option<u64>, s: u64, p: u64, o: u64) -> NumQuad {
+pub(crate) fn quad(g: Option<u64>, s: u64, p: u64, o: u64) -> NumQuad {
     NumQuad { g, s, p, o }
 }
 
 /// Four quads, of which one stands twice.
-const QUADS: [NumQuad; 4] = [
+pub(crate) const QUADS: [NumQuad; 4] = [
     NumQuad {
         g: None,
         s: 0,
@@ -40,7 +40,7 @@ const QUADS: [NumQuad; 4] = [
 ];
 
 /// The same index, its lists sorted one by one, as three jobs may do side by side.
-fn side_by_side(alloc: Global, quads: &[NumQuad]) -> Result<Index, AllocError> {
+pub(crate) fn side_by_side(alloc: Global, quads: &[NumQuad]) -> Result<Index, AllocError> {
     let gspo = sorted_list(alloc, quads, SortOrder::Gspo)?;
     let gpos = sorted_list(alloc, quads, SortOrder::Gpos)?;
     let gosp = sorted_list(alloc, quads, SortOrder::Gosp)?;
