@@ -17,6 +17,14 @@ import tempfile
 import time
 
 HERE = os.path.dirname(os.path.abspath(__file__))
+PREFIX = "PREFIX t: <http://library.example/terms#> "
+QUERIES = [
+    ("two triples", "SELECT ?work ?title { ?work a t:Map ; t:title ?title }"),
+    ("OPTIONAL", "SELECT ?work ?text { ?work t:issued 1900 OPTIONAL { ?work t:summary ?text } }"),
+    ("FILTER, GRAPH",
+     "SELECT ?g ?work ?price { ?work t:price ?price FILTER(?price > 890) GRAPH ?g { ?copy t:of ?work } }"),
+    ("DISTINCT, LIMIT", "SELECT DISTINCT ?place { ?person t:place ?place } LIMIT 10"),
+]
 
 
 def timed(command, path, runs):
@@ -53,6 +61,9 @@ def commands(spq, workers):
     for n in workers:
         yield f"spq check, {n} workers", [spq, "check", "--workers", n]
     yield f"spq terms, {workers[-1]} workers", [spq, "terms", "--workers", workers[-1]]
+    for name, query in QUERIES:
+        for n in workers:
+            yield f"spq select, {name}, {n} workers", [spq, "select", "--query", PREFIX + query, "--workers", n]
 
 
 def report(rows, quads):

@@ -1,154 +1,100 @@
 -- What the steps of an answer say together.
-use Rattle.std.proofs.Common.{◌≡◌, ℕ, zero, suc, ◌+◌, ◌<◌, Bool, true, false, ◌||◌, ◌==◌, not, List, [], ◌∷◌, ◌++◌, length, get_or, map, Option, None, Some, Decides, refl, sym, ap, ◌∙◌, subst, append_assoc, arith, if◌then◌else◌, ⊎_elim}
-use Rattle.std.proofs.lemmas.Bool.{cases_Bool, false≢true, or_cases}
-use Rattle.std.proofs.lemmas.List.Sorted.{IsPermutation-map, IsPermutation-trans}
-use Rattle.std.proofs.lemmas.Bool.Decides.{Decides-eqb}
-use Rattle.std.specs.Cmp.{both_ways}
-use Rattle.std.specs.List.{list_any, filter}
+use Rattle.std.proofs.Common.{◌≡◌, ℕ, ◌<◌, ◌&&◌, Bool, true, false, nat_lt, List, [], ◌∷◌, length, get_or, map, true≢false, None, refl, sym, ap, ◌∙◌, subst, arith}
+use Rattle.std.specs.List.{list_all}
+use Rattle.std.specs.Option.{unwrap_or}
 use Rattle.std.specs.Str.{bytes_eq}
+use Rattle.std.proofs.lemmas.Bool.Decides.{nat_tests}
+use Rattle.std.proofs.lemmas.List.Sums.{passes_at_first}
 use Rattle.std.proofs.lemmas.Slice.Eq.{bytes_eq-Decides}
 use Rattle.rdf_core.specs.QuadParts.{QuadParts}
 use Rattle.rdf_core.specs.declared.term.Term.{Term}
-use Rattle.rdf_core.proofs.TermLaws.{term_eq, term_decides}
-use Rattle.algebra_model.specs.Bag.{IsSameBag, IsWithoutRepeats, without_repeats}
-use Rattle.algebra_model.specs.Bgp.{Triple, bgp, same_triple_by}
-use Rattle.algebra_model.specs.Dataset.{graph}
-use Rattle.algebra_model.specs.Operators.{restrict}
-use Rattle.algebra_model.specs.RowOrder.{cells, cells_cmp}
+use Rattle.nquads_core.specs.Lines.{lines}
+use Rattle.dict_core.specs.NumQuad.{quads_at}
+use Rattle.dataset_load.specs.Store.{StoreView}
+use Rattle.dataset_load.specs.Loaded.{IsLoaded}
+use Rattle.algebra_model.specs.Algebra.{Algebra, Project, is_within}
+use Rattle.algebra_model.specs.Bag.{IsSameBag, IsSameSet}
+use Rattle.algebra_model.specs.Eval.{eval}
+use Rattle.algebra_model.specs.Laws.{BagHasOneList, DatasetIsSet}
+use Rattle.algebra_model.specs.RowOrder.{sorted_rows}
 use Rattle.algebra_model.specs.Solution.{Solution}
-use Rattle.algebra_model.specs.Solve.{AreBelow, IsBelow}
-use Rattle.algebra_model.specs.Sorted.{sorted_list}
-use Rattle.algebra_model.proofs.RepeatLaws.{any-filter}
-use Rattle.algebra_model.proofs.RowOrderLaws.{cells_cmp_total, cells_equal}
-use Rattle.algebra_model.proofs.SetLaws.{AnswersAlike, bgp-alike}
-use Rattle.algebra_model.proofs.SortedLaws.{sorted_of_bag}
-use Rattle.spq_core.specs.FirstPlan.{names, names_of, number_of, pattern_term, pattern, listed, width, rows}
-use Rattle.spq_core.specs.FirstQuery.{OnePattern}
-use Rattle.spq_core.specs.declared.first_query.FirstTerm.{FirstTerm}
-use Rattle.spq_core.specs.declared.first_query.FirstTerm.TheVariants.{Variable, Constant}
-use Rattle.spq_core.proofs.RepeatSteps.{triple_decides}
+use Rattle.algebra_model.specs.Sorted.{slice}
+use Rattle.sparql_tree.specs.QueryTree.{QueryTree}
+use Rattle.sparql_algebra.specs.Names.{Name, names_of, number_of, selected_names}
+use Rattle.sparql_algebra.specs.Projected.{projected}
+use Rattle.sparql_algebra.specs.Translation.{distinct_where, projection, translate, translate_group}
+use Rattle.spq_core.specs.Outcome.{IsJsonOf, rows}
+use Rattle.result_json.specs.Results.{json, listed_names}
 
--- ---- a list without its repeats answers tests as the list does
+-- ---- the projected variables and their names
 
-any-unfilter : {X : Type 0} (p q : X → Bool) (xs : List X) → list_any p (filter q xs) ≡ true → list_any p xs ≡ true
-any-unfilter p q [] e = e
-any-unfilter {X} p q (x ∷ xs) e = by (q x) e (any-unfilter p q xs)
-  where
-    right : (a b : Bool) → b ≡ true → (a || b) ≡ true
-    right true b e = refl
-    right false b e = e
+both_hold : (a b : Bool) → (a && b) ≡ true → (a ≡ true) × (b ≡ true)
+both_hold true b e = (refl, e)
+both_hold false b e = absurd (true≢false (sym e))
 
-    by : (b : Bool) → list_any p (if b then x ∷ filter q xs else filter q xs) ≡ true → (list_any p (filter q xs) ≡ true → list_any p xs ≡ true) → (p x || list_any p xs) ≡ true
-    by true e i = ⊎_elim (λ (t : p x ≡ true). ap (λ b. b || list_any p xs) t) (λ (t : list_any p (filter q xs) ≡ true). right (p x) (list_any p xs) (i t)) (or_cases (p x) (list_any p (filter q xs)) e)
-    by false e i = right (p x) (list_any p xs) (i e)
+projected_below : (w : ℕ) (b : Bool) (vs : List ℕ) (A : Algebra) → is_within w (distinct_where b (Project vs A)) ≡ true → list_all (λ v. nat_lt v w) vs ≡ true
+projected_below w true vs A h = (both_hold _ _ h).0
+projected_below w false vs A h = (both_hold _ _ h).0
 
-module _ {X : Type 0} (same : X → X → Bool) (decides : (x y : X) → Decides (same x y) (x ≡ y)) (p : X → Bool) where
-  kept_true : (x : X) → p x ≡ false → (y : X) → p y ≡ true → not (same x y) ≡ true
-  kept_true x n y t =
-      ⊎_elim
-      (λ (e : same x y ≡ true). absurd (false≢true (sym n ∙ ap p ((decides x y).0 e) ∙ t)))
-      (λ (e : same x y ≡ false). ap not e)
-      (cases_Bool (same x y))
+projected_from : (b : Bool) (vs : List ℕ) (A : Algebra) → projected (distinct_where b (Project vs A)) ≡ vs
+projected_from true vs A = refl
+projected_from false vs A = refl
 
-  only : (xs : List X) → list_any p (without_repeats same xs) ≡ true → list_any p xs ≡ true
-  only [] e = e
-  only (x ∷ xs) e =
-      let rest = λ (t : list_any p (without_repeats same xs) ≡ true). only xs t in
-      ⊎_elim
-      (λ (t : p x ≡ true). ap (λ b. b || list_any p xs) t)
-      (λ (n : p x ≡ false). ap (λ b. b || list_any p xs) n ∙ rest (any-unfilter p (λ y. not (same x y)) (without_repeats same xs) (sym (ap (λ b. b || list_any p (filter (λ y. not (same x y)) (without_repeats same xs))) n) ∙ e)))
-      (cases_Bool (p x))
+-- the numbers of the projected variables stand on top of the plan
+pub projected_is : (q : QueryTree) → projected (translate q).algebra ≡ projection q
+projected_is q = projected_from q.distinct (projection q) (translate_group (names_of q) q.group)
 
-  each : (xs : List X) → list_any p xs ≡ true → list_any p (without_repeats same xs) ≡ true
-  each [] e = e
-  each (x ∷ xs) e =
-      let rest = λ (t : list_any p xs ≡ true). each xs t in
-      ⊎_elim
-      (λ (t : p x ≡ true). ap (λ b. b || list_any p (filter (λ y. not (same x y)) (without_repeats same xs))) t)
-      (λ (n : p x ≡ false).
-      ap (λ b. b || list_any p (filter (λ y. not (same x y)) (without_repeats same xs))) n
-      ∙ any-filter p (λ y. not (same x y)) (kept_true x n) (without_repeats same xs) (rest (sym (ap (λ b. b || list_any p xs) n) ∙ e)))
-      (cases_Bool (p x))
+below : (n m : ℕ) → nat_lt n m ≡ true → n < m
+below n m h = grind (arith, nat_tests)
 
-  pub any-without_repeats_of : (xs : List X) → list_any p (without_repeats same xs) ≡ list_any p xs
-  any-without_repeats_of xs = both_ways (list_any p (without_repeats same xs)) (list_any p xs) (only xs) (each xs)
+-- the name at the number of a name is this name
+named : (names : List Name) (xs : List Name) → list_all (λ v. nat_lt v (length names)) (map (number_of names) xs) ≡ true → map (λ v. get_or names v []) (map (number_of names) xs) ≡ xs
+named names [] h = refl
+named names (x ∷ xs) h =
+    let both = both_hold (nat_lt (number_of names x) (length names)) (list_all (λ v. nat_lt v (length names)) (map (number_of names) xs)) h in
+    let found = passes_at_first (bytes_eq x) names [] (below (number_of names x) (length names) both.0) in
+    let same = (bytes_eq-Decides x (get_or names (number_of names x) [])).0 found in
+    λ i. sym same i ∷ named names xs both.1 i
 
--- ---- the listed variables are kept
+-- the names that are printed are those of the selected variables
+pub names_are : (q : QueryTree) (names : List Name) (A : Algebra) → names ≡ names_of q → A ≡ (translate q).algebra → is_within (length names) A ≡ true → map (λ v. get_or names v []) (projected A) ≡ selected_names q
+names_are q names A n a h =
+    let within : is_within (length (names_of q)) (translate q).algebra ≡ true = sym (λ i. is_within (length (n i)) (a i)) ∙ h in
+    let below = projected_below (length (names_of q)) q.distinct (projection q) (translate_group (names_of q) q.group) within in
+    (λ i. map (λ v. get_or (n i) v []) ((ap projected a ∙ projected_is q) i)) ∙ named (names_of q) (selected_names q) below
 
-restrict-get : {T : Type 0} (keeps : ℕ → Bool) (μ : Solution T) (v : ℕ) → keeps v ≡ true → get_or (restrict keeps μ) v None ≡ get_or μ v None
-restrict-get keeps [] v k = refl
-restrict-get keeps (x ∷ μ) zero k = ap (λ b. if b then x else None) k
-restrict-get keeps (x ∷ μ) (suc v) k = restrict-get (λ u. keeps (suc u)) μ v k
+-- ---- the rows
 
-abbrev EachKept : (ℕ → Bool) → List ℕ → Type 0
-EachKept keeps [] = Unit {0}
-EachKept keeps (v ∷ vs) = (keeps v ≡ true) × EachKept keeps vs
-
-cells-restrict : {T : Type 0} (keeps : ℕ → Bool) (vs : List ℕ) (μ : Solution T) → EachKept keeps vs → cells vs (restrict keeps μ) ≡ cells vs μ
-cells-restrict keeps [] μ k = refl
-cells-restrict keeps (v ∷ vs) μ k = λ i. restrict-get keeps μ v k.0 i ∷ cells-restrict keeps vs μ k.1 i
-
-among : (front : List ℕ) (v : ℕ) (back : List ℕ) → list_any (λ u. u == v) (front ++ v ∷ back) ≡ true
-among [] v back = ap (λ b. b || list_any (λ u. u == v) back) ((Decides-eqb v v).1 refl)
-among (u ∷ front) v back = by (u == v) (among front v back)
-  where
-    by : (a : Bool) → list_any (λ u. u == v) (front ++ v ∷ back) ≡ true → (a || list_any (λ u. u == v) (front ++ v ∷ back)) ≡ true
-    by true e = refl
-    by false e = e
-
-each_kept : (front vs : List ℕ) → EachKept (λ v. list_any (λ u. u == v) (front ++ vs)) vs
-each_kept front [] = tt
-each_kept front (v ∷ vs) =
-    (among front v vs, subst (λ (l : List ℕ). EachKept (λ w. list_any (λ u. u == w) l) vs) (append_assoc front (v ∷ []) vs) (each_kept (front ++ v ∷ []) vs))
-
-projected : (vs : List ℕ) (A : List (Solution Term)) → map (cells vs) (map (restrict (λ v. list_any (λ u. u == v) vs)) A) ≡ map (cells vs) A
-projected vs [] = refl
-projected vs (μ ∷ A) = λ i. cells-restrict (λ v. list_any (λ u. u == v) vs) vs μ (each_kept [] vs) i ∷ projected vs A i
-
--- ---- the rows of a query
-
-pub rows_are : (q : OnePattern) (quads : List QuadParts) (G : List (Triple Term)) (S : List (Solution Term)) (found printed : List (List (Option Term))) → G ≡ without_repeats (same_triple_by term_eq) (graph quads None)
-    → IsSameBag S (bgp term_eq (width q) 0 (pattern q ∷ []) G) → found ≡ map (cells (listed q)) S → printed ≡ sorted_list cells_cmp found → printed ≡ rows q quads
+-- which quads there are decides the rows, and neither their order nor their repeats
+pub same_rows : DatasetIsSet → BagHasOneList → (q : QueryTree) (D E : List QuadParts) → IsSameSet D E → rows q D ≡ rows q E
 unfolding rows
-rows_are q quads G S found printed g bag f p =
-    let D = graph quads None in
-    let alike : AnswersAlike G D = λ t. ap (list_any t) g ∙ any-without_repeats_of (same_triple_by term_eq) triple_decides t D in
-    let all : IsSameBag S (bgp term_eq (width q) 0 (pattern q ∷ []) D) = IsPermutation-trans _ _ _ bag (bgp-alike term_eq term_decides (width q) 0 (pattern q ∷ []) G D alike) in
-    p ∙ ap (sorted_list cells_cmp) f ∙ sorted_of_bag cells_cmp cells_cmp_total cells_equal _ _ (IsPermutation-map (cells (listed q)) _ _ all) ∙ ap (sorted_list cells_cmp) (sym (projected (listed q) (bgp term_eq (width q) 0 (pattern q ∷ []) D)))
+same_rows set one q D E same =
+    ap (slice (unwrap_or q.offset 0) q.limit)
+    (one (projection q) (eval (length (names_of q)) D None (translate q).algebra) (eval (length (names_of q)) E None (translate q).algebra) (set (length (names_of q)) D E same None (translate q).algebra))
 
--- ---- the numbers of the pattern's variables lie below the width
+-- the sorted rows of the same bag are the query's
+pub rows_are : BagHasOneList → (q : QueryTree) (D : List QuadParts) (names : List Name) (A : Algebra) (S : List (Solution Term)) (vs : List ℕ) (offset : ℕ) → names ≡ names_of q → A ≡ (translate q).algebra
+    → IsSameBag S (eval (length names) D None A) → vs ≡ projected A → offset ≡ unwrap_or q.offset 0 → slice offset q.limit (sorted_rows vs S) ≡ rows q D
+unfolding rows
+rows_are one q D names A S vs offset n a bag v o =
+    let w : vs ≡ projection q = v ∙ ap projected a ∙ projected_is q in
+    let same : IsSameBag S (eval (length (names_of q)) D None (translate q).algebra) = subst (λ (B : List (Solution Term)). IsSameBag S B) (λ i. eval (length (n i)) D None (a i)) bag in
+    (λ i. slice (o i) q.limit (sorted_rows (w i) S)) ∙ ap (slice (unwrap_or q.offset 0) q.limit) (one (projection q) S (eval (length (names_of q)) D None (translate q).algebra) same)
 
-abbrev HasName : List (List ℕ) → List ℕ → Type 0
-HasName ns x = number_of ns x < length ns
+-- what is printed is the JSON of the query's rows
+pub printed : BagHasOneList → (q : QueryTree) (D E : List QuadParts) (names given : List Name) (A : Algebra) (S : List (Solution Term)) (vs : List ℕ) (offset : ℕ) (bytes : List ℕ) → names ≡ names_of q → given ≡ names
+    → A ≡ (translate q).algebra → is_within (length names) A ≡ true → IsSameBag S (eval (length names) D None A) → D ≡ E → vs ≡ projected A → offset ≡ unwrap_or q.offset 0
+    → bytes ≡ json (listed_names given vs) (slice offset q.limit (sorted_rows vs S)) → bytes ≡ json (selected_names q) (rows q E)
+printed one q D E names given A S vs offset bytes n g a h bag d v o e =
+    let listed : listed_names given vs ≡ selected_names q = (λ i. listed_names (g i) (v i)) ∙ names_are q names A n a h in
+    e ∙ (λ i. json (listed i) (rows_are one q D names A S vs offset n a bag v o i)) ∙ ap (λ (F : List QuadParts). json (selected_names q) (rows q F)) d
 
-named_first : (y x : List ℕ) (ns : List (List ℕ)) (b : Bool) → (b ≡ false → HasName ns x) → (if b then 0 else suc (number_of ns x)) < suc (length ns)
-named_first y x ns true h = omega arith
-named_first y x ns false h = let k = h refl in omega arith
+-- ---- the answer over a document that was loaded
 
-has-append : (ns ms : List (List ℕ)) (x : List ℕ) → HasName ns x → HasName (ns ++ ms) x
-has-append [] ms x h = absurd (omega arith)
-has-append (y ∷ ns) ms x h = by (bytes_eq y x) h (has-append ns ms x)
-  where
-    by : (b : Bool) → (if b then 0 else suc (number_of ns x)) < suc (length ns) → (HasName ns x → HasName (ns ++ ms) x) → (if b then 0 else suc (number_of (ns ++ ms) x)) < suc (length (ns ++ ms))
-    by true h i = omega arith
-    by false h i = let k = i (omega arith) in omega arith
-
-has-last : (ns : List (List ℕ)) (x : List ℕ) → HasName (ns ++ x ∷ []) x
-has-last [] x = ap_less (bytes_eq x x) ((bytes_eq-Decides x x).1 refl)
-  where
-    ap_less : (b : Bool) → b ≡ true → (if b then 0 else suc 0) < suc 0
-    ap_less true e = omega arith
-    ap_less false e = absurd (false≢true e)
-has-last (y ∷ ns) x = named_first y x (ns ++ x ∷ []) (bytes_eq y x) (λ _. has-last ns x)
-
-below : (w : ℕ) (ns front back : List (List ℕ)) (t : FirstTerm) → ns ≡ (front ++ names_of t) ++ back → IsBelow w (length ns) (pattern_term ns t)
-below w ns front back (Constant c) e = tt
-below w ns front back (Variable x) e = subst (λ (l : List (List ℕ)). HasName l x) (sym e) (has-append (front ++ x ∷ []) back x (has-last front x))
-
-pub pattern_below : (q : OnePattern) → AreBelow (width q) (width q) (pattern q ∷ [])
-pattern_below q =
-    let v = q.vars in
-    let s = names_of q.s in
-    let p = names_of q.p in
-    let o = names_of q.o in
-    ((below (width q) (names q) v (p ++ o) q.s (append_assoc (v ++ s) p o), below (width q) (names q) (v ++ s) o q.p refl, below (width q) (names q) (v ++ s ++ p) [] q.o (sym (Rattle.std.proofs.Common.append-nil (v ++ s ++ p ++ o)))), tt)
+pub answered : DatasetIsSet → BagHasOneList → (q : QueryTree) (doc : List ℕ) (store : StoreView) (bytes : List ℕ) → IsLoaded (lines doc) store
+    → bytes ≡ json (selected_names q) (rows q (quads_at store.dict store.index)) → IsJsonOf doc q bytes
+answered set one q doc store bytes l e = record {
+  quads = l.quads;
+  spelled = l.spelled;
+  printed = e ∙ ap (json (selected_names q)) (same_rows set one q (quads_at store.dict store.index) l.quads l.dataset);
+}

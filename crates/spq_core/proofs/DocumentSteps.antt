@@ -1,11 +1,9 @@
 -- What is told of a document that was read in blocks and loaded.
-use Rattle.std.proofs.Common.{◌≡◌, ℕ, ◌+◌, List, [], ◌∷◌, ◌++◌, length, take, map, codes, Option, Some, None, Vec, Global, IsPermutation, refl, sym, ap, ◌∙◌, subst}
-use Rattle.std.specs.List.{flat_map}
+use Rattle.std.proofs.Common.{◌≡◌, ℕ, List, length, map, Option, Vec, Global, sym, ap, ◌∙◌, subst}
 use Rattle.std.proofs.lemmas.List.{length-map}
 use Rattle.std.proofs.lemmas.List.Sorted.{length_permutation}
 use Rattle.std.specs.Io.KnownBytes.{Consumes, IsAtEnd}
 use Rattle.rdf_core.specs.declared.term.Term.{Term}
-use Rattle.rdf_core.specs.QuadParts.{QuadParts}
 use Rattle.nquads_core.specs.Lines.{lines}
 use Rattle.algebra_model.specs.Bag.{without_repeats}
 use Rattle.algebra_model.specs.Dataset.{names}
@@ -16,10 +14,18 @@ use Rattle.quad_index.specs.Laws.{same_parts}
 use Rattle.dataset_load.specs.Lines.{block_texts, joined}
 use Rattle.dataset_load.specs.Store.{StoreView, names_in}
 use Rattle.dataset_load.specs.Loaded as load
-use Rattle.spq_core.specs.Listing.{counts_line, counts_of, term_lines, listing_of}
-use Rattle.spq_core.specs.Output.{check, terms}
+use Rattle.spq_core.specs.Listing.{counts_line, counts_of, term_lines}
+use Rattle.std.specs.Str.{chars}
+use Rattle.algebra_model.specs.Laws.{BagHasOneList, DatasetIsSet}
+use Rattle.sparql_tree.specs.QueryTree.{QueryTree}
+use Rattle.sparql_read.specs.Refusal.{IsRead}
+use Rattle.sparql_algebra.specs.Names.{selected_names}
+use Rattle.spq_core.specs.Outcome.{rows}
+use Rattle.spq_core.specs.Output.{check, select, terms}
+use Rattle.result_json.specs.Results.{json}
+use Rattle.spq_core.proofs.AnsweringSteps.{answered}
 use Rattle.spq_core.specs.Run.{IfBadLine, IfQuery, IsBadLineFrom, IsBadLineOf, IsComposed, IsLoadedFrom, IsOfComposing, IsOfDocument}
-use Rattle.spq_core.specs.declared.fault.QueryFault.{QueryFault}
+use Rattle.sparql_read.specs.declared.fault.QueryFault.{QueryFault}
 use Rattle.spq_core.specs.declared.program.RunFault.{RunFault}
 use Rattle.spq_core.specs.declared.program.RunFault.TheVariants.{Query, BadLine, WorkerRefused, Memory, Read, Write, Line}
 
@@ -52,6 +58,24 @@ composed_terms left left' store dict text h d e = record {
   at_end = h.at_end;
   output = record { quads = h.loaded.quads; spelled = h.loaded.spelled; printed = e ∙ ap term_lines (d ∙ h.loaded.terms) };
 }
+
+pub composed_select : DatasetIsSet → BagHasOneList → (left left' : Option (List ℕ)) (query : List ℕ) (q : QueryTree) (store : StoreView) (text : List ℕ) → IsRead (chars query) q → IsLoadedFrom left left' store
+    → text ≡ json (selected_names q) (rows q (quads_at store.dict store.index)) → IsComposed (select query) left left' text
+composed_select set one left left' query q store text r h e = record {
+  doc = h.doc;
+  consumed = h.consumed;
+  at_end = h.at_end;
+  output = record { query = q; read = r; answered = answered set one q h.doc store text h.loaded e };
+}
+
+pub bad_select : (left left' : Option (List ℕ)) (query : List ℕ) (q : QueryTree) → IsRead (chars query) q → (f : RunFault) → IfBadLine (IsBadLineFrom left left') f → IfBadLine (IsBadLineOf (select query) left left') f
+bad_select left left' query q r (Query f) h = tt
+bad_select left left' query q r (BadLine n) h = record { doc = h.doc; consumed = h.consumed; at_end = h.at_end; output = ((q, r), h.bad) }
+bad_select left left' query q r WorkerRefused h = tt
+bad_select left left' query q r Memory h = tt
+bad_select left left' query q r Read h = tt
+bad_select left left' query q r Write h = tt
+bad_select left left' query q r Line h = tt
 
 pub bad_check : (left left' : Option (List ℕ)) (f : RunFault) → IfBadLine (IsBadLineFrom left left') f → IfBadLine (IsBadLineOf check left left') f
 bad_check left left' (Query q) h = tt

@@ -1,12 +1,4 @@
 pub mod AnsweringSteps
-pub mod ColumnLaws
 pub mod DocumentSteps
-pub mod FirstQueryLaws
-pub mod JsonLaws
 pub mod ListingSteps
-pub mod PatternSteps
-pub mod PrintedLaws
-pub mod RepeatSteps
 pub mod ReportSteps
-pub mod SeparatedLaws
-pub mod SortSteps

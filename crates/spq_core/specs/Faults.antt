@@ -1,29 +1,35 @@
--- What a fault says of document and query. Memory says nothing.
+-- What a fault says of document and query. Memory and a refused worker say nothing.
 use Rattle.std.specs.Prelude.{ℕ, List, ⊤, Err}
+use Rattle.std.specs.Str.{chars}
+use Rattle.dataset_load.specs.declared.fault.LoadFault.{LoadFault}
+use Rattle.dataset_load.specs.declared.fault.LoadFault.TheVariants as load
+use Rattle.row_pieces.specs.declared.how.EvalFault.{EvalFault}
+use Rattle.row_pieces.specs.declared.how.EvalFault.TheVariants as eval
+use Rattle.sparql_read.specs.Refusal.{IsRefusal}
+use Rattle.spq_core.specs.Outcome.{IsOutcome, bad_line, query}
 use Rattle.spq_core.specs.declared.fault.Fault.{Fault}
-use Rattle.spq_core.specs.declared.fault.Fault.TheVariants.{Query, BadLine, Memory}
-use Rattle.spq_core.specs.declared.fault.QueryFault.{QueryFault}
-use Rattle.spq_core.specs.declared.fault.QueryFault.TheVariants as query_fault
-use Rattle.spq_core.specs.Outcome.{IsNoQuery, IsBadLine, IsOutcome, bad_line, syntax}
+use Rattle.spq_core.specs.declared.fault.Fault.TheVariants.{Query, BadLine, WorkerRefused, Memory}
 
 -- the outcome of document and text is this refusal
-abbrev pub IsQueryFaultOf : List ℕ → QueryFault → Type 0
-IsQueryFaultOf text query_fault.Syntax = IsNoQuery text
-IsQueryFaultOf text query_fault.Memory = ⊥
-
 abbrev pub IsFaultOf : List ℕ → List ℕ → Fault → Type 0
-IsFaultOf doc text (Query query_fault.Syntax) = IsOutcome doc text (Err syntax)
-IsFaultOf doc text (Query query_fault.Memory) = ⊥
+IsFaultOf doc text (Query f) = IsOutcome doc text (Err (query f))
 IsFaultOf doc text (BadLine n) = IsOutcome doc text (Err (bad_line n))
+IsFaultOf doc text WorkerRefused = ⊤
 IsFaultOf doc text Memory = ⊤
 
--- of the two steps: the text, and the document
+-- of the first step, which judges the text
 abbrev pub IsFaultOfReading : List ℕ → Fault → Type 0
-IsFaultOfReading text (Query f) = IsQueryFaultOf text f
+IsFaultOfReading text (Query f) = IsRefusal (chars text) f
 IsFaultOfReading text (BadLine n) = ⊥
+IsFaultOfReading text WorkerRefused = ⊥
 IsFaultOfReading text Memory = ⊤
 
-abbrev pub IsFaultOfLoading : List ℕ → Fault → Type 0
-IsFaultOfLoading doc (Query f) = ⊥
-IsFaultOfLoading doc (BadLine n) = IsBadLine doc n
-IsFaultOfLoading doc Memory = ⊤
+-- what loading and evaluation refuse is refused under the same name
+abbrev pub fault_of_loading : LoadFault → Fault
+fault_of_loading (load.BadLine n) = BadLine n
+fault_of_loading load.WorkerRefused = WorkerRefused
+fault_of_loading load.Memory = Memory
+
+abbrev pub fault_of_evaluation : EvalFault → Fault
+fault_of_evaluation eval.WorkerRefused = WorkerRefused
+fault_of_evaluation eval.Memory = Memory

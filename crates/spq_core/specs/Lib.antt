@@ -1,9 +1,3 @@
-pub mod Cells
-pub mod FirstQuery
-pub mod FirstPlan
-pub mod Pattern
-pub mod Printed
-pub mod Results
 pub mod Outcome
 pub mod Faults
 pub mod Listing

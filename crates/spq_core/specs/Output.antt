@@ -4,7 +4,7 @@ use Rattle.rdf_core.specs.QuadParts.{QuadParts}
 use Rattle.nquads_core.specs.Lines.{lines}
 use Rattle.nquads_core.specs.Pieces.{SpellAll}
 use Rattle.spq_core.specs.Listing.{counts_of, listing_of}
-use Rattle.spq_core.specs.Outcome.{Refusal, syntax, bad_line, IsBadLine, IsOutcome}
+use Rattle.spq_core.specs.Outcome.{Refusal, query, bad_line, IsBadLine, IsOutcome}
 use Rattle.spq_command.specs.declared.command.Command.{Command}
 use Rattle.spq_command.specs.declared.command.Command.TheVariants.{Select, Check, Terms}
 
@@ -15,7 +15,7 @@ pub data Request : Type 0 where
   terms : Request
 
 abbrev pub request_of : Command → Request
-request_of (Select query reading rows) = select query
+request_of (Select text reading rows) = select text
 request_of (Check reading) = check
 request_of (Terms reading) = terms
 
@@ -28,7 +28,7 @@ pub record IsTextOf (text_of : List QuadParts → List ℕ) (doc text : List ℕ
 -- the text of the quads, or the first bad line
 abbrev pub IsListing : (List QuadParts → List ℕ) → List ℕ → Result (List ℕ) Refusal → Type 0
 IsListing text_of doc (Ok text) = IsTextOf text_of doc text
-IsListing text_of doc (Err syntax) = ⊥
+IsListing text_of doc (Err (query f)) = ⊥
 IsListing text_of doc (Err (bad_line n)) = IsBadLine doc n
 
 abbrev pub IsOutput : Request → List ℕ → Result (List ℕ) Refusal → Type 0

@@ -1,24 +1,42 @@
 -- The line and the status of a fault.
 use Rattle.std.specs.Prelude.{ℕ, List, ◌++◌, codes, decimal}
-use Rattle.spq_core.specs.declared.fault.QueryFault.{QueryFault}
-use Rattle.spq_core.specs.declared.fault.QueryFault.TheVariants as query_fault
+use Rattle.sparql_read.specs.declared.fault.QueryFault.{QueryFault}
+use Rattle.sparql_read.specs.declared.fault.QueryFault.TheVariants.{Syntax, UndefinedPrefix, RelativeIri, BindScope, BlankReuse, TooDeep}
+use Rattle.sparql_read.specs.declared.fault.QueryFault.TheVariants as query_fault
 use Rattle.spq_core.specs.declared.program.RunFault.{RunFault}
 use Rattle.spq_core.specs.declared.program.RunFault.TheVariants.{Query, BadLine, WorkerRefused, Memory, Read, Write, Line}
 
+-- the line of a query that a rule refuses
+abbrev pub query_line : QueryFault → List ℕ
+query_line Syntax = codes "error: query syntax\n"
+query_line UndefinedPrefix = codes "error: query prefix\n"
+query_line RelativeIri = codes "error: query relative iri\n"
+query_line BindScope = codes "error: query bind\n"
+query_line BlankReuse = codes "error: query blank label\n"
+query_line TooDeep = codes "error: query depth\n"
+query_line query_fault.Memory = codes "error: memory\n"
+
 abbrev pub fault_line : RunFault → List ℕ
 fault_line (BadLine n) = codes "error: line " ++ (decimal n ++ codes "\n")
-fault_line (Query query_fault.Syntax) = codes "error: query syntax\n"
-fault_line (Query query_fault.Memory) = codes "error: memory\n"
+fault_line (Query f) = query_line f
 fault_line Line = codes "error: command line\n"
 fault_line WorkerRefused = codes "error: worker\n"
 fault_line Memory = codes "error: memory\n"
 fault_line Read = codes "error: input\n"
 fault_line Write = codes "error: output\n"
 
+abbrev pub query_status : QueryFault → ℕ
+query_status Syntax = 2
+query_status UndefinedPrefix = 2
+query_status RelativeIri = 2
+query_status BindScope = 2
+query_status BlankReuse = 2
+query_status TooDeep = 2
+query_status query_fault.Memory = 4
+
 abbrev pub status_of : RunFault → ℕ
 status_of (BadLine n) = 1
-status_of (Query query_fault.Syntax) = 2
-status_of (Query query_fault.Memory) = 4
+status_of (Query f) = query_status f
 status_of Line = 3
 status_of WorkerRefused = 4
 status_of Memory = 4

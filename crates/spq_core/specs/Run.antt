@@ -1,10 +1,10 @@
 -- What a run did, and what is left where it was refused.
-use Rattle.std.specs.Prelude.{◌≡◌, ◌⊎◌, ℕ, List, ⊤, Option, Result, Ok, Err}
+use Rattle.std.specs.Prelude.{◌⊎◌, ℕ, List, ⊤, Option, Result, Ok, Err}
+use Rattle.std.specs.Str.{chars}
 use Rattle.std.specs.Io.KnownBytes.{Appends, Consumes, IsAtEnd}
 use Rattle.nquads_core.specs.Device.{Rises}
 use Rattle.nquads_core.specs.Transfer.{TookNone, WroteBeginning}
 use Rattle.nquads_core.specs.declared.device.DeviceFailed.{DeviceFailed}
-use Rattle.spq_core.specs.Faults.{IsQueryFaultOf}
 use Rattle.nquads_core.specs.Lines.{lines}
 use Rattle.dataset_load.specs.Store.{StoreView}
 use Rattle.dataset_load.specs.Loaded.{IsLoaded}
@@ -12,13 +12,15 @@ use Rattle.spq_core.specs.Outcome.{bad_line, IsBadLine}
 use Rattle.spq_core.specs.Output.{Request, select, check, terms, IsOutput}
 use Rattle.spq_core.specs.declared.fault.Fault.{Fault}
 use Rattle.spq_core.specs.declared.fault.Fault.TheVariants as fault
-use Rattle.spq_core.specs.declared.fault.QueryFault.{QueryFault}
+use Rattle.sparql_read.specs.declared.fault.QueryFault.{QueryFault}
+use Rattle.sparql_read.specs.Refusal.{IsRefusal}
 use Rattle.spq_core.specs.declared.program.RunFault.{RunFault}
 use Rattle.spq_core.specs.declared.program.RunFault.TheVariants.{Query, BadLine, WorkerRefused, Memory, Read, Write, Line}
 
 abbrev pub run_fault_of : Fault → RunFault
 run_fault_of (fault.Query f) = Query f
 run_fault_of (fault.BadLine n) = BadLine n
+run_fault_of fault.WorkerRefused = WorkerRefused
 run_fault_of fault.Memory = Memory
 
 -- The reader was read to its end, and this is the output for what was read.
@@ -41,9 +43,9 @@ pub record IsBadLineOf (request : Request) (left left' : Option (List ℕ)) (lin
   pub at_end : IsAtEnd left'
   pub output : IsOutput request doc (Err (bad_line line))
 
--- The command selects, and its query is refused so.
+-- The command selects, and this is the first rule that refuses the text of its query.
 abbrev pub IsQueryOf : Request → QueryFault → Type 0
-IsQueryOf (select text) f = IsQueryFaultOf text f
+IsQueryOf (select text) f = IsRefusal (chars text) f
 IsQueryOf check f = ⊥
 IsQueryOf terms f = ⊥
 

@@ -1,123 +1,104 @@
 //! The answer of a query over a document.
-ghost use Rattle.std.specs.Prelude.{◌≡◌, map, IfOk, IfErr, Ok};
-ghost use Rattle.rdf_core.specs.QuadParts.{parts_of};
-ghost use Rattle.nquads_core.specs.Lines.{lines};
-ghost use Rattle.nquads_core.specs.Pieces.{SpellAll};
-ghost use Rattle.algebra_model.specs.RowOrder.{cells};
-ghost use Rattle.spq_core.specs.Cells.{lent_cells, lent_row};
-ghost use Rattle.spq_core.specs.FirstPlan.{rows};
-ghost use Rattle.spq_core.specs.FirstQuery.{Derives, one_pattern};
-ghost use Rattle.spq_core.specs.Outcome.{IsJsonOf, IsOutcome};
-ghost use Rattle.spq_core.specs.Faults.{IsFaultOf, IsFaultOfLoading, IsFaultOfReading};
+ghost use Rattle.std.specs.Prelude.{◌≡◌, IfOk, IfErr, Ok};
+ghost use Rattle.std.specs.Str.{chars};
+ghost use Rattle.piece_cuts.specs.Cuts.{AreCuts};
+ghost use Rattle.dict_core.specs.NumQuad.{quads_at};
+ghost use Rattle.row_pieces.specs.How.{IsRunnable};
+ghost use Rattle.sparql_tree.specs.QueryTree.{query_of};
+ghost use Rattle.sparql_read.specs.Refusal.{IsRead};
+ghost use Rattle.sparql_algebra.specs.Names.{selected_names};
+ghost use Rattle.spq_core.specs.Faults.{IsFaultOf, IsFaultOfReading};
+ghost use Rattle.spq_core.specs.Outcome.{IsOutcome, rows};
+ghost use Rattle.result_json.specs.Results.{json};
 
-use crate::cells::cell_at;
-use crate::fault::{Fault, QueryFault};
-use crate::first_plan::{names, numbers, pattern_of, unseen};
-use crate::first_query::{FirstQuery, read_query};
-use crate::ordering::sort_rows;
-use crate::pattern::pattern;
-use crate::results::to_json;
-use crate::store::{default_quads, distinct_triples};
-use nquads_core::{PieceFault, read_piece};
-use rdf_core::{Quad, Term};
-use std::alloc::{AllocError, Global};
+use crate::fault::Fault;
+use algebra_model::laws::{a_bag_has_one_sorted_list, a_dataset_is_a_set};
+use dataset_load::{Store, load};
+use piece_cuts::Cuts;
+use piece_pool::Gate;
+use result_json::print_rows;
+use row_pieces::{EvalFault, How};
+use sparql_algebra::translate;
+use sparql_eval::evaluate;
+use sparql_read::{QueryFault, read_query};
+use sparql_tree::Query;
+use std::alloc::Global;
+use std::random::RandomSource;
+use std::sync::Wait;
+use std::thread::Threads;
 
 /// The query that a text is.
-pub fn judged(alloc: Global, text: &str) -> Result<FirstQuery, Fault>
-    ensures query { IfOk result (λ q. Derives text.now (one_pattern q)) }
+pub fn judged(alloc: Global, text: &str) -> Result<Query, Fault>
+    ensures query { IfOk result (λ q. IsRead (chars text.now) (query_of q)) }
     ensures refused { IfErr result (IsFaultOfReading text.now) }
 {
-    match read_query(alloc, text)? {
-        Some(query) => Ok(query),
-        None => Err(Fault::Query(QueryFault::Syntax)),
+    match read_query(alloc, text) {
+        Ok(query) => Ok(query),
+        Err(QueryFault::Memory) => Err(Fault::Memory),
+        Err(fault) => Err(Fault::Query(fault)),
     }
 }
 
-/// The quads of a document, in the order of its lines.
-pub fn quads_of(alloc: Global, doc: &[u8]) -> Result<Vec<Quad>, Fault>
-    ensures quads { IfOk result (λ quads. SpellAll (lines doc.now) (map parts_of quads.items)) }
-    ensures refused { IfErr result (IsFaultOfLoading doc.now) }
-{
-    match read_piece(alloc, doc) {
-        Ok(piece) => Ok(piece.quads),
-        Err(PieceFault::BadLine(line)) => Err(Fault::BadLine(line as u128 + 1)),
-        Err(PieceFault::Memory) => Err(Fault::Memory),
-    }
-}
-
-/// The row of a solution: the terms of the listed variables.
-fn listed_row<'a>(
+/// The answer of a query that was read, over a dataset that was loaded: the JSON of its rows.
+pub fn answer_query<R: Threads + Wait + RandomSource, G: Gate + Sync>(
+    rt: &R,
     alloc: Global,
-    listed: &[usize],
-    solution: &[Option<&'a Term>],
-) -> Result<Vec<Option<&'a Term>>, AllocError>
-    ensures { IfOk result (λ r. lent_row r ≡ cells listed.now (lent_cells solution.now)) }
+    store: Store,
+    query: &Query,
+    how: &How,
+    gate: &G,
+) -> Result<Vec<u8>, EvalFault>
+    requires how { IsRunnable how.now }
+    ensures answer { IfOk result (λ bytes. bytes.items ≡ json (selected_names (query_of query.now))
+        (rows (query_of query.now) (quads_at store.dict store.index))) }
 {
-    let mut row = Vec::new(alloc);
-    for v in listed {
-        row.push(cell_at(solution, *v))?;
-    }
-    Ok(row)
+    a_bag_has_one_sorted_list();
+    let plan = translate(alloc, query)?;
+    let (dict, index) = store.into_parts();
+    let (rows, dict) = evaluate(rt, alloc, dict, &index, &plan, how, gate)?;
+    let offset = query.offset.unwrap_or(0);
+    let bytes = print_rows(
+        alloc,
+        &plan.names,
+        plan.projected(),
+        &rows,
+        &dict,
+        offset,
+        query.limit,
+    )?;
+    Ok(bytes)
 }
 
-/// The rows of the solutions.
-fn listed_rows<'a>(
-    alloc: Global,
-    listed: &[usize],
-    solutions: &[Vec<Option<&'a Term>>],
-) -> Result<Vec<Vec<Option<&'a Term>>>, AllocError>
-    ensures { IfOk result
-        (λ r. map lent_row r.items ≡ map (cells listed.now) (map lent_row solutions.now)) }
-{
-    let mut rows = Vec::new(alloc);
-    for solution in solutions {
-        rows.push(listed_row(alloc, listed, solution)?)?;
-    }
-    Ok(rows)
-}
-
-/// The rows of a query over quads, in their order.
-fn rows_of<'a>(
-    alloc: Global,
-    query: &FirstQuery,
-    quads: &'a [Quad],
-) -> Result<Vec<Vec<Option<&'a Term>>>, AllocError>
-    ensures { IfOk result
-        (λ r. map lent_row r.items ≡ rows (one_pattern query.now) (map parts_of quads.now)) }
-{
-    let names = names(alloc, query)?;
-    let listed = numbers(alloc, &names, &unseen(alloc, &query.vars)?)?;
-    let graph = distinct_triples(alloc, &default_quads(alloc, quads)?)?;
-    let patterns = [pattern_of(&names, query)];
-    let solutions = pattern(alloc, names.len(), &patterns, &graph)?;
-    let mut rows = listed_rows(alloc, &listed, &solutions)?;
-    sort_rows(&mut rows)?;
-    Ok(rows)
-}
-
-/// The answer of a query that was read over a document.
-pub fn answer_query(alloc: Global, doc: &[u8], query: &FirstQuery) -> Result<Vec<u8>, Fault>
-    ensures answer { IfOk result (λ bytes. IsJsonOf doc.now (one_pattern query.now) bytes.items) }
-    ensures refused { IfErr result (IsFaultOfLoading doc.now) }
-{
-    let quads = quads_of(alloc, doc)?;
-    let vars = unseen(alloc, &query.vars)?;
-    let rows = rows_of(alloc, query, &quads)?;
-    Ok(to_json(alloc, &vars, &rows)?)
-}
-
-/// The answer of a query over a document, as JSON (SPARQL 1.1 Query Language, sections 18 and 19;
-/// SPARQL 1.1 Query Results JSON Format). The query is judged before the document.
+/// The answer of a query over a document that is cut into pieces, as JSON (SPARQL 1.1 Query
+/// Language, sections 17 to 19; SPARQL 1.1 Query Results JSON Format). The query is judged before the
+/// document. Neither the cut, nor `how` and the gate change the outcome.
 ///
 /// # Errors
-/// - `Query`: the text is no query of the grammar that is read.
+/// - `Query(fault)`: this is the first rule that refuses the text; never `QueryFault::Memory`.
 /// - `BadLine(n)`: the text is a query, and line n of the document, counted from 1, is the first
 ///   that spells nothing.
-/// - `Memory`: a growth was refused. It says nothing of query and document.
-pub fn answer(alloc: Global, doc: &[u8], query: &str) -> Result<Vec<u8>, Fault>
+/// - `WorkerRefused`: the start of a worker was refused. Those that were started have been joined.
+/// - `Memory`: a growth was refused.
+///
+/// The last two say nothing of query and document.
+pub fn answer<R: Threads + Wait + RandomSource, G: Gate + Sync>(
+    rt: &R,
+    alloc: Global,
+    doc: &[u8],
+    query: &str,
+    cuts: &Cuts,
+    how: &How,
+    gate: &G,
+) -> Result<Vec<u8>, Fault>
+    requires fits { AreCuts doc.now cuts.now }
+    requires how { IsRunnable how.now }
     ensures answer { IfOk result (λ bytes. IsOutcome doc.now query.now (Ok bytes.items)) }
     ensures refused { IfErr result (IsFaultOf doc.now query.now) }
 {
+    a_dataset_is_a_set();
+    a_bag_has_one_sorted_list();
     let query = judged(alloc, query)?;
-    answer_query(alloc, doc, &query)
+    let store = load(rt, alloc, doc, cuts, how.workers, gate)?;
+    let bytes = answer_query(rt, alloc, store, &query, how, gate)?;
+    Ok(bytes)
 }

@@ -1,46 +1,36 @@
 //! spq: SPARQL SELECT over an N-Quads document, from bytes to JSON.
 //!
 //! Bytes of a document and the text of a query go in; the JSON of the solutions comes out, or the
-//! reason why there is none. The main promise stands on [`answer`]: every result but `Memory` is
-//! the outcome of document and query (`IsOutcome` of specs/Outcome.antt): the query is judged
-//! first, then the document, and the bytes are the JSON of the algebra's solutions, with their
-//! repeats, in order. [`run`] says the same of a command over a reader and a writer, and what a
-//! refusal leaves.
+//! reason why there is none. The main promise stands on [`answer`]: every result but `Memory` and
+//! `WorkerRefused` is the outcome of document and query (`IsOutcome` of specs/Outcome.antt): the
+//! query is judged first, then the document, and the bytes are the JSON of the algebra's solutions
+//! over the dataset, with their repeats, in order. No cut, worker or gate stands in it. [`run`] says
+//! the same of a command over a reader and a writer, and what a refusal leaves.
 //!
-//! Standards: SPARQL 1.1 Query Language, sections 18 and 19; SPARQL 1.1 Query Results JSON Format;
+//! Standards: SPARQL 1.1 Query Language, sections 17 to 19; SPARQL 1.1 Query Results JSON Format;
 //! RDF 1.1 N-Quads.
 //!
-//! To read in this order: `first_query` and `first_plan` (queries of one pattern), `store` and
-//! `pattern` (their solutions), `ordering`, `results` (JSON), `answering` (the outcome), `listing`
-//! (what is told of a dataset), `program` (`run`), `report` (lines and statuses of faults). The
-//! commands are of `spq_command`.
+//! To read in this order: `fault`, `answering` (the outcome), `listing` (what is told of a dataset),
+//! `program` (`run`), `report` (lines and statuses of faults).
 //!
 //! Example: the document `<http://e/a> <http://e/p> "x" .` and the query
 //! `SELECT ?o { <http://e/a> <http://e/p> ?o }` give
 //! `{"head":{"vars":["o"]},"results":{"bindings":[{"o":{"type":"literal","value":"x"}}]}}`; the test
-//! `selects_are_answered` runs such examples.
+//! `patterns_are_answered` runs such examples.
 //!
-//! Not promised: that memory suffices, speed, and what a file or a terminal holds.
+//! Not promised: that memory suffices, that a call returns (it joins its workers), speed, and what a
+//! file or a terminal holds.
 #![tactic(auto)]
 
 mod answering;
-mod cells;
 mod fault;
-mod first_plan;
-mod first_query;
 mod listing;
-mod ordering;
-mod pattern;
 mod program;
 mod report;
-mod results;
-mod store;
 #[cfg(test)]
 mod tests;
 
 pub use answering::answer;
-pub use fault::{Fault, QueryFault};
-pub use ordering::sort_rows;
+pub use fault::Fault;
 pub use program::{RunFault, run};
 pub use report::{status, write_fault};
-pub use results::to_json;

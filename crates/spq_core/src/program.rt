@@ -1,38 +1,48 @@
 //! The program: a command over a reader and a writer.
 ghost use Rattle.std.specs.Prelude.{◌≡◌, IfErr, IfOk, OnOk};
-ghost use Rattle.std.specs.Io.KnownBytes.{Consumes, IsAtEnd};
 ghost use Rattle.nquads_core.specs.Device.{Rises, Stays};
 ghost use Rattle.spq_core.specs.Output.{check, request_of, select, terms};
-ghost use Rattle.spq_core.specs.Run.{IfBadLine, IfQuery, IfRead, IfWrite, IsBadLineFrom, IsBadLineOf, IsComposed, IsDone, IsLoadedFrom, IsNotLine, IsOfComposing, IsOfDocument, IsOfReading, IsQueryOf, IsWrittenInPart, UnlessWrite, WriterFailed};
+ghost use Rattle.spq_core.specs.Run.{IfBadLine, IfQuery, IfRead, IfWrite, IsBadLineFrom, IsBadLineOf, IsComposed, IsDone, IsLoadedFrom, IsNotLine, IsOfComposing, IsOfDocument, IsQueryOf, IsWrittenInPart, UnlessWrite, WriterFailed};
 
 use crate::answering::{answer_query, judged};
-use crate::fault::{Fault, QueryFault};
+use crate::fault::Fault;
 use crate::listing::{counts_text, terms_text};
+use algebra_model::laws::{a_bag_has_one_sorted_list, a_dataset_is_a_set};
 use dataset_load::{LoadFault, Store, load_blocks, read_blocks};
-use nquads_core::{ReadFault, Sink, Source, read_to_end, write_all};
+use nquads_core::{ReadFault, Sink, Source, write_all};
 use piece_pool::OpenGate;
+use row_pieces::{EvalFault, How};
+use sparql_read::QueryFault;
 use spq_command::{Command, Reading};
 use std::alloc::Global;
 use std::random::RandomSource;
 use std::sync::Wait;
 use std::thread::Threads;
+use thiserror::Error;
 
 /// Why the program did not do what it was told to.
-#[derive(Clone, Copy, Debug, Drop, PartialEq, Eq)]
+#[derive(Clone, Copy, Debug, Drop, Error, PartialEq, Eq)]
 pub enum RunFault {
-    /// The query is refused.
+    /// The first rule that refuses the query. `run` never answers its `Memory`.
+    #[error("the query is refused")]
     Query(QueryFault),
     /// The line of the document, counted from 1, is the first that spells nothing.
+    #[error("line {0} is bad")]
     BadLine(u128),
     /// The start of a worker was refused. Those that were started have been joined.
+    #[error("the start of a worker was refused")]
     WorkerRefused,
     /// A growth was refused.
+    #[error("a growth was refused")]
     Memory,
     /// The reader failed.
+    #[error("the reader failed")]
     Read,
     /// The writer failed, or took no byte of a text that was not empty.
+    #[error("the writer failed")]
     Write,
     /// The command line is none of the program's. `run` never answers this.
+    #[error("the command line is none of the program's")]
     Line,
 }
 
@@ -46,48 +56,9 @@ impl From<Fault> for RunFault {
         match fault {
             Fault::Query(fault) => RunFault::Query(fault),
             Fault::BadLine(line) => RunFault::BadLine(line),
+            Fault::WorkerRefused => RunFault::WorkerRefused,
             Fault::Memory => RunFault::Memory,
         }
-    }
-}
-
-/// The whole document that a reader has left.
-fn document<S: Source>(alloc: Global, reader: &mut S) -> Result<Vec<u8>, RunFault>
-    ensures bytes { IfOk result (λ doc. Consumes (S.left reader.old) (S.left reader.new) doc.items) }
-    ensures at_end { OnOk result (IsAtEnd (S.left reader.new)) }
-    ensures count { OnOk result (Stays (S.failures reader.old) (S.failures reader.new)) }
-    ensures fault { IfErr result
-        (IsOfReading (Rises (S.failures reader.old) (S.failures reader.new))
-        (Stays (S.failures reader.old) (S.failures reader.new))) }
-{
-    match read_to_end(alloc, reader) {
-        Ok(doc) => Ok(doc),
-        Err(ReadFault::Read) => Err(RunFault::Read),
-        Err(ReadFault::Memory) => Err(RunFault::Memory),
-    }
-}
-
-/// The answer of a query over the document that the reader has left. The query is judged before
-/// anything is read.
-fn selected<S: Source>(alloc: Global, query: &str, reader: &mut S) -> Result<Vec<u8>, RunFault>
-    ensures composed { IfOk result
-        (λ text. IsComposed (select query.now) (S.left reader.old) (S.left reader.new) text.items) }
-    ensures query { IfErr result
-        (IfQuery (λ f. IsQueryOf (select query.now) f × (reader.new ≡ reader.old))) }
-    ensures bad_line { IfErr result
-        (IfBadLine (IsBadLineOf (select query.now) (S.left reader.old) (S.left reader.new))) }
-    ensures count { OnOk result (Stays (S.failures reader.old) (S.failures reader.new)) }
-    ensures read { IfErr result (IfRead (Rises (S.failures reader.old) (S.failures reader.new))) }
-    ensures kind { IfErr result IsOfComposing }
-{
-    let query = match judged(alloc, query) {
-        Ok(query) => query,
-        Err(fault) => return Err(RunFault::from(fault)),
-    };
-    let doc = document(alloc, reader)?;
-    match answer_query(alloc, &doc, &query) {
-        Ok(text) => Ok(text),
-        Err(fault) => Err(RunFault::from(fault)),
     }
 }
 
@@ -115,6 +86,44 @@ fn load_document<R: Threads + Wait + RandomSource, S: Source>(
         Err(LoadFault::BadLine(line)) => Err(RunFault::BadLine(line)),
         Err(LoadFault::WorkerRefused) => Err(RunFault::WorkerRefused),
         Err(LoadFault::Memory) => Err(RunFault::Memory),
+    }
+}
+
+/// The answer of a query over the document that the reader has left. The query is judged before
+/// anything is read. (A piece of no rows is taken as one of one row.)
+fn selected<R: Threads + Wait + RandomSource, S: Source>(
+    rt: &R,
+    alloc: Global,
+    query: &str,
+    reading: Reading,
+    rows: usize,
+    reader: &mut S,
+) -> Result<Vec<u8>, RunFault>
+    ensures composed { IfOk result
+        (λ text. IsComposed (select query.now) (S.left reader.old) (S.left reader.new) text.items) }
+    ensures query { IfErr result
+        (IfQuery (λ f. IsQueryOf (select query.now) f × (reader.new ≡ reader.old))) }
+    ensures bad_line { IfErr result
+        (IfBadLine (IsBadLineOf (select query.now) (S.left reader.old) (S.left reader.new))) }
+    ensures count { OnOk result (Stays (S.failures reader.old) (S.failures reader.new)) }
+    ensures read { IfErr result (IfRead (Rises (S.failures reader.old) (S.failures reader.new))) }
+    ensures kind { IfErr result IsOfComposing }
+{
+    a_dataset_is_a_set();
+    a_bag_has_one_sorted_list();
+    let query = match judged(alloc, query) {
+        Ok(query) => query,
+        Err(fault) => return Err(RunFault::from(fault)),
+    };
+    let store = load_document(rt, alloc, reading, reader)?;
+    let how = How {
+        workers: reading.workers,
+        rows: rows.max(1),
+    };
+    match answer_query(rt, alloc, store, &query, &how, &OpenGate) {
+        Ok(text) => Ok(text),
+        Err(EvalFault::WorkerRefused) => Err(RunFault::WorkerRefused),
+        Err(EvalFault::Memory) => Err(RunFault::Memory),
     }
 }
 
@@ -180,7 +189,11 @@ fn composed<R: Threads + Wait + RandomSource, S: Source>(
     ensures kind { IfErr result IsOfComposing }
 {
     match command {
-        Command::Select { query, .. } => selected(alloc, query.as_str(), reader),
+        Command::Select {
+            query,
+            reading,
+            rows,
+        } => selected(rt, alloc, query.as_str(), *reading, *rows, reader),
         Command::Check { reading } => checked(rt, alloc, *reading, reader),
         Command::Terms { reading } => listed(rt, alloc, *reading, reader),
     }

@@ -2,12 +2,12 @@
 ghost use Rattle.std.specs.Prelude.{◌≡◌, ◌++◌, codes, decimal, OnErr, OnOk};
 ghost use Rattle.std.specs.Io.KnownBytes.{Appends};
 ghost use Rattle.nquads_core.specs.Transfer.{WroteBeginning};
-ghost use Rattle.spq_core.specs.Report.{fault_line, status_of};
+ghost use Rattle.spq_core.specs.Report.{fault_line, query_line, status_of};
 
-use crate::fault::QueryFault;
 use crate::program::RunFault;
 use itoa::Buffer;
 use nquads_core::{DeviceFailed, Sink, write_all};
+use sparql_read::QueryFault;
 
 /// The status with which the program ends after a fault: 1 for a bad line, 2 for a query, 3 for the
 /// command line, 4 for want of memory or of a worker, 5 for a reader or a writer. (0 is for no fault.)
@@ -17,11 +17,33 @@ pub fn status(fault: &RunFault) -> u8
     match fault {
         RunFault::BadLine(_) => 1,
         RunFault::Query(QueryFault::Memory) => 4,
-        RunFault::Query(QueryFault::Syntax) => 2,
+        RunFault::Query(
+            QueryFault::Syntax
+            | QueryFault::UndefinedPrefix
+            | QueryFault::RelativeIri
+            | QueryFault::BindScope
+            | QueryFault::BlankReuse
+            | QueryFault::TooDeep,
+        ) => 2,
         RunFault::Line => 3,
         RunFault::WorkerRefused => 4,
         RunFault::Memory => 4,
         RunFault::Read | RunFault::Write => 5,
+    }
+}
+
+/// The line of a query that a rule refuses.
+fn line_of(fault: &QueryFault) -> &'static [u8]
+    ensures line { result.now ≡ query_line fault.now }
+{
+    match fault {
+        QueryFault::Syntax => b"error: query syntax\n",
+        QueryFault::UndefinedPrefix => b"error: query prefix\n",
+        QueryFault::RelativeIri => b"error: query relative iri\n",
+        QueryFault::BindScope => b"error: query bind\n",
+        QueryFault::BlankReuse => b"error: query blank label\n",
+        QueryFault::TooDeep => b"error: query depth\n",
+        QueryFault::Memory => b"error: memory\n",
     }
 }
 
@@ -62,6 +84,17 @@ fn write_bad_line<K: Sink>(writer: &mut K, line: u128) -> Result<(), DeviceFaile
     }
 }
 
+/// Writes the line of a query that a rule refuses.
+fn write_query_fault<K: Sink>(writer: &mut K, fault: &QueryFault) -> Result<(), DeviceFailed>
+    ensures written { OnOk result
+        (Appends (K.held writer.old) (K.held writer.new) (query_line fault.now)) }
+    ensures failed { OnErr result
+        (WroteBeginning (K.held writer.old) (K.held writer.new) (query_line fault.now)) }
+{
+    let line = line_of(fault);
+    write_all(writer, line)
+}
+
 /// Writes the line of a fault, with a line feed. It takes no memory.
 ///
 /// # Errors
@@ -75,8 +108,7 @@ pub fn write_fault<K: Sink>(fault: &RunFault, writer: &mut K) -> Result<(), Devi
 {
     match fault {
         RunFault::BadLine(line) => write_bad_line(writer, *line),
-        RunFault::Query(QueryFault::Memory) => write_all(writer, b"error: memory\n"),
-        RunFault::Query(QueryFault::Syntax) => write_all(writer, b"error: query syntax\n"),
+        RunFault::Query(fault) => write_query_fault(writer, fault),
         RunFault::Line => write_all(writer, b"error: command line\n"),
         RunFault::WorkerRefused => write_all(writer, b"error: worker\n"),
         RunFault::Memory => write_all(writer, b"error: memory\n"),
