@@ -1,13 +1,13 @@
 -- Blocks that are read one after the other.
-use Rattle.std.proofs.Common.{◌≡◌, ℕ, suc, ◌+◌, ◌-◌, ◌<◌, ◌≤◌, Bool, true, List, [], ◌∷◌, ◌++◌, length, get_or, take, map, Option, Some, None, Ok, Vec, Global, refl, sym, ap, ◌∙◌, subst, append_assoc, append-nil, length-append, inl, inr, ◌⊎◌, arith, rules}
+use Rattle.std.proofs.Common.{◌≡◌, ℕ, suc, ◌+◌, ◌-◌, ◌<◌, ◌≤◌, Bool, true, List, [], ◌∷◌, ◌++◌, length, get_or, take, map, Option, Some, None, IfSome, Ok, Vec, Global, refl, sym, ap, ◌∙◌, subst, append_assoc, append-nil, length-append, inl, inr, ◌⊎◌, arith, rules}
 use Rattle.std.specs.List.{flat_map, slice_index_or}
 use Rattle.std.proofs.lemmas.List.{take_more, take_all, map-append, length-map, get_or_append_left}
 use Rattle.std.proofs.lemmas.Grind.{flat_map-append}
 use Rattle.std.specs.Io.KnownBytes.{Consumes, IsAtEnd}
 use Rattle.nquads_core.specs.Lines.{EndsLine}
-use Rattle.piece_cuts.specs.Blocks.{BothKnown, GivesKnownBlock, IsWhole}
-use Rattle.piece_cuts.specs.Laws.{EndsWithLineFeed}
-use Rattle.dataset_load.specs.Lines.{AreWholeLines, block_texts, joined}
+use Rattle.piece_cuts.specs.Blocks.{BothKnown, GivesKnownBlock, IsFirstPiece, IsWhole}
+use Rattle.piece_cuts.specs.Laws.{EndsWithLineFeed, FirstPieceThenTheRest, pieces_of}
+use Rattle.dataset_load.specs.Lines.{AreBlocksOf, AreWholeLines, block_texts, joined}
 
 pub whole_from_last : (bytes : List ℕ) → 0 < length bytes → get_or bytes (length bytes - 1) 0 ≡ 10 → EndsWithLineFeed bytes
 whole_from_last bytes some last =
@@ -91,6 +91,17 @@ read_all (Some xs) (Some ys) None done kept kept' size h k e = absurd k
 read_all (Some xs) (Some ys) (Some zs) done kept kept' size h k e =
     h ∙ ap (λ bs. done ++ bs) k ∙ ap (λ bs. done ++ bs) (sym e)
 
+-- behind a first piece that does not end with a line feed there is nothing
+pub nothing_behind : (size : ℕ) (text rest : List ℕ) (block : Vec ℕ Global) → IsFirstPiece size text block.items rest
+    → ¬ EndsWithLineFeed block.items → rest ≡ []
+nothing_behind size text rest block first unended =
+    elim first.cut [
+      | inl cut ↦ absurd (unended (whole_from_last block.items (omega (arith, cut.cut.inside.0))
+          (sym (get_or_append_left block.items rest 0 (length block.items - 1) (omega (arith, cut.cut.inside.0)))
+          ∙ ap (λ bs. get_or bs (length block.items - 1) 0) (sym first.joined) ∙ cut.cut.behind)))
+      | inr last ↦ last.1
+    ]
+
 -- the last block, which does not end with a line feed
 pub read_last : (a b c : Option (List ℕ)) (done done' kept kept' : List ℕ) (size : ℕ) (block : Vec ℕ Global)
     → IsReadIn a b done kept → GivesKnownBlock size kept b kept' c (Ok (Some block)) → done' ≡ done ++ block.items
@@ -100,12 +111,7 @@ read_last (Some xs) None c done done' kept kept' size block h k e end unended = 
 read_last (Some xs) (Some ys) None done done' kept kept' size block h k e end unended = absurd k
 read_last (Some xs) (Some ys) (Some zs) done done' kept kept' size block h k e end unended =
     let text = h ∙ ap (λ bs. done ++ bs) k.1.joined ∙ sym (append_assoc done block.items (kept' ++ zs)) ∙ ap (λ bs. bs ++ (kept' ++ zs)) (sym e) in
-    elim k.1.cut [
-      | inl cut ↦ absurd (unended (whole_from_last block.items (omega (arith, cut.cut.inside.0))
-          (sym (get_or_append_left block.items (kept' ++ zs) 0 (length block.items - 1) (omega (arith, cut.cut.inside.0)))
-          ∙ ap (λ bs. get_or bs (length block.items - 1) 0) (sym k.1.joined) ∙ cut.cut.behind)))
-      | inr last ↦ text ∙ ap (λ bs. done' ++ bs) last.1 ∙ ap (λ bs. done' ++ bs) (sym end)
-    ]
+    text ∙ ap (λ bs. done' ++ bs) (nothing_behind size (kept ++ ys) (kept' ++ zs) block k.1 unended) ∙ ap (λ bs. done' ++ bs) (sym end)
 
 -- of the two, the reader's end
 pub at_the_end : (left : Option (List ℕ)) (block : Vec ℕ Global) → IsWhole (Some block) ⊎ IsAtEnd left → ¬ EndsWithLineFeed block.items → IsAtEnd left
@@ -115,3 +121,58 @@ at_the_end left block (inr end) unended = end
 pub none_at_end : (left : Option (List ℕ)) → IsWhole None ⊎ IsAtEnd left → IsAtEnd left
 none_at_end left (inl whole) = absurd whole
 none_at_end left (inr end) = end
+
+-- ---- the blocks are the pieces
+
+-- blocks of what is kept and left, behind those that were read, are the blocks of what there was
+abbrev pub IsCutSo : ℕ → Option (List ℕ) → Option (List ℕ) → List (List ℕ) → List ℕ → Type 0
+IsCutSo size left left' done kept =
+    BothKnown left left' (λ xs ys. (rest : List (List ℕ)) → AreBlocksOf size (kept ++ ys) rest → AreBlocksOf size xs (done ++ rest))
+
+pub cut_start : (size : ℕ) (a : Option (List ℕ)) (kept : List ℕ) → kept ≡ [] → IsCutSo size a a [] kept
+cut_start size None kept e = tt
+cut_start size (Some xs) kept e = λ rest h. subst (λ (text : List ℕ). AreBlocksOf size text rest) (ap (λ (bs : List ℕ). bs ++ xs) e) h
+
+none_of_none : (size : ℕ) → AreBlocksOf size [] []
+none_of_none size = (λ e. refl, λ places some every. absurd (omega arith))
+
+-- a first piece, and then the blocks of the rest
+block_more : FirstPieceThenTheRest → (size : ℕ) (text piece rest : List ℕ) (more : List (List ℕ)) → 1 ≤ size → 0 < length text
+    → IsFirstPiece size text piece rest → AreBlocksOf size rest more → AreBlocksOf size text (piece ∷ more)
+block_more law size text piece rest more one some first h = (
+  λ e. absurd (omega arith),
+  λ places low every. elim (law size text piece rest places one some first every) [
+    | inl last ↦ ap (λ (ps : List (List ℕ)). piece ∷ ps) (h.0 (ap length last.0)) ∙ sym last.1
+    | inr later ↦ ap (λ (ps : List (List ℕ)). piece ∷ ps) (h.1 later.0 later.1 later.2) ∙ sym later.3
+  ],
+)
+
+pub cut_step : FirstPieceThenTheRest → (a b c : Option (List ℕ)) (done done' : List (List ℕ)) (kept kept' : List ℕ) (size : ℕ) (block : Vec ℕ Global)
+    → 1 ≤ size → IsCutSo size a b done kept → GivesKnownBlock size kept b kept' c (Ok (Some block)) → done' ≡ done ++ block.items ∷ [] → IsCutSo size a c done' kept'
+cut_step law None b c done done' kept kept' size block one h k e = tt
+cut_step law (Some xs) None c done done' kept kept' size block one h k e = absurd h
+cut_step law (Some xs) (Some ys) None done done' kept kept' size block one h k e = absurd k
+cut_step law (Some xs) (Some ys) (Some zs) done done' kept kept' size block one h k e = λ rest blocks.
+    let behind = h (block.items ∷ rest) (block_more law size (kept ++ ys) block.items (kept' ++ zs) rest one k.0 k.1 blocks) in
+    subst (λ (ps : List (List ℕ)). AreBlocksOf size xs ps) (sym (ap (λ (ps : List (List ℕ)). ps ++ rest) e ∙ append_assoc done (block.items ∷ []) rest)) behind
+
+-- P of the text, where it is known
+pub cut_all : (a b c : Option (List ℕ)) (done : List (List ℕ)) (kept kept' : List ℕ) (size : ℕ)
+    → IsCutSo size a b done kept → GivesKnownBlock size kept b kept' c (Ok None) → IfSome a (λ text. AreBlocksOf size text done)
+cut_all None b c done kept kept' size h k = tt
+cut_all (Some xs) None c done kept kept' size h k = absurd h
+cut_all (Some xs) (Some ys) None done kept kept' size h k = absurd k
+cut_all (Some xs) (Some ys) (Some zs) done kept kept' size h k =
+    subst (λ (ps : List (List ℕ)). AreBlocksOf size xs ps) (append-nil done)
+    (h [] (subst (λ (text : List ℕ). AreBlocksOf size text []) (sym k) (none_of_none size)))
+
+pub cut_last : FirstPieceThenTheRest → (a b c : Option (List ℕ)) (done done' : List (List ℕ)) (kept kept' : List ℕ) (size : ℕ) (block : Vec ℕ Global)
+    → 1 ≤ size → IsCutSo size a b done kept → GivesKnownBlock size kept b kept' c (Ok (Some block)) → done' ≡ done ++ block.items ∷ []
+    → IsAtEnd c → ¬ EndsWithLineFeed block.items → IfSome a (λ text. AreBlocksOf size text done')
+cut_last law None b c done done' kept kept' size block one h k e end unended = tt
+cut_last law (Some xs) None c done done' kept kept' size block one h k e end unended = absurd h
+cut_last law (Some xs) (Some ys) None done done' kept kept' size block one h k e end unended = absurd k
+cut_last law (Some xs) (Some ys) (Some zs) done done' kept kept' size block one h k e end unended =
+    let nothing : kept' ++ zs ≡ [] = nothing_behind size (kept ++ ys) (kept' ++ zs) block k.1 unended in
+    let all = cut_step law (Some xs) (Some ys) (Some zs) done done' kept kept' size block one h k e [] (subst (λ (text : List ℕ). AreBlocksOf size text []) (sym nothing) (none_of_none size)) in
+    subst (λ (ps : List (List ℕ)). AreBlocksOf size xs ps) (append-nil done') all

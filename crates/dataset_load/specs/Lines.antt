@@ -1,10 +1,12 @@
 -- The lines of a document that lies in pieces (our own; RDF 1.1 N-Quads, grammar, EOL, for what ends
 -- a line).
-use Rattle.std.specs.Prelude.{ℕ, ◌+◌, ◌<◌, List, [], length, map, slice_index_or, Vec}
+use Rattle.std.specs.Prelude.{◌≡◌, ℕ, ◌+◌, ◌<◌, List, [], length, map, slice_index_or, Vec}
 use Rattle.std.specs.Global.{Global}
 use Rattle.std.specs.List.{flat_map}
 use Rattle.std.specs.Borrow.{Bor}
 use Rattle.nquads_core.specs.Lines.{lines, EndsLine}
+use Rattle.piece_cuts.specs.Cuts.{AreEveryFrom}
+use Rattle.piece_cuts.specs.Laws.{pieces_of}
 
 -- the bytes of pieces that are lent, and of blocks
 abbrev pub texts : List (Bor (List ℕ)) → List (List ℕ)
@@ -20,6 +22,14 @@ joined pieces = flat_map (λ piece. piece) pieces
 -- no line goes over the end of a piece: each but the last is empty or ends with a line feed
 abbrev pub AreWholeLines : List (List ℕ) → Type 0
 AreWholeLines pieces = (i : ℕ) → i + 1 < length pieces → EndsLine (slice_index_or pieces i [])
+
+-- The blocks that a text is read in: none of the empty text, and otherwise its pieces at the cuts of
+-- this size, which a text has one list of (piece_cuts, `Cuts::every`).
+abbrev pub AreBlocksOf : ℕ → List ℕ → List (List ℕ) → Type 0
+AreBlocksOf size text blocks =
+    (length text ≡ 0 → blocks ≡ [])
+    × ((places : List ℕ) → 0 < length text → AreEveryFrom text size 0 places
+    → blocks ≡ pieces_of text places)
 
 -- Words that only private clauses cite.
 

@@ -1,16 +1,17 @@
 //! A document that is read in blocks of whole lines.
-ghost use Rattle.std.specs.Prelude.{◌≡◌, ◌≤◌, true, IfOk, OnOk};
+ghost use Rattle.std.specs.Prelude.{◌≡◌, ◌≤◌, true, IfOk, IfSome, OnOk};
 ghost use Rattle.std.specs.Io.KnownBytes.{Consumes, IsAtEnd};
 ghost use Rattle.nquads_core.specs.Transfer.{CountsRead};
 ghost use Rattle.piece_cuts.specs.Laws.{EndsWithLineFeed};
-ghost use Rattle.dataset_load.specs.Lines.{AreWholeLines, block_texts, joined};
+ghost use Rattle.dataset_load.specs.Lines.{AreBlocksOf, AreWholeLines, block_texts, joined};
 
 use nquads_core::{ReadFault, Source};
 use piece_cuts::Blocks;
+use piece_cuts::laws::first_piece_then_the_rest;
 use std::alloc::Global;
 
-/// All bytes that a reader has left, in blocks of whole lines: each has at least `size` bytes, but
-/// the last. The bytes are not joined.
+/// All bytes that a reader has left, in blocks of whole lines: the pieces of `Cuts::every` with this
+/// size, each of at least `size` bytes but the last. No bytes, no block. The bytes are not joined.
 ///
 /// # Errors
 /// - `Read`: the reader failed in this call. Bytes before that may have been taken from it.
@@ -24,9 +25,12 @@ pub fn read_blocks<S: Source>(
     ensures whole_lines { IfOk result (λ blocks. AreWholeLines (block_texts blocks.items)) }
     ensures bytes { IfOk result (λ blocks. Consumes (S.left reader.old) (S.left reader.new)
         (joined (block_texts blocks.items))) }
+    ensures pieces { IfOk result (λ blocks. IfSome (S.left reader.old)
+        (λ text. AreBlocksOf size text (block_texts blocks.items))) }
     ensures at_end { OnOk result (IsAtEnd (S.left reader.new)) }
     ensures count { CountsRead (S.failures reader.old) (S.failures reader.new) result }
 {
+    first_piece_then_the_rest();
     let Ok(mut blocks) = Blocks::new(alloc, size) else {
         return Err(ReadFault::Memory);
     };

@@ -39,6 +39,17 @@ fn is_spelled(alloc: Global, term: &Term, spelling: &[u8]) -> Result<bool, Alloc
 }
 
 #[test]
+fn texts_are_made_and_given_back(rt: HostRuntime) -> Result<(), AllocError> {
+    let alloc = rt.alloc();
+    let made = text(alloc, "b\u{e9}")?;
+    let copied = made.copy(alloc)?;
+    assert!(rt; made == copied);
+    assert!(rt; made.cmp(&text(alloc, "c")?) == Ordering::Less);
+    assert!(rt; copied.into_string().as_str() == "b\u{e9}");
+    Ok(())
+}
+
+#[test]
 fn terms_are_spelled(rt: HostRuntime) -> Result<(), AllocError> {
     let alloc = rt.alloc();
     let blank = Term::Blank(text(alloc, "b")?);

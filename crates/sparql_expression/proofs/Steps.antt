@@ -1,13 +1,13 @@
 -- Reading a production from left to right: what is left of it, and what each step makes of that.
-use Rattle.std.proofs.Common.{Result, Ok, Err, ◌≡◌, ℕ, ◌<◌, List, [], ◌∷◌, Bool, true, false, if◌then◌else◌, refl, sym, ap, ◌∙◌, subst}
+use Rattle.std.proofs.Common.{Result, Ok, Err, ◌≡◌, ℕ, ◌<◌, List, [], ◌∷◌, length, Bool, true, false, if◌then◌else◌, refl, sym, ap, ◌∙◌, subst}
 use Rattle.sparql_lexer.specs.declared.token.Kind.{Kind}
 use Rattle.sparql_lexer.specs.Terminal.{Terminal, terminal}
 use Rattle.sparql_grammar.specs.Class.{Class, Picked, Picks, exactly}
 use Rattle.sparql_grammar.specs.Values.{Names}
 use Rattle.sparql_grammar.specs.Symbol.{Symbol, Value}
-use Rattle.sparql_grammar.specs.Form.{Form, give, take, part, last, choice, when}
+use Rattle.sparql_grammar.specs.Form.{Form, give, behind, take, part, last, choice, when}
 use Rattle.sparql_grammar.specs.Productions.{right_side}
-use Rattle.sparql_grammar.specs.Matches.{Matches, gives, takes, parts, lasts, firsts, seconds, whens}
+use Rattle.sparql_grammar.specs.Matches.{Matches, gives, counts, takes, parts, lasts, firsts, seconds, whens}
 use Rattle.sparql_grammar.specs.Follow.{reach, next_level, heads}
 use Rattle.sparql_grammar.proofs.FormLaws.{begins, ends, in_class, Good}
 use Rattle.sparql_grammar.proofs.ClassLaws.{picks_in, one_value, is_kind}
@@ -161,6 +161,14 @@ pub done : {names : Names} {s : Symbol} {ts : List Terminal} {u : Symbol} {g : V
     → Left names s ts u g (give a) mid → b ≡ g a → Reads names s ts (Ok (b, mid))
 done {names = names} {s = s} {ts = ts} {a = a} {mid = mid} l e =
     subst (λ b. Reads names s ts (Ok (b, mid))) (sym e) (l.goes (Ok (a, mid)) record { is = (gives, λ v rest d b. only_given d) })
+
+only_counted : {names : Names} {u : Symbol} {h : ℕ → Value u} {v : Value u} {ts rest : List Terminal} → Matches names u (behind h) ts v rest → (v ≡ h (length ts)) × (rest ≡ ts)
+only_counted counts = (refl, refl)
+
+pub done_behind : {names : Names} {s : Symbol} {ts : List Terminal} {u : Symbol} {g : Value u → Value s} {h : ℕ → Value u} {mid : List Terminal} {b : Value s}
+    → Left names s ts u g (behind h) mid → b ≡ g (h (length mid)) → Reads names s ts (Ok (b, mid))
+done_behind {names = names} {s = s} {ts = ts} {h = h} {mid = mid} l e =
+    subst (λ b. Reads names s ts (Ok (b, mid))) (sym e) (l.goes (Ok (h (length mid), mid)) record { is = (counts, λ v rest d b. only_counted d) })
 
 -- where what is left derives nothing, the whole does not
 pub fails : {names : Names} {s : Symbol} {ts : List Terminal} {u : Symbol} {g : Value u → Value s} {form : Form (Value u)} {mid : List Terminal}

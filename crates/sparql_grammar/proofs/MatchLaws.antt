@@ -6,10 +6,10 @@ use Rattle.sparql_lexer.specs.Terminal.{Terminal, terminal}
 use Rattle.sparql_grammar.specs.Class.{Class, Picked, Picks}
 use Rattle.sparql_grammar.specs.Values.{Names}
 use Rattle.sparql_grammar.specs.Symbol.{Symbol, Value}
-use Rattle.sparql_grammar.specs.Form.{Form, give, take, part, last, choice, when}
+use Rattle.sparql_grammar.specs.Form.{Form, give, behind, take, part, last, choice, when}
 use Rattle.sparql_grammar.specs.Follow.{level, reach, next_level}
 use Rattle.sparql_grammar.specs.Productions.{right_side}
-use Rattle.sparql_grammar.specs.Matches.{Matches, gives, takes, parts, lasts, firsts, seconds, whens}
+use Rattle.sparql_grammar.specs.Matches.{Matches, gives, counts, takes, parts, lasts, firsts, seconds, whens}
 use Rattle.sparql_grammar.proofs.KindLaws.{every, every_at}
 use Rattle.sparql_grammar.proofs.ClassLaws.{picks_in, one_value}
 use Rattle.sparql_grammar.proofs.FormLaws.{begins, ends, first, nullable, above, follows, apart_by, apart, Good}
@@ -53,6 +53,7 @@ starts_when b f (headed k x us h c) = headed k x us h c
 
 pub starts : {ns : Names} {s : Symbol} {form : Form (Value s)} {ts rest : List Terminal} {v : Value s} (n : ℕ) → Good n form → Matches ns s form ts v rest → Starts form ts rest
 starts n g gives = empty refl refl
+starts n g counts = empty refl refl
 starts {ns = ns} n g (takes {c = c} {k = k} {x = x} {ts = ts} p h m) = headed k x ts refl (picks_in ns c k x p h)
 starts n g (parts {u = u} {f = f} d e) = starts_part u f g.0 (starts (reach u) (good u) d)
 starts n g (lasts {u = u} {g = h} d) = starts_last u h (starts (reach u) (good u) d)
@@ -146,6 +147,7 @@ lower n u rest h s = between (above_less true (reach u) (suc n) h refl) s
 pub unique : {ns : Names} {s : Symbol} {form : Form (Value s)} {ts r r' : List Terminal} {v w : Value s} (n : ℕ) → Good n form
     → Matches ns s form ts v r → n < next_level r → Matches ns s form ts w r' → n < next_level r' → Same v w r r'
 unique n g gives s gives s' = record { value = refl; behind = refl }
+unique n g counts s counts s' = record { value = refl; behind = refl }
 unique {ns = ns} {s = y} {r' = r'} {w = w} n g (takes {c = c} {f = f} {k = k} {x = x} {ts = ts} p h m) s (takes p' h' m') s' =
     unique n (g p) m s (subst (λ p. Matches ns y (f p) ts w r') (one_value ns c k x p' p h' h) m') s'
 unique {ns = ns} {s = y} {r' = r'} {w = w} n g (parts {u = u} {f = f} {a = a} d e) s (parts {a = a'} d' e') s' =

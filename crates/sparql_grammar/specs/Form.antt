@@ -1,6 +1,6 @@
 -- Right sides of productions. The grammar of SPARQL 1.1 Query Language, section 19.8, is written
 -- down with them in Productions.antt.
-use Rattle.std.specs.Prelude.{Bool}
+use Rattle.std.specs.Prelude.{ℕ, Bool}
 use Rattle.sparql_grammar.specs.Class.{Class, Picked, exactly}
 use Rattle.sparql_grammar.specs.Symbol.{Symbol, Value}
 use Rattle.sparql_lexer.specs.declared.token.Kind.{Kind}
@@ -12,6 +12,8 @@ use Rattle.sparql_lexer.specs.declared.token.Sign.{Sign}
 pub data Form (A : Type 0) : Type 0 where
   -- nothing more
   give : A → Form A
+  -- nothing more, and how many terminals stand behind decides the value
+  behind : (ℕ → A) → Form A
   -- a terminal of a class, and then what its value decides
   take : (c : Class) → (Picked c → Form A) → Form A
   -- what a symbol derives, and then what its value decides

@@ -1,11 +1,11 @@
 -- What the productions derive.
-use Rattle.std.specs.Prelude.{◌≡◌, ℕ, List, ◌∷◌, Bool, true}
+use Rattle.std.specs.Prelude.{◌≡◌, ℕ, List, ◌∷◌, length, Bool, true}
 use Rattle.sparql_lexer.specs.declared.token.Kind.{Kind}
 use Rattle.sparql_lexer.specs.Terminal.{Terminal, terminal}
 use Rattle.sparql_grammar.specs.Class.{Class, Picked, Picks}
 use Rattle.sparql_grammar.specs.Values.{Names}
 use Rattle.sparql_grammar.specs.Symbol.{Symbol, Value}
-use Rattle.sparql_grammar.specs.Form.{Form, give, take, part, last, choice, when}
+use Rattle.sparql_grammar.specs.Form.{Form, give, behind, take, part, last, choice, when}
 use Rattle.sparql_grammar.specs.Productions.{right_side}
 
 -- `Matches names s form ts v rest`: the list ts begins with terminals of the form, which give the
@@ -13,6 +13,7 @@ use Rattle.sparql_grammar.specs.Productions.{right_side}
 -- symbol s, or what is left of one.
 pub data Matches (names : Names) : (s : Symbol) → Form (Value s) → List Terminal → Value s → List Terminal → Type 0 where
   gives : {s : Symbol} {v : Value s} {ts : List Terminal} → Matches names s (give v) ts v ts
+  counts : {s : Symbol} {g : ℕ → Value s} {ts : List Terminal} → Matches names s (behind g) ts (g (length ts)) ts
   takes : {s : Symbol} {c : Class} {f : Picked c → Form (Value s)} {k : Kind} {x : List ℕ} {ts rest : List Terminal} {v : Value s}
       → (p : Picked c) → Picks names c k x p → Matches names s (f p) ts v rest → Matches names s (take c f) (terminal k x ∷ ts) v rest
   parts : {s u : Symbol} {f : Value u → Form (Value s)} {ts mid rest : List Terminal} {a : Value u} {v : Value s}

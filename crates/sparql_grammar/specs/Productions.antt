@@ -14,10 +14,10 @@ use Rattle.sparql_tree.specs.declared.group.Triple.{Triple}
 use Rattle.sparql_tree.specs.ExpressionTree as x
 use Rattle.sparql_tree.specs.GroupTree as g
 use Rattle.sparql_grammar.specs.Class.{exactly, comparison, function, variable, blank, name, reference, string, language, number, boolean, count}
-use Rattle.sparql_grammar.specs.Values.{is_distinct}
+use Rattle.sparql_grammar.specs.Values.{anonymous_label, is_distinct}
 use Rattle.sparql_grammar.specs.Symbol.{Symbol, Value, Select}
 use Rattle.sparql_grammar.specs.Symbol as the
-use Rattle.sparql_grammar.specs.Form.{Form, give, take, part, last, choice, when, this, sign, word}
+use Rattle.sparql_grammar.specs.Form.{Form, give, behind, take, part, last, choice, when, this, sign, word}
 
 -- the triples so far and one more
 abbrev pub and_triple : List Triple → PatternTerm → PatternTerm → PatternTerm → List Triple
@@ -83,9 +83,10 @@ right_side (the.literal v) = choice (take language (λ l. give (tagged v l)))
     (choice (sign s.Carets (take name (λ i. give (plain v i))))
     (give (plain v xsd_string)))
 -- VarOrTerm ::= VAR | BLANK_LABEL | ANON | Term
+-- An ANON is a label that stands nowhere else; `;` and `,` repeat it as they repeat any subject.
 right_side the.pattern_term = choice (take variable (λ v. give (place.Variable v)))
     (choice (take blank (λ b. give (place.Blank b)))
-    (choice (this kind.Anonymous (give place.Anonymous))
+    (choice (this kind.Anonymous (behind (λ n. place.Blank (anonymous_label n))))
     (last the.term (λ t. place.Term t))))
 -- Verb ::= VAR | Iri | 'a'
 right_side the.verb = choice (take variable (λ v. give (place.Variable v)))

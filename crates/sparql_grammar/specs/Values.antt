@@ -1,5 +1,5 @@
 -- What names, prefixes and counts stand for (SPARQL 1.1 Query Language, sections 4.1.1 and 19.8).
-use Rattle.std.specs.Prelude.{ℕ, ◌+◌, ◌-◌, ◌*◌, List, [], ◌∷◌, ◌++◌, Bool, true, false, not, if◌then◌else◌, nat_eq, min, Option, Some, None, take, drop}
+use Rattle.std.specs.Prelude.{ℕ, ◌+◌, ◌-◌, ◌*◌, List, [], ◌∷◌, ◌++◌, Bool, true, false, not, if◌then◌else◌, nat_eq, min, decimal, Option, Some, None, take, drop}
 use Rattle.std.specs.List.{list_any, position_or_len, find, filter}
 use lib.Utf8.{encodes}
 use Rattle.std.specs.Cmp.Lexicographic.{pointwise}
@@ -31,6 +31,11 @@ declaration_of ns prefix = find (λ d. pointwise nat_eq d.prefix prefix) ns
 -- stands as it is written.
 abbrev pub expanded : Names → List ℕ → List ℕ
 expanded ns x = elim (declaration_of ns (encodes (prefix_of x))) [ None ↦ encodes x | Some d ↦ d.iri ++ encodes (unescaped (local_of x)) ]
+
+-- The label of an ANON, by how many terminals stand behind it. No two of a text have as many, and no label
+-- that is written begins with a bracket.
+abbrev pub anonymous_label : ℕ → List ℕ
+anonymous_label n = 91 ∷ decimal n
 
 -- the number that digits write behind n
 abbrev pub number_of_digits : ℕ → List ℕ → ℕ

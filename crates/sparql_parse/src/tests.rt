@@ -40,6 +40,19 @@ fn lists_of_triples(rt: HostRuntime) -> Result<(), AllocError> {
     Ok(())
 }
 
+// A `[]` is one label, by how many terminals stand behind it, over all that `;` and `,` repeat.
+#[test]
+fn a_bracket_pair_is_one_label(rt: HostRuntime) -> Result<(), AllocError> {
+    let query = summary(rt.alloc(), "SELECT * { [] ?a ?b , ?c }")?;
+    assert_eq!(rt;
+        query.as_str(),
+        "Select { distinct: false, selection: All, group: [Triples([\
+         Triple { subject: Blank([5), predicate: Variable(a), object: Variable(b) }, \
+         Triple { subject: Blank([5), predicate: Variable(a), object: Variable(c) }])], limit: None, offset: None }"
+    );
+    Ok(())
+}
+
 #[test]
 fn groups_in_groups(rt: HostRuntime) -> Result<(), AllocError> {
     let query = summary(
@@ -49,7 +62,7 @@ fn groups_in_groups(rt: HostRuntime) -> Result<(), AllocError> {
     assert_eq!(rt;
         query.as_str(),
         "Select { distinct: false, selection: All, group: [Union(Group([]), []), \
-         Optional([Triples([Triple { subject: Variable(a), predicate: Variable(b), object: Anonymous }])]), \
+         Optional([Triples([Triple { subject: Variable(a), predicate: Variable(b), object: Blank([25) }])]), \
          Minus([]), Graph(Variable(g), []), Filter(Variable(a)), Bind(Variable(a), b), Filter(Bound(a))], limit: None, offset: None }"
     );
     Ok(())

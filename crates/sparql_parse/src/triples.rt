@@ -3,11 +3,13 @@
 ghost use Rattle.std.specs.Prelude.{◌≡◌, ◌<◌, ◌≤◌, IfOk, length};
 ghost use Rattle.sparql_lexer.specs.Terminal.{terminals};
 ghost use Rattle.sparql_grammar.specs.Symbol as the;
+ghost use Rattle.sparql_grammar.specs.Values.{anonymous_label};
 ghost use Rattle.sparql_grammar.specs.Follow.{heads, is_place, is_verb};
 ghost use Rattle.sparql_expression.specs.Reading.{Reads, seen};
 ghost use Rattle.sparql_parse.specs.Seen.{seen_out};
 ghost use Rattle.sparql_parse.specs.Objects.{ReadsObject, ReadsProperty};
 
+use itoa::Buffer;
 use rdf_core::vocabulary::RDF_TYPE;
 use rdf_core::{Term, Text};
 use sparql_expression::{
@@ -69,6 +71,16 @@ fn starts_verb(tokens: &[Token]) -> bool
     }
 }
 
+/// The label of a `[]` with so many tokens behind it: one that stands nowhere else in the text.
+fn anonymous_label(alloc: Global, behind: usize) -> Result<Text, AllocError>
+    ensures label { IfOk result (λ label. label ≡ anonymous_label behind) }
+{
+    let mut label = String::from_str(alloc, "[")?;
+    let mut buffer = Buffer::new();
+    label.push_str(buffer.format(behind as u64))?;
+    Ok(Text::from_string(label))
+}
+
 /// Reads a variable, a blank node or a term.
 fn read_pattern_term<'t, 'a>(
     alloc: Global,
@@ -85,7 +97,8 @@ fn read_pattern_term<'t, 'a>(
         return Ok((PatternTerm::Blank(label), after));
     }
     if let Some(after) = accept_anonymous(tokens) {
-        return Ok((PatternTerm::Anonymous, after));
+        let made = anonymous_label(alloc, after.len())?;
+        return Ok((PatternTerm::Blank(made), after));
     }
     let (term, after) = read_term(alloc, names, tokens)?;
     Ok((PatternTerm::Term(term), after))

@@ -84,7 +84,26 @@ fn command_lines_are_read(rt: HostRuntime) {
         is_terms(&rt, &["spq", "terms"], (4, 65536)),
         "the defaults"
     );
-    let bad: [&[&str]; 13] = [
+    assert!(rt;
+        is_check(&rt, &["spq", "check", "--workers=+4", "--piece", "07", "--"], (4, 7)),
+        "a plus, a zero in front, and two hyphens at the end"
+    );
+    for (word, query) in [("--query=", ""), ("--query=-x", "-x"), ("--query=a=b", "a=b")] {
+        let words = ["spq", "select", word];
+        assert!(rt; is_select(&rt, &words, query, (4, 65536, 1024)), "{word}");
+    }
+    assert!(rt;
+        is_select(&rt, &["", "select", "--query", "-"], "-", (4, 65536, 1024)),
+        "a hyphen alone is a value"
+    );
+    let bad: [&[&str]; 20] = [
+        &[],
+        &["spq", "help"],
+        &["spq", "--", "check"],
+        &["spq", "select", "--query", "-x"],
+        &["spq", "select", "--query", "--rows", "7"],
+        &["spq", "check", "--workers", "1", "--workers", "1"],
+        &["spq", "check", "--worker", "1"],
         &["spq"],
         &["spq", "select"],
         &["spq", "select", "--query"],

@@ -2,7 +2,7 @@
 ghost use Rattle.std.specs.Prelude.{◌<◌};
 
 use crate::device::{Device, DeviceFailed, Sink, Source};
-use crate::transfer::{ReadFault, read_to_end, write_all};
+use crate::transfer::{ReadFault, read_more, read_to_end, write_all};
 use std::alloc::Global;
 
 /// Gives `chunk` bytes a call at most, and fails once `until` bytes were read.
@@ -93,6 +93,24 @@ fn reads_to_the_end_a_few_bytes_a_call(rt: HostRuntime) {
     assert!(rt; bytes.as_slice() == text.as_slice(), "all bytes in order");
     assert!(rt; reader.rest.is_empty(), "nothing is left");
     assert!(rt; reader.failed == 0, "no call failed");
+}
+
+#[test]
+fn one_read_appends_what_it_gives(rt: HostRuntime) {
+    let mut reader = SliceSource {
+        rest: b"abc",
+        chunk: 2,
+        until: 1000,
+        failed: 0,
+    };
+    let mut bytes = Vec::new(rt.alloc());
+    for expected in [2, 1, 0] {
+        match read_more(&mut reader, &mut bytes) {
+            Ok(n) => assert!(rt; n == expected, "{expected}"),
+            Err(_) => assert!(rt; false, "{expected}"),
+        }
+    }
+    assert!(rt; bytes.as_slice() == b"abc".as_slice(), "all bytes in order");
 }
 
 #[test]

@@ -1,6 +1,6 @@
 //! The lexical forms by example, each function once at least.
 use crate::lexical::{
-    has_scheme, is_iri_char, is_label_char, is_label_start, is_name_char, is_name_start,
+    first_char, has_scheme, is_iri_char, is_label_char, is_label_start, is_name_char, is_name_start,
     is_pn_chars_base, is_string_char, lower_tag, read_iri_ref, read_quoted, unescape_iri,
     unescape_string,
 };
@@ -13,6 +13,15 @@ fn is_text(found: &Option<Text>, expected: &Option<&str>) -> bool {
         (None, None) => true,
         _ => false,
     }
+}
+
+#[test]
+fn a_text_is_taken_apart_at_its_front(rt: HostRuntime) {
+    match first_char("\u{e9}b") {
+        Some((c, rest)) => assert!(rt; c == '\u{e9}' && rest == "b"),
+        None => assert!(rt; false),
+    }
+    assert!(rt; first_char("").is_none());
 }
 
 // Each class at the ends of its ranges, and where the two grammars part.

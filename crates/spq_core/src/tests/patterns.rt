@@ -1,7 +1,7 @@
 //! Basic graph patterns.
 
 use super::asking::first_wrong;
-use super::samples::{ESCAPED, ITSELF, LABELLED, ONES, REPEATED, TWO_LINES, TWO_OBJECTS};
+use super::samples::{ESCAPED, ITSELF, LABELLED, ONES, REPEATED, SHARED, TWO_LINES, TWO_OBJECTS};
 use std::alloc::AllocError;
 
 #[test]
@@ -86,6 +86,20 @@ fn patterns_are_answered(rt: HostRuntime) -> Result<(), AllocError> {
                 "SELECT ?o { ?s ?p ?o }",
                 "'o'",
                 "{'o':{'type':'literal','value':'\\t\\u0001\\\\'}}",
+            ),
+            (
+                "a pair of brackets is one node for all that a semicolon repeats",
+                SHARED,
+                "SELECT ?x ?y { [] <http://e/p> ?x ; <http://e/q> ?y }",
+                "'x','y'",
+                "{'x':{'type':'literal','value':'2'},'y':{'type':'literal','value':'1'}}",
+            ),
+            (
+                "two pairs of brackets are two nodes",
+                SHARED,
+                "SELECT ?x ?y { [] <http://e/p> ?x . [] <http://e/q> ?y }",
+                "'x','y'",
+                "{'x':{'type':'literal','value':'0'},'y':{'type':'literal','value':'1'}},{'x':{'type':'literal','value':'2'},'y':{'type':'literal','value':'1'}}",
             ),
         ],
     )?;

@@ -52,3 +52,7 @@ pub(crate) const ONES: &str =
 /// A statement of something about itself.
 pub(crate) const ITSELF: &str =
     "<http://e/a> <http://e/p> <http://e/a> .\n<http://e/a> <http://e/p> <http://e/b> .\n";
+
+/// One thing with one statement, and another with two.
+pub(crate) const SHARED: &str =
+    "<http://e/c> <http://e/p> \"0\" .\n<http://e/d> <http://e/q> \"1\" .\n<http://e/d> <http://e/p> \"2\" .\n";

@@ -2,7 +2,7 @@ use Rattle.std.proofs.Common.{◌≡◌, ℕ, List, false, true, true≢false, a
 use Rattle.nquads_core.proofs.TransferSteps.{Stays-stays}
 use Rattle.piece_cuts.specs.Laws.{EndsWithLineFeed}
 use Rattle.dataset_load.specs.Lines.{AreWholeLines, block_texts, joined}
-use Rattle.dataset_load.proofs.ReaderSteps.{EachEnds, at_the_end, ends_more, joined_more, read_last, read_step, texts_more, whole_but_last}
+use Rattle.dataset_load.proofs.ReaderSteps.{EachEnds, at_the_end, cut_all, cut_last, cut_step, ends_more, joined_more, read_last, read_step, texts_more, whole_but_last}
 use Rattle.dataset_load.proofs.reader.read_blocks.Goals as goal
 
 pub returns-then-not-is_whole-clause-whole_lines : goal.returns-then-not-is_whole-clause-whole_lines
@@ -22,6 +22,23 @@ returns-then-not-is_whole-clause-bytes g c =
     read_last _ _ _ (joined (block_texts c.reading.read.items)) _ c.reading.blocks.kept c.next.new.self.kept c.reading.blocks.size c.in-Ok-Some.block was.bytes given e
     (at_the_end _ c.in-Ok-Some.block last unended) unended
 
+pub returns-then-not-is_whole-clause-pieces : goal.returns-then-not-is_whole-clause-pieces
+returns-then-not-is_whole-clause-pieces g c =
+    let was = c.reading.invariant in
+    let t = texts_more c.reading.read.items c.push.new.self.items c.in-Ok-Some.block c.in-Ok-push.ensures.items in
+    let given = rw c.in-Ok-Some.field-0-is at (c.in-Ok-Some.ensures.block was.state) in
+    let last = rw c.in-Ok-Some.field-0-is at (c.in-Ok-Some.ensures.last was.state) in
+    let unended = λ (h : EndsWithLineFeed c.in-Ok-Some.block.items).
+    true≢false (sym (c.ends_with_line_feed-is_whole.ensures.no (subst (λ (bs : List ℕ). EndsWithLineFeed bs) (sym c.as_slice.ensures.value) h)) ∙ c.if-not-is_whole.true) in
+    cut_last c.first_piece_then_the_rest.ensures.law _ _ _ (block_texts c.reading.read.items) _ c.reading.blocks.kept c.next.new.self.kept c.args.size c.in-Ok-Some.block
+    c.requires.some was.cut (rw was.size at given) t (at_the_end _ c.in-Ok-Some.block last unended) unended
+
+pub returns-in-Ok-None-clause-pieces : goal.returns-in-Ok-None-clause-pieces
+returns-in-Ok-None-clause-pieces g c =
+    let was = c.reading.invariant in
+    let given = rw c.in-Ok-None.field-0-is at (c.in-Ok-None.ensures.block was.state) in
+    cut_all _ _ _ (block_texts c.reading.read.items) c.reading.blocks.kept c.next.new.self.kept c.args.size was.cut given
+
 pub reading-preserved : goal.reading-preserved
 reading-preserved g c =
     let was = c.reading.invariant in
@@ -31,7 +48,10 @@ reading-preserved g c =
     let whole = subst (λ (bs : List ℕ). EndsWithLineFeed bs) c.as_slice.ensures.value (c.ends_with_line_feed-is_whole.ensures.yes c.if-not-is_whole.false) in
     record {
       state = rw c.in-Ok-Some.field-0-is at (c.in-Ok-Some.ensures.state was.state);
+      size = c.in-Ok-Some.ensures.size ∙ was.size;
       ends = subst (λ (ps : List (List ℕ)). EachEnds ps) (sym t) (ends_more (block_texts c.reading.read.items) c.in-Ok-Some.block.items was.ends whole);
       bytes = read_step _ _ _ (joined (block_texts c.reading.read.items)) _ c.reading.blocks.kept c.next.new.self.kept c.reading.blocks.size c.in-Ok-Some.block was.bytes given e;
+      cut = cut_step c.first_piece_then_the_rest.ensures.law _ _ _ (block_texts c.reading.read.items) _ c.reading.blocks.kept c.next.new.self.kept c.args.size c.in-Ok-Some.block
+          c.requires.some was.cut (rw was.size at given) t;
       count = Stays-stays _ _ _ was.count (c.in-Ok-Some.ensures.count was.state);
     }

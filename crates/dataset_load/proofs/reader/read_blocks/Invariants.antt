@@ -2,14 +2,16 @@ use Rattle.std.proofs.Common.{◌≡◌, ◌-◌, ◌^◌, vec_len}
 use Rattle.piece_cuts.specs.declared.blocks.BlockState.TheVariants.{Reading}
 use Rattle.nquads_core.specs.Device.{Stays}
 use Rattle.dataset_load.specs.Lines.{block_texts, joined}
-use Rattle.dataset_load.proofs.ReaderSteps.{EachEnds, IsReadIn}
+use Rattle.dataset_load.proofs.ReaderSteps.{EachEnds, IsCutSo, IsReadIn}
 use Rattle.dataset_load.proofs.reader.read_blocks.Given as goal
 
 abbrev pub invariant-reading : goal.invariant-reading
 invariant-reading g l = record {
   state : l.blocks.state ≡ Reading;
+  size : l.blocks.size ≡ l.fn.size;
   ends : EachEnds (block_texts l.read.items);
   bytes : IsReadIn (g.S.Source.left l.fn.reader) (g.S.Source.left l.reader) (joined (block_texts l.read.items)) l.blocks.kept;
+  cut : IsCutSo l.fn.size (g.S.Source.left l.fn.reader) (g.S.Source.left l.reader) (block_texts l.read.items) l.blocks.kept;
   count : Stays (g.S.Source.failures l.fn.reader) (g.S.Source.failures l.reader);
 }
 

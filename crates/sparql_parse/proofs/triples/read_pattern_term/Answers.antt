@@ -1,9 +1,12 @@
-use Rattle.std.proofs.Common.{refl}
+use Rattle.std.proofs.Common.{◌≡◌, length, refl, sym, ap, ◌∙◌}
+use Rattle.std.proofs.lemmas.List.{length-map}
 use Rattle.std.proofs.lemmas.Result.{err_from_is_err_and}
-use Rattle.sparql_lexer.specs.Terminal.{terminals}
+use Rattle.sparql_lexer.specs.Terminal.{terminal_of, terminals}
+use Rattle.sparql_tree.specs.declared.group.PatternTerm.TheVariants as place
+use Rattle.sparql_grammar.specs.Values.{anonymous_label}
 use Rattle.sparql_grammar.specs.Class.{variable, blank}
 use Rattle.sparql_grammar.specs.Symbol as the
-use Rattle.sparql_expression.proofs.Steps.{begin, last_reads, last_fails, done, here, left, took_branch, skipped}
+use Rattle.sparql_expression.proofs.Steps.{begin, last_reads, last_fails, done, done_behind, here, left, took_branch, skipped}
 use Rattle.sparql_parse.proofs.FrontSteps.{some_taken, none_untaken}
 use Rattle.sparql_parse.proofs.triples.read_pattern_term.Goals as goal
 
@@ -23,7 +26,8 @@ returns-in-Some-accept_anonymous-clause-reads c =
     let l = begin c.args.names.now the.pattern_term (terminals c.args.tokens.now) in
     let m = skipped l (none_untaken {c = variable} (c.in_ok-name.ensures.accepts c.args.names.now) c.in_default.is) in
     let n = skipped m (none_untaken {c = blank} (c.in_ok-label.ensures.accepts c.args.names.now) c.in_default-2.is) in
-    done (took_branch n (left here) (c.in-Some-accept_anonymous.ensures.accepts c.args.names.now)) refl
+    let e : c.in_ok-made.made ≡ anonymous_label (length (terminals c.in-Some-accept_anonymous.after.now)) = c.in_ok-made.ensures.label ∙ ap anonymous_label (c.len.ensures ∙ sym (length-map c.in-Some-accept_anonymous.after.now terminal_of)) in
+    done_behind (took_branch n (left here) (c.in-Some-accept_anonymous.ensures.accepts c.args.names.now)) (ap place.Blank e)
 
 pub returns-in_err-term-clause-reads : goal.returns-in_err-term-clause-reads
 returns-in_err-term-clause-reads c =
