@@ -7,7 +7,7 @@ use Rattle.algebra_model.specs.Bgp as bgp
 use Rattle.rdf_core.specs.declared.term.Term.{Term}
 use Rattle.sparql_tree.specs.declared.group.Triple.{Triple}
 use Rattle.sparql_algebra.specs.Names.{Name}
-use Rattle.sparql_algebra.specs.Translation.{anonymous_in, labels_of, translate_triple, translate_triples, triple_anonymous, triple_blanks}
+use Rattle.sparql_algebra.specs.Translation.{labels_of, translate_triple, triple_blanks}
 use Rattle.sparql_algebra.proofs.RepeatSteps.{inserted_once}
 
 flat_map-map : {X Y Z : Type 0} (f : Y → List Z) (g : X → Y) (xs : List X) → flat_map f (map g xs) ≡ flat_map (λ x. f (g x)) xs
@@ -18,25 +18,15 @@ pub labels_noted : {A : Type 0} (view : A → Triple) (ts : List A) → insert_a
 labels_noted view ts =
     ap (insert_all bytes_eq []) (sym (flat_map-map triple_blanks view ts)) ∙ inserted_once bytes_eq bytes_eq-Decides (flat_map triple_blanks (map view ts))
 
-pub counted_step : {A : Type 0} (view : A → Triple) (ts : List A) (i : ℕ) (d : A) (count all : ℕ) → i < length ts
-    → count + anonymous_in (map view (drop i ts)) ≡ all
-    → count + triple_anonymous (view (get_or ts i d)) + anonymous_in (map view (drop (i + 1) ts)) ≡ all
-counted_step view ts i d count all lt h =
-    let first = ap (λ l. count + anonymous_in (map view l)) (drop-cons ts i d lt) in
-    rw add-one (assoc count (triple_anonymous (view (get_or ts i d))) (anonymous_in (map view (drop (suc i) ts))) ∙ sym first ∙ h)
-  where
-    assoc : (a b c : ℕ) → a + b + c ≡ a + (b + c)
-    assoc a b c = omega arith
-
 pub converted_step : {A B : Type 0} (view : A → Triple) (shown : B → bgp.TriplePattern Term) (names labels : List Name) (ts : List A) (i : ℕ) (d : A)
-    (made : List B) (next : ℕ) (b : B) (all : List (bgp.TriplePattern Term)) → i < length ts
-    → shown b ≡ translate_triple names labels next (view (get_or ts i d))
-    → map shown made ++ translate_triples names labels next (map view (drop i ts)) ≡ all
-    → map shown (made ++ b ∷ []) ++ translate_triples names labels (next + triple_anonymous (view (get_or ts i d))) (map view (drop (i + 1) ts)) ≡ all
-converted_step {A} {B} view shown names labels ts i d made next b all lt e h =
-    let first = ap (λ l. map shown made ++ translate_triples names labels next (map view l)) (drop-cons ts i d lt) in
-    let here = ap (λ p. map shown made ++ p ∷ translate_triples names labels (next + triple_anonymous (view (get_or ts i d))) (map view (drop (suc i) ts))) e in
-    rw add-one (behind made (translate_triples names labels (next + triple_anonymous (view (get_or ts i d))) (map view (drop (suc i) ts))) ∙ here ∙ sym first ∙ h)
+    (made : List B) (b : B) (all : List (bgp.TriplePattern Term)) → i < length ts
+    → shown b ≡ translate_triple names labels (view (get_or ts i d))
+    → map shown made ++ map (translate_triple names labels) (map view (drop i ts)) ≡ all
+    → map shown (made ++ b ∷ []) ++ map (translate_triple names labels) (map view (drop (i + 1) ts)) ≡ all
+converted_step {A} {B} view shown names labels ts i d made b all lt e h =
+    let first = ap (λ l. map shown made ++ map (translate_triple names labels) (map view l)) (drop-cons ts i d lt) in
+    let here = ap (λ p. map shown made ++ p ∷ map (translate_triple names labels) (map view (drop (suc i) ts))) e in
+    rw add-one (behind made (map (translate_triple names labels) (map view (drop (suc i) ts))) ∙ here ∙ sym first ∙ h)
   where
     behind : (xs : List B) (rest : List (bgp.TriplePattern Term)) → map shown (xs ++ b ∷ []) ++ rest ≡ map shown xs ++ shown b ∷ rest
     behind [] rest = refl

@@ -22,7 +22,7 @@ use Rattle.algebra_model.specs.Expression.{Expression}
 use Rattle.algebra_model.proofs.RepeatLaws.{any-without_repeats_is}
 use Rattle.sparql_tree.specs.Scope.{place_names, triple_names, graph_names, element_names, group_names, group_scope}
 use Rattle.sparql_algebra.specs.Names.{Name, is_name_among, number_of, listed_names, names_of, selected_by, selected_names}
-use Rattle.sparql_algebra.specs.Translation.{Part, anonymous, triple_anonymous, anonymous_in, blank_names, triple_blanks, labels_of, translate_place, translate_triple, translate_triples, translate_pattern, translate_graph_name, with_pattern, closed, finished, filtered, group_part, add_element, translate_side, distinct_where, translate}
+use Rattle.sparql_algebra.specs.Translation.{Part, blank_names, triple_blanks, labels_of, translate_place, translate_triple, translate_pattern, translate_graph_name, with_pattern, closed, finished, filtered, group_part, add_element, translate_side, distinct_where, translate}
 
 both : (a b : Bool) → a ≡ true → b ≡ true → (a && b) ≡ true
 both true b ha hb = hb
@@ -111,29 +111,25 @@ all-without_repeats same p (x ∷ xs) h =
     (all-filter p (λ y. not (same x y)) (without_repeats same xs) (all-without_repeats same p xs (right (p x) (list_all p xs) h)))
 
 module _ (names : List Name) where
-  place_below : (labels : List Name) (n count : ℕ) (t : PatternTerm) → length labels ≤ n → n + anonymous t ≤ count
-      → are_among names (place_names t) ≡ true → are_among labels (blank_names t) ≡ true
-      → is_below (length names) count (translate_place names labels n t) ≡ true
-  place_below labels n count (place.Variable x) low room bound blank = number_below names x (first_of_one names x bound)
-  place_below labels n count (place.Blank l) low room bound blank =
-      let at = found_below (bytes_eq l) labels (first_of_one labels l blank) in
-      below_test (number_of labels l) count (omega arith)
-  place_below labels n count place.Anonymous low room bound blank = below_test n count (omega arith)
-  place_below labels n count (place.Term t) low room bound blank = refl
+  place_below : (labels : List Name) (t : PatternTerm) → are_among names (place_names t) ≡ true → are_among labels (blank_names t) ≡ true
+      → is_below (length names) (length labels) (translate_place names labels t) ≡ true
+  place_below labels (place.Variable x) bound blank = number_below names x (first_of_one names x bound)
+  place_below labels (place.Blank l) bound blank =
+      below_test (number_of labels l) (length labels) (found_below (bytes_eq l) labels (first_of_one labels l blank))
+  place_below labels (place.Term t) bound blank = refl
 
-  triple_below : (labels : List Name) (n count : ℕ) (t : Triple) → length labels ≤ n → n + triple_anonymous t ≤ count
-      → are_among names (triple_names t) ≡ true → are_among labels (triple_blanks t) ≡ true
-      → is_triple_below (length names) count (translate_triple names labels n t) ≡ true
-  triple_below labels n count t low room bound blank =
-      let s = place_below labels n count t.subject low (omega arith)
+  triple_below : (labels : List Name) (t : Triple) → are_among names (triple_names t) ≡ true → are_among labels (triple_blanks t) ≡ true
+      → is_triple_below (length names) (length labels) (translate_triple names labels t) ≡ true
+  triple_below labels t bound blank =
+      let s = place_below labels t.subject
       (among_left names (place_names t.subject) (place_names t.predicate ++ place_names t.object) bound)
       (among_left labels (blank_names t.subject) (blank_names t.predicate ++ blank_names t.object) blank) in
       let bound' = among_right names (place_names t.subject) (place_names t.predicate ++ place_names t.object) bound in
       let blank' = among_right labels (blank_names t.subject) (blank_names t.predicate ++ blank_names t.object) blank in
-      let p = place_below labels (n + anonymous t.subject) count t.predicate (omega arith) (omega arith)
+      let p = place_below labels t.predicate
       (among_left names (place_names t.predicate) (place_names t.object) bound')
       (among_left labels (blank_names t.predicate) (blank_names t.object) blank') in
-      let o = place_below labels (n + anonymous t.subject + anonymous t.predicate) count t.object (omega arith) (omega arith)
+      let o = place_below labels t.object
       (among_right names (place_names t.predicate) (place_names t.object) bound')
       (among_right labels (blank_names t.predicate) (blank_names t.object) blank') in
       three _ _ _ s p o
@@ -141,18 +137,17 @@ module _ (names : List Name) where
       three : (a b c : Bool) → a ≡ true → b ≡ true → c ≡ true → (a && b && c) ≡ true
       three a b c ha hb hc = rw ha (rw hb hc)
 
-  triples_below : (labels : List Name) (n count : ℕ) (ts : List Triple) → length labels ≤ n → n + anonymous_in ts ≤ count
-      → are_among names (flat_map triple_names ts) ≡ true → are_among labels (flat_map triple_blanks ts) ≡ true
-      → list_all (is_triple_below (length names) count) (translate_triples names labels n ts) ≡ true
-  triples_below labels n count [] low room bound blank = refl
-  triples_below labels n count (t ∷ ts) low room bound blank =
-      both (is_triple_below (length names) count (translate_triple names labels n t)) (list_all (is_triple_below (length names) count) (translate_triples names labels (n + triple_anonymous t) ts))
-      (triple_below labels n count t low (omega arith) (among_left names (triple_names t) (flat_map triple_names ts) bound) (among_left labels (triple_blanks t) (flat_map triple_blanks ts) blank))
-      (triples_below labels (n + triple_anonymous t) count ts (omega arith) (omega arith) (among_right names (triple_names t) (flat_map triple_names ts) bound) (among_right labels (triple_blanks t) (flat_map triple_blanks ts) blank))
+  triples_below : (labels : List Name) (ts : List Triple) → are_among names (flat_map triple_names ts) ≡ true → are_among labels (flat_map triple_blanks ts) ≡ true
+      → list_all (is_triple_below (length names) (length labels)) (map (translate_triple names labels) ts) ≡ true
+  triples_below labels [] bound blank = refl
+  triples_below labels (t ∷ ts) bound blank =
+      both (is_triple_below (length names) (length labels) (translate_triple names labels t)) (list_all (is_triple_below (length names) (length labels)) (map (translate_triple names labels) ts))
+      (triple_below labels t (among_left names (triple_names t) (flat_map triple_names ts) bound) (among_left labels (triple_blanks t) (flat_map triple_blanks ts) blank))
+      (triples_below labels ts (among_right names (triple_names t) (flat_map triple_names ts) bound) (among_right labels (triple_blanks t) (flat_map triple_blanks ts) blank))
 
   pattern_within : (ts : List Triple) → are_among names (flat_map triple_names ts) ≡ true → is_within (length names) (translate_pattern names ts) ≡ true
   pattern_within ts bound =
-      triples_below (labels_of ts) (length (labels_of ts)) (length (labels_of ts) + anonymous_in ts) ts (omega arith) (omega arith) bound
+      triples_below (labels_of ts) ts bound
       (among_distinct (flat_map triple_blanks ts) (flat_map triple_blanks ts) (among_itself (flat_map triple_blanks ts)))
 
   graph_within : (i : GraphName) → are_among names (graph_names i) ≡ true → is_name_below (length names) (translate_graph_name names i) ≡ true

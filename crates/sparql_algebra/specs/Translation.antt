@@ -50,29 +50,14 @@ filtered (Some e) A = algebra.Filter e A
 abbrev pub behind : Part → Algebra → Part
 behind p A = record { before = A; triples = []; filters = p.filters }
 
--- The named blank labels of a basic pattern are numbered by their first places, and each `[]` is a
--- label of its own behind them. n is the number of the next such label.
+-- The blank labels of a basic pattern are numbered by their first places.
 abbrev pub blank_names : PatternTerm → List Name
 blank_names (place.Variable x) = []
 blank_names (place.Blank l) = l ∷ []
-blank_names place.Anonymous = []
 blank_names (place.Term t) = []
-
-abbrev pub anonymous : PatternTerm → ℕ
-anonymous (place.Variable x) = 0
-anonymous (place.Blank l) = 0
-anonymous place.Anonymous = 1
-anonymous (place.Term t) = 0
 
 abbrev pub triple_blanks : Triple → List Name
 triple_blanks t = blank_names t.subject ++ (blank_names t.predicate ++ blank_names t.object)
-
-abbrev pub triple_anonymous : Triple → ℕ
-triple_anonymous t = anonymous t.subject + anonymous t.predicate + anonymous t.object
-
-abbrev pub anonymous_in : List Triple → ℕ
-anonymous_in [] = 0
-anonymous_in (t ∷ ts) = triple_anonymous t + anonymous_in ts
 
 abbrev pub labels_of : List Triple → List Name
 labels_of ts = without_repeats bytes_eq (flat_map triple_blanks ts)
@@ -98,28 +83,20 @@ module _ (names : List Name) where
     translate_members tree.none = []
     translate_members (tree.then es e) = translate_members es ++ translate_expression e ∷ []
 
-  abbrev pub translate_place : List Name → ℕ → PatternTerm → bgp.PatternTerm Term
-  translate_place labels n (place.Variable x) = bgp.variable (number_of names x)
-  translate_place labels n (place.Blank l) = bgp.label (number_of labels l)
-  translate_place labels n place.Anonymous = bgp.label n
-  translate_place labels n (place.Term t) = bgp.constant t
+  abbrev pub translate_place : List Name → PatternTerm → bgp.PatternTerm Term
+  translate_place labels (place.Variable x) = bgp.variable (number_of names x)
+  translate_place labels (place.Blank l) = bgp.label (number_of labels l)
+  translate_place labels (place.Term t) = bgp.constant t
 
-  abbrev pub translate_triple : List Name → ℕ → Triple → bgp.TriplePattern Term
-  translate_triple labels n t = record {
-    s = translate_place labels n t.subject;
-    p = translate_place labels (n + anonymous t.subject) t.predicate;
-    o = translate_place labels (n + anonymous t.subject + anonymous t.predicate) t.object;
+  abbrev pub translate_triple : List Name → Triple → bgp.TriplePattern Term
+  translate_triple labels t = record {
+    s = translate_place labels t.subject;
+    p = translate_place labels t.predicate;
+    o = translate_place labels t.object;
   }
 
-  abbrev pub translate_triples : List Name → ℕ → List Triple → List (bgp.TriplePattern Term)
-  translate_triples labels n [] = []
-  translate_triples labels n (t ∷ ts) =
-      translate_triple labels n t ∷ translate_triples labels (n + triple_anonymous t) ts
-
   abbrev pub translate_pattern : List Triple → Algebra
-  translate_pattern ts =
-      algebra.Pattern (length (labels_of ts) + anonymous_in ts)
-      (translate_triples (labels_of ts) (length (labels_of ts)) ts)
+  translate_pattern ts = algebra.Pattern (length (labels_of ts)) (map (translate_triple (labels_of ts)) ts)
 
   abbrev pub translate_graph_name : GraphName → algebra.GraphName
   translate_graph_name (graph.Variable x) = each_graph (number_of names x)

@@ -133,6 +133,6 @@ fn note_place(names: &mut Names, place: &PatternTerm) -> Result<(), AllocError>
 {
     match place {
         PatternTerm::Variable(variable) => names.note(variable),
-        PatternTerm::Blank(_) | PatternTerm::Anonymous | PatternTerm::Term(_) => Ok(()),
+        PatternTerm::Blank(_) | PatternTerm::Term(_) => Ok(()),
     }
 }

@@ -28,7 +28,6 @@ fn copy_place(alloc: Global, place: &PatternTerm) -> Result<PatternTerm, AllocEr
     match place {
         PatternTerm::Variable(name) => Ok(PatternTerm::Variable(name.copy(alloc)?)),
         PatternTerm::Blank(label) => Ok(PatternTerm::Blank(label.copy(alloc)?)),
-        PatternTerm::Anonymous => Ok(PatternTerm::Anonymous),
         PatternTerm::Term(term) => Ok(PatternTerm::Term(term.copy(alloc)?)),
     }
 }

@@ -7,11 +7,10 @@ use Rattle.sparql_tree.specs.declared.group.PatternTerm.TheVariants as place
 use Rattle.sparql_tree.specs.declared.group.Triple.{Triple}
 use Rattle.sparql_tree.specs.GroupTree.{GroupTree, ElementTree, none, then, triples, group, union, optional, minus, graph, filter, bind, values}
 
--- `[]` has no label
+-- a `[]` has a label that stands in its own triples alone
 abbrev pub place_labels : PatternTerm → List (List ℕ)
 place_labels (place.Variable x) = []
 place_labels (place.Blank l) = l ∷ []
-place_labels place.Anonymous = []
 place_labels (place.Term t) = []
 
 abbrev pub triple_labels : Triple → List (List ℕ)

@@ -14,7 +14,6 @@ Name = List ℕ
 abbrev pub place_names : PatternTerm → List Name
 place_names (place.Variable x) = x ∷ []
 place_names (place.Blank l) = []
-place_names place.Anonymous = []
 place_names (place.Term t) = []
 
 abbrev pub triple_names : Triple → List Name

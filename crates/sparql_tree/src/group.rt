@@ -8,10 +8,8 @@ use rdf_core::{Term, Text};
 pub enum PatternTerm {
     /// `?name` or `$name`, by the name without its sign
     Variable(Text),
-    /// `_:label`, by the label without `_:`
+    /// `_:label`, by the label without `_:`, or `[]`, by a label that is written nowhere
     Blank(Text),
-    /// `[]`: a blank node that no other place names
-    Anonymous,
     /// An IRI or a literal
     Term(Term),
 }

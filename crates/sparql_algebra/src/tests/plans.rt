@@ -19,12 +19,11 @@ fn then(group: Elements, element: Result<Element, AllocError>) -> Elements {
     Ok(group)
 }
 
-/// What stands in a triple by its text: `?x` a variable, `_:x` a label, `[]`, and else an IRI.
+/// What stands in a triple by its text: `?x` a variable, `_:x` a label, and else an IRI.
 fn place(alloc: Global, form: &str) -> Result<PatternTerm, AllocError> {
     match form.as_bytes() {
         [b'?', ..] => Ok(PatternTerm::Variable(text(alloc, form)?)),
         [b'_', ..] => Ok(PatternTerm::Blank(text(alloc, form)?)),
-        [b'[', ..] => Ok(PatternTerm::Anonymous),
         _ => Ok(PatternTerm::Term(Term::Iri(text(alloc, form)?))),
     }
 }
@@ -249,11 +248,11 @@ fn star_lists_what_is_in_scope(rt: HostRuntime) -> Result<(), AllocError> {
     Ok(())
 }
 
-/// `{ _:l ?p [] . [] ?p _:l }`: a named label has one number, and each `[]` one of its own behind.
+/// `{ _:l ?p _:m . _:n ?p _:l }`: a label has one number, by its first place.
 #[test]
 fn labels_have_numbers(rt: HostRuntime) -> Result<(), AllocError> {
     let alloc = rt.alloc();
-    let triples = run(alloc, &[["_:l", "?p", "[]"], ["[]", "?p", "_:l"]]);
+    let triples = run(alloc, &[["_:l", "?p", "_:m"], ["_:n", "?p", "_:l"]]);
     let plan = planned(alloc, then(none(alloc), triples), &["?p", "?p"])?;
     let found = match below(&plan) {
         Some(Operator::Join { right, .. }) => has_three_labels(right),
