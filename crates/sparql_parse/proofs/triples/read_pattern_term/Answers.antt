@@ -26,7 +26,7 @@ returns-in-Some-accept_anonymous-clause-reads c =
     let l = begin c.args.names.now the.pattern_term (terminals c.args.tokens.now) in
     let m = skipped l (none_untaken {c = variable} (c.in_ok-name.ensures.accepts c.args.names.now) c.in_default.is) in
     let n = skipped m (none_untaken {c = blank} (c.in_ok-label.ensures.accepts c.args.names.now) c.in_default-2.is) in
-    let e : c.in_ok-made.made ≡ anonymous_label (length (terminals c.in-Some-accept_anonymous.after.now)) = c.in_ok-made.ensures.label ∙ ap anonymous_label (c.len.ensures ∙ sym (length-map c.in-Some-accept_anonymous.after.now terminal_of)) in
+    let e : c.in_ok-made.made ≡ anonymous_label (length (terminals c.in-Some-accept_anonymous.after.now)) = c.in_ok-made.ensures.label ∙ ap anonymous_label (sym (length-map c.in-Some-accept_anonymous.after.now terminal_of)) in
     done_behind (took_branch n (left here) (c.in-Some-accept_anonymous.ensures.accepts c.args.names.now)) (ap place.Blank e)
 
 pub returns-in_err-term-clause-reads : goal.returns-in_err-term-clause-reads
