@@ -156,6 +156,33 @@ fn depth_goes_before_all_else(rt: HostRuntime) -> Result<(), AllocError> {
     Ok(())
 }
 
+// Braces and parentheses cancel alike, and one that closes nothing changes nothing. `[ ]` does not count,
+// nor do brackets in strings, IRIs and comments; a terminal whose escape names nothing is still read.
+#[test]
+fn what_counts_towards_depth(rt: HostRuntime) -> Result<(), AllocError> {
+    for (front, unit, end, expected) in [
+        ("SELECT * { FILTER", "{ )", "", Some(QueryFault::Syntax)),
+        ("SELECT * { FILTER", "( }", "", Some(QueryFault::Syntax)),
+        ("SELECT * {", "[ ] ?p [] . ", "}", None),
+        ("SELECT * {", "?s ?p '((' , <a:((> . ", "}", None),
+        ("SELECT * {", "# ((\n", "}", None),
+        ("SELECT * {", "{ } ", "}", None),
+        ("} ) ", "{", "", Some(QueryFault::TooDeep)),
+        ("'\\uD800' ", "{", "", Some(QueryFault::TooDeep)),
+    ] {
+        let mut text = String::from_str(rt.alloc(), front)?;
+        for _ in 0..101 {
+            text.push_str(unit)?;
+        }
+        text.push_str(end)?;
+        assert!(rt;
+            refusal(rt.alloc(), text.as_str()) == expected,
+            "{front}{unit}"
+        );
+    }
+    Ok(())
+}
+
 // No query ends before its last bracket.
 #[test]
 fn each_front_of_a_query_is_refused(rt: HostRuntime) -> Result<(), AllocError> {
@@ -367,6 +394,20 @@ fn what_is_read(rt: HostRuntime) -> Result<(), AllocError> {
              Filter(Compare(Equal, Variable(b), Variable(a))), \
              Triples([Triple { subject: Variable(a), predicate: Variable(p), object: Variable(b) }])], \
              limit: None, offset: None, mentioned: [b, a, a, p, b] }",
+        ),
+        (
+            "SELECT * { MINUS { ?a ?b ?c } BIND(?d AS ?e) VALUES ?f {} FILTER(BOUND(?g)) }",
+            "Query { distinct: false, selection: All, group: [\
+             Minus([Triples([Triple { subject: Variable(a), predicate: Variable(b), object: Variable(c) }])]), \
+             Bind(Variable(d), e), Values([f], []), Filter(Bound(g))], \
+             limit: None, offset: None, mentioned: [a, b, c, d, e, f, g] }",
+        ),
+        (
+            "SELECT * { VALUES ?x { '''c' } }",
+            "Query { distinct: false, selection: All, group: [Values([x], [\
+             [Some(Literal { lexical: , datatype: http://www.w3.org/2001/XMLSchema#string, tag: None })], \
+             [Some(Literal { lexical: c, datatype: http://www.w3.org/2001/XMLSchema#string, tag: None })]])], \
+             limit: None, offset: None, mentioned: [x] }",
         ),
         (
             "SELECT * { FILTER(! ?a IN (?b)) }",
