@@ -1,102 +1,120 @@
 #!/usr/bin/env python3
-"""Times spq beside the RDF tools that this machine has, on datasets of several sizes.
+"""Times spq beside the RDF tools that this machine has, on datasets of several sizes, and prints tables.
 
-    compare.py [--spq PATH] [--quads N,N..] [--runs N] [--workers N,N..]
+    compare.py [--spq PATH] [--quads N,N..] [--runs N] [--workers N,N..] [--limit SECONDS] [--folder PATH]
 
-Each command runs so many times; the best time counts, the time of `serdi`'s parse is 1.00. The peers
-are taken where they are found: serdi, rapper (parsing alone), and plain_reader.rs, where there is a
-rustc: a plain Rust reader that makes owned terms, numbers them and sorts three lists.
+The peers of peers.py are taken where they are found. Each command runs so many times, the best time by
+the clock counts; rdflib, which is slow, runs once, and up to 100,000 quads alone. Queries are those of
+queries.py, each from the bytes of the document to the JSON. All rows of a table are measured one after
+the other in one run: read the ratios, not the seconds.
 Python 3 standard library only.
 """
 import argparse
 import os
-import shutil
-import subprocess
-import sys
 import tempfile
-import time
 
-HERE = os.path.dirname(os.path.abspath(__file__))
-PREFIX = "PREFIX t: <http://library.example/terms#> "
-QUERIES = [
-    ("two triples", "SELECT ?work ?title { ?work a t:Map ; t:title ?title }"),
-    ("OPTIONAL", "SELECT ?work ?text { ?work t:issued 1900 OPTIONAL { ?work t:summary ?text } }"),
-    ("FILTER, GRAPH",
-     "SELECT ?g ?work ?price { ?work t:price ?price FILTER(?price > 890) GRAPH ?g { ?copy t:of ?work } }"),
-    ("DISTINCT, LIMIT", "SELECT DISTINCT ?place { ?person t:place ?place } LIMIT 10"),
-]
+import measure
+import peers
+from queries import PREFIX, QUERIES
+
+RDFLIB_MOST = 100_000
 
 
-def timed(command, path, runs):
-    """The best wall time in seconds, and the peak of memory in MiB; None where the command fails."""
-    best, peak = None, 0
-    for _ in range(runs):
-        with open(path, "rb") as source:
-            start = time.perf_counter()
-            child = subprocess.Popen(command, stdin=source, stdout=subprocess.DEVNULL, stderr=subprocess.DEVNULL)
-            _, status, usage = os.wait4(child.pid, 0)
-            took = time.perf_counter() - start
-        if status != 0:
+class Bench:
+    """A dataset and how it is measured."""
+
+    def __init__(self, words, quads, path, room):
+        self.words, self.quads, self.path, self.room = words, quads, path, room
+        self.output = os.path.join(room, "output")
+        self.workers = words.workers.split(",")
+
+    def take(self, name, command, runs=None):
+        """What a command took at best, or how it failed; None where it is left out."""
+        slow = name.startswith("rdflib")
+        if slow and self.quads > RDFLIB_MOST:
             return None
-        best = took if best is None else min(best, took)
-        peak = max(peak, usage.ru_maxrss / 1024)
-    return best, peak
+        try:
+            return measure.best(command, self.path, self.output, 1 if slow else self.words.runs, self.words.limit)
+        except measure.Failed as fault:
+            return fault
 
 
-def peers(path, folder):
-    if shutil.which("serdi"):
-        yield "serdi, parse", ["serdi", "-b", "-i", "nquads", "-o", "nquads", path]
-    if shutil.which("rapper"):
-        yield "rapper, parse", ["rapper", "-q", "-c", "-i", "nquads", path, "http://base.example/"]
-    if shutil.which("rustc"):
-        binary = os.path.join(folder, "plain_reader")
-        if not os.path.exists(binary):
-            subprocess.run(["rustc", "-C", "opt-level=3", "--edition", "2021", "-o", binary,
-                            os.path.join(HERE, "plain_reader.rs")], check=True)
-        yield "plain Rust reader, terms and quads", [binary, "read"]
-        yield "plain Rust loader, numbered and sorted", [binary, "load"]
+def reading(bench):
+    """The table of `check` and `terms` and of the peers that parse."""
+    spq = bench.words.spq
+    commands = list(peers.parsers(bench.path, bench.room))
+    for n in bench.workers:
+        commands.append((f"spq check, {workers(n)}", [spq, "check", "--workers", n]))
+    commands.append((f"spq terms, {workers(n)}", [spq, "terms", "--workers", n]))
+    found = [(name, bench.take(name, command)) for name, command in commands]
+    first = next((taken.seconds for _, taken in found if isinstance(taken, measure.Taken)), None)
+    head = ["command", "seconds", "of the first row's", "processors' seconds", "thousand quads a second", "peak MiB"]
+    measure.table(head, [reading_line(name, taken, first, bench.quads) for name, taken in found if taken])
 
 
-def commands(spq, workers):
-    for n in workers:
-        yield f"spq check, {n} workers", [spq, "check", "--workers", n]
-    yield f"spq terms, {workers[-1]} workers", [spq, "terms", "--workers", workers[-1]]
-    for name, query in QUERIES:
-        for n in workers:
-            yield f"spq select, {name}, {n} workers", [spq, "select", "--query", PREFIX + query, "--workers", n]
+def reading_line(name, taken, first, quads):
+    if isinstance(taken, measure.Failed):
+        return [name, f"failed: {taken}", "", "", "", ""]
+    return [name, f"{taken.seconds:.3f}", measure.ratio(taken.seconds, first), f"{taken.processor:.3f}",
+            f"{quads / taken.seconds / 1000:.0f}", f"{taken.peak:.0f}"]
 
 
-def report(rows, quads):
-    mark = next((row[1][0] for row in rows if row[0].startswith("serdi") and row[1]), None)
-    print("| command | seconds | of serdi's time | thousand quads a second | peak MiB |")
-    print("|---|---|---|---|---|")
-    for name, result in rows:
-        if result is None:
-            print(f"| {name} | failed | | | |")
-            continue
-        seconds, peak = result
-        ratio = f"{seconds / mark:.2f}" if mark else ""
-        print(f"| {name} | {seconds:.3f} | {ratio} | {quads / seconds / 1000:.0f} | {peak:.0f} |")
-    print()
+def selecting(bench):
+    """The table of the queries: spq by numbers of workers, then the peers."""
+    engines = [(f"spq, {workers(n)}", spq_command(bench.words.spq, n)) for n in bench.workers]
+    engines += peers.engines(bench.path, bench.room)
+    engines = [(name, command) for name, command in engines if not (name == "rdflib" and bench.quads > RDFLIB_MOST)]
+    mark = len(bench.workers) - 1
+    head = ["query", "rows"] + [name for name, _ in engines]
+    head += [f"{name} / {engines[mark][0]}" for name, _ in engines[mark + 1:]]
+    lines = []
+    for title, query in QUERIES.items():
+        counts, found = [], []
+        for name, command in engines:
+            taken = bench.take(name, command(PREFIX + query))
+            found.append(taken)
+            counts.append(measure.rows(bench.output) if isinstance(taken, measure.Taken) else None)
+        lines.append(selecting_line(title, counts, found, mark))
+    measure.table(head, lines)
+
+
+def workers(n):
+    return "1 worker" if n == "1" else f"{n} workers"
+
+
+def spq_command(spq, workers):
+    return lambda query: [spq, "select", "--workers", workers, "--query", query]
+
+
+def selecting_line(title, counts, found, mark):
+    """The rows stand once where all engines agree, and else engine by engine."""
+    agreed = {count for count in counts if count is not None}
+    rows = f"{counts[0]}" if len(agreed) == 1 else " / ".join(str(count) for count in counts)
+    cells = [f"{taken.seconds:.2f} s, {taken.peak:.0f} MiB" if isinstance(taken, measure.Taken) else f"failed: {taken}"
+             for taken in found]
+    times = [taken.seconds if isinstance(taken, measure.Taken) else None for taken in found]
+    ratios = [measure.ratio(time, times[mark]) if time and times[mark] else "" for time in times[mark + 1:]]
+    return [title, rows, *cells, *ratios]
 
 
 def main():
-    words = argparse.ArgumentParser(description=__doc__.split("\n")[0])
-    words.add_argument("--spq", default=os.path.join(HERE, "..", "crates", "spq", "out", "spq"))
-    words.add_argument("--quads", default="100000,1000000")
-    words.add_argument("--runs", type=int, default=5)
-    words.add_argument("--workers", default="1,4")
-    given = words.parse_args()
-    if not os.path.exists(given.spq):
-        sys.exit(f"no program at {given.spq}: build it first (see README)")
-    with tempfile.TemporaryDirectory() as folder:
-        for quads in map(int, given.quads.split(",")):
-            path = os.path.join(folder, f"{quads}.nq")
-            with open(path, "wb") as out:
-                subprocess.run([sys.executable, os.path.join(HERE, "datasets.py"), str(quads)], stdout=out, check=True)
-            print(f"## {quads} quads, {os.path.getsize(path) / 1e6:.0f} MB, best of {given.runs}\n")
-            all_commands = [*peers(path, folder), *commands(given.spq, given.workers.split(","))]
-            report([(name, timed(command, path, given.runs)) for name, command in all_commands], quads)
+    asked = argparse.ArgumentParser(description=__doc__.split("\n")[0])
+    asked.add_argument("--spq", default=measure.SPQ)
+    asked.add_argument("--quads", default="100000,1000000")
+    asked.add_argument("--runs", type=int, default=5)
+    asked.add_argument("--workers", default="1,4")
+    asked.add_argument("--limit", type=int, default=600, help="seconds after which a run is ended")
+    asked.add_argument("--folder", help="where datasets are kept; a folder of its own where none is given")
+    words = asked.parse_args()
+    words.spq = measure.program(words.spq)
+    print(f"{measure.machine()}\n")
+    with tempfile.TemporaryDirectory() as room:
+        for quads in map(int, words.quads.split(",")):
+            path = measure.dataset(words.folder or room, quads)
+            print(f"## {quads} quads, {os.path.getsize(path) / 1e6:.0f} MB, best of {words.runs}\n", flush=True)
+            bench = Bench(words, quads, path, room)
+            reading(bench)
+            selecting(bench)
 
 
 if __name__ == "__main__":

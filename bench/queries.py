@@ -1,24 +1,25 @@
 #!/usr/bin/env python3
 """Times `spq select` on queries over datasets of several sizes, and prints how time grows with size.
 
-    queries.py [--spq PATH] [--quads N,N..] [--runs N] [--workers N]
+    queries.py [--spq PATH] [--quads N,N..] [--runs N] [--workers N] [--only WORD] [--folder PATH]
 
-Each query runs so many times on each dataset of datasets.py; the best time counts. What `spq check`
-takes on the same dataset, which loads it, is taken away: the rest is the query and its output. Read the
-ratios between two sizes: a query whose rows grow by ten should take about ten times as long.
+Each query runs so many times on each dataset of datasets.py; the best time counts. What `SELECT * {}`
+takes on the same dataset, which loads it and answers one row, is taken away: the rest is the query and
+its output. The growth is that of the processors' seconds, which other work on the machine disturbs
+least: a query whose rows grow by ten should take about ten times as long.
 A dataset of 1,200,000 quads has about 100,000 works, so there `join` joins two lists of 100,000 rows.
 Python 3 standard library only.
 """
 import argparse
-import json
 import os
-import subprocess
 import sys
 import tempfile
-import time
 
-HERE = os.path.dirname(os.path.abspath(__file__))
+import measure
+
 PREFIX = "PREFIX l: <http://library.example/terms#> "
+
+# These take time near their input and output.
 QUERIES = {
     "one triple": "SELECT ?w ?t { ?w l:title ?t }",
     "star of five": "SELECT ?w ?t ?i ?p ?c { ?w a l:Book ; l:title ?t ; l:issued ?i ; l:price ?p ; l:creator ?c }",
@@ -27,73 +28,82 @@ QUERIES = {
     "optional, filter": "SELECT ?w ?p { ?w l:title ?t OPTIONAL { ?w l:price ?p FILTER(?p < 100.0) } }",
     "minus": "SELECT ?w { ?w l:title ?t MINUS { ?w l:summary ?s } }",
     "join": "SELECT ?w ?t ?i { { ?w l:title ?t } { ?w l:issued ?i } }",
+    "union, distinct": "SELECT DISTINCT ?x { { ?w l:creator ?x } UNION { ?x a l:Person } }",
     "graphs": "SELECT ?g ?c ?w { GRAPH ?g { ?c l:of ?w } }",
+    "filter, graphs": "SELECT ?g ?w ?p { ?w l:price ?p FILTER(?p > 890) GRAPH ?g { ?c l:of ?w } }",
+    "values, in": "SELECT ?w ?t { VALUES ?k { l:Map l:Score } ?w a ?k ; l:issued ?i ; l:title ?t FILTER(?i IN (1900, 1901)) }",
+    "bind": "SELECT ?x { ?w l:title ?t BIND(STR(?w) AS ?x) }",
+}
+
+# Their answers, or the pairs that a condition has to look at, grow with the square of the dataset.
+PAIRS = {
+    "cross product": "SELECT ?a ?b { ?a l:issued 1900 . ?b l:issued 1901 }",
+    "join by <": "SELECT ?a ?b { { ?a l:issued 1900 ; l:price ?p } { ?b l:issued 1901 ; l:price ?q } FILTER(?p < ?q) }",
+}
+
+# spq tries every pair here although neither rows nor conditions ask for it.
+NO_KEY = {
+    "minus, nothing shared": "SELECT ?a { ?a a l:Map MINUS { ?b a l:Score } }",
+    "join, an open key": "SELECT ?a ?i { { { ?a a l:Map } UNION { <http://library.example/work/1> l:issued ?i } } { ?a l:issued ?i } }",
 }
 
 
-def timed(command, path, runs):
-    """The best wall time in seconds with the output, or None and what the program printed."""
-    best, said = None, b""
-    for _ in range(runs):
-        with open(path, "rb") as source:
-            start = time.perf_counter()
-            ran = subprocess.run(command, stdin=source, stdout=subprocess.PIPE, stderr=subprocess.DEVNULL)
-            took = time.perf_counter() - start
-        said = ran.stdout
-        if ran.returncode != 0:
-            return None, said
-        best = took if best is None else min(best, took)
-    return best, said
+def measured(words, path, output, chosen):
+    """What loading takes; and of each query its rows and what it took beyond that, or the line of its fault."""
 
+    def select(query):
+        command = [words.spq, "select", "--workers", words.workers, "--query", query]
+        return measure.best(command, path, output, words.runs)
 
-def measured(spq, path, runs, workers):
-    """For each query its rows and its seconds without loading; or the line of its fault."""
-    load, said = timed([spq, "check", "--workers", workers], path, runs)
-    if load is None:
-        sys.exit(f"spq check: {said.decode().strip()}")
+    try:
+        load = select("SELECT * {}")
+    except measure.Failed as fault:
+        sys.exit(f"SELECT * {{}}: {fault}")
     found = {}
-    for name, query in QUERIES.items():
-        took, said = timed([spq, "select", "--workers", workers, "--query", PREFIX + query], path, runs)
-        if took is None:
-            found[name] = said.decode().strip()
-        else:
-            found[name] = len(json.loads(said)["results"]["bindings"]), max(took - load, 0.0)
+    for name, query in chosen.items():
+        try:
+            taken = select(PREFIX + query)
+            seconds = max(taken.seconds - load.seconds, 0.0)
+            processor = max(taken.processor - load.processor, 0.0)
+            found[name] = measure.rows(output), seconds, processor, taken.peak
+        except measure.Failed as fault:
+            found[name] = fault
     return load, found
 
 
-def cells(result):
-    return (result, "") if isinstance(result, str) else (f"{result[0]}", f"{result[1]:.3f}")
-
-
-def growth(before, after):
-    if isinstance(before, str) or isinstance(after, str):
-        return "", ""
-    return tuple(f"{b / a:.1f}" if a else "" for a, b in zip(before, after))
+def line(name, result, before):
+    if isinstance(result, measure.Failed):
+        return [name, str(result), "", "", "", "", ""]
+    rows, seconds, processor, peak = result
+    cells = [name, f"{rows}", f"{seconds:.3f}", f"{processor:.3f}", f"{peak:.0f}"]
+    if before is None or isinstance(before, measure.Failed):
+        return cells + ["", ""]
+    # Under a fiftieth of a second the clock's own grain is most of what was measured.
+    grown = f"{processor / before[2]:.1f}" if before[2] >= 0.02 else "too short"
+    return cells + [f"{rows / before[0]:.1f}" if before[0] else "", grown]
 
 
 def main():
-    words = argparse.ArgumentParser(description=__doc__.split("\n")[0])
-    words.add_argument("--spq", default=os.path.join(HERE, "..", "crates", "spq", "out", "spq"))
-    words.add_argument("--quads", default="120000,1200000")
-    words.add_argument("--runs", type=int, default=3)
-    words.add_argument("--workers", default="4")
-    given = words.parse_args()
-    if not os.path.exists(given.spq):
-        sys.exit(f"no program at {given.spq}: build it first (see README)")
-    before = None
-    with tempfile.TemporaryDirectory() as folder:
-        for quads in map(int, given.quads.split(",")):
-            path = os.path.join(folder, f"{quads}.nq")
-            with open(path, "wb") as out:
-                subprocess.run([sys.executable, os.path.join(HERE, "datasets.py"), str(quads)], stdout=out, check=True)
-            load, found = measured(given.spq, path, given.runs, given.workers)
-            print(f"## {quads} quads, loaded in {load:.3f} s, best of {given.runs}, {given.workers} workers\n")
-            print("| query | rows | seconds | rows, of the size before | seconds, of the size before |")
-            print("|---|---|---|---|---|")
-            for name, result in found.items():
-                ratios = growth(before[name], result) if before else ("", "")
-                print("| " + " | ".join((name, *cells(result), *ratios)) + " |")
-            print()
+    asked = argparse.ArgumentParser(description=__doc__.split("\n")[0])
+    asked.add_argument("--spq", default=measure.SPQ)
+    asked.add_argument("--quads", default="120000,1200000")
+    asked.add_argument("--runs", type=int, default=3)
+    asked.add_argument("--workers", default="4")
+    asked.add_argument("--only", default="", help="the queries with this word in their name")
+    asked.add_argument("--folder", help="where datasets are kept; a folder of its own where none is given")
+    words = asked.parse_args()
+    words.spq = measure.program(words.spq)
+    chosen = {name: query for name, query in {**QUERIES, **PAIRS, **NO_KEY}.items() if words.only in name}
+    print(f"{measure.machine()}\n")
+    before = {}
+    with tempfile.TemporaryDirectory() as room:
+        for quads in map(int, words.quads.split(",")):
+            path = measure.dataset(words.folder or room, quads)
+            load, found = measured(words, path, os.path.join(room, "output"), chosen)
+            print(f"## {quads} quads, {words.workers} workers, best of {words.runs}")
+            print(f"\nLoaded in {load.seconds:.3f} s, {load.processor:.3f} s of processors, {load.peak:.0f} MiB.\n")
+            head = ["query", "rows", "seconds", "processors' seconds", "peak MiB", "rows, of before", "processors' seconds, of before"]
+            measure.table(head, [line(name, result, before.get(name)) for name, result in found.items()])
             before = found
 
 
