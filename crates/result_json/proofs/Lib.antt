@@ -1,6 +1,10 @@
+pub mod ChunkLaws
 pub mod ColumnLaws
 pub mod JsonLaws
 pub mod PrintedLaws
+pub mod RankLaws
+pub mod RankSteps
+pub mod RowSteps
 pub mod SeparatedLaws
 pub mod SliceLaws
-pub mod SortSteps
+pub mod TextSteps

@@ -1,9 +1,11 @@
 -- Texts with commas between them, one text after another.
-use Rattle.std.proofs.Common.{◌≡◌, ℕ, ◌+◌, ◌<◌, Bool, true, false, ◌||◌, List, [], ◌∷◌, ◌++◌, length, get_or, take, map, flat_map, Option, None, Some, is_some, refl, sym, ap, ◌∙◌, append_assoc, append-nil}
+use Rattle.std.proofs.Common.{◌≡◌, ℕ, zero, suc, ◌+◌, ◌<◌, Bool, true, false, ◌||◌, List, [], ◌∷◌, ◌++◌, length, get_or, take, map, flat_map, Option, None, Some, is_some, refl, sym, ap, ◌∙◌, append_assoc, append-nil, codes}
 use Rattle.std.proofs.lemmas.List.{take_more, map-append}
 use Rattle.std.proofs.lemmas.List.Concat.{flat_map-append}
 use Rattle.rdf_core.specs.declared.term.Term.{Term}
-use Rattle.result_json.specs.Results.{Column, member_text, members, separated}
+use Rattle.result_json.specs.Ranks.{ranked_cell, ranked_row}
+use Rattle.result_json.specs.Results.{Column, member_text, members, row_text, separated, string_text, term_text}
+use Rattle.result_json.specs.Texts.{begun, begun_member, begun_members, begun_row}
 use Rattle.result_json.specs.Printed.{comma_texts}
 
 abbrev pub is_cons : {X : Type 0} → List X → Bool
@@ -18,15 +20,38 @@ pub is_cons-append : {X : Type 0} (xs ys : List X) → is_cons (xs ++ ys) ≡ (i
 is_cons-append [] ys = refl
 is_cons-append (x ∷ xs) ys = refl
 
-pub is_cons-member : (name : List ℕ) (o : Option Term) → is_cons (member_text name o) ≡ is_some o
-is_cons-member name None = refl
-is_cons-member name (Some t) = refl
+pub is_cons-member : (prefix : List ℕ) (o : Option Term) → is_cons (begun_member prefix o) ≡ is_some o
+is_cons-member prefix None = refl
+is_cons-member prefix (Some t) = refl
 
 -- one column more
-pub members-take : (row : List (Option Term)) (cs : List Column) (i : ℕ) (d : Column) → i < length cs
-    → members row (take (i + 1) cs) ≡ members row (take i cs) ++ member_text (get_or cs i d).0 (get_or row (get_or cs i d).1 None)
-members-take row cs i d l =
-    ap (members row) (take_more cs i d l) ∙ flat_map-append _ (take i cs) (get_or cs i d ∷ []) ∙ ap (λ r. members row (take i cs) ++ r) (append-nil _)
+pub members-take : (terms : List Term) (ranks : List ℕ) (cs : List Column) (i : ℕ) (d : Column) → i < length cs
+    → begun_members terms ranks (take (i + 1) cs) ≡ begun_members terms ranks (take i cs) ++ begun_member (get_or cs i d).0 (ranked_cell terms (get_or ranks (get_or cs i d).1 0))
+members-take terms ranks cs i d l =
+    ap (begun_members terms ranks) (take_more cs i d l) ∙ flat_map-append _ (take i cs) (get_or cs i d ∷ []) ∙ ap (λ r. begun_members terms ranks (take i cs) ++ r) (append-nil _)
+
+-- ---- a begun row is a row
+
+member_is : (name : List ℕ) (o : Option Term) → begun_member (string_text name ++ 58 ∷ []) o ≡ member_text name o
+member_is name None = refl
+member_is name (Some t) = ap (λ s. s ∷ []) (append_assoc (string_text name) (58 ∷ []) (term_text t))
+
+ranked_at : (terms : List Term) (ranks : List ℕ) (k : ℕ) → get_or (ranked_row terms ranks) k None ≡ ranked_cell terms (get_or ranks k 0)
+ranked_at terms [] k = refl
+ranked_at terms (r ∷ ranks) zero = refl
+ranked_at terms (r ∷ ranks) (suc k) = ranked_at terms ranks k
+
+members_are : (terms : List Term) (ranks : List ℕ) (cs : List Column) → begun_members terms ranks (map begun cs) ≡ members (ranked_row terms ranks) cs
+members_are terms ranks [] = refl
+members_are terms ranks (c ∷ cs) =
+    λ i. (member_is c.0 (ranked_cell terms (get_or ranks c.1 0)) ∙ ap (member_text c.0) (sym (ranked_at terms ranks c.1))) i ++ members_are terms ranks cs i
+
+pub row_is : (terms : List Term) (cs : List Column) (ranks : List ℕ) → begun_row terms (map begun cs) ranks ≡ row_text cs (ranked_row terms ranks)
+row_is terms cs ranks = λ i. codes "{" ++ (separated (members_are terms ranks cs i) ++ codes "}")
+
+pub rows_are : (terms : List Term) (cs : List Column) (rows : List (List ℕ)) → map (begun_row terms (map begun cs)) rows ≡ map (row_text cs) (map (ranked_row terms) rows)
+rows_are terms cs [] = refl
+rows_are terms cs (r ∷ rows) = λ i. row_is terms cs r i ∷ rows_are terms cs rows i
 
 -- one text more
 pub separated-take : {X : Type 0} (f : X → List ℕ) (xs : List X) (i : ℕ) (d : X) → i < length xs

@@ -1,3 +1,5 @@
 pub mod Results
 pub mod Printed
-pub mod Cells
+pub mod Ranks
+pub mod RankedRows
+pub mod Texts

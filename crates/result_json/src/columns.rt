@@ -1,8 +1,10 @@
 //! The columns of the results.
-ghost use Rattle.std.specs.Prelude.{◌≡◌, [], get_or, map, IfOk};
+ghost use Rattle.std.specs.Prelude.{◌≡◌, [], ◌∷◌, ◌++◌, get_or, map, IfOk};
 ghost use Rattle.result_json.specs.Printed.{column_of};
-ghost use Rattle.result_json.specs.Results.{columns, listed_names, numbered};
+ghost use Rattle.result_json.specs.Results.{columns, listed_names, numbered, string_text};
+ghost use Rattle.result_json.specs.Texts.{begun, begun_column};
 
+use crate::values::printed_string;
 use rdf_core::Text;
 use std::alloc::{AllocError, Global};
 
@@ -34,7 +36,7 @@ fn numbered<'a>(
 }
 
 /// The columns in byte order of their names.
-pub(crate) fn columns_of<'a>(
+fn columns_of<'a>(
     alloc: Global,
     names: &'a [Text],
     listed: &[usize],
@@ -45,4 +47,33 @@ pub(crate) fn columns_of<'a>(
     let mut columns = numbered(alloc, names, listed)?;
     columns.sort()?;
     Ok(columns)
+}
+
+/// The beginning of a member: the name as a string, and a colon.
+fn member_start(alloc: Global, name: &str) -> Result<Vec<u8>, AllocError>
+    ensures text { IfOk result (λ text. text.items ≡ string_text name.now ++ 58 ∷ []) }
+{
+    let mut text = printed_string(alloc, name)?;
+    text.push(b':')?;
+    Ok(text)
+}
+
+/// The columns in byte order of their names, each with the beginning of its members and its place.
+///
+/// # Errors
+/// `AllocError`: a growth was refused.
+pub(crate) fn begun_columns(
+    alloc: Global,
+    names: &[Text],
+    listed: &[usize],
+) -> Result<Vec<(Vec<u8>, usize)>, AllocError>
+    ensures columns { IfOk result (λ made. map begun_column made.items
+        ≡ map begun (columns (listed_names names.now listed.now))) }
+{
+    let columns = columns_of(alloc, names, listed)?;
+    let mut made = Vec::with_capacity(alloc, columns.len())?;
+    for (name, place) in &columns {
+        made.push((member_start(alloc, name)?, *place))?;
+    }
+    Ok(made)
 }

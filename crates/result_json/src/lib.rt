@@ -8,8 +8,12 @@
 //! Standards: SPARQL 1.1 Query Results JSON Format, sections 3.1 and 3.2; RFC 8259, section 7; SPARQL
 //! 1.1 Query Language, sections 15.4 and 15.5.
 //!
-//! To read in this order: `printing`, `cells` and `listing` (the terms of the listed variables),
-//! `ordering`, `values` (terms and texts by the JSON library), `columns`, `results` (the whole).
+//! How: the cells of the listed variables are copied into one buffer of numbers. Their distinct terms
+//! are sorted once, each number becomes the rank of its term, and rows are sorted by ranks. Each term
+//! and each name is printed once by the JSON library, and rows are put together by appends.
+//!
+//! To read in this order: `printing`, `coding` (cells as numbers), `ranking` (numbers as ranks),
+//! `ranked_row` and `row_order`, `values` (terms and texts by the JSON library), `term_texts`, `columns`, `results`.
 //!
 //! Example: one variable `o` and the rows `"x"` and `<http://e/a>` give
 //! `{"head":{"vars":["o"]},"results":{"bindings":[{"o":{"type":"uri","value":"http://e/a"}},{"o":{"type":"literal","value":"x"}}]}}`
@@ -18,12 +22,16 @@
 //! Not promised: that memory suffices, and speed.
 #![tactic(auto)]
 
-mod cells;
+mod coding;
 mod columns;
-mod listing;
-mod ordering;
 mod printing;
+mod ranked_row;
+mod ranking;
 mod results;
+mod row_order;
+mod term_texts;
+#[cfg(test)]
+mod tests;
 mod values;
 
 pub use printing::print_rows;

@@ -6,9 +6,11 @@ ghost use Rattle.algebra_model.specs.Sorted.{slice};
 ghost use Rattle.dict_core.specs.Dict.{term_at};
 ghost use Rattle.result_json.specs.Results.{json, listed_names};
 
-use crate::listing::listed_rows;
-use crate::ordering::sort_rows;
+use crate::coding::listed_codes;
+use crate::ranking::rank;
 use crate::results::to_json;
+use crate::row_order::sorted_rows;
+use crate::term_texts::TermTexts;
 use dict_core::Dict;
 use rdf_core::Text;
 use row_core::Rows;
@@ -51,7 +53,15 @@ pub fn print_rows(
         ≡ json (listed_names names.now listed.now)
         (slice offset limit (sorted_rows listed.now (map (read_row (term_at dict.now)) rows.now.rows)))) }
 {
-    let mut sorted = listed_rows(alloc, listed, rows, dict)?;
-    sort_rows(&mut sorted)?;
-    to_json(alloc, names, listed, kept(&sorted, offset, limit))
+    let mut ranks = listed_codes(alloc, listed, rows, dict)?;
+    let terms = rank(alloc, &mut ranks, dict)?;
+    let sorted = sorted_rows(alloc, &ranks, listed.len(), rows.len())?;
+    let mut texts = TermTexts::new(alloc, &terms)?;
+    to_json(
+        alloc,
+        names,
+        listed,
+        &mut texts,
+        kept(&sorted, offset, limit),
+    )
 }

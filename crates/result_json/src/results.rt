@@ -1,41 +1,45 @@
 //! The answer of a query as JSON (SPARQL 1.1 Query Results JSON Format).
 //!
-//! Strings and terms are printed by `serde_json` from a value each; rows are put together of these
-//! by appends.
-ghost use Rattle.std.specs.Prelude.{◌≡◌, ◌++◌, ◌||◌, map, is_some, OnOk, IfOk, option_map};
-ghost use Rattle.result_json.specs.Cells.{lent_cells, lent_row};
-ghost use Rattle.result_json.specs.Printed.{column_of, comma_texts};
-ghost use Rattle.result_json.specs.Results.{json, listed_names, member_text, row_text, separated, string_text};
+//! Rows are put together by appends, of texts that the JSON library printed once a name and once a
+//! term.
+ghost use Rattle.std.specs.Prelude.{◌≡◌, ◌++◌, ◌||◌, map, is_some, OnOk, IfOk};
+ghost use Rattle.result_json.specs.RankedRows.{ranks_of};
+ghost use Rattle.result_json.specs.Ranks.{ranked_cell, ranked_row};
+ghost use Rattle.result_json.specs.Printed.{comma_texts};
+ghost use Rattle.result_json.specs.Results.{json, listed_names, separated, string_text};
+ghost use Rattle.result_json.specs.Texts.{begun_column, begun_member, begun_row};
 
-use crate::cells::cell_at;
-use crate::columns::{columns_of, name_of};
-use crate::values::{put_string, put_term};
-use rdf_core::{Term, Text};
+use crate::columns::{begun_columns, name_of};
+use crate::ranked_row::{RankedRow, rank_at};
+use crate::term_texts::TermTexts;
+use crate::values::printed_string;
+use rdf_core::Text;
 use std::alloc::{AllocError, Global};
 
-/// Appends the member of a column, where the row binds its variable, and a comma before it where a
-/// member stands before. Answers whether a member stands there now.
+/// Appends the member of a cell, where it is bound, and a comma before it where a member stands
+/// before. Answers whether a member stands there now.
 fn put_member(
     alloc: Global,
     out: &mut Vec<u8>,
-    name: &str,
-    cell: Option<&Term>,
+    prefix: &[u8],
+    texts: &mut TermTexts<'_>,
+    rank: u64,
     later: bool,
 ) -> Result<bool, AllocError>
+    ensures same { texts.new ≡ texts.old }
     ensures text { OnOk result
         (out.new.items ≡ out.old.items
-        ++ comma_texts later (member_text name.now (option_map (λ t. t.now) cell.entry))) }
-    ensures later { IfOk result (λ b. b ≡ (later || is_some cell.entry)) }
+        ++ comma_texts later (begun_member prefix.now (ranked_cell texts.old rank))) }
+    ensures later { IfOk result (λ b. b ≡ (later || is_some (ranked_cell texts.old rank))) }
 {
-    let Some(term) = cell else {
+    let Some(place) = texts.place(rank) else {
         return Ok(later);
     };
     if later {
         out.push(b',')?;
     }
-    put_string(alloc, out, name)?;
-    out.push(b':')?;
-    put_term(alloc, out, term)?;
+    out.extend_from_slice(prefix)?;
+    texts.put(alloc, out, place)?;
     Ok(true)
 }
 
@@ -43,16 +47,19 @@ fn put_member(
 fn put_row(
     alloc: Global,
     out: &mut Vec<u8>,
-    columns: &[(&str, usize)],
-    row: &[Option<&Term>],
+    columns: &[(Vec<u8>, usize)],
+    texts: &mut TermTexts<'_>,
+    ranks: &[u64],
 ) -> Result<(), AllocError>
-    ensures { OnOk result
-        (out.new.items ≡ out.old.items ++ row_text (map column_of columns.now) (lent_cells row.now)) }
+    ensures same { texts.new ≡ texts.old }
+    ensures text { OnOk result
+        (out.new.items ≡ out.old.items
+        ++ begun_row texts.old (map begun_column columns.now) ranks.now) }
 {
     out.push(b'{')?;
     let mut later = false;
-    for (name, place) in columns {
-        later = put_member(alloc, out, name, cell_at(row, *place), later)?;
+    for (prefix, place) in columns {
+        later = put_member(alloc, out, prefix, texts, rank_at(ranks, *place), later)?;
     }
     out.push(b'}')?;
     Ok(())
@@ -62,18 +69,21 @@ fn put_row(
 fn put_rows(
     alloc: Global,
     out: &mut Vec<u8>,
-    columns: &[(&str, usize)],
-    rows: &[Vec<Option<&Term>>],
+    columns: &[(Vec<u8>, usize)],
+    texts: &mut TermTexts<'_>,
+    rows: &[RankedRow<'_>],
 ) -> Result<(), AllocError>
-    ensures { OnOk result
+    ensures same { texts.new ≡ texts.old }
+    ensures text { OnOk result
         (out.new.items ≡ out.old.items
-        ++ separated (map (row_text (map column_of columns.now)) (map lent_row rows.now))) }
+        ++ separated (map (begun_row texts.old (map begun_column columns.now))
+        (ranks_of rows.now))) }
 {
     for i in 0..rows.len() {
         if i > 0 {
             out.push(b',')?;
         }
-        put_row(alloc, out, columns, &rows[i])?;
+        put_row(alloc, out, columns, texts, rows[i].ranks)?;
     }
     Ok(())
 }
@@ -93,13 +103,13 @@ fn put_names(
         if i > 0 {
             out.push(b',')?;
         }
-        put_string(alloc, out, name_of(names, listed[i]))?;
+        out.extend_from_slice(&printed_string(alloc, name_of(names, listed[i]))?)?;
     }
     Ok(())
 }
 
 /// The answer of a query as JSON: the names of the listed variables, and the rows in order, each with
-/// a cell a variable (SPARQL 1.1 Query Results JSON Format). It ends with a line feed.
+/// a rank a variable (SPARQL 1.1 Query Results JSON Format). It ends with a line feed.
 ///
 /// # Errors
 /// `AllocError`: a growth was refused.
@@ -107,17 +117,19 @@ pub(crate) fn to_json(
     alloc: Global,
     names: &[Text],
     listed: &[usize],
-    rows: &[Vec<Option<&Term>>],
+    texts: &mut TermTexts<'_>,
+    rows: &[RankedRow<'_>],
 ) -> Result<Vec<u8>, AllocError>
     ensures json { IfOk result
-        (λ bytes. bytes.items ≡ json (listed_names names.now listed.now) (map lent_row rows.now)) }
+        (λ bytes. bytes.items ≡ json (listed_names names.now listed.now)
+        (map (ranked_row texts.old) (ranks_of rows.now))) }
 {
-    let columns = columns_of(alloc, names, listed)?;
+    let columns = begun_columns(alloc, names, listed)?;
     let mut out = Vec::new(alloc);
     out.extend_from_slice(b"{\"head\":{\"vars\":[")?;
     put_names(alloc, &mut out, names, listed)?;
     out.extend_from_slice(b"]},\"results\":{\"bindings\":[")?;
-    put_rows(alloc, &mut out, &columns, rows)?;
+    put_rows(alloc, &mut out, &columns, texts, rows)?;
     out.extend_from_slice(b"]}}\n")?;
     Ok(out)
 }

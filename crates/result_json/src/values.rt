@@ -1,5 +1,5 @@
 //! Terms and texts as values of the JSON library, printed.
-ghost use Rattle.std.specs.Prelude.{◌≡◌, ◌++◌, false, IfOk, OnOk};
+ghost use Rattle.std.specs.Prelude.{◌≡◌, false, IfOk};
 ghost use Rattle.serde_json.specs.Data.{string};
 ghost use Rattle.serde_json.specs.View.{view};
 ghost use Rattle.serde_json.specs.Written.{has_float, compact_text};
@@ -36,20 +36,19 @@ fn term_value(alloc: Global, term: &Term) -> Result<Value, AllocError>
     }
 }
 
-/// Appends what the library prints for a value that has no float.
-fn put_value(alloc: Global, out: &mut Vec<u8>, value: &Value) -> Result<(), AllocError>
+/// What the library prints for a value that has no float.
+fn printed(alloc: Global, value: &Value) -> Result<Vec<u8>, AllocError>
     requires { has_float (view value.now) ≡ false }
-    ensures { OnOk result (out.new.items ≡ out.old.items ++ compact_text (view value.now)) }
+    ensures { IfOk result (λ text. text.items ≡ compact_text (view value.now)) }
 {
-    let printed = value.to_vec(alloc)?;
-    out.extend_from_slice(&printed)
+    value.to_vec(alloc)
 }
 
-/// Appends a term as JSON.
-pub(crate) fn put_term(alloc: Global, out: &mut Vec<u8>, term: &Term) -> Result<(), AllocError>
-    ensures { OnOk result (out.new.items ≡ out.old.items ++ term_text term.now) }
+/// A term as JSON.
+pub(crate) fn printed_term(alloc: Global, term: &Term) -> Result<Vec<u8>, AllocError>
+    ensures { IfOk result (λ text. text.items ≡ term_text term.now) }
 {
-    put_value(alloc, out, &term_value(alloc, term)?)
+    printed(alloc, &term_value(alloc, term)?)
 }
 
 /// The value of a text.
@@ -59,9 +58,9 @@ fn string_value(alloc: Global, text: &str) -> Result<Value, AllocError>
     Ok(Value::String(String::from_str(alloc, text)?))
 }
 
-/// Appends a text as a JSON string.
-pub(crate) fn put_string(alloc: Global, out: &mut Vec<u8>, text: &str) -> Result<(), AllocError>
-    ensures { OnOk result (out.new.items ≡ out.old.items ++ string_text text.now) }
+/// A text as a JSON string.
+pub(crate) fn printed_string(alloc: Global, text: &str) -> Result<Vec<u8>, AllocError>
+    ensures { IfOk result (λ printed. printed.items ≡ string_text text.now) }
 {
-    put_value(alloc, out, &string_value(alloc, text)?)
+    printed(alloc, &string_value(alloc, text)?)
 }

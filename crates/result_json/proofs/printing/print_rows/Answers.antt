@@ -1,20 +1,45 @@
-use Rattle.std.proofs.Common.{◌≡◌, ◌∙◌, ap, sym, subst, map, List, Option, IfOk}
+use Rattle.std.proofs.Common.{◌≡◌, ◌∙◌, ℕ, ap, sym, subst, map, length, List, Option, IfOk, IsPermutation, arith}
+use Rattle.std.proofs.lemmas.List.{with_items_is}
 use Rattle.algebra_model.specs.Sorted.{slice, sorted_list}
 use Rattle.algebra_model.specs.RowOrder.{cells_cmp, sorted_rows}
 use Rattle.algebra_model.specs.Reading.{read_row}
 use Rattle.dict_core.specs.Dict.{term_at}
+use Rattle.row_core.specs.RowList.{rows_in}
 use Rattle.rdf_core.specs.declared.term.Term.{Term}
-use Rattle.result_json.specs.Cells.{lent_row}
+use Rattle.result_json.specs.declared.ranked_row.RankedRow.{RankedRow}
+use Rattle.result_json.specs.RankedRows.{ranks_of}
+use Rattle.result_json.specs.Ranks.{IsRank, ranked_row, terms_of}
 use Rattle.result_json.specs.Results.{json, listed_names}
+use Rattle.result_json.proofs.ChunkLaws.{rows_of_ranks, Each-rows_in}
+use Rattle.result_json.proofs.RankLaws.{sorted_by_ranks}
 use Rattle.result_json.proofs.SliceLaws.{slice-map}
 use Rattle.result_json.proofs.printing.print_rows.Goals as goal
 
 pub returns : goal.returns
 returns c =
-    let sorted : map lent_row c.deref.result.now ≡ sorted_rows c.args.listed.now (map (read_row (term_at c.args.dict.now)) c.args.rows.now.rows) =
-    ap (map lent_row) c.deref.ensures.value ∙ c.in_ok-sort_rows.ensures.sorted ∙ ap (sorted_list cells_cmp) c.in_ok-sorted.ensures.rows in
-    let kept : map lent_row c.kept.result.now ≡ slice c.args.offset c.args.limit (sorted_rows c.args.listed.now (map (read_row (term_at c.args.dict.now)) c.args.rows.now.rows)) =
-    ap (map lent_row) c.kept.ensures.value ∙ sym (slice-map lent_row c.args.offset c.args.limit c.deref.result.now) ∙ ap (slice c.args.offset c.args.limit) sorted in
+    let dict = c.args.dict.now in
+    let listed = c.args.listed.now in
+    let solutions = c.args.rows.now.rows in
+    let terms = terms_of c.in_ok-terms.terms.items in
+    let ranks = c.rank.new.codes in
+    let sorted = c.in_ok-sorted.sorted.items in
+    let all = map (read_row (term_at dict)) solutions in
+    let rows = rows_in (length listed) (length listed) (length solutions) ranks in
+    let wide : length ranks ≡ c.in_ok-ranks.ranks.len = omega (arith, c.rank.auto.codes, ap length c.deref_mut.ensures.value, c.in_ok-ranks.ranks.ok.0) in
+    let there : c.deref.result.now ≡ ranks = c.deref.ensures.value ∙ with_items_is c.in_ok-ranks.ranks ranks wide in
+    let permutation : IsPermutation rows (ranks_of sorted) =
+    subst (λ (n : ℕ). IsPermutation (rows_in (length listed) (length listed) n ranks) (ranks_of sorted)) c.len.ensures.value
+    (subst (λ (rs : List ℕ). IsPermutation (rows_in (length listed) (length listed) c.len.result rs) (ranks_of sorted)) there c.in_ok-sorted.ensures.permutation) in
+    let by_ranks : map (ranked_row terms) (ranks_of sorted) ≡ sorted_list cells_cmp (map (ranked_row terms) rows) =
+    sorted_by_ranks terms c.in_ok-terms.ensures.rising rows (ranks_of sorted) (Each-rows_in (IsRank terms) (length listed) (length solutions) ranks c.in_ok-terms.ensures.ranks) permutation c.in_ok-sorted.ensures.sorted in
+    let in_order : map (ranked_row terms) (ranks_of sorted) ≡ sorted_rows listed all =
+    by_ranks ∙ ap (sorted_list cells_cmp) (rows_of_ranks dict listed solutions c.requires.known terms c.deref_mut.result.now ranks (c.deref_mut.ensures.value ∙ c.in_ok-ranks.ensures.codes) c.in_ok-terms.ensures.cells) in
+    let texts : c.in_ok-texts.texts ≡ terms = c.in_ok-texts.ensures.terms ∙ ap terms_of c.deref-2.ensures.value in
+    let kept : map (ranked_row c.in_ok-texts.texts) (ranks_of c.kept.result.now) ≡ slice c.args.offset c.args.limit (sorted_rows listed all) =
+    (λ i. map (ranked_row (texts i)) (ranks_of c.kept.result.now))
+    ∙ ap (λ (rs : List RankedRow). map (ranked_row terms) (ranks_of rs)) (c.kept.ensures.value ∙ ap (slice c.args.offset c.args.limit) c.deref-3.ensures.value)
+    ∙ ap (map (ranked_row terms)) (sym (slice-map (λ (r : RankedRow). r.ranks.now) c.args.offset c.args.limit sorted))
+    ∙ sym (slice-map (ranked_row terms) c.args.offset c.args.limit (ranks_of sorted)) ∙ ap (slice c.args.offset c.args.limit) in_order in
     record {
-      json = subst (λ (rows : List (List (Option Term))). IfOk c.to_json.result (λ bytes. bytes.items ≡ json (listed_names c.args.names.now c.args.listed.now) rows)) kept c.to_json.ensures.json;
+      json = subst (λ (rs : List (List (Option Term))). IfOk c.to_json.result (λ bytes. bytes.items ≡ json (listed_names c.args.names.now listed) rs)) kept c.to_json.ensures.json;
     }

@@ -1,0 +1,193 @@
+-- The table of ranks, and what its ranks stand for.
+use Rattle.std.proofs.Common.{◌≡◌, ◌≢◌, ◌⊎◌, ◌++◌, take, Bool, not, ℕ, zero, suc, ◌+◌, ◌<◌, ◌≤◌, true, false, List, [], ◌∷◌, length, get_or, map, set, slice_get, Option, None, Some, option_map, Bor, Contains, IsSorted, IsSortedBy, IsPermutation, All, refl, sym, ap, ◌∙◌, subst, arith, ⊎_elim, Ordering, Less, Equal, Greater, is_lt, nat_cmp}
+use Rattle.std.specs.Ordering.{ordering_then}
+use Rattle.std.proofs.lemmas.Bool.{cases_eq, cases_lt}
+use Rattle.std.proofs.lemmas.List.{get_or-map, length-map, length-append, length-set, map-append, get_or_append_left, get_or_push, get_or-set_same, get_or-set_other, get_or_past, get_or_default}
+use Rattle.std.proofs.lemmas.List.Elements.{All-more, All-push, All-weaker}
+use Rattle.std.proofs.lemmas.List.Sorted.{Contains-permutation, IsPermutation-map}
+use Rattle.std.proofs.lemmas.Option.{slice_get-get_or, get_or_from_slice_get, slice_get_within, slice_get_past, slice_get-map}
+use Rattle.rdf_core.specs.declared.term.Term.{Term}
+use Rattle.rdf_core.specs.declared.term.Term.TheVariants.{Blank}
+use Rattle.rdf_core.specs.Order.{term_cmp}
+use Rattle.algebra_model.specs.Reading.{Each}
+use Rattle.dict_core.specs.Dict.{IsWithoutRepeats}
+use Rattle.result_json.proofs.SliceLaws.{Each-from_all}
+use Rattle.result_json.specs.Ranks.{ranked_cell, Entry, terms_of, numbers_of, HasRank, IsCovered, IsEntry, IsRank, IsRankTable}
+
+-- ---- one entry more in the table
+
+pub table_step : (numbers table : List ℕ) (i : ℕ) → i < length numbers → get_or numbers i 0 < length table → ((j : ℕ) → j < i → HasRank i numbers table j)
+    → (j : ℕ) → j < i + 1 → HasRank (i + 1) numbers (set table (get_or numbers i 0) (i + 1)) j
+table_step numbers table i inside below h j l = ⊎_elim same other (cases_eq (get_or numbers j 0) (get_or numbers i 0))
+  where
+    n : ℕ
+    n = get_or numbers i 0
+
+    same : get_or numbers j 0 ≡ n → HasRank (i + 1) numbers (set table n (i + 1)) j
+    same e =
+        let v : get_or (set table n (i + 1)) n 0 ≡ i + 1 = get_or-set_same table n (i + 1) 0 below in
+        let w : i + 1 ≡ suc i = omega arith in
+        (i, ap (λ k. get_or (set table n (i + 1)) k 0) e ∙ v ∙ w, omega arith, omega arith, sym e)
+
+    other : get_or numbers j 0 ≢ n → HasRank (i + 1) numbers (set table n (i + 1)) j
+    other ne =
+        let earlier : j < i = by (cases_eq j i) in
+        let k = h j earlier in
+        (k.0, get_or-set_other table n (get_or numbers j 0) (i + 1) 0 ne ∙ k.1, k.2, omega (arith, k.3), k.4)
+      where
+        by : (j ≡ i) ⊎ (j ≢ i) → j < i
+        by d = ⊎_elim (λ (e : j ≡ i). absurd (ne (ap (λ k. get_or numbers k 0) e))) (λ (e : j ≢ i). omega arith) d
+
+-- ---- the terms of the sorted entries rise
+
+then_less : (a b : Ordering) → is_lt (ordering_then a b) ≡ false → is_lt a ≡ false
+then_less Less b e = e
+then_less Equal b e = refl
+then_less Greater b e = refl
+
+-- C is the order by which terms are compared in code
+module _ (C : Term → Term → Ordering) (is : (x y : Term) → C x y ≡ term_cmp x y) where
+  abbrev pub is_entry_less : Entry → Entry → Rattle.std.proofs.Common.Bool
+  is_entry_less x y = is_lt (ordering_then (C x.0.now y.0.now) (nat_cmp x.1 y.1))
+
+  pub terms_rise : (entries : List Entry) → IsSortedBy is_entry_less entries → IsSorted term_cmp (terms_of entries)
+  terms_rise [] s k d a b = absurd (omega arith)
+  terms_rise (e ∷ es) s k d a b =
+      let l : length (terms_of (e ∷ es)) ≡ length (e ∷ es) = length-map (e ∷ es) (λ x. x.0.now) in
+      let x = get_or (e ∷ es) (k + 1) e in
+      let y = get_or (e ∷ es) k e in
+      let ea : get_or (terms_of (e ∷ es)) (k + 1) d ≡ x.0.now = get_or-map (λ (t : Entry). t.0.now) (e ∷ es) (k + 1) e d (omega arith) in
+      let eb : get_or (terms_of (e ∷ es)) k d ≡ y.0.now = get_or-map (λ (t : Entry). t.0.now) (e ∷ es) k e d (omega arith) in
+      (λ i. is_lt (term_cmp (ea i) (eb i))) ∙ ap is_lt (sym (is x.0.now y.0.now)) ∙ then_less (C x.0.now y.0.now) (nat_cmp x.1 y.1) (s k e (omega arith) (omega arith))
+
+-- ---- what the ranks stand for
+
+same_number : (dict : List Term) → IsWithoutRepeats dict → (a b : ℕ) (t : Term) → slice_get dict a ≡ Some t → slice_get dict b ≡ Some t → a ≡ b
+same_number dict once a b t e f =
+    let la : a < length dict = slice_get_within dict a t e in
+    let lb : b < length dict = slice_get_within dict b t f in
+    let same : get_or dict a (Blank []) ≡ get_or dict b (Blank []) = get_or_from_slice_get dict a t (Blank []) e ∙ sym (get_or_from_slice_get dict b t (Blank []) f) in
+    let p : a < b → ⊥ = λ l. once a b (Blank []) l lb same in
+    let q : b < a → ⊥ = λ l. once b a (Blank []) l la (sym same) in
+    omega arith
+
+module _ (dict : List Term) (once : IsWithoutRepeats dict) (entries : List Entry) (is : All (IsEntry dict) entries) (table : List ℕ) (wide : length table ≡ length dict) (ranks : IsRankTable (numbers_of entries) table) where
+  counts : length (numbers_of entries) ≡ length entries
+  counts = length-map entries (λ e. e.1)
+
+  terms_count : length (terms_of entries) ≡ length entries
+  terms_count = length-map entries (λ e. e.0.now)
+
+  -- the entry at a place
+  entry_at : (k : ℕ) → k < length entries → slice_get dict (get_or (numbers_of entries) k 0) ≡ slice_get (terms_of entries) k
+  entry_at k l = by entries is l
+    where
+      by : (es : List Entry) → All (IsEntry dict) es → k < length es → slice_get dict (get_or (numbers_of es) k 0) ≡ slice_get (terms_of es) k
+      by [] h l = absurd (omega arith)
+      by (e ∷ es) h l =
+          let x = get_or (e ∷ es) k e in
+          ap (slice_get dict) (get_or-map (λ (t : Entry). t.1) (e ∷ es) k e 0 l) ∙ h k e l ∙ sym (slice_get-map (λ (t : Entry). t.0.now) (e ∷ es) k ∙ ap (option_map (λ (t : Entry). t.0.now)) (slice_get-get_or (e ∷ es) k e l))
+
+  abbrev rank : ℕ → ℕ
+  rank n = get_or table n 0
+
+  rank_past : (n : ℕ) → length dict ≤ n → rank n ≡ 0
+  rank_past n l = get_or_past table n 0 (omega arith)
+
+  pub cell_is : (n : ℕ) → IsCovered (length dict) (numbers_of entries) n → ranked_cell (terms_of entries) (rank n) ≡ slice_get dict n
+  cell_is n covered = ⊎_elim inside past (cases_lt n (length dict))
+    where
+      past : length dict ≤ n → ranked_cell (terms_of entries) (rank n) ≡ slice_get dict n
+      past l = ap (ranked_cell (terms_of entries)) (rank_past n l) ∙ sym (slice_get_past dict n l)
+
+      inside : n < length dict → ranked_cell (terms_of entries) (rank n) ≡ slice_get dict n
+      inside l =
+          let at = covered l in
+          let j = at.0 in
+          let ej : get_or (numbers_of entries) j 0 ≡ n = get_or_default (numbers_of entries) j 0 n at.1 ∙ at.2 in
+          let r = ranks j at.1 in
+          let e : rank n ≡ suc r.0 = ap (λ k. get_or table k 0) (sym ej) ∙ r.1 in
+          ap (ranked_cell (terms_of entries)) e ∙ sym (entry_at r.0 (omega (arith, r.3, counts))) ∙ ap (slice_get dict) (r.4 ∙ ej)
+
+  pub rank_is : (n : ℕ) → IsCovered (length dict) (numbers_of entries) n → IsRank (terms_of entries) (rank n)
+  rank_is n covered = ⊎_elim inside past (cases_lt n (length dict))
+    where
+      past : length dict ≤ n → IsRank (terms_of entries) (rank n)
+      past l = subst (IsRank (terms_of entries)) (sym (rank_past n l)) tt
+
+      inside : n < length dict → IsRank (terms_of entries) (rank n)
+      inside l =
+          let at = covered l in
+          let j = at.0 in
+          let ej : get_or (numbers_of entries) j 0 ≡ n = get_or_default (numbers_of entries) j 0 n at.1 ∙ at.2 in
+          let r = ranks j at.1 in
+          let i = r.0 in
+          let e : rank n ≡ suc i = ap (λ k. get_or table k 0) (sym ej) ∙ r.1 in
+          let li : i < length entries = omega (arith, r.3, counts) in
+          let ti : i < length (terms_of entries) = omega (arith, terms_count) in
+          let x = get_or (terms_of entries) i (Blank []) in
+          let ex : slice_get (terms_of entries) i ≡ Some x = slice_get-get_or (terms_of entries) i (Blank []) ti in
+          let last = λ (k : ℕ) (f : slice_get (terms_of entries) k ≡ slice_get (terms_of entries) i).
+          let lk : k < length (terms_of entries) = slice_get_within (terms_of entries) k x (f ∙ ex) in
+          let lk' : k < length entries = omega (arith, terms_count) in
+          let same : get_or (numbers_of entries) k 0 ≡ get_or (numbers_of entries) i 0 = same_number dict once (get_or (numbers_of entries) k 0) (get_or (numbers_of entries) i 0) x (entry_at k lk' ∙ f ∙ ex) (entry_at i li ∙ ex) in
+          let s = ranks k (omega (arith, counts)) in
+          let t : suc s.0 ≡ suc i = sym s.1 ∙ ap (λ m. get_or table m 0) (same ∙ r.4) ∙ r.1 in
+          let q : k ≤ i = omega (arith, s.2) in q in
+          subst (IsRank (terms_of entries)) (sym e) (ti, last)
+
+  pub cells_are : (codes : List ℕ) → Each (IsCovered (length dict) (numbers_of entries)) codes → map (ranked_cell (terms_of entries)) (map (λ c. get_or table c 0) codes) ≡ map (slice_get dict) codes
+  cells_are [] h = refl
+  cells_are (c ∷ codes) h = λ i. cell_is c h.0 i ∷ cells_are codes h.1 i
+
+  pub ranks_are : (codes : List ℕ) → Each (IsCovered (length dict) (numbers_of entries)) codes → Each (IsRank (terms_of entries)) (map (λ c. get_or table c 0) codes)
+  ranks_are [] h = tt
+  ranks_are (c ∷ codes) h = (rank_is c h.0, ranks_are codes h.1)
+
+-- ---- the terms that are noted
+
+pub entries_below : (dict : List Term) (entries : List Entry) → All (IsEntry dict) entries → All (λ e. e.1 < length dict) entries
+entries_below dict entries h = All-weaker (IsEntry dict) (λ e. e.1 < length dict) (λ e p. slice_get_within dict e.1 e.0.now p) entries h
+
+pub covered_sorted : (count : ℕ) (entries sorted : List Entry) (codes : List ℕ) → IsPermutation entries sorted → All (IsCovered count (numbers_of entries)) codes → Each (IsCovered count (numbers_of sorted)) codes
+covered_sorted count entries sorted codes p h =
+    Each-from_all (IsCovered count (numbers_of sorted)) codes (All-weaker (IsCovered count (numbers_of entries)) (IsCovered count (numbers_of sorted))
+    (λ n k l. Contains-permutation (numbers_of entries) (numbers_of sorted) n (IsPermutation-map (λ (e : Entry). e.1) entries sorted p) (k l)) codes h)
+
+abbrev pub IsNoted : List Term → List Entry → List Bool → List ℕ → ℕ → Type 0
+IsNoted dict entries seen codes i = (length seen ≡ length dict)
+    × All (IsEntry dict) entries
+    × ((n : ℕ) → get_or seen n true ≡ true → IsCovered (length dict) (numbers_of entries) n)
+    × All (IsCovered (length dict) (numbers_of entries)) (take i codes)
+
+pub noted_old : (dict : List Term) (entries : List Entry) (seen : List Bool) (codes : List ℕ) (i d : ℕ) → i < length codes → IsNoted dict entries seen codes i → get_or seen (get_or codes i d) true ≡ true → IsNoted dict entries seen codes (i + 1)
+noted_old dict entries seen codes i d l h t = (h.0, h.1, h.2, All-more (IsCovered (length dict) (numbers_of entries)) codes i d l h.3 (h.2 (get_or codes i d) t))
+
+contains_last : (ns : List ℕ) (n : ℕ) → Contains (ns ++ n ∷ []) n
+contains_last ns n = (length ns, omega (arith, length-append ns (n ∷ [])), get_or_push ns n n (length ns) refl)
+
+contains_front : (ns : List ℕ) (m n : ℕ) → Contains ns n → Contains (ns ++ m ∷ []) n
+contains_front ns m n c = (c.0, omega (arith, c.1, length-append ns (m ∷ [])), get_or_append_left ns (m ∷ []) n c.0 c.1 ∙ c.2)
+
+pub noted_new : (dict : List Term) (entries : List Entry) (seen : List Bool) (codes : List ℕ) (i d : ℕ) (t : Bor Term) → i < length codes → IsNoted dict entries seen codes i → slice_get dict (get_or codes i d) ≡ Some t.now
+    → IsNoted dict (entries ++ (t, get_or codes i d) ∷ []) (set seen (get_or codes i d) true) codes (i + 1)
+noted_new dict entries seen codes i d t l h e =
+    (length-set seen m true ∙ h.0, All-push (IsEntry dict) entries (t, m) h.1 e, seen_is, All-more Covered codes i d l (All-weaker (IsCovered (length dict) (numbers_of entries)) Covered kept (take i codes) h.3) (λ b. subst (λ ns. Contains ns m) (sym numbers) (contains_last (numbers_of entries) m)))
+  where
+    m : ℕ
+    m = get_or codes i d
+
+    numbers : numbers_of (entries ++ (t, m) ∷ []) ≡ numbers_of entries ++ m ∷ []
+    numbers = map-append (λ (x : Entry). x.1) entries ((t, m) ∷ [])
+
+    Covered : ℕ → Type 0
+    Covered = IsCovered (length dict) (numbers_of (entries ++ (t, m) ∷ []))
+
+    kept : (n : ℕ) → IsCovered (length dict) (numbers_of entries) n → Covered n
+    kept n k b = subst (λ ns. Contains ns n) (sym numbers) (contains_front (numbers_of entries) m n (k b))
+
+    seen_is : (n : ℕ) → get_or (set seen m true) n true ≡ true → Covered n
+    seen_is n s = ⊎_elim
+        (λ (p : n ≡ m). λ b. subst (λ ns. Contains ns n) (sym numbers) (subst (λ k. Contains (numbers_of entries ++ m ∷ []) k) (sym p) (contains_last (numbers_of entries) m)))
+        (λ (p : n ≢ m). kept n (h.2 n (sym (get_or-set_other seen m n true true p) ∙ s)))
+        (cases_eq n m)

@@ -1,0 +1,45 @@
+use Rattle.std.proofs.Common.{◌≡◌, ◌∙◌, ℕ, ◌<◌, List, All, IsPermutation, length, get_or, map, slice_get, ap, sym, subst, arith}
+use Rattle.std.proofs.lemmas.List.Sorted.{All-permutation}
+use Rattle.rdf_core.specs.declared.term.Term.{Term}
+use Rattle.algebra_model.specs.Reading.{Each}
+use Rattle.algebra_model.proofs.RowOrderLaws.{derived, derived-is}
+use Rattle.result_json.specs.Ranks.{ranked_cell, Entry, terms_of, numbers_of, IsCovered, IsEntry, IsRank, IsRankTable}
+use Rattle.result_json.proofs.RankSteps.{entries_below, covered_sorted, cells_are, ranks_are, terms_rise}
+use Rattle.result_json.proofs.ranking.rank.Goals as goal
+
+pub rank_table-requires : goal.rank_table-requires
+rank_table-requires c =
+    let dict = c.args.dict.now in
+    let sorted = c.sort.new.self.items in
+    let is : All (IsEntry dict) sorted = All-permutation (IsEntry dict) c.in_ok-order.order.items sorted c.in_ok-sort.ensures.permutation c.in_ok-order.ensures.entries in
+    let there : All (IsEntry dict) c.deref.result.now = subst (λ (es : List Entry). All (IsEntry dict) es) (sym c.deref.ensures.value) is in
+    record { below = λ k d l. let b = entries_below dict c.deref.result.now there k d l in omega (arith, b, c.len.ensures.value) }
+
+pub returns-clause-cells : goal.returns-clause-cells
+returns-clause-cells c =
+    let dict = c.args.dict.now in
+    let codes = c.args.codes.now in
+    let sorted = c.sort.new.self.items in
+    let table = c.in_ok-table.table.items in
+    let p : IsPermutation c.in_ok-order.order.items sorted = c.in_ok-sort.ensures.permutation in
+    let is : All (IsEntry dict) sorted = All-permutation (IsEntry dict) c.in_ok-order.order.items sorted p c.in_ok-order.ensures.entries in
+    let ranks : IsRankTable (numbers_of sorted) table = subst (λ (es : List Entry). IsRankTable (numbers_of es) table) c.deref.ensures.value c.in_ok-table.ensures.ranks in
+    let covered = covered_sorted (length dict) c.in_ok-order.order.items sorted codes p c.in_ok-order.ensures.covered in
+    ap (map (ranked_cell (terms_of sorted))) (c.put_ranks.ensures.ranks ∙ ap (λ (t : List ℕ). map (λ n. get_or t n 0) codes) c.deref-2.ensures.value)
+    ∙ cells_are dict c.len.ensures.distinct sorted is table (c.in_ok-table.ensures.wide ∙ c.len.ensures.value) ranks codes covered
+
+pub returns-clause-ranks : goal.returns-clause-ranks
+returns-clause-ranks c =
+    let dict = c.args.dict.now in
+    let codes = c.args.codes.now in
+    let sorted = c.sort.new.self.items in
+    let table = c.in_ok-table.table.items in
+    let p : IsPermutation c.in_ok-order.order.items sorted = c.in_ok-sort.ensures.permutation in
+    let is : All (IsEntry dict) sorted = All-permutation (IsEntry dict) c.in_ok-order.order.items sorted p c.in_ok-order.ensures.entries in
+    let ranks : IsRankTable (numbers_of sorted) table = subst (λ (es : List Entry). IsRankTable (numbers_of es) table) c.deref.ensures.value c.in_ok-table.ensures.ranks in
+    let covered = covered_sorted (length dict) c.in_ok-order.order.items sorted codes p c.in_ok-order.ensures.covered in
+    subst (Each (IsRank (terms_of sorted))) (sym (c.put_ranks.ensures.ranks ∙ ap (λ (t : List ℕ). map (λ n. get_or t n 0) codes) c.deref-2.ensures.value))
+    (ranks_are dict c.len.ensures.distinct sorted is table (c.in_ok-table.ensures.wide ∙ c.len.ensures.value) ranks codes covered)
+
+pub returns-clause-rising : goal.returns-clause-rising
+returns-clause-rising c = terms_rise derived derived-is c.sort.new.self.items c.in_ok-sort.ensures.sorted

@@ -1,0 +1,6 @@
+-- What sorted rows show. Private clauses alone cite this word.
+use Rattle.std.specs.Prelude.{ℕ, List, map}
+use Rattle.result_json.specs.declared.ranked_row.RankedRow.{RankedRow}
+
+abbrev pub ranks_of : List RankedRow → List (List ℕ)
+ranks_of rows = map (λ r. r.ranks.now) rows

@@ -1,0 +1,59 @@
+-- Cells of rows as numbers: by the numbers of their terms, and by the ranks of these. Private
+-- clauses alone cite these words.
+use Rattle.std.specs.Prelude.{◌≡◌, ℕ, zero, suc, ◌<◌, ◌≤◌, List, length, map, get_or, slice_get, Option, None, Some, Contains}
+use Rattle.std.specs.Borrow.{Bor}
+use Rattle.rdf_core.specs.declared.term.Term.{Term}
+use Rattle.algebra_model.specs.RowOrder.{cells}
+use Rattle.algebra_model.specs.Solution.{Solution}
+
+-- the code of a cell over so many terms: the number of its term, and the count where it is unbound
+abbrev pub code_of : ℕ → Option ℕ → ℕ
+code_of count None = count
+code_of count (Some n) = n
+
+-- the codes of the listed variables in a row
+abbrev pub codes_of : ℕ → List ℕ → Solution ℕ → List ℕ
+codes_of count listed μ = map (code_of count) (cells listed μ)
+
+-- the cell of a rank: unbound at 0, and else the term at the place before
+abbrev pub ranked_cell : List Term → ℕ → Option Term
+ranked_cell terms zero = None
+ranked_cell terms (suc i) = slice_get terms i
+
+abbrev pub ranked_row : List Term → List ℕ → List (Option Term)
+ranked_row terms ranks = map (ranked_cell terms) ranks
+
+-- the rank is 0, or a term's: its last place plus one
+abbrev pub IsRank : List Term → ℕ → Type 0
+IsRank terms zero = Unit {0}
+IsRank terms (suc i) = (i < length terms) × ((j : ℕ) → slice_get terms j ≡ slice_get terms i → j ≤ i)
+
+-- a lent term and its number
+abbrev pub Entry : Type 0
+Entry = Bor Term × ℕ
+
+abbrev pub terms_of : List Entry → List Term
+terms_of entries = map (λ e. e.0.now) entries
+
+abbrev pub numbers_of : List Entry → List ℕ
+numbers_of entries = map (λ e. e.1) entries
+
+-- the term is the one that its number stands for
+abbrev pub IsEntry : List Term → Entry → Type 0
+IsEntry dict e = slice_get dict e.1 ≡ Some e.0.now
+
+-- the number is listed, where it stands for a term at all
+abbrev pub IsCovered : ℕ → List ℕ → ℕ → Type 0
+IsCovered count numbers n = n < count → Contains numbers n
+
+-- of the first n places the table has for the number at place j the last place where it stands, plus
+-- one
+abbrev pub HasRank : ℕ → List ℕ → List ℕ → ℕ → Type 0
+HasRank n numbers table j = (i : ℕ)
+    × (get_or table (get_or numbers j 0) 0 ≡ suc i)
+    × (j ≤ i)
+    × (i < n)
+    × (get_or numbers i 0 ≡ get_or numbers j 0)
+
+abbrev pub IsRankTable : List ℕ → List ℕ → Type 0
+IsRankTable numbers table = (j : ℕ) → j < length numbers → HasRank (length numbers) numbers table j

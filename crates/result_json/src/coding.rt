@@ -1,0 +1,66 @@
+//! The cells of rows as numbers in one buffer.
+ghost use Rattle.std.specs.Prelude.{◌≡◌, ◌++◌, flat_map, get_or, length, IfOk, None, OnOk};
+ghost use Rattle.result_json.specs.Ranks.{code_of, codes_of};
+
+use dict_core::Dict;
+use row_core::Rows;
+use std::alloc::{AllocError, Global};
+
+/// The number at a variable's place, and None where the row has no such place.
+fn number_at(row: &[Option<u64>], variable: usize) -> Option<u64>
+    ensures value { result ≡ get_or row.now variable None }
+{
+    if variable < row.len() {
+        row[variable]
+    } else {
+        None
+    }
+}
+
+/// The code of a cell over `count` terms: `count` where it is unbound.
+fn code(cell: Option<u64>, count: u64) -> u64
+    ensures value { result ≡ code_of count cell }
+{
+    match cell {
+        Some(n) => n,
+        None => count,
+    }
+}
+
+/// Appends the codes of the listed variables in a row.
+fn put_codes(
+    codes: &mut Vec<u64>,
+    listed: &[usize],
+    row: &[Option<u64>],
+    count: u64,
+) -> Result<(), AllocError>
+    ensures codes { OnOk result
+        (codes.new.items ≡ codes.old.items ++ codes_of count listed.now row.now) }
+{
+    for variable in listed {
+        codes.push(code(number_at(row, *variable), count))?;
+    }
+    Ok(())
+}
+
+/// The codes of the listed variables, row behind row: the number of the variable's term, and the
+/// length of the dictionary where the row leaves it unbound.
+///
+/// # Errors
+/// `AllocError`: a growth was refused.
+pub(crate) fn listed_codes(
+    alloc: Global,
+    listed: &[usize],
+    rows: &Rows,
+    dict: &Dict,
+) -> Result<Vec<u64>, AllocError>
+    ensures codes { IfOk result
+        (λ made. made.items ≡ flat_map (codes_of (length dict.now) listed.now) rows.now.rows) }
+{
+    let count = dict.len() as u64;
+    let mut codes = Vec::with_capacity(alloc, rows.len().saturating_mul(listed.len()))?;
+    for i in 0..rows.len() {
+        put_codes(&mut codes, listed, rows.row(i), count)?;
+    }
+    Ok(codes)
+}

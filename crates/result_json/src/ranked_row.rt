@@ -1,0 +1,31 @@
+//! A row of ranks.
+ghost use Rattle.std.specs.Prelude.{◌≡◌, get_or};
+
+/// The ranks of a row's cells, lent. The first two stand beside them, so that most rows are compared
+/// without a look into the buffer.
+#[derive(Clone, Copy, PartialEq, Eq, PartialOrd, Ord)]
+pub(crate) struct RankedRow<'a> {
+    first: u64,
+    second: u64,
+    pub(crate) ranks: &'a [u64],
+    ghost first_is: { first ≡ get_or ranks.now 0 0 },
+    ghost second_is: { second ≡ get_or ranks.now 1 0 },
+}
+
+/// The rank at a place of a row, and 0 behind its end.
+pub(crate) fn rank_at(ranks: &[u64], place: usize) -> u64
+    ensures value { result ≡ get_or ranks.now place 0 }
+{
+    if place < ranks.len() { ranks[place] } else { 0 }
+}
+
+/// A row of these ranks.
+pub(crate) fn ranked_row(ranks: &[u64]) -> RankedRow<'_>
+    ensures ranks { result.ranks.now ≡ ranks.now }
+{
+    RankedRow {
+        first: rank_at(ranks, 0),
+        second: rank_at(ranks, 1),
+        ranks,
+    }
+}
