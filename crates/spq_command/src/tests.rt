@@ -85,10 +85,18 @@ fn command_lines_are_read(rt: HostRuntime) {
         "the defaults"
     );
     assert!(rt;
-        is_check(&rt, &["spq", "check", "--workers=+4", "--piece", "07", "--"], (4, 7)),
+        is_check(
+            &rt,
+            &["spq", "check", "--workers=+4", "--piece", "07", "--"],
+            (4, 7)
+        ),
         "a plus, a zero in front, and two hyphens at the end"
     );
-    for (word, query) in [("--query=", ""), ("--query=-x", "-x"), ("--query=a=b", "a=b")] {
+    for (word, query) in [
+        ("--query=", ""),
+        ("--query=-x", "-x"),
+        ("--query=a=b", "a=b"),
+    ] {
         let words = ["spq", "select", word];
         assert!(rt; is_select(&rt, &words, query, (4, 65536, 1024)), "{word}");
     }

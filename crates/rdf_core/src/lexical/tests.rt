@@ -1,8 +1,8 @@
 //! The lexical forms by example, each function once at least.
 use crate::lexical::{
-    first_char, has_scheme, is_iri_char, is_label_char, is_label_start, is_name_char, is_name_start,
-    is_pn_chars_base, is_string_char, lower_tag, read_iri_ref, read_quoted, unescape_iri,
-    unescape_string,
+    first_char, has_scheme, is_iri_char, is_label_char, is_label_start, is_name_char,
+    is_name_start, is_pn_chars_base, is_string_char, lower_tag, read_iri_ref, read_quoted,
+    unescape_iri, unescape_string,
 };
 use crate::text::Text;
 use std::alloc::{AllocError, AllocGlobal};
