@@ -3,8 +3,8 @@
 
     compare.py [--spq PATH] [--quads N,N..] [--runs N] [--workers N,N..] [--limit SECONDS] [--folder PATH]
 
-The peers of peers.py are taken where they are found. Each command runs so many times, the best time by
-the clock counts; rdflib, which is slow, runs once, and up to 100,000 quads alone. Queries are those of
+The peers of peers.py are taken where they are found. Each command runs so many times, and the least time
+counts; rdflib, which is slow, runs once, and up to 100,000 quads alone. Queries are those of
 queries.py, each from the bytes of the document to the JSON. All rows of a table are measured one after
 the other in one run: read the ratios, not the seconds.
 Python 3 standard library only.

@@ -18,7 +18,7 @@ COUNT_ROWS = "import json, sys; print(len(json.load(sys.stdin)['results']['bindi
 
 
 class Taken:
-    """What the best of some runs took: seconds by the clock, seconds of processors, peak memory in MiB."""
+    """What a command took: seconds by the clock, seconds of processors, peak memory in MiB."""
 
     def __init__(self, seconds, processor, peak):
         self.seconds, self.processor, self.peak = seconds, processor, peak
@@ -48,8 +48,9 @@ def run(command, document, output, limit):
 
 
 def best(command, document, output, runs=1, limit=600):
-    """The run that took the least time by the clock."""
-    return min((run(command, document, output, limit) for _ in range(runs)), key=lambda taken: taken.seconds)
+    """The least of what some runs took, of each measure by itself, and the highest peak."""
+    taken = [run(command, document, output, limit) for _ in range(runs)]
+    return Taken(min(one.seconds for one in taken), min(one.processor for one in taken), max(one.peak for one in taken))
 
 
 def rows(output):

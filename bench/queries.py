@@ -3,7 +3,7 @@
 
     queries.py [--spq PATH] [--quads N,N..] [--runs N] [--workers N] [--only WORD] [--folder PATH]
 
-Each query runs so many times on each dataset of datasets.py; the best time counts. What `SELECT * {}`
+Each query runs so many times on each dataset of datasets.py; the least time counts. What `SELECT * {}`
 takes on the same dataset, which loads it and answers one row, is taken away: the rest is the query and
 its output. The growth is that of the processors' seconds, which other work on the machine disturbs
 least: a query whose rows grow by ten should take about ten times as long.

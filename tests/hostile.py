@@ -347,8 +347,16 @@ def one_long_literal(n):
     return [b'<http://e/s> <http://e/p> "', *repeated(rb"\tab", 20 * n), b'" .\n']
 
 
-def growth(program):
+def expect_near_linear(name, empty, less, more):
     """Four times the input: at most eight times the seconds and the memory, over those of an empty document."""
+    for what, start, a, b, least in (
+        ("seconds", empty.seconds, less.seconds, more.seconds, 0.2),
+        ("MiB", empty.peak, less.peak, more.peak, 16),
+    ):
+        expect(b - start <= 8 * max(a - start, least), f"{name}: {a:.2f} and {b:.2f} {what}")
+
+
+def growth(program):
     empty = program.run(["check"], [b""])
     n = program.scaled(200_000)
     for made, line in (
@@ -360,11 +368,19 @@ def growth(program):
         more = program.run(["check"], made(4 * n))
         less.is_exactly(0, line(n))
         more.is_exactly(0, line(4 * n))
-        for name, start, a, b, least in (
-            ("seconds", empty.seconds, less.seconds, more.seconds, 0.2),
-            ("MiB", empty.peak, less.peak, more.peak, 16),
-        ):
-            expect(b - start <= 8 * max(a - start, least), f"{made.__name__}: {a:.2f} and {b:.2f} {name}")
+        expect_near_linear(made.__name__, empty, less, more)
+
+
+def terms_of_one_weak_hash(program):
+    """Terms to which hashes that sum up characters by powers of 31 give one value: no slower than others."""
+    n = program.scaled(100_000)
+    words = (b"".join(b"Aa" if k >> bit & 1 else b"BB" for bit in range(17)) for k in range(n))
+    chosen = program.run(["check"], (b"<http://e/%s> <http://e/p> <http://e/o> .\n" % word for word in words))
+    others = program.run(["check"], (b"<http://e/%034d> <http://e/p> <http://e/o> .\n" % k for k in range(n)))
+    chosen.is_exactly(0, counts(n, n + 2, 0))
+    others.is_exactly(0, counts(n, n + 2, 0))
+    slower = f"{chosen.seconds:.2f} seconds, {others.seconds:.2f} for other terms"
+    expect(chosen.seconds <= 8 * max(others.seconds, 0.2), slower)
 
 
 # ---- queries
@@ -388,6 +404,76 @@ def brackets(program):
         ("SELECT * { FILTER(" + "!" * 100_000 + "true) }", b"error: query syntax\n"),
     ):
         program.run(["select", "--query", query], [STATEMENT]).is_exactly(2, line)
+
+
+def chain(n):
+    """Statements s0 next s1, s1 next s2, ..; each with a size, each fourth with a note."""
+    for k in range(n):
+        yield b"<http://e/s%d> <http://e/next> <http://e/s%d> .\n" % (k, k + 1)
+        yield b'<http://e/s%d> <http://e/size> "%d" .\n' % (k, k % 1000)
+        if k % 4 == 0:
+            yield b'<http://e/s%d> <http://e/note> "n" <http://e/g%d> .\n' % (k, k % 100)
+
+
+def growing_answers(program):
+    """What is joined by a key, and what is looked at row by row, takes time and memory near its rows."""
+    empty = program.run(["check"], [b""])
+    n = program.scaled(40_000)
+    for query, rows in (
+        ("SELECT ?s { ?s e:next ?t . ?t e:next ?u . ?u e:size ?z }", lambda k: k - 2),
+        ("SELECT ?s { { ?s e:next ?t } { ?s e:size ?z } }", lambda k: k),
+        ("SELECT ?s { ?s e:next ?t OPTIONAL { ?t e:next ?u OPTIONAL { ?u e:next ?s } } }", lambda k: k),
+        ("SELECT ?s { ?s e:next ?t MINUS { ?s e:size '7' } }", lambda k: k - (k + 992) // 1000),
+        ("SELECT ?s { ?s e:next ?t GRAPH ?g { ?s e:note ?n } }", lambda k: (k + 3) // 4),
+        ("SELECT DISTINCT ?s { { ?s ?p ?o } UNION { ?r e:next ?s } }", lambda k: k + 1),
+        ("SELECT ?s { ?s e:next ?t BIND(STR(?t) AS ?x) FILTER(?x != '') }", lambda k: k),
+        ("SELECT ?s { VALUES (?s ?z) { (UNDEF '7') (UNDEF '8') } ?s e:size ?z }", lambda k: 2 * (k // 1000)),
+    ):
+        answers = []
+        for size in (n, 4 * n):
+            size -= size % 1000
+            answer = program.run(["select", "--query", "PREFIX e: <http://e/> " + query], chain(size))
+            found = answer.output.count(b'{"s":{')
+            expect(answer.status == 0, f"{query}: status {answer.status} and {answer.output[:200]!r}")
+            expect(found == rows(size), f"{query}: {found} rows over {size}, not {rows(size)}")
+            answers.append(answer)
+        expect_near_linear(query, empty, *answers)
+
+
+def many_graphs_in_turn(program):
+    """A group that is evaluated in one graph after the other: each starts a worker."""
+    graphs = program.scaled(50_000)
+    parts = (b"<http://e/s> <http://e/p> <http://e/o> <http://e/g%d> .\n" % n for n in range(graphs))
+    answer = program.run(["select", "--query", "SELECT ?g { GRAPH ?g { ?s ?p ?o } }"], parts)
+    expect(answer.status == 0, f"status {answer.status} and {answer.output[:200]!r}")
+    expect(answer.output.count(b'{"g":{') == graphs, "not a row for each graph")
+
+
+def long_lists(program):
+    """Queries of some hundred kilobytes that are long side by side, not one part behind the other."""
+    numbers = [b"%05d" % n for n in range(10_000)]
+    integers = [b'{"x":{"datatype":"http://www.w3.org/2001/XMLSchema#integer","type":"literal","value":"%s"}}' % n for n in numbers]
+    names = [b"v" + n for n in numbers]
+    prefixes = b" ".join(b"PREFIX p%d: <http://e/%d/>" % (n, n) for n in range(3000))
+    members = b", ".join(b"p%d:x" % n for n in range(3000))
+    for query, line in (
+        (b"SELECT ?x { VALUES ?x { %s } }" % b" ".join(numbers), results([b"x"], integers)),
+        (b"SELECT * { FILTER(9999 IN (%s)) }" % b", ".join(numbers), NO_NAMES),
+        (b"SELECT %s {}" % b" ".join(b"?" + name for name in names), results(names, [b"{}"])),
+        (b"SELECT %s {}" % b" ".join([b"?x"] * 40_000), results([b"x"], [b"{}"])),
+        (prefixes + b" SELECT * { FILTER(p2999:x IN (%s)) }" % members, NO_NAMES),
+        (b"SELECT ?p { ?s ?p %s }" % b", ".join([b"[]"] * 10_000), results([b"p"], [b'{"p":{"type":"uri","value":"http://e/p"}}'])),
+    ):
+        try:
+            program.run(["select", "--query", query], [STATEMENT]).is_exactly(0, line)
+        except Failed as fault:
+            raise Failed(f"{query[:60]!r}: {fault}") from None
+
+
+def results(names, rows):
+    """The results in JSON, of names and rows as they are printed."""
+    names = b",".join(b'"%s"' % name for name in names)
+    return b'{"head":{"vars":[%s]},"results":{"bindings":[%s]}}\n' % (names, b",".join(rows))
 
 
 def a_query_before_a_bad_document(program):
@@ -428,8 +514,8 @@ CASES = [
     a_long_literal, a_long_literal_of_escapes, a_long_iri_and_label_and_tag, a_label_of_dots, many_empty_lines,
     many_lone_returns, one_statement_many_times, many_graphs, many_workers_over_many_pieces,
     the_least_of_many_bad_lines, a_full_output, a_reader_that_closes_early, a_closed_output,
-    an_input_that_fails, little_memory, few_processes, wrong_words, growth, brackets,
-    a_query_before_a_bad_document, long_queries,
+    an_input_that_fails, little_memory, few_processes, wrong_words, growth, terms_of_one_weak_hash, brackets,
+    growing_answers, many_graphs_in_turn, long_lists, a_query_before_a_bad_document, long_queries,
 ]
 
 
