@@ -5,7 +5,7 @@ use rdf_core::Term;
 use rdf_core::vocabulary::RDF_LANG_STRING;
 use std::alloc::{AllocError, AllocGlobal, Global};
 
-type Built = Result<Expr, AllocError>;
+type Built = Result<Box<Expr>, AllocError>;
 
 /// A row of one variable.
 #[derive(Drop)]
@@ -29,48 +29,50 @@ impl Lookup for Row {
     }
 }
 
-fn constant(alloc: Global, form: (&str, &str)) -> Built {
-    Ok(Expr::Constant(term(alloc, form)?))
+fn boxed(alloc: Global, expr: Expr) -> Built {
+    Ok(Box::new(alloc, expr)?)
 }
 
-fn boxed(alloc: Global, left: Built, right: Built) -> Result<(Box<Expr>, Box<Expr>), AllocError> {
-    let left = Box::new(alloc, left?)?;
-    let right = Box::new(alloc, right?)?;
-    Ok((left, right))
+fn constant(alloc: Global, form: (&str, &str)) -> Built {
+    boxed(alloc, Expr::Constant(term(alloc, form)?))
+}
+
+fn variable(alloc: Global, number: usize) -> Built {
+    boxed(alloc, Expr::Variable(number))
 }
 
 fn or(alloc: Global, left: Built, right: Built) -> Built {
-    let (left, right) = boxed(alloc, left, right)?;
-    Ok(Expr::Or { left, right })
+    let (left, right) = (left?, right?);
+    boxed(alloc, Expr::Or { left, right })
 }
 
 fn and(alloc: Global, left: Built, right: Built) -> Built {
-    let (left, right) = boxed(alloc, left, right)?;
-    Ok(Expr::And { left, right })
+    let (left, right) = (left?, right?);
+    boxed(alloc, Expr::And { left, right })
 }
 
 fn same(alloc: Global, left: Built, right: Built) -> Built {
-    let (left, right) = boxed(alloc, left, right)?;
-    Ok(Expr::SameTerm { left, right })
+    let (left, right) = (left?, right?);
+    boxed(alloc, Expr::SameTerm { left, right })
 }
 
 fn not(alloc: Global, inner: Built) -> Built {
-    Ok(Expr::Not(Box::new(alloc, inner?)?))
+    boxed(alloc, Expr::Not(inner?))
 }
 
 /// The function of the row's variable.
 fn called(alloc: Global, function: Function) -> Built {
-    let argument = Box::new(alloc, Expr::Variable(0))?;
-    Ok(Expr::Call { function, argument })
+    let argument = variable(alloc, 0)?;
+    boxed(alloc, Expr::Call { function, argument })
 }
 
 /// `item IN (first, second)`
 fn among(alloc: Global, item: Built, first: Built, second: Built) -> Built {
     let mut list = Vec::new(alloc);
-    list.push(first?)?;
-    list.push(second?)?;
-    let item = Box::new(alloc, item?)?;
-    Ok(Expr::In { item, list })
+    list.push(Box::into_inner(first?))?;
+    list.push(Box::into_inner(second?))?;
+    let item = item?;
+    boxed(alloc, Expr::In { item, list })
 }
 
 fn row_of(alloc: Global, bound: Option<(&str, &str)>) -> Result<Row, AllocError> {
@@ -120,7 +122,7 @@ fn shown(truth: Option<bool>) -> Option<(&'static str, &'static str)> {
 fn side(alloc: Global, truth: Option<bool>) -> Built {
     match shown(truth) {
         Some(form) => constant(alloc, form),
-        None => Ok(Expr::Variable(0)),
+        None => variable(alloc, 0),
     }
 }
 
@@ -156,9 +158,9 @@ fn logic_has_three_values(rt: HostRuntime) -> Result<(), AllocError> {
 fn a_variable_is_its_term(rt: HostRuntime) -> Result<(), AllocError> {
     let alloc = rt.alloc();
     let one = Some(("01", "integer"));
-    assert!(rt; gives(alloc, Ok(Expr::Variable(0)), one, one)?);
-    assert!(rt; gives(alloc, Ok(Expr::Variable(1)), one, None)?);
-    let either = or(alloc, Ok(Expr::Variable(0)), side(alloc, NO));
+    assert!(rt; gives(alloc, variable(alloc, 0), one, one)?);
+    assert!(rt; gives(alloc, variable(alloc, 1), one, None)?);
+    let either = or(alloc, variable(alloc, 0), side(alloc, NO));
     assert!(rt; gives(alloc, either, one, shown(YES))?);
     Ok(())
 }
@@ -167,10 +169,10 @@ fn a_variable_is_its_term(rt: HostRuntime) -> Result<(), AllocError> {
 #[test]
 fn of_an_open_variable_bound_alone_is_no_error(rt: HostRuntime) -> Result<(), AllocError> {
     let alloc = rt.alloc();
-    let both = and(alloc, Ok(Expr::Bound(0)), Ok(Expr::Variable(0)));
+    let both = and(alloc, boxed(alloc, Expr::Bound(0)), variable(alloc, 0));
     assert!(rt; gives(alloc, both, None, shown(NO))?);
     assert!(rt; gives(alloc, called(alloc, Function::IsIri), None, None)?);
-    let same = same(alloc, Ok(Expr::Variable(0)), Ok(Expr::Variable(0)));
+    let same = same(alloc, variable(alloc, 0), variable(alloc, 0));
     assert!(rt; gives(alloc, same, None, None)?);
     Ok(())
 }
@@ -190,7 +192,7 @@ fn same_term_is_no_comparison_by_value(rt: HostRuntime) -> Result<(), AllocError
 fn within(alloc: Global) -> Built {
     let two = constant(alloc, ("2", "integer"));
     let one = constant(alloc, ("1.0", "decimal"));
-    among(alloc, Ok(Expr::Variable(0)), two, one)
+    among(alloc, variable(alloc, 0), two, one)
 }
 
 /// Over 01, a number of 40 digits, a text and a double: IN takes the first, NOT IN the second.
@@ -221,7 +223,7 @@ fn an_error_hides_no_member(rt: HostRuntime) -> Result<(), AllocError> {
     for (form, expected) in [("1", YES), ("2", None)] {
         let one = constant(alloc, ("1", "integer"));
         let other = constant(alloc, (form, "integer"));
-        let found = among(alloc, one, Ok(Expr::Variable(0)), other);
+        let found = among(alloc, one, variable(alloc, 0), other);
         assert!(rt; gives(alloc, found, None, shown(expected))?);
     }
     Ok(())
@@ -229,11 +231,9 @@ fn an_error_hides_no_member(rt: HostRuntime) -> Result<(), AllocError> {
 
 /// `?x IN ()`
 fn in_nothing(alloc: Global) -> Built {
-    let item = Box::new(alloc, Expr::Variable(0))?;
-    Ok(Expr::In {
-        item,
-        list: Vec::new(alloc),
-    })
+    let item = variable(alloc, 0)?;
+    let list = Vec::new(alloc);
+    boxed(alloc, Expr::In { item, list })
 }
 
 #[test]

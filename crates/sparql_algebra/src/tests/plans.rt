@@ -82,7 +82,7 @@ fn names(alloc: Global, list: &[&str]) -> Result<Vec<Text>, AllocError> {
 }
 
 /// The plan of `SELECT *` of a group whose text mentions these variables.
-fn planned(alloc: Global, group: Elements, mentioned: &[&str]) -> Result<Plan, AllocError> {
+fn planned(alloc: Global, group: Elements, mentioned: &[&str]) -> Result<Box<Plan>, AllocError> {
     let group = group?;
     let query = Query {
         distinct: false,
@@ -92,7 +92,11 @@ fn planned(alloc: Global, group: Elements, mentioned: &[&str]) -> Result<Plan, A
         offset: None,
         mentioned: names(alloc, mentioned)?,
     };
-    translate(alloc, &query)
+    plan_of(alloc, &query)
+}
+
+fn plan_of(alloc: Global, query: &Query) -> Result<Box<Plan>, AllocError> {
+    Ok(Box::new(alloc, translate(alloc, query)?)?)
 }
 
 /// The operator below a Project on top.
@@ -208,7 +212,7 @@ fn listed_variables_count_once(rt: HostRuntime) -> Result<(), AllocError> {
         offset: None,
         mentioned: names(alloc, &["?b", "?a", "?b"])?,
     };
-    let plan = translate(alloc, &query)?;
+    let plan = plan_of(alloc, &query)?;
     assert!(rt; plan.names.len() == 2 && plan.projected() == [0, 1].as_slice());
     assert!(rt; matches!(&plan.tree, Operator::Distinct { .. }));
     Ok(())
