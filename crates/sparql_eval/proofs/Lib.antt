@@ -11,4 +11,3 @@ mod GraphSteps
 mod NamedSteps
 mod TreeSteps
 mod EvaluateSteps
-mod TestSteps
