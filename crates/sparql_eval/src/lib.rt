@@ -19,6 +19,7 @@
 //! ```text
 //! { ?s p ?o OPTIONAL { ?o p ?z } }  over  x p y, y p z  =  (?s: x, ?o: y, ?z: z), (?s: y, ?o: z)
 //! ```
+//! The test `a_filter_in_optional_sees_the_left_row` runs one like it.
 //!
 //! Not promised: the order of the rows, and which numbers computed terms get.
 #![tactic(auto)]
@@ -36,6 +37,8 @@ mod patterns;
 mod projections;
 mod reading;
 mod tables;
+#[cfg(test)]
+mod tests;
 mod unions;
 mod values;
 
