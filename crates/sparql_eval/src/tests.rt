@@ -58,7 +58,8 @@ fn add_pair(dict: &Dict, rows: &mut Rows, pair: [Option<u64>; 2]) -> Result<(), 
 {
     let first = known_cell(dict, pair[0]);
     let second = known_cell(dict, pair[1]);
-    rows.push(&[first, second])
+    rows.push(&[first, second])?;
+    Ok(())
 }
 
 /// Rows of two variables, of numbers that the dictionary has.

@@ -3,7 +3,7 @@ ghost use Rattle.std.specs.Prelude.{◌≤◌};
 ghost use Rattle.row_pieces.specs.How.{IsRunnable};
 
 use super::{dict_of, iri, rows_of, text_of, told};
-use crate::{distinct, extend, filter, join, left_join, minus};
+use crate::{distinct, extend, filter, join, left_join, minus, project, union};
 use piece_pool::OpenGate;
 use plain_eval::{Condition, Solution, Value};
 use rdf_core::Term;
@@ -107,7 +107,7 @@ fn plain_of(alloc: Global, pairs: &[[Option<u64>; 2]]) -> Result<Vec<Solution>, 
 }
 
 /// Solutions as lines, sorted.
-fn told_plain(alloc: Global, solutions: &[Solution]) -> Result<Vec<String>, AllocError> {
+pub(crate) fn told_plain(alloc: Global, solutions: &[Solution]) -> Result<Vec<String>, AllocError> {
     let mut lines = Vec::new(alloc);
     for solution in solutions {
         let mut line = String::new(alloc);
@@ -150,7 +150,9 @@ fn answer<R: RandomSource + Threads + Wait>(
         2 => minus(rt, alloc, state, dict, &rows, &others, how, gate)?,
         3 => filter(rt, alloc, dict, &rows, &bound, how, gate)?,
         4 => extend(rt, alloc, dict, &rows, 1, &first, how, gate)?,
-        _ => distinct(alloc, state, dict, &rows)?,
+        5 => distinct(alloc, state, dict, &rows)?,
+        6 => union(alloc, dict, &rows, &others)?,
+        _ => project(alloc, dict, &rows, &[1])?,
     };
     Ok(told(alloc, &dict, &made)?)
 }
@@ -170,7 +172,9 @@ fn plain_answer(
         2 => plain_eval::minus(alloc, &left, &right)?,
         3 => plain_eval::filter(alloc, &SecondIsBound {}, &left)?,
         4 => plain_eval::extend(alloc, 1, &First {}, &left)?,
-        _ => plain_eval::distinct(alloc, &left)?,
+        5 => plain_eval::distinct(alloc, &left)?,
+        6 => plain_eval::union(alloc, &left, &right)?,
+        _ => plain_eval::project(alloc, &[1], &left)?,
     };
     told_plain(alloc, &made)
 }
@@ -191,7 +195,7 @@ fn operators_agree_with_the_plain_ones(rt: HostRuntime) -> Result<(), EvalFault>
     for round in 0..20u32 {
         let left = draws.pairs(alloc)?;
         let right = draws.pairs(alloc)?;
-        for operator in 0..6u8 {
+        for operator in 0..8u8 {
             let plain = plain_answer(alloc, operator, &left, &right)?;
             let made = answer(&rt, alloc, operator, &left, &right, &cut)?;
             assert!(rt; made == plain, "operator {operator}, round {round}");

@@ -2,6 +2,7 @@
 ghost use Rattle.std.specs.Prelude.{◌≤◌, length, IfOk};
 ghost use Rattle.dict_core.specs.NumQuad.{AreBelow};
 
+use super::comparing::told_plain;
 use super::{are, iri, text, told};
 use crate::{evaluate, graph};
 use dict_core::{Dict, merge, number_piece};
@@ -146,7 +147,20 @@ fn has<R: RandomSource + Threads + Wait>(
     Ok(are(lines.as_slice(), expected))
 }
 
-/// Whether it has them by one worker and by several, in one piece and row by row.
+/// Whether the plain evaluation of the query has these solutions.
+fn has_plainly(alloc: Global, query: &Query, expected: &[&str]) -> Result<bool, EvalFault> {
+    let Ok(piece) = read_piece(alloc, DOCUMENT.as_bytes()) else {
+        return Err(EvalFault::Memory);
+    };
+    let plan = translate(alloc, query)?;
+    let width = plan.names.len();
+    let solutions = plain_eval::evaluate(alloc, width, &piece.quads, &None, &plan.tree)?;
+    let lines = told_plain(alloc, &solutions)?;
+    Ok(are(lines.as_slice(), expected))
+}
+
+/// Whether it has them, and the plain evaluation too, by one worker and by several, in one piece and
+/// row by row.
 fn always_has<R: RandomSource + Threads + Wait>(
     rt: &R,
     alloc: Global,
@@ -154,7 +168,8 @@ fn always_has<R: RandomSource + Threads + Wait>(
     expected: &[&str],
 ) -> Result<bool, EvalFault> {
     Ok(
-        has(rt, alloc, query, expected, 1, 1)?
+        has_plainly(alloc, query, expected)?
+            && has(rt, alloc, query, expected, 1, 1)?
             && has(rt, alloc, query, expected, 2, 1)?
             && has(rt, alloc, query, expected, 8, 1)?
             && has(rt, alloc, query, expected, 1, 1024)?
