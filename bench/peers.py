@@ -4,7 +4,6 @@ Parsing: serdi (prints what it reads again), rapper and riot (count), rdflib (lo
 plain_reader.rs. Queries: arq of Apache Jena, and rdflib.
 Python 3 standard library only.
 """
-import glob
 import os
 import shutil
 import subprocess
@@ -76,7 +75,8 @@ def jena_messages(folder):
 
 
 def python_with_rdflib():
-    for python in (sys.executable, *sorted(glob.glob("/usr/bin/python3"))):
-        if subprocess.run([python, "-c", "import rdflib"], capture_output=True).returncode == 0:
+    """This Python, or the system's, whichever knows rdflib."""
+    for python in (sys.executable, "/usr/bin/python3"):
+        if os.path.exists(python) and subprocess.run([python, "-c", "import rdflib"], capture_output=True).returncode == 0:
             return python
     return None

@@ -19,7 +19,7 @@ import measure
 
 PREFIX = "PREFIX l: <http://library.example/terms#> "
 
-# These take time near their input and output.
+# These take time near their input and output; the last is computing more than anything else.
 QUERIES = {
     "one triple": "SELECT ?w ?t { ?w l:title ?t }",
     "star of five": "SELECT ?w ?t ?i ?p ?c { ?w a l:Book ; l:title ?t ; l:issued ?i ; l:price ?p ; l:creator ?c }",
@@ -33,6 +33,7 @@ QUERIES = {
     "filter, graphs": "SELECT ?g ?w ?p { ?w l:price ?p FILTER(?p > 890) GRAPH ?g { ?c l:of ?w } }",
     "values, in": "SELECT ?w ?t { VALUES ?k { l:Map l:Score } ?w a ?k ; l:issued ?i ; l:title ?t FILTER(?i IN (1900, 1901)) }",
     "bind": "SELECT ?x { ?w l:title ?t BIND(STR(?w) AS ?x) }",
+    "long filter": "SELECT ?w { ?w l:price ?p FILTER(?p IN (%s)) }" % ", ".join(f"{n}.0" for n in range(1, 100)),
 }
 
 # Their answers, or the pairs that a condition has to look at, grow with the square of the dataset.
