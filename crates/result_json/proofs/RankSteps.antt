@@ -1,5 +1,5 @@
 -- The table of ranks, and what its ranks stand for.
-use Rattle.std.proofs.Common.{◌≡◌, ◌≢◌, ◌⊎◌, ◌++◌, take, Bool, not, ℕ, zero, suc, ◌+◌, ◌<◌, ◌≤◌, true, false, List, [], ◌∷◌, length, get_or, map, set, slice_get, Option, None, Some, option_map, Bor, Contains, IsSorted, IsSortedBy, IsPermutation, All, refl, sym, ap, ◌∙◌, subst, arith, ⊎_elim, Ordering, Less, Equal, Greater, is_lt, nat_cmp}
+use Rattle.std.proofs.Common.{◌≡◌, ◌≢◌, ◌⊎◌, ◌++◌, take, Bool, ℕ, suc, ◌+◌, ◌<◌, ◌≤◌, true, false, List, [], ◌∷◌, length, get_or, map, set, slice_get, Some, option_map, Bor, Contains, IsSorted, IsSortedBy, IsPermutation, All, refl, sym, ap, ◌∙◌, subst, arith, ⊎_elim, Ordering, Less, Equal, Greater, is_lt, nat_cmp}
 use Rattle.std.specs.Ordering.{ordering_then}
 use Rattle.std.proofs.lemmas.Bool.{cases_eq, cases_lt}
 use Rattle.std.proofs.lemmas.List.{get_or-map, length-map, length-append, length-set, map-append, get_or_append_left, get_or_push, get_or-set_same, get_or-set_other, get_or_past, get_or_default}
@@ -47,7 +47,7 @@ then_less Greater b e = refl
 
 -- C is the order by which terms are compared in code
 module _ (C : Term → Term → Ordering) (is : (x y : Term) → C x y ≡ term_cmp x y) where
-  abbrev pub is_entry_less : Entry → Entry → Rattle.std.proofs.Common.Bool
+  abbrev pub is_entry_less : Entry → Entry → Bool
   is_entry_less x y = is_lt (ordering_then (C x.0.now y.0.now) (nat_cmp x.1 y.1))
 
   pub terms_rise : (entries : List Entry) → IsSortedBy is_entry_less entries → IsSorted term_cmp (terms_of entries)

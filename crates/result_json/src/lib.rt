@@ -13,7 +13,8 @@
 //! and each name is printed once by the JSON library, and rows are put together by appends.
 //!
 //! To read in this order: `printing`, `coding` (cells as numbers), `ranking` (numbers as ranks),
-//! `ranked_row` and `row_order`, `values` (terms and texts by the JSON library), `term_texts`, `columns`, `results`.
+//! `ranked_row` and `row_order` (rows in order), `values` (terms and texts by the JSON library),
+//! `term_texts` (each printed once), `columns`, `results` (the whole).
 //!
 //! Example: one variable `o` and the rows `"x"` and `<http://e/a>` give
 //! `{"head":{"vars":["o"]},"results":{"bindings":[{"o":{"type":"uri","value":"http://e/a"}},{"o":{"type":"literal","value":"x"}}]}}`

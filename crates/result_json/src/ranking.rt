@@ -78,7 +78,7 @@ fn put_ranks(codes: &mut [u64], table: &[u64])
 /// terms, rising, each with its number: a rank is the place of the term plus one.
 ///
 /// # Errors
-/// `AllocError`: a growth was refused. The codes are as they were.
+/// `AllocError`: a growth was refused.
 pub(crate) fn rank<'a>(
     alloc: Global,
     codes: &mut [u64],

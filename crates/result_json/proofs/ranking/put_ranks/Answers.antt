@@ -1,4 +1,4 @@
-use Rattle.std.proofs.Common.{◌≡◌, ◌∙◌, ap, get_or, set, ℕ}
+use Rattle.std.proofs.Common.{◌∙◌, ap, get_or, set, ℕ}
 use Rattle.result_json.proofs.SliceLaws.{upto, upto-more}
 use Rattle.result_json.proofs.ranking.put_ranks.Goals as goal
 

@@ -1,4 +1,4 @@
-use Rattle.std.proofs.Common.{◌≡◌, ◌<◌, ◌++◌, ◌∙◌, ℕ, List, [], ◌∷◌, Option, None, Some, length, sym, subst}
+use Rattle.std.proofs.Common.{◌<◌, ◌∙◌, ℕ, [], ◌∷◌, Option, None, Some, length, sym, subst}
 use Rattle.algebra_model.specs.Reading.{Each, EachBound}
 use Rattle.algebra_model.proofs.RangeLaws.{Each-append}
 use Rattle.result_json.proofs.tests.rows_of.Goals as goal
