@@ -15,10 +15,10 @@ added names p (Triples ts) =
 added names p (Filter e) = record {
   before = p.before;
   triples = p.triples;
-  filters = joined_filters p.filters (expression_of e);
+  filters = joined_filters p.filters (expression_of e.value);
 }
 added names p (Optional o e) =
-    behind p (algebra.LeftJoin (closed names p) (algebra_of o) (expression_of e))
-added names p (Minus o) = behind p (algebra.Minus (closed names p) (algebra_of o))
-added names p (Extend v e) = behind p (algebra.Extend v (expression_of e) (closed names p))
-added names p (Join o) = behind p (algebra.Join (closed names p) (algebra_of o))
+    behind p (algebra.LeftJoin (closed names p) (algebra_of o.value) (expression_of e.value))
+added names p (Minus o) = behind p (algebra.Minus (closed names p) (algebra_of o.value))
+added names p (Extend v e) = behind p (algebra.Extend v (expression_of e.value) (closed names p))
+added names p (Join o) = behind p (algebra.Join (closed names p) (algebra_of o.value))

@@ -8,7 +8,7 @@ use Rattle.sparql_algebra.specs.declared.part.Part.{Part}
 
 abbrev pub part_of : Part → translation.Part
 part_of p = record {
-  before = algebra_of p.before;
+  before = algebra_of p.before.value;
   triples = map (λ t. t.now) p.triples.items;
-  filters = option_map expression_of p.filters;
+  filters = option_map (λ e. expression_of e.value) p.filters;
 }

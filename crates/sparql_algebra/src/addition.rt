@@ -19,15 +19,15 @@ use std::alloc::{AllocError, Global};
 #[derive(Drop)]
 pub enum Addition<'a> {
     Triples(&'a [Triple]),
-    Filter(Expr),
+    Filter(Box<Expr>),
     /// The right side of an OPTIONAL, and its condition.
-    Optional(Operator, Expr),
+    Optional(Box<Operator>, Box<Expr>),
     /// The right side of a MINUS.
-    Minus(Operator),
+    Minus(Box<Operator>),
     /// The variable of a BIND by its number, and its expression.
-    Extend(usize, Expr),
+    Extend(usize, Box<Expr>),
     /// What is joined: of every other element.
-    Join(Operator),
+    Join(Box<Operator>),
 }
 
 /// The group with what the element adds.
@@ -59,10 +59,10 @@ fn with_join<'a>(
     alloc: Global,
     names: &Names,
     part: Part<'a>,
-    right: Operator,
+    right: Box<Operator>,
 ) -> Result<Part<'a>, AllocError>
     ensures part { IfOk result (λ made. part_of made
-        ≡ behind (part_of part.entry) (Join (closed names.now (part_of part.entry)) (algebra_of right))) }
+        ≡ behind (part_of part.entry) (Join (closed names.now (part_of part.entry)) (algebra_of right.value))) }
 {
     let (left, filters) = part.close(alloc, names)?;
     Ok(Part::behind(alloc, making::join(alloc, left, right)?, filters))
@@ -72,11 +72,11 @@ fn with_optional<'a>(
     alloc: Global,
     names: &Names,
     part: Part<'a>,
-    right: Operator,
-    condition: Expr,
+    right: Box<Operator>,
+    condition: Box<Expr>,
 ) -> Result<Part<'a>, AllocError>
     ensures part { IfOk result (λ made. part_of made ≡ behind (part_of part.entry)
-        (LeftJoin (closed names.now (part_of part.entry)) (algebra_of right) (expression_of condition))) }
+        (LeftJoin (closed names.now (part_of part.entry)) (algebra_of right.value) (expression_of condition.value))) }
 {
     let (left, filters) = part.close(alloc, names)?;
     let made = making::left_join(alloc, left, right, condition)?;
@@ -87,10 +87,10 @@ fn with_minus<'a>(
     alloc: Global,
     names: &Names,
     part: Part<'a>,
-    right: Operator,
+    right: Box<Operator>,
 ) -> Result<Part<'a>, AllocError>
     ensures part { IfOk result (λ made. part_of made
-        ≡ behind (part_of part.entry) (Minus (closed names.now (part_of part.entry)) (algebra_of right))) }
+        ≡ behind (part_of part.entry) (Minus (closed names.now (part_of part.entry)) (algebra_of right.value))) }
 {
     let (left, filters) = part.close(alloc, names)?;
     Ok(Part::behind(alloc, making::minus(alloc, left, right)?, filters))
@@ -101,10 +101,10 @@ fn with_extend<'a>(
     names: &Names,
     part: Part<'a>,
     variable: usize,
-    value: Expr,
+    value: Box<Expr>,
 ) -> Result<Part<'a>, AllocError>
     ensures part { IfOk result (λ made. part_of made ≡ behind (part_of part.entry)
-        (Extend variable (expression_of value) (closed names.now (part_of part.entry)))) }
+        (Extend variable (expression_of value.value) (closed names.now (part_of part.entry)))) }
 {
     let (inner, filters) = part.close(alloc, names)?;
     Ok(Part::behind(

@@ -9,12 +9,8 @@ use crate::names::Names;
 use sparql_tree::Expression;
 use std::alloc::{AllocError, Global};
 
-/// The expression with each variable by its number. Its terms are copied.
-///
-/// # Errors
-/// `AllocError`: a growth was refused.
 #[cycle(conversion)]
-pub fn convert(alloc: Global, names: &Names, tree: &Expression) -> Result<Expr, AllocError>
+fn convert(alloc: Global, names: &Names, tree: &Expression) -> Result<Expr, AllocError>
     ensures expression { IfOk result
         (λ expr. expression_of expr ≡ translate_expression names.now (tree_of tree.now)) }
 {
@@ -52,8 +48,16 @@ pub fn convert(alloc: Global, names: &Names, tree: &Expression) -> Result<Expr, 
     }
 }
 
+/// The expression with each variable by its number. Its terms are copied.
+///
+/// # Errors
+/// `AllocError`: a growth was refused.
 #[cycle(conversion)]
-fn convert_boxed(alloc: Global, names: &Names, tree: &Expression) -> Result<Box<Expr>, AllocError>
+pub fn convert_boxed(
+    alloc: Global,
+    names: &Names,
+    tree: &Expression,
+) -> Result<Box<Expr>, AllocError>
     ensures expression { IfOk result
         (λ expr. expression_of expr.value ≡ translate_expression names.now (tree_of tree.now)) }
 {

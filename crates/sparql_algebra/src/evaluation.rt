@@ -2,9 +2,10 @@
 ghost use Rattle.std.specs.Prelude.{◌≡◌, IfOk, None, Some, map, option_map};
 ghost use Rattle.rdf_core.proofs.TermLaws.{term_eq};
 ghost use Rattle.algebra_model.specs.BooleanValue.{logical_and, logical_not, logical_or};
+ghost use Rattle.algebra_model.specs.Call.{call_value};
 ghost use Rattle.algebra_model.specs.Comparison.{compares};
-ghost use Rattle.algebra_model.specs.Expression.{holds, truth_of, val, with_values};
-ghost use Rattle.sparql_algebra.specs.ExpressionOf.{comparison_of, expression_of};
+ghost use Rattle.algebra_model.specs.Expression.{boolean_result, holds, truth_of, val, with_value, with_values};
+ghost use Rattle.sparql_algebra.specs.ExpressionOf.{comparison_of, expression_of, function_of};
 ghost use Rattle.sparql_algebra.specs.MemberTruth.{member_truth};
 ghost use Rattle.sparql_algebra.specs.HeldTerm.{held_term, value_term};
 
@@ -13,7 +14,7 @@ use crate::expression::Expr;
 use crate::held::{Held, Value, boolean_value, call};
 use crate::lookup::Lookup;
 use rdf_core::Term;
-use sparql_tree::Comparison;
+use sparql_tree::{Comparison, Function};
 use std::alloc::{AllocError, Global};
 
 /// Why an expression has no value.
@@ -96,22 +97,17 @@ fn evaluate<'a, R: Lookup>(
             right,
         } => {
             let left = evaluate_held(alloc, left, row)?;
-            let right = evaluate_held(alloc, right, row)?;
-            Ok(boolean_value(compare_values(*operator, &left, &right)))
+            evaluate_comparison(alloc, *operator, &left, right, row)
         }
         Expr::In { item, list } => {
             let item = evaluate_held(alloc, item, row)?;
             Ok(boolean_value(evaluate_member(alloc, &item, list, row)?))
         }
-        Expr::Call { function, argument } => match evaluate_held(alloc, argument, row)? {
-            Some(term) => call(alloc, *function, term.as_term()),
-            None => Ok(None),
-        },
+        Expr::Call { function, argument } => evaluate_call(alloc, *function, argument, row),
         Expr::Bound(variable) => Ok(Some(Value::Truth(row.get(*variable).is_some()))),
         Expr::SameTerm { left, right } => {
             let left = evaluate_held(alloc, left, row)?;
-            let right = evaluate_held(alloc, right, row)?;
-            Ok(boolean_value(same_values(&left, &right)))
+            evaluate_same_term(alloc, &left, right, row)
         }
     }
 }
@@ -204,6 +200,56 @@ fn evaluate_and<R: Lookup>(
             Some(false) => Ok(Some(false)),
             Some(true) | None => Ok(None),
         },
+    }
+}
+
+/// The comparison of a value that is there with one to the right.
+#[cycle(evaluate)]
+fn evaluate_comparison<'a, R: Lookup>(
+    alloc: Global,
+    operator: Comparison,
+    left: &Option<Held>,
+    right: &Expr,
+    row: &R,
+) -> Result<Option<Value<'a>>, AllocError>
+    ensures value { IfOk result (λ value. option_map value_term value ≡ boolean_result
+        (with_values (option_map held_term left.now) (val (expression_of right.now) (R.solution row.now))
+        (compares (comparison_of operator)))) }
+{
+    let right = evaluate_held(alloc, right, row)?;
+    Ok(boolean_value(compare_values(operator, left, &right)))
+}
+
+/// Whether a value that is there and one to the right are the same term.
+#[cycle(evaluate)]
+fn evaluate_same_term<'a, R: Lookup>(
+    alloc: Global,
+    left: &Option<Held>,
+    right: &Expr,
+    row: &R,
+) -> Result<Option<Value<'a>>, AllocError>
+    ensures value { IfOk result (λ value. option_map value_term value ≡ boolean_result
+        (with_values (option_map held_term left.now) (val (expression_of right.now) (R.solution row.now))
+        (λ s t. Some (term_eq s t)))) }
+{
+    let right = evaluate_held(alloc, right, row)?;
+    Ok(boolean_value(same_values(left, &right)))
+}
+
+/// The call of a function on the argument's value.
+#[cycle(evaluate)]
+fn evaluate_call<'a, R: Lookup>(
+    alloc: Global,
+    function: Function,
+    argument: &Expr,
+    row: &R,
+) -> Result<Option<Value<'a>>, AllocError>
+    ensures value { IfOk result (λ value. option_map value_term value
+        ≡ with_value (val (expression_of argument.now) (R.solution row.now)) (call_value (function_of function))) }
+{
+    match evaluate_held(alloc, argument, row)? {
+        Some(term) => call(alloc, function, term.as_term()),
+        None => Ok(None),
     }
 }
 

@@ -7,7 +7,7 @@ ghost use Rattle.sparql_algebra.specs.PartOf.{part_of};
 ghost use Rattle.sparql_algebra.specs.Translation.{Part as GroupPart, add_element, group_part, translate_graph_name, translate_group, translate_side};
 
 use crate::addition::{Addition, with_addition};
-use crate::conversion::convert;
+use crate::conversion::convert_boxed;
 use crate::making;
 use crate::names::Names;
 use crate::operator::{self, Operator};
@@ -26,9 +26,9 @@ pub fn convert_group(
     alloc: Global,
     names: &Names,
     group: &[Element],
-) -> Result<Operator, AllocError>
+) -> Result<Box<Operator>, AllocError>
     ensures operator { IfOk result
-        (λ made. algebra_of made ≡ translate_group names.now (group_of group.now)) }
+        (λ made. algebra_of made.value ≡ translate_group names.now (group_of group.now)) }
 {
     read_group(alloc, names, group)?.finish(alloc, names)
 }
@@ -42,7 +42,7 @@ fn read_group<'a>(
     ensures part { IfOk result
         (λ part. part_of part ≡ group_part names.now (group_of group.entry.now)) }
 {
-    let mut part = Part::new(alloc);
+    let mut part = Part::new(alloc)?;
     for element in group {
         let addition = read_element(alloc, names, element)?;
         part = with_addition(alloc, names, part, addition)?;
@@ -62,10 +62,10 @@ fn read_element<'a>(
 {
     match element {
         Element::Triples(triples) => Ok(Addition::Triples(triples)),
-        Element::Filter(filter) => Ok(Addition::Filter(convert(alloc, names, filter)?)),
+        Element::Filter(filter) => Ok(Addition::Filter(convert_boxed(alloc, names, filter)?)),
         Element::Bind(value, variable) => Ok(Addition::Extend(
             names.number(variable),
-            convert(alloc, names, value)?,
+            convert_boxed(alloc, names, value)?,
         )),
         Element::Optional(group) => {
             let (right, condition) = read_group(alloc, names, group)?.split(alloc, names)?;
@@ -91,9 +91,9 @@ fn read_element<'a>(
 
 /// A side of a UNION, which is a group or a UNION itself.
 #[cycle(group)]
-fn convert_side(alloc: Global, names: &Names, side: &Element) -> Result<Operator, AllocError>
+fn convert_side(alloc: Global, names: &Names, side: &Element) -> Result<Box<Operator>, AllocError>
     ensures operator { IfOk result
-        (λ made. algebra_of made ≡ translate_side names.now (element_of side.now)) }
+        (λ made. algebra_of made.value ≡ translate_side names.now (element_of side.now)) }
 {
     match side {
         Element::Group(group) => convert_group(alloc, names, group),
@@ -108,7 +108,7 @@ fn convert_side(alloc: Global, names: &Names, side: &Element) -> Result<Operator
         | Element::Graph(_, _)
         | Element::Filter(_)
         | Element::Bind(_, _)
-        | Element::Values(_, _) => Ok(making::empty_pattern(alloc)),
+        | Element::Values(_, _) => making::empty_pattern(alloc),
     }
 }
 

@@ -1,4 +1,4 @@
-//! Operators over inputs, each with its box.
+//! Operators over inputs, each in a box of its own: what owns a tree on the way owns a box.
 ghost use Rattle.std.specs.Prelude.{◌≡◌, IfOk};
 ghost use Rattle.algebra_model.specs.Algebra.{Distinct, Extend, Filter, Graph, Join, LeftJoin, Minus, Project, Union};
 ghost use Rattle.sparql_algebra.specs.AlgebraOf.{algebra_of, graph_name_of};
@@ -9,110 +9,132 @@ use crate::expression::Expr;
 use crate::operator::{GraphName, Operator};
 use std::alloc::{AllocError, Global};
 
-/// The empty basic pattern; takes no memory.
-pub fn empty_pattern(alloc: Global) -> Operator
-    ensures operator { algebra_of result ≡ empty_pattern }
+/// The tree in a box.
+///
+/// # Errors
+/// `AllocError`: a growth was refused.
+pub fn boxed(alloc: Global, tree: Operator) -> Result<Box<Operator>, AllocError>
+    ensures tree { IfOk result (λ made. made.value ≡ tree) }
 {
-    Operator::Pattern {
-        labels: 0,
-        triples: Vec::new(alloc),
-    }
+    Ok(Box::new(alloc, tree)?)
 }
 
-pub fn join(alloc: Global, left: Operator, right: Operator) -> Result<Operator, AllocError>
-    ensures operator { IfOk result (λ made. algebra_of made ≡ Join (algebra_of left) (algebra_of right)) }
+/// The empty basic pattern.
+pub fn empty_pattern(alloc: Global) -> Result<Box<Operator>, AllocError>
+    ensures operator { IfOk result (λ made. algebra_of made.value ≡ empty_pattern) }
 {
-    Ok(Operator::Join {
-        left: Box::new(alloc, left)?,
-        right: Box::new(alloc, right)?,
-    })
+    let tree = Operator::Pattern {
+        labels: 0,
+        triples: Vec::new(alloc),
+    };
+    boxed(alloc, tree)
+}
+
+pub fn join(
+    alloc: Global,
+    left: Box<Operator>,
+    right: Box<Operator>,
+) -> Result<Box<Operator>, AllocError>
+    ensures operator { IfOk result
+        (λ made. algebra_of made.value ≡ Join (algebra_of left.value) (algebra_of right.value)) }
+{
+    boxed(alloc, Operator::Join { left, right })
 }
 
 pub fn left_join(
     alloc: Global,
-    left: Operator,
-    right: Operator,
-    condition: Expr,
-) -> Result<Operator, AllocError>
-    ensures operator { IfOk result (λ made. algebra_of made
-        ≡ LeftJoin (algebra_of left) (algebra_of right) (expression_of condition)) }
+    left: Box<Operator>,
+    right: Box<Operator>,
+    condition: Box<Expr>,
+) -> Result<Box<Operator>, AllocError>
+    ensures operator { IfOk result (λ made. algebra_of made.value
+        ≡ LeftJoin (algebra_of left.value) (algebra_of right.value) (expression_of condition.value)) }
 {
-    Ok(Operator::LeftJoin {
-        left: Box::new(alloc, left)?,
-        right: Box::new(alloc, right)?,
+    let condition = Box::into_inner(condition);
+    let tree = Operator::LeftJoin {
+        left,
+        right,
         condition,
-    })
+    };
+    boxed(alloc, tree)
 }
 
-pub fn union(alloc: Global, left: Operator, right: Operator) -> Result<Operator, AllocError>
-    ensures operator { IfOk result (λ made. algebra_of made ≡ Union (algebra_of left) (algebra_of right)) }
+pub fn union(
+    alloc: Global,
+    left: Box<Operator>,
+    right: Box<Operator>,
+) -> Result<Box<Operator>, AllocError>
+    ensures operator { IfOk result
+        (λ made. algebra_of made.value ≡ Union (algebra_of left.value) (algebra_of right.value)) }
 {
-    Ok(Operator::Union {
-        left: Box::new(alloc, left)?,
-        right: Box::new(alloc, right)?,
-    })
+    boxed(alloc, Operator::Union { left, right })
 }
 
-pub fn minus(alloc: Global, left: Operator, right: Operator) -> Result<Operator, AllocError>
-    ensures operator { IfOk result (λ made. algebra_of made ≡ Minus (algebra_of left) (algebra_of right)) }
+pub fn minus(
+    alloc: Global,
+    left: Box<Operator>,
+    right: Box<Operator>,
+) -> Result<Box<Operator>, AllocError>
+    ensures operator { IfOk result
+        (λ made. algebra_of made.value ≡ Minus (algebra_of left.value) (algebra_of right.value)) }
 {
-    Ok(Operator::Minus {
-        left: Box::new(alloc, left)?,
-        right: Box::new(alloc, right)?,
-    })
+    boxed(alloc, Operator::Minus { left, right })
 }
 
-pub fn graph(alloc: Global, name: GraphName, inner: Operator) -> Result<Operator, AllocError>
-    ensures operator { IfOk result (λ made. algebra_of made ≡ Graph (graph_name_of name) (algebra_of inner)) }
+pub fn graph(
+    alloc: Global,
+    name: GraphName,
+    inner: Box<Operator>,
+) -> Result<Box<Operator>, AllocError>
+    ensures operator { IfOk result
+        (λ made. algebra_of made.value ≡ Graph (graph_name_of name) (algebra_of inner.value)) }
 {
-    Ok(Operator::Graph {
-        name,
-        inner: Box::new(alloc, inner)?,
-    })
+    boxed(alloc, Operator::Graph { name, inner })
 }
 
-pub fn filter(alloc: Global, condition: Expr, inner: Operator) -> Result<Operator, AllocError>
-    ensures operator { IfOk result (λ made. algebra_of made ≡ Filter (expression_of condition) (algebra_of inner)) }
+pub fn filter(
+    alloc: Global,
+    condition: Box<Expr>,
+    inner: Box<Operator>,
+) -> Result<Box<Operator>, AllocError>
+    ensures operator { IfOk result (λ made. algebra_of made.value
+        ≡ Filter (expression_of condition.value) (algebra_of inner.value)) }
 {
-    Ok(Operator::Filter {
-        condition,
-        inner: Box::new(alloc, inner)?,
-    })
+    let condition = Box::into_inner(condition);
+    boxed(alloc, Operator::Filter { condition, inner })
 }
 
 pub fn extend(
     alloc: Global,
     variable: usize,
-    expression: Expr,
-    inner: Operator,
-) -> Result<Operator, AllocError>
-    ensures operator { IfOk result (λ made. algebra_of made
-        ≡ Extend variable (expression_of expression) (algebra_of inner)) }
+    expression: Box<Expr>,
+    inner: Box<Operator>,
+) -> Result<Box<Operator>, AllocError>
+    ensures operator { IfOk result (λ made. algebra_of made.value
+        ≡ Extend variable (expression_of expression.value) (algebra_of inner.value)) }
 {
-    Ok(Operator::Extend {
+    let expression = Box::into_inner(expression);
+    let tree = Operator::Extend {
         variable,
         expression,
-        inner: Box::new(alloc, inner)?,
-    })
+        inner,
+    };
+    boxed(alloc, tree)
 }
 
 pub fn project(
     alloc: Global,
     variables: Vec<usize>,
-    inner: Operator,
-) -> Result<Operator, AllocError>
-    ensures operator { IfOk result (λ made. algebra_of made ≡ Project variables.items (algebra_of inner)) }
+    inner: Box<Operator>,
+) -> Result<Box<Operator>, AllocError>
+    ensures operator { IfOk result
+        (λ made. algebra_of made.value ≡ Project variables.items (algebra_of inner.value)) }
 {
-    Ok(Operator::Project {
-        variables,
-        inner: Box::new(alloc, inner)?,
-    })
+    boxed(alloc, Operator::Project { variables, inner })
 }
 
-pub fn distinct(alloc: Global, inner: Operator) -> Result<Operator, AllocError>
-    ensures operator { IfOk result (λ made. algebra_of made ≡ Distinct (algebra_of inner)) }
+pub fn distinct(alloc: Global, inner: Box<Operator>) -> Result<Box<Operator>, AllocError>
+    ensures operator { IfOk result (λ made. algebra_of made.value ≡ Distinct (algebra_of inner.value)) }
 {
-    Ok(Operator::Distinct {
-        inner: Box::new(alloc, inner)?,
-    })
+    boxed(alloc, Operator::Distinct { inner })
 }

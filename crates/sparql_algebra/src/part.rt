@@ -20,21 +20,22 @@ use std::alloc::{AllocError, Global};
 /// joined by `&&`.
 #[derive(Drop)]
 pub struct Part<'a> {
-    pub before: Operator,
+    pub before: Box<Operator>,
     pub triples: Vec<&'a Triple>,
-    pub filters: Option<Expr>,
+    pub filters: Option<Box<Expr>>,
 }
 
 impl<'a> Part<'a> {
-    /// A group of which nothing is read: the empty pattern; takes no memory.
-    pub fn new(alloc: Global) -> Part<'a>
-        ensures part { part_of result ≡ record { before = empty_pattern; triples = []; filters = None } }
+    /// A group of which nothing is read: the empty pattern.
+    pub fn new(alloc: Global) -> Result<Part<'a>, AllocError>
+        ensures part { IfOk result (λ part.
+            part_of part ≡ record { before = empty_pattern; triples = []; filters = None }) }
     {
-        Part {
-            before: making::empty_pattern(alloc),
+        Ok(Part {
+            before: making::empty_pattern(alloc)?,
             triples: Vec::new(alloc),
             filters: None,
-        }
+        })
     }
 
     /// The triples go into the open basic pattern.
@@ -58,11 +59,11 @@ impl<'a> Part<'a> {
     }
 
     /// A filter joins the others, and the basic pattern stays open.
-    pub fn with_filter(self, alloc: Global, filter: Expr) -> Result<Part<'a>, AllocError>
+    pub fn with_filter(self, alloc: Global, filter: Box<Expr>) -> Result<Part<'a>, AllocError>
         ensures part { IfOk result (λ part. part_of part ≡ record {
           before = (part_of self.entry).before;
           triples = (part_of self.entry).triples;
-          filters = joined_filters (part_of self.entry).filters (expression_of filter);
+          filters = joined_filters (part_of self.entry).filters (expression_of filter.value);
         }) }
     {
         let Part {
@@ -79,9 +80,14 @@ impl<'a> Part<'a> {
 
     /// The open basic pattern ends, and is joined with what stands before. The filters are handed
     /// back beside.
-    pub fn close(self, alloc: Global, names: &Names) -> Result<(Operator, Option<Expr>), AllocError>
-        ensures closed { IfOk result (λ r. algebra_of r.0 ≡ closed names.now (part_of self.entry)) }
-        ensures filters { IfOk result (λ r. option_map expression_of r.1 ≡ (part_of self.entry).filters) }
+    pub fn close(
+        self,
+        alloc: Global,
+        names: &Names,
+    ) -> Result<(Box<Operator>, Option<Box<Expr>>), AllocError>
+        ensures closed { IfOk result (λ r. algebra_of r.0.value ≡ closed names.now (part_of self.entry)) }
+        ensures filters { IfOk result
+            (λ r. option_map (λ e. expression_of e.value) r.1 ≡ (part_of self.entry).filters) }
     {
         let Part {
             before,
@@ -96,8 +102,9 @@ impl<'a> Part<'a> {
     }
 
     /// The whole group: the filters are applied at its end.
-    pub fn finish(self, alloc: Global, names: &Names) -> Result<Operator, AllocError>
-        ensures finished { IfOk result (λ made. algebra_of made ≡ finished names.now (part_of self.entry)) }
+    pub fn finish(self, alloc: Global, names: &Names) -> Result<Box<Operator>, AllocError>
+        ensures finished { IfOk result
+            (λ made. algebra_of made.value ≡ finished names.now (part_of self.entry)) }
     {
         let (inner, filters) = self.close(alloc, names)?;
         match filters {
@@ -108,19 +115,26 @@ impl<'a> Part<'a> {
 
     /// The right side of an OPTIONAL whose group this is, and its condition: the filters that stand
     /// directly in the group, and `true` where there are none.
-    pub fn split(self, alloc: Global, names: &Names) -> Result<(Operator, Expr), AllocError>
-        ensures closed { IfOk result (λ r. algebra_of r.0 ≡ closed names.now (part_of self.entry)) }
+    pub fn split(
+        self,
+        alloc: Global,
+        names: &Names,
+    ) -> Result<(Box<Operator>, Box<Expr>), AllocError>
+        ensures closed { IfOk result (λ r. algebra_of r.0.value ≡ closed names.now (part_of self.entry)) }
         ensures condition { IfOk result
-            (λ r. expression_of r.1 ≡ condition_of (part_of self.entry).filters) }
+            (λ r. expression_of r.1.value ≡ condition_of (part_of self.entry).filters) }
     {
         let (inner, filters) = self.close(alloc, names)?;
         Ok((inner, condition(alloc, filters)?))
     }
 
     /// An operator that ended the basic pattern, with the group's filters.
-    pub fn behind(alloc: Global, before: Operator, filters: Option<Expr>) -> Part<'a>
-        ensures part { part_of result
-            ≡ record { before = algebra_of before; triples = []; filters = option_map expression_of filters } }
+    pub fn behind(alloc: Global, before: Box<Operator>, filters: Option<Box<Expr>>) -> Part<'a>
+        ensures part { part_of result ≡ record {
+          before = algebra_of before.value;
+          triples = [];
+          filters = option_map (λ e. expression_of e.value) filters;
+        } }
     {
         Part {
             before,
@@ -141,27 +155,34 @@ fn with_more<'a>(others: Vec<&'a Triple>, more: &'a [Triple]) -> Result<Vec<&'a 
     Ok(all)
 }
 
-fn with_conjunct(alloc: Global, filters: Option<Expr>, filter: Expr) -> Result<Expr, AllocError>
-    ensures joined { IfOk result (λ joined.
-        Some (expression_of joined) ≡ joined_filters (option_map expression_of filters) (expression_of filter)) }
+fn with_conjunct(
+    alloc: Global,
+    filters: Option<Box<Expr>>,
+    filter: Box<Expr>,
+) -> Result<Box<Expr>, AllocError>
+    ensures joined { IfOk result (λ joined. Some (expression_of joined.value)
+        ≡ joined_filters (option_map (λ e. expression_of e.value) filters) (expression_of filter.value)) }
 {
     match filters {
         None => Ok(filter),
-        Some(others) => Ok(Expr::And {
-            left: Box::new(alloc, others)?,
-            right: Box::new(alloc, filter)?,
-        }),
+        Some(others) => Ok(Box::new(
+            alloc,
+            Expr::And {
+                left: others,
+                right: filter,
+            },
+        )?),
     }
 }
 
 /// The condition of an OPTIONAL: its filters, and `true` where there are none.
-fn condition(alloc: Global, filters: Option<Expr>) -> Result<Expr, AllocError>
-    ensures condition { IfOk result
-        (λ made. expression_of made ≡ condition_of (option_map expression_of filters)) }
+fn condition(alloc: Global, filters: Option<Box<Expr>>) -> Result<Box<Expr>, AllocError>
+    ensures condition { IfOk result (λ made.
+        expression_of made.value ≡ condition_of (option_map (λ e. expression_of e.value) filters)) }
 {
     match filters {
         Some(condition) => Ok(condition),
-        None => Ok(Expr::Constant(boolean_true(alloc)?)),
+        None => Ok(Box::new(alloc, Expr::Constant(boolean_true(alloc)?))?),
     }
 }
 

@@ -5,6 +5,7 @@ ghost use Rattle.indexmap.specs.IndexSet.{insert_all};
 ghost use Rattle.sparql_algebra.specs.AlgebraOf.{algebra_of, pattern_term_of, triple_pattern_of};
 ghost use Rattle.sparql_algebra.specs.Translation.{blank_names, labels_of, translate_pattern, translate_place, translate_triple, triple_blanks};
 
+use crate::making::boxed;
 use crate::names::Names;
 use crate::operator::{self, Operator};
 use sparql_tree::{PatternTerm, Triple};
@@ -18,16 +19,17 @@ pub fn basic_pattern(
     alloc: Global,
     names: &Names,
     triples: &[&Triple],
-) -> Result<Operator, AllocError>
+) -> Result<Box<Operator>, AllocError>
     ensures pattern { IfOk result (λ operator.
-        algebra_of operator ≡ translate_pattern names.now (map (λ t. t.now) triples.now)) }
+        algebra_of operator.value ≡ translate_pattern names.now (map (λ t. t.now) triples.now)) }
 {
     let labels = pattern_labels(alloc, triples)?;
     let patterns = convert_triples(alloc, names, &labels, triples)?;
-    Ok(Operator::Pattern {
+    let tree = Operator::Pattern {
         labels: labels.len(),
         triples: patterns,
-    })
+    };
+    boxed(alloc, tree)
 }
 
 /// The blank labels of the triples, each once.

@@ -4,6 +4,7 @@ ghost use Rattle.algebra_model.specs.Algebra.{Table};
 ghost use Rattle.sparql_algebra.specs.AlgebraOf.{algebra_of};
 ghost use Rattle.sparql_algebra.specs.Names.{number_of};
 
+use crate::making::boxed;
 use crate::names::Names;
 use crate::operator::Operator;
 use rdf_core::{Term, Text};
@@ -18,14 +19,15 @@ pub fn convert_table(
     names: &Names,
     variables: &[Text],
     rows: &[Vec<Option<Term>>],
-) -> Result<Operator, AllocError>
-    ensures table { IfOk result (λ made. algebra_of made
+) -> Result<Box<Operator>, AllocError>
+    ensures table { IfOk result (λ made. algebra_of made.value
         ≡ Table (map (number_of names.now) variables.now) (map (λ row. row.items) rows.now)) }
 {
-    Ok(Operator::Table {
+    let tree = Operator::Table {
         variables: numbers(alloc, names, variables)?,
         rows: copy_rows(alloc, rows)?,
-    })
+    };
+    boxed(alloc, tree)
 }
 
 /// The numbers of the names, in their order.

@@ -30,16 +30,17 @@ pub fn translate(alloc: Global, query: &Query) -> Result<Plan, AllocError>
         (λ plan. algebra_of plan.tree ≡ (translate (query_of query.now)).algebra) }
 {
     let names = query_names(alloc, query)?;
-    let tree = convert_query(alloc, &names, query)?;
+    let boxed = convert_query(alloc, &names, query)?;
     let names = names.into_list(alloc)?;
+    let tree = Box::into_inner(boxed);
     Ok(Plan { names, tree })
 }
 
 /// The tree of the plan: DISTINCT where it is asked for, the projection, and the group.
-fn convert_query(alloc: Global, names: &Names, query: &Query) -> Result<Operator, AllocError>
+fn convert_query(alloc: Global, names: &Names, query: &Query) -> Result<Box<Operator>, AllocError>
     requires names { names.now ≡ names_of (query_of query.now) }
     ensures tree { IfOk result
-        (λ made. algebra_of made ≡ (translate (query_of query.now)).algebra) }
+        (λ made. algebra_of made.value ≡ (translate (query_of query.now)).algebra) }
 {
     let variables = projected_numbers(alloc, names, query)?;
     let inner = convert_group(alloc, names, &query.group)?;

@@ -13,9 +13,9 @@ returns-then-query c =
     let inner = c.in_ok-inner.ensures.operator ∙ ap (λ l. translate_group c.args.names.now (group_of l)) c.deref.ensures.value in
     record {
       tree = IfOk-weaker c.distinct.result
-          (λ made. algebra_of made ≡ Distinct (algebra_of c.in_ok-projected.projected))
-          (λ made. algebra_of made ≡ (translate (query_of c.args.query.now)).algebra)
-          (λ made h. tree_of_parts (query_of c.args.query.now) true c.args.names.now c.in_ok-variables.variables.items (algebra_of c.in_ok-inner.inner) (algebra_of made)
+          (λ made. algebra_of made.value ≡ Distinct (algebra_of c.in_ok-projected.projected.value))
+          (λ made. algebra_of made.value ≡ (translate (query_of c.args.query.now)).algebra)
+          (λ made h. tree_of_parts (query_of c.args.query.now) true c.args.names.now c.in_ok-variables.variables.items (algebra_of c.in_ok-inner.inner.value) (algebra_of made.value)
           c.if-query.true c.requires.names c.in_ok-variables.ensures.numbers inner (h ∙ ap Distinct c.in_ok-projected.ensures.operator))
           c.distinct.ensures.operator;
     }
@@ -24,6 +24,6 @@ pub returns-else-query : goal.returns-else-query
 returns-else-query c =
     let inner = c.in_ok-inner.ensures.operator ∙ ap (λ l. translate_group c.args.names.now (group_of l)) c.deref.ensures.value in
     record {
-      tree = tree_of_parts (query_of c.args.query.now) false c.args.names.now c.in_ok-variables.variables.items (algebra_of c.in_ok-inner.inner) (algebra_of c.in_ok-projected.projected)
+      tree = tree_of_parts (query_of c.args.query.now) false c.args.names.now c.in_ok-variables.variables.items (algebra_of c.in_ok-inner.inner.value) (algebra_of c.in_ok-projected.projected.value)
           c.if-query.false c.requires.names c.in_ok-variables.ensures.numbers inner c.in_ok-projected.ensures.operator;
     }
