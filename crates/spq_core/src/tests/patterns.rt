@@ -74,6 +74,13 @@ fn patterns_are_answered(rt: HostRuntime) -> Result<(), AllocError> {
                 "{'x':{'type':'uri','value':'http://e/x'}}",
             ),
             (
+                "a literal is the subject of no statement",
+                REPEATED,
+                "SELECT ?p ?o { \"x\" ?p ?o }",
+                "'p','o'",
+                "",
+            ),
+            (
                 "a number before a dot is an integer",
                 ONES,
                 "SELECT ?x { ?x <http://e/p> 1.}",
