@@ -48,6 +48,8 @@ mod part;
 mod pattern;
 mod plan;
 mod table;
+#[cfg(test)]
+mod tests;
 mod translation;
 
 pub use comparison::{compare, truth};

@@ -1,18 +1,25 @@
-//! The operators of the SPARQL algebra over rows of numbers with a dictionary.
+//! Plans of the SPARQL algebra and their operators, over rows of numbers with a dictionary.
 //!
-//! Rows of numbers, the dictionary that says which terms they stand for, and what else an operator
-//! takes go in; rows and the dictionary come out. The contract of each operator is one record,
-//! `IsEvaluated` of specs/Evaluated.antt: the answered dictionary begins with the given one, and the
-//! rows, read through it, are the bag of solutions that the operator's definition gives of the
-//! arguments so read. Numbers may be compared in place of terms, since a dictionary has no term
-//! twice.
+//! [`evaluate`] answers the solutions of a plan over an index that is read through a dictionary: rows of
+//! numbers, and the dictionary that says which terms they stand for. The operators stand as functions
+//! of their own, over rows, the dictionary, and what else each takes. The contract of each is one
+//! record, `IsEvaluated` of specs/Evaluated.antt: the answered dictionary begins with the given one,
+//! and the rows, read through it, are the bag of solutions that the definition gives of the arguments
+//! so read, whatever the workers and the pieces. Numbers may be compared in place of terms, since a
+//! dictionary has no term twice.
 //!
-//! Standard: SPARQL 1.1 Query Language, section 18.5; the definitions are those of `algebra_model`.
+//! Standard: SPARQL 1.1 Query Language, sections 18.5 and 18.6; the definitions are those of
+//! `algebra_model`.
 //!
 //! To read in this order: `copying`, `unions`, `projections`, `distinctness` (rows alone);
 //! `numbering`, `tables` (terms taken in); `reading`, `filters`, `values`, `extensions`
-//! (expressions); `patterns`, `graphs` (the index); `joins` (two lists of rows);
-//! `evaluator`, `evaluation` (a plan).
+//! (expressions); `patterns`, `graphs` (the index); `joins` (two lists of rows); `evaluator`,
+//! `evaluation` (a plan).
+//!
+//! ```text
+//! { ?s p ?o OPTIONAL { ?o p ?z } }  over  x p y, y p z  =  (?s: x, ?o: y, ?z: z), (?s: y, ?o: z)
+//! ```
+//! The test `a_filter_in_optional_sees_the_left_row` runs one like it.
 //!
 //! Not promised: the order of the rows, and which numbers computed terms get.
 #![tactic(auto)]
@@ -30,6 +37,8 @@ mod patterns;
 mod projections;
 mod reading;
 mod tables;
+#[cfg(test)]
+mod tests;
 mod unions;
 mod values;
 

@@ -26,6 +26,8 @@ mod answering;
 mod fault;
 mod listing;
 mod program;
+#[cfg(test)]
+mod refusals;
 mod report;
 #[cfg(test)]
 mod tests;

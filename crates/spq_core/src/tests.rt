@@ -1,6 +1,6 @@
 //! The program over devices in memory, by worked examples: each file of this folder has one subject.
 
-mod asking;
+pub(crate) mod asking;
 mod devices;
 mod documents;
 mod expressions;
@@ -11,6 +11,6 @@ mod groups;
 mod modifiers;
 mod patterns;
 mod refusals;
-mod samples;
+pub(crate) mod samples;
 mod tables;
 mod workers;

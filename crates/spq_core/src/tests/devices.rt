@@ -4,12 +4,17 @@ ghost use Rattle.std.specs.Prelude.{◌<◌};
 use nquads_core::{DeviceFailed, Sink, Source};
 use std::alloc::Global;
 
-/// Gives `chunk` bytes a call at most, and fails once `until` bytes were read.
+/// How many bytes a call gives or takes, where it is not said otherwise.
+pub(crate) const CHUNK: usize = 7;
+
+/// Gives `chunk` bytes a call at most, and fails once `until` bytes were read; and its call number
+/// `failing` fails, counted from 0.
 #[derive(Drop)]
 pub(crate) struct SliceSource<'a> {
-    rest: &'a [u8],
+    pub(crate) rest: &'a [u8],
     chunk: usize,
     until: usize,
+    failing: usize,
     pub(crate) calls: usize,
     pub(crate) failed: u64,
     ghost chunk_some: { 0 < chunk },
@@ -23,8 +28,9 @@ impl<'a> Source for SliceSource<'a> {
     ghost failures = { λ s. Some s.failed };
 
     fn read(&mut self, buf: &mut [u8]) -> Result<usize, DeviceFailed> {
-        self.calls = self.calls.saturating_add(1);
-        if self.until == 0 {
+        let call = self.calls;
+        self.calls = call.saturating_add(1);
+        if self.until == 0 || call == self.failing {
             self.failed = self.failed.saturating_add(1);
             return Err(DeviceFailed);
         }
@@ -41,12 +47,15 @@ impl<'a> Source for SliceSource<'a> {
     }
 }
 
-/// Takes `chunk` bytes a call at most, and fails once it took `until` bytes; or takes none at all.
+/// Takes `chunk` bytes a call at most, and fails once it took `until` bytes; or takes none at all. Its
+/// call number `failing` fails, counted from 0.
 #[derive(Drop)]
 pub(crate) struct VecSink {
     pub(crate) bytes: Vec<u8>,
     chunk: usize,
     until: usize,
+    failing: usize,
+    pub(crate) calls: usize,
     pub(crate) failed: u64,
 }
 
@@ -58,8 +67,13 @@ impl Sink for VecSink {
     ghost failures = { λ s. Some s.failed };
 
     fn write(&mut self, bytes: &[u8]) -> Result<usize, DeviceFailed> {
+        let call = self.calls;
+        self.calls = call.saturating_add(1);
         let n = self.chunk.min(self.until).min(bytes.len());
-        if self.until == 0 || self.bytes.extend_from_slice(&bytes[..n]).is_err() {
+        if self.until == 0
+            || call == self.failing
+            || self.bytes.extend_from_slice(&bytes[..n]).is_err()
+        {
             self.failed = self.failed.saturating_add(1);
             return Err(DeviceFailed);
         }
@@ -72,8 +86,21 @@ impl Sink for VecSink {
 pub(crate) fn source(rest: &[u8], until: usize) -> SliceSource<'_> {
     SliceSource {
         rest,
-        chunk: 7,
+        chunk: CHUNK,
         until,
+        failing: usize::MAX,
+        calls: 0,
+        failed: 0,
+    }
+}
+
+/// A reader of these bytes, `CHUNK` a call, of which the call of this number fails, and no other.
+pub(crate) fn source_failing_at(rest: &[u8], call: usize) -> SliceSource<'_> {
+    SliceSource {
+        rest,
+        chunk: CHUNK,
+        until: usize::MAX,
+        failing: call,
         calls: 0,
         failed: 0,
     }
@@ -85,6 +112,20 @@ pub(crate) fn sink(alloc: Global, chunk: usize, until: usize) -> VecSink {
         bytes: Vec::new(alloc),
         chunk,
         until,
+        failing: usize::MAX,
+        calls: 0,
+        failed: 0,
+    }
+}
+
+/// A writer that takes `CHUNK` bytes a call, of which the call of this number fails, and no other.
+pub(crate) fn sink_failing_at(alloc: Global, call: usize) -> VecSink {
+    VecSink {
+        bytes: Vec::new(alloc),
+        chunk: CHUNK,
+        until: usize::MAX,
+        failing: call,
+        calls: 0,
         failed: 0,
     }
 }
