@@ -65,6 +65,9 @@ impl<J: Job> Promise<Worked<J::Out, J::Fault>> for WorkOn<J> {
 ///
 /// With no piece no thread is started and no gate called. It waits for the workers that it started.
 ///
+/// # Requires
+/// `workers` is 1 to 64, and `n` is at most 2^62.
+///
 /// # Errors
 /// - `WorkerRefused`: the start of a worker was refused. It stands before `Memory`.
 /// - `Memory`: a growth was refused.

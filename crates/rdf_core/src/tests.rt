@@ -44,7 +44,10 @@ fn texts_are_made_and_given_back(rt: HostRuntime) -> Result<(), AllocError> {
     let made = text(alloc, "b\u{e9}")?;
     let copied = made.copy(alloc)?;
     assert!(rt; made == copied);
-    assert!(rt; made.cmp(&text(alloc, "c")?) == Ordering::Less);
+    let later = text(alloc, "c")?;
+    assert!(rt; made.cmp(&later) == Ordering::Less);
+    assert!(rt; made.partial_cmp(&later) == Some(Ordering::Less));
+    assert!(rt; format!(in alloc; "{made}")?.as_str() == "b\u{e9}");
     assert!(rt; copied.into_string().as_str() == "b\u{e9}");
     Ok(())
 }

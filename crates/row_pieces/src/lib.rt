@@ -6,6 +6,8 @@
 
 mod how;
 mod pieces;
+#[cfg(test)]
+mod tests;
 
 pub use how::{EvalFault, How};
 pub use pieces::{RowWork, over_pieces, piece_size};

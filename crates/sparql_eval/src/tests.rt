@@ -13,8 +13,10 @@ use std::hash::RandomState;
 use std::random::RandomSource;
 
 mod comparing;
+mod drawn;
 mod meeting;
 mod operators;
+mod patterns;
 mod plans;
 
 fn text(alloc: Global, text: &str) -> Result<Text, AllocError> {

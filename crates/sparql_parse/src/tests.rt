@@ -84,6 +84,26 @@ fn values_and_modifiers(rt: HostRuntime) -> Result<(), AllocError> {
     Ok(())
 }
 
+// A name that stands twice in a long heading is found, wherever it stands.
+#[test]
+fn a_long_heading_has_no_name_twice(rt: HostRuntime) -> Result<(), AllocError> {
+    for (last, expected) in [("?v5000", true), ("?v0", false), ("?v4999", false)] {
+        let mut text = String::from_str(rt.alloc(), "SELECT * { VALUES (")?;
+        for i in 0..5000 {
+            let name = format!(in rt.alloc(); "?v{i} ")?;
+            text.push_str(name.as_str())?;
+        }
+        text.push_str(last)?;
+        text.push_str(") { } }")?;
+        let characters = characters_of(rt.alloc(), text.as_str())?;
+        let scan = scan_text(rt.alloc(), &characters)?;
+        let names = Vec::new(rt.alloc());
+        let parsed = parse(rt.alloc(), &names, &scan.tokens);
+        assert_eq!(rt; parsed.is_ok(), expected, "{last}");
+    }
+    Ok(())
+}
+
 #[test]
 fn no_queries(rt: HostRuntime) -> Result<(), AllocError> {
     for text in [

@@ -12,7 +12,8 @@ use sparql_expression::{ReadFault, accept, accept_variable, accept_word, read_te
 use sparql_grammar::Declaration;
 use sparql_lexer::{Keyword, Sign, Token};
 use sparql_tree::Element;
-use std::alloc::Global;
+use std::alloc::{AllocError, Global};
+use std::collections::BTreeSet;
 
 /// Reads what stands behind VALUES.
 pub fn read_data_block<'t, 'a>(
@@ -27,24 +28,26 @@ pub fn read_data_block<'t, 'a>(
         return read_column(alloc, names, variable, after);
     }
     let (heading, rest) = read_heading(alloc, tokens)?;
-    if !is_distinct(&heading) {
+    if !is_distinct(alloc, &heading)? {
         return Err(ReadFault::Syntax);
     }
     read_rows(alloc, names, heading, rest)
 }
 
 /// Whether no name stands twice.
-fn is_distinct(names: &[Text]) -> bool
-    ensures value { result ≡ is_distinct names.now }
+///
+/// # Errors
+/// A growth was refused.
+fn is_distinct(alloc: Global, names: &[Text]) -> Result<bool, AllocError>
+    ensures value { IfOk result (λ distinct. distinct ≡ is_distinct names.now) }
 {
-    let mut rest = names;
-    'names: while let Some((first, others)) = rest.split_first() {
-        if others.contains(first) {
-            return false;
+    let mut seen = BTreeSet::new(alloc);
+    for name in names {
+        if !seen.insert(name.copy(alloc)?)? {
+            return Ok(false);
         }
-        rest = others;
     }
-    true
+    Ok(true)
 }
 
 /// Reads the cells of one variable.

@@ -1,13 +1,15 @@
 //! The declarations of a query, and its names that lack one (SPARQL 1.1 Query Language, sections
 //! 4.1.1 and 19.8, PrefixDecl).
 
-ghost use Rattle.std.specs.Prelude.{◌≡◌, IfOk, OnOk, is_some, reverse};
+ghost use Rattle.std.specs.Prelude.{◌≡◌, IfOk, OnOk, map, reverse};
 ghost use lib.Utf8.{encodes};
 ghost use Rattle.sparql_lexer.specs.Values.{iri_value};
-ghost use Rattle.sparql_lexer.specs.Terminal.{terminals};
-ghost use Rattle.sparql_grammar.specs.Values.{declaration_of, prefix_of};
-ghost use Rattle.sparql_read.specs.Prologue.{and_declared, declaration_at, declarations, declared, has_undefined_prefix, is_namespace, is_prefix_word, is_prefixed, is_reference};
+ghost use Rattle.sparql_lexer.specs.Terminal.{terminal_of, terminals};
+ghost use Rattle.sparql_grammar.specs.Values.{Names, prefix_of};
+ghost use Rattle.sparql_read.specs.NameSet.{HaveSame};
+ghost use Rattle.sparql_read.specs.Prologue.{and_declared, declaration_at, declarations, declared, has_undefined_prefix, is_namespace, is_prefix_word, is_prefixed, is_reference, is_undefined};
 
+use crate::names::NameSet;
 use rdf_core::Text;
 use sparql_grammar::Declaration;
 use sparql_lexer::{Keyword, Kind, Token, iri_value, text_of};
@@ -143,19 +145,38 @@ pub fn declarations_of(alloc: Global, tokens: &[Token<'_>]) -> Result<Vec<Declar
     Ok(found)
 }
 
-/// Whether one of the declarations is of this prefix.
-fn is_declared(declarations: &[Declaration], prefix: &Text) -> bool
-    ensures value { result ≡ is_some (declaration_of declarations.now prefix.now) }
+/// The prefixes that are declared.
+///
+/// # Errors
+/// A growth was refused.
+fn declared_prefixes(alloc: Global, declarations: &[Declaration]) -> Result<NameSet, AllocError>
+    ensures names { IfOk result (λ declared. HaveSame declared (map (λ d. d.prefix) declarations.now)) }
 {
+    let mut declared = NameSet::new(alloc);
     for declaration in declarations {
-        if declaration.prefix == *prefix {
-            return true;
-        }
+        declared.add(declaration.prefix.copy(alloc)?)?;
     }
-    false
+    Ok(declared)
+}
+
+/// Whether the terminal is a prefixed name whose prefix is not among those that are declared.
+///
+/// # Errors
+/// A growth was refused.
+fn is_undefined(alloc: Global, declared: &NameSet, token: Token<'_>) -> Result<bool, AllocError>
+    ensures value { (names : Names) → HaveSame declared.now (map (λ d. d.prefix) names) → IfOk result (λ found. found ≡ is_undefined names (terminal_of token.entry)) }
+{
+    if !is_prefixed(token.kind) {
+        return Ok(false);
+    }
+    let prefix = prefix_text(alloc, token.text)?;
+    Ok(!declared.has(&prefix))
 }
 
 /// Whether a prefixed name among the terminals has no declaration, where these are the declarations.
+///
+/// # Requires
+/// `names` are the declarations of these terminals.
 ///
 /// # Errors
 /// A growth was refused.
@@ -167,12 +188,10 @@ pub fn has_undefined_prefix(
     requires names { names.now ≡ declarations (terminals tokens.now) }
     ensures value { IfOk result (λ found. found ≡ has_undefined_prefix (terminals tokens.now)) }
 {
+    let declared = declared_prefixes(alloc, names)?;
     for token in tokens {
-        if is_prefixed(token.kind) {
-            let prefix = prefix_text(alloc, token.text)?;
-            if !is_declared(names, &prefix) {
-                return Ok(true);
-            }
+        if is_undefined(alloc, &declared, *token)? {
+            return Ok(true);
         }
     }
     Ok(false)

@@ -80,6 +80,25 @@ fn names_have_declarations_and_iris_a_scheme(rt: HostRuntime) -> Result<(), Allo
     Ok(())
 }
 
+// Each of many names finds the declaration of its prefix, and one without is found among them.
+#[test]
+fn many_names_have_declarations(rt: HostRuntime) -> Result<(), AllocError> {
+    for (last, expected) in [("p2999:a", false), ("p3000:a", true), ("p:a", true)] {
+        let mut declared = String::new(rt.alloc());
+        let mut used = String::new(rt.alloc());
+        for i in 0..3000 {
+            let declaration = format!(in rt.alloc(); "PREFIX p{i}: <a:{i}> ")?;
+            declared.push_str(declaration.as_str())?;
+            let triple = format!(in rt.alloc(); "?s p{i}:a ?o . ")?;
+            used.push_str(triple.as_str())?;
+        }
+        let text = format!(in rt.alloc(); "{declared} SELECT * {{ {used} ?s {last} ?o }}")?;
+        let (_, undefined, _) = judged(rt.alloc(), text.as_str())?;
+        assert_eq!(rt; undefined, expected, "{last}");
+    }
+    Ok(())
+}
+
 // The last declaration of a prefix comes first.
 #[test]
 fn the_last_declaration_is_first(rt: HostRuntime) -> Result<(), AllocError> {

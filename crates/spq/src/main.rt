@@ -3,18 +3,25 @@
 //! The document comes on standard input, and the output goes to standard output, a fault's line
 //! too. The exit status is 0, or that of the fault. All that is promised is promised by `run`,
 //! `write_fault` and `status` of `spq_core` and `read_command` of `spq_command`; here they meet the
-//! two devices.
+//! two devices, and a stack that is as large as a query may need.
 #![tactic(auto)]
 
 use nquads_core::{Device, Sink, Source};
-use spq_command::{CommandFault, read_command};
+use spq_command::{Command, CommandFault, read_command};
 use spq_core::{RunFault, run, status, write_fault};
 use std::alloc::Global;
 use std::env;
 use std::process::ExitCode;
 use std::random::RandomSource;
 use std::sync::Wait;
-use std::thread::Threads;
+use std::thread;
+use std::thread::{Builder, Threads};
+
+/// The bytes of stack for a query of no length.
+const LEAST_STACK: usize = 8 * 1024 * 1024;
+
+/// The bytes of stack for each byte of a query.
+const STACK_PER_BYTE: usize = 4 * 1024;
 
 /// The words of the command line.
 fn words_of(rt: &HostRuntime) -> Result<Vec<String>, RunFault> {
@@ -30,8 +37,33 @@ fn words_of(rt: &HostRuntime) -> Result<Vec<String>, RunFault> {
     Ok(words)
 }
 
+/// The bytes of stack that a query may need.
+fn stack_for(query: &str) -> usize {
+    LEAST_STACK.saturating_add(query.len().saturating_mul(STACK_PER_BYTE))
+}
+
+/// Runs a command on a thread of its own, with a stack of so many bytes.
+fn run_apart<R: Threads + Wait + RandomSource + Sync, S: Source + Send, K: Sink + Send>(
+    rt: &R,
+    alloc: Global,
+    stack: usize,
+    command: &Command,
+    reader: &mut S,
+    writer: &mut K,
+) -> Result<(), RunFault> {
+    thread::scope(thread::scope_env(), rt, |scope| {
+        let started = Builder::new()
+            .stack_size(stack)
+            .spawn_scoped(scope, move || run(rt, alloc, command, reader, writer));
+        match started {
+            Ok(thread) => thread.join(rt),
+            Err(_refused) => Err(RunFault::WorkerRefused),
+        }
+    })
+}
+
 /// Does what the words of the command line say.
-fn told<R: Threads + Wait + RandomSource, S: Source, K: Sink>(
+fn told<R: Threads + Wait + RandomSource + Sync, S: Source + Send, K: Sink + Send>(
     rt: &R,
     alloc: Global,
     words: &[String],
@@ -43,7 +75,13 @@ fn told<R: Threads + Wait + RandomSource, S: Source, K: Sink>(
         Err(CommandFault::Line) => return Err(RunFault::Line),
         Err(CommandFault::Memory) => return Err(RunFault::Memory),
     };
-    run(rt, alloc, &command, reader, writer)
+    match &command {
+        Command::Select { query, .. } => {
+            let stack = stack_for(query.as_str());
+            run_apart(rt, alloc, stack, &command, reader, writer)
+        }
+        Command::Check { .. } | Command::Terms { .. } => run(rt, alloc, &command, reader, writer),
+    }
 }
 
 fn main(rt: HostRuntime) -> ExitCode {

@@ -10,8 +10,9 @@ use crate::tests::samples::{NUMBERED, TAGGED, TWO_LINES, TYPED};
 use crate::{Fault, answer};
 use piece_cuts::Cuts;
 use piece_pool::Gate;
+use rdf_core::{Term, Text, write_term};
 use row_pieces::How;
-use std::alloc::Global;
+use std::alloc::{AllocError, Global};
 use std::random::RandomSource;
 use std::sync::Wait;
 use std::sync::atomic::{AtomicU64, Ordering};
@@ -150,4 +151,36 @@ fn a_computed_term_is_answered_or_memory_is_refused(rt: HostRuntime) {
         return;
     };
     assert!(rt; has_answer(&rt, rt.alloc(), TAGGED, query, &wanted));
+}
+
+/// A literal whose spelling is longer than what a buffer has at first.
+fn long_literal(alloc: Global) -> Result<Term, AllocError> {
+    let lexical = String::from_str(alloc, "\"a line\"\nand another one, with a \\ in it")?;
+    let datatype = String::from_str(alloc, "http://e/a/datatype/with/a/long/name")?;
+    Ok(Term::Literal {
+        lexical: Text::from_string(lexical),
+        datatype: Text::from_string(datatype),
+        tag: None,
+    })
+}
+
+/// Its spelling, behind two bytes.
+const SPELLED: &[u8] =
+    b"> \"\\\"a line\\\"\\nand another one, with a \\\\ in it\"^^<http://e/a/datatype/with/a/long/name>";
+
+#[test]
+fn a_term_is_spelled_or_nothing_is_written(rt: HostRuntime) {
+    let Ok(term) = long_literal(rt.alloc()) else {
+        return;
+    };
+    let mut out = Vec::new(rt.alloc());
+    if out.extend_from_slice(&SPELLED[..2]).is_err() {
+        return;
+    }
+    if write_term(&term, &mut out).is_err() {
+        let _ = println!(rt; "memory was refused");
+        assert!(rt; out.as_slice() == &SPELLED[..2], "what stood before");
+        assert!(rt; write_term(&term, &mut out).is_ok(), "a second try");
+    }
+    assert!(rt; out.as_slice() == SPELLED, "the spelling");
 }

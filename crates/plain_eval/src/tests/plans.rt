@@ -4,11 +4,12 @@ use crate::operators::table;
 use crate::patterns::pattern;
 use crate::tests::trees::Spot::{self, Label, Variable};
 use crate::tests::trees::{
-    Tree, answers, basic, bound, cell, compared, either, first_alone, is_bag, joined, kept,
-    matched, once, optional, quads, row, term, values, within, without,
+    Expression, Tree, answers, basic, bound, cell, compared, either, first_alone, is_bag, joined,
+    kept, literal, matched, once, optional, quads, row, term, values, within, without,
 };
 use rdf_core::Quad;
-use sparql_algebra::{Comparison, Expr, Function};
+use rdf_core::vocabulary::XSD_BOOLEAN;
+use sparql_algebra::{Comparison, Expr, Function, Operator};
 use std::alloc::{AllocError, AllocGlobal, Global};
 
 /// Two books with a title and a price.
@@ -24,21 +25,50 @@ fn books(alloc: Global) -> Result<Vec<Quad>, AllocError> {
     )
 }
 
+/// Whether the third variable is below 30.
+fn is_cheap(alloc: Global) -> Expression {
+    let thirty = Ok(Expr::Constant(term(alloc, "30")?));
+    compared(alloc, Comparison::Less, Expr::Variable(2), thirty)
+}
+
 // SPARQL 1.1 Query Language, section 6.2: a filter in OPTIONAL takes a price away, and no title.
 #[test]
 fn a_filter_in_optional_is_its_condition(rt: HostRuntime) -> Result<(), AllocError> {
     let alloc = rt.alloc();
-    let thirty = Ok(Expr::Constant(term(alloc, "30")?));
     let tree = optional(
         alloc,
         matched(alloc, Variable(0), "title", Variable(1)),
         matched(alloc, Variable(0), "price", Variable(2)),
-        compared(alloc, Comparison::Less, Expr::Variable(2), thirty),
+        is_cheap(alloc),
     );
     let expected: [&[&str]; 2] = [
         &["book1", "SPARQL Tutorial", "."],
         &["book2", "The Semantic Web", "23"],
     ];
+    assert!(rt; answers(alloc, 3, books(alloc), tree, &expected)?);
+    Ok(())
+}
+
+/// `true`
+fn always(alloc: Global) -> Expression {
+    Ok(Expr::Constant(literal(alloc, "true", XSD_BOOLEAN)?))
+}
+
+// The condition of OPTIONAL sees the solution on the left, and a filter one group further in does
+// not.
+#[test]
+fn the_condition_sees_the_left_side(rt: HostRuntime) -> Result<(), AllocError> {
+    let alloc = rt.alloc();
+    let left = matched(alloc, Variable(0), "price", Variable(2));
+    let right = matched(alloc, Variable(0), "title", Variable(1));
+    let tree = optional(alloc, left, right, is_cheap(alloc));
+    let expected: [&[&str]; 2] = [&["book1", ".", "42"], &["book2", "The Semantic Web", "23"]];
+    assert!(rt; answers(alloc, 3, books(alloc), tree, &expected)?);
+    let left = matched(alloc, Variable(0), "price", Variable(2));
+    let right = matched(alloc, Variable(0), "title", Variable(1));
+    let right = kept(alloc, is_cheap(alloc), right);
+    let tree = optional(alloc, left, right, always(alloc));
+    let expected: [&[&str]; 2] = [&["book1", ".", "42"], &["book2", ".", "23"]];
     assert!(rt; answers(alloc, 3, books(alloc), tree, &expected)?);
     Ok(())
 }
@@ -56,6 +86,18 @@ fn minus_needs_a_shared_variable(rt: HostRuntime) -> Result<(), AllocError> {
         let row: [&[&str]; 1] = [&["a", "b", "c", ".", ".", "."]];
         assert!(rt; answers(alloc, 6, dataset, tree, &row)? == expected);
     }
+    Ok(())
+}
+
+// A solution on the right that leaves the shared variable open takes nothing away, though another
+// one binds it.
+#[test]
+fn minus_looks_at_each_pair(rt: HostRuntime) -> Result<(), AllocError> {
+    let alloc = rt.alloc();
+    let left = values(alloc, &[["a", "."], ["b", "."]]);
+    let right = values(alloc, &[[".", "A"], ["b", "B"]]);
+    let tree = without(alloc, left, right);
+    assert!(rt; answers(alloc, 2, Ok(Vec::new(alloc)), tree, &[&["a", "."]])?);
     Ok(())
 }
 
@@ -170,6 +212,21 @@ fn graphs_are_named(rt: HostRuntime) -> Result<(), AllocError> {
     Ok(())
 }
 
+// A filter and a BIND in GRAPH do not see its variable, which is joined behind them.
+#[test]
+fn the_name_of_a_graph_is_joined_last(rt: HostRuntime) -> Result<(), AllocError> {
+    let alloc = rt.alloc();
+    let inner = matched(alloc, Spot::Term("a"), "p", Variable(1));
+    let tree = within(alloc, None, kept(alloc, Ok(Expr::Bound(0)), inner));
+    assert!(rt; answers(alloc, 2, graphs(alloc), tree, &[])?);
+    let inner = matched(alloc, Spot::Term("a"), "p", Variable(1));
+    let inner = bound(alloc, 2, Ok(Expr::Variable(0)), inner);
+    let tree = within(alloc, None, inner);
+    let expected: [&[&str]; 2] = [&["g", "c", "."], &["_:g", "d", "."]];
+    assert!(rt; answers(alloc, 3, graphs(alloc), tree, &expected)?);
+    Ok(())
+}
+
 // A graph that no quad names is none: not even the empty pattern has a solution there.
 #[test]
 fn a_graph_without_a_quad_is_none(rt: HostRuntime) -> Result<(), AllocError> {
@@ -221,6 +278,24 @@ fn an_error_binds_nothing(rt: HostRuntime) -> Result<(), AllocError> {
     Ok(())
 }
 
+// A variable that is bound keeps its term.
+#[test]
+fn a_bound_variable_is_not_bound_again(rt: HostRuntime) -> Result<(), AllocError> {
+    let alloc = rt.alloc();
+    let inner = values(alloc, &[["a", "A"], ["b", "."]]);
+    let tree = bound(alloc, 1, Ok(Expr::Variable(0)), inner);
+    let expected: [&[&str]; 2] = [&["a", "A"], &["b", "b"]];
+    assert!(rt; answers(alloc, 2, Ok(Vec::new(alloc)), tree, &expected)?);
+    Ok(())
+}
+
+/// `VALUES () { () () }`
+fn two_empty_rows(alloc: Global) -> Tree {
+    let rows = vec![in alloc; Vec::new(alloc), Vec::new(alloc)]?;
+    let variables = Vec::new(alloc);
+    Ok(Operator::Table { variables, rows })
+}
+
 // Sides of UNION keep their counts, and so do rows of VALUES; Project keeps repeats.
 #[test]
 fn repeats_are_kept(rt: HostRuntime) -> Result<(), AllocError> {
@@ -231,6 +306,10 @@ fn repeats_are_kept(rt: HostRuntime) -> Result<(), AllocError> {
     let dataset = Ok(Vec::new(alloc));
     let expected: [&[&str]; 3] = [&["a", "."], &["a", "."], &["a", "."]];
     assert!(rt; answers(alloc, 2, dataset, tree, &expected)?);
+    let one = values(alloc, &[["a", "A"]]);
+    let tree = joined(alloc, one, two_empty_rows(alloc));
+    let expected: [&[&str]; 2] = [&["a", "A"], &["a", "A"]];
+    assert!(rt; answers(alloc, 2, Ok(Vec::new(alloc)), tree, &expected)?);
     Ok(())
 }
 

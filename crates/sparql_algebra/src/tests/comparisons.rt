@@ -114,6 +114,10 @@ fn other_terms_are_equal_or_not_or_an_error(rt: HostRuntime) -> Result<(), Alloc
         (("abc", "integer"), ("abc", "string"), None),
         (("abc", "integer"), ("1", "integer"), None),
         (("abc", "integer"), ("a:b", "iri"), NO),
+        (("abc", "integer"), ("a", "blank"), NO),
+        (("TRUE", "boolean"), ("TRUE", "boolean"), YES),
+        (("TRUE", "boolean"), ("true", "boolean"), None),
+        ((".", "decimal"), ("0", "decimal"), None),
         (("5", "dateTime"), ("5", "dateTime"), YES),
     ] {
         let found = compared(rt.alloc(), left, Equal, right)?;
@@ -149,6 +153,7 @@ fn effective_boolean_values(rt: HostRuntime) -> Result<(), AllocError> {
         (("abc", "integer"), NO),
         (("1.0", "integer"), NO),
         (("0.00", "decimal"), NO),
+        (("-0.00", "decimal"), NO),
         (("-0", "integer"), NO),
         (("0.001", "decimal"), YES),
         (("300", "byte"), YES),

@@ -1,6 +1,7 @@
 //! Values of expressions over a row.
+use crate::Comparison::{Equal, Less};
 use crate::tests::{NO, YES, term};
-use crate::{Expr, ExprFault, Function, Lookup, test, value};
+use crate::{Comparison, Expr, ExprFault, Function, Lookup, test, value};
 use rdf_core::Term;
 use rdf_core::vocabulary::RDF_LANG_STRING;
 use std::alloc::{AllocError, AllocGlobal, Global};
@@ -49,6 +50,18 @@ fn or(alloc: Global, left: Built, right: Built) -> Built {
 fn and(alloc: Global, left: Built, right: Built) -> Built {
     let (left, right) = (left?, right?);
     boxed(alloc, Expr::And { left, right })
+}
+
+fn compared(alloc: Global, left: Built, operator: Comparison, right: Built) -> Built {
+    let (left, right) = (left?, right?);
+    boxed(
+        alloc,
+        Expr::Compare {
+            operator,
+            left,
+            right,
+        },
+    )
 }
 
 fn same(alloc: Global, left: Built, right: Built) -> Built {
@@ -153,6 +166,39 @@ fn logic_has_three_values(rt: HostRuntime) -> Result<(), AllocError> {
     Ok(())
 }
 
+/// The literal of a comparison, where None is an error; an operand that is one makes it one.
+#[test]
+fn a_comparison_is_a_boolean(rt: HostRuntime) -> Result<(), AllocError> {
+    let alloc = rt.alloc();
+    for (left, operator, right, expected) in [
+        (("01", "integer"), Equal, ("1.0", "decimal"), YES),
+        (("-0", "integer"), Equal, ("0.0", "decimal"), YES),
+        (("+2", "integer"), Less, ("2.5", "decimal"), YES),
+        (("10", "integer"), Less, ("9", "integer"), NO),
+        (
+            ("18446744073709551617", "integer"),
+            Equal,
+            ("1", "integer"),
+            NO,
+        ),
+        (("1", "integer"), Equal, ("1", "double"), None),
+        (("1", "double"), Equal, ("1", "double"), YES),
+        (("a", "en"), Equal, ("a", "string"), None),
+        (("http://e/a", "iri"), Equal, ("a", "string"), NO),
+        (("0", "boolean"), Less, ("true", "boolean"), YES),
+        (("a", "en"), Less, ("b", "en"), None),
+        (("5.", "decimal"), Equal, ("5", "decimal"), YES),
+        ((".", "decimal"), Equal, ("0", "decimal"), None),
+    ] {
+        let (left, right) = (constant(alloc, left), constant(alloc, right));
+        let found = compared(alloc, left, operator, right);
+        assert!(rt; gives(alloc, found, None, shown(expected))?);
+    }
+    let found = compared(alloc, variable(alloc, 0), Equal, variable(alloc, 0));
+    assert!(rt; gives(alloc, found, None, None)?);
+    Ok(())
+}
+
 /// A variable alone is its term; under `||` it is a boolean.
 #[test]
 fn a_variable_is_its_term(rt: HostRuntime) -> Result<(), AllocError> {
@@ -195,24 +241,27 @@ fn within(alloc: Global) -> Built {
     among(alloc, variable(alloc, 0), two, one)
 }
 
-/// Over 01, a number of 40 digits, a text and a double: IN takes the first, NOT IN the second.
+/// Over 01, a number of 40 digits, a text and a double: IN takes the first, NOT IN the second, and
+/// of an unbound variable both are errors.
 #[test]
 fn membership_is_by_value(rt: HostRuntime) -> Result<(), AllocError> {
     let alloc = rt.alloc();
-    for (form, inside, outside) in [
-        (("01", "integer"), true, false),
+    for (item, inside) in [
+        (Some(("01", "integer")), YES),
         (
-            ("1000000000000000000000000000000000000001", "integer"),
-            false,
-            true,
+            Some(("1000000000000000000000000000000000000001", "integer")),
+            NO,
         ),
-        (("1", "string"), false, false),
-        (("1", "double"), false, false),
+        (Some(("1", "string")), None),
+        (Some(("1", "double")), None),
+        (None, None),
     ] {
-        assert!(rt; passes(alloc, within(alloc), Some(form))? == inside);
-        assert!(rt; passes(alloc, not(alloc, within(alloc)), Some(form))? == outside);
+        let outside = inside.map(|is_member| !is_member);
+        assert!(rt; gives(alloc, within(alloc), item, shown(inside))?);
+        assert!(rt; gives(alloc, not(alloc, within(alloc)), item, shown(outside))?);
+        assert!(rt; passes(alloc, within(alloc), item)? == (inside == YES));
+        assert!(rt; passes(alloc, not(alloc, within(alloc)), item)? == (outside == YES));
     }
-    assert!(rt; gives(alloc, within(alloc), None, None)?);
     Ok(())
 }
 
@@ -239,8 +288,16 @@ fn in_nothing(alloc: Global) -> Built {
 #[test]
 fn nothing_is_in_the_empty_list(rt: HostRuntime) -> Result<(), AllocError> {
     let alloc = rt.alloc();
-    assert!(rt; gives(alloc, in_nothing(alloc), None, shown(NO))?);
-    assert!(rt; passes(alloc, not(alloc, in_nothing(alloc)), None)?);
+    for item in [
+        Some(("01", "integer")),
+        Some(("1", "string")),
+        Some(("1", "double")),
+        None,
+    ] {
+        assert!(rt; gives(alloc, in_nothing(alloc), item, shown(NO))?);
+        assert!(rt; gives(alloc, not(alloc, in_nothing(alloc)), item, shown(YES))?);
+        assert!(rt; passes(alloc, not(alloc, in_nothing(alloc)), item)?);
+    }
     Ok(())
 }
 

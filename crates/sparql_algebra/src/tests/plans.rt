@@ -107,13 +107,27 @@ fn below(plan: &Plan) -> Option<&Operator> {
     }
 }
 
-/// How many triples the pattern has that is joined with what stands before.
+/// How many triples the pattern has that is joined with the empty pattern.
 fn joined_triples(tree: &Operator) -> Option<usize> {
     match tree {
-        Operator::Join { right, .. } => match &**right {
-            Operator::Pattern { triples, .. } => Some(triples.len()),
-            _ => None,
-        },
+        Operator::Join { left, right } => {
+            if is_empty_pattern(left) {
+                count_triples(right)
+            } else {
+                None
+            }
+        }
+        _ => None,
+    }
+}
+
+fn is_empty_pattern(tree: &Operator) -> bool {
+    matches!(tree, Operator::Pattern { labels: 0, .. }) && count_triples(tree) == Some(0)
+}
+
+fn count_triples(tree: &Operator) -> Option<usize> {
+    match tree {
+        Operator::Pattern { triples, .. } => Some(triples.len()),
         _ => None,
     }
 }
@@ -274,6 +288,40 @@ fn has_three_labels(tree: &Operator) -> bool {
                     && matches!(first.object, operator::PatternTerm::Label(1))
                     && matches!(second.subject, operator::PatternTerm::Label(2))
                     && matches!(second.object, operator::PatternTerm::Label(0))
+            }
+            _ => false,
+        },
+        _ => false,
+    }
+}
+
+/// `{ ?x <p> _:x }`: a variable and a label of one name are two things.
+#[test]
+fn a_label_is_no_variable(rt: HostRuntime) -> Result<(), AllocError> {
+    let alloc = rt.alloc();
+    let triple = Triple {
+        subject: PatternTerm::Variable(text(alloc, "x")?),
+        predicate: place(alloc, "a:p")?,
+        object: PatternTerm::Blank(text(alloc, "x")?),
+    };
+    let triples = vec![in alloc; triple]?;
+    let group = then(none(alloc), Ok(Element::Triples(triples)));
+    let plan = planned(alloc, group, &["x"])?;
+    assert!(rt; plan.names.len() == 1 && plan.projected() == [0].as_slice());
+    let found = match below(&plan) {
+        Some(Operator::Join { right, .. }) => goes_to_a_label(right),
+        _ => false,
+    };
+    assert!(rt; found);
+    Ok(())
+}
+
+fn goes_to_a_label(tree: &Operator) -> bool {
+    match tree {
+        Operator::Pattern { labels: 1, triples } => match triples.as_slice() {
+            [triple] => {
+                matches!(triple.subject, operator::PatternTerm::Variable(0))
+                    && matches!(triple.object, operator::PatternTerm::Label(0))
             }
             _ => false,
         },

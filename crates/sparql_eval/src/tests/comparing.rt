@@ -52,12 +52,12 @@ impl Value for First {
 
 /// Numbers that look random.
 #[derive(Drop)]
-struct Draws {
-    state: u64,
+pub(crate) struct Draws {
+    pub(crate) state: u64,
 }
 
 impl Draws {
-    fn below(&mut self, n: u64) -> u64
+    pub(crate) fn below(&mut self, n: u64) -> u64
         requires some { 1 ≤ n }
     {
         self.state = self

@@ -23,18 +23,22 @@ use std::thread::Threads;
 
 /// In the default graph x p y, y p z and x q "5"; x p y and x r g in the graph g; y p x in the graph
 /// of a blank node.
-const DOCUMENT: &str =
+pub(crate) const DOCUMENT: &str =
     "<a:x> <a:p> <a:y> .\n<a:y> <a:p> <a:z> .\n<a:x> <a:q> \"5\" .\n<a:x> <a:p> <a:y> <a:g> .\n<a:x> <a:r> <a:g> <a:g> .\n<a:y> <a:p> <a:x> _:h .\n";
 
-/// The dictionary and the index of the document.
-fn store<R: RandomSource>(rt: &R, alloc: Global) -> Result<(Dict, Index), AllocError>
+/// The dictionary and the index of a document.
+pub(crate) fn store<R: RandomSource>(
+    rt: &R,
+    alloc: Global,
+    document: &str,
+) -> Result<(Dict, Index), AllocError>
     ensures below { IfOk result (λ store. AreBelow (length store.0) store.1) }
 {
     index_reads_the_quads();
     let Ok(state) = RandomState::new(rt) else {
         return Err(AllocError);
     };
-    let Ok(piece) = read_piece(alloc, DOCUMENT.as_bytes()) else {
+    let Ok(piece) = read_piece(alloc, document.as_bytes()) else {
         return Err(AllocError);
     };
     let mut pieces = Vec::new(alloc);
@@ -52,16 +56,19 @@ fn texts(alloc: Global, names: &[&str]) -> Result<Vec<Text>, AllocError> {
     Ok(all)
 }
 
-/// A variable where the word begins with `?`, and an IRI otherwise.
+/// A variable where the word begins with `?`, a label where it begins with `_:`, and an IRI otherwise.
 fn place(alloc: Global, word: &str) -> Result<PatternTerm, AllocError> {
-    match word.strip_prefix("?") {
-        Some(name) => Ok(PatternTerm::Variable(text(alloc, name)?)),
+    if let Some(name) = word.strip_prefix("?") {
+        return Ok(PatternTerm::Variable(text(alloc, name)?));
+    }
+    match word.strip_prefix("_:") {
+        Some(label) => Ok(PatternTerm::Blank(text(alloc, label)?)),
         None => Ok(PatternTerm::Term(iri(alloc, word)?)),
     }
 }
 
 /// A group of one triple.
-fn triple(alloc: Global, s: &str, p: &str, o: &str) -> Result<Vec<Element>, AllocError> {
+pub(crate) fn triple(alloc: Global, s: &str, p: &str, o: &str) -> Result<Vec<Element>, AllocError> {
     let triple = Triple {
         subject: place(alloc, s)?,
         predicate: place(alloc, p)?,
@@ -72,7 +79,11 @@ fn triple(alloc: Global, s: &str, p: &str, o: &str) -> Result<Vec<Element>, Allo
 }
 
 /// `VALUES (?name ?other) { (cell cell) .. }`, where `-` is UNDEF.
-fn values(alloc: Global, names: &[&str], rows: &[[&str; 2]]) -> Result<Element, AllocError> {
+pub(crate) fn values(
+    alloc: Global,
+    names: &[&str],
+    rows: &[[&str; 2]],
+) -> Result<Element, AllocError> {
     let mut table = Vec::new(alloc);
     for row in rows {
         let mut cells = Vec::new(alloc);
@@ -96,7 +107,7 @@ fn is_term(alloc: Global, name: &str, term: &str) -> Result<Element, AllocError>
 }
 
 /// A query for all variables of its group, whose names are these.
-fn select(
+pub(crate) fn select(
     alloc: Global,
     distinct: bool,
     names: &[&str],
@@ -140,7 +151,7 @@ fn has<R: RandomSource + Threads + Wait>(
     requires rows { 1 ≤ rows }
 {
     let how = How { workers, rows };
-    let (dict, index) = store(rt, alloc)?;
+    let (dict, index) = store(rt, alloc, DOCUMENT)?;
     let plan = translate(alloc, query)?;
     let (rows, dict) = evaluate(rt, alloc, dict, &index, &plan, &how, &OpenGate)?;
     let lines = told(alloc, &dict, &rows)?;
@@ -322,7 +333,7 @@ fn added<R: RandomSource + Threads + Wait>(
     alloc: Global,
     query: &Query,
 ) -> Result<usize, EvalFault> {
-    let (dict, index) = store(rt, alloc)?;
+    let (dict, index) = store(rt, alloc, DOCUMENT)?;
     let before = dict.len();
     let plan = translate(alloc, query)?;
     let how = How {
@@ -363,14 +374,14 @@ fn graph_stands_by_itself(rt: HostRuntime) -> Result<(), EvalFault> {
         triples: Vec::new(alloc),
     };
     let each = sparql_algebra::GraphName::Variable(0);
-    let (dict, index) = store(&rt, alloc)?;
+    let (dict, index) = store(&rt, alloc, DOCUMENT)?;
     let (rows, dict) = graph(
         &rt, alloc, state, dict, &index, 1, &each, &empty, &how, gate,
     )?;
     let lines = told(alloc, &dict, &rows)?;
     assert!(rt; are(&lines, &["a:g ", "h "]));
     let none = sparql_algebra::GraphName::Iri(iri(alloc, "a:none")?);
-    let (dict, index) = store(&rt, alloc)?;
+    let (dict, index) = store(&rt, alloc, DOCUMENT)?;
     let (rows, _dict) = graph(
         &rt, alloc, state, dict, &index, 1, &none, &empty, &how, gate,
     )?;

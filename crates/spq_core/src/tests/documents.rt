@@ -2,16 +2,20 @@
 
 use super::asking::{WHOLE, check, select, terms, told};
 use super::samples::{ESCAPED, GRAPHS, REPEATED, TWO_LINES};
+use std::alloc::{AllocError, Global};
 
 const CUT_SHORT: &[u8] =
     b"<http://e/a> <http://e/p> <http://e/b> .\n<http://e/a> <http://e/p> <http://e/b> .\n<http://e/a> <http://e/p> \"x\" ";
+
+const ONE_LINE_MORE: &[u8] =
+    b"<http://e/a> <http://e/p> <http://e/b> .\n<http://e/a> <http://e/p> <http://e/b> .\n<http://e/a> <http://e/p> \"x\" .\nx\n";
 
 const LINE_ENDS: &[u8] =
     b"<http://e/a> <http://e/p> <http://e/b> .\r\n# c\n<http://e/a> <http://e/p> .\n";
 
 #[test]
 fn documents_are_checked(rt: HostRuntime) {
-    let cases: [(&str, &[u8], &[u8]); 14] = [
+    let cases: [(&str, &[u8], &[u8]); 15] = [
         (
             "a repeated statement counts once",
             REPEATED.as_bytes(),
@@ -40,6 +44,7 @@ fn documents_are_checked(rt: HostRuntime) {
             b"error: line 2\n",
         ),
         ("the last line lacks its dot", CUT_SHORT, b"error: line 3\n"),
+        ("the last line is bad", ONE_LINE_MORE, b"error: line 4\n"),
         (
             "a label takes all it can",
             b"<http://e/a> <http://e/p> _:o_:g .\n",
@@ -93,11 +98,13 @@ fn the_first_of_two_bad_lines_is_named(rt: HostRuntime) {
             return;
         }
     }
-    let given = told(&rt, alloc, &check(8, 1), &doc);
-    assert!(rt;
-        given.as_slice() == b"error: line 2\n".as_slice(),
-        "line 2 of 1000 pieces"
-    );
+    for piece in [1, 65536] {
+        let given = told(&rt, alloc, &check(8, piece), &doc);
+        assert!(rt;
+            given.as_slice() == b"error: line 2\n".as_slice(),
+            "line 2 of 1000, in pieces of {piece}"
+        );
+    }
 }
 
 #[test]
@@ -139,12 +146,18 @@ fn terms_are_listed(rt: HostRuntime) {
 
 #[test]
 fn a_bad_line_refuses_a_select(rt: HostRuntime) {
-    let command = select(rt.alloc(), "SELECT ?o { ?s ?p ?o }", WHOLE);
-    let given = told(&rt, rt.alloc(), &command, CUT_SHORT);
-    assert!(rt;
-        given.as_slice() == b"error: line 3\n".as_slice(),
-        "the last line is bad"
-    );
+    let cases: [(&str, &[u8], &[u8]); 2] = [
+        ("SELECT ?o { ?s ?p ?o }", CUT_SHORT, b"error: line 3\n"),
+        (
+            "SELECT ?o { <http://e/a> <http://e/p> ?o }",
+            ONE_LINE_MORE,
+            b"error: line 4\n",
+        ),
+    ];
+    for (query, doc, wanted) in cases {
+        let given = told(&rt, rt.alloc(), &select(rt.alloc(), query, WHOLE), doc);
+        assert!(rt; given.as_slice() == wanted, "the last line is bad: {query}");
+    }
 }
 
 /// One statement a line.
@@ -154,10 +167,10 @@ const TWICE: &[u8] =
 // Each line has 40 bytes, and may end without a line feed.
 #[test]
 fn every_front_of_a_document_is_judged(rt: HostRuntime) {
-    for count in 0..TWICE.len() {
+    for count in 0..TWICE.len() + 1 {
         let wanted = match count {
             0 => b"ok 0 quads 0 terms 0 graphs\n".as_slice(),
-            40 | 41 | 81 => b"ok 1 quads 3 terms 0 graphs\n".as_slice(),
+            40 | 41 | 81 | 82 => b"ok 1 quads 3 terms 0 graphs\n".as_slice(),
             1..=39 => b"error: line 1\n".as_slice(),
             _ => b"error: line 2\n".as_slice(),
         };
@@ -166,30 +179,34 @@ fn every_front_of_a_document_is_judged(rt: HostRuntime) {
     }
 }
 
+/// Sixteen lines, of which one is bad.
+fn with_a_bad_line(alloc: Global, bad: usize) -> Result<Vec<u8>, AllocError> {
+    let mut doc = Vec::new(alloc);
+    for line in 1..17 {
+        let text = if line == bad {
+            b"x\n".as_slice()
+        } else {
+            b"<http://e/a> <http://e/p> <http://e/b> .\n".as_slice()
+        };
+        doc.extend_from_slice(text)?;
+    }
+    Ok(doc)
+}
+
 // A bad line is found wherever it stands, by however many workers.
 #[test]
-fn each_bad_line_is_named(rt: HostRuntime) {
+fn each_bad_line_is_named(rt: HostRuntime) -> Result<(), AllocError> {
     let alloc = rt.alloc();
-    for (bad, wanted) in [
-        (1, b"error: line 1\n".as_slice()),
-        (2, b"error: line 2\n".as_slice()),
-        (9, b"error: line 9\n".as_slice()),
-        (16, b"error: line 16\n".as_slice()),
-    ] {
-        let mut doc = Vec::new(alloc);
-        for line in 1..17 {
-            let text = if line == bad {
-                b"x\n".as_slice()
-            } else {
-                b"<http://e/a> <http://e/p> <http://e/b> .\n".as_slice()
-            };
-            if doc.extend_from_slice(text).is_err() {
-                return;
-            }
-        }
+    for bad in 1..17 {
+        let doc = with_a_bad_line(alloc, bad)?;
+        let wanted = format!(in alloc; "error: line {bad}\n")?;
         for workers in [1, 2, 8] {
             let given = told(&rt, alloc, &check(workers, 1), &doc);
-            assert!(rt; given.as_slice() == wanted, "line {bad}, {workers} workers");
+            assert!(rt;
+                given.as_slice() == wanted.as_bytes(),
+                "line {bad}, {workers} workers"
+            );
         }
     }
+    Ok(())
 }

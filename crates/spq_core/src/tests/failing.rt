@@ -4,6 +4,7 @@ use super::asking::{WHOLE, check, select, terms};
 use super::devices::{CHUNK, sink, sink_failing_at, source, source_failing_at};
 use super::samples::{GRAPHS, REPEATED, TWO_LINES};
 use crate::{RunFault, run};
+use nquads_core::Device;
 use sparql_read::QueryFault;
 use spq_command::Command;
 use std::alloc::Global;
@@ -15,6 +16,23 @@ const OBJECTS: &str = "SELECT ?o { <http://e/a> <http://e/p> ?o }";
 
 const OUTPUT: &[u8] =
     b"{\"head\":{\"vars\":[\"o\"]},\"results\":{\"bindings\":[{\"o\":{\"type\":\"uri\",\"value\":\"http://e/b\"}},{\"o\":{\"type\":\"literal\",\"value\":\"x\"}}]}}\n";
+
+// Devices of the standard library tell no count of failures, by which a clause could say that none failed.
+#[test]
+fn devices_that_count_no_failures_do_not_fail(rt: HostRuntime) {
+    let alloc = rt.alloc();
+    for way in [WHOLE, (2, 1, 1)] {
+        let command = select(alloc, OBJECTS, way);
+        let mut reader = Device {
+            inner: REPEATED.as_bytes(),
+        };
+        let bytes: Vec<u8> = Vec::new(alloc);
+        let mut writer = Device { inner: bytes };
+        let ran = run(&rt, alloc, &command, &mut reader, &mut writer);
+        assert!(rt; ran == Ok(()), "it is answered");
+        assert!(rt; writer.inner.as_slice() == OUTPUT, "the output stands");
+    }
+}
 
 #[test]
 fn each_write_that_fails_leaves_a_beginning(rt: HostRuntime) {
