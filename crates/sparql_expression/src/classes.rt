@@ -18,7 +18,7 @@ use crate::decoding::{
 };
 use crate::front::next;
 use rdf_core::{Term, Text};
-use sparql_grammar::Declaration;
+use sparql_grammar::Declarations;
 use sparql_lexer::{Kind, Token};
 use sparql_tree::{Comparison, Function};
 use std::alloc::{AllocError, Global};
@@ -120,14 +120,13 @@ pub fn accept_blank<'t, 'a>(
 
 /// The IRI at the front, written or by a prefixed name, and what stands behind it.
 ///
-/// `names` has the declarations, the last one of the text first. An IRI with an escape that names
-/// no character is none.
+/// `names` are the declarations of the text. An IRI with an escape that names no character is none.
 ///
 /// # Errors
 /// A growth was refused.
 pub fn accept_name<'t, 'a>(
     alloc: Global,
-    names: &[Declaration],
+    names: &Declarations,
     tokens: &'t [Token<'a>],
 ) -> Result<Option<(Text, &'t [Token<'a>])>, AllocError>
     ensures accepts { IfOk result (λ o. Accepts names.now the_class.name (terminals tokens.now) (accepted o)) }

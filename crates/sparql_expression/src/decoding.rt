@@ -5,12 +5,12 @@ ghost use lib.Utf8.{encodes};
 ghost use Rattle.rdf_core.specs.Vocabulary.{xsd_boolean};
 ghost use Rattle.rdf_core.specs.declared.term.Term.TheVariants.{Literal};
 ghost use Rattle.sparql_grammar.specs.Class.{comparison_of, function_of, variable_of, blank_of, reference_of, name_of, string_of, language_of, number_of, number_type, boolean_of, count_of};
-ghost use Rattle.sparql_grammar.specs.Values.{capped, colon_at, expanded, prefix_of, local_of, unescaped, declaration_of};
+ghost use Rattle.sparql_grammar.specs.Values.{capped, colon_at, expanded, prefix_of, local_of, unescaped};
 
 use rdf_core::lexical::lower_tag;
 use rdf_core::vocabulary::{XSD_BOOLEAN, XSD_DECIMAL, XSD_DOUBLE, XSD_INTEGER};
 use rdf_core::{Term, Text};
-use sparql_grammar::Declaration;
+use sparql_grammar::Declarations;
 use sparql_lexer::{Keyword, Kind, Sign, iri_value, string_value, text_of};
 use sparql_tree::{Comparison, Function};
 use std::alloc::{AllocError, Global};
@@ -127,29 +127,17 @@ fn unescaped(alloc: Global, text: &[char]) -> Result<String, AllocError>
     text.iter().copied().filter(|c| *c != '\\').collect(alloc)
 }
 
-/// The declaration of a prefix: the first that fits.
-fn declaration_of<'n>(names: &'n [Declaration], prefix: &str) -> Option<&'n Declaration>
-    ensures { MatchOption result (declaration_of names.now prefix.now ≡ None) (λ d. declaration_of names.now prefix.now ≡ Some d.now) }
-{
-    for declaration in names {
-        if declaration.prefix.as_str() == prefix {
-            return Some(declaration);
-        }
-    }
-    None
-}
-
-/// The IRI of a prefixed name, by the declarations with the last one of the text first; the name
-/// as it is written, where its prefix has no declaration.
+/// The IRI of a prefixed name, by the declarations of the text; the name as it is written, where its
+/// prefix has no declaration.
 ///
 /// # Errors
 /// A growth was refused.
-pub fn expanded(alloc: Global, names: &[Declaration], text: &[char]) -> Result<Text, AllocError>
+pub fn expanded(alloc: Global, names: &Declarations, text: &[char]) -> Result<Text, AllocError>
     ensures { IfOk result (λ t. t ≡ expanded names.now text.now) }
 {
     let (prefix, local) = split_name(text);
     let prefix = text_of(alloc, prefix)?;
-    let Some(declaration) = declaration_of(names, prefix.as_str()) else {
+    let Some(declaration) = names.find(prefix.as_str()) else {
         return Ok(Text::from_string(text_of(alloc, text)?));
     };
     let local = unescaped(alloc, local)?;
@@ -164,7 +152,7 @@ pub fn expanded(alloc: Global, names: &[Declaration], text: &[char]) -> Result<T
 /// A growth was refused.
 pub fn name_of(
     alloc: Global,
-    names: &[Declaration],
+    names: &Declarations,
     kind: Kind,
     text: &[char],
 ) -> Result<Option<Text>, AllocError>

@@ -1,9 +1,8 @@
 //! Reads expressions: a function a production.
 //!
-//! `names` has the declarations, the last one of the text first. Each reader answers the tree of
-//! the production at the front of the tokens and what stands behind it. Each of them fails with
-//! `Syntax`, where the tokens begin with no such text, and with `Memory`, where a growth was
-//! refused.
+//! `names` are the declarations of the text. Each reader answers the tree of the production at the
+//! front of the tokens and what stands behind it. Each of them fails with `Syntax`, where the tokens
+//! begin with no such text, and with `Memory`, where a growth was refused.
 
 ghost use Rattle.std.specs.Prelude.{◌≡◌, ◌<◌, IfOk, length};
 ghost use Rattle.sparql_lexer.specs.Terminal.{terminals};
@@ -21,21 +20,21 @@ use crate::trees::{
     make_and, make_bound, make_call, make_comparison, make_constant, make_in, make_not, make_or,
     make_same_term, make_variable,
 };
-use sparql_grammar::Declaration;
+use sparql_grammar::Declarations;
 use sparql_lexer::{Keyword, Kind, Sign, Token};
 use sparql_tree::Expression;
 use std::alloc::Global;
 
 /// Reads a whole expression: conjunctions with `||` between them.
 ///
-/// `names` has the declarations, the last one of the text first.
+/// `names` are the declarations of the text.
 ///
 /// # Errors
 /// `Syntax`: no expression stands at the front. `Memory`: a growth was refused.
 #[cycle(expression)]
 pub fn read_disjunction<'t, 'a>(
     alloc: Global,
-    names: &[Declaration],
+    names: &Declarations,
     tokens: &'t [Token<'a>],
 ) -> Result<(Expression, &'t [Token<'a>]), ReadFault>
     ensures reads { Reads names.now the.disjunction (terminals tokens.now) (seen expression_of result) }
@@ -53,7 +52,7 @@ pub fn read_disjunction<'t, 'a>(
 #[cycle(expression)]
 fn read_conjunction<'t, 'a>(
     alloc: Global,
-    names: &[Declaration],
+    names: &Declarations,
     tokens: &'t [Token<'a>],
 ) -> Result<(Expression, &'t [Token<'a>]), ReadFault>
     ensures reads { Reads names.now the.conjunction (terminals tokens.now) (seen expression_of result) }
@@ -71,7 +70,7 @@ fn read_conjunction<'t, 'a>(
 #[cycle(expression)]
 fn read_relation<'t, 'a>(
     alloc: Global,
-    names: &[Declaration],
+    names: &Declarations,
     tokens: &'t [Token<'a>],
 ) -> Result<(Expression, &'t [Token<'a>]), ReadFault>
     ensures reads { Reads names.now the.relation (terminals tokens.now) (seen expression_of result) }
@@ -100,7 +99,7 @@ fn read_relation<'t, 'a>(
 #[cycle(expression)]
 fn read_unary<'t, 'a>(
     alloc: Global,
-    names: &[Declaration],
+    names: &Declarations,
     tokens: &'t [Token<'a>],
 ) -> Result<(Expression, &'t [Token<'a>]), ReadFault>
     ensures reads { Reads names.now the.unary (terminals tokens.now) (seen expression_of result) }
@@ -145,7 +144,7 @@ pub fn is_call_next(tokens: &[Token]) -> bool
 #[cycle(expression)]
 fn read_primary<'t, 'a>(
     alloc: Global,
-    names: &[Declaration],
+    names: &Declarations,
     tokens: &'t [Token<'a>],
 ) -> Result<(Expression, &'t [Token<'a>]), ReadFault>
     ensures reads { Reads names.now the.primary (terminals tokens.now) (seen expression_of result) }
@@ -171,7 +170,7 @@ fn read_primary<'t, 'a>(
 #[cycle(expression)]
 pub fn read_bracket<'t, 'a>(
     alloc: Global,
-    names: &[Declaration],
+    names: &Declarations,
     tokens: &'t [Token<'a>],
 ) -> Result<(Expression, &'t [Token<'a>]), ReadFault>
     ensures reads { Reads names.now the.bracket (terminals tokens.now) (seen expression_of result) }
@@ -194,7 +193,7 @@ pub fn read_bracket<'t, 'a>(
 #[cycle(expression)]
 pub fn read_call<'t, 'a>(
     alloc: Global,
-    names: &[Declaration],
+    names: &Declarations,
     tokens: &'t [Token<'a>],
 ) -> Result<(Expression, &'t [Token<'a>]), ReadFault>
     ensures reads { Reads names.now the.call (terminals tokens.now) (seen expression_of result) }
@@ -237,7 +236,7 @@ fn read_bound<'t, 'a>(
 #[cycle(expression)]
 fn read_same_term<'t, 'a>(
     alloc: Global,
-    names: &[Declaration],
+    names: &Declarations,
     tokens: &'t [Token<'a>],
 ) -> Result<(Expression, &'t [Token<'a>]), ReadFault>
     ensures reads { Reads names.now the.same_term (terminals tokens.now) (seen expression_of result) }
@@ -261,7 +260,7 @@ fn read_same_term<'t, 'a>(
 #[cycle(expression)]
 fn read_members<'t, 'a>(
     alloc: Global,
-    names: &[Declaration],
+    names: &Declarations,
     tokens: &'t [Token<'a>],
 ) -> Result<(Vec<Expression>, &'t [Token<'a>]), ReadFault>
     ensures reads { Reads names.now the.members (terminals tokens.now) (seen (λ es. expressions_of es.items) result) }

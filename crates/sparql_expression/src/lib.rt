@@ -36,6 +36,3 @@ pub use expressions::{is_call_next, read_bracket, read_call, read_disjunction};
 pub use fault::ReadFault;
 pub use front::{accept, accept_word, next};
 pub use terms::{read_literal, read_term};
-
-#[cfg(test)]
-mod tests;

@@ -13,7 +13,7 @@ use crate::fault::ReadFault;
 use crate::front::accept;
 use rdf_core::vocabulary::{RDF_LANG_STRING, XSD_STRING};
 use rdf_core::{Term, Text};
-use sparql_grammar::Declaration;
+use sparql_grammar::Declarations;
 use sparql_lexer::{Sign, Token};
 use std::alloc::{AllocError, Global};
 
@@ -47,13 +47,13 @@ fn plain_string(alloc: Global, lexical: Text) -> Result<Term, AllocError>
 
 /// Reads what may stand behind a string: a language tag, or a datatype.
 ///
-/// `names` has the declarations, the last one of the text first.
+/// `names` are the declarations of the text.
 ///
 /// # Errors
 /// `Syntax`: `^^` stands there without a datatype. `Memory`: a growth was refused.
 pub fn read_literal<'t, 'a>(
     alloc: Global,
-    names: &[Declaration],
+    names: &Declarations,
     string: Text,
     tokens: &'t [Token<'a>],
 ) -> Result<(Term, &'t [Token<'a>]), ReadFault>
@@ -75,13 +75,13 @@ pub fn read_literal<'t, 'a>(
 /// Reads an IRI, a number, a boolean or a literal at the front, and answers what stands behind it
 /// too.
 ///
-/// `names` has the declarations, the last one of the text first.
+/// `names` are the declarations of the text.
 ///
 /// # Errors
 /// `Syntax`: no term stands there. `Memory`: a growth was refused.
 pub fn read_term<'t, 'a>(
     alloc: Global,
-    names: &[Declaration],
+    names: &Declarations,
     tokens: &'t [Token<'a>],
 ) -> Result<(Term, &'t [Token<'a>]), ReadFault>
     ensures reads { Reads names.now the.term (terminals tokens.now) (seen (λ t. t) result) }

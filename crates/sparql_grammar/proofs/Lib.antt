@@ -3,3 +3,4 @@ pub mod FormLaws
 pub mod ClassLaws
 pub mod ProductionLaws
 pub mod MatchLaws
+pub mod PlaceLaws

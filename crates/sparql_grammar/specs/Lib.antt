@@ -1,4 +1,5 @@
 pub mod Values
+pub mod Places
 pub mod Class
 pub mod Symbol
 pub mod Form

@@ -9,10 +9,11 @@
 //! names nothing stands for nothing, so no production takes it.
 //!
 //! To read in this order: specs/Class.antt, specs/Symbol.antt, specs/Form.antt,
-//! specs/Productions.antt, specs/Matches.antt, then `laws`.
+//! specs/Productions.antt, specs/Matches.antt, then `laws`; specs/Values.antt, then `names`.
 //!
 //! A prefixed name stands for its IRI by the declarations that are given; without a declaration of
-//! its prefix it stands as it is written.
+//! its prefix it stands as it is written. [`Declarations`] are those of a text: a prefix finds the last
+//! one that has it, without a walk over all.
 //!
 //! Not there: the readers, and the refusals of a query.
 #![tactic(auto)]
@@ -21,4 +22,4 @@ mod laws;
 mod names;
 
 pub use laws::one_query;
-pub use names::Declaration;
+pub use names::{Declaration, Declarations};

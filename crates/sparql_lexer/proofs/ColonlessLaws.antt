@@ -1,11 +1,11 @@
 -- Where no name with a colon begins.
-use Rattle.std.proofs.Common.{◌≡◌, ℕ, ◌<◌, ◌≤◌, List, [], ◌∷◌, length, Bool, true, false, ◌||◌, refl, sym, ap, ◌∙◌, subst, arith, ◌⊎◌, inl, inr, nat_eq, nat_le, if◌then◌else◌}
+use Rattle.std.proofs.Common.{◌≡◌, ℕ, ◌<◌, ◌≤◌, List, [], ◌∷◌, length, Bool, true, false, ◌||◌, ◌-◌, suc, get_or, refl, sym, ap, ◌∙◌, subst, arith, ◌⊎◌, inl, inr, nat_eq, nat_le, if◌then◌else◌}
 use Rattle.std.proofs.lemmas.Bool.Decides.{nat_tests}
 use Rattle.rdf_core.specs.Characters.{is_pn_chars_base, is_name_start, is_name_char}
 use Rattle.sparql_lexer.specs.Blanks.{beyond, after_blanks}
-use Rattle.sparql_lexer.specs.Characters.{is_name_part, is_joining, is_line_end, is_space}
-use Rattle.sparql_lexer.specs.Colonless.{Behind, here, next, is_name_or_dot, IsClear}
-use Rattle.sparql_lexer.specs.Names.{namespace, prefixed_name, local}
+use Rattle.sparql_lexer.specs.Characters.{is_base, is_name_part, is_joining, is_line_end, is_space}
+use Rattle.sparql_lexer.specs.Colonless.{Behind, here, next, is_name_or_dot, IsClear, IsRun}
+use Rattle.sparql_lexer.specs.Names.{namespace, prefixed_name, local, tail}
 use Rattle.sparql_lexer.specs.Pattern.{Pattern, character, ◌▸◌, ◌or◌, many, is, Matches, is_nothing, is_character, both, left, right, no_more, one_more, EndsAt, Nowhere}
 use Rattle.sparql_lexer.proofs.PatternLaws.{behind, behind_behind, behind_same, behind_shorter, shorter, along, many_append, moved, sure_character, or_left, or_right, not_here, tail_inside, then_none}
 
@@ -40,16 +40,17 @@ le_or_lt a b = go (nat_le a b) refl
     go true e = inl (grind (arith, nat_tests))
     go false e = inr (grind (arith, nat_tests))
 
+-- two runs from one place, of which a colon ends the one
+run_meets : {ts m end r : List ℕ} → Matches (many (character is_name_or_dot)) ts m → Matches (is 58) m r → Matches (many (character is_name_or_dot)) ts end → ((t : List ℕ) → Matches (many (character is_name_or_dot)) end t → length end ≤ length t) → m ≡ end
+run_meets {m = m} {end = end} {r = r} d x e longest = go (along (sure_character is_name_or_dot) d e)
+  where
+    go : Matches (many (character is_name_or_dot)) m end ⊎ Matches (many (character is_name_or_dot)) end m → m ≡ end
+    go (inl a) = elim (le_or_lt (length m) (length end)) [ inl l ↦ sym (behind_same (behind a) here (let k = shorter a in omega arith)) | inr l ↦ absurd (no_colon a l x) ]
+    go (inr a) = sym (behind_same here (behind a) (let k = longest m a in let l = shorter a in omega arith))
+
 -- a run that another run and a colon end
 run_colon : {ts m end r : List ℕ} → Matches (many (character is_name_or_dot)) ts m → Matches (is 58) m r → Matches (many (character is_name_or_dot)) ts end → ((t : List ℕ) → Matches (many (character is_name_or_dot)) end t → length end ≤ length t) → Nowhere (is 58) end → ⊥
-run_colon {m = m} {end = end} {r = r} d x e longest none = go (along (sure_character is_name_or_dot) d e)
-  where
-    meet : m ≡ end → ⊥
-    meet h = none.none r (moved h x)
-
-    go : Matches (many (character is_name_or_dot)) m end ⊎ Matches (many (character is_name_or_dot)) end m → ⊥
-    go (inl a) = elim (le_or_lt (length m) (length end)) [ inl l ↦ meet (sym (behind_same (behind a) here (let k = shorter a in omega arith))) | inr l ↦ no_colon a l x ]
-    go (inr a) = meet (sym (behind_same here (behind a) (let k = longest m a in let l = shorter a in omega arith)))
+run_colon {r = r} d x e longest none = none.none r (moved (run_meets d x e longest) x)
 
 -- no namespace begins in a run that no colon ends
 clear_run : {p end r : List ℕ} → Matches (many (character is_name_or_dot)) p end → length end < length p → ((t : List ℕ) → Matches (many (character is_name_or_dot)) end t → length end ≤ length t) → Nowhere (is 58) end → Matches namespace p r → ⊥
@@ -57,14 +58,86 @@ clear_run run l longest none (both (left is_nothing) x) = no_colon run l x
 clear_run no_more l longest none (both (right (both b t)) x) = absurd (omega arith)
 clear_run (one_more (is_character e) run) l longest none (both {mid = m} (right (both {mid = k} (is_character f) t)) x) = run_colon (in_one_class (tail_inside k m t)) x run longest none
 
+base_is_no_dot : is_base 46 ≡ false
+unfolding is_pn_chars_base
+base_is_no_dot = refl
+
+part_is_no_dot : is_name_part 46 ≡ false
+unfolding is_name_char is_name_start is_pn_chars_base
+part_is_no_dot = refl
+
+-- another character than a dot stands before the end
+not_dotted : (p : ℕ → Bool) {c : ℕ} {text end : List ℕ} → Behind text (c ∷ end) → Behind text (46 ∷ end) → p c ≡ true → p 46 ≡ false → ⊥
+not_dotted p b d e f = true_false (subst (λ z. p z ≡ true) (ap (λ xs. get_or xs 0 0) (behind_same b d refl)) e) f
+
+-- a name does not end with a dot
+name_dotted : {c : ℕ} {k m text : List ℕ} → is_base c ≡ true → Matches (tail (character is_name_part)) k m → Behind text (c ∷ k) → Behind text (46 ∷ m) → ⊥
+name_dotted e (left is_nothing) b d = not_dotted is_base b d e base_is_no_dot
+name_dotted e (right (both a (is_character f))) b d = not_dotted is_name_part (behind_behind b (next (behind a))) d f part_is_no_dot
+
+-- no namespace begins in a run that ends with a dot
+dotted_run : {p end r text : List ℕ} → Matches (many (character is_name_or_dot)) p end → length end < length p → ((t : List ℕ) → Matches (many (character is_name_or_dot)) end t → length end ≤ length t) → Behind text p → Behind text (46 ∷ end) → Matches namespace p r → ⊥
+dotted_run run l longest b d (both (left is_nothing) x) = no_colon run l x
+dotted_run no_more l longest b d (both (right (both f t)) x) = absurd (omega arith)
+dotted_run {text = text} (one_more (is_character e) run) l longest b d (both {mid = m} (right (both {mid = k} (is_character f) t)) x) =
+    name_dotted f t b (subst (λ z. Behind text (46 ∷ z)) (sym (run_meets (in_one_class (tail_inside k m t)) x run longest)) d)
+
+pub clear_dotted : (text end : List ℕ) → EndsAt (many (character is_name_or_dot)) text end → Behind text (46 ∷ end) → IsClear text end
+clear_dotted text end run d =
+    record { none = λ place rest b l n. dotted_run (run_from run.matches b (let k = l in omega arith)) l (λ t e. run.longest t (many_append run.matches e)) b d n }
+
+last_next : (x c : ℕ) {ts end : List ℕ} → Behind ts end → (length end < length ts → Behind ts (get_or ts (length ts - length end - 1) x ∷ end)) → Behind (c ∷ ts) (get_or (c ∷ ts) (length (c ∷ ts) - length end - 1) x ∷ end)
+last_next x c {ts = ts} {end = end} b h = elim (le_or_lt (length ts) (length end)) [ inl k ↦ ends k | inr k ↦ goes k ]
+  where
+    ends : length ts ≤ length end → Behind (c ∷ ts) (get_or (c ∷ ts) (length (c ∷ ts) - length end - 1) x ∷ end)
+    ends k =
+        let m = behind_shorter b in
+        let i : length (c ∷ ts) - length end - 1 ≡ 0 = omega (arith, k, m) in
+        rw i (subst (λ ys. Behind (c ∷ ts) (c ∷ ys)) (behind_same here b (omega (arith, k, m))) here)
+
+    goes : length end < length ts → Behind (c ∷ ts) (get_or (c ∷ ts) (length (c ∷ ts) - length end - 1) x ∷ end)
+    goes k =
+        let i : length (c ∷ ts) - length end - 1 ≡ suc (length ts - length end - 1) = omega (arith, k) in
+        rw i (next (h k))
+
+-- what stands last before the end
+last_behind : (x : ℕ) {text end : List ℕ} → Behind text end → length end < length text → Behind text (get_or text (length text - length end - 1) x ∷ end)
+last_behind x here l = absurd (omega arith)
+last_behind x (next {c = c} b) l = last_next x c b (λ k. last_behind x b k)
+
+same_dot : (c : ℕ) → nat_eq c 46 ≡ true → c ≡ 46
+same_dot c f = grind (arith, nat_tests)
+
+-- the character last before the end, where it is a dot
+pub dot_behind : (x : ℕ) {text end : List ℕ} → Behind text end → length end < length text → x ≡ get_or text (length text - length end - 1) x → nat_eq x 46 ≡ true → Behind text (46 ∷ end)
+dot_behind x {text = text} {end = end} b l e f = subst (λ c. Behind text (c ∷ end)) (sym e ∙ same_dot x f) (last_behind x b l)
+
+-- the run at a place inside a run
+run_behind : {text place end : List ℕ} → Behind text place → length end < length place → EndsAt (many (character is_name_or_dot)) text end → EndsAt (many (character is_name_or_dot)) place end
+run_behind {place = place} {end = end} b l run = record { matches = from; longest = λ t e. go t (along (sure_character is_name_or_dot) from e) }
+  where
+    from : Matches (many (character is_name_or_dot)) place end
+    from = run_from run.matches b (let k = l in omega arith)
+
+    go : (t : List ℕ) → Matches (many (character is_name_or_dot)) end t ⊎ Matches (many (character is_name_or_dot)) t end → length end ≤ length t
+    go t (inl a) = run.longest t (many_append run.matches a)
+    go t (inr a) = shorter a
+
+-- a text does not stand before itself
+pub run_start : (text : List ℕ) → IsRun text text
+run_start text l = absurd (omega (arith, l))
+
+pub run_goes_on : (text place end : List ℕ) → Behind text place → length end < length place → IsRun text end → EndsAt (many (character is_name_or_dot)) place end
+run_goes_on text place end b l h = run_behind b l (h (let k = behind_shorter b in omega (arith, k, l)))
+
+pub run_left : (text place end : List ℕ) → Behind text place → EndsAt (many (character is_name_or_dot)) text end → IsRun place end
+run_left text place end b run l = run_behind b l run
+
 pub clear_to : (text end : List ℕ) → EndsAt (many (character is_name_or_dot)) text end → Nowhere (is 58) end → IsClear text end
 clear_to text end run none = record { none = λ place rest b l d. clear_run (run_from run.matches b (let k = l in omega arith)) l (λ t e. run.longest t (many_append run.matches e)) none d }
 
 pub clear_here : (text end : List ℕ) → length text ≤ length end → IsClear text end
 clear_here text end l = record { none = λ place rest b k d. absurd (let m = behind_shorter b in let n = k in omega arith) }
-
-pub clear_behind : (text place end : List ℕ) → Behind text place → IsClear text end → IsClear place end
-clear_behind text place end b h = record { none = λ p rest c l d. h.none p rest (behind_behind b c) l d }
 
 pub clear_namespace : (text end : List ℕ) → IsClear text end → length end < length text → Nowhere namespace text
 clear_namespace text end h l = record { none = λ rest d. h.none text rest here l d }

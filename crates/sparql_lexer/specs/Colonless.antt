@@ -2,7 +2,7 @@
 use Rattle.std.specs.Prelude.{◌≡◌, ◌<◌, ℕ, List, ◌∷◌, length, Bool, ◌||◌, nat_eq}
 use Rattle.sparql_lexer.specs.Characters.{is_name_part}
 use Rattle.sparql_lexer.specs.Names.{namespace}
-use Rattle.sparql_lexer.specs.Pattern.{Matches}
+use Rattle.sparql_lexer.specs.Pattern.{Matches, EndsAt, many, character}
 
 -- rest stands at the end of the text
 pub data Behind : List ℕ → List ℕ → Type 0 where
@@ -15,3 +15,7 @@ is_name_or_dot c = is_name_part c || nat_eq 46 c
 -- no namespace begins in the text before the end
 pub record IsClear (text end : List ℕ) : Type 0 where
   pub none : (place rest : List ℕ) → Behind text place → length end < length place → Matches namespace place rest → ⊥
+
+-- the name characters and dots at the front of the text end there, where the text stands before the end
+abbrev pub IsRun : List ℕ → List ℕ → Type 0
+IsRun text end = length end < length text → EndsAt (many (character is_name_or_dot)) text end

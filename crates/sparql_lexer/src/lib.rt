@@ -36,6 +36,3 @@ pub use laws::{one_kind, one_scan};
 pub use scanner::{Scan, scan_text};
 pub use token::{Keyword, Kind, Sign, Token};
 pub use values::{iri_value, string_value};
-
-#[cfg(test)]
-mod tests;

@@ -1,7 +1,7 @@
 //! Names, variables, labels and language tags.
 
-ghost use Rattle.std.specs.Prelude.{◌≡◌, Some, ℕ, List};
-ghost use Rattle.sparql_lexer.specs.Colonless.{Behind, IsClear};
+ghost use Rattle.std.specs.Prelude.{◌≡◌, ◌∷◌, Some, true, ℕ, List};
+ghost use Rattle.sparql_lexer.specs.Colonless.{Behind, IsClear, IsRun, is_name_or_dot};
 ghost use Rattle.sparql_lexer.specs.Characters.{is_local_start, is_letter_or_digit};
 ghost use Rattle.sparql_lexer.specs.Pattern.{character, is, many, some, ◌▸◌, ◌or◌, Ends, EndsAt};
 ghost use Rattle.sparql_lexer.specs.Names.{local_escape, tail, namespace, local, prefixed_name, blank_label, variable, language_tag};
@@ -131,26 +131,42 @@ pub fn skip_language_tag(text: &[char]) -> Option<&[char]>
     Some(skip_subtags(first))
 }
 
-/// The end of the name characters and dots at the front, where no colon stands behind them: no
-/// namespace begins before it. Otherwise the text itself.
-fn colonless_end(text: &[char]) -> &[char]
+/// Whether a dot stands last before the end.
+fn ends_with_dot(text: &[char], end: &[char]) -> bool
+    requires { Behind text.now end.now }
+    ensures { result ≡ true → Behind text.now (46 ∷ end.now) }
+{
+    end.len() < text.len() && text[text.len() - end.len() - 1] == '.'
+}
+
+/// Up to where no namespace begins, given the `end` of the run of name characters and dots at the
+/// front of the text.
+///
+/// A namespace is a name and a colon behind it, and no name ends with a dot. So where no colon
+/// stands behind the run, or a dot stands last in it, no namespace begins before its end. Otherwise
+/// one may begin at once, and the answer is the text itself.
+pub fn clear_end<'a>(text: &'a [char], end: &'a [char]) -> &'a [char]
+    requires { EndsAt (many (character is_name_or_dot)) text.now end.now }
     ensures { IsClear text.now result.now }
 {
-    let end = skip(Class::NameOrDot, text);
     match accept(end, ':') {
-        Some(_) => text,
         None => end,
+        Some(_) if ends_with_dot(text, end) => end,
+        Some(_) => text,
     }
 }
 
-/// Of an end before which no namespace begins the next one, where a place may have passed it. So a
-/// long run with no colon is looked through once, and not from each word in it.
-pub fn next_end<'a>(place: &'a [char], end: &'a [char]) -> &'a [char]
-    ensures { (text : List ℕ) → Behind text place.now → IsClear text end.now → IsClear place.now result.now }
+/// The end of the run of name characters and dots at the front of a place, given the `end` of the
+/// run at an earlier place.
+///
+/// A place before that end stands in the earlier run, and both runs end there. So a long run is
+/// looked through once, and not again from each terminal in it.
+pub fn run_end<'a>(place: &'a [char], end: &'a [char]) -> &'a [char]
+    ensures { (text : List ℕ) → Behind text place.now → IsRun text end.now → EndsAt (many (character is_name_or_dot)) place.now result.now }
 {
     if end.len() < place.len() {
         end
     } else {
-        colonless_end(place)
+        skip(Class::NameOrDot, place)
     }
 }

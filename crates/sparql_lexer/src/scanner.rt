@@ -8,7 +8,7 @@ ghost use Rattle.sparql_lexer.specs.Terminal.{terminals};
 use crate::candidates::scan_terminal;
 use crate::classes::{Class, is_member};
 use crate::cursor::next;
-use crate::names::next_end;
+use crate::names::{clear_end, run_end};
 use crate::token::Token;
 use std::alloc::{AllocError, Global};
 
@@ -57,8 +57,8 @@ pub fn scan_text<'a>(alloc: Global, text: &'a [char]) -> Result<Scan<'a>, AllocE
     let mut end = text;
     'terminals: loop {
         let place = skip_blanks(rest);
-        end = next_end(place, end);
-        let Some((kind, behind)) = scan_terminal(place, end) else {
+        end = run_end(place, end);
+        let Some((kind, behind)) = scan_terminal(place, clear_end(place, end)) else {
             return Ok(Scan {
                 tokens,
                 rest: place,

@@ -14,7 +14,7 @@ use sparql_expression::{
     ReadFault, accept, accept_name, accept_variable, accept_word, read_bracket, read_call,
     read_disjunction,
 };
-use sparql_grammar::Declaration;
+use sparql_grammar::Declarations;
 use sparql_lexer::{Keyword, Sign, Token};
 use sparql_tree::{Element, Expression, GraphName};
 use std::alloc::Global;
@@ -23,7 +23,7 @@ use std::alloc::Global;
 #[cycle(group)]
 pub fn read_group<'t, 'a>(
     alloc: Global,
-    names: &[Declaration],
+    names: &Declarations,
     tokens: &'t [Token<'a>],
 ) -> Result<(Vec<Element>, &'t [Token<'a>]), ReadFault>
     ensures reads { Reads names.now the.group (terminals tokens.now) (seen (λ v. group_of v.items) result) }
@@ -47,7 +47,7 @@ pub fn read_group<'t, 'a>(
 /// Reads the triples in front, where some stand there, and adds them to the elements.
 fn read_run<'t, 'a>(
     alloc: Global,
-    names: &[Declaration],
+    names: &Declarations,
     elements: &mut Vec<Element>,
     tokens: &'t [Token<'a>],
 ) -> Result<&'t [Token<'a>], ReadFault>
@@ -78,7 +78,7 @@ fn skip_dot<'t, 'a>(tokens: &'t [Token<'a>]) -> &'t [Token<'a>]
 #[cycle(group)]
 fn read_other<'t, 'a>(
     alloc: Global,
-    names: &[Declaration],
+    names: &Declarations,
     tokens: &'t [Token<'a>],
 ) -> Result<(Element, &'t [Token<'a>]), ReadFault>
     ensures reads { Reads names.now the.other (terminals tokens.now) (seen element_of result) }
@@ -105,7 +105,7 @@ fn read_other<'t, 'a>(
 #[cycle(group)]
 fn read_unions<'t, 'a>(
     alloc: Global,
-    names: &[Declaration],
+    names: &Declarations,
     tokens: &'t [Token<'a>],
 ) -> Result<(Element, &'t [Token<'a>]), ReadFault>
     ensures reads { Reads names.now the.unions (terminals tokens.now) (seen element_of result) }
@@ -125,7 +125,7 @@ fn read_unions<'t, 'a>(
 #[cycle(group)]
 fn read_named_graph<'t, 'a>(
     alloc: Global,
-    names: &[Declaration],
+    names: &Declarations,
     tokens: &'t [Token<'a>],
 ) -> Result<(Element, &'t [Token<'a>]), ReadFault>
     ensures reads { Reads names.now the.named_graph (terminals tokens.now) (seen element_of result) }
@@ -139,7 +139,7 @@ fn read_named_graph<'t, 'a>(
 /// Reads a variable or an IRI.
 fn read_graph_name<'t, 'a>(
     alloc: Global,
-    names: &[Declaration],
+    names: &Declarations,
     tokens: &'t [Token<'a>],
 ) -> Result<(GraphName, &'t [Token<'a>]), ReadFault>
     ensures reads { Reads names.now the.graph_name (terminals tokens.now) (seen (λ v. v) result) }
@@ -157,7 +157,7 @@ fn read_graph_name<'t, 'a>(
 /// Reads FILTER, BIND or VALUES, and what belongs to it.
 fn read_simple<'t, 'a>(
     alloc: Global,
-    names: &[Declaration],
+    names: &Declarations,
     tokens: &'t [Token<'a>],
 ) -> Result<(Element, &'t [Token<'a>]), ReadFault>
     ensures reads { Reads names.now the.simple (terminals tokens.now) (seen element_of result) }
@@ -179,7 +179,7 @@ fn read_simple<'t, 'a>(
 /// Reads an expression in parentheses, or a call.
 fn read_condition<'t, 'a>(
     alloc: Global,
-    names: &[Declaration],
+    names: &Declarations,
     tokens: &'t [Token<'a>],
 ) -> Result<(Expression, &'t [Token<'a>]), ReadFault>
     ensures reads { Reads names.now the.condition (terminals tokens.now) (seen expression_of result) }
@@ -194,7 +194,7 @@ fn read_condition<'t, 'a>(
 /// Reads what stands behind BIND.
 fn read_binding<'t, 'a>(
     alloc: Global,
-    names: &[Declaration],
+    names: &Declarations,
     tokens: &'t [Token<'a>],
 ) -> Result<(Element, &'t [Token<'a>]), ReadFault>
     ensures reads { Reads names.now the.binding (terminals tokens.now) (seen element_of result) }

@@ -27,6 +27,3 @@ mod values;
 
 pub use query::parse;
 pub use select::Select;
-
-#[cfg(test)]
-mod tests;

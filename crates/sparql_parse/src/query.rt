@@ -14,7 +14,7 @@ use sparql_expression::{
     ReadFault, accept, accept_count, accept_namespace, accept_reference, accept_variable,
     accept_word,
 };
-use sparql_grammar::Declaration;
+use sparql_grammar::Declarations;
 use sparql_lexer::{Keyword, Sign, Token};
 use sparql_tree::Selection;
 use std::alloc::Global;
@@ -23,7 +23,7 @@ use std::alloc::Global;
 ///
 /// # Errors
 /// `Syntax`: the tokens are no query. `Memory`: a growth was refused, which says nothing of them.
-pub fn parse(alloc: Global, names: &[Declaration], tokens: &[Token]) -> Result<Select, ReadFault>
+pub fn parse(alloc: Global, names: &Declarations, tokens: &[Token]) -> Result<Select, ReadFault>
     ensures query { IsParsed names.now (terminals tokens.now) result }
 {
     let (query, rest) = read_query(alloc, names, tokens)?;
@@ -37,7 +37,7 @@ pub fn parse(alloc: Global, names: &[Declaration], tokens: &[Token]) -> Result<S
 /// Reads a query with its declarations. What they declare, the names say already.
 fn read_query<'t, 'a>(
     alloc: Global,
-    names: &[Declaration],
+    names: &Declarations,
     tokens: &'t [Token<'a>],
 ) -> Result<(Select, &'t [Token<'a>]), ReadFault>
     ensures reads { Reads names.now the.query (terminals tokens.now) (seen select_of result) }
@@ -72,7 +72,7 @@ fn read_declaration<'t, 'a>(
 /// Reads a query behind its declarations.
 fn read_select_query<'t, 'a>(
     alloc: Global,
-    names: &[Declaration],
+    names: &Declarations,
     tokens: &'t [Token<'a>],
 ) -> Result<(Select, &'t [Token<'a>]), ReadFault>
     ensures reads { Reads names.now the.select_query (terminals tokens.now) (seen select_of result) }
@@ -89,7 +89,7 @@ fn read_select_query<'t, 'a>(
 /// Reads a query behind SELECT and DISTINCT.
 fn read_selected<'t, 'a>(
     alloc: Global,
-    names: &[Declaration],
+    names: &Declarations,
     distinct: bool,
     tokens: &'t [Token<'a>],
 ) -> Result<(Select, &'t [Token<'a>]), ReadFault>
@@ -118,7 +118,7 @@ fn read_selected<'t, 'a>(
 /// Reads a query behind its selection.
 fn read_pattern<'t, 'a>(
     alloc: Global,
-    names: &[Declaration],
+    names: &Declarations,
     distinct: bool,
     selection: Selection,
     tokens: &'t [Token<'a>],
@@ -134,7 +134,7 @@ fn read_pattern<'t, 'a>(
 /// Reads a query behind WHERE.
 fn read_pattern_group<'t, 'a>(
     alloc: Global,
-    names: &[Declaration],
+    names: &Declarations,
     distinct: bool,
     selection: Selection,
     tokens: &'t [Token<'a>],

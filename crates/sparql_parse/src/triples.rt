@@ -16,7 +16,7 @@ use sparql_expression::{
     ReadFault, accept, accept_anonymous, accept_blank, accept_name, accept_variable, accept_word,
     read_term,
 };
-use sparql_grammar::Declaration;
+use sparql_grammar::Declarations;
 use sparql_lexer::{Keyword, Kind, Sign, Token};
 use sparql_tree::{PatternTerm, Triple};
 use std::alloc::{AllocError, Global};
@@ -83,7 +83,7 @@ fn anonymous_label(alloc: Global, behind: usize) -> Result<Text, AllocError>
 /// Reads a variable, a blank node or a term.
 fn read_pattern_term<'t, 'a>(
     alloc: Global,
-    names: &[Declaration],
+    names: &Declarations,
     tokens: &'t [Token<'a>],
 ) -> Result<(PatternTerm, &'t [Token<'a>]), ReadFault>
     ensures reads { Reads names.now the.pattern_term (terminals tokens.now) (seen (λ v. v) result) }
@@ -106,7 +106,7 @@ fn read_pattern_term<'t, 'a>(
 /// Reads a variable, an IRI or `a`.
 fn read_verb<'t, 'a>(
     alloc: Global,
-    names: &[Declaration],
+    names: &Declarations,
     tokens: &'t [Token<'a>],
 ) -> Result<(PatternTerm, &'t [Token<'a>]), ReadFault>
     ensures reads { Reads names.now the.verb (terminals tokens.now) (seen (λ v. v) result) }
@@ -128,7 +128,7 @@ fn read_verb<'t, 'a>(
 /// Reads the objects of one subject and verb, and adds their triples.
 fn read_objects<'t, 'a>(
     alloc: Global,
-    names: &[Declaration],
+    names: &Declarations,
     subject: &PatternTerm,
     verb: &PatternTerm,
     triples: &mut Vec<Triple>,
@@ -147,7 +147,7 @@ fn read_objects<'t, 'a>(
 /// Reads one object, and adds the triple.
 fn read_object<'t, 'a>(
     alloc: Global,
-    names: &[Declaration],
+    names: &Declarations,
     subject: &PatternTerm,
     verb: &PatternTerm,
     triples: &mut Vec<Triple>,
@@ -168,7 +168,7 @@ fn read_object<'t, 'a>(
 /// Reads a verb and its objects, and adds the triples of this subject.
 fn read_property<'t, 'a>(
     alloc: Global,
-    names: &[Declaration],
+    names: &Declarations,
     subject: &PatternTerm,
     triples: &mut Vec<Triple>,
     tokens: &'t [Token<'a>],
@@ -183,7 +183,7 @@ fn read_property<'t, 'a>(
 /// Reads what stands behind `;`: a verb and its objects, or nothing.
 fn read_other_property<'t, 'a>(
     alloc: Global,
-    names: &[Declaration],
+    names: &Declarations,
     subject: &PatternTerm,
     triples: &mut Vec<Triple>,
     tokens: &'t [Token<'a>],
@@ -200,7 +200,7 @@ fn read_other_property<'t, 'a>(
 /// Reads the triples of one subject.
 fn read_same_subject<'t, 'a>(
     alloc: Global,
-    names: &[Declaration],
+    names: &Declarations,
     triples: &mut Vec<Triple>,
     tokens: &'t [Token<'a>],
 ) -> Result<&'t [Token<'a>], ReadFault>
@@ -218,7 +218,7 @@ fn read_same_subject<'t, 'a>(
 /// Reads a run of triples, and adds them.
 pub fn read_triples<'t, 'a>(
     alloc: Global,
-    names: &[Declaration],
+    names: &Declarations,
     triples: &mut Vec<Triple>,
     tokens: &'t [Token<'a>],
 ) -> Result<&'t [Token<'a>], ReadFault>

@@ -9,15 +9,16 @@ ghost use Rattle.sparql_expression.specs.Reading.{Reads, seen};
 
 use rdf_core::{Term, Text};
 use sparql_expression::{ReadFault, accept, accept_variable, accept_word, read_term};
-use sparql_grammar::Declaration;
+use sparql_grammar::Declarations;
 use sparql_lexer::{Keyword, Sign, Token};
 use sparql_tree::Element;
-use std::alloc::Global;
+use std::alloc::{AllocError, Global};
+use std::collections::BTreeSet;
 
 /// Reads what stands behind VALUES.
 pub fn read_data_block<'t, 'a>(
     alloc: Global,
-    names: &[Declaration],
+    names: &Declarations,
     tokens: &'t [Token<'a>],
 ) -> Result<(Element, &'t [Token<'a>]), ReadFault>
     ensures reads { Reads names.now the.data_block (terminals tokens.now) (seen element_of result) }
@@ -27,30 +28,32 @@ pub fn read_data_block<'t, 'a>(
         return read_column(alloc, names, variable, after);
     }
     let (heading, rest) = read_heading(alloc, tokens)?;
-    if !is_distinct(&heading) {
+    if !is_distinct(alloc, &heading)? {
         return Err(ReadFault::Syntax);
     }
     read_rows(alloc, names, heading, rest)
 }
 
 /// Whether no name stands twice.
-fn is_distinct(names: &[Text]) -> bool
-    ensures value { result ≡ is_distinct names.now }
+///
+/// # Errors
+/// A growth was refused.
+fn is_distinct(alloc: Global, names: &[Text]) -> Result<bool, AllocError>
+    ensures value { IfOk result (λ distinct. distinct ≡ is_distinct names.now) }
 {
-    let mut rest = names;
-    'names: while let Some((first, others)) = rest.split_first() {
-        if others.contains(first) {
-            return false;
+    let mut seen = BTreeSet::new(alloc);
+    for name in names {
+        if !seen.insert(name.copy(alloc)?)? {
+            return Ok(false);
         }
-        rest = others;
     }
-    true
+    Ok(true)
 }
 
 /// Reads the cells of one variable.
 fn read_column<'t, 'a>(
     alloc: Global,
-    names: &[Declaration],
+    names: &Declarations,
     variable: Text,
     tokens: &'t [Token<'a>],
 ) -> Result<(Element, &'t [Token<'a>]), ReadFault>
@@ -97,7 +100,7 @@ fn read_heading<'t, 'a>(
 /// Reads the rows under a heading.
 fn read_rows<'t, 'a>(
     alloc: Global,
-    names: &[Declaration],
+    names: &Declarations,
     heading: Vec<Text>,
     tokens: &'t [Token<'a>],
 ) -> Result<(Element, &'t [Token<'a>]), ReadFault>
@@ -124,7 +127,7 @@ fn read_rows<'t, 'a>(
 /// Reads one row.
 fn read_row<'t, 'a>(
     alloc: Global,
-    names: &[Declaration],
+    names: &Declarations,
     tokens: &'t [Token<'a>],
 ) -> Result<(Vec<Option<Term>>, &'t [Token<'a>]), ReadFault>
     ensures reads { Reads names.now the.row (terminals tokens.now) (seen (λ v. v.items) result) }
@@ -147,7 +150,7 @@ fn read_row<'t, 'a>(
 /// Reads a term or UNDEF.
 fn read_cell<'t, 'a>(
     alloc: Global,
-    names: &[Declaration],
+    names: &Declarations,
     tokens: &'t [Token<'a>],
 ) -> Result<(Option<Term>, &'t [Token<'a>]), ReadFault>
     ensures reads { Reads names.now the.cell (terminals tokens.now) (seen (λ v. v) result) }

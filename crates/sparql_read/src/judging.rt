@@ -11,7 +11,7 @@ use crate::iris::has_relative_iri;
 use crate::labels::reuses_blank;
 use crate::prologue::has_undefined_prefix;
 use crate::scope::breaks_bind_scope;
-use sparql_grammar::Declaration;
+use sparql_grammar::Declarations;
 use sparql_lexer::Token;
 use sparql_tree::Element;
 use std::alloc::Global;
@@ -23,7 +23,7 @@ use std::alloc::Global;
 /// where a growth was refused.
 pub(crate) fn judge(
     alloc: Global,
-    names: &[Declaration],
+    names: &Declarations,
     tokens: &[Token<'_>],
     group: &[Element],
 ) -> Result<(), QueryFault>

@@ -20,10 +20,9 @@
 //! To read in this order: specs/Depth.antt, specs/Prologue.antt, specs/RelativeIri.antt,
 //! specs/BindScope.antt, specs/BlankReuse.antt, specs/Derives.antt, specs/Refusal.antt; then `depth`,
 //! `prologue`, `iris`, `names`, `scope`, `labels`, `judging`, `reader`, `laws`. Texts and what is
-//! answered of them: `each_rule_is_answered` of tests/queries.
+//! answered of them: `each_rule_is_answered` of query_tests.
 //!
-//! Not promised: how long a text takes. By design the time is that of sorting its names, but for the
-//! look-up of a name among the declarations, which goes through them one by one.
+//! Not promised: how long a text takes. By design the time is that of sorting its names.
 #![tactic(auto)]
 
 mod depth;
@@ -47,6 +46,3 @@ pub use prologue::{declarations_of, has_undefined_prefix};
 pub use reader::read_query;
 pub use scope::breaks_bind_scope;
 pub use variables::mentioned;
-
-#[cfg(test)]
-mod tests;

@@ -1,15 +1,15 @@
 //! The declarations of a query, and its names that lack one (SPARQL 1.1 Query Language, sections
 //! 4.1.1 and 19.8, PrefixDecl).
 
-ghost use Rattle.std.specs.Prelude.{◌≡◌, IfOk, OnOk, is_some, reverse};
+ghost use Rattle.std.specs.Prelude.{◌≡◌, IfOk};
 ghost use lib.Utf8.{encodes};
 ghost use Rattle.sparql_lexer.specs.Values.{iri_value};
 ghost use Rattle.sparql_lexer.specs.Terminal.{terminals};
-ghost use Rattle.sparql_grammar.specs.Values.{declaration_of, prefix_of};
-ghost use Rattle.sparql_read.specs.Prologue.{and_declared, declaration_at, declarations, declared, has_undefined_prefix, is_namespace, is_prefix_word, is_prefixed, is_reference};
+ghost use Rattle.sparql_grammar.specs.Values.{prefix_of};
+ghost use Rattle.sparql_read.specs.Prologue.{declaration_at, declarations, declared, has_undefined_prefix, is_namespace, is_prefix_word, is_prefixed, is_reference};
 
 use rdf_core::Text;
-use sparql_grammar::Declaration;
+use sparql_grammar::{Declaration, Declarations};
 use sparql_lexer::{Keyword, Kind, Token, iri_value, text_of};
 use std::alloc::{AllocError, Global};
 
@@ -110,58 +110,32 @@ fn declaration_at(alloc: Global, tokens: &[Token<'_>]) -> Result<Option<Declarat
     declare(alloc, tokens[1].text, tokens[2].text)
 }
 
-/// Adds a declaration behind the others, where there is one.
-fn add_declaration(
-    found: &mut Vec<Declaration>,
-    declaration: Option<Declaration>,
-) -> Result<(), AllocError>
-    ensures names { OnOk result (reverse found.new.items ≡ and_declared declaration (reverse found.old.items)) }
-{
-    match declaration {
-        Some(declaration) => {
-            found.push(declaration)?;
-            Ok(())
-        }
-        None => Ok(()),
-    }
-}
-
-/// The declarations of a query, given by its terminals, the last one first: of two with one prefix the
-/// first one here holds.
+/// The declarations of a query, given by its terminals. Of two with one prefix the last one holds.
 ///
 /// # Errors
 /// A growth was refused.
-pub fn declarations_of(alloc: Global, tokens: &[Token<'_>]) -> Result<Vec<Declaration>, AllocError>
-    ensures value { IfOk result (λ v. v.items ≡ declarations (terminals tokens.now)) }
+pub fn declarations_of(alloc: Global, tokens: &[Token<'_>]) -> Result<Declarations, AllocError>
+    ensures value { IfOk result (λ names. names ≡ declarations (terminals tokens.now)) }
 {
-    let mut found = Vec::new(alloc);
+    let mut names = Declarations::new(alloc);
     for i in 0..tokens.len() {
-        let declaration = declaration_at(alloc, &tokens[i..])?;
-        add_declaration(&mut found, declaration)?;
-    }
-    found.reverse();
-    Ok(found)
-}
-
-/// Whether one of the declarations is of this prefix.
-fn is_declared(declarations: &[Declaration], prefix: &Text) -> bool
-    ensures value { result ≡ is_some (declaration_of declarations.now prefix.now) }
-{
-    for declaration in declarations {
-        if declaration.prefix == *prefix {
-            return true;
+        if let Some(declaration) = declaration_at(alloc, &tokens[i..])? {
+            names.add(declaration)?;
         }
     }
-    false
+    Ok(names)
 }
 
 /// Whether a prefixed name among the terminals has no declaration, where these are the declarations.
+///
+/// # Requires
+/// `names` are the declarations of these terminals.
 ///
 /// # Errors
 /// A growth was refused.
 pub fn has_undefined_prefix(
     alloc: Global,
-    names: &[Declaration],
+    names: &Declarations,
     tokens: &[Token<'_>],
 ) -> Result<bool, AllocError>
     requires names { names.now ≡ declarations (terminals tokens.now) }
@@ -170,7 +144,7 @@ pub fn has_undefined_prefix(
     for token in tokens {
         if is_prefixed(token.kind) {
             let prefix = prefix_text(alloc, token.text)?;
-            if !is_declared(names, &prefix) {
+            if names.find(prefix.as_str()).is_none() {
                 return Ok(true);
             }
         }

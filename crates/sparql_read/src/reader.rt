@@ -15,7 +15,7 @@ use crate::judging::judge;
 use crate::prologue::declarations_of;
 use crate::variables::mentioned;
 use sparql_expression::ReadFault;
-use sparql_grammar::{Declaration, one_query};
+use sparql_grammar::{Declarations, one_query};
 use sparql_lexer::{Token, characters_of, one_scan, scan_text};
 use sparql_parse::{Select, parse};
 use sparql_tree::Query;
@@ -25,7 +25,7 @@ use std::alloc::Global;
 fn judge_select(
     alloc: Global,
     text: &[char],
-    names: &[Declaration],
+    names: &Declarations,
     tokens: &[Token<'_>],
     select: Select,
 ) -> Result<Query, QueryFault>

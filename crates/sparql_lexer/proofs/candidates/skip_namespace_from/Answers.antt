@@ -1,5 +1,4 @@
-use Rattle.std.proofs.Common.{◌≡◌, ◌<◌, ◌≤◌, length, arith, refl}
-use Rattle.sparql_lexer.proofs.ColonlessLaws.{clear_to, clear_here, clear_behind, clear_namespace, clear_name}
+use Rattle.sparql_lexer.proofs.ColonlessLaws.{clear_namespace}
 use Rattle.sparql_lexer.proofs.candidates.skip_namespace_from.Goals as goal
 
 pub returns-then-end-text : goal.returns-then-end-text

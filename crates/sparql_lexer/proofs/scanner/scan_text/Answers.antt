@@ -1,14 +1,14 @@
-use Rattle.std.proofs.Common.{◌≡◌, ◌<◌, ◌≤◌, length, arith, refl}
+use Rattle.std.proofs.Common.{arith, refl}
 use Rattle.sparql_lexer.specs.Terminal.{terminals}
-use Rattle.sparql_lexer.proofs.ColonlessLaws.{clear_here, clear_behind, blanks_place}
+use Rattle.sparql_lexer.proofs.ColonlessLaws.{run_start, run_left, blanks_place}
 use Rattle.sparql_lexer.proofs.ScanLaws.{reads_behind, reads_shorter, scans_start, scans_stop, scans_read}
 use Rattle.sparql_lexer.proofs.scanner.scan_text.Goals as goal
 
 pub terminals-init : goal.terminals-init
-terminals-init c = (λ ts end d. scans_start c.args.text.now c.new-tokens.result.items c.new-tokens.ensures.items ts end d, clear_here c.args.text.now c.args.text.now (omega arith))
+terminals-init c = (λ ts end d. scans_start c.args.text.now c.new-tokens.result.items c.new-tokens.ensures.items ts end d, run_start c.args.text.now)
 
-pub scan_terminal-requires : goal.scan_terminal-requires
-scan_terminal-requires c = c.next_end-end.ensures c.terminals.rest.now (blanks_place c.terminals.rest.now c.skip_blanks-place.result.now c.skip_blanks-place.ensures.value) c.terminals.invariant.1
+pub clear_end-requires : goal.clear_end-requires
+clear_end-requires c = c.run_end-end.ensures c.terminals.rest.now (blanks_place c.terminals.rest.now c.skip_blanks-place.result.now c.skip_blanks-place.ensures.value) c.terminals.invariant.1
 
 pub returns-in_default : goal.returns-in_default
 returns-in_default c = scans_stop c.args.text.now c.terminals.rest.now c.skip_blanks-place.result.now (terminals c.terminals.tokens.items) c.terminals.invariant.0 c.skip_blanks-place.ensures.value c.in_default.ensures
@@ -22,5 +22,5 @@ terminals-smaller c = let h = reads_shorter c.in-Some.kind c.skip_blanks-place.r
 pub terminals-preserved : goal.terminals-preserved
 terminals-preserved c = (
   scans_read c.args.text.now c.terminals.rest.now c.skip_blanks-place.result.now c.in-Some.behind.now c.terminals.tokens.items c.push.new.self.items _ c.terminals.invariant.0 c.skip_blanks-place.ensures.value c.in-Some.ensures refl c.in_ok-push.ensures.items,
-  clear_behind c.skip_blanks-place.result.now c.in-Some.behind.now c.next_end-end.result.now (reads_behind c.in-Some.kind c.skip_blanks-place.result.now c.in-Some.behind.now c.in-Some.ensures.reads) (c.next_end-end.ensures c.terminals.rest.now (blanks_place c.terminals.rest.now c.skip_blanks-place.result.now c.skip_blanks-place.ensures.value) c.terminals.invariant.1),
+  run_left c.skip_blanks-place.result.now c.in-Some.behind.now c.run_end-end.result.now (reads_behind c.in-Some.kind c.skip_blanks-place.result.now c.in-Some.behind.now c.in-Some.ensures.reads) (c.run_end-end.ensures c.terminals.rest.now (blanks_place c.terminals.rest.now c.skip_blanks-place.result.now c.skip_blanks-place.ensures.value) c.terminals.invariant.1),
 )

@@ -17,8 +17,8 @@ returns-in-Some-clause-reads c = tail (took_branch (begin c.args.names.now (the.
 pub returns-in_err-heading-clause-reads : goal.returns-in_err-heading-clause-reads
 returns-in_err-heading-clause-reads c = (let p = err_from_is_err_and c.from_residual-in_err-heading.result c.from_residual-in_err-heading.ensures.1 in rw (p.1, p.2) (part_fails (skipped (begin c.args.names.now (the.data_block) (terminals c.args.tokens.now)) (none_untaken {c = variable} (c.in_ok-variable.ensures.accepts c.args.names.now) c.in_default.is)) (c.in_err-heading.ensures.reads c.args.names.now)))
 
-pub returns-then-not-is_distinct-clause-reads : goal.returns-then-not-is_distinct-clause-reads
-returns-then-not-is_distinct-clause-reads c = where_false (then_read (skipped (begin c.args.names.now the.data_block (terminals c.args.tokens.now)) (none_untaken {c = variable} (c.in_ok-variable.ensures.accepts c.args.names.now) c.in_default.is)) (c.in_ok-heading.ensures.reads c.args.names.now)) (ap is_distinct (sym c.deref.ensures.value) ∙ sym c.if-not-is_distinct.ensures.value)
+pub returns-then-not-branch-clause-reads : goal.returns-then-not-branch-clause-reads
+returns-then-not-branch-clause-reads c = where_false (then_read (skipped (begin c.args.names.now the.data_block (terminals c.args.tokens.now)) (none_untaken {c = variable} (c.in_ok-variable.ensures.accepts c.args.names.now) c.in_default.is)) (c.in_ok-heading.ensures.reads c.args.names.now)) (ap is_distinct (sym c.deref.ensures.value) ∙ (sym c.in_ok-is_distinct.ensures.value ∙ c.if-not-branch.true))
 
 pub returns-clause-reads : goal.returns-clause-reads
-returns-clause-reads c = tail (where_true (then_read (skipped (begin c.args.names.now the.data_block (terminals c.args.tokens.now)) (none_untaken {c = variable} (c.in_ok-variable.ensures.accepts c.args.names.now) c.in_default.is)) (c.in_ok-heading.ensures.reads c.args.names.now)) (ap is_distinct (sym c.deref.ensures.value) ∙ sym c.if-not-is_distinct.ensures.value)) (λ a. a) (λ v rest. refl) (λ e. refl) (seen element_of c.read_rows.result) c.read_rows.ensures.reads
+returns-clause-reads c = tail (where_true (then_read (skipped (begin c.args.names.now the.data_block (terminals c.args.tokens.now)) (none_untaken {c = variable} (c.in_ok-variable.ensures.accepts c.args.names.now) c.in_default.is)) (c.in_ok-heading.ensures.reads c.args.names.now)) (ap is_distinct (sym c.deref.ensures.value) ∙ (sym c.in_ok-is_distinct.ensures.value ∙ c.if-not-branch.false))) (λ a. a) (λ v rest. refl) (λ e. refl) (seen element_of c.read_rows.result) c.read_rows.ensures.reads

@@ -1,12 +1,10 @@
 //! What refuses a query, by example.
-use crate::depth::is_too_deep;
-use crate::iris::has_relative_iri;
-use crate::labels::reuses_blank;
-use crate::prologue::{declarations_of, has_undefined_prefix};
-use crate::scope::breaks_bind_scope;
-use crate::variables::mentioned;
 use rdf_core::{Term, Text};
 use sparql_lexer::{characters_of, scan_text};
+use sparql_read::{
+    breaks_bind_scope, declarations_of, has_relative_iri, has_undefined_prefix, is_too_deep,
+    mentioned, reuses_blank,
+};
 use sparql_tree::{Element, Expression, PatternTerm, Triple};
 use std::alloc::{AllocError, AllocGlobal, Global};
 
@@ -80,18 +78,38 @@ fn names_have_declarations_and_iris_a_scheme(rt: HostRuntime) -> Result<(), Allo
     Ok(())
 }
 
-// The last declaration of a prefix comes first.
+// Each of many names finds the declaration of its prefix, and one without is found among them.
 #[test]
-fn the_last_declaration_is_first(rt: HostRuntime) -> Result<(), AllocError> {
+fn many_names_have_declarations(rt: HostRuntime) -> Result<(), AllocError> {
+    for (last, expected) in [("p2999:a", false), ("p3000:a", true), ("p:a", true)] {
+        let mut declared = String::new(rt.alloc());
+        let mut used = String::new(rt.alloc());
+        for i in 0..3000 {
+            let declaration = format!(in rt.alloc(); "PREFIX p{i}: <a:{i}> ")?;
+            declared.push_str(declaration.as_str())?;
+            let triple = format!(in rt.alloc(); "?s p{i}:a ?o . ")?;
+            used.push_str(triple.as_str())?;
+        }
+        let text = format!(in rt.alloc(); "{declared} SELECT * {{ {used} ?s {last} ?o }}")?;
+        let (_, undefined, _) = judged(rt.alloc(), text.as_str())?;
+        assert_eq!(rt; undefined, expected, "{last}");
+    }
+    Ok(())
+}
+
+// Of two declarations of a prefix the last one of the text holds.
+#[test]
+fn the_last_declaration_of_a_prefix_holds(rt: HostRuntime) -> Result<(), AllocError> {
     let characters = characters_of(
         rt.alloc(),
         "PREFIX e: <a:> PREFIX f: <b:> PREFIX e: <c:> SELECT",
     )?;
     let scan = scan_text(rt.alloc(), &characters)?;
     let names = declarations_of(rt.alloc(), &scan.tokens)?;
-    assert!(rt; names.len() == 3);
-    assert!(rt; names[0].prefix.as_str() == "e" && names[0].iri.as_str() == "c:");
-    assert!(rt; names[2].prefix.as_str() == "e" && names[2].iri.as_str() == "a:");
+    for (prefix, expected) in [("e", Some("c:")), ("f", Some("b:")), ("", None)] {
+        let found = names.find(prefix).map(|d| d.iri.as_str());
+        assert_eq!(rt; found, expected, "{prefix}");
+    }
     Ok(())
 }
 

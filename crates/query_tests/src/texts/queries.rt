@@ -1,6 +1,5 @@
 //! Texts and what is answered of them, by example.
-use crate::fault::QueryFault;
-use crate::reader::read_query;
+use sparql_read::{QueryFault, read_query};
 use std::alloc::{AllocError, Global};
 
 /// The rule that refuses the text, or None where it is read.

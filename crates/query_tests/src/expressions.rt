@@ -1,9 +1,7 @@
 //! Texts and their trees, by example.
-use crate::expressions::read_disjunction;
-use crate::fault::ReadFault;
-use crate::terms::read_term;
 use rdf_core::{Text, write_term};
-use sparql_grammar::Declaration;
+use sparql_expression::{ReadFault, read_disjunction, read_term};
+use sparql_grammar::{Declaration, Declarations};
 use sparql_lexer::{characters_of, scan_text};
 use std::alloc::{AllocError, Global};
 
@@ -11,17 +9,15 @@ fn text(alloc: Global, s: &str) -> Result<Text, AllocError> {
     Ok(Text::from_string(String::from_str(alloc, s)?))
 }
 
-/// `e:` twice, the last declaration of the text first.
-fn declarations(alloc: Global) -> Result<Vec<Declaration>, AllocError> {
-    let mut names = Vec::new(alloc);
-    names.push(Declaration {
-        prefix: text(alloc, "e")?,
-        iri: text(alloc, "http://late/")?,
-    })?;
-    names.push(Declaration {
-        prefix: text(alloc, "e")?,
-        iri: text(alloc, "http://early/")?,
-    })?;
+/// `e:` twice.
+fn declarations(alloc: Global) -> Result<Declarations, AllocError> {
+    let mut names = Declarations::new(alloc);
+    for iri in ["http://early/", "http://late/"] {
+        names.add(Declaration {
+            prefix: text(alloc, "e")?,
+            iri: text(alloc, iri)?,
+        })?;
+    }
     Ok(names)
 }
 

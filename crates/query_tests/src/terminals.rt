@@ -1,10 +1,8 @@
 //! Texts and their terminals, by example.
-use crate::characters::{characters_of, text_of};
-use crate::laws::{one_kind, one_scan};
-use crate::scanner::scan_text;
-use crate::token::Kind;
-use crate::values::{iri_value, string_value};
 use rdf_core::Text;
+use sparql_lexer::{
+    Kind, characters_of, iri_value, one_kind, one_scan, scan_text, string_value, text_of,
+};
 use std::alloc::{AllocError, AllocGlobal, Global};
 
 /// The terminals as `Kind text`, with commas between them.
@@ -172,6 +170,56 @@ fn names(rt: HostRuntime) -> Result<(), AllocError> {
         let (all, behind) = summary(rt.alloc(), text)?;
         assert_eq!(rt; all.as_str(), expected, "{text}");
         assert_eq!(rt; behind.as_str(), rest, "{text}");
+    }
+    Ok(())
+}
+
+/// A piece so many times, with the one text before it and the other behind it.
+fn repeated(
+    alloc: Global,
+    (before, piece, behind): (&str, &str, &str),
+    count: usize,
+) -> Result<String, AllocError> {
+    let mut all = String::new(alloc);
+    all.push_str(before)?;
+    for _ in 0..count {
+        all.push_str(piece)?;
+    }
+    all.push_str(behind)?;
+    Ok(all)
+}
+
+// A long run of name characters and dots before a colon is read as a short one is.
+#[test]
+fn runs_before_a_colon(rt: HostRuntime) -> Result<(), AllocError> {
+    let alloc = rt.alloc();
+    for (text, expected) in [
+        (
+            ("", "a.", ":b"),
+            ("", "Keyword(A) a, Sign(Dot) ., ", "PrefixedName :b"),
+        ),
+        (
+            ("1e1", ".1e1", ".:b"),
+            (
+                "Double 1e1, ",
+                "Double .1e1, ",
+                "Sign(Dot) ., PrefixedName :b",
+            ),
+        ),
+        (("", ".", ":b"), ("", "Sign(Dot) ., ", "PrefixedName :b")),
+        (
+            ("1e1", ".1e1", ":b"),
+            ("Double 1e1, ", "Double .1e1, ", "PrefixedName :b"),
+        ),
+        (("", "a.", "a:b"), ("PrefixedName ", "a.", "a:b")),
+    ] {
+        for count in [0, 1, 2, 3000] {
+            let whole = repeated(alloc, text, count)?;
+            let (all, behind) = summary(alloc, whole.as_str())?;
+            let wanted = repeated(alloc, expected, count)?;
+            assert_eq!(rt; all.as_str(), wanted.as_str(), "{count}");
+            assert_eq!(rt; behind.as_str(), "", "{count}");
+        }
     }
     Ok(())
 }

@@ -1,14 +1,15 @@
 //! Texts and their queries, by example.
-use crate::query::parse;
 use sparql_expression::ReadFault;
+use sparql_grammar::Declarations;
 use sparql_lexer::{characters_of, scan_text};
+use sparql_parse::parse;
 use std::alloc::{AllocError, Global};
 
 /// The query of the text as it prints itself, or `Syntax`.
 fn summary(alloc: Global, text: &str) -> Result<String, AllocError> {
     let characters = characters_of(alloc, text)?;
     let scan = scan_text(alloc, &characters)?;
-    let names = Vec::new(alloc);
+    let names = Declarations::new(alloc);
     match parse(alloc, &names, &scan.tokens) {
         Ok(query) => format!(in alloc; "{query:?}"),
         Err(ReadFault::Syntax) => String::from_str(alloc, "Syntax"),
@@ -81,6 +82,26 @@ fn values_and_modifiers(rt: HostRuntime) -> Result<(), AllocError> {
          Values([a, b], [[None, Some(Literal { lexical: true, datatype: http://www.w3.org/2001/XMLSchema#boolean, tag: None })]])], \
          limit: Some(18446744073709551615), offset: Some(3) }"
     );
+    Ok(())
+}
+
+// A name that stands twice in a long heading is found, wherever it stands.
+#[test]
+fn a_long_heading_has_no_name_twice(rt: HostRuntime) -> Result<(), AllocError> {
+    for (last, expected) in [("?v5000", true), ("?v0", false), ("?v4999", false)] {
+        let mut text = String::from_str(rt.alloc(), "SELECT * { VALUES (")?;
+        for i in 0..5000 {
+            let name = format!(in rt.alloc(); "?v{i} ")?;
+            text.push_str(name.as_str())?;
+        }
+        text.push_str(last)?;
+        text.push_str(") { } }")?;
+        let characters = characters_of(rt.alloc(), text.as_str())?;
+        let scan = scan_text(rt.alloc(), &characters)?;
+        let names = Declarations::new(rt.alloc());
+        let parsed = parse(rt.alloc(), &names, &scan.tokens);
+        assert_eq!(rt; parsed.is_ok(), expected, "{last}");
+    }
     Ok(())
 }
 

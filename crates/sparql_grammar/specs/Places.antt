@@ -1,0 +1,13 @@
+-- Where the declarations of a text stand, in the order of the text.
+use Rattle.std.specs.Prelude.{◌≡◌, ℕ, ◌<◌, String, List, length, reverse, Option, None, MatchOption, slice_get}
+use Rattle.std.specs.BTreeMap.{BTreeMap, get_by_text}
+use Rattle.sparql_grammar.specs.Values.{declaration_of}
+use Rattle.sparql_grammar.specs.declared.names.Declaration.{Declaration}
+
+-- what was found stands at this place; None, where nothing was found
+abbrev pub IsPlace : List Declaration → Option Declaration → Option ℕ → Type 0
+IsPlace ds found place = MatchOption place (found ≡ None) (λ i. (i < length ds) × (found ≡ slice_get ds i))
+
+-- each prefix has the place of its last declaration
+abbrev pub ArePlaces : {Z : Type 0} → List Declaration → BTreeMap (String Z) ℕ → Type 0
+ArePlaces ds places = (prefix : List ℕ) → IsPlace ds (declaration_of (reverse ds) prefix) (get_by_text places prefix)
