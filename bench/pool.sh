@@ -6,4 +6,4 @@ rt run > /dev/null || exit 1
 for _ in 1 2 3; do
     ./out/pool_time time
 done
-(ulimit -v 12000; ./out/pool_time | sed -n '4,6p')
+(ulimit -v 100000; ./out/pool_time | sed -n '4,6p')

@@ -11,6 +11,7 @@ size: time and memory may grow by twice that factor, but not by its square.
 Python 3 standard library only.
 """
 import argparse
+import itertools
 import os
 import resource
 import shutil
@@ -482,31 +483,92 @@ def a_query_before_a_bad_document(program):
     program.run(["select", "--query", "SELECT * {}"], parts).is_exactly(1, bad_line(1))
 
 
-def long_queries(program):
-    """Long, but not nested by brackets: a thousand parts as they are, ten thousand with more room on the stack.
+# A word of a command line has at most so many bytes, the NUL behind it not counted.
+LONGEST_WORD = 32 * 4096 - 1
 
-    What is read, planned and evaluated here is as deep as the parts are many, so the stack has to grow with them.
-    """
-    triple = (
-        b'{"head":{"vars":["s","p","o"]},"results":{"bindings":[{"o":{"type":"uri","value":"http://e/o"},'
-        b'"p":{"type":"uri","value":"http://e/p"},"s":{"type":"uri","value":"http://e/s"}}]}}\n'
-    )
-    room = 64 * MIB
-    more = lambda: resource.setrlimit(resource.RLIMIT_STACK, (room, resource.getrlimit(resource.RLIMIT_STACK)[1]))
-    for parts, limit in ((1000, None), (10_000, more)):
-        unions = b'{"head":{"vars":[]},"results":{"bindings":[%s]}}\n' % b",".join([b"{}"] * (parts + 1))
-        for name, query, line in (
-            ("both", "SELECT * { FILTER(" + "true && " * parts + "true) }", NO_NAMES),
-            ("either", "SELECT * { FILTER(" + "false || " * parts + "true) }", NO_NAMES),
-            ("unions", "SELECT * { " + "{} UNION " * parts + "{} }", unions),
-            ("groups", "SELECT * { " + "{} " * parts + "}", NO_NAMES),
-            ("optional groups", "SELECT * { " + "OPTIONAL {} " * parts + "}", NO_NAMES),
-            ("triples", "SELECT * { " + "?s ?p ?o . " * parts + "}", triple),
-        ):
-            try:
-                program.run(["select", "--query", query], [STATEMENT], limit=limit).is_exactly(0, line)
-            except Failed as fault:
-                raise Failed(f"{parts} {name}: {fault}") from None
+
+def longest(start, part, end):
+    """The longest query of a start, of parts that are numbered, and of an end; and how many parts it has."""
+    parts, room = [], LONGEST_WORD - len(start + end)
+    for number in itertools.count():
+        parts.append(part.replace("%", str(number)))
+        room -= len(parts[-1])
+        if room < 0:
+            return start + "".join(parts[:-1]) + end, number
+
+
+ONE = b'{"datatype":"http://www.w3.org/2001/XMLSchema#integer","type":"literal","value":"1"}'
+TRUE = b'{"datatype":"http://www.w3.org/2001/XMLSchema#boolean","type":"literal","value":"true"}'
+TRIPLE = results([b"s", b"p", b"o"], [
+    b'{"o":{"type":"uri","value":"http://e/o"},"p":{"type":"uri","value":"http://e/p"},"s":{"type":"uri","value":"http://e/s"}}'
+])
+
+
+def bound_to_one(count):
+    """The results of one row, in which so many names have the value 1."""
+    names = [b"v%d" % number for number in range(count)]
+    return results(names, [b"{%s}" % b",".join(b'"%s":%s' % (name, ONE) for name in sorted(names))])
+
+
+# Long, but not nested by brackets: a start, a part that comes again and again, an end, and the answer, or
+# how it hangs on the count of the parts.
+CHAINS = [
+    ("both", "SELECT * { FILTER(1", "&&1", ") }", NO_NAMES),
+    ("either", "SELECT * { FILTER(1", "||0", ") }", NO_NAMES),
+    ("either, the last of them", "SELECT * { FILTER(0", "||0", "||1) }", NO_NAMES),
+    ("both and either", "SELECT * { FILTER(1", "&&1||0", ") }", NO_NAMES),
+    ("none of them", "SELECT * { FILTER(0", "||0", ") }", results([], [])),
+    ("an error among them", "SELECT * { FILTER(?x", "||0", ") }", results([], [])),
+    ("both, bound to a name", "SELECT * { BIND(1", "&&1", " AS ?x) }", results([b"x"], [b'{"x":%s}' % TRUE])),
+    ("both, as a condition", "SELECT * { OPTIONAL { FILTER(1", "&&1", ") } }", NO_NAMES),
+    ("members", "SELECT * { FILTER(1 IN (0", ",0", ",1)) }", NO_NAMES),
+    ("filters", "SELECT * {", "FILTER(1)", "}", NO_NAMES),
+    ("binds", "SELECT * {", "BIND(1AS?v%)", "}", bound_to_one),
+    ("groups", "SELECT * {", "{}", "}", NO_NAMES),
+    ("groups, a hundred deep", "SELECT *" + "{" * 98, "{}", "}" * 98, NO_NAMES),
+    ("groups with dots", "SELECT * {", "{}.", "}", NO_NAMES),
+    ("groups of a triple", "SELECT * {", "{?s?p?o}", "}", TRIPLE),
+    ("unions", "SELECT * {{}", "UNION{}", "}", lambda count: results([], [b"{}"] * (count + 1))),
+    ("optional groups", "SELECT * {", "OPTIONAL{}", "}", NO_NAMES),
+    ("minus", "SELECT * {", "MINUS{}", "}", NO_NAMES),
+    ("graphs", "SELECT * {", "GRAPH?g{}", "}", results([b"g"], [])),
+    ("tables", "SELECT * {", "VALUES(){()}", "}", NO_NAMES),
+    ("triples", "SELECT * {", "?s?p?o.", "}", TRIPLE),
+    ("objects", "SELECT * { ?s ?p ?o", ",?o", "}", TRIPLE),
+    ("properties", "SELECT * { ?s ?p ?o", ";?p?o", "}", TRIPLE),
+    ("prefixes", "", "PREFIX p%:<a:>", "SELECT * {}", NO_NAMES),
+]
+
+
+def long_queries(program):
+    """As long as a command line can be, with 8 MiB of stack: what is meant is a tree as deep as it has parts."""
+    most = resource.getrlimit(resource.RLIMIT_STACK)[1]
+    limit = lambda: resource.setrlimit(resource.RLIMIT_STACK, (8 * MIB, most))
+    faults = []
+    for name, start, part, end, line in CHAINS:
+        query, count = longest(start, part, end)
+        try:
+            answer = program.run(["select", "--query", query], [STATEMENT], limit=limit)
+            answer.is_exactly(0, line(count) if callable(line) else line)
+        except Failed as fault:
+            faults.append(f"{count} {name}: {fault}")
+    expect(not faults, "; ".join(faults))
+
+
+def long_queries_and_little_memory(program):
+    """Under every limit on the address space a long query is answered, or memory or a worker is refused."""
+    answers = {(0, NO_NAMES), (4, b"error: memory\n"), (4, b"error: worker\n")}
+    for start, part, end in (("SELECT * { FILTER(1", "&&1", ") }"), ("SELECT * {", "OPTIONAL{}", "}")):
+        query, _ = longest(start, part, end)
+        seen = set()
+        for size in (8, 16, 32, 64, 128, 256, 384, 512, 640, 768, 1024, 2048):
+            room = size * MIB
+            limit = lambda: resource.setrlimit(resource.RLIMIT_AS, (room, room))
+            answer = program.run(["select", "--query", query], [STATEMENT], limit=limit)
+            got = (answer.status, answer.output)
+            expect(got in answers, f"{size} MiB: status {got[0]} and {got[1][:200]!r}")
+            seen.add(got)
+        expect(len(seen) > 1, "no limit was small enough to be felt")
 
 
 CASES = [
@@ -516,6 +578,7 @@ CASES = [
     the_least_of_many_bad_lines, a_full_output, a_reader_that_closes_early, a_closed_output,
     an_input_that_fails, little_memory, few_processes, wrong_words, growth, terms_of_one_weak_hash, brackets,
     growing_answers, many_graphs_in_turn, long_lists, a_query_before_a_bad_document, long_queries,
+    long_queries_and_little_memory,
 ]
 
 

@@ -8,12 +8,17 @@ use crate::collector::{Outcome, gather};
 use crate::gate::Gate;
 use crate::job::Job;
 use crate::worker::{Worked, work};
+use core::thread::Stack;
 use piece_board::{Board, BoardFault, Pass};
 use std::alloc::{AllocError, Global};
 use std::snapshot::Snapshot;
 use std::sync::Wait;
 use std::thread;
 use std::thread::{Promise, Scope, Threads};
+
+/// The bytes of a worker's stack: room for a job that recurses over a long query. Only the pages that
+/// are touched take memory.
+const WORKER_STACK: usize = 64 * 1024 * 1024;
 
 /// Why a pool has no outcome.
 #[derive(Clone, Copy, Debug, PartialEq, Eq)]
@@ -64,6 +69,9 @@ impl<J: Job> Promise<Worked<J::Out, J::Fault>> for WorkOn<J> {
 /// answers what they come to. Every number of workers and every gate gives the same outcome.
 ///
 /// With no piece no thread is started and no gate called. It waits for the workers that it started.
+///
+/// # Requires
+/// `workers` is 1 to 64, and `n` is at most 2^62.
 ///
 /// # Errors
 /// - `WorkerRefused`: the start of a worker was refused. It stands before `Memory`.
@@ -194,8 +202,9 @@ where
             job: Snapshot::of(job),
             board: Snapshot::of(board),
         };
-        let Ok(handle) = scope.spawn_with(promise, move || work(alloc, board, pass, job, gate))
-        else {
+        let stack = Stack::new().stack_size(WORKER_STACK);
+        let worker = move || work(alloc, board, pass, job, gate);
+        let Ok(handle) = stack.spawn_scoped_with(scope, promise, worker) else {
             break;
         };
         handles.push_reserved(handle);

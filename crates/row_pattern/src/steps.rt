@@ -11,6 +11,9 @@ use crate::numbered::{NumberedTriple, PatternNumber};
 use quad_index::Index;
 use std::alloc::{AllocError, Global};
 
+/// How many steps are compared for the next one, so that a long pattern is put in order in linear time.
+const COMPARED: usize = 256;
+
 /// A triple pattern whose labels have their places in a row behind the variables.
 #[derive(Clone, Copy, Debug)]
 pub(crate) struct Step {
@@ -93,14 +96,15 @@ fn cost(step: &Step, row: &[Option<u64>]) -> usize {
     if binds { cost.saturating_add(1) } else { 0 }
 }
 
-/// The first of the steps from a place on that cost least, and among these match fewest quads.
+/// The first of the next steps from a place on that cost least, and among these match fewest quads.
 fn least(steps: &[Step], from: usize, row: &[Option<u64>]) -> usize
     requires inside { from < length steps.now }
     ensures inside { result < length steps.now }
 {
     let mut least = from;
     let mut least_cost = cost(&steps[from], row);
-    for i in from..steps.len() {
+    let end = steps.len().min(from.saturating_add(COMPARED));
+    for i in from..end {
         let next_cost = cost(&steps[i], row);
         let fewer = steps[i].matches < steps[least].matches;
         if next_cost < least_cost || (next_cost == least_cost && fewer) {

@@ -3,6 +3,7 @@ pub mod LogicSteps
 pub mod NameSteps
 pub mod NumberLaws
 pub mod NumberSteps
+pub mod OperandSteps
 pub mod PartSteps
 pub mod PatternSteps
 pub mod ProjectionSteps

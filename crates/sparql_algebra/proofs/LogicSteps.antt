@@ -32,6 +32,31 @@ or_assoc None None (Some true) = refl
 or_assoc None None (Some false) = refl
 or_assoc None None None = refl
 
+pub and_false : (b : Option Bool) → Some false ≡ logical_and (Some false) b
+and_false (Some true) = refl
+and_false (Some false) = refl
+and_false None = refl
+
+pub and_true : (b : Option Bool) → logical_and (Some true) b ≡ b
+and_true (Some true) = refl
+and_true (Some false) = refl
+and_true None = refl
+
+pub and_false_right : (b : Option Bool) → logical_and b (Some false) ≡ Some false
+and_false_right (Some true) = refl
+and_false_right (Some false) = refl
+and_false_right None = refl
+
+pub and_assoc : (a b c : Option Bool) → logical_and (logical_and a b) c ≡ logical_and a (logical_and b c)
+and_assoc (Some false) b c =
+    sym (ap (λ x. logical_and x c) (and_false b)) ∙ sym (and_false c) ∙ and_false (logical_and b c)
+and_assoc (Some true) b c = ap (λ x. logical_and x c) (and_true b) ∙ sym (and_true (logical_and b c))
+and_assoc None (Some false) c = sym (and_false c) ∙ ap (λ x. logical_and None x) (and_false c)
+and_assoc None (Some true) c = ap (λ x. logical_and None x) (sym (and_true c))
+and_assoc None None (Some true) = refl
+and_assoc None None (Some false) = refl
+and_assoc None None None = refl
+
 pub truth_of_result : (b : Option Bool) → truth_of (boolean_result b) ≡ b
 truth_of_result (Some true) = refl
 truth_of_result (Some false) = refl

@@ -83,11 +83,11 @@ fn evaluate<'a, R: Lookup>(
         Expr::Variable(variable) => Ok(lent(row.get(*variable))),
         Expr::Constant(term) => Ok(Some(Value::Held(Held::Lent(term)))),
         Expr::Or { left, right } => {
-            let left = evaluate_truth(alloc, left, row)?;
+            let right = evaluate_truth(alloc, right, row)?;
             Ok(boolean_value(evaluate_or(alloc, left, right, row)?))
         }
         Expr::And { left, right } => {
-            let left = evaluate_truth(alloc, left, row)?;
+            let right = evaluate_truth(alloc, right, row)?;
             Ok(boolean_value(evaluate_and(alloc, left, right, row)?))
         }
         Expr::Not(inner) => Ok(boolean_value(negated(evaluate_truth(alloc, inner, row)?))),
@@ -161,46 +161,52 @@ fn evaluate_truth<R: Lookup>(
     }
 }
 
-/// `left || right`. The right side is tried only where the left one does not decide.
+/// `left || right` where the right side is known. The operands of the left side are tried in a loop,
+/// from the last to the first, until one is true: a long chain takes no deeper stack.
 #[cycle(evaluate)]
 fn evaluate_or<R: Lookup>(
     alloc: Global,
-    left: Option<bool>,
-    right: &Expr,
+    left: &Expr,
+    right: Option<bool>,
     row: &R,
 ) -> Result<Option<bool>, AllocError>
     ensures truth { IfOk result (λ truth.
-        truth ≡ logical_or left (truth_of (val (expression_of right.now) (R.solution row.now)))) }
+        truth ≡ logical_or (truth_of (val (expression_of left.now) (R.solution row.now))) right) }
 {
-    match left {
-        Some(true) => Ok(Some(true)),
-        Some(false) => evaluate_truth(alloc, right, row),
-        None => match evaluate_truth(alloc, right, row)? {
-            Some(true) => Ok(Some(true)),
-            Some(false) | None => Ok(None),
-        },
+    let mut rest = left;
+    let mut found = right;
+    'operands: while found != Some(true) {
+        let Expr::Or { left, right } = rest else {
+            return Ok(either(evaluate_truth(alloc, rest, row)?, found));
+        };
+        found = either(evaluate_truth(alloc, right, row)?, found);
+        rest = left;
     }
+    Ok(found)
 }
 
-/// `left && right`. The right side is tried only where the left one does not decide.
+/// `left && right` where the right side is known. The operands of the left side are tried in a loop,
+/// from the last to the first, until one is false: a long chain takes no deeper stack.
 #[cycle(evaluate)]
 fn evaluate_and<R: Lookup>(
     alloc: Global,
-    left: Option<bool>,
-    right: &Expr,
+    left: &Expr,
+    right: Option<bool>,
     row: &R,
 ) -> Result<Option<bool>, AllocError>
     ensures truth { IfOk result (λ truth.
-        truth ≡ logical_and left (truth_of (val (expression_of right.now) (R.solution row.now)))) }
+        truth ≡ logical_and (truth_of (val (expression_of left.now) (R.solution row.now))) right) }
 {
-    match left {
-        Some(false) => Ok(Some(false)),
-        Some(true) => evaluate_truth(alloc, right, row),
-        None => match evaluate_truth(alloc, right, row)? {
-            Some(false) => Ok(Some(false)),
-            Some(true) | None => Ok(None),
-        },
+    let mut rest = left;
+    let mut found = right;
+    'operands: while found != Some(false) {
+        let Expr::And { left, right } = rest else {
+            return Ok(both(evaluate_truth(alloc, rest, row)?, found));
+        };
+        found = both(evaluate_truth(alloc, right, row)?, found);
+        rest = left;
     }
+    Ok(found)
 }
 
 /// The comparison of a value that is there with one to the right.
@@ -283,6 +289,20 @@ fn either(left: Option<bool>, right: Option<bool>) -> Option<bool>
         None => match right {
             Some(true) => Some(true),
             Some(false) | None => None,
+        },
+    }
+}
+
+/// The logic table of `&&`.
+fn both(left: Option<bool>, right: Option<bool>) -> Option<bool>
+    ensures value { result ≡ logical_and left right }
+{
+    match left {
+        Some(false) => Some(false),
+        Some(true) => right,
+        None => match right {
+            Some(false) => Some(false),
+            Some(true) | None => None,
         },
     }
 }

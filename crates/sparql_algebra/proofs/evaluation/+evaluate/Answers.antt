@@ -1,11 +1,14 @@
-use Rattle.std.proofs.Common.{◌∙◌, ap, sym, map, option_map}
+use Rattle.std.proofs.Common.{◌∙◌, ap, arith, sym, map, option_map}
+use Rattle.algebra_model.specs.BooleanValue.{logical_and, logical_or}
 use Rattle.algebra_model.specs.Comparison.{compares, equal}
 use Rattle.algebra_model.specs.Expression.{boolean_result, val, with_values}
 use Rattle.sparql_algebra.specs.ExpressionOf.{expression_of}
 use Rattle.sparql_algebra.specs.HeldTerm.{held_term}
 use Rattle.sparql_algebra.specs.MemberTruth.{member_truth}
-use Rattle.sparql_algebra.proofs.FoldSteps.{in_stands_for}
+use Rattle.sparql_algebra.specs.declared.expression.Expr.{size-Expr}
+use Rattle.sparql_algebra.proofs.FoldSteps.{and_deeper, in_stands_for, or_deeper}
 use Rattle.sparql_algebra.proofs.LogicSteps.{member_step, member_value}
+use Rattle.sparql_algebra.proofs.OperandSteps.{and_moves, or_moves, truth}
 use Rattle.sparql_algebra.proofs.evaluation.+evaluate.Goals as goal
 
 pub evaluate-returns-in_ok-evaluate_member-in-In : goal.evaluate-returns-in_ok-evaluate_member-in-In
@@ -29,3 +32,23 @@ evaluate_member-loop-member-preserved g t c =
     rw c.either-found.ensures.value (member_step expression_of c.args.list.now c.loop-member.member-index c.member-item.result
     (option_map held_term c.args.item.now) (g.R.Lookup.solution c.args.row.now) c.loop-member.found c.compare_values-equal.result _
     c.loop-member-test.true e c.loop-member.invariant)
+
+pub evaluate_or-operands-preserved : goal.evaluate_or-operands-preserved
+evaluate_or-operands-preserved g t c =
+    let μ = g.R.Lookup.solution c.args.row.now in
+    let moved = or_moves c.in-Or.left c.in-Or.right c.operands.found μ
+    ∙ ap (λ e. logical_or (truth e μ) c.operands.found) (sym c.in-Or.is) ∙ c.operands.invariant.truth in
+    record {
+      no_deeper = rw c.deref-rest.ensures (omega (arith, or_deeper c.in-Or.left c.in-Or.right, ap size-Expr c.in-Or.is));
+      truth = rw (c.deref-rest.ensures, c.either-found.ensures.value, c.in_ok-evaluate_truth-2.ensures.truth, c.deref.ensures) moved;
+    }
+
+pub evaluate_and-operands-preserved : goal.evaluate_and-operands-preserved
+evaluate_and-operands-preserved g t c =
+    let μ = g.R.Lookup.solution c.args.row.now in
+    let moved = and_moves c.in-And.left c.in-And.right c.operands.found μ
+    ∙ ap (λ e. logical_and (truth e μ) c.operands.found) (sym c.in-And.is) ∙ c.operands.invariant.truth in
+    record {
+      no_deeper = rw c.deref-rest.ensures (omega (arith, and_deeper c.in-And.left c.in-And.right, ap size-Expr c.in-And.is));
+      truth = rw (c.deref-rest.ensures, c.both-found.ensures.value, c.in_ok-evaluate_truth-2.ensures.truth, c.deref.ensures) moved;
+    }

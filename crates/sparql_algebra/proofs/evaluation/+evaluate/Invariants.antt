@@ -1,11 +1,35 @@
-use Rattle.std.proofs.Common.{◌≡◌, drop, map, option_map}
-use Rattle.algebra_model.specs.BooleanValue.{logical_or}
+use Rattle.std.proofs.Common.{◌≡◌, ◌≤◌, drop, map, option_map}
+use Rattle.algebra_model.specs.BooleanValue.{logical_and, logical_or}
 use Rattle.sparql_algebra.specs.ExpressionOf.{expression_of}
 use Rattle.sparql_algebra.specs.HeldTerm.{held_term}
 use Rattle.sparql_algebra.specs.MemberTruth.{member_truth}
+use Rattle.sparql_algebra.specs.declared.expression.Expr.{size-Expr}
+use Rattle.sparql_algebra.proofs.OperandSteps.{truth}
 use Rattle.sparql_algebra.proofs.evaluation.+evaluate.Given as goal
 
 abbrev pub invariant-evaluate_member-loop-member : goal.invariant-evaluate_member-loop-member
 invariant-evaluate_member-loop-member g l =
     logical_or l.found (member_truth (option_map held_term l.item) (map expression_of (drop l.member-index l.list)) (g.R.Lookup.solution l.row))
     ≡ member_truth (option_map held_term l.item) (map expression_of l.list) (g.R.Lookup.solution l.row)
+
+abbrev pub invariant-evaluate_or-operands : goal.invariant-evaluate_or-operands
+invariant-evaluate_or-operands g l =
+    let μ = g.R.Lookup.solution l.row in
+    record {
+      no_deeper : size-Expr l.rest ≤ size-Expr l.left;
+      truth : logical_or (truth l.rest μ) l.found ≡ logical_or (truth l.left μ) l.initial.found;
+    }
+
+abbrev pub decreases-evaluate_or-operands : goal.decreases-evaluate_or-operands
+decreases-evaluate_or-operands g l = size-Expr l.rest
+
+abbrev pub invariant-evaluate_and-operands : goal.invariant-evaluate_and-operands
+invariant-evaluate_and-operands g l =
+    let μ = g.R.Lookup.solution l.row in
+    record {
+      no_deeper : size-Expr l.rest ≤ size-Expr l.left;
+      truth : logical_and (truth l.rest μ) l.found ≡ logical_and (truth l.left μ) l.initial.found;
+    }
+
+abbrev pub decreases-evaluate_and-operands : goal.decreases-evaluate_and-operands
+decreases-evaluate_and-operands g l = size-Expr l.rest
