@@ -5,7 +5,7 @@ use Rattle.std.proofs.lemmas.List.{map-append, append-nil}
 use Rattle.std.proofs.lemmas.List.Sums.{sum_by-append}
 use Rattle.std.proofs.lemmas.Bool.{eq-eqb}
 use Rattle.std.proofs.lemmas.Bool.Decides.{eqb_tells}
-use Rattle.std.proofs.lemmas.List.Elements.{All-push, All-append, All-head, All-tail, All-weaker, All-contains, Contains-get_or, Contains-append_left, Contains-append_right, Contains-append_cases}
+use Rattle.std.proofs.lemmas.List.Elements.{All-push, All-cons, All-append, All-head, All-tail, All-weaker, All-contains, Contains-get_or, Contains-append_left, Contains-append_right, Contains-append_cases}
 use Rattle.piece_board.specs.Counts.{times}
 use Rattle.piece_board.specs.Pass.{PassView}
 use Rattle.piece_board.specs.Board.{BoardView, IsPassOf, IsClosed, drawn_by, reported_by}
@@ -24,6 +24,10 @@ module _ {Out Fault : Type 0} (outs outs' : List (ℕ × Out)) (failed failed' :
   pub Contains-done_new : Contains (done_of outs' failed') i → Contains (done_of (outs ++ outs') (failed ++ failed')) i
   Contains-done_new h =
       rw map-append (rw map-append (⊎_elim (λ a. Contains-append_left _ _ i (Contains-append_right (numbers_of outs) _ i a)) (λ b. Contains-append_right (numbers_of outs ++ numbers_of outs') _ i (Contains-append_right (numbers_of failed) _ i b)) (Contains-append_cases (numbers_of outs') (numbers_of failed') i h)))
+
+-- one more work that did not stop
+pub unstopped-more : {Out Fault : Type 0} (w : Worked Out Fault) (ws : List (Worked Out Fault)) → w.stopped ≡ false → All (λ (v : Worked Out Fault). v.stopped ≡ false) ws → All (λ (v : Worked Out Fault). v.stopped ≡ false) (w ∷ ws)
+unstopped-more w ws h all = All-cons (λ v. v.stopped ≡ false) w ws h all
 
 -- one more work
 pub IsCollected-more : {Out Fault : Type 0} (answers : ℕ → Out → Type 0) (faults : ℕ → Fault → Type 0) (board : BoardView) (ps : List PassView) (outs : List (ℕ × Out)) (failed : List (ℕ × Fault)) (w : Worked Out Fault) → IsCollected answers faults board ps outs failed → IsWorked answers faults board w → w.stopped ≡ false → IsCollected answers faults board (ps ++ w.pass ∷ []) (outs ++ w.outs.items) (failed ++ w.faults.items)

@@ -1,5 +1,5 @@
 //! What the works of all workers come to.
-ghost use Rattle.std.specs.Prelude.{◌≡◌, ℕ, ◌<◌, ◌≤◌, IfOk, OnOk, map, IsSome, IsSomeAnd, Some, None, All, Contains, vec_len, slice_index_or};
+ghost use Rattle.std.specs.Prelude.{◌≡◌, ℕ, ◌<◌, ◌≤◌, IfOk, OnOk, map, IsSome, IsSomeAnd, Some, None, All, Contains, false, vec_len, slice_index_or};
 ghost use Rattle.piece_pool.specs.Worked.{IsWorked, numbers_of};
 ghost use Rattle.piece_pool.specs.Outcome.{IsOutcome};
 ghost use Rattle.piece_pool.specs.Collected.{IsCollected};
@@ -29,8 +29,12 @@ struct Collected<Out, Fault> {
 /// Closes the board, and puts the answers of its pieces in their places, or names the least faulty
 /// one. Which threads did the works does not matter.
 ///
+/// # Requires
+/// The works are of all passes of this board, and of this job.
+///
 /// # Errors
-/// A growth was refused, now or to a worker that stopped. Everything is dropped.
+/// A growth was refused: now, or to a worker, which then stopped (one that stopped is always a refusal).
+/// Everything is dropped.
 pub fn gather<J: Job>(
     alloc: Global,
     board: Board,
@@ -42,6 +46,7 @@ where
     J::Fault: Drop,
     requires all { vec_len works ≡ board.seats }
     requires works { All (IsWorked (J.answers job.now) (J.faults job.now) board) works.items }
+    ensures stopped { OnOk result (All (λ w. w.stopped ≡ false) works.items) }
     ensures outcome { IfOk result (IsOutcome (J.answers job.now) (J.faults job.now) board.pieces) }
 {
     let Collected {
@@ -71,6 +76,7 @@ where
     J::Fault: Drop,
     requires works { All (IsWorked (J.answers job.now) (J.faults job.now) board.now) works.items }
     ensures some { OnOk result (0 < board.now.seats) }
+    ensures stopped { OnOk result (All (λ w. w.stopped ≡ false) works.items) }
     ensures count { IfOk result (λ c. vec_len c.passes ≡ vec_len works) }
     ensures collected { IfOk result (λ c. IsCollected (J.answers job.now) (J.faults job.now)
         board.now c.passes.items c.outs.items c.faults.items) }

@@ -3,6 +3,7 @@ ghost use Rattle.std.specs.Prelude.{◌≡◌, ◌++◌, codes, decimal, OnErr, 
 ghost use Rattle.std.specs.Io.KnownBytes.{Appends};
 ghost use Rattle.nquads_core.specs.Transfer.{WroteBeginning};
 ghost use Rattle.spq_core.specs.Report.{fault_line, query_line, status_of};
+ghost use Rattle.spq_core.specs.Run.{WriterFailed};
 
 use crate::program::RunFault;
 use itoa::Buffer;
@@ -53,6 +54,8 @@ fn write_both<K: Sink>(writer: &mut K, front: &[u8], back: &[u8]) -> Result<(), 
         (Appends (K.held writer.old) (K.held writer.new) (front.now ++ back.now)) }
     ensures failed { OnErr result
         (WroteBeginning (K.held writer.old) (K.held writer.new) (front.now ++ back.now)) }
+    ensures failed_count { OnErr result
+        (WriterFailed K.write_gives (K.failures writer.old) (K.failures writer.new)) }
 {
     write_all(writer, front)?;
     write_all(writer, back)
@@ -64,6 +67,8 @@ fn write_number<K: Sink>(writer: &mut K, line: u128) -> Result<(), DeviceFailed>
         (Appends (K.held writer.old) (K.held writer.new) (decimal line ++ codes "\n")) }
     ensures failed { OnErr result
         (WroteBeginning (K.held writer.old) (K.held writer.new) (decimal line ++ codes "\n")) }
+    ensures failed_count { OnErr result
+        (WriterFailed K.write_gives (K.failures writer.old) (K.failures writer.new)) }
 {
     let mut buffer = Buffer::new();
     write_both(writer, buffer.format(line).as_bytes(), b"\n")
@@ -77,6 +82,8 @@ fn write_bad_line<K: Sink>(writer: &mut K, line: u128) -> Result<(), DeviceFaile
     ensures failed { OnErr result
         (WroteBeginning (K.held writer.old) (K.held writer.new)
         (codes "error: line " ++ (decimal line ++ codes "\n"))) }
+    ensures failed_count { OnErr result
+        (WriterFailed K.write_gives (K.failures writer.old) (K.failures writer.new)) }
 {
     match write_all(writer, b"error: line ") {
         Ok(()) => write_number(writer, line),
@@ -90,6 +97,8 @@ fn write_query_fault<K: Sink>(writer: &mut K, fault: &QueryFault) -> Result<(), 
         (Appends (K.held writer.old) (K.held writer.new) (query_line fault.now)) }
     ensures failed { OnErr result
         (WroteBeginning (K.held writer.old) (K.held writer.new) (query_line fault.now)) }
+    ensures failed_count { OnErr result
+        (WriterFailed K.write_gives (K.failures writer.old) (K.failures writer.new)) }
 {
     let line = line_of(fault);
     write_all(writer, line)
@@ -105,6 +114,8 @@ pub fn write_fault<K: Sink>(fault: &RunFault, writer: &mut K) -> Result<(), Devi
         (Appends (K.held writer.old) (K.held writer.new) (fault_line fault.now)) }
     ensures failed { OnErr result
         (WroteBeginning (K.held writer.old) (K.held writer.new) (fault_line fault.now)) }
+    ensures failed_count { OnErr result
+        (WriterFailed K.write_gives (K.failures writer.old) (K.failures writer.new)) }
 {
     match fault {
         RunFault::BadLine(line) => write_bad_line(writer, *line),

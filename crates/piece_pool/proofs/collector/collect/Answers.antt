@@ -1,5 +1,5 @@
 use Rattle.std.proofs.Common.{rules, arith, suc}
-use Rattle.piece_pool.proofs.CollectorSteps.{IsCollected-more}
+use Rattle.piece_pool.proofs.CollectorSteps.{IsCollected-more, unstopped-more}
 use Rattle.piece_pool.proofs.collector.collect.Goals as goal
 
 pub loop-worked-preserved : goal.loop-worked-preserved
@@ -10,5 +10,6 @@ loop-worked-preserved g c =
     let here = all 0 c.in-Some.worked (omega arith) in record {
       count = search rules;
       rest = λ k d below. all (suc k) d (omega arith);
+      stopped = λ h. was.stopped (rw steps.0 (unstopped-more c.in-Some.worked _ c.if-stopped.false h));
       collected = rw (c.in_ok-push.ensures.items, c.in_ok-append.ensures.items, c.in_ok-append-2.ensures.items) (IsCollected-more _ _ _ _ _ _ _ was.collected here c.if-stopped.false);
     }

@@ -1,4 +1,4 @@
-use Rattle.std.proofs.Common.{◌≡◌, ◌+◌, All, vec_len}
+use Rattle.std.proofs.Common.{◌≡◌, ◌+◌, All, false, vec_len}
 use Rattle.std.specs.Vec.Iter.{into_iter_items, into_iter_len}
 use Rattle.piece_pool.specs.Worked.{IsWorked}
 use Rattle.piece_pool.specs.Collected.{IsCollected}
@@ -8,5 +8,6 @@ abbrev pub invariant-loop-worked : goal.invariant-loop-worked
 invariant-loop-worked g l = record {
   count : vec_len l.passes + into_iter_len l.worked-iterator ≡ vec_len l.fn.works;
   rest : All (IsWorked (g.J.Job.answers l.job) (g.J.Job.faults l.job) l.board) (into_iter_items l.worked-iterator);
+  stopped : All (λ w. w.stopped ≡ false) (into_iter_items l.worked-iterator) → All (λ w. w.stopped ≡ false) l.fn.works.items;
   collected : IsCollected (g.J.Job.answers l.job) (g.J.Job.faults l.job) l.board l.passes.items l.outs.items l.faults.items;
 }

@@ -16,6 +16,7 @@ returns-then-closed-n g c =
     let answered : (i : ℕ) → i < c.close-closed.result.least → (out : _) × g.J.Job.answers c.args.job.now i out = λ i low.
     let pair = Contains-pair _ i (Contains-below_least _ _ _ _ _ _ _ _ all (IsSettled-closed _ _ _ _ _ c.close-closed.ensures.closed) some i low) in
     (pair.0, All-contains (λ p. g.J.Job.answers c.args.job.now p.0 p.1) _ _ all.answered pair.1) in record {
+      stopped = c.in_ok-passes.ensures.stopped;
       outcome = record {
         below = omega arith;
         faulted = All-contains (λ p. g.J.Job.faults c.args.job.now p.0 p.1) _ _ all.faulted c.fault_of-fault.ensures.fault;
@@ -41,6 +42,7 @@ returns g c =
     let each : (i : ℕ) (d : _) → i < c.args.board.pieces → g.J.Job.answers c.args.job.now i (get_or outs i d) = λ i d low.
     All-contains (λ p. g.J.Job.answers c.args.job.now p.0 p.1) _ _ all.answered (c.in_ok-in_order.ensures.each i d (omega (arith, low, drawn))) in
     let count : length outs ≡ c.args.board.pieces = omega (arith, drawn, c.in_ok-in_order.field-0.ok.0, c.in_ok-in_order.ensures.count) in record {
+      stopped = c.in_ok-passes.ensures.stopped;
       outcome = record {
         count = count;
         each = each;
