@@ -25,13 +25,9 @@ mod fault;
 mod loading;
 mod reader;
 mod reading;
-#[cfg(test)]
-mod refusals;
 mod rounds;
 mod sorting;
 mod store;
-#[cfg(test)]
-mod tests;
 
 pub use fault::LoadFault;
 pub use loading::{load, load_blocks};

@@ -24,13 +24,9 @@ mod laws;
 mod local_piece;
 mod merging;
 mod num_quad;
-#[cfg(test)]
-mod refusals;
 mod rounds;
 mod seen;
 mod seen_piece;
-#[cfg(test)]
-mod tests;
 
 pub use dict::Dict;
 pub use laws::{absorbing_keeps_the_numbering, earlier_places_serve};

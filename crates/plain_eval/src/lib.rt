@@ -26,8 +26,6 @@ pub mod patterns;
 mod places;
 pub mod solution;
 mod terms;
-#[cfg(test)]
-mod tests;
 
 pub use condition::{Condition, Value};
 pub use dataset::{graph, names};

@@ -18,11 +18,7 @@ mod index;
 mod laws;
 mod prefix;
 mod range;
-#[cfg(test)]
-mod refusals;
 mod sort_order;
-#[cfg(test)]
-mod tests;
 
 pub use index::Index;
 pub use laws::{index_counts_the_quads, index_names_the_graphs, index_reads_the_quads};

@@ -44,7 +44,10 @@ fn texts_are_made_and_given_back(rt: HostRuntime) -> Result<(), AllocError> {
     let made = text(alloc, "b\u{e9}")?;
     let copied = made.copy(alloc)?;
     assert!(rt; made == copied);
-    assert!(rt; made.cmp(&text(alloc, "c")?) == Ordering::Less);
+    let later = text(alloc, "c")?;
+    assert!(rt; made.cmp(&later) == Ordering::Less);
+    assert!(rt; made.partial_cmp(&later) == Some(Ordering::Less));
+    assert!(rt; format!(in alloc; "{made}")?.as_str() == "b\u{e9}");
     assert!(rt; copied.into_string().as_str() == "b\u{e9}");
     Ok(())
 }
@@ -77,6 +80,32 @@ fn terms_stand_in_order(rt: HostRuntime) -> Result<(), AllocError> {
     assert!(rt; tagged.order(&plain) == Ordering::Less);
     assert!(rt; plain.copy(alloc)?.is_same(&plain));
     assert!(rt; !plain.is_same(&tagged));
+    Ok(())
+}
+
+/// Whether each of these terms is less than the next one.
+fn is_ascending(terms: &[Term]) -> bool {
+    for i in 1..terms.len() {
+        if terms[i - 1].order(&terms[i]) != Ordering::Less {
+            return false;
+        }
+    }
+    true
+}
+
+// By lexical form, then datatype, then tag, and no tag first; each by the bytes of its UTF-8.
+#[test]
+fn literals_stand_in_order(rt: HostRuntime) -> Result<(), AllocError> {
+    let alloc = rt.alloc();
+    let mut terms = Vec::new(alloc);
+    terms.push(literal(alloc, "x", RDF_LANG_STRING, None)?)?;
+    terms.push(literal(alloc, "x", RDF_LANG_STRING, Some("de"))?)?;
+    terms.push(literal(alloc, "x", RDF_LANG_STRING, Some("en"))?)?;
+    terms.push(literal(alloc, "x", XSD_INTEGER, None)?)?;
+    terms.push(literal(alloc, "x", XSD_STRING, None)?)?;
+    terms.push(literal(alloc, "x\u{ffff}", RDF_LANG_STRING, None)?)?;
+    terms.push(literal(alloc, "x\u{10000}", RDF_LANG_STRING, None)?)?;
+    assert!(rt; is_ascending(&terms));
     Ok(())
 }
 

@@ -30,8 +30,6 @@ mod ranking;
 mod results;
 mod row_order;
 mod term_texts;
-#[cfg(test)]
-mod tests;
 mod values;
 
 pub use printing::print_rows;

@@ -17,8 +17,6 @@
 
 mod merging;
 mod rows;
-#[cfg(test)]
-mod tests;
 
 pub use merging::{is_compatible, merge_into, shares};
 pub use rows::Rows;

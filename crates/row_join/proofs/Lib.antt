@@ -1,6 +1,6 @@
 mod GroupLaws
 mod PlaceLaws
 mod PairLaws
-mod NumberLaws
+pub mod NumberLaws
 mod TurnLaws
 mod KnownLaws

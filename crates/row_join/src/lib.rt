@@ -22,7 +22,7 @@
 //! join((?s: 1), (?s: 2) ; (?s: 1, ?o: 7), (?o: 9))
 //!     = (?s: 1, ?o: 7), (?s: 1, ?o: 9), (?s: 2, ?o: 9)
 //! ```
-//! The test `unbound_meets_everything` runs one like it.
+//! The test `unbound_meets_everything` of row_tests runs one like it.
 //!
 //! Not promised: the order of the rows, which variables make the key, how much memory is taken.
 #![tactic(auto)]
@@ -35,8 +35,6 @@ mod keyed;
 mod left_joins;
 mod left_rows;
 mod right_side;
-#[cfg(test)]
-mod tests;
 
 pub use differences::minus;
 pub use joins::join;

@@ -19,7 +19,7 @@
 //! order), `search` (depth first), `matching` (pieces, and the whole), `laws`.
 //!
 //! Example: over the triples 1 2 3 and 1 2 4, the pattern of a variable, 2 and a blank label has the
-//! row 1 twice (`a_label_repeats_a_solution` in the tests).
+//! row 1 twice (`a_label_repeats_a_solution` of row_tests).
 //!
 //! Not promised: the order of the rows, and that the order of the triples is the best one.
 #![tactic(auto)]
@@ -30,8 +30,6 @@ mod matching;
 mod numbered;
 mod search;
 mod steps;
-#[cfg(test)]
-mod tests;
 
 pub use laws::rows_read_as_solutions;
 pub use matching::pattern;

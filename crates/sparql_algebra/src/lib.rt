@@ -48,8 +48,6 @@ mod part;
 mod pattern;
 mod plan;
 mod table;
-#[cfg(test)]
-mod tests;
 mod translation;
 
 pub use comparison::{compare, truth};

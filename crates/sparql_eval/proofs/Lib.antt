@@ -1,4 +1,4 @@
-mod ReadingLaws
+pub mod ReadingLaws
 mod ProjectSteps
 mod DistinctSteps
 mod TableSteps
@@ -11,4 +11,3 @@ mod GraphSteps
 mod NamedSteps
 mod TreeSteps
 mod EvaluateSteps
-mod TestSteps

@@ -19,7 +19,7 @@
 //! ```text
 //! { ?s p ?o OPTIONAL { ?o p ?z } }  over  x p y, y p z  =  (?s: x, ?o: y, ?z: z), (?s: y, ?o: z)
 //! ```
-//! The test `a_filter_in_optional_sees_the_left_row` runs one like it.
+//! The test `a_filter_in_optional_sees_the_left_row` of evaluation_tests runs one like it.
 //!
 //! Not promised: the order of the rows, and which numbers computed terms get.
 #![tactic(auto)]
@@ -37,8 +37,6 @@ mod patterns;
 mod projections;
 mod reading;
 mod tables;
-#[cfg(test)]
-mod tests;
 mod unions;
 mod values;
 

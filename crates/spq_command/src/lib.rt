@@ -7,15 +7,13 @@
 //! To read in this order: `command` (commands), `command_line` (words).
 //!
 //! Example: the words `spq`, `check`, `--workers`, `8` are a check by 8 workers, in pieces of 65,536
-//! bytes; the test `command_lines_are_read` runs such examples.
+//! bytes; the test `command_lines_are_read` of program_tests runs such examples.
 //!
 //! Not promised: that memory suffices, and what the library of command lines says to a user.
 #![tactic(auto)]
 
 mod command;
 mod command_line;
-#[cfg(test)]
-mod tests;
 
 pub use command::{Command, Reading};
 pub use command_line::{CommandFault, read_command};

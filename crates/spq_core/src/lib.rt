@@ -16,7 +16,7 @@
 //! Example: the document `<http://e/a> <http://e/p> "x" .` and the query
 //! `SELECT ?o { <http://e/a> <http://e/p> ?o }` give
 //! `{"head":{"vars":["o"]},"results":{"bindings":[{"o":{"type":"literal","value":"x"}}]}}`; the test
-//! `patterns_are_answered` runs such examples.
+//! `patterns_are_answered` of program_tests runs such examples.
 //!
 //! Not promised: that memory suffices, that a call returns (it joins its workers), speed, and what a
 //! file or a terminal holds.
@@ -26,11 +26,7 @@ mod answering;
 mod fault;
 mod listing;
 mod program;
-#[cfg(test)]
-mod refusals;
 mod report;
-#[cfg(test)]
-mod tests;
 
 pub use answering::answer;
 pub use fault::Fault;

@@ -1,0 +1,103 @@
+//! The operators that go over pieces, by two workers that have to meet.
+use super::{dict_of, rows_of, text, told};
+use piece_pool::Gate;
+use rdf_core::Term;
+use row_pieces::{EvalFault, How};
+use sparql_algebra::Expr;
+use sparql_eval::{extend, filter, join, left_join, minus};
+use std::alloc::{AllocError, AllocGlobal, Global};
+use std::hash::RandomState;
+use std::sync::atomic::{AtomicU64, Ordering};
+use std::thread::yield_now;
+
+/// Pieces 0 and 1 each set a flag when they enter, and wait until the other's flag is set, at most
+/// 10,000,000 turns. On one thread the first to enter waits in vain.
+#[derive(Drop)]
+struct Meeting {
+    first: AtomicU64,
+    second: AtomicU64,
+    late: AtomicU64,
+}
+
+impl Meeting {
+    fn fresh() -> Meeting {
+        Meeting {
+            first: AtomicU64::new(0),
+            second: AtomicU64::new(0),
+            late: AtomicU64::new(0),
+        }
+    }
+
+    /// Whether both pieces came, and none in vain.
+    fn is_met(&self) -> bool {
+        self.first.load(Ordering::SeqCst) == 1
+            && self.second.load(Ordering::SeqCst) == 1
+            && self.late.load(Ordering::SeqCst) == 0
+    }
+}
+
+impl Gate for Meeting {
+    fn enter(&self, i: u64) {
+        let (mine, other) = if i == 0 {
+            (&self.first, &self.second)
+        } else {
+            (&self.second, &self.first)
+        };
+        mine.store(1, Ordering::SeqCst);
+        for _ in 0..10_000_000u64 {
+            if other.load(Ordering::SeqCst) == 1 {
+                return;
+            }
+            yield_now();
+        }
+        self.late.store(1, Ordering::SeqCst);
+    }
+
+    fn leave(&self, _i: u64) {}
+}
+
+/// `true`
+fn truth(alloc: Global) -> Result<Expr, AllocError> {
+    Ok(Expr::Constant(Term::Literal {
+        lexical: text(alloc, "true")?,
+        datatype: text(alloc, "http://www.w3.org/2001/XMLSchema#boolean")?,
+        tag: None,
+    }))
+}
+
+/// Two rows in two pieces, with a row that binds nothing and `true`: the two workers meet in every
+/// operator that goes over pieces.
+#[test]
+fn two_workers_meet(rt: HostRuntime) -> Result<(), EvalFault> {
+    let alloc = rt.alloc();
+    let state = RandomState::new(&rt).expect(&rt, "a hash state");
+    let how = How {
+        workers: 2,
+        rows: 1,
+    };
+    let condition = truth(alloc)?;
+    for operator in 0..5u8 {
+        let dict = dict_of(&rt, alloc, &["a:x", "a:y"])?;
+        let left = rows_of(alloc, &dict, &[[Some(0), None], [Some(1), None]])?;
+        let right = rows_of(alloc, &dict, &[[None, None]])?;
+        let gate = Meeting::fresh();
+        let (rows, dict) = match operator {
+            0 => filter(&rt, alloc, dict, &left, &condition, &how, &gate)?,
+            1 => extend(&rt, alloc, dict, &left, 1, &condition, &how, &gate)?,
+            2 => join(&rt, alloc, state, dict, &left, &right, &how, &gate)?,
+            3 => left_join(
+                &rt, alloc, state, dict, &left, &right, &condition, &how, &gate,
+            )?,
+            _ => minus(&rt, alloc, state, dict, &left, &right, &how, &gate)?,
+        };
+        assert!(rt; gate.is_met(), "operator {operator}");
+        let lines = told(alloc, &dict, &rows)?;
+        let expected = if operator == 1 {
+            ["a:x true ", "a:y true "]
+        } else {
+            ["a:x - ", "a:y - "]
+        };
+        assert!(rt; super::are(&lines, &expected), "operator {operator}");
+    }
+    Ok(())
+}

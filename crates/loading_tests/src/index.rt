@@ -1,0 +1,140 @@
+//! Worked examples by direct calls.
+
+use dict_core::NumQuad;
+use quad_index::{
+    Index, SortOrder, index_counts_the_quads, index_names_the_graphs, index_reads_the_quads,
+    sorted_list,
+};
+use std::alloc::{AllocError, Global};
+
+pub(crate) fn quad(g: Option<u64>, s: u64, p: u64, o: u64) -> NumQuad {
+    NumQuad { g, s, p, o }
+}
+
+/// Four quads, of which one stands twice.
+pub(crate) const QUADS: [NumQuad; 4] = [
+    NumQuad {
+        g: None,
+        s: 0,
+        p: 1,
+        o: 2,
+    },
+    NumQuad {
+        g: None,
+        s: 0,
+        p: 1,
+        o: 2,
+    },
+    NumQuad {
+        g: None,
+        s: 0,
+        p: 1,
+        o: 3,
+    },
+    NumQuad {
+        g: Some(5),
+        s: 0,
+        p: 1,
+        o: 2,
+    },
+];
+
+/// The same index, its lists sorted one by one, as three jobs may do side by side.
+pub(crate) fn side_by_side(alloc: Global, quads: &[NumQuad]) -> Result<Index, AllocError> {
+    let gspo = sorted_list(alloc, quads, SortOrder::Gspo)?;
+    let gpos = sorted_list(alloc, quads, SortOrder::Gpos)?;
+    let gosp = sorted_list(alloc, quads, SortOrder::Gosp)?;
+    Index::of_lists(alloc, gspo, gpos, gosp)
+}
+
+/// A repeated statement counts once, and a graph has a name where a quad names it.
+#[test]
+fn an_index_counts_each_quad_once(rt: HostRuntime) {
+    let alloc = rt.alloc();
+    let quads = Vec::from_slice(alloc, &QUADS).expect(&rt, "memory");
+    let built = Index::build(alloc, quads).expect(&rt, "memory");
+    let sorted = side_by_side(alloc, &QUADS).expect(&rt, "memory");
+    for index in [&built, &sorted] {
+        assert_eq!(rt; index.quads(), 3);
+        assert!(rt; index.graphs() == [5].as_slice());
+        assert_eq!(rt; index.scan(None, None, Some(1), Some(3)).len(), 1);
+    }
+    index_reads_the_quads();
+    index_counts_the_quads();
+    index_names_the_graphs();
+}
+
+/// All eight combinations of given places, in the default graph, in a named one and in one that
+/// nothing names.
+#[test]
+fn scans_give_what_agrees(rt: HostRuntime) {
+    let alloc = rt.alloc();
+    let quads = Vec::from_slice(alloc, &QUADS).expect(&rt, "memory");
+    let index = Index::build(alloc, quads).expect(&rt, "memory");
+    for (name, g, s, p, o, want) in [
+        ("s p", None, Some(0), Some(1), None, 2),
+        ("o", None, None, None, Some(2), 1),
+        ("graph 5", Some(5), None, None, None, 1),
+        ("graph 9", Some(9), None, None, None, 0),
+        ("none given", None, None, None, None, 2),
+        ("s", None, Some(0), None, None, 2),
+        ("s of no quad", None, Some(1), None, None, 0),
+        ("p", None, None, Some(1), None, 2),
+        ("p of no quad", None, None, Some(2), None, 0),
+        ("s o", None, Some(0), None, Some(3), 1),
+        ("p o", None, None, Some(1), Some(3), 1),
+        ("p o of no quad", None, None, Some(1), Some(4), 0),
+        ("s p o", None, Some(0), Some(1), Some(2), 1),
+        ("s p o of graph 5", Some(5), Some(0), Some(1), Some(2), 1),
+        ("s p o of no quad", Some(5), Some(0), Some(1), Some(3), 0),
+    ] {
+        assert_eq!(rt; index.scan(g, s, p, o).len(), want, "at {name}");
+    }
+    assert!(rt; index.scan(None, None, None, Some(3)) == [quad(None, 0, 1, 3)].as_slice());
+    assert!(rt; index.scan(Some(5), Some(0), None, None) == [quad(Some(5), 0, 1, 2)].as_slice());
+}
+
+/// Each order by itself: no graph comes first, then the places of the name.
+#[test]
+fn lists_stand_in_their_orders(rt: HostRuntime) {
+    let alloc = rt.alloc();
+    let quads = [
+        quad(Some(0), 0, 0, 0),
+        quad(None, 1, 3, 2),
+        quad(None, 2, 1, 3),
+        quad(None, 3, 2, 1),
+        quad(None, 1, 3, 2),
+    ];
+    for (order, want) in [
+        (
+            SortOrder::Gspo,
+            [
+                quad(None, 1, 3, 2),
+                quad(None, 2, 1, 3),
+                quad(None, 3, 2, 1),
+                quad(Some(0), 0, 0, 0),
+            ],
+        ),
+        (
+            SortOrder::Gpos,
+            [
+                quad(None, 2, 1, 3),
+                quad(None, 3, 2, 1),
+                quad(None, 1, 3, 2),
+                quad(Some(0), 0, 0, 0),
+            ],
+        ),
+        (
+            SortOrder::Gosp,
+            [
+                quad(None, 3, 2, 1),
+                quad(None, 1, 3, 2),
+                quad(None, 2, 1, 3),
+                quad(Some(0), 0, 0, 0),
+            ],
+        ),
+    ] {
+        let list = sorted_list(alloc, &quads, order).expect(&rt, "memory");
+        assert!(rt; list.as_slice() == want.as_slice());
+    }
+}

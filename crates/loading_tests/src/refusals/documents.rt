@@ -1,0 +1,136 @@
+//! What a refused growth or a refused start of a worker leaves, whichever it is.
+//!
+//! With ample memory nothing is refused here. tests/refusals.sh runs each of these tests with its
+//! first growth refused, then with its second, and so on, until a run meets no refusal; and the same
+//! with the starts of workers. A run meets one refusal at most, so that a second try has to succeed.
+ghost use Rattle.std.specs.Prelude.{◌≤◌};
+
+use crate::documents::{BAD, GRAPHS, REPEATED, counts};
+use dataset_load::{LoadFault, load, load_blocks, read_blocks};
+use nquads_core::{Device, ReadFault};
+use piece_cuts::Cuts;
+use piece_pool::Gate;
+use std::alloc::Global;
+use std::random::RandomSource;
+use std::sync::Wait;
+use std::sync::atomic::{AtomicU64, Ordering};
+use std::thread::Threads;
+
+/// Counts the pieces that entered and those that left.
+#[derive(Drop)]
+struct Passages {
+    entered: AtomicU64,
+    left: AtomicU64,
+}
+
+impl Gate for Passages {
+    fn enter(&self, _i: u64) {
+        self.entered.fetch_add(1, Ordering::SeqCst);
+    }
+
+    fn leave(&self, _i: u64) {
+        self.left.fetch_add(1, Ordering::SeqCst);
+    }
+}
+
+impl Passages {
+    fn none() -> Passages {
+        Passages {
+            entered: AtomicU64::new(0),
+            left: AtomicU64::new(0),
+        }
+    }
+
+    fn is_balanced(&self) -> bool {
+        self.entered.load(Ordering::SeqCst) == self.left.load(Ordering::SeqCst)
+    }
+}
+
+/// The counts of a document that is loaded line by line.
+fn by_lines<R: Threads + Wait + RandomSource>(
+    rt: &R,
+    alloc: Global,
+    doc: &[u8],
+    workers: usize,
+    gate: &Passages,
+) -> Result<(u64, u64, u64), LoadFault>
+    requires workers { (1 ≤ workers) × (workers ≤ 64) }
+{
+    let cuts = Cuts::every(alloc, doc, 1)?;
+    if !cuts.fits(doc) {
+        return Err(LoadFault::Memory);
+    }
+    counts(load(rt, alloc, doc, &cuts, workers, gate))
+}
+
+/// The same of blocks that a reader gives.
+fn by_blocks<R: Threads + Wait + RandomSource>(
+    rt: &R,
+    alloc: Global,
+    doc: &[u8],
+    workers: usize,
+    gate: &Passages,
+) -> Result<(u64, u64, u64), LoadFault>
+    requires workers { (1 ≤ workers) × (workers ≤ 64) }
+{
+    let mut reader = Device { inner: doc };
+    match read_blocks(alloc, 1, &mut reader) {
+        Ok(blocks) => counts(load_blocks(rt, alloc, blocks.as_slice(), workers, gate)),
+        Err(ReadFault::Memory) => Err(LoadFault::Memory),
+        Err(ReadFault::Read) => Err(LoadFault::BadLine(0)),
+    }
+}
+
+/// Whether memory or a worker was refused, which is printed, for the script to see.
+fn is_refused<R: Print>(rt: &R, counts: &Result<(u64, u64, u64), LoadFault>) -> bool {
+    let what = match counts {
+        Err(LoadFault::Memory) => "memory",
+        Err(LoadFault::WorkerRefused) => "a worker",
+        _ => return false,
+    };
+    let _ = println!(rt; "{what} was refused");
+    true
+}
+
+/// Whether a document comes to `want`, or is refused and comes to it at a second try; and each piece
+/// that entered the gate left it.
+fn comes_to<R: Threads + Wait + RandomSource + Print>(
+    rt: &R,
+    alloc: Global,
+    doc: &[u8],
+    workers: usize,
+    want: Result<(u64, u64, u64), LoadFault>,
+) -> bool
+    requires workers { (1 ≤ workers) × (workers ≤ 64) }
+{
+    let gate = Passages::none();
+    let mut lines = by_lines(rt, alloc, doc, workers, &gate);
+    if is_refused(rt, &lines) {
+        lines = by_lines(rt, alloc, doc, workers, &gate);
+    }
+    let mut blocks = by_blocks(rt, alloc, doc, workers, &gate);
+    if is_refused(rt, &blocks) {
+        blocks = by_blocks(rt, alloc, doc, workers, &gate);
+    }
+    lines == want && blocks == want && gate.is_balanced()
+}
+
+/// A good document is never called bad, and its counts are never other ones.
+#[test]
+fn a_good_document_is_loaded_or_memory_is_refused(rt: HostRuntime) {
+    let alloc = rt.alloc();
+    assert!(rt;
+        comes_to(&rt, alloc, REPEATED, 1, Ok((2, 4, 0))),
+        "by one worker"
+    );
+    assert!(rt; comes_to(&rt, alloc, GRAPHS, 2, Ok((3, 7, 2))), "by two");
+}
+
+/// A bad document is never accepted, and its first bad line never another one.
+#[test]
+fn a_bad_document_is_refused_or_memory_is(rt: HostRuntime) {
+    let alloc = rt.alloc();
+    let want = Err(LoadFault::BadLine(3));
+    assert!(rt; comes_to(&rt, alloc, BAD, 1, want), "by one worker");
+    assert!(rt; comes_to(&rt, alloc, BAD, 2, want), "by two");
+}

@@ -1,0 +1,168 @@
+//! Worked answers. What is expected is written out by hand from the format.
+ghost use Rattle.std.specs.Prelude.{◌≡◌, ◌∷◌, ◌<◌, [], length, IfOk};
+ghost use Rattle.algebra_model.specs.Reading.{Each, EachBound};
+
+use dict_core::Dict;
+use rdf_core::vocabulary::{RDF_LANG_STRING, XSD_INTEGER, XSD_STRING};
+use rdf_core::{Term, Text};
+use result_json::print_rows;
+use row_core::Rows;
+use std::alloc::{AllocError, AllocGlobal, Global};
+use std::hash::RandomState;
+
+fn text(alloc: Global, text: &str) -> Result<Text, AllocError> {
+    Ok(Text::from_string(String::from_str(alloc, text)?))
+}
+
+fn iri(alloc: Global, name: &str) -> Result<Term, AllocError> {
+    Ok(Term::Iri(text(alloc, name)?))
+}
+
+fn literal(alloc: Global, lexical: &str, datatype: &str) -> Result<Term, AllocError> {
+    Ok(Term::Literal {
+        lexical: text(alloc, lexical)?,
+        datatype: text(alloc, datatype)?,
+        tag: None,
+    })
+}
+
+/// A literal of each kind, an IRI and a blank node: their numbers are their places.
+fn terms(alloc: Global, state: RandomState) -> Result<Dict, AllocError> {
+    let tagged = Term::Literal {
+        lexical: text(alloc, "é\n")?,
+        datatype: text(alloc, RDF_LANG_STRING)?,
+        tag: Some(text(alloc, "en")?),
+    };
+    let all = vec![in alloc;
+        literal(alloc, "x", XSD_STRING)?,
+        literal(alloc, "1", XSD_INTEGER)?,
+        tagged,
+        literal(alloc, "\t\u{1}\\", XSD_STRING)?,
+        iri(alloc, "http://e/a")?,
+        Term::Blank(text(alloc, "b")?),
+    ]?;
+    let mut dict = Dict::new(alloc, state)?;
+    for term in all {
+        let Ok(_) = dict.intern(term) else {
+            return Err(AllocError);
+        };
+    }
+    Ok(dict)
+}
+
+/// The cell, unbound where its number stands for no term.
+fn known(cell: Option<u64>, count: u64) -> Option<u64>
+    ensures known { EachBound (λ n. n < count) (result ∷ []) }
+{
+    match cell {
+        Some(n) => { if n < count { Some(n) } else { None } }
+        None => None,
+    }
+}
+
+/// Rows of two variables.
+fn rows_of(
+    alloc: Global,
+    dict: &Dict,
+    cells: &[(Option<u64>, Option<u64>)],
+) -> Result<Rows, AllocError>
+    ensures known { IfOk result
+        (λ rows. Each (EachBound (λ n. n < length dict.now)) rows.rows) }
+{
+    let count = dict.len() as u64;
+    let mut rows = Rows::new(alloc, 2);
+    for (a, b) in cells {
+        rows.push(&[known(*a, count), known(*b, count)])?;
+    }
+    Ok(rows)
+}
+
+/// The answer over the terms above, with the variables `b`, `a` and one that no row has.
+fn answer(
+    alloc: Global,
+    state: RandomState,
+    listed: &[usize],
+    cells: &[(Option<u64>, Option<u64>)],
+    offset: u64,
+    limit: Option<u64>,
+) -> Result<Vec<u8>, AllocError> {
+    let dict = terms(alloc, state)?;
+    let rows = rows_of(alloc, &dict, cells)?;
+    let names = vec![in alloc; text(alloc, "b")?, text(alloc, "a")?, text(alloc, "é\"")?]?;
+    print_rows(alloc, &names, listed, &rows, &dict, offset, limit)
+}
+
+/// Unbound, then blank nodes, IRIs and literals by their bytes; each kind of literal in its form, a
+/// repeated row twice, and control characters by the shortest escapes.
+#[test]
+fn every_term_has_its_form_and_place(rt: HostRuntime) {
+    let state = RandomState::new(&rt).expect(&rt, "a hash state");
+    let cells = [
+        (Some(0), None),
+        (Some(1), None),
+        (Some(2), None),
+        (Some(3), None),
+        (Some(4), None),
+        (Some(5), None),
+        (None, Some(5)),
+        (Some(4), None),
+    ];
+    let bytes = answer(rt.alloc(), state, &[0], &cells, 0, None).expect(&rt, "memory");
+    let expected =
+        "{\"head\":{\"vars\":[\"b\"]},\"results\":{\"bindings\":[{},{\"b\":{\"type\":\"bnode\",\"value\":\"b\"}},{\"b\":{\"type\":\"uri\",\"value\":\"http://e/a\"}},{\"b\":{\"type\":\"uri\",\"value\":\"http://e/a\"}},{\"b\":{\"type\":\"literal\",\"value\":\"\\t\\u0001\\\\\"}},{\"b\":{\"datatype\":\"http://www.w3.org/2001/XMLSchema#integer\",\"type\":\"literal\",\"value\":\"1\"}},{\"b\":{\"type\":\"literal\",\"value\":\"x\"}},{\"b\":{\"type\":\"literal\",\"value\":\"é\\n\",\"xml:lang\":\"en\"}}]}}\n";
+    assert!(rt; bytes.as_slice() == expected.as_bytes());
+}
+
+/// The head keeps the order of the list; members stand in byte order of their names, and those of
+/// unbound cells are left out. A variable that the rows have no place for is bound in none.
+#[test]
+fn members_stand_by_their_names(rt: HostRuntime) {
+    let state = RandomState::new(&rt).expect(&rt, "a hash state");
+    let cells = [(Some(0), Some(5)), (None, Some(4)), (Some(0), None)];
+    let bytes = answer(rt.alloc(), state, &[0, 1, 2], &cells, 0, None).expect(&rt, "memory");
+    let expected =
+        "{\"head\":{\"vars\":[\"b\",\"a\",\"é\\\"\"]},\"results\":{\"bindings\":[{\"a\":{\"type\":\"uri\",\"value\":\"http://e/a\"}},{\"b\":{\"type\":\"literal\",\"value\":\"x\"}},{\"a\":{\"type\":\"bnode\",\"value\":\"b\"},\"b\":{\"type\":\"literal\",\"value\":\"x\"}}]}}\n";
+    assert!(rt; bytes.as_slice() == expected.as_bytes());
+}
+
+/// No variable, one row: the row is there.
+#[test]
+fn a_row_without_variables_is_an_empty_object(rt: HostRuntime) {
+    let state = RandomState::new(&rt).expect(&rt, "a hash state");
+    let bytes = answer(rt.alloc(), state, &[], &[(Some(0), None)], 0, None).expect(&rt, "memory");
+    let expected = "{\"head\":{\"vars\":[]},\"results\":{\"bindings\":[{}]}}\n";
+    assert!(rt; bytes.as_slice() == expected.as_bytes());
+}
+
+/// Which of the rows bnode, uri, literal stand, for offsets and limits.
+#[test]
+fn offset_and_limit_cut_the_sorted_rows(rt: HostRuntime) {
+    let state = RandomState::new(&rt).expect(&rt, "a hash state");
+    let cells = [(Some(0), None), (Some(5), None), (Some(4), None)];
+    let b = "{\"b\":{\"type\":\"bnode\",\"value\":\"b\"}}";
+    let u = "{\"b\":{\"type\":\"uri\",\"value\":\"http://e/a\"}}";
+    let l = "{\"b\":{\"type\":\"literal\",\"value\":\"x\"}}";
+    let cases = [
+        (0, None, [b, ",", u, ",", l]),
+        (1, None, [u, ",", l, "", ""]),
+        (1, Some(1), [u, "", "", "", ""]),
+        (0, Some(2), [b, ",", u, "", ""]),
+        (2, Some(u64::MAX), [l, "", "", "", ""]),
+        (0, Some(0), ["", "", "", "", ""]),
+        (3, None, ["", "", "", "", ""]),
+        (u64::MAX, Some(u64::MAX), ["", "", "", "", ""]),
+    ];
+    for (offset, limit, parts) in cases {
+        let bytes = answer(rt.alloc(), state, &[0], &cells, offset, limit).expect(&rt, "memory");
+        let mut expected = String::from_str(
+            rt.alloc(),
+            "{\"head\":{\"vars\":[\"b\"]},\"results\":{\"bindings\":[",
+        )
+        .expect(&rt, "memory");
+        for part in parts {
+            expected.push_str(part).expect(&rt, "memory");
+        }
+        expected.push_str("]}}\n").expect(&rt, "memory");
+        assert!(rt; bytes.as_slice() == expected.as_bytes(), "offset {offset}");
+    }
+}

@@ -1,0 +1,143 @@
+//! Worked examples by direct calls. What is expected is worked out by hand from the standard.
+ghost use Rattle.std.specs.Prelude.{◌≡◌, ◌+◌, map};
+ghost use Rattle.algebra_model.specs.Solve.{AreBelow};
+ghost use Rattle.row_pattern.specs.Numbered.{pattern_of};
+
+use dict_core::NumQuad;
+use piece_pool::OpenGate;
+use quad_index::Index;
+use row_core::Rows;
+use row_pattern::PatternNumber::{Label, Term, Variable};
+use row_pattern::{NumberedTriple, PatternNumber, pattern, rows_read_as_solutions};
+use row_pieces::{EvalFault, How};
+use std::alloc::Global;
+use std::sync::Wait;
+use std::thread::Threads;
+
+/// A quad of the default graph.
+fn quad(s: u64, p: u64, o: u64) -> NumQuad {
+    NumQuad { g: None, s, p, o }
+}
+
+fn triple(s: PatternNumber, p: PatternNumber, o: PatternNumber) -> NumberedTriple
+    ensures triple { result ≡ record { subject = s; predicate = p; object = o } }
+{
+    NumberedTriple {
+        subject: s,
+        predicate: p,
+        object: o,
+    }
+}
+
+/// The rows of a pattern of `width` variables and two labels over one graph of an index of these
+/// quads, by two workers, a piece for each quad that matches the first triple.
+fn solve<R: Threads + Wait>(
+    rt: &R,
+    alloc: Global,
+    quads: &[NumQuad],
+    graph: Option<u64>,
+    width: usize,
+    triples: &[NumberedTriple],
+) -> Result<Rows, EvalFault>
+    requires below { AreBelow width (width + 2) (map pattern_of triples.now) }
+{
+    let index = Index::build(alloc, Vec::from_slice(alloc, quads)?)?;
+    let how = How {
+        workers: 2,
+        rows: 1,
+    };
+    pattern(rt, alloc, &index, graph, width, 2, triples, &how, &OpenGate)
+}
+
+/// `?0 2 _:0` over 1 2 3 and 1 2 4: the blank label has two assignments, so the solution stands
+/// twice.
+#[test]
+fn a_label_repeats_a_solution(rt: HostRuntime) {
+    let quads = [quad(1, 2, 3), quad(1, 2, 4), quad(1, 5, 4)];
+    let triples = [triple(Variable(0), Term(2), Label(0))];
+    let rows = solve(&rt, rt.alloc(), &quads, None, 1, &triples).expect(&rt, "memory");
+    assert_eq!(rt; rows.width(), 1);
+    assert_eq!(rt; rows.len(), 2);
+    assert!(rt; rows.get(0, 0) == Some(1) && rows.get(1, 0) == Some(1));
+    rows_read_as_solutions();
+}
+
+/// The empty pattern has the row that binds nothing, in a graph that nothing names too.
+#[test]
+fn the_empty_pattern_has_one_row(rt: HostRuntime) {
+    for graph in [None, Some(9)] {
+        let quads = [quad(1, 2, 3)];
+        let rows = solve(&rt, rt.alloc(), &quads, graph, 2, &[]).expect(&rt, "memory");
+        assert_eq!(rt; rows.len(), 1);
+        assert!(rt; rows.row(0) == [None, None].as_slice());
+    }
+}
+
+/// `?0 2 ?0`: the subject is the object.
+#[test]
+fn a_variable_stands_twice(rt: HostRuntime) {
+    let quads = [quad(1, 2, 1), quad(1, 2, 3), quad(3, 2, 1)];
+    let triples = [triple(Variable(0), Term(2), Variable(0))];
+    let rows = solve(&rt, rt.alloc(), &quads, None, 1, &triples).expect(&rt, "memory");
+    assert_eq!(rt; rows.len(), 1);
+    assert!(rt; rows.row(0) == [Some(1)].as_slice());
+}
+
+/// A number that no quad of the graph has gives no rows, alone and beside a triple that matches.
+#[test]
+fn a_number_is_not_there(rt: HostRuntime) {
+    let quads = [quad(1, 2, 3)];
+    let present = triple(Variable(0), Term(2), Variable(1));
+    let absent = triple(Variable(0), Term(7), Variable(1));
+    let alone = solve(&rt, rt.alloc(), &quads, None, 2, &[absent]).expect(&rt, "memory");
+    assert_eq!(rt; alone.len(), 0);
+    let beside = solve(&rt, rt.alloc(), &quads, None, 2, &[present, absent]).expect(&rt, "memory");
+    assert_eq!(rt; beside.len(), 0);
+}
+
+/// `?0 2 ?1 . ?1 5 ?2` in both orders: the one chain, 1 to 3 to 6.
+#[test]
+fn two_triples_are_joined(rt: HostRuntime) {
+    let quads = [quad(1, 2, 3), quad(3, 2, 4), quad(3, 5, 6), quad(6, 5, 1)];
+    let first = triple(Variable(0), Term(2), Variable(1));
+    let second = triple(Variable(1), Term(5), Variable(2));
+    let rows = solve(&rt, rt.alloc(), &quads, None, 3, &[first, second]).expect(&rt, "memory");
+    assert_eq!(rt; rows.len(), 1);
+    assert!(rt; rows.row(0) == [Some(1), Some(3), Some(6)].as_slice());
+    let rows = solve(&rt, rt.alloc(), &quads, None, 3, &[second, first]).expect(&rt, "memory");
+    assert_eq!(rt; rows.len(), 1);
+    assert!(rt; rows.row(0) == [Some(1), Some(3), Some(6)].as_slice());
+}
+
+/// Two triples without a common variable: each solution of the one with each of the other.
+#[test]
+fn triples_apart_are_multiplied(rt: HostRuntime) {
+    let quads = [quad(1, 2, 3), quad(4, 2, 3), quad(5, 6, 7), quad(8, 6, 7)];
+    let triples = [
+        triple(Variable(0), Term(2), Label(0)),
+        triple(Variable(1), Term(6), Label(1)),
+    ];
+    let rows = solve(&rt, rt.alloc(), &quads, None, 2, &triples).expect(&rt, "memory");
+    assert_eq!(rt; rows.len(), 4);
+}
+
+/// Only the quads of the given graph count.
+#[test]
+fn the_graph_is_the_given_one(rt: HostRuntime) {
+    let named = NumQuad {
+        g: Some(9),
+        s: 4,
+        p: 2,
+        o: 3,
+    };
+    let quads = [quad(1, 2, 3), named];
+    let triples = [triple(Variable(0), Term(2), Term(3))];
+    let default = solve(&rt, rt.alloc(), &quads, None, 1, &triples).expect(&rt, "memory");
+    assert_eq!(rt; default.len(), 1);
+    assert!(rt; default.row(0) == [Some(1)].as_slice());
+    let nine = solve(&rt, rt.alloc(), &quads, Some(9), 1, &triples).expect(&rt, "memory");
+    assert_eq!(rt; nine.len(), 1);
+    assert!(rt; nine.row(0) == [Some(4)].as_slice());
+    let eight = solve(&rt, rt.alloc(), &quads, Some(8), 1, &triples).expect(&rt, "memory");
+    assert_eq!(rt; eight.len(), 0);
+}
