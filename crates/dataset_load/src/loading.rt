@@ -24,6 +24,9 @@ use std::thread::Threads;
 /// Concepts, section 4). Workers read the pieces side by side; neither the cut, nor their number, nor
 /// the gate changes the outcome.
 ///
+/// # Requires
+/// `cuts` are cuts of this document, and `workers` is 1 to 64.
+///
 /// # Errors
 /// - `BadLine(n)`: line n of the document, counted from 1, is the first that spells nothing.
 /// - `WorkerRefused`: the start of a worker was refused. Those that were started have been joined.
@@ -46,6 +49,9 @@ pub fn load<R: Threads + Wait + RandomSource, G: Gate + Sync>(
 }
 
 /// Loads a document that lies in blocks of whole lines, as `load` does; its bytes are not joined.
+///
+/// # Requires
+/// Each block but the last is empty or ends with a line feed, and `workers` is 1 to 64.
 ///
 /// # Errors
 /// As `load`, of the blocks joined.

@@ -13,6 +13,9 @@ use std::alloc::Global;
 /// All bytes that a reader has left, in blocks of whole lines: the pieces of `Cuts::every` with this
 /// size, each of at least `size` bytes but the last. No bytes, no block. The bytes are not joined.
 ///
+/// # Requires
+/// `size` is 1 or more.
+///
 /// # Errors
 /// - `Read`: the reader failed in this call. Bytes before that may have been taken from it.
 /// - `Memory`: a growth was refused. Bytes may have been taken from the reader.

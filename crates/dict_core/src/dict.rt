@@ -95,6 +95,9 @@ impl Dict {
     }
 
     /// The term of a number.
+    ///
+    /// # Requires
+    /// The number is below `len`.
     pub fn term(&self, n: u64) -> &Term
         requires known { n < length self.now }
         ensures value { slice_get self.now n ≡ Some result.now }

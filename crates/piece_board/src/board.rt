@@ -75,6 +75,9 @@ pub struct Closed {
 impl Board {
     /// Opens a board of `n` numbers, and hands out a pass for each seat.
     ///
+    /// # Requires
+    /// `n` is at most 2^62, and `seats` is 1 to 64.
+    ///
     /// # Errors
     /// `Memory`: a growth was refused. Nothing is left.
     pub fn open(alloc: Global, n: u64, seats: usize) -> Result<(Board, Vec<Pass>), BoardFault>
@@ -119,6 +122,9 @@ impl Board {
     /// Over the whole board the numbers are 0, 1, .. and each goes to one pass (`close` says so of
     /// all together). None: all are drawn, and this pass is finished, has no last draw and draws no
     /// more.
+    ///
+    /// # Requires
+    /// The pass is of this board, and not finished.
     pub fn draw(&self, pass: &mut Pass) -> Option<u64>
         requires of_board { IsPassOf self.now pass.old }
         requires unfinished { pass.old.history.finished ≡ 0 }
@@ -148,6 +154,9 @@ impl Board {
     /// Reports the number that this pass drew last: one fetch_min, and no waiting.
     ///
     /// Afterwards the pass has no last draw, so no number is reported twice.
+    ///
+    /// # Requires
+    /// The pass is of this board, and `i` is the number that it drew last and has not reported or left out.
     pub fn report(&self, pass: &mut Pass, i: u64)
         requires of_board { IsPassOf self.now pass.old }
         requires last { pass.old.last ≡ Some i }
@@ -163,6 +172,9 @@ impl Board {
     ///
     /// It never lies above what this pass saw before or reported. Of what others report nothing is
     /// promised but what `close` says: a report that is under way may not be seen yet.
+    ///
+    /// # Requires
+    /// The pass is of this board.
     pub fn least(&self, pass: &mut Pass) -> u64
         requires of_board { IsPassOf self.now pass.old }
 
@@ -186,6 +198,9 @@ impl Board {
     /// Closes the board, and says what all its passes did together.
     ///
     /// As many passes of this board as it has seats are all of them, since no pass can be copied.
+    ///
+    /// # Requires
+    /// The passes are of this board, as many as it has seats.
     pub fn close(self, mut passes: Vec<Pass>) -> Closed
         requires of_board { All (λ p. IsPassOf self p) passes.items }
         requires all { vec_len passes ≡ self.seats }

@@ -88,6 +88,9 @@ impl Pass {
 
     /// Leaves out the number that was drawn last, which lies above a report that this pass has
     /// seen. It is no step on the board: the pass alone counts it.
+    ///
+    /// # Requires
+    /// `i` is the last draw of this pass, and above the least report that it has seen.
     pub fn skip(&mut self, i: u64)
         requires last { self.old.last ≡ Some i }
         requires above { self.old.history.seen < i }

@@ -49,6 +49,9 @@ impl Blocks {
 
     /// Blocks of at least so many bytes, the last one aside. Nothing has been read yet.
     ///
+    /// # Requires
+    /// `size` is 1 or more.
+    ///
     /// # Errors
     /// `AllocError`: a growth was refused.
     pub fn new(alloc: Global, size: usize) -> Result<Blocks, AllocError>

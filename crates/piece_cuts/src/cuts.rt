@@ -24,6 +24,9 @@ impl Cuts {
     /// Cuts just behind each line feed that makes a piece of at least `size` bytes, the last line
     /// feed of the document aside, so that no piece is empty.
     ///
+    /// # Requires
+    /// `size` is 1 or more.
+    ///
     /// # Errors
     /// `AllocError`: a growth was refused.
     pub fn every(alloc: Global, doc: &[u8], size: usize) -> Result<Cuts, AllocError>
@@ -69,6 +72,9 @@ impl Cuts {
 
     /// The bytes of piece `i`, counted from 0: those between the two places round it, with the
     /// document's ends among them.
+    ///
+    /// # Requires
+    /// These are cuts of the document (`fits`), and `i` is below `pieces`.
     pub fn piece<'a>(&self, doc: &'a [u8], i: u64) -> &'a [u8]
         requires fits { AreCuts doc.now self.now }
         requires inside { i < length self.now + 1 }

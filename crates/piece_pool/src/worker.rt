@@ -35,6 +35,9 @@ enum Step {
 /// After each draw it looks once at the board. A piece above a known fault is skipped; any other is
 /// run, between `enter` and `leave` of the gate, and reported where it is faulty. Want of memory,
 /// its own or the job's, stops it. It waits for nobody, and returns: no pass draws a number twice.
+///
+/// # Requires
+/// The pass is of this board, and unused.
 pub fn work<J: Job, G: Gate>(
     alloc: Global,
     board: &Board,

@@ -58,6 +58,9 @@ impl Index {
 
     /// The index of quads that are sorted already, in the three orders.
     ///
+    /// # Requires
+    /// The lists hold the same quads, each once, and each list is sorted in its own order.
+    ///
     /// # Errors
     /// `AllocError`: a growth was refused. The lists are dropped.
     pub fn of_lists(

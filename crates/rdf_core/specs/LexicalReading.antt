@@ -1,5 +1,6 @@
--- The parts of an IRI or a string read from left to right: only private clauses, and the reading functions
--- of the crates above, cite these words. What is promised stands in Escapes. None: no such thing stands there.
+-- The parts of an IRI or a string read from left to right. In N-Quads what is promised stands in Escapes, and
+-- only private clauses cite these words; sparql_lexer says the values of its IRIs and strings by them (Values).
+-- None: no such thing stands there.
 use Rattle.std.specs.Prelude.{◌≡◌, ℕ, zero, suc, ◌+◌, ◌*◌, Bool, true, false, not, List, [], ◌∷◌, ◌++◌, drop, Option, Some, None, option_and_then, ◌==◌, if◌then◌else◌}
 use Rattle.std.specs.Char.{digit_value}
 use Rattle.std.specs.Str.{IsUtf8, chars, encode_utf8_all}

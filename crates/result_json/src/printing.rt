@@ -37,6 +37,9 @@ fn kept<T>(rows: &[T], offset: u64, limit: Option<u64>) -> &[T]
 /// out, and at most `limit` stand (SPARQL 1.1 Query Language, sections 15.4 and 15.5). A listed
 /// variable that the rows have no place for is bound in none.
 ///
+/// # Requires
+/// Each number in the rows is the place of a term in `dict`.
+///
 /// # Errors
 /// `AllocError`: a growth was refused.
 pub fn print_rows(

@@ -28,6 +28,9 @@ fn first_bound(x: Option<u64>, y: Option<u64>) -> Option<u64>
 
 /// Whether two rows agree on every variable that both bind (SPARQL 1.1 Query Language, section
 /// 18.3, compatible mappings).
+///
+/// # Requires
+/// Both rows have the same width.
 pub fn is_compatible(a: &[Option<u64>], b: &[Option<u64>]) -> bool
     requires same_width { length a.now ≡ length b.now }
     ensures value { result ≡ is_compatible nat_eq a.now b.now }
@@ -41,6 +44,9 @@ pub fn is_compatible(a: &[Option<u64>], b: &[Option<u64>]) -> bool
 }
 
 /// Whether some variable is bound in both rows.
+///
+/// # Requires
+/// Both rows have the same width.
 pub fn shares(a: &[Option<u64>], b: &[Option<u64>]) -> bool
     requires same_width { length a.now ≡ length b.now }
     ensures value { result ≡ share a.now b.now }
@@ -55,6 +61,9 @@ pub fn shares(a: &[Option<u64>], b: &[Option<u64>]) -> bool
 
 /// Writes the merge of two rows (their union, SPARQL 1.1 Query Language, section 18.3) into `row`,
 /// in place of what it held.
+///
+/// # Requires
+/// Both rows have the same width.
 ///
 /// # Errors
 /// `AllocError`: a growth was refused. What `row` then holds is left open.

@@ -81,6 +81,9 @@ impl Rows {
     }
 
     /// One row, lent.
+    ///
+    /// # Requires
+    /// `i` is below `len`.
     pub fn row(&self, i: usize) -> &[Option<u64>]
         requires inside { i < length self.now.rows }
         ensures found { slice_get self.now.rows i ≡ Some result.now }
@@ -90,6 +93,9 @@ impl Rows {
     }
 
     /// Adds a row behind the others.
+    ///
+    /// # Requires
+    /// The row is as long as `width`.
     ///
     /// # Errors
     /// `AllocError`: a growth was refused. The rows are as they were.
@@ -105,6 +111,9 @@ impl Rows {
     }
 
     /// The number at a variable's place in a row.
+    ///
+    /// # Requires
+    /// `row` is below `len`, and `variable` below `width`.
     pub fn get(&self, row: usize, variable: usize) -> Option<u64>
         requires row { row < length self.now.rows }
         requires variable { variable < self.now.width }
@@ -114,6 +123,9 @@ impl Rows {
     }
 
     /// Adds the rows of another list of this width behind the others.
+    ///
+    /// # Requires
+    /// The others have the same width.
     ///
     /// # Errors
     /// `AllocError`: a growth was refused. The rows are as they were, and the others are dropped.

@@ -20,6 +20,9 @@ use std::thread::Threads;
 /// Minus: the left rows for which each right row is incompatible or shares no bound variable. The
 /// right side is hashed by variables that both sides bind, and lent to the pieces of the left side.
 ///
+/// # Requires
+/// Both sides have the same width, and `how` keeps its limits.
+///
 /// # Errors
 /// - `WorkerRefused`: the start of a worker was refused.
 /// - `Memory`: a growth was refused.

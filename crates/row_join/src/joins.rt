@@ -19,6 +19,9 @@ use std::thread::Threads;
 /// Join: the merge of each compatible pair, once for each pair. The right side is hashed by
 /// variables that both sides bind, and lent to the pieces of the left side.
 ///
+/// # Requires
+/// Both sides have the same width, and `how` keeps its limits.
+///
 /// # Errors
 /// - `WorkerRefused`: the start of a worker was refused.
 /// - `Memory`: a growth was refused.

@@ -32,6 +32,9 @@ impl Keyed {
     /// The places of the rows by the values of the key's variables; an empty key puts all rows
     /// under no numbers. Strangers choose the rows, so the hash state comes from the runtime.
     ///
+    /// # Requires
+    /// Each variable of the key is below the width of the rows.
+    ///
     /// # Errors
     /// `AllocError`: a growth was refused.
     pub fn build(

@@ -42,6 +42,9 @@ pub trait RowTest {
 /// has none. The right side is hashed by variables that both sides bind, and lent to the pieces of
 /// the left side.
 ///
+/// # Requires
+/// Both sides have the same width, the condition knows the numbers of both, and `how` keeps its limits.
+///
 /// # Errors
 /// - `WorkerRefused`: the start of a worker was refused.
 /// - `Memory`: a growth was refused.

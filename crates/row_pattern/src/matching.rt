@@ -69,6 +69,10 @@ impl<'a> RowWork for Matches<'a> {
 /// once for each way to assign its blank labels. The empty pattern has the one row that binds
 /// nothing.
 ///
+/// # Requires
+/// The variables of the triples are below `width`, their blank labels below `labels`, and `how` keeps its
+/// limits.
+///
 /// # Errors
 /// - `WorkerRefused`: the start of a worker was refused.
 /// - `Memory`: a growth was refused.

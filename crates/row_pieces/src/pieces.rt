@@ -68,7 +68,10 @@ impl<'w, W: RowWork> Job for RowPieces<'w, W> {
 }
 
 /// The rows of all elements, element by element and cut into pieces as `how` says: the bag of all
-/// parts. One piece alone is worked by the caller's own thread.
+/// parts. Workers do the pieces: one piece alone takes a worker too.
+///
+/// # Requires
+/// `how` keeps its limits.
 ///
 /// # Errors
 /// - `WorkerRefused`: the start of a worker was refused.

@@ -16,6 +16,9 @@ use std::hash::RandomState;
 /// Distinct: each row once. Rows are compared by their numbers, since the dictionary has no term
 /// twice, and hashed with the given state.
 ///
+/// # Requires
+/// Each number in the rows is below the length of the dictionary.
+///
 /// # Errors
 /// `Memory`: a growth was refused. The dictionary is dropped.
 pub fn distinct(

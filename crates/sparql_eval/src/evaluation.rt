@@ -27,6 +27,9 @@ use std::thread::Threads;
 /// in VALUES behind it. Each operator is done once, the inputs before it; one that goes over rows
 /// cuts them into pieces of `how.rows` for `how.workers` workers.
 ///
+/// # Requires
+/// Each number in the index is below the length of the dictionary, and `how` keeps its limits.
+///
 /// # Errors
 /// - `WorkerRefused`: the start of a worker was refused.
 /// - `Memory`: a growth was refused, or the randomness that rows are hashed with.
@@ -68,6 +71,10 @@ pub fn evaluate<R: RandomSource + Threads + Wait, G: Gate + Sync>(
 ///
 /// A name that no graph has gives no row. Under a variable the inner tree is evaluated in each named
 /// graph, and its rows are then joined with the variable bound to the graph's name.
+///
+/// # Requires
+/// Each number in the index is below the length of the dictionary, the variables of the name and of the
+/// tree are below `width`, and `how` keeps its limits.
 ///
 /// # Errors
 /// - `WorkerRefused`: the start of a worker was refused.

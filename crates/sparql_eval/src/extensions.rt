@@ -27,6 +27,10 @@ use std::thread::Threads;
 /// The values are computed over pieces of the rows, side by side; then the dictionary takes in
 /// those that it lacks, in order. A value that is a term of the dictionary gets that term's number.
 ///
+/// # Requires
+/// Each number in the rows is below the length of the dictionary, the variable below the width of the
+/// rows, and `how` keeps its limits.
+///
 /// # Errors
 /// - `WorkerRefused`: the start of a worker was refused.
 /// - `Memory`: a growth was refused.

@@ -19,6 +19,9 @@ use std::thread::Threads;
 /// Filter: the rows for which the condition's effective boolean value is true. It is tested over
 /// pieces of the rows, side by side.
 ///
+/// # Requires
+/// Each number in the rows is below the length of the dictionary, and `how` keeps its limits.
+///
 /// # Errors
 /// - `WorkerRefused`: the start of a worker was refused.
 /// - `Memory`: a growth was refused.

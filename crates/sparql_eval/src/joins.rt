@@ -22,6 +22,10 @@ use std::thread::Threads;
 /// Join: the merge of each compatible pair, once for each pair. The right side is hashed with the
 /// given state, and lent to the pieces of the left side.
 ///
+/// # Requires
+/// Both sides have the same width, each number in them is below the length of the dictionary, and `how`
+/// keeps its limits.
+///
 /// # Errors
 /// - `WorkerRefused`: the start of a worker was refused.
 /// - `Memory`: a growth was refused.
@@ -51,6 +55,10 @@ pub fn join<R: Threads + Wait, G: Gate + Sync>(
 
 /// LeftJoin: the merges of compatible pairs of which the condition is true, and each left row that
 /// has none.
+///
+/// # Requires
+/// Both sides have the same width, each number in them is below the length of the dictionary, and `how`
+/// keeps its limits.
 ///
 /// # Errors
 /// - `WorkerRefused`: the start of a worker was refused.
@@ -88,6 +96,10 @@ pub fn left_join<R: Threads + Wait, G: Gate + Sync>(
 }
 
 /// Minus: each left row with which every right row is incompatible or shares no bound variable.
+///
+/// # Requires
+/// Both sides have the same width, each number in them is below the length of the dictionary, and `how`
+/// keeps its limits.
 ///
 /// # Errors
 /// - `WorkerRefused`: the start of a worker was refused.

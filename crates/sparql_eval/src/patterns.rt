@@ -28,6 +28,10 @@ use std::thread::Threads;
 /// The solutions of a basic graph pattern over one graph of the dataset, None for the default graph.
 /// The dataset is the index, read through the dictionary.
 ///
+/// # Requires
+/// Each number in the index, and that of the graph, is below the length of the dictionary; the variables
+/// of the triples are below `width`, their blank labels below `labels`; and `how` keeps its limits.
+///
 /// # Errors
 /// - `WorkerRefused`: the start of a worker was refused.
 /// - `Memory`: a growth was refused.

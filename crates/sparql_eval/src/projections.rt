@@ -11,6 +11,9 @@ use std::alloc::{AllocError, Global};
 
 /// Project: every row, with the listed variables alone bound.
 ///
+/// # Requires
+/// Each number in the rows is below the length of the dictionary.
+///
 /// # Errors
 /// `Memory`: a growth was refused. The dictionary is dropped.
 pub fn project(

@@ -16,6 +16,9 @@ use std::alloc::{AllocError, Global};
 /// A table: a row for each list of cells, which binds each variable to the cell at its place. A
 /// cell that is None (UNDEF) binds nothing. Where a variable is listed twice its first place counts.
 ///
+/// # Requires
+/// Each variable is below `width`.
+///
 /// # Errors
 /// `Memory`: a growth was refused. The dictionary is dropped.
 pub fn table(

@@ -10,6 +10,9 @@ use std::alloc::Global;
 
 /// Union: the rows of both sides, each as often as it stands in them.
 ///
+/// # Requires
+/// Both sides have the same width, and each number in them is below the length of the dictionary.
+///
 /// # Errors
 /// `Memory`: a growth was refused. The dictionary is dropped.
 pub fn union(

@@ -73,6 +73,9 @@ pub fn answer_query<R: Threads + Wait + RandomSource, G: Gate + Sync>(
 /// Language, sections 17 to 19; SPARQL 1.1 Query Results JSON Format). The query is judged before the
 /// document. Neither the cut, nor `how` and the gate change the outcome.
 ///
+/// # Requires
+/// `cuts` are cuts of this document, and `how` keeps its limits.
+///
 /// # Errors
 /// - `Query(fault)`: this is the first rule that refuses the text; never `QueryFault::Memory`.
 /// - `BadLine(n)`: the text is a query, and line n of the document, counted from 1, is the first
