@@ -4,7 +4,7 @@
 # what a refusal leaves, and that a second try succeeds.
 #
 #   tests/refusals.sh                  # every crate that has such tests
-#   tests/refusals.sh dict_core ..     # these crates
+#   tests/refusals.sh loading_tests .. # these crates
 #
 # The tests are proved and built first (rt test). Then each run takes some milliseconds.
 root=$(cd "$(dirname "$0")/.." && pwd) || exit 1
