@@ -1,5 +1,5 @@
 -- A text has one answer at most, besides want of memory.
-use Rattle.std.proofs.Common.{◌≡◌, ◌<◌, ◌≤◌, inl, inr, ℕ, List, [], nat_eq, cond, Result, Ok, Err, refl, sym, ap, ◌∙◌, subst, arith}
+use Rattle.std.proofs.Common.{◌≡◌, ◌<◌, inl, inr, ℕ, List, [], nat_eq, cond, Result, Ok, Err, refl, sym, ap, ◌∙◌, subst, arith}
 use Rattle.std.proofs.lemmas.Bool.{cases_lt}
 use Rattle.sparql_tree.specs.QueryTree.{QueryTree}
 use Rattle.sparql_grammar.specs.Symbol as the
@@ -12,7 +12,7 @@ use Rattle.sparql_read.specs.Derives.{Derives, tree_of}
 use Rattle.sparql_read.specs.Refusal.{Answers, IsRefusal, rank}
 use Rattle.sparql_read.proofs.RefusalLaws.{OneScan, OneQuery}
 
-one_tree : OneScan → OneQuery → (text : List ℕ) (q r : QueryTree) → Derives text q → Derives text r → q ≡ r
+pub one_tree : OneScan → OneQuery → (text : List ℕ) (q r : QueryTree) → Derives text q → Derives text r → q ≡ r
 one_tree one only text q r d e =
     let t = (one text [] [] d.terminals e.terminals d.scans e.scans).0 in
     let m = only (declarations e.terminals) e.terminals d.select e.select (subst (λ us. Matches (declarations us) the.query (right_side the.query) us d.select []) t d.derived) e.derived in

@@ -1,8 +1,8 @@
 -- A group as the list of its elements.
-use Rattle.std.proofs.Common.{◌≡◌, ◌+◌, ◌<◌, ℕ, List, [], ◌∷◌, ◌++◌, length, take, drop, map, get_or, refl, sym, ap, ◌∙◌}
+use Rattle.std.proofs.Common.{◌≡◌, ◌+◌, ◌<◌, ◌≤◌, ℕ, List, [], ◌∷◌, ◌++◌, length, take, drop, map, get_or, refl, sym, ap, ◌∙◌, arith}
 use Rattle.std.proofs.lemmas.List.{map-append, take_more, take-append-drop}
 use Rattle.std.proofs.Common.{Box, Vec, Global}
-use Rattle.sparql_tree.specs.declared.group.Element.{Element}
+use Rattle.sparql_tree.specs.declared.group.Element.{Element, size-Element}
 use Rattle.sparql_tree.specs.declared.group.Element.TheFolds.{fold-roll-Element}
 use Rattle.sparql_tree.specs.declared.group.Element.TheOpen.{Element-F}
 use Rattle.sparql_tree.specs.declared.group.Element.TheVariants as variants
@@ -32,3 +32,7 @@ union_stands_for left es = ap element_of (sym (variants.rolls-Union left es)) �
 
 pub graph_stands_for : (name : GraphName) (es : Vec Element Global) → element_of (views.Graph name es) ≡ graph name (group_of es.items)
 graph_stands_for name es = ap element_of (sym (variants.rolls-Graph name es)) ∙ fold-roll-Element ElementTree element_step (Element-F.Graph name es)
+
+-- the left side is no larger than the whole
+pub union_deeper : (left : Box Element Global) (es : Vec Element Global) → size-Element left.value ≤ size-Element (views.Union left es)
+union_deeper left es = rw (views.sized-Union left es) (omega arith)

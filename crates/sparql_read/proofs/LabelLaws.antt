@@ -1,18 +1,17 @@
 -- Labels of basic patterns.
-use Rattle.std.proofs.Common.{◌≡◌, ◌+◌, ◌<◌, ℕ, List, [], ◌∷◌, ◌++◌, Bool, true, false, ◌||◌, cond, flat_map, length, take, drop, map, get_or, refl, sym, ap, ◌∙◌, subst}
-use Rattle.std.specs.List.{list_any}
+use Rattle.std.proofs.Common.{◌≡◌, ◌+◌, ◌<◌, ℕ, List, [], ◌∷◌, ◌++◌, Bool, true, false, ◌||◌, flat_map, length, take, drop, map, get_or, refl, sym, ap, ◌∙◌, subst}
 use Rattle.std.specs.Str.{bytes_eq}
 use Rattle.std.proofs.lemmas.List.{append_assoc, append-nil, take_more, take-append-drop}
 use Rattle.std.proofs.lemmas.List.Folds.{list_any-append}
 use Rattle.std.proofs.lemmas.Grind.{flat_map-append}
 use Rattle.sparql_tree.specs.declared.group.Triple.{Triple}
 use Rattle.sparql_tree.specs.declared.group.Element.{Element}
-use Rattle.sparql_tree.specs.GroupTree.{GroupTree, ElementTree, none, then, onto, triples, group, union, optional, minus, graph, filter, bind, values, element_of, group_of}
+use Rattle.sparql_tree.specs.GroupTree.{GroupTree, ElementTree, then, onto, triples, group, union, optional, minus, graph, filter, bind, values, element_of, group_of}
 use Rattle.sparql_read.specs.NameSet.{HaveSame, is_among}
 use Rattle.sparql_read.specs.BlankReuse.{basic_patterns, closed_patterns, ends_run, labels_of, open_after, open_pattern, patterns_inside, shares_labels, triple_labels}
 use Rattle.sparql_read.specs.LabelSteps.{AddsElement, AddsLabels, AddsPatterns, IsRun, closed_by, run_of, stands_among}
 use Rattle.sparql_read.proofs.GroupLaws.{group_more, group_rest}
-use Rattle.sparql_read.proofs.SetLaws.{same_back, same_front, same_refl, same_sym, same_then, same_trans}
+use Rattle.sparql_read.proofs.SetLaws.{bytes_eq_sym, same_back, same_behind, same_front, same_refl, same_then, same_trans, same_turned}
 
 true_false : true ≡ false → ⊥
 true_false h = cc
@@ -195,9 +194,77 @@ labels_clash es i e xs ys ls zs ms below is h a =
 pub pattern_added : (ts : List Triple) (xs ls ms ys : List (List ℕ)) → ls ≡ [] → AddsLabels xs (labels_of ts) true ls ms → HaveSame ys (xs ++ ms) → AddsPatterns (ts ∷ []) true xs ys
 pattern_added ts xs ls ms ys empty a h = run_added {xs = xs} {ls = ms} {ys = ys} ts (record { same = subst (λ ls. HaveSame ms (ls ++ labels_of ts)) empty a.1; apart = a.0 }) h
 
-pub patterns_go_on : (b : Bool) (ps qs : List (List Triple)) (xs ys zs : List (List ℕ)) → AddsPatterns ps true xs ys → AddsPatterns qs b ys zs → AddsPatterns (ps ++ qs) b xs zs
-patterns_go_on true ps qs xs ys zs g h = patterns_then xs ps qs g h
-patterns_go_on false ps qs xs ys zs g h = patterns_clash xs ps qs g h
+-- the order of patterns does not count
+plain_first : (a b : Bool) → ((a || false) || b) ≡ (a || b)
+plain_first true b = refl
+plain_first false b = refl
+
+or_parts : (a b c d : Bool) → ((a || b) || (c || d)) ≡ ((a || c) || (b || d))
+or_parts true b c d = refl
+or_parts false true true d = refl
+or_parts false true false d = refl
+or_parts false false c d = refl
+
+stands_over : (xs ys ls : List (List ℕ)) → stands_among (xs ++ ys) ls ≡ (stands_among xs ls || stands_among ys ls)
+stands_over xs ys [] = refl
+stands_over xs ys (l ∷ ls) =
+    ap (λ b. b || stands_among (xs ++ ys) ls) (list_any-append (bytes_eq l) xs ys)
+    ∙ (ap (λ b. (is_among l xs || is_among l ys) || b) (stands_over xs ys ls)
+    ∙ or_parts (is_among l xs) (is_among l ys) (stands_among xs ls) (stands_among ys ls))
+
+stands_nowhere : (ls : List (List ℕ)) → stands_among [] ls ≡ false
+stands_nowhere [] = refl
+stands_nowhere (l ∷ ls) = stands_nowhere ls
+
+stands_alone : (l : List ℕ) (xs : List (List ℕ)) → stands_among (l ∷ []) xs ≡ is_among l xs
+stands_alone l [] = refl
+stands_alone l (x ∷ xs) =
+    ap (λ b. (b || false) || stands_among (l ∷ []) xs) (bytes_eq_sym x l)
+    ∙ (plain_first (bytes_eq l x) (stands_among (l ∷ []) xs) ∙ ap (λ b. bytes_eq l x || b) (stands_alone l xs))
+
+stands_turned : (xs ls : List (List ℕ)) → stands_among xs ls ≡ stands_among ls xs
+stands_turned xs [] = sym (stands_nowhere xs)
+stands_turned xs (l ∷ ls) =
+    ap (λ b. is_among l xs || b) (stands_turned xs ls)
+    ∙ (ap (λ b. b || stands_among ls xs) (sym (stands_alone l xs)) ∙ sym (stands_over (l ∷ []) ls xs))
+
+shares_over : (xs ys : List (List ℕ)) (ps : List (List Triple)) → shares_labels (xs ++ ys) ps ≡ (shares_labels xs ps || stands_among ys (flat_map labels_of ps))
+shares_over xs ys [] = refl
+shares_over xs ys (p ∷ ps) =
+    let ls = labels_of p in
+    let ms = flat_map labels_of ps in
+    ap (λ b. b || shares_labels ((xs ++ ys) ++ ls) ps) (stands_over xs ys ls)
+    ∙ (ap (λ b. (stands_among xs ls || stands_among ys ls) || b) (shares_same (same_behind xs ys ls) ps ∙ shares_over (xs ++ ls) ys ps)
+    ∙ (or_parts (stands_among xs ls) (stands_among ys ls) (shares_labels (xs ++ ls) ps) (stands_among ys ms)
+    ∙ ap (λ b. (stands_among xs ls || shares_labels (xs ++ ls) ps) || b) (sym (stands_append ys ls ms))))
+
+or_turned : (a b c : Bool) → (a || (b || c)) ≡ (b || (a || c))
+or_turned true true c = refl
+or_turned true false c = refl
+or_turned false b c = refl
+
+shares_turned : (xs : List (List ℕ)) (ps qs : List (List Triple)) → shares_labels xs (ps ++ qs) ≡ shares_labels xs (qs ++ ps)
+shares_turned xs ps qs =
+    let ls = flat_map labels_of ps in
+    let ms = flat_map labels_of qs in
+    shares_append xs ps qs
+    ∙ (ap (λ b. shares_labels xs ps || b) (shares_over xs ls qs)
+    ∙ (or_turned (shares_labels xs ps) (shares_labels xs qs) (stands_among ls ms)
+    ∙ (ap (λ b. shares_labels xs qs || (shares_labels xs ps || b)) (stands_turned ls ms)
+    ∙ (ap (λ b. shares_labels xs qs || b) (sym (shares_over xs ms ps)) ∙ sym (shares_append xs qs ps)))))
+
+-- patterns are added, and then those before them
+pub patterns_before : (b : Bool) (ps qs : List (List Triple)) (xs ys zs : List (List ℕ)) → AddsPatterns qs true xs ys → AddsPatterns ps b ys zs → AddsPatterns (ps ++ qs) b xs zs
+patterns_before true ps qs xs ys zs g h =
+    let a = patterns_then xs qs ps g h in
+    let turned = subst (λ ls. HaveSame (xs ++ flat_map labels_of (qs ++ ps)) (xs ++ ls)) (sym (flat_map-append labels_of ps qs))
+    (subst (λ ls. HaveSame (xs ++ ls) (xs ++ (flat_map labels_of ps ++ flat_map labels_of qs))) (sym (flat_map-append labels_of qs ps))
+    (same_back xs (same_turned (flat_map labels_of qs) (flat_map labels_of ps)))) in
+    (shares_turned xs ps qs ∙ a.0, same_trans a.1 turned)
+patterns_before false ps qs xs ys zs g h = shares_turned xs ps qs ∙ patterns_clash xs qs ps g h
+
+pub last_clash : (xs : List (List ℕ)) (ps qs : List (List Triple)) → shares_labels xs qs ≡ true → shares_labels xs (ps ++ qs) ≡ true
+last_clash xs ps qs h = shares_turned xs ps qs ∙ first_clash xs qs ps h
 
 pub pattern_clash : (ts : List Triple) (xs : List (List ℕ)) → stands_among xs (labels_of ts) ≡ true → shares_labels xs (ts ∷ []) ≡ true
 pattern_clash ts xs h = or_left false h

@@ -1,14 +1,14 @@
 -- The walk that gathers the variables in scope.
-use Rattle.std.proofs.Common.{◌≡◌, ◌+◌, ◌<◌, ℕ, List, [], ◌∷◌, ◌++◌, Bool, true, false, ◌||◌, Some, None, length, take, drop, map, get_or, refl, sym, ap, ◌∙◌, subst}
+use Rattle.std.proofs.Common.{◌≡◌, ◌+◌, ◌<◌, ℕ, List, [], ◌∷◌, ◌++◌, Bool, true, false, ◌||◌, Some, length, take, drop, map, get_or, refl, sym, ap, ◌∙◌, subst}
 use Rattle.sparql_tree.specs.declared.group.Element.{Element}
 use Rattle.sparql_tree.specs.declared.group.GraphName.{GraphName}
-use Rattle.sparql_tree.specs.GroupTree.{GroupTree, ElementTree, none, then, onto, triples, group, union, optional, minus, graph, filter, bind, values, element_of, group_of}
-use Rattle.sparql_tree.specs.Scope.{Name, element_names, graph_names, group_scope}
+use Rattle.sparql_tree.specs.GroupTree.{GroupTree, ElementTree, then, onto, triples, group, union, optional, minus, graph, filter, bind, values, element_of, group_of}
+use Rattle.sparql_tree.specs.Scope.{Name, element_names, graph_names}
 use Rattle.sparql_read.specs.NameSet.{HaveSame}
 use Rattle.sparql_read.specs.BindScope.{binds_among, breaks_bind_scope, breaks_inside}
 use Rattle.sparql_read.specs.ScopeSteps.{AddsScope, IsScopeOf}
 use Rattle.sparql_read.proofs.GroupLaws.{group_more, group_rest}
-use Rattle.sparql_read.proofs.SetLaws.{same_back, same_front, same_then, same_trans}
+use Rattle.sparql_read.proofs.SetLaws.{same_back, same_front, same_then, same_trans, same_turned}
 
 pub binds_same : {xs ys : List Name} → HaveSame xs ys → (e : ElementTree) → binds_among xs e ≡ binds_among ys e
 binds_same h (bind e x) = h.each x
@@ -71,10 +71,16 @@ pub scope_broken : (es : List Element) (i : ℕ) (e : Element) → i < length es
 scope_broken es i e below is inside =
     broken es (i + 1) (ap breaks_bind_scope (group_more es i e below is) ∙ third (breaks_bind_scope (group_of (take i es))) _ (breaks_inside (element_of e)) inside)
 
--- one part adds its names, and then a group
-pub scope_then : (b : Bool) (e : ElementTree) (g : GroupTree) (xs ys zs : List Name) → AddsScope e true xs ys → AddsScope (group g) b ys zs → AddsScope (union e g) b xs zs
-scope_then true e g xs ys zs h k = (either_false h.0 k.0, same_then xs (element_names false e) (element_names false (group g)) h.1 k.1)
-scope_then false e g xs ys zs h k = either_true (breaks_inside e) k
+-- the group behind UNION adds its names, and then what stands before it
+pub scope_before : (b : Bool) (e : ElementTree) (g : GroupTree) (xs ys zs : List Name) → AddsScope (group g) true xs ys → AddsScope e b ys zs → AddsScope (union e g) b xs zs
+scope_before true e g xs ys zs h k = (
+  either_false k.0 h.0,
+  same_trans (same_then xs (element_names false (group g)) (element_names false e) h.1 k.1) (same_back xs (same_turned (element_names false (group g)) (element_names false e))),
+)
+scope_before false e g xs ys zs h k = first (breaks_inside e) _ k
+
+pub scope_behind_broken : (e : ElementTree) (g : GroupTree) → breaks_bind_scope g ≡ true → breaks_inside (union e g) ≡ true
+scope_behind_broken e g h = either_true (breaks_inside e) h
 
 pub scope_named : (b : Bool) (i : GraphName) (g : GroupTree) (xs ys zs : List Name) → HaveSame ys (xs ++ graph_names i) → AddsScope (group g) b ys zs → AddsScope (graph i g) b xs zs
 scope_named true i g xs ys zs h k = (k.0, same_then xs (graph_names i) (element_names false (group g)) h k.1)

@@ -2,7 +2,7 @@
 use Rattle.std.proofs.Common.{◌≡◌, ℕ, List, [], ◌∷◌, ◌++◌, Bool, true, false, ◌||◌, cond, refl, sym, ap, ◌∙◌, arith}
 use Rattle.std.specs.List.{list_any}
 use Rattle.std.specs.Str.{bytes_eq}
-use Rattle.std.specs.Ordering.{nat_cmp, is_eq}
+use Rattle.std.specs.Ordering.{nat_cmp}
 use Rattle.std.specs.Cmp.Lexicographic.{slice_cmp}
 use Rattle.std.specs.BTreeMap.{is_at}
 use Rattle.std.proofs.lemmas.List.{append_assoc}
@@ -60,3 +60,25 @@ same_back {xs} {ys} zs h = record { each = λ x. list_any-append (bytes_eq x) zs
 -- two lots of names are added, one after the other
 pub same_then : (xs us vs : List (List ℕ)) {ys zs : List (List ℕ)} → HaveSame ys (xs ++ us) → HaveSame zs (ys ++ vs) → HaveSame zs (xs ++ (us ++ vs))
 same_then xs us vs g h = record { each = λ x. h.each x ∙ ((same_front vs g).each x ∙ ap (is_among x) (append_assoc xs us vs)) }
+
+or_turned : (a b : Bool) → (a || b) ≡ (b || a)
+or_turned true true = refl
+or_turned true false = refl
+or_turned false true = refl
+or_turned false false = refl
+
+or_behind : (a b c : Bool) → ((a || b) || c) ≡ ((a || c) || b)
+or_behind true b c = refl
+or_behind false b c = or_turned b c
+
+-- the order of two lots of names does not count
+pub same_turned : (us vs : List (List ℕ)) → HaveSame (us ++ vs) (vs ++ us)
+same_turned us vs = record { each = λ x. list_any-append (bytes_eq x) us vs ∙ (or_turned (is_among x us) (is_among x vs) ∙ sym (list_any-append (bytes_eq x) vs us)) }
+
+pub same_behind : (xs us vs : List (List ℕ)) → HaveSame ((xs ++ us) ++ vs) ((xs ++ vs) ++ us)
+same_behind xs us vs = record {
+  each = λ x.
+      list_any-append (bytes_eq x) (xs ++ us) vs ∙ (ap (λ b. b || is_among x vs) (list_any-append (bytes_eq x) xs us)
+      ∙ (or_behind (is_among x xs) (is_among x us) (is_among x vs)
+      ∙ sym (list_any-append (bytes_eq x) (xs ++ vs) us ∙ ap (λ b. b || is_among x us) (list_any-append (bytes_eq x) xs vs))));
+}

@@ -78,6 +78,23 @@ fn add_pattern(alloc: Global, earlier: &mut NameSet, triples: &[Triple]) -> Resu
     Ok(true)
 }
 
+/// Adds the labels of the basic patterns on the left side of a UNION; false where one stands in two
+/// patterns. The groups of a chain are added in a loop, from the last to the first: a long chain takes
+/// no deeper stack.
+#[cycle(labels)]
+fn add_left(alloc: Global, earlier: &mut NameSet, left: &Element) -> Result<bool, AllocError>
+    ensures labels { IfOk result (λ fits. AddsPatterns (patterns_inside (element_of left.now)) fits earlier.old earlier.new) }
+{
+    let mut rest = left;
+    'groups: while let Element::Union(left, right) = rest {
+        if !add_group(alloc, earlier, right)? {
+            return Ok(false);
+        }
+        rest = left;
+    }
+    add_inside(alloc, earlier, rest)
+}
+
 /// Adds the labels of the basic patterns inside an element; false where one stands in two patterns.
 #[cycle(labels)]
 fn add_inside(alloc: Global, earlier: &mut NameSet, element: &Element) -> Result<bool, AllocError>
@@ -86,11 +103,11 @@ fn add_inside(alloc: Global, earlier: &mut NameSet, element: &Element) -> Result
     match element {
         Element::Triples(triples) => add_pattern(alloc, earlier, triples),
         Element::Group(elements) => add_group(alloc, earlier, elements),
-        Element::Union(left, elements) => {
-            if !add_inside(alloc, earlier, left)? {
+        Element::Union(left, right) => {
+            if !add_group(alloc, earlier, right)? {
                 return Ok(false);
             }
-            add_group(alloc, earlier, elements)
+            add_left(alloc, earlier, left)
         }
         Element::Optional(elements) => add_group(alloc, earlier, elements),
         Element::Minus(elements) => add_group(alloc, earlier, elements),

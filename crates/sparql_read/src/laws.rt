@@ -1,13 +1,19 @@
-//! The law of what is answered.
+//! The laws of what a text derives, and of what is answered.
 
 ghost use Rattle.std.specs.Prelude.{◌≡◌, ℕ, List, Result, Err};
 ghost use Rattle.sparql_tree.specs.QueryTree.{QueryTree};
 ghost use Rattle.sparql_read.specs.declared.fault.QueryFault.{QueryFault};
 ghost use Rattle.sparql_read.specs.declared.fault.QueryFault.TheVariants.{Memory};
+ghost use Rattle.sparql_read.specs.Derives.{Derives};
 ghost use Rattle.sparql_read.specs.Refusal.{Answers};
 
 use sparql_grammar::one_query;
 use sparql_lexer::one_scan;
+
+/// A text derives one query at most, whether or not a rule refuses it.
+pub fn one_tree()
+    ensures unique { (text : List ℕ) (q r : QueryTree) → Derives text q → Derives text r → q ≡ r }
+{}
 
 /// A text has one answer at most, besides want of memory: it is one query, or refused by one rule.
 pub fn one_answer()

@@ -1,8 +1,9 @@
 //! From the text of a SPARQL query to its tree, or to the rule that refuses it.
 //!
 //! [`read_query`] is what the crate above uses: it answers the tree that the grammar derives from the
-//! text, or the first rule that refuses it (`Answers` of specs/Refusal.antt). The law [`one_answer`] says
-//! that one answer at most holds of a text, besides want of memory.
+//! text, or the first rule that refuses it (`Answers` of specs/Refusal.antt). The law [`one_tree`] says that
+//! a text derives one query at most, refused or not, and [`one_answer`] that one answer at most holds of a
+//! text, besides want of memory.
 //!
 //! A text that the grammar derives may still be refused: brackets may be nested too deep
 //! ([`is_too_deep`]), a prefixed name may have no declaration ([`has_undefined_prefix`]), an IRI no
@@ -41,7 +42,7 @@ pub use depth::is_too_deep;
 pub use fault::QueryFault;
 pub use iris::has_relative_iri;
 pub use labels::reuses_blank;
-pub use laws::one_answer;
+pub use laws::{one_answer, one_tree};
 pub use prologue::{declarations_of, has_undefined_prefix};
 pub use reader::read_query;
 pub use scope::breaks_bind_scope;

@@ -81,6 +81,22 @@ fn add_group(alloc: Global, scope: &mut NameSet, elements: &[Element]) -> Result
     }
 }
 
+/// Adds the names of the left side of a UNION; false where something inside it breaks the rule. The
+/// groups of a chain are added in a loop, from the last to the first: a long chain takes no deeper stack.
+#[cycle(scope)]
+fn add_left(alloc: Global, scope: &mut NameSet, left: &Element) -> Result<bool, AllocError>
+    ensures scope { IfOk result (λ fits. AddsScope (element_of left.now) fits scope.old scope.new) }
+{
+    let mut rest = left;
+    'groups: while let Element::Union(left, right) = rest {
+        if !add_group(alloc, scope, right)? {
+            return Ok(false);
+        }
+        rest = left;
+    }
+    add_element(alloc, scope, rest)
+}
+
 /// Adds the names that an element binds; false where something inside it breaks the rule.
 #[cycle(scope)]
 fn add_element(alloc: Global, scope: &mut NameSet, element: &Element) -> Result<bool, AllocError>
@@ -92,11 +108,11 @@ fn add_element(alloc: Global, scope: &mut NameSet, element: &Element) -> Result<
             Ok(true)
         }
         Element::Group(elements) => add_group(alloc, scope, elements),
-        Element::Union(left, elements) => {
-            if !add_element(alloc, scope, left)? {
+        Element::Union(left, right) => {
+            if !add_group(alloc, scope, right)? {
                 return Ok(false);
             }
-            add_group(alloc, scope, elements)
+            add_left(alloc, scope, left)
         }
         Element::Optional(elements) => add_group(alloc, scope, elements),
         Element::Minus(elements) => Ok(scope_of(alloc, elements)?.is_some()),

@@ -25,7 +25,7 @@ pub enum Function {
 }
 
 /// An expression. `x NOT IN (..)` stands as `Not` of `In`, which is what it means.
-#[derive(Debug, Drop)]
+#[derive(Debug)]
 pub enum Expression {
     /// `left || right`
     Or(Box<Expression>, Box<Expression>),
@@ -47,4 +47,25 @@ pub enum Expression {
     Variable(Text),
     /// An IRI or a literal
     Constant(Term),
+}
+
+impl Drop for Expression {
+    /// Goes down the left sides of `||` and `&&` in a loop: a long chain takes no deeper stack.
+    fn drop(mut self) {
+        loop {
+            match self {
+                Expression::Or(left, _right) | Expression::And(left, _right) => {
+                    self = Box::into_inner(left);
+                }
+                Expression::Not(_)
+                | Expression::Compare(_, _, _)
+                | Expression::In(_, _)
+                | Expression::Call(_, _)
+                | Expression::Bound(_)
+                | Expression::SameTerm(_, _)
+                | Expression::Variable(_)
+                | Expression::Constant(_) => return,
+            }
+        }
+    }
 }

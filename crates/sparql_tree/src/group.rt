@@ -32,7 +32,7 @@ pub enum GraphName {
 }
 
 /// An element of a group. A group is the list of its elements, in the order of the text.
-#[derive(Debug, Drop)]
+#[derive(Debug)]
 pub enum Element {
     /// A run of triples that no other element interrupts, with `;` and `,` written out
     Triples(Vec<Triple>),
@@ -52,4 +52,23 @@ pub enum Element {
     Bind(Expression, Text),
     /// `VALUES (?name ..) { (..) .. }`: the names, and rows of as many cells; None is UNDEF
     Values(Vec<Text>, Vec<Vec<Option<Term>>>),
+}
+
+impl Drop for Element {
+    /// Goes down the left sides of UNION in a loop: a long chain takes no deeper stack.
+    fn drop(mut self) {
+        loop {
+            match self {
+                Element::Union(left, _right) => self = Box::into_inner(left),
+                Element::Triples(_)
+                | Element::Group(_)
+                | Element::Optional(_)
+                | Element::Minus(_)
+                | Element::Graph(_, _)
+                | Element::Filter(_)
+                | Element::Bind(_, _)
+                | Element::Values(_, _) => return,
+            }
+        }
+    }
 }

@@ -182,6 +182,47 @@ fn what_counts_towards_depth(rt: HostRuntime) -> Result<(), AllocError> {
     Ok(())
 }
 
+// A chain is read and dropped at one depth, however long it is, and its first part is judged with its last.
+#[test]
+fn long_chains_are_read(rt: HostRuntime) -> Result<(), AllocError> {
+    for (first, part, last, expected) in [
+        ("{ ?s ?p _:l }", " UNION { ?s ?p ?o }", "", None),
+        (
+            "{ ?s ?p _:l }",
+            " UNION {}",
+            " UNION { ?s ?p _:l }",
+            Some(QueryFault::BlankReuse),
+        ),
+        (
+            "{ ?s ?p ?o }",
+            " UNION {}",
+            " BIND(1 AS ?o)",
+            Some(QueryFault::BindScope),
+        ),
+        (
+            "{ ?s ?p ?o BIND(1 AS ?o) }",
+            " UNION {}",
+            "",
+            Some(QueryFault::BindScope),
+        ),
+        ("FILTER (?a", " || ?a", ")", None),
+        ("FILTER (?a", " && ?a", ")", None),
+    ] {
+        let mut text = String::from_str(rt.alloc(), "SELECT * { ")?;
+        text.push_str(first)?;
+        for _ in 0..100000 {
+            text.push_str(part)?;
+        }
+        text.push_str(last)?;
+        text.push_str(" }")?;
+        assert!(rt;
+            refusal(rt.alloc(), text.as_str()) == expected,
+            "{first}{part}{last}"
+        );
+    }
+    Ok(())
+}
+
 // No query ends before its last bracket.
 #[test]
 fn each_front_of_a_query_is_refused(rt: HostRuntime) -> Result<(), AllocError> {

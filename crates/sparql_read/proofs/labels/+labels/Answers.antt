@@ -1,12 +1,13 @@
 use Rattle.std.proofs.Common.{◌≡◌, ◌∙◌, [], ◌∷◌, ◌++◌, true, false, sym, ap, subst, take, arith}
 use Rattle.std.proofs.lemmas.Result.{IfOk-weaker}
 use Rattle.std.proofs.lemmas.List.{take_all}
+use Rattle.sparql_tree.specs.declared.group.Element.{size-Element}
 use Rattle.sparql_tree.specs.GroupTree.{element_of, group_of}
 use Rattle.sparql_read.specs.NameSet.{HaveSame}
 use Rattle.sparql_read.specs.BlankReuse.{basic_patterns, closed_patterns, open_pattern, patterns_inside, shares_labels}
 use Rattle.sparql_read.specs.LabelSteps.{AddsElement, AddsPatterns, IsRun}
-use Rattle.sparql_read.proofs.GroupLaws.{union_stands_for}
-use Rattle.sparql_read.proofs.LabelLaws.{element_runs_on, element_ends_run, first_clash, labels_clash, labels_more, patterns_go_on, patterns_then, run_added}
+use Rattle.sparql_read.proofs.GroupLaws.{union_deeper, union_stands_for}
+use Rattle.sparql_read.proofs.LabelLaws.{element_runs_on, element_ends_run, labels_clash, labels_more, last_clash, patterns_before, patterns_then, run_added}
 use Rattle.sparql_read.proofs.labels.+labels.Goals as goal
 
 pub add_element-returns-then-ends_run : goal.add_element-returns-then-ends_run
@@ -55,29 +56,64 @@ pub add_inside-returns-then-not-branch : goal.add_inside-returns-then-not-branch
 add_inside-returns-then-not-branch t c =
     let xs = c.args.earlier.now in
     let left = element_of c.in-Union.left.value in
-    let g = group_of c.in-Union.elements.items in
-    let f : c.in_ok-add_inside-in-Union.field-0 ≡ false = grind (arith, c.if-not-branch.true) in
-    let h = subst (λ b. AddsPatterns (patterns_inside (element_of c.deref-in-Union.result.now)) b xs c.add_inside.new.earlier) f c.in_ok-add_inside-in-Union.ensures.labels in
+    let g = group_of c.in-Union.right.items in
+    let f : c.in_ok-add_group-in-Union.field-0 ≡ false = grind (arith, c.if-not-branch.true) in
+    let h = subst (λ b. AddsPatterns (basic_patterns (group_of c.deref-in-Union.result.now)) b xs c.add_group-in-Union.new.earlier) f c.in_ok-add_group-in-Union.ensures.labels in
     record {
-      labels = ap (λ e. shares_labels xs (patterns_inside e)) (ap element_of c.in-Union.is ∙ union_stands_for c.in-Union.left c.in-Union.elements)
-          ∙ first_clash xs (patterns_inside left) (basic_patterns g) (sym (ap (λ e. shares_labels xs (patterns_inside (element_of e))) c.deref-in-Union.ensures) ∙ h);
+      labels = ap (λ e. shares_labels xs (patterns_inside e)) (ap element_of c.in-Union.is ∙ union_stands_for c.in-Union.left c.in-Union.right)
+          ∙ last_clash xs (patterns_inside left) (basic_patterns g) (sym (ap (λ es. shares_labels xs (basic_patterns (group_of es))) c.deref-in-Union.ensures.value) ∙ h);
     }
 
 pub add_inside-returns-else-not-branch : goal.add_inside-returns-else-not-branch
 add_inside-returns-else-not-branch t c =
     let xs = c.args.earlier.now in
-    let ys = c.add_inside.new.earlier in
-    let zs = c.add_group-in-Union.new.earlier in
+    let ys = c.add_group-in-Union.new.earlier in
+    let zs = c.add_left.new.earlier in
     let left = element_of c.in-Union.left.value in
-    let g = group_of c.in-Union.elements.items in
-    let f : c.in_ok-add_inside-in-Union.field-0 ≡ true = grind (arith, c.if-not-branch.false) in
-    let h = subst (λ b. AddsPatterns (patterns_inside (element_of c.deref-in-Union.result.now)) b xs ys) f c.in_ok-add_inside-in-Union.ensures.labels in
-    let l = subst (λ e. AddsPatterns (patterns_inside (element_of e)) true xs ys) c.deref-in-Union.ensures h in
-    let e = ap element_of c.in-Union.is ∙ union_stands_for c.in-Union.left c.in-Union.elements in
+    let g = group_of c.in-Union.right.items in
+    let f : c.in_ok-add_group-in-Union.field-0 ≡ true = grind (arith, c.if-not-branch.false) in
+    let h = subst (λ b. AddsPatterns (basic_patterns (group_of c.deref-in-Union.result.now)) b xs ys) f c.in_ok-add_group-in-Union.ensures.labels in
+    let r = subst (λ es. AddsPatterns (basic_patterns (group_of es)) true xs ys) c.deref-in-Union.ensures.value h in
+    let e = ap element_of c.in-Union.is ∙ union_stands_for c.in-Union.left c.in-Union.right in
     record {
-      labels = IfOk-weaker c.add_group-in-Union.result _ _
+      labels = IfOk-weaker c.add_left.result _ _
           (λ b k. subst (λ e. AddsPatterns (patterns_inside e) b xs zs) (sym e)
-          (patterns_go_on b (patterns_inside left) (basic_patterns g) xs ys zs l
-          (subst (λ es. AddsPatterns (basic_patterns (group_of es)) b ys zs) c.deref-in-Union-2.ensures.value k)))
-          c.add_group-in-Union.ensures.labels;
+          (patterns_before b (patterns_inside left) (basic_patterns g) xs ys zs r
+          (subst (λ e. AddsPatterns (patterns_inside (element_of e)) b ys zs) c.deref-in-Union-2.ensures k)))
+          c.add_left.ensures.labels;
     }
+
+pub add_left-groups-preserved : goal.add_left-groups-preserved
+add_left-groups-preserved t c =
+    let xs = c.groups.earlier in
+    let ys = c.add_group.new.earlier in
+    let left = element_of c.in-Union.left.value in
+    let g = group_of c.in-Union.right.items in
+    let f : c.in_ok-add_group.field-0 ≡ true = grind (arith, c.if-not-branch.false) in
+    let h = subst (λ b. AddsPatterns (basic_patterns (group_of c.deref.result.now)) b xs ys) f c.in_ok-add_group.ensures.labels in
+    let r = subst (λ es. AddsPatterns (basic_patterns (group_of es)) true xs ys) c.deref.ensures.value h in
+    let e = ap element_of c.in-Union.is ∙ union_stands_for c.in-Union.left c.in-Union.right in
+    record {
+      no_deeper = rw c.deref-rest.ensures (omega (arith, union_deeper c.in-Union.left c.in-Union.right, ap size-Element c.in-Union.is));
+      adds = λ b zs k. c.groups.invariant.adds b zs (subst (λ e. AddsPatterns (patterns_inside e) b xs zs) (sym e)
+          (patterns_before b (patterns_inside left) (basic_patterns g) xs ys zs r
+          (subst (λ e. AddsPatterns (patterns_inside (element_of e)) b ys zs) c.deref-rest.ensures k)));
+    }
+
+pub add_left-returns-then-not-branch : goal.add_left-returns-then-not-branch
+add_left-returns-then-not-branch t c =
+    let xs = c.groups.earlier in
+    let left = element_of c.in-Union.left.value in
+    let g = group_of c.in-Union.right.items in
+    let f : c.in_ok-add_group.field-0 ≡ false = grind (arith, c.if-not-branch.true) in
+    let h = subst (λ b. AddsPatterns (basic_patterns (group_of c.deref.result.now)) b xs c.add_group.new.earlier) f c.in_ok-add_group.ensures.labels in
+    record {
+      labels = c.groups.invariant.adds false c.add_group.new.earlier
+          (ap (λ e. shares_labels xs (patterns_inside e)) (ap element_of c.in-Union.is ∙ union_stands_for c.in-Union.left c.in-Union.right)
+          ∙ last_clash xs (patterns_inside left) (basic_patterns g) (sym (ap (λ es. shares_labels xs (basic_patterns (group_of es))) c.deref.ensures.value) ∙ h));
+    }
+
+pub add_left-returns : goal.add_left-returns
+add_left-returns t c = record {
+  labels = IfOk-weaker c.add_inside.result _ _ (λ b k. c.groups.invariant.adds b c.add_inside.new.earlier k) c.add_inside.ensures.labels;
+}
