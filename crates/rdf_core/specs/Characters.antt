@@ -10,9 +10,13 @@ is_iri_char c =
     nat_lt 32 c
     && not (c == 60 || c == 62 || c == 34 || c == 123 || c == 125 || c == 124 || c == 94 || c == 96 || c == 92)
 
+-- A string on one line takes [^#x27#x5C#xA#xD] (STRING_LITERAL1) or [^#x22#x5C#xA#xD] (STRING_LITERAL2), by its quote
+abbrev pub is_quoted_char : ℕ → ℕ → Bool
+is_quoted_char quote c = not (c == quote || c == 92 || c == 10 || c == 13)
+
 -- STRING_LITERAL_QUOTE takes [^#x22#x5C#xA#xD]
 abbrev pub is_string_char : ℕ → Bool
-is_string_char c = not (c == 34 || c == 92 || c == 10 || c == 13)
+is_string_char = is_quoted_char 34
 
 abbrev pub in_ranges : List (ℕ × ℕ) → ℕ → Bool
 in_ranges ranges c = list_any (λ r. nat_le r.0 c && nat_le c r.1) ranges
@@ -31,13 +35,13 @@ is_pn_chars_base c = in_ranges pn_chars_base c
 unfoldable pub is_name_start : ℕ → Bool
 is_name_start c = in_ranges ((95, 95) ∷ (48, 57) ∷ []) c || is_pn_chars_base c
 
--- what PN_CHARS adds to these
-abbrev pub pn_chars_more : List (ℕ × ℕ)
-pn_chars_more = (45, 45) ∷ (0xB7, 0xB7) ∷ (0x300, 0x36F) ∷ (0x203F, 0x2040) ∷ []
+-- #xB7 | [#x300-#x36F] | [#x203F-#x2040]: what PN_CHARS adds to these beside the hyphen
+abbrev pub is_joining : ℕ → Bool
+is_joining c = in_ranges ((0xB7, 0xB7) ∷ (0x300, 0x36F) ∷ (0x203F, 0x2040) ∷ []) c
 
 -- PN_CHARS of SPARQL, without the colon
 unfoldable pub is_name_char : ℕ → Bool
-is_name_char c = in_ranges pn_chars_more c || is_name_start c
+is_name_char c = c == 45 || is_joining c || is_name_start c
 
 -- PN_CHARS_U | [0-9] of N-Quads, with the colon: what a blank node label begins with
 unfoldable pub is_label_start : ℕ → Bool
@@ -45,7 +49,7 @@ is_label_start c = c == 58 || is_name_start c
 
 -- PN_CHARS of N-Quads, with the colon
 unfoldable pub is_label_char : ℕ → Bool
-is_label_char c = in_ranges pn_chars_more c || is_label_start c
+is_label_char c = c == 45 || is_joining c || is_label_start c
 
 -- ECHAR ::= '\' [tbnrf"'\]: what the letter behind the backslash stands for
 abbrev pub echar : ℕ → Option ℕ

@@ -15,10 +15,10 @@ mod tags;
 mod tests;
 
 pub use characters::{
-    first_char, is_iri_char, is_label_char, is_label_start, is_name_char, is_name_start,
-    is_pn_chars_base, is_string_char,
+    first_char, is_hex, is_iri_char, is_joining, is_label_char, is_label_start, is_name_char,
+    is_name_start, is_pn_chars_base, is_quoted_char, is_string_char,
 };
 pub use enclosed::{read_iri_ref, read_quoted, unescape_iri, unescape_string};
-pub use escapes::Inside;
+pub use escapes::{Inside, echar};
 pub use schemes::has_scheme;
 pub use tags::lower_tag;

@@ -3,7 +3,7 @@ use Rattle.std.proofs.Common.{◌≡◌, ℕ, ◌<◌, ◌≤◌, List, [], ◌�
 use Rattle.std.proofs.lemmas.Bool.Decides.{nat_tests}
 use Rattle.rdf_core.specs.Characters.{is_pn_chars_base, is_name_start, is_name_char}
 use Rattle.sparql_lexer.specs.Blanks.{beyond, after_blanks}
-use Rattle.sparql_lexer.specs.Characters.{is_base, is_name_part, is_joining, is_line_end, is_space}
+use Rattle.sparql_lexer.specs.Characters.{is_base, is_name_part, is_line_end, is_space}
 use Rattle.sparql_lexer.specs.Colonless.{Behind, here, next, is_name_or_dot, IsClear, IsRun}
 use Rattle.sparql_lexer.specs.Names.{namespace, prefixed_name, local, tail}
 use Rattle.sparql_lexer.specs.Pattern.{Pattern, character, ◌▸◌, ◌or◌, many, is, Matches, is_nothing, is_character, both, left, right, no_more, one_more, EndsAt, Nowhere}

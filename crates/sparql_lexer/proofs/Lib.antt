@@ -1,5 +1,6 @@
 pub mod PatternLaws
 pub mod ProductionLaws
+pub mod TagLaws
 pub mod RowLaws
 pub mod ScanLaws
 pub mod KindLaws

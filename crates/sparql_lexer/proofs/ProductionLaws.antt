@@ -6,13 +6,13 @@ use Rattle.sparql_lexer.specs.declared.enclosed.Enclosure.{Enclosure}
 use Rattle.sparql_lexer.specs.declared.enclosed.Enclosure.TheVariants as enclosure
 use Rattle.sparql_lexer.specs.declared.names.Part.{Part}
 use Rattle.sparql_lexer.specs.declared.names.Part.TheVariants as part
-use Rattle.rdf_core.specs.Characters.{is_pn_chars_base, is_name_start, is_name_char}
-use Rattle.sparql_lexer.specs.Characters.{is_digit, is_hex, is_letter_or_digit, is_base, is_joining, is_name_part, is_local_start, is_local_part, is_local_escape, is_iri_character, is_short_character, is_long_character, is_escape_letter, is_space, is_line_end}
+use Rattle.rdf_core.specs.Characters.{is_hex, is_pn_chars_base, is_name_start, is_name_char}
+use Rattle.sparql_lexer.specs.Characters.{is_digit, is_letter_or_digit, is_base, is_name_part, is_local_start, is_local_part, is_local_escape, is_iri_character, is_short_character, is_long_character, is_escape_letter, is_space, is_line_end}
 use Rattle.sparql_lexer.specs.Pattern.{Pattern, character, ◌▸◌, ◌or◌, many, is, some, perhaps, Matches, is_nothing, both, left, right, no_more, one_more, EndsAt, Nowhere, Ends}
 use Rattle.sparql_lexer.specs.Numbers.{digit, exponent, is_plus_or_minus, is_exponent_letter}
 use Rattle.sparql_lexer.specs.Names.{tail, namespace, local_escape, local_part}
 use Rattle.sparql_lexer.specs.Enclosed.{four_digits, numbered, escape, iri_piece, short_piece, three, comment}
-use Rattle.sparql_lexer.specs.Forms.{open_of, close_of, piece_of, part_of}
+use Rattle.sparql_lexer.specs.Forms.{open_of, close_of, piece_of, part_of, subtag}
 use Rattle.sparql_lexer.proofs.PatternLaws.{first, nullable, Sure, Apart, sure_character, sure_then, sure_or, sure_from, sure_many_then, apart_first, apart_is, apart_then, apart_or, apart_swap, apart_behind, apart_from, but, then_none, then_sure, greedy_then, nowhere, nowhere_or, only_left, only_right, spread, regroup, perhaps_taken, shorter, tail_inside, moved}
 
 pub sure_is : (n : ℕ) → Sure (is n)
@@ -166,19 +166,19 @@ open_sure enclosure.Anonymous = sure_is 91
 -- names
 
 local_percent : is_local_part 37 ≡ false
-unfolding is_name_char is_name_start is_pn_chars_base is_joining
+unfolding is_name_char is_name_start is_pn_chars_base
 local_percent = refl
 
 local_backslash : is_local_part 92 ≡ false
-unfolding is_name_char is_name_start is_pn_chars_base is_joining
+unfolding is_name_char is_name_start is_pn_chars_base
 local_backslash = refl
 
 start_percent : is_local_start 37 ≡ false
-unfolding is_name_char is_name_start is_pn_chars_base is_joining
+unfolding is_name_char is_name_start is_pn_chars_base
 start_percent = refl
 
 start_backslash : is_local_start 92 ≡ false
-unfolding is_name_char is_name_start is_pn_chars_base is_joining
+unfolding is_name_char is_name_start is_pn_chars_base
 start_backslash = refl
 
 pub plain_or_local_escape : (p : ℕ → Bool) → p 37 ≡ false → p 92 ≡ false → Apart (character p) local_escape
@@ -204,11 +204,11 @@ pub start_sure : Sure (character is_local_start or local_escape)
 start_sure = sure_or (sure_character is_local_start) sure_local_escape start_or_escape
 
 name_dot : first (character is_name_part) 46 ≡ false
-unfolding is_name_char is_name_start is_pn_chars_base is_joining
+unfolding is_name_char is_name_start is_pn_chars_base
 name_dot = refl
 
 local_dot : first local_part 46 ≡ false
-unfolding is_name_char is_name_start is_pn_chars_base is_joining
+unfolding is_name_char is_name_start is_pn_chars_base
 local_dot = refl
 
 pub part_apart : (p : Part) → Apart (part_of p) (is 46)
@@ -225,7 +225,7 @@ abbrev pub name_or_dot : Pattern
 name_or_dot = character is_name_part or is 46
 
 name_colon : first name_or_dot 58 ≡ false
-unfolding is_name_char is_name_start is_pn_chars_base is_joining
+unfolding is_name_char is_name_start is_pn_chars_base
 name_colon = refl
 
 base_colon : is_base 58 ≡ false
@@ -250,9 +250,6 @@ namespace_sure = sure_from namespace (is 58 or (character is_base ▸ (many name
     (sure_or (sure_is 58) (sure_then (sure_character is_base) (sure_many_then sure_name_or_dot (sure_is 58) (apart_swap (apart_is name_or_dot 58 refl name_colon)))) (apart_swap (base_or_colon (many name_or_dot ▸ is 58))))
 
 -- subtags
-
-abbrev pub subtag : Pattern
-subtag = is 45 ▸ some (character is_letter_or_digit)
 
 letters_inside : (p : ℕ → Bool) (ts m : List ℕ) → Matches (some (character p)) ts m → Matches (many (character p)) ts m
 letters_inside p ts m (both d e) = one_more d e

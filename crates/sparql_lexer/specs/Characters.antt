@@ -1,6 +1,8 @@
 -- The classes of characters of the productions (SPARQL 1.1 Query Language, section 19.8). A character is the number of its code point.
-use Rattle.std.specs.Prelude.{ℕ, Bool, ◌&&◌, ◌||◌, not, List, [], ◌∷◌, nat_le, nat_lt, nat_eq}
-use Rattle.rdf_core.specs.Characters.{in_ranges, is_pn_chars_base, is_name_start, is_name_char, is_iri_char}
+-- Those that N-Quads has too are rdf_core's; HEX is `is_hex` there.
+use Rattle.std.specs.Prelude.{ℕ, Bool, ◌&&◌, ◌||◌, not, List, [], ◌∷◌, nat_le, nat_eq}
+use Rattle.std.specs.Option.{is_some}
+use Rattle.rdf_core.specs.Characters.{in_ranges, is_pn_chars_base, is_joining, is_name_start, is_name_char, is_iri_char, is_quoted_char, echar}
 
 -- [0-9]
 abbrev pub is_digit : ℕ → Bool
@@ -13,23 +15,15 @@ is_letter c = (nat_le 65 c && nat_le c 90) || (nat_le 97 c && nat_le c 122)
 abbrev pub is_letter_or_digit : ℕ → Bool
 is_letter_or_digit c = is_letter c || is_digit c
 
--- HEX ::= [0-9] | [A-F] | [a-f]
-abbrev pub is_hex : ℕ → Bool
-is_hex c = is_digit c || ((nat_le 65 c && nat_le c 70) || (nat_le 97 c && nat_le c 102))
-
 -- PN_CHARS_BASE
 abbrev pub is_base : ℕ → Bool
 is_base = is_pn_chars_base
-
--- #xB7 | [#x300-#x36F] | [#x203F-#x2040]
-unfoldable pub is_joining : ℕ → Bool
-is_joining c = in_ranges ((0xB7, 0xB7) ∷ (0x300, 0x36F) ∷ (0x203F, 0x2040) ∷ []) c
 
 -- PN_CHARS_U | [0-9]: what a variable and a label begin with
 abbrev pub is_label_start : ℕ → Bool
 is_label_start = is_name_start
 
--- what a variable goes on with
+-- what a variable goes on with: PN_CHARS_U | [0-9] | #xB7 | [#x300-#x36F] | [#x203F-#x2040]
 abbrev pub is_variable_part : ℕ → Bool
 is_variable_part c = is_label_start c || is_joining c
 
@@ -55,15 +49,15 @@ is_iri_character = is_iri_char
 
 -- [^#x27#x5C#xA#xD] or [^#x22#x5C#xA#xD], by the quote
 abbrev pub is_short_character : ℕ → ℕ → Bool
-is_short_character quote c = not (nat_eq quote c || (nat_eq 92 c || (nat_eq 10 c || nat_eq 13 c)))
+is_short_character = is_quoted_char
 
 -- [^'\] or [^"\], by the quote
 abbrev pub is_long_character : ℕ → ℕ → Bool
 is_long_character quote c = not (nat_eq quote c || nat_eq 92 c)
 
--- [tbnrf"'\]
+-- [tbnrf"'\]: what ECHAR has behind its backslash
 abbrev pub is_escape_letter : ℕ → Bool
-is_escape_letter c = in_ranges ((116, 116) ∷ (98, 98) ∷ (110, 110) ∷ (114, 114) ∷ (102, 102) ∷ (34, 34) ∷ (39, 39) ∷ (92, 92) ∷ []) c
+is_escape_letter c = is_some (echar c)
 
 -- WS ::= #x20 | #x9 | #xD | #xA
 abbrev pub is_space : ℕ → Bool

@@ -2,7 +2,8 @@
 use Rattle.std.specs.Prelude.{ℕ, Bool, not, nat_eq}
 use Rattle.sparql_lexer.specs.declared.classes.Class.{Class}
 use Rattle.sparql_lexer.specs.declared.classes.Class.TheVariants as class
-use Rattle.sparql_lexer.specs.Characters.{is_base, is_digit, is_letter, is_letter_or_digit, is_hex, is_label_start, is_variable_part, is_name_part, is_local_start, is_local_part, is_local_escape, is_iri_character, is_short_character, is_long_character, is_escape_letter, is_space, is_line_end}
+use Rattle.rdf_core.specs.Characters.{is_hex}
+use Rattle.sparql_lexer.specs.Characters.{is_base, is_digit, is_letter, is_letter_or_digit, is_label_start, is_variable_part, is_name_part, is_local_start, is_local_part, is_local_escape, is_iri_character, is_short_character, is_long_character, is_escape_letter, is_space, is_line_end}
 use Rattle.sparql_lexer.specs.Colonless.{is_name_or_dot}
 use Rattle.sparql_lexer.specs.Numbers.{is_plus_or_minus, is_exponent_letter}
 use Rattle.sparql_lexer.specs.Names.{is_variable_sign}

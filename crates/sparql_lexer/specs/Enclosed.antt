@@ -1,7 +1,8 @@
 -- Terminals with an end of their own: IRIs, strings, and ANON (SPARQL 1.1 Query Language, section 19.8).
 use Rattle.std.specs.Prelude.{ℕ, not}
+use Rattle.rdf_core.specs.Characters.{is_hex}
 use Rattle.sparql_lexer.specs.Pattern.{Pattern, character, is, many, perhaps, ◌▸◌, ◌or◌}
-use Rattle.sparql_lexer.specs.Characters.{is_hex, is_iri_character, is_short_character, is_long_character, is_escape_letter, is_space, is_line_end}
+use Rattle.sparql_lexer.specs.Characters.{is_iri_character, is_short_character, is_long_character, is_escape_letter, is_space, is_line_end}
 
 -- HEX HEX HEX HEX
 abbrev pub four_digits : Pattern

@@ -1,7 +1,9 @@
 -- Names, variables, labels and language tags (SPARQL 1.1 Query Language, section 19.8).
-use Rattle.std.specs.Prelude.{ℕ, Bool, ◌||◌, nat_eq}
+use Rattle.std.specs.Prelude.{◌≡◌, ℕ, Bool, true, ◌||◌, List, ◌∷◌, ◌++◌, nat_eq}
+use Rattle.rdf_core.specs.Characters.{is_hex}
+use Rattle.rdf_core.specs.Lexical.{is_tag}
 use Rattle.sparql_lexer.specs.Pattern.{Pattern, character, is, some, many, perhaps, ◌▸◌, ◌or◌}
-use Rattle.sparql_lexer.specs.Characters.{is_letter, is_letter_or_digit, is_hex, is_base, is_label_start, is_variable_part, is_name_part, is_local_start, is_local_part, is_local_escape}
+use Rattle.sparql_lexer.specs.Characters.{is_letter, is_base, is_label_start, is_variable_part, is_name_part, is_local_start, is_local_part, is_local_escape}
 
 abbrev pub is_variable_sign : ℕ → Bool
 is_variable_sign c = nat_eq 63 c || nat_eq 36 c
@@ -37,9 +39,11 @@ prefixed_name = namespace ▸ local
 abbrev pub blank_label : Pattern
 blank_label = is 95 ▸ is 58 ▸ character is_label_start ▸ tail (character is_name_part)
 
--- LANGTAG ::= '@' [a-zA-Z]+ ('-' [a-zA-Z0-9]+)*
-abbrev pub language_tag : Pattern
-language_tag = is 64 ▸ some (character is_letter) ▸ many (is 45 ▸ some (character is_letter_or_digit))
+-- LANGTAG ::= '@' [a-zA-Z]+ ('-' [a-zA-Z0-9]+)*: text begins with the sign and a tag, which N-Quads has too, and rest stands behind it
+pub record IsLanguageTag (text rest : List ℕ) : Type 0 where
+  pub tag : List ℕ
+  pub parts : text ≡ 64 ∷ (tag ++ rest)
+  pub right : is_tag tag ≡ true
 
 -- a keyword, or another word
 abbrev pub word : Pattern

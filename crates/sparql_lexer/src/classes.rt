@@ -2,10 +2,13 @@
 
 ghost use Rattle.std.specs.Prelude.{◌≡◌};
 ghost use Rattle.rdf_core.specs.Characters.{in_ranges};
-ghost use Rattle.sparql_lexer.specs.Characters.{is_joining, is_digit, is_letter, is_hex, is_variable_part, is_local_escape, is_short_character, is_long_character, is_escape_letter, is_space, is_line_end};
+ghost use Rattle.sparql_lexer.specs.Characters.{is_digit, is_letter, is_variable_part, is_local_escape, is_long_character, is_escape_letter, is_space, is_line_end};
 ghost use Rattle.sparql_lexer.specs.Classes.{members};
 
-use rdf_core::lexical::{is_iri_char, is_name_char, is_name_start, is_pn_chars_base};
+use rdf_core::lexical::{
+    echar, is_hex, is_iri_char, is_joining, is_name_char, is_name_start, is_pn_chars_base,
+    is_quoted_char,
+};
 
 /// A class of characters, as the productions name them.
 #[derive(Clone, Copy, Debug)]
@@ -37,8 +40,6 @@ pub enum Class {
     InComment,
 }
 
-const JOINING: [(u32, u32); 3] = [(0xB7, 0xB7), (0x300, 0x36F), (0x203F, 0x2040)];
-
 const LOCAL_ESCAPES: [(u32, u32); 7] = [
     (33, 33),
     (35, 47),
@@ -47,17 +48,6 @@ const LOCAL_ESCAPES: [(u32, u32); 7] = [
     (63, 64),
     (95, 95),
     (126, 126),
-];
-
-const ESCAPE_LETTERS: [(u32, u32); 8] = [
-    (116, 116),
-    (98, 98),
-    (110, 110),
-    (114, 114),
-    (102, 102),
-    (34, 34),
-    (39, 39),
-    (92, 92),
 ];
 
 fn in_ranges(ranges: &[(u32, u32)], c: char) -> bool
@@ -79,19 +69,6 @@ fn is_letter(c: char) -> bool
     c >= 'A' && c <= 'Z' || c >= 'a' && c <= 'z'
 }
 
-fn is_hex(c: char) -> bool
-    ensures { result ≡ is_hex c }
-{
-    is_digit(c) || (c >= 'A' && c <= 'F' || c >= 'a' && c <= 'f')
-}
-
-#[tactic(auto, unfolding(crate::specs::Characters::is_joining))]
-fn is_joining(c: char) -> bool
-    ensures { result ≡ is_joining c }
-{
-    in_ranges(&JOINING, c)
-}
-
 fn is_variable_part(c: char) -> bool
     ensures { result ≡ is_variable_part c }
 {
@@ -104,12 +81,6 @@ fn is_local_escape(c: char) -> bool
     in_ranges(&LOCAL_ESCAPES, c)
 }
 
-fn is_short_character(quote: char, c: char) -> bool
-    ensures { result ≡ is_short_character quote c }
-{
-    !(c == quote || (c == '\\' || (c == '\n' || c == '\r')))
-}
-
 fn is_long_character(quote: char, c: char) -> bool
     ensures { result ≡ is_long_character quote c }
 {
@@ -119,7 +90,7 @@ fn is_long_character(quote: char, c: char) -> bool
 fn is_escape_letter(c: char) -> bool
     ensures { result ≡ is_escape_letter c }
 {
-    in_ranges(&ESCAPE_LETTERS, c)
+    echar(c).is_some()
 }
 
 fn is_space(c: char) -> bool
@@ -156,8 +127,8 @@ pub fn is_member(class: Class, c: char) -> bool
         Class::PlusOrMinus => c == '+' || c == '-',
         Class::ExponentLetter => c == 'e' || c == 'E',
         Class::InIri => is_iri_char(c),
-        Class::InSingle => is_short_character('\'', c),
-        Class::InDouble => is_short_character('"', c),
+        Class::InSingle => is_quoted_char('\'', c),
+        Class::InDouble => is_quoted_char('"', c),
         Class::InLongSingle => is_long_character('\'', c),
         Class::InLongDouble => is_long_character('"', c),
         Class::EscapeLetter => is_escape_letter(c),

@@ -2,10 +2,10 @@
 
 ghost use Rattle.std.specs.Prelude.{◌≡◌, ◌∷◌, Some, true, ℕ, List};
 ghost use Rattle.sparql_lexer.specs.Colonless.{Behind, IsClear, IsRun, is_name_or_dot};
-ghost use Rattle.sparql_lexer.specs.Characters.{is_local_start, is_letter_or_digit};
-ghost use Rattle.sparql_lexer.specs.Pattern.{character, is, many, some, ◌▸◌, ◌or◌, Ends, EndsAt};
-ghost use Rattle.sparql_lexer.specs.Names.{local_escape, tail, namespace, local, prefixed_name, blank_label, variable, language_tag};
-ghost use Rattle.sparql_lexer.specs.Forms.{part_of};
+ghost use Rattle.sparql_lexer.specs.Characters.{is_local_start};
+ghost use Rattle.sparql_lexer.specs.Pattern.{character, many, ◌or◌, Ends, EndsAt};
+ghost use Rattle.sparql_lexer.specs.Names.{local_escape, tail, namespace, local, prefixed_name, blank_label, variable};
+ghost use Rattle.sparql_lexer.specs.Forms.{part_of, subtag, language_tag};
 
 use crate::classes::Class;
 use crate::cursor::{accept, accept_one, skip, skip_some};
@@ -109,7 +109,7 @@ pub fn skip_variable(text: &[char]) -> Option<&[char]>
 
 /// ('-' [a-zA-Z0-9]+)*
 fn skip_subtags(text: &[char]) -> &[char]
-    ensures { EndsAt (many (is 45 ▸ some (character is_letter_or_digit))) text.now result.now }
+    ensures { EndsAt (many subtag) text.now result.now }
 {
     let mut rest = text;
     'subtags: loop {

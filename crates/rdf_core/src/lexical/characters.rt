@@ -2,7 +2,7 @@
 
 ghost use Rattle.std.specs.Prelude.{◌≡◌, [], ◌∷◌, MatchOption};
 ghost use Rattle.std.specs.Str.{IsUtf8, chars};
-ghost use Rattle.rdf_core.specs.Characters.{is_iri_char, is_string_char, in_ranges, is_pn_chars_base, is_name_start, is_name_char, is_label_start, is_label_char};
+ghost use Rattle.rdf_core.specs.Characters.{is_iri_char, is_quoted_char, is_string_char, is_hex, in_ranges, is_joining, is_pn_chars_base, is_name_start, is_name_char, is_label_start, is_label_char};
 
 /// PN_CHARS_BASE, as ranges of code points.
 const PN_CHARS_BASE: [(u32, u32); 14] = [
@@ -25,8 +25,8 @@ const PN_CHARS_BASE: [(u32, u32); 14] = [
 /// The underscore and the digits, which names and labels begin with too.
 const STARTS: [(u32, u32); 2] = [(95, 95), (48, 57)];
 
-/// The hyphen and the joining characters, which names and labels go on with too.
-const JOINS: [(u32, u32); 4] = [(45, 45), (0xB7, 0xB7), (0x300, 0x36F), (0x203F, 0x2040)];
+/// The joining characters, which names and labels go on with too.
+const JOINING: [(u32, u32); 3] = [(0xB7, 0xB7), (0x300, 0x36F), (0x203F, 0x2040)];
 
 /// The first character, and what follows it; None of the empty text.
 #[inline(always)]
@@ -48,11 +48,26 @@ pub fn is_iri_char(c: char) -> bool
     c > ' ' && !matches!(c, '<' | '>' | '"' | '{' | '}' | '|' | '^' | '`' | '\\')
 }
 
+/// Whether a character may stand raw in a string on one line between two of these quotes
+/// (STRING_LITERAL1 and STRING_LITERAL2 of SPARQL).
+pub fn is_quoted_char(quote: char, c: char) -> bool
+    ensures value { result ≡ is_quoted_char quote c }
+{
+    !(c == quote || c == '\\' || c == '\n' || c == '\r')
+}
+
 /// Whether a character may stand raw in a string in double quotes.
 pub fn is_string_char(c: char) -> bool
     ensures value { result ≡ is_string_char c }
 {
-    !matches!(c, '"' | '\\' | '\n' | '\r')
+    is_quoted_char('"', c)
+}
+
+/// Whether a character is a hexadecimal digit, in any case (HEX).
+pub fn is_hex(c: char) -> bool
+    ensures value { result ≡ is_hex c }
+{
+    c.is_digit(16)
 }
 
 fn in_ranges(ranges: &[(u32, u32)], c: u32) -> bool
@@ -77,12 +92,20 @@ pub fn is_name_start(c: char) -> bool
     in_ranges(&STARTS, c as u32) || is_pn_chars_base(c)
 }
 
+/// U+B7, U+300 to U+36F, and U+203F and U+2040: what names and labels go on with beside the hyphen
+/// and what they begin with.
+pub fn is_joining(c: char) -> bool
+    ensures value { result ≡ is_joining c }
+{
+    in_ranges(&JOINING, c as u32)
+}
+
 /// PN_CHARS of SPARQL, without the colon.
 #[tactic(auto, unfolding(crate::specs::Characters::is_name_start, crate::specs::Characters::is_name_char))]
 pub fn is_name_char(c: char) -> bool
     ensures value { result ≡ is_name_char c }
 {
-    in_ranges(&JOINS, c as u32) || is_name_start(c)
+    c == '-' || is_joining(c) || is_name_start(c)
 }
 
 /// PN_CHARS_U and the digits of N-Quads, with the colon: what a blank node label begins with.
@@ -98,5 +121,5 @@ pub fn is_label_start(c: char) -> bool
 pub fn is_label_char(c: char) -> bool
     ensures value { result ≡ is_label_char c }
 {
-    in_ranges(&JOINS, c as u32) || is_label_start(c)
+    c == '-' || is_joining(c) || is_label_start(c)
 }

@@ -19,8 +19,10 @@ pub enum Inside {
     Any,
 }
 
-fn echar(c: char) -> Option<char>
-    ensures { result ≡ echar c }
+/// The character that a letter behind a backslash stands for (ECHAR); None where it is no such
+/// letter.
+pub fn echar(c: char) -> Option<char>
+    ensures value { result ≡ echar c }
 {
     match c {
         't' => Some('\t'),

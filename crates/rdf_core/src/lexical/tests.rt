@@ -1,8 +1,8 @@
 //! The lexical forms by example, each function once at least.
 use crate::lexical::{
-    first_char, has_scheme, is_iri_char, is_label_char, is_label_start, is_name_char,
-    is_name_start, is_pn_chars_base, is_string_char, lower_tag, read_iri_ref, read_quoted,
-    unescape_iri, unescape_string,
+    echar, first_char, has_scheme, is_hex, is_iri_char, is_joining, is_label_char, is_label_start,
+    is_name_char, is_name_start, is_pn_chars_base, is_quoted_char, is_string_char, lower_tag,
+    read_iri_ref, read_quoted, unescape_iri, unescape_string,
 };
 use crate::text::Text;
 use std::alloc::{AllocError, AllocGlobal};
@@ -53,6 +53,35 @@ fn characters_are_of_their_classes(rt: HostRuntime) {
         is_iri_char('#') && !is_iri_char(' ') && !is_iri_char('`') && is_iri_char('\u{7F}')
     );
     assert!(rt; is_string_char('\t') && is_string_char('\0') && !is_string_char('\r'));
+    assert!(rt; is_quoted_char('\'', '"') && !is_quoted_char('\'', '\''));
+    assert!(rt; is_quoted_char('"', '\'') && !is_quoted_char('"', '"'));
+    assert!(rt; is_joining('\u{B7}') && is_joining('\u{2040}') && !is_joining('-'));
+}
+
+#[test]
+fn escapes_have_their_letters_and_digits(rt: HostRuntime) {
+    for (letter, expected) in [
+        ('t', Some('\t')),
+        ('b', Some('\u{8}')),
+        ('\'', Some('\'')),
+        ('\\', Some('\\')),
+        ('u', None),
+        ('T', None),
+    ] {
+        assert!(rt; echar(letter) == expected, "{letter}");
+    }
+    for (c, expected) in [
+        ('0', true),
+        ('9', true),
+        ('a', true),
+        ('F', true),
+        ('g', false),
+        (':', false),
+        ('@', false),
+        ('\u{FF11}', false),
+    ] {
+        assert_eq!(rt; is_hex(c), expected, "{c}");
+    }
 }
 
 #[test]

@@ -1,7 +1,7 @@
 use Rattle.std.proofs.Common.{◌≡◌, ◌∙◌, sym, ap, refl, Option, Some, None, List, ℕ, ◌<◌, ◌≤◌, length, arith, nat_eq, rules}
 use Rattle.sparql_lexer.specs.Candidates.{either, name_rows, number_rows, signed_rows, enclosed_rows, marked_rows, every_row}
 use Rattle.sparql_lexer.specs.Enclosed.{iri, anonymous, short_string, long_string}
-use Rattle.sparql_lexer.specs.Names.{variable, namespace, prefixed_name, blank_label, language_tag, word}
+use Rattle.sparql_lexer.specs.Names.{variable, namespace, prefixed_name, blank_label, word}
 use Rattle.sparql_lexer.specs.Numbers.{integer, decimal, double, signed}
 use Rattle.sparql_lexer.specs.Pattern.{◌or◌}
 use Rattle.sparql_lexer.proofs.PatternLaws.{shorter}

@@ -1,5 +1,5 @@
 use Rattle.std.proofs.Common.{None}
-use Rattle.sparql_lexer.specs.Characters.{is_hex}
+use Rattle.rdf_core.specs.Characters.{is_hex}
 use Rattle.sparql_lexer.specs.Pattern.{character, ◌▸◌}
 use Rattle.sparql_lexer.proofs.PatternLaws.{then_none, then_sure}
 use Rattle.sparql_lexer.proofs.ProductionLaws.{sure_hex}

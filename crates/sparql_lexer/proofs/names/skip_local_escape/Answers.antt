@@ -1,5 +1,6 @@
 use Rattle.std.proofs.Common.{None}
-use Rattle.sparql_lexer.specs.Characters.{is_hex, is_local_escape}
+use Rattle.rdf_core.specs.Characters.{is_hex}
+use Rattle.sparql_lexer.specs.Characters.{is_local_escape}
 use Rattle.sparql_lexer.specs.Pattern.{character, is, ◌▸◌}
 use Rattle.sparql_lexer.proofs.PatternLaws.{then_none, then_sure, only_left, only_right}
 use Rattle.sparql_lexer.proofs.ProductionLaws.{sure_is, sure_hex, nowhere_percent}
