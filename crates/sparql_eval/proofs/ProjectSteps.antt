@@ -1,5 +1,5 @@
 -- Project, one cell and one row more.
-use Rattle.std.proofs.Common.{◌≡◌, ℕ, zero, suc, ◌+◌, ◌<◌, ◌==◌, Bool, false, List, [], ◌∷◌, ◌++◌, length, get_or, take, map, slice_get, None, Some, refl, sym, ap, ◌∙◌, arith, add-one, subst, if◌then◌else◌}
+use Rattle.std.proofs.Common.{◌≡◌, ℕ, zero, suc, ◌+◌, ◌<◌, ◌==◌, Bool, List, [], ◌∷◌, ◌++◌, length, get_or, take, map, slice_get, None, Some, refl, sym, ap, ◌∙◌, arith, add-one, subst, if◌then◌else◌}
 use Rattle.std.specs.List.{list_any}
 use Rattle.std.proofs.lemmas.List.{map-append}
 use Rattle.algebra_model.specs.Solution.{Solution}
@@ -36,14 +36,6 @@ pub project-take : (vs : List ℕ) (p : ℕ → Bool) (w : ℕ) → ((k : ℕ) �
 project-take vs p w e A i μ h wide =
     let listed = λ (v : ℕ). list_any (λ (u : ℕ). u == v) vs in
     map-take (restrict listed) A i μ h ∙ ap (λ r. project vs (take i A) ++ r ∷ []) (restrict-alike listed p μ (λ k low. sym (e k (omega arith))))
-
--- one answer more
-pub listed_more : (kept : List Bool) (b : Bool) (p : ℕ → Bool) (n : ℕ) → length kept ≡ n → ((k : ℕ) → k < n → get_or kept k false ≡ p k) → b ≡ p n → (k : ℕ) → k < n + 1 → get_or (kept ++ b ∷ []) k false ≡ p k
-listed_more [] b p n e each h zero low = h ∙ ap p (sym e)
-listed_more [] b p n e each h (suc k) low = absurd (omega arith)
-listed_more (x ∷ kept) b p n e each h zero low = each 0 (omega arith)
-listed_more (x ∷ kept) b p n e each h (suc k) low =
-    listed_more kept b (λ j. p (suc j)) (length kept) refl (λ j less. each (suc j) (omega arith)) (h ∙ ap p (sym e)) k (omega arith)
 
 pub project_evaluated : (terms : List Term) (vs : List ℕ) (rows made : RowList) → AreKnown terms rows → made.width ≡ rows.width → made.rows ≡ project vs rows.rows → IsEvaluated terms rows.width (project vs (map (read_by terms) rows.rows)) made terms
 project_evaluated terms vs rows made known wide e =

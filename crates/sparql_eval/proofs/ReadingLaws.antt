@@ -1,5 +1,5 @@
 -- Rows read through a dictionary, and through one that begins with it.
-use Rattle.std.proofs.Common.{◌≡◌, ℕ, zero, suc, ◌<◌, ◌≤◌, true, false, not, List, [], ◌∷◌, ◌++◌, length, map, set, take, get_or, slice_get, Option, None, Some, is_some, option_map, nat_eq, Contains, refl, sym, ap, ◌∙◌, subst, arith, append_assoc, append-nil}
+use Rattle.std.proofs.Common.{◌≡◌, ℕ, zero, suc, ◌<◌, ◌≤◌, true, List, [], ◌∷◌, ◌++◌, length, map, set, take, get_or, slice_get, Option, None, Some, is_some, option_map, nat_eq, Contains, refl, sym, ap, ◌∙◌, subst, arith, append_assoc, append-nil}
 use Rattle.std.proofs.lemmas.List.{map-set}
 use Rattle.algebra_model.specs.Operators.{bind}
 use Rattle.algebra_model.proofs.BagLaws.{same_bag}
@@ -111,29 +111,6 @@ bind_bound v t [] e = refl
 bind_bound zero t (None ∷ μ) e = cc
 bind_bound zero t (Some x ∷ μ) e = refl
 bind_bound (suc v) t (x ∷ μ) e = ap (λ r. x ∷ r) (bind_bound v t μ e)
-
-read_open : (terms : List Term) (μ : Solution ℕ) (v : ℕ) → not (is_some (get_or μ v None)) ≡ true → get_or (read_by terms μ) v None ≡ None
-read_open terms [] v e = refl
-read_open terms (None ∷ μ) zero e = refl
-read_open terms (Some x ∷ μ) zero e = cc
-read_open terms (None ∷ μ) (suc v) e = read_open terms μ v e
-read_open terms (Some x ∷ μ) (suc v) e = read_open terms μ v e
-
-read_bound : (terms : List Term) (μ : Solution ℕ) (v : ℕ) → not (is_some (get_or μ v None)) ≡ false → is_some (get_or (read_by terms μ) v None) ≡ true
-read_bound terms [] v e = cc
-read_bound terms (None ∷ μ) zero e = cc
-read_bound terms (Some x ∷ μ) zero e = refl
-read_bound terms (None ∷ μ) (suc v) e = read_bound terms μ v e
-read_bound terms (Some x ∷ μ) (suc v) e = read_bound terms μ v e
-
--- the row with a value's number put where it is open
-pub extended_open : (terms terms' : List Term) → IsGrown terms terms' → (μ : Solution ℕ) → Known terms μ → (v : ℕ) (n : Option ℕ) (t : Option Term) → not (is_some (get_or μ v None)) ≡ true
-    → option_map (term_at terms') n ≡ t → read_by terms' (set μ v n) ≡ bind v t (read_by terms μ)
-extended_open terms terms' g μ k v n t unbound e =
-    set_read terms' μ v n ∙ (λ i. set ((row_kept terms terms' g μ k).1 i) v (e i)) ∙ bind_open v t (read_by terms μ) (read_open terms μ v unbound)
-
-pub extended_bound : (terms : List Term) (μ : Solution ℕ) (v : ℕ) (t : Option Term) → not (is_some (get_or μ v None)) ≡ false → read_by terms μ ≡ bind v t (read_by terms μ)
-extended_bound terms μ v t bound = sym (bind_bound v t (read_by terms μ) (read_bound terms μ v bound))
 
 -- ---- what an operator answers, where the dictionary stays
 

@@ -1,30 +1,71 @@
--- The values of an expression over rows, looked up in a dictionary. Only private clauses cite these
--- words.
-use Rattle.std.specs.Prelude.{◌≡◌, ℕ, ◌<◌, List, length, Option, Some, None}
-use Rattle.std.specs.List.{AllZip}
+-- The values of an expression over pieces of rows, and their numbers. Only private clauses cite
+-- these words.
+use Rattle.std.specs.Prelude.{◌≡◌, ℕ, ◌<◌, List, [], ◌∷◌, length, map, get_or, Option, Some, None}
+use Rattle.std.specs.List.{flat_map}
 use Rattle.rdf_core.specs.declared.term.Term.{Term}
 use Rattle.algebra_model.specs.Expression.{Expression, val}
-use Rattle.algebra_model.specs.Reading.{read_row}
+use Rattle.algebra_model.specs.Operators.{bind}
+use Rattle.algebra_model.specs.Reading.{Each, read_row}
 use Rattle.algebra_model.specs.Solution.{Solution}
 use Rattle.dict_core.specs.Dict.{term_at}
-use Rattle.dict_core.specs.declared.seen.Seen.{Seen}
-use Rattle.dict_core.specs.declared.seen.Seen.TheVariants.{Known, New}
+use Rattle.sparql_eval.specs.declared.piece_values.PieceValue.{PieceValue}
+use Rattle.sparql_eval.specs.declared.piece_values.PieceValue.TheVariants.{Error, Known, Own}
+use Rattle.sparql_eval.specs.declared.piece_values.PieceValues.{PieceValues}
 
--- the term that a value stands for, and none for an error
-abbrev pub seen_term : List Term → Option Seen → Option Term
-seen_term terms None = None
-seen_term terms (Some (Known n)) = Some (term_at terms n)
-seen_term terms (Some (New t)) = Some t
+-- the term that a value stands for, and none for an error; the lent dictionary has `terms`, and the
+-- piece's own has `own`
+abbrev pub value_term : List Term → List Term → PieceValue → Option Term
+value_term terms own Error = None
+value_term terms own (Known n) = Some (term_at terms n)
+value_term terms own (Own k) = Some (term_at own k)
 
--- a number stands for a term
-abbrev pub IsSeenIn : List Term → Option Seen → Type 0
-IsSeenIn terms None = Unit {0}
-IsSeenIn terms (Some (Known n)) = n < length terms
-IsSeenIn terms (Some (New t)) = Unit {0}
+-- its number stands for a term
+abbrev pub IsValueIn : List Term → List Term → PieceValue → Type 0
+IsValueIn terms own Error = Unit {0}
+IsValueIn terms own (Known n) = n < length terms
+IsValueIn terms own (Own k) = k < length own
 
-abbrev pub IsValueOf : List Term → Option Term → Option Seen → Type 0
-IsValueOf terms value found = IsSeenIn terms found × (seen_term terms found ≡ value)
+abbrev pub IsValueOf : List Term → List Term → Option Term → PieceValue → Type 0
+IsValueOf terms own value found = IsValueIn terms own found × (value_term terms own found ≡ value)
 
--- for each row the value of the expression
-abbrev pub AreValues : List Term → Expression → List (Solution ℕ) → List (Option Seen) → Type 0
-AreValues terms e A found = AllZip (λ μ x. IsValueOf terms (val e (read_row (term_at terms) μ)) x) A found
+-- the value of the expression for each row
+abbrev pub values_over : List Term → Expression → List (Solution ℕ) → List (Option Term)
+values_over terms e A = map (λ μ. val e (read_row (term_at terms) μ)) A
+
+-- these are the values for the rows
+abbrev pub AreValues : List Term → List Term → Expression → List (Solution ℕ) → List PieceValue → Type 0
+AreValues terms own e A found =
+    Each (IsValueIn terms own) found × (map (value_term terms own) found ≡ values_over terms e A)
+
+-- the same of a piece
+abbrev pub ArePieceValues : List Term → Expression → List (Solution ℕ) → PieceValues → Type 0
+ArePieceValues terms e A piece = AreValues terms piece.own e A piece.values.items
+
+abbrev pub IsPieceIn : List Term → PieceValues → Type 0
+IsPieceIn terms piece = Each (IsValueIn terms piece.own) piece.values.items
+
+abbrev pub piece_terms : List Term → PieceValues → List (Option Term)
+piece_terms terms piece = map (value_term terms piece.own) piece.values.items
+
+-- the same of pieces, one behind the other
+abbrev pub AreAllValues : List Term → Expression → List (Solution ℕ) → List PieceValues → Type 0
+AreAllValues terms e A pieces =
+    Each (IsPieceIn terms) pieces × (flat_map (piece_terms terms) pieces ≡ values_over terms e A)
+
+-- a value's number, where the k-th of the piece's own terms has the k-th of these numbers
+abbrev pub value_number : List ℕ → PieceValue → Option ℕ
+value_number numbers Error = None
+value_number numbers (Known n) = Some n
+value_number numbers (Own k) = Some (get_or numbers k 0)
+
+-- a number of the piece's own is below n
+abbrev pub IsOwnBelow : ℕ → PieceValue → Type 0
+IsOwnBelow n Error = Unit {0}
+IsOwnBelow n (Known m) = Unit {0}
+IsOwnBelow n (Own k) = k < n
+
+-- the rows, in each the variable bound to its number
+abbrev pub bind_each : ℕ → List (Option ℕ) → List (Solution ℕ) → List (Solution ℕ)
+bind_each v [] A = []
+bind_each v (n ∷ numbers) [] = []
+bind_each v (n ∷ numbers) (μ ∷ A) = bind v n μ ∷ bind_each v numbers A

@@ -264,7 +264,7 @@ impl<'a, R: Threads + Wait, G: Gate + Sync> Evaluator<'a, R, G> {
             r.0 r.1) }
     {
         extend(
-            self.rt, self.alloc, dict, rows, variable, expression, self.how, self.gate,
+            self.rt, self.alloc, self.state, dict, rows, variable, expression, self.how, self.gate,
         )
     }
 }

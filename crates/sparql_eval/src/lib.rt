@@ -12,9 +12,9 @@
 //! `algebra_model`.
 //!
 //! To read in this order: `copying`, `unions`, `projections`, `distinctness` (rows alone);
-//! `numbering`, `tables` (terms taken in); `reading`, `filters`, `values`, `extensions`
-//! (expressions); `patterns`, `graphs` (the index); `joins` (two lists of rows); `evaluator`,
-//! `evaluation` (a plan).
+//! `numbering`, `tables` (terms taken in); `reading`, `filters`, `piece_values`, `values`,
+//! `extensions` (expressions); `patterns`, `graphs` (the index); `joins` (two lists of rows);
+//! `evaluator`, `evaluation` (a plan).
 //!
 //! ```text
 //! { ?s p ?o OPTIONAL { ?o p ?z } }  over  x p y, y p z  =  (?s: x, ?o: y, ?z: z), (?s: y, ?o: z)
@@ -34,6 +34,7 @@ mod graphs;
 mod joins;
 mod numbering;
 mod patterns;
+mod piece_values;
 mod projections;
 mod reading;
 mod tables;
@@ -47,5 +48,8 @@ pub use filters::filter;
 pub use joins::{join, left_join, minus};
 pub use patterns::pattern;
 pub use projections::project;
+pub use row_core::Rows;
+pub use row_join::Keyed;
+pub use row_pieces::{EvalFault, How};
 pub use tables::table;
 pub use unions::union;

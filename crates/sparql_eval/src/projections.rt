@@ -43,8 +43,11 @@ fn kept_variables(alloc: Global, width: usize, variables: &[usize]) -> Result<Ve
         → get_or kept.items k false ≡ list_any (λ u. u == k) variables.now) }
 {
     let mut kept = Vec::with_capacity(alloc, width)?;
-    for v in 0..width {
-        kept.push(variables.contains(&v))?;
+    kept.resize(width, false)?;
+    for v in variables {
+        if *v < width {
+            kept[*v] = true;
+        }
     }
     Ok(kept)
 }

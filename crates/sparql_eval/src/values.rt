@@ -1,70 +1,64 @@
 //! The values of an expression over pieces of rows, side by side.
-ghost use Rattle.std.specs.Prelude.{◌≡◌, ◌≤◌, ◌-◌, Some, length, take, drop, flat_map, map, IfOk};
+ghost use Rattle.std.specs.Prelude.{◌≡◌, ◌≤◌, ◌-◌, Some, length, take, drop, IfOk, OnOk};
 ghost use Rattle.algebra_model.specs.Expression.{val};
 ghost use Rattle.algebra_model.specs.Reading.{read_row};
-ghost use Rattle.dict_core.specs.Dict.{term_at};
+ghost use Rattle.dict_core.specs.Dict.{IsGrown, term_at};
 ghost use Rattle.row_pieces.specs.How.{IsRunnable};
 ghost use Rattle.sparql_algebra.specs.ExpressionOf.{expression_of};
 ghost use Rattle.sparql_eval.specs.Evaluated.{AreKnown};
 ghost use Rattle.sparql_eval.specs.Numbered.{AreKnownAt};
-ghost use Rattle.sparql_eval.specs.Values.{AreValues, IsSeenIn, IsValueOf, seen_term};
+ghost use Rattle.sparql_eval.specs.Values.{AreAllValues, ArePieceValues, IsValueOf};
 
+use crate::numbering::number_new;
+use crate::piece_values::{PieceValue, PieceValues};
 use crate::reading::ReadRow;
-use dict_core::{Dict, Seen};
+use dict_core::Dict;
 use piece_pool::{Gate, Job, JobFault, Outcome, run_pieces};
 use rdf_core::Term;
 use row_core::Rows;
 use row_pieces::{EvalFault, How, piece_size};
 use sparql_algebra::{Expr, ExprFault, value};
 use std::alloc::{AllocError, Global};
+use std::hash::RandomState;
 use std::sync::Wait;
 use std::thread::Threads;
 
-/// The value of the expression for each row, in order: None where it is an error.
+/// The values of the expression for the rows, piece by piece in order.
 pub(crate) fn values_of<R: Threads + Wait, G: Gate + Sync>(
     rt: &R,
     alloc: Global,
+    state: RandomState,
     dict: &Dict,
     rows: &Rows,
     expression: &Expr,
     how: &How,
     gate: &G,
-) -> Result<Vec<Option<Seen>>, EvalFault>
+) -> Result<Vec<PieceValues>, EvalFault>
     requires known { AreKnown dict.now rows.now }
     requires how { IsRunnable how.now }
-    ensures values { IfOk result (λ values.
-        AreValues dict.now (expression_of expression.now) rows.now.rows values.items) }
+    ensures values { IfOk result (λ pieces. AreAllValues dict.now
+        (expression_of expression.now) rows.now.rows pieces.items) }
 {
     let count = rows.len();
     let size = piece_size(count, how.rows);
     let pieces = count.div_ceil(size) as u64;
     let job = ValueJob {
+        state,
         dict,
         rows,
         expression,
         size,
     };
     match run_pieces(rt, alloc, how.workers, pieces, &job, gate)? {
-        Outcome::All(outs) => Ok(join_values(alloc, outs)?),
+        Outcome::All(outs) => Ok(outs),
         Outcome::First { .. } => unreachable!(),
     }
-}
-
-/// The lists, one behind the other.
-fn join_values(alloc: Global, outs: Vec<Vec<Option<Seen>>>) -> Result<Vec<Option<Seen>>, AllocError>
-    ensures values { IfOk result (λ values. values.items ≡ flat_map (λ out. out.items) outs.items) }
-{
-    let mut values = Vec::new(alloc);
-    for out in outs {
-        let mut out = out;
-        values.append(&mut out)?;
-    }
-    Ok(values)
 }
 
 /// The rows, and the expression that is evaluated over pieces of `size` of them.
 #[derive(Drop)]
 struct ValueJob<'a> {
+    state: RandomState,
     dict: &'a Dict,
     rows: &'a Rows,
     expression: &'a Expr,
@@ -75,17 +69,17 @@ struct ValueJob<'a> {
 impl<'a> Job for ValueJob<'a> {
     ghost use Rattle.row_pieces.specs.Pieces.{piece_of};
     ghost use Rattle.sparql_algebra.specs.ExpressionOf.{expression_of};
-    ghost use Rattle.sparql_eval.specs.Values.{AreValues};
+    ghost use Rattle.sparql_eval.specs.Values.{ArePieceValues};
 
-    type Out = Vec<Option<Seen>>;
+    type Out = PieceValues;
 
     type Fault = ();
 
-    ghost answers = { λ job i out. AreValues job.dict.now (expression_of job.expression.now) (piece_of job.size i job.rows.now.rows) out.items };
+    ghost answers = { λ job i out. ArePieceValues job.dict.now (expression_of job.expression.now) (piece_of job.size i job.rows.now.rows) out };
 
     ghost faults = { λ _ _ _. ⊥ };
 
-    fn run(&self, alloc: Global, i: u64) -> Result<Vec<Option<Seen>>, JobFault<()>> {
+    fn run(&self, alloc: Global, i: u64) -> Result<PieceValues, JobFault<()>> {
         let count = self.rows.len();
         let from = (i as usize).saturating_mul(self.size).min(count);
         let to = from.saturating_add(self.size).min(count);
@@ -100,43 +94,54 @@ impl<'a> Job for ValueJob<'a> {
 
 impl<'a> ValueJob<'a> {
     /// The values for the rows from one place up to another.
-    fn values(&self, alloc: Global, from: usize, to: usize) -> Result<Vec<Option<Seen>>, AllocError>
+    fn values(&self, alloc: Global, from: usize, to: usize) -> Result<PieceValues, AllocError>
         requires places { (from ≤ to) × (to ≤ length self.now.rows.now.rows) }
-        ensures values { IfOk result (λ values. AreValues self.now.dict.now
+        ensures values { IfOk result (ArePieceValues self.now.dict.now
             (expression_of self.now.expression.now)
-            (take (to - from) (drop from self.now.rows.now.rows)) values.items) }
+            (take (to - from) (drop from self.now.rows.now.rows))) }
     {
+        let mut own = Dict::new(alloc, self.state)?;
         let mut values = Vec::with_capacity(alloc, to - from)?;
         for i in from..to {
             let row = ReadRow {
                 dict: self.dict,
                 row: self.rows.row(i),
             };
-            values.push(value_at(alloc, self.expression, &row)?)?;
+            values.push(value_at(alloc, &mut own, self.expression, &row)?)?;
         }
-        Ok(values)
+        Ok(PieceValues { own, values })
     }
 }
 
-/// The value for one row, as its number where the dictionary has it.
-fn value_at(alloc: Global, expression: &Expr, row: &ReadRow) -> Result<Option<Seen>, AllocError>
-    ensures value { IfOk result (λ found. IsValueOf row.now.dict.now
-        (val (expression_of expression.now) (read_row (term_at row.now.dict.now) row.now.row.now)) found) }
+/// The value for one row.
+#[tactic(auto, using(crate::proofs::ReadingLaws::grown_itself))]
+fn value_at(
+    alloc: Global,
+    own: &mut Dict,
+    expression: &Expr,
+    row: &ReadRow,
+) -> Result<PieceValue, AllocError>
+    ensures grown { OnOk result (IsGrown own.old own.new) }
+    ensures value { IfOk result (λ found. IsValueOf row.now.dict.now own.new
+        (val (expression_of expression.now) (read_row (term_at row.now.dict.now) row.now.row.now))
+        found) }
 {
     match value(alloc, expression, row) {
-        Ok(term) => Ok(Some(seen(row.dict, term))),
-        Err(ExprFault::Error) => Ok(None),
+        Ok(term) => number_term(row.dict, own, term),
+        Err(ExprFault::Error) => Ok(PieceValue::Error),
         Err(ExprFault::Memory) => Err(AllocError),
     }
 }
 
-/// A term, as its number where the dictionary has it.
-fn seen(dict: &Dict, term: Term) -> Seen
-    ensures known { IsSeenIn dict.now (Some result) }
-    ensures term { seen_term dict.now (Some result) ≡ Some term }
+/// The number of a term that is a value: the lent dictionary's where it has the term, or else that
+/// of the piece's own, which takes the term in.
+#[tactic(auto, using(crate::proofs::ReadingLaws::grown_itself, crate::proofs::ReadingLaws::number_known, crate::proofs::ReadingLaws::number_read))]
+fn number_term(dict: &Dict, own: &mut Dict, term: Term) -> Result<PieceValue, AllocError>
+    ensures grown { OnOk result (IsGrown own.old own.new) }
+    ensures value { IfOk result (λ found. IsValueOf dict.now own.new (Some term) found) }
 {
     match dict.number_of(&term) {
-        Some(number) => Seen::Known(number),
-        None => Seen::New(term),
+        Some(number) => Ok(PieceValue::Known(number)),
+        None => Ok(PieceValue::Own(number_new(own, term)?)),
     }
 }

@@ -149,7 +149,7 @@ fn answer<R: RandomSource + Threads + Wait>(
         1 => left_join(rt, alloc, state, dict, &rows, &others, &bound, how, gate)?,
         2 => minus(rt, alloc, state, dict, &rows, &others, how, gate)?,
         3 => filter(rt, alloc, dict, &rows, &bound, how, gate)?,
-        4 => extend(rt, alloc, dict, &rows, 1, &first, how, gate)?,
+        4 => extend(rt, alloc, state, dict, &rows, 1, &first, how, gate)?,
         5 => distinct(alloc, state, dict, &rows)?,
         6 => union(alloc, dict, &rows, &others)?,
         _ => project(alloc, dict, &rows, &[1])?,

@@ -57,7 +57,7 @@ impl Gate for Meeting {
 }
 
 /// `true`
-fn truth(alloc: Global) -> Result<Expr, AllocError> {
+pub(crate) fn truth(alloc: Global) -> Result<Expr, AllocError> {
     Ok(Expr::Constant(Term::Literal {
         lexical: text(alloc, "true")?,
         datatype: text(alloc, "http://www.w3.org/2001/XMLSchema#boolean")?,
@@ -83,7 +83,7 @@ fn two_workers_meet(rt: HostRuntime) -> Result<(), EvalFault> {
         let gate = Meeting::fresh();
         let (rows, dict) = match operator {
             0 => filter(&rt, alloc, dict, &left, &condition, &how, &gate)?,
-            1 => extend(&rt, alloc, dict, &left, 1, &condition, &how, &gate)?,
+            1 => extend(&rt, alloc, state, dict, &left, 1, &condition, &how, &gate)?,
             2 => join(&rt, alloc, state, dict, &left, &right, &how, &gate)?,
             3 => left_join(
                 &rt, alloc, state, dict, &left, &right, &condition, &how, &gate,

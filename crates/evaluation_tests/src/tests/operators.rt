@@ -1,8 +1,9 @@
-//! The operators that go over rows alone.
+//! The operators that go over rows alone, and what Extend takes in.
+use super::meeting::truth;
 use super::{are, dict_of, iri, rows_of, told};
+use piece_pool::OpenGate;
 use rdf_core::Term;
-use row_pieces::EvalFault;
-use sparql_eval::{distinct, project, table, union};
+use sparql_eval::{EvalFault, How, distinct, extend, project, table, union};
 use std::alloc::{AllocError, AllocGlobal, Global};
 use std::hash::RandomState;
 
@@ -60,5 +61,34 @@ fn a_projection_leaves_the_listed_variables_bound(rt: HostRuntime) -> Result<(),
     let (rows, dict) = project(alloc, dict, &rows, &[1, 7])?;
     let lines = told(alloc, &dict, &rows)?;
     assert!(rt; are(&lines, &["- a:y "]));
+    Ok(())
+}
+
+/// Three pieces compute the same term, which the dictionary lacks: it is taken in once.
+#[test]
+fn pieces_share_a_computed_term(rt: HostRuntime) -> Result<(), EvalFault> {
+    let alloc = rt.alloc();
+    let state = RandomState::new(&rt).expect(&rt, "a hash state");
+    let dict = dict_of(&rt, alloc, &["a:x", "a:y"])?;
+    let pairs = [[Some(0), None], [Some(1), None], [None, None]];
+    let rows = rows_of(alloc, &dict, &pairs)?;
+    let how = How {
+        workers: 2,
+        rows: 1,
+    };
+    let (rows, dict) = extend(
+        &rt,
+        alloc,
+        state,
+        dict,
+        &rows,
+        1,
+        &truth(alloc)?,
+        &how,
+        &OpenGate,
+    )?;
+    assert_eq!(rt; dict.len(), 3);
+    let lines = told(alloc, &dict, &rows)?;
+    assert!(rt; are(&lines, &["- true ", "a:x true ", "a:y true "]));
     Ok(())
 }

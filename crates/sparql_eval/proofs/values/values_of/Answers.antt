@@ -1,6 +1,5 @@
-use Rattle.std.proofs.Common.{◌<◌, ℕ, length, sym, subst}
+use Rattle.std.proofs.Common.{◌<◌, ℕ, length, subst}
 use Rattle.sparql_algebra.specs.ExpressionOf.{expression_of}
-use Rattle.sparql_eval.specs.Values.{AreValues}
 use Rattle.sparql_eval.proofs.ReadingLaws.{rows_known_at}
 use Rattle.sparql_eval.proofs.ValueSteps.{values_joined, enough}
 use Rattle.sparql_eval.proofs.values.values_of.Goals as goal
@@ -18,7 +17,6 @@ returns g c =
     let long = enough c.len-count.result (length rows) size c.div_ceil-pieces.result (length c.in-All.outs.items) c.piece_size-size.ensures.some
     c.len-count.ensures.value c.div_ceil-pieces.ensures all.count in
     record {
-      values = subst (AreValues terms e rows) (sym c.in_ok-join_values-in-All.ensures.values)
-          (values_joined terms e (λ out. out.items) size c.in-All.outs.items rows
-          (λ i d low. all.each i d (subst (λ (x : ℕ). i < x) all.count low)) long);
+      values = values_joined terms e size c.in-All.outs.items rows
+          (λ i d low. all.each i d (subst (λ (x : ℕ). i < x) all.count low)) long;
     }

@@ -1,6 +1,8 @@
-use Rattle.std.proofs.Common.{◌+◌, ◌-◌, take, drop, sym, subst, arith}
+use Rattle.std.proofs.Common.{◌+◌, ◌-◌, List, take, drop, sym, subst, arith}
 use Rattle.sparql_algebra.specs.ExpressionOf.{expression_of}
+use Rattle.sparql_eval.specs.declared.piece_values.PieceValue.{PieceValue}
 use Rattle.sparql_eval.specs.Values.{AreValues}
+use Rattle.sparql_eval.proofs.ReadingLaws.{grown_itself}
 use Rattle.sparql_eval.proofs.ValueSteps.{values_more}
 use Rattle.sparql_eval.proofs.values.ValueJob.values.Goals as goal
 
@@ -9,5 +11,6 @@ loop-i-preserved c =
     let terms = c.args.self.now.dict.now in
     let e = expression_of c.args.self.now.expression.now in
     let rows = c.args.self.now.rows.now.rows in
-    subst (AreValues terms e (take (c.loop-i.i + 1 - c.args.from) (drop c.args.from rows))) (sym c.in_ok-push.ensures.items)
-    (values_more terms e rows c.args.from c.loop-i.i c.row.result.now c.loop-i.values.items c.in_ok-value_at.field-0 (omega arith) c.row.ensures.found c.loop-i.invariant c.in_ok-value_at.ensures.value)
+    let later = c.value_at.new.own in
+    subst (AreValues terms later e (take (c.loop-i.i + 1 - c.args.from) (drop c.args.from rows))) (sym {A = List PieceValue} c.in_ok-push.ensures.items)
+    (values_more terms e c.loop-i.own later c.in_ok-value_at.ensures.grown (grown_itself terms) rows c.args.from c.loop-i.i c.row.result.now c.loop-i.values.items c.in_ok-value_at.field-0 (omega arith) c.row.ensures.found c.loop-i.invariant c.in_ok-value_at.ensures.value)

@@ -4,4 +4,4 @@ use Rattle.sparql_eval.specs.Values.{AreValues}
 use Rattle.sparql_eval.proofs.values.ValueJob.values.Given as goal
 
 abbrev pub invariant-loop-i : goal.invariant-loop-i
-invariant-loop-i l = AreValues l.self.dict.now (expression_of l.self.expression.now) (take (l.i - l.from) (drop l.from l.self.rows.now.rows)) l.values.items
+invariant-loop-i l = AreValues l.self.dict.now l.own (expression_of l.self.expression.now) (take (l.i - l.from) (drop l.from l.self.rows.now.rows)) l.values.items

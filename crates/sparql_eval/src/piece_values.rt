@@ -1,0 +1,97 @@
+//! The values of a piece of rows, and the numbers that the dictionary gives them.
+ghost use Rattle.std.specs.Prelude.{◌≡◌, ◌++◌, length, map, IfOk, OnOk};
+ghost use Rattle.std.specs.List.{flat_map};
+ghost use Rattle.algebra_model.specs.Reading.{Each, read_row};
+ghost use Rattle.dict_core.specs.Dict.{IsGrown, term_at};
+ghost use Rattle.sparql_eval.specs.Numbered.{IsKnownRow};
+ghost use Rattle.sparql_eval.specs.Values.{IsOwnBelow, IsPieceIn, piece_terms, value_number};
+
+use dict_core::Dict;
+use std::alloc::{AllocError, Global};
+
+/// The value of an expression for one row.
+#[derive(Clone, Copy)]
+pub(crate) enum PieceValue {
+    /// There is none: an error.
+    Error,
+    /// The number of a term that the lent dictionary has.
+    Known(u64),
+    /// The number of a term that it lacks, in the piece's own dictionary.
+    Own(u64),
+}
+
+/// The values of an expression for a piece of rows. The terms that the lent dictionary lacks stand
+/// in a dictionary of the piece's own, each once.
+#[derive(Drop)]
+pub(crate) struct PieceValues {
+    pub(crate) own: Dict,
+    pub(crate) values: Vec<PieceValue>,
+}
+
+/// The number of each row's value in the dictionary, None where the value is an error. The
+/// dictionary takes in the pieces' own terms, piece by piece in order.
+pub(crate) fn number_values(
+    alloc: Global,
+    dict: &mut Dict,
+    pieces: Vec<PieceValues>,
+) -> Result<Vec<Option<u64>>, AllocError>
+    requires known { Each (IsPieceIn dict.old) pieces.items }
+    ensures grown { OnOk result (IsGrown dict.old dict.new) }
+    ensures known { IfOk result (λ numbers. IsKnownRow dict.new numbers.items) }
+    ensures read { IfOk result (λ numbers. read_row (term_at dict.new) numbers.items
+        ≡ flat_map (piece_terms dict.old) pieces.items) }
+{
+    let mut numbers = Vec::new(alloc);
+    for piece in pieces {
+        number_piece(dict, &mut numbers, piece)?;
+    }
+    Ok(numbers)
+}
+
+/// Puts the numbers of a piece's values behind the others; the dictionary takes in its own terms.
+fn number_piece(
+    dict: &mut Dict,
+    numbers: &mut Vec<Option<u64>>,
+    piece: PieceValues,
+) -> Result<(), AllocError>
+    requires numbers { IsKnownRow dict.old numbers.old.items }
+    requires known { IsPieceIn dict.old piece }
+    ensures grown { OnOk result (IsGrown dict.old dict.new) }
+    ensures known { OnOk result (IsKnownRow dict.new numbers.new.items) }
+    ensures read { OnOk result (read_row (term_at dict.new) numbers.new.items
+        ≡ read_row (term_at dict.old) numbers.old.items ++ piece_terms dict.old piece) }
+{
+    let _distinct = dict.len();
+    let PieceValues { own, values } = piece;
+    let own_numbers = dict.absorb(own)?;
+    add_numbers(numbers, own_numbers.as_slice(), values.as_slice())?;
+    Ok(())
+}
+
+/// Puts the numbers of the values behind the others.
+fn add_numbers(
+    numbers: &mut Vec<Option<u64>>,
+    own_numbers: &[u64],
+    values: &[PieceValue],
+) -> Result<(), AllocError>
+    requires own { Each (IsOwnBelow (length own_numbers.now)) values.now }
+    ensures added { OnOk result
+        (numbers.new.items ≡ numbers.old.items ++ map (value_number own_numbers.now) values.now) }
+{
+    for value in values {
+        numbers.push(number_value(own_numbers, *value))?;
+    }
+    Ok(())
+}
+
+/// The number of a value.
+fn number_value(own_numbers: &[u64], value: PieceValue) -> Option<u64>
+    requires own { IsOwnBelow (length own_numbers.now) value }
+    ensures value { result ≡ value_number own_numbers.now value }
+{
+    match value {
+        PieceValue::Error => None,
+        PieceValue::Known(number) => Some(number),
+        PieceValue::Own(k) => Some(own_numbers[k as usize]),
+    }
+}
