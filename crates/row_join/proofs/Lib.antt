@@ -4,3 +4,4 @@ mod PairLaws
 pub mod NumberLaws
 mod TurnLaws
 mod KnownLaws
+mod ShareLaws

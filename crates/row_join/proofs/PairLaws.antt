@@ -8,7 +8,6 @@ use Rattle.algebra_model.specs.Bag.{IsSameBag}
 use Rattle.algebra_model.specs.Solution.{Solution, is_compatible, merge}
 use Rattle.algebra_model.specs.Operators.{merges, share}
 use Rattle.algebra_model.specs.Solve.{alone, left_row}
-use Rattle.algebra_model.proofs.BagLaws.{same_bag}
 use Rattle.algebra_model.specs.Keys.{may_meet}
 use Rattle.algebra_model.proofs.KeyLaws.{may_meet-covers, merges-tried, left_row-tried, apart-tried}
 use Rattle.std.proofs.lemmas.Bool.Decides.{Decides-eqb}
@@ -99,9 +98,3 @@ module _ (key : List ℕ) (μ : Solution ℕ) (rows : List (Solution ℕ)) (firs
           ∙ ap (λ (l : List (Solution ℕ)). l ++ row_if (alone nat_eq keeps both μ) μ)
           (append_assoc old (filter keeps (merges nat_eq μ (rows_at rows first))) (filter keeps (merges nat_eq μ (rows_at rows second))) ∙ ap (λ (l : List (Solution ℕ)). old ++ l) (sym kept))
           ∙ append_assoc old (filter keeps (merges nat_eq μ both)) (row_if (alone nat_eq keeps both μ) μ)
-
-  pub minus-tried : (a b : Bool) → a ≡ is_apart (rows_at rows first) μ → b ≡ is_apart (rows_at rows second) μ
-      → (old made : List (Solution ℕ)) → made ≡ old ++ row_if (a && b) μ → IsSameBag made (old ++ row_if (is_apart rows μ) μ)
-  minus-tried a b e f old made h =
-      same_bag made (old ++ row_if (is_apart rows μ) μ)
-      (h ∙ ap (λ c. old ++ row_if c μ) ((λ j. e j && f j) ∙ apart_both))

@@ -18,7 +18,8 @@ use std::sync::Wait;
 use std::thread::Threads;
 
 /// Minus: the left rows for which each right row is incompatible or shares no bound variable. The
-/// right side is hashed by variables that both sides bind, and lent to the pieces of the left side.
+/// right side is hashed by variables that both sides bind, and lent to the pieces of the left side. A
+/// left row that shares no bound variable with any right row is tried with none.
 ///
 /// # Requires
 /// Both sides have the same width, and `how` keeps its limits.
@@ -66,12 +67,27 @@ impl Pairing for Remainder {
         buffers: &mut Buffers,
         made: &mut Rows,
     ) -> Result<(), AllocError> {
-        let tried = right.tried(row, &mut buffers.numbers)?;
-        if is_apart(row, right.rows, tried.first) && is_apart(row, right.rows, tried.second) {
+        if stays(row, right, &mut buffers.numbers)? {
             made.push(row)?;
         }
         Ok(())
     }
+}
+
+/// Whether no right row takes the left row away. None does, and none is tried, where it shares no bound
+/// variable with any of them.
+///
+/// # Errors
+/// `AllocError`: a growth was refused.
+fn stays(row: &[Option<u64>], right: &RightSide, numbers: &mut Vec<u64>) -> Result<bool, AllocError>
+    requires wide { length row.now ≡ right.now.rows.now.width }
+    ensures value { IfOk result (λ answer. answer ≡ is_apart right.now.rows.now.rows row.now) }
+{
+    if !right.shares(row) {
+        return Ok(true);
+    }
+    let tried = right.tried(row, numbers)?;
+    Ok(is_apart(row, right.rows, tried.first) && is_apart(row, right.rows, tried.second))
 }
 
 /// Whether each of the rows at these places is incompatible with the row, or shares no variable

@@ -9,8 +9,9 @@
 //! (`numbers`). The condition of a left join is a [`RowTest`]. [`Keyed`] tells the places of the rows
 //! that bind some variables to given numbers, and of those that leave one of them unbound.
 //!
-//! With a key that every row has, the time is linear in the rows that go in, the pairs with one key
-//! and the rows that come out; sides that share no variable are a cross product.
+//! Where some variable is bound in all rows of both sides but a few, the time is linear in the rows that
+//! go in, the pairs with one key and the rows that come out. A join or left join of sides that share no
+//! variable is a cross product; in a minus, no pair of such sides is looked at.
 //!
 //! Standard: SPARQL 1.1 Query Language, section 18.5.
 //!

@@ -1,26 +1,32 @@
 //! The right side of a join: rows that are keyed once, and lent to all pieces of the left side.
-ghost use Rattle.std.specs.Prelude.{◌≡◌, ◌<◌, ◌++◌, ℕ, All, IfOk, filter, length, nat_eq};
+ghost use Rattle.std.specs.Prelude.{◌≡◌, ◌<◌, ◌++◌, ℕ, All, IfOk, None, filter, get_or, is_some, length, nat_eq};
 ghost use Rattle.std.specs.List.{range_with_len};
 ghost use Rattle.algebra_model.specs.Bag.{IsSameBag};
 ghost use Rattle.algebra_model.specs.Keys.{may_meet};
+ghost use Rattle.row_join.specs.Pairing.{binds, shares_some};
 ghost use Rattle.row_join.specs.Places.{IsTableOf, rows_at};
 
-use crate::key_choice::key_of;
+use crate::key_choice::{is_ever_bound, key_of};
 use crate::keyed::{Keyed, read_key};
-use row_core::Rows;
+use row_core::{Rows, shares};
 use std::alloc::{AllocError, Global};
 use std::hash::RandomState;
 
-/// The rows of the right side, their places by a key, and all their places.
+/// The rows of the right side, their places by a key, all their places, and a row that binds what some
+/// of them binds.
 #[derive(Drop)]
 pub(crate) struct RightSide<'r> {
     pub(crate) rows: &'r Rows,
     key: Vec<usize>,
     keyed: Keyed,
     all: Vec<usize>,
+    bound: Vec<Option<u64>>,
     ghost below: { All (λ v. v < rows.now.width) key.items },
     ghost table: { IsTableOf key.items rows.now.rows keyed },
     ghost each: { all.items ≡ range_with_len 0 (length rows.now.rows) },
+    ghost bound_wide: { length bound.items ≡ rows.now.width },
+    ghost covers: { (v : ℕ) → v < rows.now.width
+        → is_some (get_or bound.items v None) ≡ binds rows.now.rows v },
 }
 
 /// The places of right rows that a left row is tried with, in two lists.
@@ -41,6 +47,19 @@ fn places_of(alloc: Global, count: usize) -> Result<Vec<usize>, AllocError>
     Ok(places)
 }
 
+/// A row that binds the variables that some of the rows binds, each to 0.
+fn bound_by_some(alloc: Global, rows: &Rows) -> Result<Vec<Option<u64>>, AllocError>
+    ensures wide { IfOk result (λ row. length row.items ≡ rows.now.width) }
+    ensures bound { IfOk result (λ row. (v : ℕ) → v < rows.now.width
+        → is_some (get_or row.items v None) ≡ binds rows.now.rows v) }
+{
+    let mut row = Vec::new(alloc);
+    for v in 0..rows.width() {
+        row.push(is_ever_bound(rows, v).then_some(0))?;
+    }
+    Ok(row)
+}
+
 impl<'r> RightSide<'r> {
     /// The rows by the values of variables that both sides bind.
     ///
@@ -58,12 +77,22 @@ impl<'r> RightSide<'r> {
         let key = key_of(alloc, left, rows)?;
         let keyed = Keyed::build(alloc, state, rows, &key)?;
         let all = places_of(alloc, rows.len())?;
+        let bound = bound_by_some(alloc, rows)?;
         Ok(RightSide {
             rows,
             key,
             keyed,
             all,
+            bound,
         })
+    }
+
+    /// Whether the left row shares a bound variable with some right row.
+    pub(crate) fn shares(&self, row: &[Option<u64>]) -> bool
+        requires wide { length row.now ≡ self.now.rows.now.width }
+        ensures value { result ≡ shares_some self.now.rows.now.rows row.now }
+    {
+        shares(row, &self.bound)
     }
 
     /// The right rows that a left row is tried with: where it binds all variables of the key, those

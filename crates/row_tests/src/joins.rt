@@ -124,6 +124,63 @@ fn minus_keeps_what_shares_nothing(rt: HostRuntime) -> Result<(), EvalFault> {
 }
 
 #[test]
+fn a_row_that_leaves_a_shared_variable_open_meets_all_others(
+    rt: HostRuntime,
+) -> Result<(), EvalFault> {
+    let alloc = rt.alloc();
+    let state = RandomState::new(&rt).expect(&rt, "a hash state");
+    let cut = How {
+        workers: 2,
+        rows: 1,
+    };
+    let mut left = two(alloc, [Some(1), Some(1)], [Some(1), Some(2)])?;
+    left.push(&[Some(1), Some(3)])?;
+    let mut right = two(alloc, [Some(1), Some(1)], [Some(1), Some(2)])?;
+    right.push(&[Some(1), None])?;
+    let rows = join(&rt, alloc, state, &left, &right, &cut, &OpenGate)?;
+    assert_eq!(rt; rows.len(), 5);
+    assert_eq!(rt; count(&rows, [Some(1), Some(1)]), 2);
+    assert_eq!(rt; count(&rows, [Some(1), Some(2)]), 2);
+    assert_eq!(rt; count(&rows, [Some(1), Some(3)]), 1);
+    Ok(())
+}
+
+#[test]
+fn minus_without_a_shared_variable_keeps_all(rt: HostRuntime) -> Result<(), EvalFault> {
+    let alloc = rt.alloc();
+    let state = RandomState::new(&rt).expect(&rt, "a hash state");
+    let cut = How {
+        workers: 2,
+        rows: 1,
+    };
+    let left = two(alloc, [Some(1), None], [Some(2), None])?;
+    let right = two(alloc, [None, Some(1)], [None, Some(2)])?;
+    let rows = minus(&rt, alloc, state, &left, &right, &cut, &OpenGate)?;
+    assert_eq!(rt; rows.len(), 2);
+    assert_eq!(rt; count(&rows, [Some(1), None]), 1);
+    assert_eq!(rt; count(&rows, [Some(2), None]), 1);
+    Ok(())
+}
+
+#[test]
+fn minus_by_variables_that_some_rows_bind(rt: HostRuntime) -> Result<(), EvalFault> {
+    let alloc = rt.alloc();
+    let state = RandomState::new(&rt).expect(&rt, "a hash state");
+    let whole = How {
+        workers: 1,
+        rows: 100,
+    };
+    let mut left = two(alloc, [Some(1), None], [None, Some(7)])?;
+    left.push(&[Some(2), Some(7)])?;
+    let right = two(alloc, [Some(1), None], [None, Some(8)])?;
+    let rows = minus(&rt, alloc, state, &left, &right, &whole, &OpenGate)?;
+    assert_eq!(rt; rows.len(), 2);
+    assert_eq!(rt; count(&rows, [None, Some(7)]), 1);
+    assert_eq!(rt; count(&rows, [Some(2), Some(7)]), 1);
+    Ok(())
+}
+
+#[test]
 fn rows_stand_under_their_key_or_apart(rt: HostRuntime) -> Result<(), AllocError> {
     let alloc = rt.alloc();
     let state = RandomState::new(&rt).expect(&rt, "a hash state");

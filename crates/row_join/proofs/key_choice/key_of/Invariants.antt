@@ -3,6 +3,6 @@ use Rattle.row_join.proofs.key_choice.key_of.Given as goal
 
 abbrev pub invariant-loop-v : goal.invariant-loop-v
 invariant-loop-v l = record {
-  always : All (λ v. v < l.left.width) l.always.items;
-  ever : All (λ v. v < l.left.width) l.ever.items;
+  closed : All (λ v. v < l.left.width) l.closed.items;
+  shared : All (λ v. v < l.left.width) l.shared.items;
 }

@@ -1,6 +1,0 @@
-use Rattle.std.proofs.Common.{◌≡◌, take, true, get_or, is_some, None}
-use Rattle.std.specs.List.{list_all}
-use Rattle.row_join.proofs.key_choice.is_always_bound.Given as goal
-
-abbrev pub invariant-loop-i : goal.invariant-loop-i
-invariant-loop-i l = list_all (λ μ. is_some (get_or μ l.variable None)) (take l.i l.rows.rows) ≡ true
