@@ -1,9 +1,8 @@
 -- Lines of a document that lies in pieces, and what they spell.
-use Rattle.std.proofs.Common.{◌≡◌, ℕ, zero, suc, ◌+◌, ◌<◌, ◌≤◌, List, [], ◌∷◌, ◌++◌, length, take, refl, sym, ap, ◌∙◌, subst, append_assoc, append-nil, length-append, arith}
+use Rattle.std.proofs.Common.{◌≡◌, ℕ, zero, suc, ◌+◌, List, [], ◌∷◌, ◌++◌, length, refl, sym, ap, ◌∙◌, subst, append_assoc, append-nil, arith}
 use Rattle.std.specs.Prelude.{option_to_list}
-use Rattle.std.specs.List.{flat_map, slice_index_or}
 use Rattle.rdf_core.specs.QuadParts.{QuadParts}
-use Rattle.nquads_core.specs.Lines.{lines, EndsLine}
+use Rattle.nquads_core.specs.Lines.{lines}
 use Rattle.nquads_core.specs.Pieces.{SpellAll, IsFirstBad}
 use Rattle.nquads_core.proofs.LineEnds.{lines_join}
 use Rattle.dataset_load.specs.Lines.{AreWholeLines, all_lines, joined}

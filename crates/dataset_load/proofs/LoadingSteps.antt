@@ -1,7 +1,7 @@
 -- The pieces of a document, and its store.
-use Rattle.std.proofs.Common.{◌≡◌, ℕ, zero, suc, ◌+◌, ◌<◌, ◌≤◌, List, [], ◌∷◌, ◌++◌, length, get_or, take, map, slice_get, Option, Some, IsPermutation, refl, sym, ap, ◌∙◌, subst, inr, arith, nat_eq}
+use Rattle.std.proofs.Common.{◌≡◌, ℕ, ◌+◌, ◌<◌, List, [], ◌∷◌, ◌++◌, length, get_or, take, map, Option, IsPermutation, refl, sym, ap, ◌∙◌, subst, inr, arith}
 use Rattle.std.specs.Option.{unwrap_or}
-use Rattle.std.specs.List.{flat_map, filter_map, slice_index_or}
+use Rattle.std.specs.List.{filter_map}
 use Rattle.std.proofs.lemmas.List.{take_more, take_all}
 use Rattle.std.proofs.lemmas.Option.{slice_get_within, unwrap_or-slice_get}
 use Rattle.std.proofs.lemmas.List.Sorted.{IsPermutation-refl, IsPermutation-sym, IsPermutation-trans}
@@ -18,10 +18,9 @@ use Rattle.dict_core.specs.declared.num_quad.NumQuad.{NumQuad}
 use Rattle.dict_core.specs.Dict.{term_at}
 use Rattle.dict_core.specs.NumQuad.{quads_at}
 use Rattle.dict_core.proofs.NumQuadLaws.{quad_eq}
-use Rattle.quad_index.specs.Matching.{graph_names}
 use Rattle.quad_index.proofs.ReadingLaws.{index_reads, index_counts, index_names}
-use Rattle.dataset_load.specs.Lines.{all_lines, joined, AreWholeLines}
-use Rattle.dataset_load.specs.Store.{StoreView, names_in}
+use Rattle.dataset_load.specs.Lines.{all_lines, AreWholeLines}
+use Rattle.dataset_load.specs.Store.{names_in}
 use Rattle.dataset_load.specs.Loaded.{IsLoaded}
 use Rattle.dataset_load.specs.Reading.{AreNumbered}
 use Rattle.dataset_load.proofs.LineLaws.{lines_of_pieces}

@@ -1,12 +1,12 @@
 -- Blocks that are read one after the other.
-use Rattle.std.proofs.Common.{◌≡◌, ℕ, suc, ◌+◌, ◌-◌, ◌<◌, ◌≤◌, Bool, true, List, [], ◌∷◌, ◌++◌, length, get_or, take, map, Option, Some, None, IfSome, Ok, Vec, Global, refl, sym, ap, ◌∙◌, subst, append_assoc, append-nil, length-append, inl, inr, ◌⊎◌, arith, rules}
-use Rattle.std.specs.List.{flat_map, slice_index_or}
-use Rattle.std.proofs.lemmas.List.{take_more, take_all, map-append, length-map, get_or_append_left}
+use Rattle.std.proofs.Common.{◌≡◌, ℕ, ◌+◌, ◌-◌, ◌<◌, ◌≤◌, List, [], ◌∷◌, ◌++◌, length, get_or, take, Option, Some, None, IfSome, Ok, Vec, Global, refl, sym, ap, ◌∙◌, subst, append_assoc, append-nil, length-append, inl, inr, ◌⊎◌, arith, rules}
+use Rattle.std.specs.List.{slice_index_or}
+use Rattle.std.proofs.lemmas.List.{take_more, take_all, map-append, get_or_append_left}
 use Rattle.std.proofs.lemmas.Grind.{flat_map-append}
 use Rattle.std.specs.Io.KnownBytes.{Consumes, IsAtEnd}
 use Rattle.nquads_core.specs.Lines.{EndsLine}
 use Rattle.piece_cuts.specs.Blocks.{BothKnown, GivesKnownBlock, IsFirstPiece, IsWhole}
-use Rattle.piece_cuts.specs.Laws.{EndsWithLineFeed, FirstPieceThenTheRest, pieces_of}
+use Rattle.piece_cuts.specs.Laws.{EndsWithLineFeed, FirstPieceThenTheRest}
 use Rattle.dataset_load.specs.Lines.{AreBlocksOf, AreWholeLines, block_texts, joined}
 
 pub whole_from_last : (bytes : List ℕ) → 0 < length bytes → get_or bytes (length bytes - 1) 0 ≡ 10 → EndsWithLineFeed bytes
@@ -81,6 +81,12 @@ read_step (Some xs) None c done done' kept kept' size block h k e = absurd h
 read_step (Some xs) (Some ys) None done done' kept kept' size block h k e = absurd k
 read_step (Some xs) (Some ys) (Some zs) done done' kept kept' size block h k e =
     h ∙ ap (λ bs. done ++ bs) k.1.joined ∙ sym (append_assoc done block.items (kept' ++ zs)) ∙ ap (λ bs. bs ++ (kept' ++ zs)) (sym e)
+
+-- what was read and what is kept are a beginning of what there was
+pub read_front : (a b : Option (List ℕ)) (done kept : List ℕ) → IsReadIn a b done kept → Consumes a b (done ++ kept)
+read_front None b done kept h = tt
+read_front (Some xs) None done kept h = absurd h
+read_front (Some xs) (Some ys) done kept h = h ∙ sym (append_assoc done kept ys)
 
 -- nothing is kept and nothing is left
 pub read_all : (a b c : Option (List ℕ)) (done kept kept' : List ℕ) (size : ℕ)

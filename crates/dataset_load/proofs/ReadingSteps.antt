@@ -1,6 +1,6 @@
 -- Rounds of pieces, one after the other.
 use Rattle.std.proofs.Common.{◌≡◌, ℕ, zero, suc, ◌+◌, ◌-◌, ◌<◌, ◌≤◌, List, [], ◌∷◌, ◌++◌, length, take, drop, refl, sym, ap, ◌∙◌, subst, append_assoc, length-append, arith}
-use Rattle.std.specs.List.{flat_map, slice_index_or, slice_range, AllZip}
+use Rattle.std.specs.List.{slice_index_or, slice_range, AllZip}
 use Rattle.std.proofs.Math.Seq.{take-append-add}
 use Rattle.std.proofs.lemmas.List.{take-append-le, map-append, length-map, append-nil, take-map, length-drop}
 use Rattle.std.proofs.lemmas.List.Folds.{drop_split}

@@ -1,5 +1,5 @@
 -- Pieces that are read side by side, and then taken in. Only private clauses cite these words.
-use Rattle.std.specs.Prelude.{◌≡◌, ℕ, zero, suc, ◌==◌, List, [], ◌∷◌, IsSorted, IsPermutation, if◌then◌else◌}
+use Rattle.std.specs.Prelude.{ℕ, zero, suc, ◌==◌, List, [], ◌∷◌, IsSorted, IsPermutation, if◌then◌else◌}
 use Rattle.rdf_core.specs.declared.term.Term.{Term}
 use Rattle.rdf_core.specs.QuadParts.{QuadParts}
 use Rattle.nquads_core.specs.Lines.{lines}

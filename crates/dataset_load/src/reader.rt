@@ -1,7 +1,7 @@
 //! A document that is read in blocks of whole lines.
-ghost use Rattle.std.specs.Prelude.{◌≡◌, ◌≤◌, true, IfOk, IfSome, OnOk};
+ghost use Rattle.std.specs.Prelude.{◌≡◌, ◌≤◌, true, IfOk, IfSome, OnErr, OnOk};
 ghost use Rattle.std.specs.Io.KnownBytes.{Consumes, IsAtEnd};
-ghost use Rattle.nquads_core.specs.Transfer.{CountsRead};
+ghost use Rattle.nquads_core.specs.Transfer.{CountsRead, IsReadInPart};
 ghost use Rattle.piece_cuts.specs.Laws.{EndsWithLineFeed};
 ghost use Rattle.dataset_load.specs.Lines.{AreBlocksOf, AreWholeLines, block_texts, joined};
 
@@ -31,6 +31,7 @@ pub fn read_blocks<S: Source>(
     ensures pieces { IfOk result (λ blocks. IfSome (S.left reader.old)
         (λ text. AreBlocksOf size text (block_texts blocks.items))) }
     ensures at_end { OnOk result (IsAtEnd (S.left reader.new)) }
+    ensures taken { OnErr result (IsReadInPart (S.left reader.old) (S.left reader.new)) }
     ensures count { CountsRead (S.failures reader.old) (S.failures reader.new) result }
 {
     first_piece_then_the_rest();

@@ -19,6 +19,21 @@ pub(crate) const GRAPHS: &[u8] =
 pub(crate) const BAD: &[u8] =
     b"<http://e/a> <http://e/p> <http://e/b> .\r\n# c\n<http://e/a> <http://e/p> .\nx\n";
 
+/// No blanks, escapes, and a tag in capitals.
+pub(crate) const TWO_LINES: &[u8] =
+    b"<http://e/a><http://e/p>_:b.\n_:b <http://e/q> \"\\u00e9\\n\"@EN .\n";
+
+/// Three things of one kind, with numbers, of which the last is ill-formed.
+pub(crate) const TYPED: &[u8] =
+    b"<http://e/a> <http://e/t> <http://e/k> .\n<http://e/b> <http://e/t> <http://e/k> .\n<http://e/c> <http://e/t> <http://e/k> .\n<http://e/a> <http://e/n> \"2\"^^<http://www.w3.org/2001/XMLSchema#integer> .\n<http://e/b> <http://e/n> \"5\"^^<http://www.w3.org/2001/XMLSchema#integer> .\n<http://e/c> <http://e/n> \"abc\"^^<http://www.w3.org/2001/XMLSchema#integer> .\n";
+
+/// Two things of one kind, one with a number, and two numbers of something else.
+pub(crate) const NUMBERED: &[u8] =
+    b"<http://e/a> <http://e/t> <http://e/k> .\n<http://e/b> <http://e/t> <http://e/k> .\n<http://e/a> <http://e/n> \"1\" .\n<http://e/z> <http://e/m> \"1\" .\n<http://e/z> <http://e/m> \"2\" .\n";
+
+/// A literal with a tag.
+pub(crate) const TAGGED: &[u8] = b"<http://e/a> <http://e/p> \"x\"@en .\n";
+
 /// The document, cut into pieces of at least so many bytes.
 fn loaded<R: Threads + Wait + RandomSource>(
     rt: &R,
@@ -71,6 +86,10 @@ fn are_right<R: Threads + Wait + RandomSource>(
 {
     counts(loaded(rt, alloc, REPEATED, size, workers)) == Ok((2, 4, 0))
         && counts(loaded(rt, alloc, GRAPHS, size, workers)) == Ok((3, 7, 2))
+        && counts(loaded(rt, alloc, TWO_LINES, size, workers)) == Ok((2, 5, 0))
+        && counts(loaded(rt, alloc, TYPED, size, workers)) == Ok((6, 9, 0))
+        && counts(loaded(rt, alloc, NUMBERED, size, workers)) == Ok((5, 9, 0))
+        && counts(loaded(rt, alloc, TAGGED, size, workers)) == Ok((1, 3, 0))
         && counts(loaded(rt, alloc, BAD, size, workers)) == Err(LoadFault::BadLine(3))
         && counts(loaded(rt, alloc, b"", size, workers)) == Ok((0, 0, 0))
 }
@@ -102,13 +121,12 @@ fn blocks_load_as_the_document(rt: HostRuntime) {
 }
 
 #[test]
-fn a_store_lends_its_parts(rt: HostRuntime) {
-    let Ok(store) = loaded(&rt, rt.alloc(), GRAPHS, 1, 2) else {
-        return;
-    };
+fn a_store_lends_its_parts(rt: HostRuntime) -> Result<(), LoadFault> {
+    let store = loaded(&rt, rt.alloc(), GRAPHS, 1, 2)?;
     assert!(rt; store.dict().len() == 7, "its terms");
     assert!(rt; store.index().quads() == 3, "its quads");
     let (dict, index) = store.into_parts();
     assert!(rt; dict.len() == 7, "the same terms");
     assert!(rt; index.graphs().len() == 2, "the same graphs");
+    Ok(())
 }

@@ -4,6 +4,7 @@ use Rattle.std.proofs.lemmas.List.{append-nil, take_all, length-drop}
 use Rattle.std.specs.Io.KnownBytes.{Consumes, Appends, Keeps}
 use Rattle.std.proofs.Math.Seq.{take-add}
 use Rattle.nquads_core.specs.Device.{Stays, Rises}
+use Rattle.nquads_core.specs.Transfer.{IsReadInPart}
 
 pub Consumes-more : (a b c : Option (List ℕ)) (xs ys : List ℕ) → Consumes a b xs → Consumes b c ys → Consumes a c (xs ++ ys)
 Consumes-more None b c xs ys h k = tt
@@ -14,6 +15,21 @@ Consumes-more (Some a) (Some b) (Some c) xs ys h k = h ∙ ap (λ zs. xs ++ zs) 
 pub Consumes-start : (a : Option (List ℕ)) → Consumes a a []
 Consumes-start None = tt
 Consumes-start (Some a) = refl
+
+pub Consumes-kept : (a b : Option (List ℕ)) → Keeps a b → Consumes a b []
+Consumes-kept None b h = tt
+Consumes-kept (Some a) None h = absurd h
+Consumes-kept (Some a) (Some b) h = sym h
+
+-- what was taken before an Err is a beginning
+pub in-part-none : (a : Option (List ℕ)) → IsReadInPart a a
+in-part-none a = record { taken = []; consumed = Consumes-start a }
+
+pub in-part-kept : (a b : Option (List ℕ)) → Keeps a b → IsReadInPart a b
+in-part-kept a b h = record { taken = []; consumed = Consumes-kept a b h }
+
+pub in-part-more : (a b c : Option (List ℕ)) (xs : List ℕ) → Consumes a b xs → IsReadInPart b c → IsReadInPart a c
+in-part-more a b c xs h k = record { taken = xs ++ k.taken; consumed = Consumes-more a b c xs k.taken h k.consumed }
 
 pub Appends-more : (a b c : Option (List ℕ)) (xs ys : List ℕ) → Appends a b xs → Appends b c ys → Appends a c (xs ++ ys)
 Appends-more None b c xs ys h k = tt

@@ -15,6 +15,11 @@ pub record ReadsMore (left left' : Option (List ℕ)) (old new : List ℕ) (n : 
   pub consumed : Consumes left left' added
   pub at_end : n ≡ 0 → IsAtEnd left'
 
+-- A beginning of what was left was taken: perhaps none of it, and perhaps all.
+pub record IsReadInPart (left left' : Option (List ℕ)) : Type 0 where
+  pub taken : List ℕ
+  pub consumed : Consumes left left' taken
+
 -- The count of failures rises exactly where the reader failed.
 abbrev pub CountsRead : {T : Type 0} → Option ℕ → Option ℕ → Result T ReadFault → Type 0
 CountsRead old new (Ok v) = Stays old new

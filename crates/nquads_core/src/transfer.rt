@@ -2,7 +2,7 @@
 ghost use Rattle.std.specs.Prelude.{◌≡◌, IfOk, OnOk, OnErr, ◌⊎◌};
 ghost use Rattle.std.specs.Io.KnownBytes.{Appends, Consumes, IsAtEnd};
 ghost use Rattle.nquads_core.specs.Device.{Stays, Rises};
-ghost use Rattle.nquads_core.specs.Transfer.{CountsRead, ReadsMore, TookNone, WroteBeginning};
+ghost use Rattle.nquads_core.specs.Transfer.{CountsRead, IsReadInPart, ReadsMore, TookNone, WroteBeginning};
 
 use crate::device::{DeviceFailed, Sink, Source};
 use std::alloc::Global;
@@ -25,6 +25,7 @@ pub enum ReadFault {
 pub fn read_to_end<S: Source>(alloc: Global, reader: &mut S) -> Result<Vec<u8>, ReadFault>
     ensures bytes { IfOk result (λ bytes. Consumes (S.left reader.old) (S.left reader.new) bytes.items) }
     ensures at_end { OnOk result (IsAtEnd (S.left reader.new)) }
+    ensures taken { OnErr result (IsReadInPart (S.left reader.old) (S.left reader.new)) }
     ensures count { CountsRead (S.failures reader.old) (S.failures reader.new) result }
 {
     let mut bytes = Vec::new(alloc);
@@ -47,6 +48,7 @@ pub fn read_more<S: Source>(reader: &mut S, bytes: &mut Vec<u8>) -> Result<usize
     ensures more { IfOk result
         (ReadsMore (S.left reader.old) (S.left reader.new) bytes.old.items bytes.new.items) }
     ensures refused { OnErr result (bytes.new.items ≡ bytes.old.items) }
+    ensures taken { OnErr result (IsReadInPart (S.left reader.old) (S.left reader.new)) }
     ensures count { CountsRead (S.failures reader.old) (S.failures reader.new) result }
 {
     let mut chunk = [0u8; 8192];

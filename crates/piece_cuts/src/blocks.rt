@@ -1,7 +1,7 @@
 //! A document that is read bit by bit, in blocks.
-ghost use Rattle.std.specs.Prelude.{◌≡◌, ◌≤◌, ◌⊎◌, [], IfOk, MatchOption};
+ghost use Rattle.std.specs.Prelude.{◌≡◌, ◌≢◌, ◌≤◌, ◌⊎◌, [], IfOk, MatchOption, OnErr};
 ghost use Rattle.std.specs.Io.KnownBytes.{IsAtEnd};
-ghost use Rattle.nquads_core.specs.Transfer.{CountsRead};
+ghost use Rattle.nquads_core.specs.Transfer.{CountsRead, IsReadInPart};
 ghost use Rattle.piece_cuts.specs.Blocks.{Grows, IsClear};
 ghost use Rattle.piece_cuts.specs.Cuts.{IsNextCut, HasNoNextCut};
 
@@ -75,7 +75,8 @@ impl Blocks {
     /// - `Read`: the reader failed in this call, or in the one that first answered so.
     /// - `Memory`: a growth was refused, in this call or in the one that first answered so.
     ///
-    /// Each later call answers the same fault. Bytes that were read and not given are lost.
+    /// Each later call answers the same fault, and reads nothing. Bytes that were read and not given
+    /// are lost.
     pub fn next<S: Source>(&mut self, reader: &mut S) -> Result<Option<Vec<u8>>, ReadFault>
         ensures size { self.new.size ≡ self.old.size }
         ensures block { self.old.state ≡ BlockState.Reading → GivesKnownBlock self.old.size
@@ -83,8 +84,11 @@ impl Blocks {
         ensures last { self.old.state ≡ BlockState.Reading → IfOk result
             (λ block. IsWhole block ⊎ IsAtEnd (S.left reader.new)) }
         ensures state { self.old.state ≡ BlockState.Reading → self.new.state ≡ state_after result }
+        ensures taken { self.old.state ≡ BlockState.Reading
+            → OnErr result (IsReadInPart (S.left reader.old) (S.left reader.new)) }
         ensures count { self.old.state ≡ BlockState.Reading
             → CountsRead (S.failures reader.old) (S.failures reader.new) result }
+        ensures unread { self.old.state ≢ BlockState.Reading → reader.new ≡ reader.old }
         ensures ended { self.old.state ≡ BlockState.Ended
             → (result ≡ Ok None) × (self.new ≡ self.old) }
         ensures failed { (fault : _) → self.old.state ≡ BlockState.Failed fault
@@ -101,7 +105,8 @@ impl Blocks {
                     self.state = BlockState::Failed(ReadFault::Memory);
                     return Err(ReadFault::Memory);
                 };
-                let block = mem::replace(&mut self.kept, rest);
+                let mut block = mem::replace(&mut self.kept, rest);
+                block.shrink_to_fit();
                 Ok(Some(block))
             }
             Ok(None) => {
@@ -133,6 +138,7 @@ fn first_cut<S: Source>(
     ensures cut { IfOk result (λ r. MatchOption r
         (HasNoNextCut kept.new.items size 0 × IsAtEnd (S.left reader.new))
         (IsNextCut kept.new.items size 0)) }
+    ensures taken { OnErr result (IsReadInPart (S.left reader.old) (S.left reader.new)) }
     ensures count { CountsRead (S.failures reader.old) (S.failures reader.new) result }
 {
     let mut searched = size;

@@ -21,8 +21,8 @@ impl Model for Cuts {
 }
 
 impl Cuts {
-    /// Cuts just behind each line feed that makes a piece of at least `size` bytes, the last line
-    /// feed of the document aside, so that no piece is empty.
+    /// Cuts just behind each line feed that makes a piece of at least `size` bytes. A line feed that
+    /// ends the document is no cut, so no piece is empty but the one of an empty document.
     ///
     /// # Requires
     /// `size` is 1 or more.

@@ -131,6 +131,21 @@ fn blocks_are_the_pieces(rt: HostRuntime) -> Result<(), AllocError> {
     Ok(())
 }
 
+/// A block keeps no room for what was read with it.
+#[test]
+fn a_block_has_room_for_its_own_bytes(rt: HostRuntime) -> Result<(), AllocError> {
+    let mut reader = source(DOCUMENT, 100);
+    let mut blocks = Blocks::new(rt.alloc(), 1)?;
+    match blocks.next(&mut reader) {
+        Ok(Some(block)) => {
+            assert!(rt; block.as_slice() == b"a\n".as_slice());
+            assert_eq!(rt; block.capacity(), 2);
+        }
+        _ => assert!(rt; false),
+    }
+    Ok(())
+}
+
 #[test]
 fn a_fault_is_repeated(rt: HostRuntime) -> Result<(), AllocError> {
     let mut reader = source(DOCUMENT, 3);

@@ -72,7 +72,7 @@ fn is_refused<R: Print>(rt: &R, given: &Result<Vec<u8>, Fault>) -> bool {
 }
 
 /// Whether a query has this answer, or is refused and has it at a second try, by one worker and by
-/// two; and each piece that entered the gate left it.
+/// two; and after each of these tries, each piece that entered the gate has left it.
 fn has_answer<R: Threads + Wait + RandomSource + Print>(
     rt: &R,
     alloc: Global,
@@ -87,6 +87,9 @@ fn has_answer<R: Threads + Wait + RandomSource + Print>(
         };
         let mut given = by_lines(rt, alloc, doc.as_bytes(), query, workers, &gate);
         if is_refused(rt, &given) {
+            if !gate.is_balanced() {
+                return false;
+            }
             given = by_lines(rt, alloc, doc.as_bytes(), query, workers, &gate);
         }
         let Ok(bytes) = given else {

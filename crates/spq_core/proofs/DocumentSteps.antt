@@ -5,6 +5,7 @@ use Rattle.std.proofs.lemmas.List.Sorted.{length_permutation}
 use Rattle.std.specs.Io.KnownBytes.{Consumes, IsAtEnd}
 use Rattle.rdf_core.specs.declared.term.Term.{Term}
 use Rattle.nquads_core.specs.Lines.{lines}
+use Rattle.nquads_core.specs.Transfer.{IsReadInPart}
 use Rattle.algebra_model.specs.Bag.{without_repeats}
 use Rattle.algebra_model.specs.Dataset.{names}
 use Rattle.dict_core.specs.Appearances.{terms_of, first_appearances}
@@ -21,7 +22,7 @@ use Rattle.sparql_tree.specs.QueryTree.{QueryTree}
 use Rattle.sparql_read.specs.Refusal.{IsRead}
 use Rattle.sparql_algebra.specs.Names.{selected_names}
 use Rattle.spq_core.specs.Outcome.{rows}
-use Rattle.spq_core.specs.Output.{check, select, terms}
+use Rattle.spq_core.specs.Output.{Request, check, select, terms}
 use Rattle.result_json.specs.Results.{json}
 use Rattle.spq_core.proofs.AnsweringSteps.{answered}
 use Rattle.spq_core.specs.Run.{IfBadLine, IfQuery, IsBadLineFrom, IsBadLineOf, IsComposed, IsLoadedFrom, IsOfComposing, IsOfDocument}
@@ -67,6 +68,14 @@ composed_select set one left left' query q store text r h e = record {
   at_end = h.at_end;
   output = record { query = q; read = r; answered = answered set one q h.doc store text h.loaded e };
 }
+
+-- ---- what was taken of the reader, where a fault comes after all was read
+
+pub part_loaded : (left left' : Option (List ℕ)) (store : StoreView) → IsLoadedFrom left left' store → IsReadInPart left left'
+part_loaded left left' store h = record { taken = h.doc; consumed = h.consumed }
+
+pub part_composed : (request : Request) (left left' : Option (List ℕ)) (text : List ℕ) → IsComposed request left left' text → IsReadInPart left left'
+part_composed request left left' text h = record { taken = h.doc; consumed = h.consumed }
 
 pub bad_select : (left left' : Option (List ℕ)) (query : List ℕ) (q : QueryTree) → IsRead (chars query) q → (f : RunFault) → IfBadLine (IsBadLineFrom left left') f → IfBadLine (IsBadLineOf (select query) left left') f
 bad_select left left' query q r (Query f) h = tt

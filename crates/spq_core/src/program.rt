@@ -1,6 +1,7 @@
 //! The program: a command over a reader and a writer.
-ghost use Rattle.std.specs.Prelude.{◌≡◌, IfErr, IfOk, OnOk};
+ghost use Rattle.std.specs.Prelude.{◌≡◌, IfErr, IfOk, OnErr, OnOk};
 ghost use Rattle.nquads_core.specs.Device.{Rises, Stays};
+ghost use Rattle.nquads_core.specs.Transfer.{IsReadInPart};
 ghost use Rattle.spq_core.specs.Output.{check, request_of, select, terms};
 ghost use Rattle.spq_core.specs.Run.{IfBadLine, IfQuery, IfRead, IfWrite, IsBadLineFrom, IsBadLineOf, IsComposed, IsDone, IsLoadedFrom, IsNotLine, IsOfComposing, IsOfDocument, IsQueryOf, IsWrittenInPart, UnlessWrite, WriterFailed};
 
@@ -73,6 +74,7 @@ fn load_document<R: Threads + Wait + RandomSource, S: Source>(
     ensures bad_line { IfErr result
         (IfBadLine (IsBadLineFrom (S.left reader.old) (S.left reader.new))) }
     ensures count { OnOk result (Stays (S.failures reader.old) (S.failures reader.new)) }
+    ensures taken { OnErr result (IsReadInPart (S.left reader.old) (S.left reader.new)) }
     ensures read { IfErr result (IfRead (Rises (S.failures reader.old) (S.failures reader.new))) }
     ensures kind { IfErr result IsOfDocument }
 {
@@ -106,6 +108,7 @@ fn selected<R: Threads + Wait + RandomSource, S: Source>(
     ensures bad_line { IfErr result
         (IfBadLine (IsBadLineOf (select query.now) (S.left reader.old) (S.left reader.new))) }
     ensures count { OnOk result (Stays (S.failures reader.old) (S.failures reader.new)) }
+    ensures taken { OnErr result (IsReadInPart (S.left reader.old) (S.left reader.new)) }
     ensures read { IfErr result (IfRead (Rises (S.failures reader.old) (S.failures reader.new))) }
     ensures kind { IfErr result IsOfComposing }
 {
@@ -139,6 +142,7 @@ fn checked<R: Threads + Wait + RandomSource, S: Source>(
     ensures bad_line { IfErr result
         (IfBadLine (IsBadLineOf check (S.left reader.old) (S.left reader.new))) }
     ensures count { OnOk result (Stays (S.failures reader.old) (S.failures reader.new)) }
+    ensures taken { OnErr result (IsReadInPart (S.left reader.old) (S.left reader.new)) }
     ensures read { IfErr result (IfRead (Rises (S.failures reader.old) (S.failures reader.new))) }
     ensures kind { IfErr result IsOfDocument }
 {
@@ -161,6 +165,7 @@ fn listed<R: Threads + Wait + RandomSource, S: Source>(
     ensures bad_line { IfErr result
         (IfBadLine (IsBadLineOf terms (S.left reader.old) (S.left reader.new))) }
     ensures count { OnOk result (Stays (S.failures reader.old) (S.failures reader.new)) }
+    ensures taken { OnErr result (IsReadInPart (S.left reader.old) (S.left reader.new)) }
     ensures read { IfErr result (IfRead (Rises (S.failures reader.old) (S.failures reader.new))) }
     ensures kind { IfErr result IsOfDocument }
 {
@@ -185,6 +190,7 @@ fn composed<R: Threads + Wait + RandomSource, S: Source>(
     ensures bad_line { IfErr result
         (IfBadLine (IsBadLineOf (request_of command.now) (S.left reader.old) (S.left reader.new))) }
     ensures count { OnOk result (Stays (S.failures reader.old) (S.failures reader.new)) }
+    ensures taken { OnErr result (IsReadInPart (S.left reader.old) (S.left reader.new)) }
     ensures read { IfErr result (IfRead (Rises (S.failures reader.old) (S.failures reader.new))) }
     ensures kind { IfErr result IsOfComposing }
 {
@@ -212,7 +218,8 @@ fn composed<R: Threads + Wait + RandomSource, S: Source>(
 /// - `Write`: the writer failed in this call, or took no byte of a text that was not empty. A
 ///   beginning of the output was written.
 ///
-/// But for `Write`, nothing was written.
+/// But for `Query`, bytes may have been taken from the reader: a beginning of what it had left. But for
+/// `Write`, nothing was written.
 pub fn run<R: Threads + Wait + RandomSource, S: Source, K: Sink>(
     rt: &R,
     alloc: Global,
@@ -227,6 +234,7 @@ pub fn run<R: Threads + Wait + RandomSource, S: Source, K: Sink>(
         (IfQuery (λ f. IsQueryOf (request_of command.now) f × (reader.new ≡ reader.old))) }
     ensures bad_line { IfErr result
         (IfBadLine (IsBadLineOf (request_of command.now) (S.left reader.old) (S.left reader.new))) }
+    ensures taken { OnErr result (IsReadInPart (S.left reader.old) (S.left reader.new)) }
     ensures read { IfErr result (IfRead (Rises (S.failures reader.old) (S.failures reader.new))) }
     ensures write { IfErr result
         (IfWrite (IsWrittenInPart (request_of command.now) (S.left reader.old) (S.left reader.new)

@@ -5,7 +5,7 @@
 //! with the starts of workers. A run meets one refusal at most, so that a second try has to succeed.
 ghost use Rattle.std.specs.Prelude.{◌≤◌};
 
-use crate::documents::{BAD, GRAPHS, REPEATED, counts};
+use crate::documents::{BAD, GRAPHS, NUMBERED, REPEATED, TAGGED, TWO_LINES, TYPED, counts};
 use dataset_load::{LoadFault, load, load_blocks, read_blocks};
 use nquads_core::{Device, ReadFault};
 use piece_cuts::Cuts;
@@ -92,9 +92,9 @@ fn is_refused<R: Print>(rt: &R, counts: &Result<(u64, u64, u64), LoadFault>) -> 
     true
 }
 
-/// Whether a document comes to `want`, or is refused and comes to it at a second try; and each piece
-/// that entered the gate left it.
-fn comes_to<R: Threads + Wait + RandomSource + Print>(
+/// Whether a document that is loaded line by line comes to `want`, or is refused and comes to it at a
+/// second try; and after each of these loads, each piece that entered the gate has left it.
+fn lines_come_to<R: Threads + Wait + RandomSource + Print>(
     rt: &R,
     alloc: Global,
     doc: &[u8],
@@ -104,15 +104,53 @@ fn comes_to<R: Threads + Wait + RandomSource + Print>(
     requires workers { (1 ≤ workers) × (workers ≤ 64) }
 {
     let gate = Passages::none();
-    let mut lines = by_lines(rt, alloc, doc, workers, &gate);
-    if is_refused(rt, &lines) {
-        lines = by_lines(rt, alloc, doc, workers, &gate);
+    let mut given = by_lines(rt, alloc, doc, workers, &gate);
+    if is_refused(rt, &given) {
+        if !gate.is_balanced() {
+            return false;
+        }
+        given = by_lines(rt, alloc, doc, workers, &gate);
     }
-    let mut blocks = by_blocks(rt, alloc, doc, workers, &gate);
-    if is_refused(rt, &blocks) {
-        blocks = by_blocks(rt, alloc, doc, workers, &gate);
+    given == want && gate.is_balanced()
+}
+
+/// The same of its blocks.
+fn blocks_come_to<R: Threads + Wait + RandomSource + Print>(
+    rt: &R,
+    alloc: Global,
+    doc: &[u8],
+    workers: usize,
+    want: Result<(u64, u64, u64), LoadFault>,
+) -> bool
+    requires workers { (1 ≤ workers) × (workers ≤ 64) }
+{
+    let gate = Passages::none();
+    let mut given = by_blocks(rt, alloc, doc, workers, &gate);
+    if is_refused(rt, &given) {
+        if !gate.is_balanced() {
+            return false;
+        }
+        given = by_blocks(rt, alloc, doc, workers, &gate);
     }
-    lines == want && blocks == want && gate.is_balanced()
+    given == want && gate.is_balanced()
+}
+
+/// Both, by one worker and by two.
+fn comes_to<R: Threads + Wait + RandomSource + Print>(
+    rt: &R,
+    alloc: Global,
+    doc: &[u8],
+    want: Result<(u64, u64, u64), LoadFault>,
+) -> bool {
+    for workers in [1, 2] {
+        if !lines_come_to(rt, alloc, doc, workers, want) {
+            return false;
+        }
+        if !blocks_come_to(rt, alloc, doc, workers, want) {
+            return false;
+        }
+    }
+    true
 }
 
 /// A good document is never called bad, and its counts are never other ones.
@@ -120,17 +158,34 @@ fn comes_to<R: Threads + Wait + RandomSource + Print>(
 fn a_good_document_is_loaded_or_memory_is_refused(rt: HostRuntime) {
     let alloc = rt.alloc();
     assert!(rt;
-        comes_to(&rt, alloc, REPEATED, 1, Ok((2, 4, 0))),
-        "by one worker"
+        comes_to(&rt, alloc, REPEATED, Ok((2, 4, 0))),
+        "a repeated statement"
     );
-    assert!(rt; comes_to(&rt, alloc, GRAPHS, 2, Ok((3, 7, 2))), "by two");
+    assert!(rt; comes_to(&rt, alloc, GRAPHS, Ok((3, 7, 2))), "two graphs");
+}
+
+#[test]
+fn escapes_are_loaded_or_memory_is_refused(rt: HostRuntime) {
+    assert!(rt; comes_to(&rt, rt.alloc(), TWO_LINES, Ok((2, 5, 0))));
+}
+
+#[test]
+fn typed_literals_are_loaded_or_memory_is_refused(rt: HostRuntime) {
+    assert!(rt; comes_to(&rt, rt.alloc(), TYPED, Ok((6, 9, 0))));
+}
+
+#[test]
+fn plain_literals_are_loaded_or_memory_is_refused(rt: HostRuntime) {
+    assert!(rt; comes_to(&rt, rt.alloc(), NUMBERED, Ok((5, 9, 0))));
+}
+
+#[test]
+fn a_tag_is_loaded_or_memory_is_refused(rt: HostRuntime) {
+    assert!(rt; comes_to(&rt, rt.alloc(), TAGGED, Ok((1, 3, 0))));
 }
 
 /// A bad document is never accepted, and its first bad line never another one.
 #[test]
 fn a_bad_document_is_refused_or_memory_is(rt: HostRuntime) {
-    let alloc = rt.alloc();
-    let want = Err(LoadFault::BadLine(3));
-    assert!(rt; comes_to(&rt, alloc, BAD, 1, want), "by one worker");
-    assert!(rt; comes_to(&rt, alloc, BAD, 2, want), "by two");
+    assert!(rt; comes_to(&rt, rt.alloc(), BAD, Err(LoadFault::BadLine(3))));
 }

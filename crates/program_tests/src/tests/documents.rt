@@ -13,6 +13,8 @@ const ONE_LINE_MORE: &[u8] =
 const LINE_ENDS: &[u8] =
     b"<http://e/a> <http://e/p> <http://e/b> .\r\n# c\n<http://e/a> <http://e/p> .\n";
 
+const HALF_A_PAIR: &[u8] = b"<http://e/a> <http://e/p> \"\\uD800\" .\n";
+
 #[test]
 fn documents_are_checked(rt: HostRuntime) {
     let cases: [(&str, &[u8], &[u8]); 15] = [
@@ -33,11 +35,7 @@ fn documents_are_checked(rt: HostRuntime) {
             TWO_LINES.as_bytes(),
             b"ok 2 quads 5 terms 0 graphs\n",
         ),
-        (
-            "half a pair of surrogates",
-            b"<http://e/a> <http://e/p> \"\\uD800\" .\n",
-            b"error: line 1\n",
-        ),
+        ("half a pair of surrogates", HALF_A_PAIR, b"error: line 1\n"),
         (
             "a lone CR ends a line",
             b"<http://e/a> <http://e/p> <http://e/b> .\rx",
@@ -146,7 +144,12 @@ fn terms_are_listed(rt: HostRuntime) {
 
 #[test]
 fn a_bad_line_refuses_a_select(rt: HostRuntime) {
-    let cases: [(&str, &[u8], &[u8]); 2] = [
+    let cases: [(&str, &[u8], &[u8]); 3] = [
+        (
+            "SELECT ?o { <http://e/a> <http://e/p> ?o }",
+            HALF_A_PAIR,
+            b"error: line 1\n",
+        ),
         ("SELECT ?o { ?s ?p ?o }", CUT_SHORT, b"error: line 3\n"),
         (
             "SELECT ?o { <http://e/a> <http://e/p> ?o }",

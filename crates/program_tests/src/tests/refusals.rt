@@ -6,14 +6,16 @@ use std::random::RandomSource;
 use std::sync::Wait;
 use std::thread::Threads;
 
-/// Whether a query over a document that is none is told this.
+/// Whether a query is told this, over the empty document and over one whose first line is bad.
 fn is_told<R: Threads + Wait + RandomSource>(
     rt: &R,
     alloc: Global,
     query: &str,
     wanted: &str,
 ) -> bool {
-    told(rt, alloc, &select(alloc, query, WHOLE), b"x\n").as_slice() == wanted.as_bytes()
+    let command = select(alloc, query, WHOLE);
+    told(rt, alloc, &command, b"").as_slice() == wanted.as_bytes()
+        && told(rt, alloc, &command, b"x\n").as_slice() == wanted.as_bytes()
 }
 
 #[test]

@@ -1,4 +1,4 @@
-use Rattle.std.proofs.Common.{◌≡◌, List, subst, sym}
+use Rattle.std.proofs.Common.{subst, sym}
 use Rattle.quad_index.proofs.ReadingLaws.{index_reads}
 use Rattle.dataset_load.specs.Lines.{all_lines, texts}
 use Rattle.dataset_load.specs.Store.{StoreView}

@@ -1,4 +1,4 @@
-use Rattle.std.proofs.Common.{◌≡◌, ℕ, List, [], ◌∷◌, ap, ◌∙◌, arith, Bor}
+use Rattle.std.proofs.Common.{ℕ, List, [], ◌∷◌, ap, ◌∙◌, arith, Bor}
 use Rattle.std.proofs.lemmas.List.{map-append}
 use Rattle.dataset_load.specs.Lines.{texts}
 use Rattle.dataset_load.proofs.LoadingSteps.{piece_more, lines_of_cuts}

@@ -1,8 +1,8 @@
-use Rattle.std.proofs.Common.{◌≡◌, ℕ, List, false, true, true≢false, ap, sym, ◌∙◌, subst}
-use Rattle.nquads_core.proofs.TransferSteps.{Stays-stays}
+use Rattle.std.proofs.Common.{ℕ, List, ◌++◌, true≢false, refl, ap, sym, ◌∙◌, subst}
+use Rattle.nquads_core.proofs.TransferSteps.{Stays-stays, in-part-more}
 use Rattle.piece_cuts.specs.Laws.{EndsWithLineFeed}
 use Rattle.dataset_load.specs.Lines.{AreWholeLines, block_texts, joined}
-use Rattle.dataset_load.proofs.ReaderSteps.{EachEnds, at_the_end, cut_all, cut_last, cut_step, ends_more, joined_more, read_last, read_step, texts_more, whole_but_last}
+use Rattle.dataset_load.proofs.ReaderSteps.{EachEnds, at_the_end, cut_all, cut_last, cut_step, ends_more, joined_more, read_front, read_last, read_step, texts_more, whole_but_last}
 use Rattle.dataset_load.proofs.reader.read_blocks.Goals as goal
 
 pub returns-then-not-is_whole-clause-whole_lines : goal.returns-then-not-is_whole-clause-whole_lines
@@ -55,3 +55,16 @@ reading-preserved g c =
           c.requires.some was.cut (rw was.size at given) t;
       count = Stays-stays _ _ _ was.count (c.in-Ok-Some.ensures.count was.state);
     }
+
+pub returns-in-Err-clause-taken : goal.returns-in-Err-clause-taken
+returns-in-Err-clause-taken g c =
+    let was = c.reading.invariant in
+    in-part-more _ _ _ _ (read_front _ _ (joined (block_texts c.reading.read.items)) c.reading.blocks.kept was.bytes) (c.in-Err.ensures.taken was.state)
+
+pub returns-in_default-push-clause-taken : goal.returns-in_default-push-clause-taken
+returns-in_default-push-clause-taken g c =
+    let was = c.reading.invariant in
+    let given = rw c.in-Ok-Some.field-0-is at (c.in-Ok-Some.ensures.block was.state) in
+    let done = joined (block_texts c.reading.read.items) in
+    let read = read_step _ _ _ done (done ++ c.in-Ok-Some.block.items) c.reading.blocks.kept c.next.new.self.kept c.reading.blocks.size c.in-Ok-Some.block was.bytes given refl in
+    record { taken = (done ++ c.in-Ok-Some.block.items) ++ c.next.new.self.kept; consumed = read_front _ _ (done ++ c.in-Ok-Some.block.items) c.next.new.self.kept read }

@@ -2,7 +2,7 @@ use Rattle.std.proofs.Common.{sym, subst, List, IsPermutation}
 use Rattle.algebra_model.specs.Bag.{without_repeats}
 use Rattle.dict_core.specs.declared.num_quad.NumQuad.{NumQuad}
 use Rattle.dict_core.proofs.NumQuadLaws.{quad_eq}
-use Rattle.dataset_load.proofs.SortingSteps.{AreSorted, three_sorted}
+use Rattle.dataset_load.proofs.SortingSteps.{three_sorted}
 use Rattle.dataset_load.proofs.sorting.sorted_index.Goals as goal
 
 pub of_lists-requires-clause-sorted_gspo : goal.of_lists-requires-clause-sorted_gspo

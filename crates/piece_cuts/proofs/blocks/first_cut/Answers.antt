@@ -1,4 +1,5 @@
 use Rattle.std.proofs.Common.{rules, arith, ◌≡◌, subst, sym, ap, ◌∙◌, max, length, List, ℕ}
+use Rattle.nquads_core.proofs.TransferSteps.{in-part-more}
 use Rattle.piece_cuts.specs.Cuts.{HasNoNextCut, IsNextCut}
 use Rattle.piece_cuts.specs.Blocks.{IsClear}
 use Rattle.piece_cuts.proofs.BlockSteps.{Grows-start, Grows-more, same_from_none, IsClear-start, IsClear-more, IsNextCut-clear, HasNoNextCut-clear}
@@ -42,3 +43,6 @@ returns-in-Some-clause-cut g c =
     let was = c.loop-place.invariant in
     let cut = subst (λ (xs : List ℕ). IsNextCut xs c.loop-place.searched 0 c.in-Some.place) c.deref.ensures.value c.in-Some.ensures.cut in
     IsNextCut-clear _ c.args.size c.loop-place.searched c.in-Some.place was.from was.clear cut
+
+pub returns-in-Err-clause-taken : goal.returns-in-Err-clause-taken
+returns-in-Err-clause-taken g c = in-part-more _ _ _ c.loop-place.invariant.grows.added c.loop-place.invariant.grows.consumed c.in-Err.ensures.taken

@@ -1,5 +1,11 @@
-use Rattle.spq_core.proofs.DocumentSteps.{composed_check}
+use Rattle.std.proofs.lemmas.Result.{err_from_is_err_and}
+use Rattle.spq_core.proofs.DocumentSteps.{bad_check, composed_check}
 use Rattle.spq_core.proofs.program.checked.Goals as goal
+
+pub returns-in_err-store-clause-bad_line : goal.returns-in_err-store-clause-bad_line
+returns-in_err-store-clause-bad_line g c =
+    let p = err_from_is_err_and c.from_residual.result c.from_residual.ensures.1 in
+    rw (p.1, p.2) (bad_check _ _ _ c.in_err-store.ensures.bad_line)
 
 pub returns-in-Ok-clause-composed : goal.returns-in-Ok-clause-composed
 returns-in-Ok-clause-composed g c = composed_check _ _ c.in_ok-store.store c.in-Ok.text.items c.in_ok-store.ensures.loaded c.in-Ok.ensures.text

@@ -1,4 +1,4 @@
-use Rattle.std.proofs.Common.{ap, sym, ◌∙◌, length}
+use Rattle.std.proofs.Common.{ap, ◌∙◌, length}
 use Rattle.std.proofs.lemmas.List.Sorted.{length_permutation}
 use Rattle.dataset_load.specs.Store.{StoreView, names_in}
 use Rattle.dataset_load.proofs.store.Store.graphs.Goals as goal

@@ -11,9 +11,10 @@ returns-in-Ok-clause-block g c e =
     let front = c.in-Ok.ensures.items in
     let tail = c.in-Ok.ensures.tail in
     let all = BothKnown-cut _ _ _ _ _ _ c.self.invariant grows cut in
-    BothKnown-block _ _ _ _ _ _ _ _ _ c.replace-block.result size kept (ap (λ v. v.items) c.replace-block.ensures.value ∙ front) (ap (λ v. v.items) c.replace-block.ensures.after ∙ tail) all
+    let block = c.shrink_to_fit.ensures.items ∙ ap (λ v. v.items) c.replace-block.ensures.value ∙ front in
+    BothKnown-block _ _ _ _ _ _ _ _ _ c.shrink_to_fit.new.self size kept block (ap (λ v. v.items) c.replace-block.ensures.after ∙ tail) all
 
 pub returns-in-Ok-clause-last : goal.returns-in-Ok-clause-last
 returns-in-Ok-clause-last g c e =
     let cut = rw c.in-Ok-Some.field-0-is at c.in-Ok-Some.ensures.cut in
-    inl (ends_whole _ c.replace-block.result.items _ _ cut (ap (λ v. v.items) c.replace-block.ensures.value ∙ c.in-Ok.ensures.items))
+    inl (ends_whole _ c.shrink_to_fit.new.self.items _ _ cut (c.shrink_to_fit.ensures.items ∙ ap (λ v. v.items) c.replace-block.ensures.value ∙ c.in-Ok.ensures.items))
