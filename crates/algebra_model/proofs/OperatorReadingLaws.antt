@@ -30,10 +30,10 @@ module _ {A B : Type 0} (sa : A → A → Bool) (sb : B → B → Bool) (In : A 
   bind-read zero t (Some x ∷ μ) = refl
   bind-read (suc v) t (x ∷ μ) = ap (λ r. option_map f x ∷ r) (bind-read v t μ)
 
-  pub extend-read : (v : ℕ) (p : Solution B → Option B) (q : Solution A → Option A) → ((μ : Solution A) → EachBound In μ → p (read_row f μ) ≡ option_map f (q μ))
-      → (L : List (Solution A)) → Each (EachBound In) L → extend v p (map (read_row f) L) ≡ map (read_row f) (extend v q L)
-  extend-read v p q e [] h = refl
-  extend-read v p q e (μ ∷ L) h = λ i. (ap (λ t. bind v t (read_row f μ)) (e μ h.0) ∙ bind-read v (q μ) μ) i ∷ extend-read v p q e L h.1 i
+  pub extend-read : (v : ℕ) (p : Solution B → Option B) (q : Solution A → Option A) (L : List (Solution A)) → Each (λ μ. p (read_row f μ) ≡ option_map f (q μ)) L
+      → extend v p (map (read_row f) L) ≡ map (read_row f) (extend v q L)
+  extend-read v p q [] e = refl
+  extend-read v p q (μ ∷ L) e = λ i. (ap (λ t. bind v t (read_row f μ)) e.0 ∙ bind-read v (q μ) μ) i ∷ extend-read v p q L e.1 i
 
   pub restrict-read : (keeps : ℕ → Bool) (μ : Solution A) → restrict keeps (read_row f μ) ≡ read_row f (restrict keeps μ)
   restrict-read keeps [] = refl

@@ -49,10 +49,10 @@ module _ {A B : Type 0} (sa : A → A → Bool) (sb : B → B → Bool) (In : A 
   filter-step p q t L J E h i e =
       step J (filter q L) (filter p (map (read_row f) L)) (filter p E) e (filter-read sa sb In f one p q t L i) (bags.filter-IsSameBag sb db p (map (read_row f) L) E h)
 
-  pub extend-step : (v : ℕ) (p : Solution B → Option B) (q : Solution A → Option A) → ((μ : Solution A) → EachBound In μ → p (read_row f μ) ≡ option_map f (q μ))
-      → (L J : List (Solution A)) (E : List (Solution B)) → ReadAs f L E → Each (EachBound In) L → IsSameBag J (extend v q L) → ReadAs f J (extend v p E)
-  extend-step v p q t L J E h i e =
-      step J (extend v q L) (extend v p (map (read_row f) L)) (extend v p E) e (extend-read sa sb In f one v p q t L i) (bags.extend-IsSameBag v p (map (read_row f) L) E h)
+  pub extend-step : (v : ℕ) (p : Solution B → Option B) (q : Solution A → Option A) (L J : List (Solution A)) (E : List (Solution B)) → ReadAs f L E
+      → Each (λ μ. p (read_row f μ) ≡ option_map f (q μ)) L → IsSameBag J (extend v q L) → ReadAs f J (extend v p E)
+  extend-step v p q L J E h t e =
+      step J (extend v q L) (extend v p (map (read_row f) L)) (extend v p E) e (extend-read sa sb In f one v p q L t) (bags.extend-IsSameBag v p (map (read_row f) L) E h)
 
   pub project-step : (vs : List ℕ) (L J : List (Solution A)) (E : List (Solution B)) → ReadAs f L E → IsSameBag J (project vs L) → ReadAs f J (project vs E)
   project-step vs L J E h e =

@@ -144,11 +144,11 @@ abbrev pub FilterIsRead : Type 0
 FilterIsRead = (f : ℕ → Term) (keeps : Row → Bool) (A : List (Solution ℕ))
     → IsSameBag (read f (filter (λ μ. keeps (read_row f μ)) A)) (filter keeps (read f A))
 
--- `number` gives the number of the value
+-- `number` gives, for each solution of A, the number of its value, and none where it has no value
 abbrev pub ExtendIsRead : Type 0
 ExtendIsRead = (f : ℕ → Term) (number : Solution ℕ → Option ℕ) (value : Row → Option Term)
-    → ((μ : Solution ℕ) → value (read_row f μ) ≡ option_map f (number μ))
     → (v : ℕ) (A : List (Solution ℕ))
+    → Each (λ μ. value (read_row f μ) ≡ option_map f (number μ)) A
     → IsSameBag (read f (extend v number A)) (extend v value (read f A))
 
 abbrev pub ProjectIsRead : Type 0

@@ -1,7 +1,7 @@
 -- Numbers of any length: a form is digits, perhaps with a sign and a dot, and stands for a whole
 -- number with a sign over a power of ten (XML Schema 1.1 Part 2, sections 3.3.3 and 3.4.13). The
 -- order of numbers is exact (SPARQL 1.1 Query Language, section 17.3).
-use Rattle.std.specs.Prelude.{ℕ, ◌+◌, ◌*◌, ◌^◌, Bool, false, not, ◌||◌, ◌==◌, ℤ, pos, neg_ℤ, List, [], ◌∷◌, ◌++◌, length, drop, Option, Some, None, if◌then◌else◌}
+use Rattle.std.specs.Prelude.{ℕ, ◌+◌, ◌*◌, ◌^◌, Bool, false, ◌||◌, ◌==◌, ℤ, pos, neg_ℤ, List, [], ◌∷◌, ◌++◌, length, drop, Option, Some, None, if◌then◌else◌}
 use Rattle.std.specs.Char.{is_ascii_digit}
 use Rattle.std.specs.List.{list_all, position_or_len, before_first}
 use Rattle.std.specs.Ordering.{int_cmp}

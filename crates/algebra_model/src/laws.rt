@@ -36,6 +36,9 @@ pub fn a_dataset_is_a_set()
 
 /// Where numbers stand for terms, each for a term of its own, every operator may be done at the
 /// numbers: read as terms, its result is the operator's at the terms.
+///
+/// Union, Filter, Extend, Project and a table compare no terms, and so different numbers may stand
+/// for one term. Extend needs the number of a value only for the solutions that it is given.
 pub fn numbers_stand_for_terms()
     ensures pattern { PatternIsRead }
     ensures join { JoinIsRead }

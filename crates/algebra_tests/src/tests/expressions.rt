@@ -321,12 +321,14 @@ fn functions_of_one_term(rt: HostRuntime) -> Result<(), AllocError> {
         (Function::Lang, name, None),
         (Function::Datatype, name, None),
         (Function::IsIri, name, shown(YES)),
+        (Function::IsBlank, name, shown(NO)),
         (Function::IsLiteral, name, shown(NO)),
         (Function::Str, blank, None),
         (Function::Lang, blank, None),
         (Function::Datatype, blank, None),
         (Function::IsBlank, blank, shown(YES)),
         (Function::IsIri, blank, shown(NO)),
+        (Function::IsLiteral, blank, shown(NO)),
     ] {
         let alloc = rt.alloc();
         assert!(rt; gives(alloc, called(alloc, function), Some(term), expected)?);

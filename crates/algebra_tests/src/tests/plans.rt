@@ -1,7 +1,7 @@
 //! Queries and their plans.
-use crate::tests::text;
+use crate::tests::{term, text};
 use rdf_core::{Term, Text};
-use sparql_algebra::{Expr, Operator, Plan, translate, truth};
+use sparql_algebra::{Comparison, Expr, Operator, Plan, translate};
 use sparql_tree::{Element, Expression, GraphName, PatternTerm, Query, Selection, Triple};
 use std::alloc::{AllocError, AllocGlobal, Global};
 
@@ -48,6 +48,18 @@ fn run(alloc: Global, rows: &[[&str; 3]]) -> Result<Element, AllocError> {
 /// `FILTER(BOUND(name))`
 fn filter(alloc: Global, name: &str) -> Result<Element, AllocError> {
     Ok(Element::Filter(Expression::Bound(text(alloc, name)?)))
+}
+
+/// `FILTER(name < 3)`
+fn filter_below_three(alloc: Global, name: &str) -> Result<Element, AllocError> {
+    let left = Box::new(alloc, Expression::Variable(text(alloc, name)?))?;
+    let right = Box::new(alloc, Expression::Constant(three(alloc)?))?;
+    let condition = Expression::Compare(Comparison::Less, left, right);
+    Ok(Element::Filter(condition))
+}
+
+fn three(alloc: Global) -> Result<Term, AllocError> {
+    term(alloc, ("3", "integer"))
 }
 
 fn bind(alloc: Global, from: &str, to: &str) -> Result<Element, AllocError> {
@@ -155,38 +167,68 @@ fn a_filter_stands_over_one_pattern(rt: HostRuntime) -> Result<(), AllocError> {
     Ok(())
 }
 
-fn is_true(condition: &Expr) -> bool {
-    match condition {
-        Expr::Constant(term) => truth(term) == Some(true),
-        _ => false,
-    }
-}
-
-/// `OPTIONAL { { ?x <p> ?y FILTER(BOUND(?y)) } }`: a filter one group further in is no condition.
+/// `OPTIONAL { { ?x <http://e/p> ?y FILTER(?y < 3) } }`: a filter one group further in is no
+/// condition. It stands inside the right side, and the condition is `true`.
 #[test]
 fn a_filter_further_in_is_no_condition(rt: HostRuntime) -> Result<(), AllocError> {
     let alloc = rt.alloc();
-    let inner = then(none(alloc), run(alloc, &[["?x", "a:p", "?y"]]));
-    let inner = within_group(then(inner, filter(alloc, "?y")));
+    let inner = then(none(alloc), run(alloc, &[["?x", "http://e/p", "?y"]]));
+    let inner = within_group(then(inner, filter_below_three(alloc, "?y")));
     let group = then(none(alloc), optional(then(none(alloc), inner)));
     let plan = planned(alloc, group, &["?x", "?y", "?y"])?;
+    let yes = term(alloc, ("true", "boolean"))?;
+    let three = three(alloc)?;
     let found = match below(&plan) {
         Some(
             Operator::LeftJoin {
+                left,
                 right,
                 condition,
-                ..
             },
-        ) => match &**right {
-            Operator::Join { right, .. } => {
-                matches!(&**right, Operator::Filter { .. }) && is_true(condition)
-            }
-            _ => false,
-        },
+        ) => {
+            is_empty_pattern(left)
+                && filters_one_triple(right, &three)
+                && is_constant(condition, &yes)
+        }
         _ => false,
     };
     assert!(rt; found);
     Ok(())
+}
+
+/// Whether the empty pattern is joined with a filter over one triple that asks if the variable 1 is
+/// less than the term.
+fn filters_one_triple(tree: &Operator, term: &Term) -> bool {
+    match tree {
+        Operator::Join { left, right } => match &**right {
+            Operator::Filter { condition, inner } => {
+                is_empty_pattern(left)
+                    && is_less(condition, term)
+                    && joined_triples(inner) == Some(1)
+            }
+            _ => false,
+        },
+        _ => false,
+    }
+}
+
+/// Whether the expression asks if the variable 1 is less than the term.
+fn is_less(expr: &Expr, term: &Term) -> bool {
+    match expr {
+        Expr::Compare {
+            operator: Comparison::Less,
+            left,
+            right,
+        } => matches!(&**left, Expr::Variable(1)) && is_constant(right, term),
+        _ => false,
+    }
+}
+
+fn is_constant(expr: &Expr, term: &Term) -> bool {
+    match expr {
+        Expr::Constant(constant) => constant == term,
+        _ => false,
+    }
 }
 
 /// `{ ?z <p> ?x OPTIONAL { FILTER(BOUND(?z)) ?x <p> ?y } }`: a filter of OPTIONAL's own group is the

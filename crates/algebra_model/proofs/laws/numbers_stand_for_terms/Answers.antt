@@ -36,9 +36,9 @@ returns-clause-filter c = λ f keeps A.
     (sym (filter-read (λ x y. term_eq (f x) (f y)) term_eq (λ _. Unit {0}) f (λ x y i j. refl) keeps (λ μ. keeps (read_row f μ)) (λ μ e. refl) A (nothing_asked_of_all A)))
 
 pub returns-clause-extend : goal.returns-clause-extend
-returns-clause-extend c = λ f number value e v A.
+returns-clause-extend c = λ f number value v A e.
     same_bag (map (read_row f) (extend v number A)) (extend v value (map (read_row f) A))
-    (sym (extend-read (λ x y. term_eq (f x) (f y)) term_eq (λ _. Unit {0}) f (λ x y i j. refl) v value number (λ μ i. e μ) A (nothing_asked_of_all A)))
+    (sym (extend-read (λ x y. term_eq (f x) (f y)) term_eq (λ _. Unit {0}) f (λ x y i j. refl) v value number A e))
 
 pub returns-clause-project : goal.returns-clause-project
 returns-clause-project c = λ f vs A.
