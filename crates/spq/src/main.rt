@@ -10,6 +10,7 @@ use nquads_core::{Device, Sink, Source};
 use spq_command::{Command, CommandFault, read_command};
 use spq_core::{RunFault, run, status, write_fault};
 use std::alloc::Global;
+use std::io::ErrorKind;
 use std::process::ExitCode;
 use std::random::RandomSource;
 use std::sync::Wait;
@@ -25,8 +26,10 @@ const STACK_PER_BYTE: usize = 4 * 1024;
 
 /// The words of the command line.
 fn words_of(rt: &HostRuntime) -> Result<Vec<String>, RunFault> {
-    let Ok(args) = env::args(rt) else {
-        return Err(RunFault::Line);
+    let args = match env::args(rt) {
+        Ok(args) => args,
+        Err(refused) if refused.kind() == ErrorKind::OutOfMemory => return Err(RunFault::Memory),
+        Err(_no_text) => return Err(RunFault::Line),
     };
     let mut words = Vec::new(rt.alloc());
     for word in args {

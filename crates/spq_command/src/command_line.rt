@@ -11,6 +11,7 @@ use clap::error::ErrorKind;
 use clap::{Arg, ArgMatches, Command as Line};
 use rdf_core::Text;
 use std::alloc::{AllocError, Global};
+use thiserror::Error;
 
 /// How many workers there are at the most, and where the line tells no number.
 const MOST_WORKERS: u64 = 64;
@@ -28,11 +29,13 @@ const MOST_ROWS: u64 = 1 << 30;
 const ROWS: u64 = 1024;
 
 /// Why a command line is no command.
-#[derive(Clone, Copy, Debug, PartialEq, Eq)]
+#[derive(Clone, Copy, Debug, Drop, Error, PartialEq, Eq)]
 pub enum CommandFault {
     /// It is none of the program's, or asks for help.
+    #[error("the command line is none of the program's")]
     Line,
     /// A growth was refused.
+    #[error("a growth was refused")]
     Memory,
 }
 
