@@ -30,6 +30,9 @@ pub trait RowWork {
         ensures value { result ≡ length (parts self.now) };
 
     /// The rows that the elements from one place up to another give.
+    ///
+    /// # Requires
+    /// `from` is `to` at most, and `to` the count of the elements at most.
     fn run(&self, alloc: Global, from: usize, to: usize) -> Result<Rows, AllocError>
         requires places { (from ≤ to) × (to ≤ length (parts self.now)) }
         ensures rows { IfOk result (λ rows. AreRowsOf (width self.now)
@@ -98,6 +101,9 @@ pub fn over_pieces<R: Threads + Wait, W: RowWork + Sync, G: Gate + Sync>(
 
 /// How many elements a piece is to have: as many as asked for, or more where that would make more
 /// than 2^62 pieces, which is the most that a pool takes.
+///
+/// # Requires
+/// `rows` is 1 or more.
 pub fn piece_size(count: usize, rows: usize) -> usize
     requires { 1 ≤ rows }
     ensures some { 1 ≤ result }
