@@ -27,7 +27,9 @@ QUERIES = {
     "triangle": "SELECT ?a ?b ?c { ?a l:cites ?b . ?b l:cites ?c . ?a l:cites ?c }",
     "optional, filter": "SELECT ?w ?p { ?w l:title ?t OPTIONAL { ?w l:price ?p FILTER(?p < 100.0) } }",
     "minus": "SELECT ?w { ?w l:title ?t MINUS { ?w l:summary ?s } }",
+    "minus, nothing shared": "SELECT ?a { ?a a l:Map MINUS { ?b a l:Score } }",
     "join": "SELECT ?w ?t ?i { { ?w l:title ?t } { ?w l:issued ?i } }",
+    "join, an open key": "SELECT ?a ?i { { { ?a a l:Map } UNION { <http://library.example/work/1> l:issued ?i } } { ?a l:issued ?i } }",
     "union, distinct": "SELECT DISTINCT ?x { { ?w l:creator ?x } UNION { ?x a l:Person } }",
     "graphs": "SELECT ?g ?c ?w { GRAPH ?g { ?c l:of ?w } }",
     "filter, graphs": "SELECT ?g ?w ?p { ?w l:price ?p FILTER(?p > 890) GRAPH ?g { ?c l:of ?w } }",
@@ -42,10 +44,9 @@ PAIRS = {
     "join by <": "SELECT ?a ?b { { ?a l:issued 1900 ; l:price ?p } { ?b l:issued 1901 ; l:price ?q } FILTER(?p < ?q) }",
 }
 
-# spq tries every pair here although neither rows nor conditions ask for it.
+# spq tries every pair here although neither rows nor conditions ask for it: ?a and ?i are open in many rows.
 NO_KEY = {
-    "minus, nothing shared": "SELECT ?a { ?a a l:Map MINUS { ?b a l:Score } }",
-    "join, an open key": "SELECT ?a ?i { { { ?a a l:Map } UNION { <http://library.example/work/1> l:issued ?i } } { ?a l:issued ?i } }",
+    "join, two open keys": "SELECT ?a ?i { { { ?a a l:Map } UNION { ?p l:place ?i } } { ?a l:issued ?i } }",
 }
 
 

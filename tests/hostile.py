@@ -311,11 +311,15 @@ def few_processes(program):
         resource.setrlimit(resource.RLIMIT_NPROC, (1, 1))
 
     os.chmod(program.folder, 0o755)
-    answers = {(0, counts(1, 3, 0)), (4, b"error: worker\n")}
+    refused = (4, b"error: worker\n")
+    answers = {(0, counts(1, 3, 0)), refused}
+    seen = set()
     for workers in ("1", "2", "64"):
         answer = program.run(["check", "--workers", workers], [STATEMENT], limit=limit)
         got = (answer.status, answer.output)
         expect(got in answers, f"{workers} workers: status {got[0]} and {got[1][:200]!r}")
+        seen.add(got)
+    expect(refused in seen, "the system refused no thread")
 
 
 # ---- command lines
