@@ -126,7 +126,7 @@ impl Blocks {
 }
 
 /// Reads on until there is a first cut, or to the end. What was searched once is not searched again,
-/// so a long line costs time in proportion to its length.
+/// but for the last byte of each read, so a long line costs time in proportion to its length.
 fn first_cut<S: Source>(
     reader: &mut S,
     kept: &mut Vec<u8>,

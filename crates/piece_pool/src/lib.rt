@@ -14,7 +14,7 @@
 //! ```text
 //! let outcome = run_pieces(&rt, alloc, 4, 1000, &job, &OpenGate)?;
 //! ```
-//! The test `the_least_fault_is_named` runs this.
+//! The test `the_least_fault_is_named` runs such calls.
 //!
 //! Not promised: that a second thread ran, that any piece is skipped, which worker ran what, that
 //! `run_pieces` returns (it joins its workers).

@@ -23,7 +23,8 @@
 //! `prologue`, `iris`, `names`, `scope`, `labels`, `judging`, `reader`, `laws`. Texts and what is
 //! answered of them: `each_rule_is_answered` of query_tests.
 //!
-//! Not promised: how long a text takes. By design the time is that of sorting its names.
+//! Not promised: how long a text takes. By design the time is that of sorting its names, and of writing
+//! the triples of the tree, each with a subject and a verb of its own.
 #![tactic(auto)]
 
 mod depth;

@@ -290,6 +290,7 @@ fn nothing_is_in_the_empty_list(rt: HostRuntime) -> Result<(), AllocError> {
     let alloc = rt.alloc();
     for item in [
         Some(("01", "integer")),
+        Some(("1000000000000000000000000000000000000001", "integer")),
         Some(("1", "string")),
         Some(("1", "double")),
         None,
