@@ -49,7 +49,11 @@ def run(command, document, output, limit):
 
 def best(command, document, output, runs=1, limit=600):
     """The least of what some runs took, of each measure by itself, and the highest peak."""
-    taken = [run(command, document, output, limit) for _ in range(runs)]
+    return least([run(command, document, output, limit) for _ in range(runs)])
+
+
+def least(taken):
+    """The least of each measure by itself, and the highest peak."""
     return Taken(min(one.seconds for one in taken), min(one.processor for one in taken), max(one.peak for one in taken))
 
 

@@ -5,8 +5,9 @@
 
 Each query runs so many times on each dataset of datasets.py; the least time counts. What `SELECT * {}`
 takes on the same dataset, which loads it and answers one row, is taken away: the rest is the query and
-its output. The growth is that of the processors' seconds, which other work on the machine disturbs
-least: a query whose rows grow by ten should take about ten times as long.
+its output. It runs before each query anew, and the least of all its times counts. The growth is that of
+the processors' seconds, which other work on the machine disturbs least: a query whose rows grow by ten
+should take about ten times as long.
 A dataset of 1,200,000 quads has about 100,000 works, so there `join` joins two lists of 100,000 rows.
 Python 3 standard library only.
 """
@@ -57,20 +58,26 @@ def measured(words, path, output, chosen):
         command = [words.spq, "select", "--workers", words.workers, "--query", query]
         return measure.best(command, path, output, words.runs)
 
-    try:
-        load = select("SELECT * {}")
-    except measure.Failed as fault:
-        sys.exit(f"SELECT * {{}}: {fault}")
-    found = {}
+    loads, answers = [], {}
     for name, query in chosen.items():
         try:
-            taken = select(PREFIX + query)
-            seconds = max(taken.seconds - load.seconds, 0.0)
-            processor = max(taken.processor - load.processor, 0.0)
-            found[name] = measure.rows(output), seconds, processor, taken.peak
+            loads.append(select("SELECT * {}"))
         except measure.Failed as fault:
-            found[name] = fault
-    return load, found
+            sys.exit(f"SELECT * {{}}: {fault}")
+        try:
+            answers[name] = select(PREFIX + query), measure.rows(output)
+        except measure.Failed as fault:
+            answers[name] = fault
+    load = measure.least(loads)
+    return load, {name: beyond(load, answer) for name, answer in answers.items()}
+
+
+def beyond(load, answer):
+    """The rows of an answer, and what it took beyond loading; a fault stays."""
+    if isinstance(answer, measure.Failed):
+        return answer
+    taken, rows = answer
+    return rows, max(taken.seconds - load.seconds, 0.0), max(taken.processor - load.processor, 0.0), taken.peak
 
 
 def line(name, result, before):

@@ -10,7 +10,7 @@ use Rattle.algebra_model.specs.Solution.{Solution}
 use Rattle.algebra_model.proofs.ReadingLaws.{bound_at}
 use Rattle.dict_core.specs.Dict.{term_at}
 use Rattle.row_core.specs.RowList.{rows_in}
-use Rattle.result_json.specs.Ranks.{code_of, codes_of, ranked_cell, ranked_row, IsRank}
+use Rattle.result_json.specs.Ranks.{code_of, codes_of, ranked_cell, ranked_row}
 use Rattle.result_json.proofs.SliceLaws.{drop-map}
 
 Each-take : {X : Type 0} (P : X → Type 0) (n : ℕ) (xs : List X) → Each P xs → Each P (take n xs)

@@ -1,5 +1,5 @@
 -- Rows that are compared by their first two ranks first.
-use Rattle.std.proofs.Common.{◌≡◌, ℕ, zero, suc, ◌+◌, ◌<◌, false, List, [], ◌∷◌, ◌++◌, length, get_or, take, drop, map, IsSorted, append_assoc, refl, sym, ap, ◌∙◌, arith, Ordering, Less, Equal, Greater, is_lt, nat_cmp}
+use Rattle.std.proofs.Common.{◌≡◌, ℕ, suc, ◌+◌, ◌<◌, List, [], ◌∷◌, ◌++◌, length, get_or, take, drop, IsSorted, append_assoc, refl, sym, ap, ◌∙◌, arith, Ordering, Less, Equal, Greater, is_lt, nat_cmp}
 use Rattle.std.specs.Cmp.{ranked}
 use Rattle.std.specs.Cmp.Lexicographic.{slice_cmp}
 use Rattle.std.specs.Ordering.{ordering_then}

@@ -1,25 +1,23 @@
 -- Texts of terms, each printed once. Private clauses alone cite these words.
-use Rattle.std.specs.Prelude.{◌≡◌, ◌⊎◌, ℕ, zero, suc, ◌<◌, List, [], ◌∷◌, ◌++◌, length, map, flat_map, get_or, Option, None, Some, Vec, codes}
+use Rattle.std.specs.Prelude.{◌≡◌, ◌⊎◌, ℕ, ◌<◌, ◌≤◌, List, [], ◌∷◌, ◌++◌, length, flat_map, slice_range, get_or, Option, None, Some, Vec, codes}
 use Rattle.std.specs.declared.alloc.Global.{Global}
 use Rattle.rdf_core.specs.declared.term.Term.{Term}
 use Rattle.dict_core.specs.Dict.{term_at}
 use Rattle.result_json.specs.Ranks.{ranked_cell}
 use Rattle.result_json.specs.Results.{Column, separated, string_text, term_text}
 
-abbrev pub texts_of : List (Vec ℕ Global) → List (List ℕ)
-texts_of texts = map (λ v. v.items) texts
+-- where a text begins and ends in a buffer
+abbrev pub Span : Type 0
+Span = ℕ × ℕ
 
--- the text of a term, or nothing where it was not printed yet
-abbrev pub IsTextOf : Term → List ℕ → Type 0
-IsTextOf term text = (text ≡ []) ⊎ (text ≡ term_text term)
+-- the term is not printed yet, or its text lies in the buffer where the span says
+abbrev pub IsSpanOf : List ℕ → Term → Span → Type 0
+IsSpanOf printed term span = (span.1 ≤ span.0)
+    ⊎ ((span.1 ≤ length printed) × (slice_range printed span.0 span.1 ≡ term_text term))
 
-abbrev pub ArePrinted : List Term → List (List ℕ) → Type 0
-ArePrinted terms texts = (length texts ≡ length terms)
-    × ((i : ℕ) → i < length terms → IsTextOf (term_at terms i) (get_or texts i []))
-
--- so many empty texts
-abbrev pub AreEmpty : ℕ → List (List ℕ) → Type 0
-AreEmpty count texts = (length texts ≡ count) × ((i : ℕ) → get_or texts i [] ≡ [])
+abbrev pub ArePrinted : List Term → List ℕ → List Span → Type 0
+ArePrinted terms printed spans = (length spans ≡ length terms)
+    × ((i : ℕ) → i < length terms → IsSpanOf printed (term_at terms i) (get_or spans i (0, 0)))
 
 -- the beginning of a column's members, the name as a string and a colon, with the column's place
 abbrev pub begun : Column → Column

@@ -10,7 +10,8 @@
 //!
 //! How: the cells of the listed variables are copied into one buffer of numbers. Their distinct terms
 //! are sorted once, each number becomes the rank of its term, and rows are sorted by ranks. Each term
-//! and each name is printed once by the JSON library, and rows are put together by appends.
+//! and each name is printed once by the JSON library, and rows are put together by appends, in one
+//! block of a size that is added up before.
 //!
 //! To read in this order: `printing`, `coding` (cells as numbers), `ranking` (numbers as ranks),
 //! `ranked_row` and `row_order`, `values` (terms and texts by the JSON library), `term_texts`, `columns`, `results`.

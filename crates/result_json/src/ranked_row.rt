@@ -2,7 +2,7 @@
 ghost use Rattle.std.specs.Prelude.{◌≡◌, get_or};
 
 /// The ranks of a row's cells, lent. The first two stand beside them, so that most rows are compared
-/// without a look into the buffer.
+/// and printed without a look into the buffer.
 #[derive(Clone, Copy, PartialEq, Eq, PartialOrd, Ord)]
 pub(crate) struct RankedRow<'a> {
     first: u64,
@@ -13,7 +13,7 @@ pub(crate) struct RankedRow<'a> {
 }
 
 /// The rank at a place of a row, and 0 behind its end.
-pub(crate) fn rank_at(ranks: &[u64], place: usize) -> u64
+fn rank_at(ranks: &[u64], place: usize) -> u64
     ensures value { result ≡ get_or ranks.now place 0 }
 {
     if place < ranks.len() { ranks[place] } else { 0 }
@@ -27,5 +27,18 @@ pub(crate) fn ranked_row(ranks: &[u64]) -> RankedRow<'_>
         first: rank_at(ranks, 0),
         second: rank_at(ranks, 1),
         ranks,
+    }
+}
+
+impl<'a> RankedRow<'a> {
+    /// The rank at a place of the row, and 0 behind its end.
+    pub(crate) fn rank(&self, place: usize) -> u64
+        ensures value { result ≡ get_or self.now.ranks.now place 0 }
+    {
+        match place {
+            0 => self.first,
+            1 => self.second,
+            _ => rank_at(self.ranks, place),
+        }
     }
 }

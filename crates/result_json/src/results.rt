@@ -10,11 +10,51 @@ ghost use Rattle.result_json.specs.Results.{json, listed_names, separated, strin
 ghost use Rattle.result_json.specs.Texts.{begun_column, begun_member, begun_row};
 
 use crate::columns::{begun_columns, name_of};
-use crate::ranked_row::{RankedRow, rank_at};
+use crate::ranked_row::RankedRow;
 use crate::term_texts::TermTexts;
 use crate::values::printed_string;
 use rdf_core::Text;
 use std::alloc::{AllocError, Global};
+
+/// Prints the terms of a row, and answers the room that its object takes at most, with a comma behind
+/// each member and behind the row.
+fn print_cells(
+    alloc: Global,
+    columns: &[(Vec<u8>, usize)],
+    texts: &mut TermTexts<'_>,
+    row: &RankedRow<'_>,
+) -> Result<usize, AllocError>
+    ensures same { texts.new ≡ texts.old }
+{
+    let mut room = 3usize;
+    for (prefix, place) in columns {
+        if let Some(place) = texts.place(row.rank(*place)) {
+            let text = texts.print(alloc, place)?;
+            room = room
+                .saturating_add(prefix.len())
+                .saturating_add(text)
+                .saturating_add(1);
+        }
+    }
+    Ok(room)
+}
+
+/// Prints the terms of the rows, and answers the room that the rows and the four bytes behind them take
+/// at most: so the answer is put together in one block, which grows no more.
+fn print_texts(
+    alloc: Global,
+    columns: &[(Vec<u8>, usize)],
+    texts: &mut TermTexts<'_>,
+    rows: &[RankedRow<'_>],
+) -> Result<usize, AllocError>
+    ensures same { texts.new ≡ texts.old }
+{
+    let mut room = 4usize;
+    for row in rows {
+        room = room.saturating_add(print_cells(alloc, columns, texts, row)?);
+    }
+    Ok(room)
+}
 
 /// Appends the member of a cell, where it is bound, and a comma before it where a member stands
 /// before. Answers whether a member stands there now.
@@ -22,15 +62,14 @@ fn put_member(
     alloc: Global,
     out: &mut Vec<u8>,
     prefix: &[u8],
-    texts: &mut TermTexts<'_>,
+    texts: &TermTexts<'_>,
     rank: u64,
     later: bool,
 ) -> Result<bool, AllocError>
-    ensures same { texts.new ≡ texts.old }
     ensures text { OnOk result
         (out.new.items ≡ out.old.items
-        ++ comma_texts later (begun_member prefix.now (ranked_cell texts.old rank))) }
-    ensures later { IfOk result (λ b. b ≡ (later || is_some (ranked_cell texts.old rank))) }
+        ++ comma_texts later (begun_member prefix.now (ranked_cell texts.now rank))) }
+    ensures later { IfOk result (λ b. b ≡ (later || is_some (ranked_cell texts.now rank))) }
 {
     let Some(place) = texts.place(rank) else {
         return Ok(later);
@@ -48,18 +87,17 @@ fn put_row(
     alloc: Global,
     out: &mut Vec<u8>,
     columns: &[(Vec<u8>, usize)],
-    texts: &mut TermTexts<'_>,
-    ranks: &[u64],
+    texts: &TermTexts<'_>,
+    row: &RankedRow<'_>,
 ) -> Result<(), AllocError>
-    ensures same { texts.new ≡ texts.old }
     ensures text { OnOk result
         (out.new.items ≡ out.old.items
-        ++ begun_row texts.old (map begun_column columns.now) ranks.now) }
+        ++ begun_row texts.now (map begun_column columns.now) row.now.ranks.now) }
 {
     out.push(b'{')?;
     let mut later = false;
     for (prefix, place) in columns {
-        later = put_member(alloc, out, prefix, texts, rank_at(ranks, *place), later)?;
+        later = put_member(alloc, out, prefix, texts, row.rank(*place), later)?;
     }
     out.push(b'}')?;
     Ok(())
@@ -70,20 +108,19 @@ fn put_rows(
     alloc: Global,
     out: &mut Vec<u8>,
     columns: &[(Vec<u8>, usize)],
-    texts: &mut TermTexts<'_>,
+    texts: &TermTexts<'_>,
     rows: &[RankedRow<'_>],
 ) -> Result<(), AllocError>
-    ensures same { texts.new ≡ texts.old }
     ensures text { OnOk result
         (out.new.items ≡ out.old.items
-        ++ separated (map (begun_row texts.old (map begun_column columns.now))
+        ++ separated (map (begun_row texts.now (map begun_column columns.now))
         (ranks_of rows.now))) }
 {
     for i in 0..rows.len() {
         if i > 0 {
             out.push(b',')?;
         }
-        put_row(alloc, out, columns, texts, rows[i].ranks)?;
+        put_row(alloc, out, columns, texts, &rows[i])?;
     }
     Ok(())
 }
@@ -129,6 +166,7 @@ pub(crate) fn to_json(
     out.extend_from_slice(b"{\"head\":{\"vars\":[")?;
     put_names(alloc, &mut out, names, listed)?;
     out.extend_from_slice(b"]},\"results\":{\"bindings\":[")?;
+    out.reserve(print_texts(alloc, &columns, texts, rows)?)?;
     put_rows(alloc, &mut out, &columns, texts, rows)?;
     out.extend_from_slice(b"]}}\n")?;
     Ok(out)

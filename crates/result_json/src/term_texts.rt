@@ -3,42 +3,34 @@ ghost use Rattle.std.specs.Prelude.{◌≡◌, ◌++◌, ◌<◌, length, IfOk, 
 ghost use Rattle.dict_core.specs.Dict.{term_at};
 ghost use Rattle.result_json.specs.Ranks.{ranked_cell, terms_of};
 ghost use Rattle.result_json.specs.Results.{term_text};
-ghost use Rattle.result_json.specs.Texts.{texts_of, AreEmpty};
 
 use crate::values::printed_term;
 use rdf_core::Term;
 use std::alloc::{AllocError, Global};
 use std::marker::Model;
 
-/// Terms, with the text of each that was printed already. A contract sees the list of the terms.
+/// Terms, with the texts of those that were printed already, all in one buffer. A contract sees the
+/// list of the terms.
 #[derive(Drop)]
 pub(crate) struct TermTexts<'a> {
     terms: &'a [(&'a Term, u64)],
-    texts: Vec<Vec<u8>>,
+    /// The texts, in the order in which they were printed.
+    printed: Vec<u8>,
+    /// Where each term's text begins and ends: at one place while it is not printed.
+    spans: Vec<(usize, usize)>,
 }
 
 impl<'a> Model for TermTexts<'a> {
     ghost use Rattle.std.specs.Prelude.{List};
     ghost use Rattle.rdf_core.specs.declared.term.Term.{Term};
     ghost use Rattle.result_json.specs.Ranks.{terms_of};
-    ghost use Rattle.result_json.specs.Texts.{texts_of, ArePrinted};
+    ghost use Rattle.result_json.specs.Texts.{ArePrinted};
 
     ghost Value = { List Term };
 
     ghost view = { λ t. terms_of t.terms.now };
 
-    ghost invariant = { λ t. ArePrinted (terms_of t.terms.now) (texts_of t.texts.items) };
-}
-
-/// So many empty texts.
-fn empty_texts(alloc: Global, count: usize) -> Result<Vec<Vec<u8>>, AllocError>
-    ensures texts { IfOk result (λ made. AreEmpty count (texts_of made.items)) }
-{
-    let mut made = Vec::with_capacity(alloc, count)?;
-    for _turn in 0..count {
-        made.push(Vec::new(alloc))?;
-    }
-    Ok(made)
+    ghost invariant = { λ t. ArePrinted (terms_of t.terms.now) t.printed.items t.spans.items };
 }
 
 impl<'a> TermTexts<'a> {
@@ -52,8 +44,13 @@ impl<'a> TermTexts<'a> {
     ) -> Result<TermTexts<'a>, AllocError>
         ensures terms { IfOk result (λ made. made ≡ terms_of terms.now) }
     {
-        let texts = empty_texts(alloc, terms.len())?;
-        Ok(TermTexts { terms, texts })
+        let spans = vec![in alloc; (0, 0); terms.len()]?;
+        let printed = Vec::new(alloc);
+        Ok(TermTexts {
+            terms,
+            printed,
+            spans,
+        })
     }
 
     /// The place of a rank's term, and None where the rank is no term's.
@@ -68,27 +65,44 @@ impl<'a> TermTexts<'a> {
         }
     }
 
-    /// Appends the text of the term at a place, which is printed now if it was not yet.
+    /// Prints the term at a place, if it was not printed yet, and answers the length of its text.
+    ///
+    /// # Errors
+    /// `AllocError`: a growth was refused.
+    pub(crate) fn print(&mut self, alloc: Global, place: usize) -> Result<usize, AllocError>
+        requires inside { place < length self.old }
+        ensures same { self.new ≡ self.old }
+        ensures length { IfOk result (λ n. n ≡ length (term_text (term_at self.old place))) }
+    {
+        let (start, end) = self.spans[place];
+        if start < end {
+            return Ok(end - start);
+        }
+        let text = printed_term(alloc, self.terms[place].0)?;
+        let start = self.printed.len();
+        self.printed.extend_from_slice(&text)?;
+        self.spans[place] = (start, self.printed.len());
+        Ok(text.len())
+    }
+
+    /// Appends the text of the term at a place. One that was not printed yet is printed for this once.
     ///
     /// # Errors
     /// `AllocError`: a growth was refused.
     pub(crate) fn put(
-        &mut self,
+        &self,
         alloc: Global,
         out: &mut Vec<u8>,
         place: usize,
     ) -> Result<(), AllocError>
-        requires inside { place < length self.old }
-        ensures same { self.new ≡ self.old }
+        requires inside { place < length self.now }
         ensures text { OnOk result
-            (out.new.items ≡ out.old.items ++ term_text (term_at self.old place)) }
+            (out.new.items ≡ out.old.items ++ term_text (term_at self.now place)) }
     {
-        if !self.texts[place].is_empty() {
-            return out.extend_from_slice(&self.texts[place]);
+        let (start, end) = self.spans[place];
+        if start < end {
+            return out.extend_from_slice(&self.printed[start..end]);
         }
-        let text = printed_term(alloc, self.terms[place].0)?;
-        out.extend_from_slice(&text)?;
-        self.texts[place] = text;
-        Ok(())
+        out.extend_from_slice(&printed_term(alloc, self.terms[place].0)?)
     }
 }

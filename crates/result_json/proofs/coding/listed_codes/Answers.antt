@@ -1,4 +1,4 @@
-use Rattle.std.proofs.Common.{◌≡◌, ◌++◌, ◌∙◌, flat_map, length, ap, sym, take, List, ℕ}
+use Rattle.std.proofs.Common.{◌++◌, ◌∙◌, length, sym}
 use Rattle.result_json.specs.Ranks.{codes_of}
 use Rattle.result_json.proofs.SliceLaws.{flat_map-more}
 use Rattle.result_json.proofs.coding.listed_codes.Goals as goal

@@ -1,4 +1,4 @@
-use Rattle.std.proofs.Common.{◌≡◌, ◌++◌, ◌∙◌, ℕ, ◌+◌, Bool, true, [], ◌∷◌, List, All, Vec, Global, length, get_or, set, take, ap, sym, subst, arith}
+use Rattle.std.proofs.Common.{◌≡◌, ◌++◌, ◌∙◌, ℕ, ◌+◌, Bool, true, [], ◌∷◌, List, All, Vec, Global, length, get_or, set, ap, sym, subst, arith}
 use Rattle.std.proofs.lemmas.List.{take_all}
 use Rattle.rdf_core.specs.declared.term.Term.{Term}
 use Rattle.result_json.specs.Ranks.{Entry, numbers_of, IsCovered}

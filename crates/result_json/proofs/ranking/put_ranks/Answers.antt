@@ -1,5 +1,5 @@
-use Rattle.std.proofs.Common.{◌≡◌, ◌∙◌, ap, get_or, set, ℕ}
-use Rattle.result_json.proofs.SliceLaws.{upto, upto-more}
+use Rattle.std.proofs.Common.{◌∙◌, ap, get_or, set, ℕ}
+use Rattle.result_json.proofs.SliceLaws.{upto-more}
 use Rattle.result_json.proofs.ranking.put_ranks.Goals as goal
 
 pub loop-code-preserved : goal.loop-code-preserved

@@ -6,7 +6,6 @@ use Rattle.result_json.proofs.results.put_row.Given as goal
 
 abbrev pub invariant-loop-prefix : goal.invariant-loop-prefix
 invariant-loop-prefix l = record {
-  same : l.texts ≡ l.fn.texts;
-  text : l.out.items ≡ l.fn.out.items ++ (codes "{" ++ separated (begun_members l.fn.texts l.ranks (map begun_column (take l.prefix-index l.columns))));
-  later : l.later ≡ is_cons (begun_members l.fn.texts l.ranks (map begun_column (take l.prefix-index l.columns)));
+  text : l.out.items ≡ l.fn.out.items ++ (codes "{" ++ separated (begun_members l.texts l.row.ranks.now (map begun_column (take l.prefix-index l.columns))));
+  later : l.later ≡ is_cons (begun_members l.texts l.row.ranks.now (map begun_column (take l.prefix-index l.columns)));
 }

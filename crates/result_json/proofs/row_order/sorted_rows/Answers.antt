@@ -1,4 +1,4 @@
-use Rattle.std.proofs.Common.{◌≡◌, subst, IsPermutation, List, ℕ}
+use Rattle.std.proofs.Common.{subst, IsPermutation, List, ℕ}
 use Rattle.std.proofs.lemmas.List.Sorted.{IsPermutation-map}
 use Rattle.result_json.specs.declared.ranked_row.RankedRow.{RankedRow}
 use Rattle.result_json.specs.RankedRows.{ranks_of}
