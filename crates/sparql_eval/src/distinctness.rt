@@ -1,10 +1,11 @@
 //! Distinct (SPARQL 1.1 Query Language, section 18.5).
-ghost use Rattle.std.specs.Prelude.{◌≡◌, not, [], ◌∷◌, ◌++◌, nat_eq, IfOk, OnOk, if◌then◌else◌};
+ghost use Rattle.std.specs.Prelude.{◌≡◌, not, [], ◌∷◌, ◌++◌, nat_eq, IfErr, IfOk, OnOk, if◌then◌else◌};
 ghost use Rattle.std.specs.List.{list_any};
 ghost use Rattle.rdf_core.proofs.TermLaws.{term_eq};
 ghost use Rattle.algebra_model.specs.Operators.{distinct};
 ghost use Rattle.algebra_model.specs.Solution.{same_solution};
 ghost use Rattle.sparql_eval.specs.Evaluated.{AreKnown, IsEvaluated, solutions_of};
+ghost use Rattle.row_pieces.specs.declared.how.EvalFault.TheVariants.{Memory};
 
 use dict_core::Dict;
 use indexmap::IndexSet;
@@ -30,6 +31,7 @@ pub fn distinct(
     requires known { AreKnown dict rows.now }
     ensures evaluated { IfOk result (λ r. IsEvaluated dict rows.now.width
         (distinct term_eq (solutions_of dict rows.now)) r.0 r.1) }
+    ensures refused { IfErr result (λ fault. fault ≡ Memory) }
 {
     let mut seen = IndexSet::with_hasher(alloc, state);
     let mut made = Rows::new(alloc, rows.width());

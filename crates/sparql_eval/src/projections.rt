@@ -1,8 +1,9 @@
 //! Project (SPARQL 1.1 Query Language, section 18.5).
-ghost use Rattle.std.specs.Prelude.{◌≡◌, ℕ, ◌<◌, ◌==◌, Bool, false, length, get_or, None, IfOk, OnOk, if◌then◌else◌};
+ghost use Rattle.std.specs.Prelude.{◌≡◌, ℕ, ◌<◌, ◌==◌, Bool, false, length, get_or, None, IfErr, IfOk, OnOk, if◌then◌else◌};
 ghost use Rattle.std.specs.List.{list_any};
 ghost use Rattle.algebra_model.specs.Operators.{project, restrict};
 ghost use Rattle.sparql_eval.specs.Evaluated.{AreKnown, IsEvaluated, solutions_of};
+ghost use Rattle.row_pieces.specs.declared.how.EvalFault.TheVariants.{Memory};
 
 use dict_core::Dict;
 use row_core::Rows;
@@ -25,6 +26,7 @@ pub fn project(
     requires known { AreKnown dict rows.now }
     ensures evaluated { IfOk result (λ r. IsEvaluated dict rows.now.width
         (project variables.now (solutions_of dict rows.now)) r.0 r.1) }
+    ensures refused { IfErr result (λ fault. fault ≡ Memory) }
 {
     let kept = kept_variables(alloc, rows.width(), variables)?;
     let mut made = Rows::new(alloc, rows.width());

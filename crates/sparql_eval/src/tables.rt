@@ -1,10 +1,11 @@
 //! Tables of VALUES (SPARQL 1.1 Query Language, section 18.2.2.6).
-ghost use Rattle.std.specs.Prelude.{◌≡◌, ◌<◌, All, length, map, option_map, IfOk, OnOk};
+ghost use Rattle.std.specs.Prelude.{◌≡◌, ◌<◌, All, length, map, option_map, IfErr, IfOk, OnOk};
 ghost use Rattle.dict_core.specs.Dict.{IsGrown, term_at};
 ghost use Rattle.algebra_model.specs.Operators.{table, table_row};
 ghost use Rattle.algebra_model.specs.Reading.{read_row};
 ghost use Rattle.sparql_eval.specs.Evaluated.{IsEvaluated};
 ghost use Rattle.sparql_eval.specs.Numbered.{IsKnownCell, IsKnownRow};
+ghost use Rattle.row_pieces.specs.declared.how.EvalFault.TheVariants.{Memory};
 
 use crate::numbering::number_of_term;
 use dict_core::Dict;
@@ -31,6 +32,7 @@ pub fn table(
     requires below { All (λ v. v < width) variables.now }
     ensures evaluated { IfOk result (λ r. IsEvaluated dict width
         (table width variables.now (map (λ row. row.items) rows.now)) r.0 r.1) }
+    ensures refused { IfErr result (λ fault. fault ≡ Memory) }
 {
     let mut dict = dict;
     let mut made = Rows::new(alloc, width);

@@ -1,6 +1,7 @@
 //! Union (SPARQL 1.1 Query Language, section 18.5).
-ghost use Rattle.std.specs.Prelude.{◌≡◌, ◌++◌, IfOk};
+ghost use Rattle.std.specs.Prelude.{◌≡◌, ◌++◌, IfErr, IfOk};
 ghost use Rattle.sparql_eval.specs.Evaluated.{AreKnown, IsEvaluated, solutions_of};
+ghost use Rattle.row_pieces.specs.declared.how.EvalFault.TheVariants.{Memory};
 
 use crate::copying::add_rows;
 use dict_core::Dict;
@@ -26,6 +27,7 @@ pub fn union(
     requires known_right { AreKnown dict right.now }
     ensures evaluated { IfOk result (λ r. IsEvaluated dict left.now.width
         (solutions_of dict left.now ++ solutions_of dict right.now) r.0 r.1) }
+    ensures refused { IfErr result (λ fault. fault ≡ Memory) }
 {
     let mut made = Rows::new(alloc, left.width());
     add_rows(&mut made, left)?;

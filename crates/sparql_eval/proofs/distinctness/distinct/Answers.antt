@@ -25,10 +25,8 @@ loop-i-preserved c =
     was.seen was.made c.row-row.ensures.found c.in_ok-see.ensures.new c.in_ok-see.ensures.keys put in
     record { width = wide; made = turn.0; seen = turn.1 }
 
-pub returns : goal.returns
-returns c =
+pub returns-clause-evaluated : goal.returns-clause-evaluated
+returns-clause-evaluated c =
     let was = c.loop-i.invariant in
     let whole = all_taken c.args.rows.now.rows c.loop-i.i (omega arith) in
-    record {
-      evaluated = distinct_evaluated c.args.dict c.len-distinct.ensures.distinct c.args.rows.now c.loop-i.made c.requires.known was.width (was.made ∙ ap (distinct nat_eq) whole);
-    }
+    distinct_evaluated c.args.dict c.len-distinct.ensures.distinct c.args.rows.now c.loop-i.made c.requires.known was.width (was.made ∙ ap (distinct nat_eq) whole)

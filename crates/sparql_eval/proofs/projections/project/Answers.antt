@@ -18,10 +18,8 @@ loop-i-preserved c =
           ∙ sym (project-take c.args.variables.now (λ k. get_or kept k false) c.args.rows.now.width (λ k low. c.in_ok-kept.ensures.listed k (omega arith)) c.args.rows.now.rows c.loop-i.i row c.row.ensures.found c.row.ensures.wide);
     }
 
-pub returns : goal.returns
-returns c =
+pub returns-clause-evaluated : goal.returns-clause-evaluated
+returns-clause-evaluated c =
     let was = c.loop-i.invariant in
     let whole = all_taken c.args.rows.now.rows c.loop-i.i (omega arith) in
-    record {
-      evaluated = project_evaluated c.args.dict c.args.variables.now c.args.rows.now c.loop-i.made c.requires.known was.width (was.made ∙ ap (project c.args.variables.now) whole);
-    }
+    project_evaluated c.args.dict c.args.variables.now c.args.rows.now c.loop-i.made c.requires.known was.width (was.made ∙ ap (project c.args.variables.now) whole)
