@@ -1,10 +1,11 @@
-"""What compare.py and queries.py share: datasets, runs of a command, tables.
+"""What compare.py, queries.py and phases.py share: datasets, runs of a command, tables.
 
 A run reads its document from standard input and writes to a file, so that this script stays small: what
 the system tells of a child's memory has the parent's from before the exec in it. The peak of a command
 that takes less than about 20 MiB is therefore not told apart.
 Python 3 standard library only.
 """
+import argparse
 import datetime
 import os
 import subprocess
@@ -70,6 +71,20 @@ def dataset(folder, quads):
         with open(path, "wb") as out:
             subprocess.run([sys.executable, os.path.join(HERE, "datasets.py"), str(quads)], stdout=out, check=True)
     return path
+
+
+def query_words(description, quads):
+    """The words of a script that measures queries over datasets of several sizes: those given, or its own."""
+    asked = argparse.ArgumentParser(description=description)
+    asked.add_argument("--spq", default=SPQ)
+    asked.add_argument("--quads", default=quads)
+    asked.add_argument("--runs", type=int, default=3)
+    asked.add_argument("--workers", default="4")
+    asked.add_argument("--only", default="", help="the queries with this word in their name")
+    asked.add_argument("--folder", help="where datasets are kept; a folder of its own where none is given")
+    words = asked.parse_args()
+    words.spq = program(words.spq)
+    return words
 
 
 def program(path):

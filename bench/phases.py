@@ -9,7 +9,6 @@ answer is composed; loading plays no part. Each query runs so many times, and th
 It needs Linux, root, perf with its trace folder, binutils, and a program with symbols, as the gate builds it.
 Python 3 standard library only.
 """
-import argparse
 import os
 import re
 import subprocess
@@ -69,15 +68,7 @@ def line(name, result, before):
 
 
 def main():
-    asked = argparse.ArgumentParser(description=__doc__.split("\n")[0])
-    asked.add_argument("--spq", default=measure.SPQ)
-    asked.add_argument("--quads", default="1200000,3600000")
-    asked.add_argument("--runs", type=int, default=3)
-    asked.add_argument("--workers", default="4")
-    asked.add_argument("--only", default="", help="the queries with this word in their name")
-    asked.add_argument("--folder", help="where datasets are kept; a folder of its own where none is given")
-    words = asked.parse_args()
-    words.spq = measure.program(words.spq)
+    words = measure.query_words(__doc__.split("\n")[0], "1200000,3600000")
     set_probes(words.spq)
     print(f"{measure.machine()}\n")
     before = {}

@@ -11,7 +11,6 @@ should take about ten times as long.
 A dataset of 1,200,000 quads has about 100,000 works, so there `join` joins two lists of 100,000 rows.
 Python 3 standard library only.
 """
-import argparse
 import os
 import sys
 import tempfile
@@ -93,15 +92,7 @@ def line(name, result, before):
 
 
 def main():
-    asked = argparse.ArgumentParser(description=__doc__.split("\n")[0])
-    asked.add_argument("--spq", default=measure.SPQ)
-    asked.add_argument("--quads", default="120000,1200000")
-    asked.add_argument("--runs", type=int, default=3)
-    asked.add_argument("--workers", default="4")
-    asked.add_argument("--only", default="", help="the queries with this word in their name")
-    asked.add_argument("--folder", help="where datasets are kept; a folder of its own where none is given")
-    words = asked.parse_args()
-    words.spq = measure.program(words.spq)
+    words = measure.query_words(__doc__.split("\n")[0], "120000,1200000")
     chosen = {name: query for name, query in {**QUERIES, **PAIRS, **NO_KEY}.items() if words.only in name}
     print(f"{measure.machine()}\n")
     before = {}
