@@ -1,7 +1,7 @@
 -- Rows that lie in one list of cells.
-use Rattle.std.proofs.Common.{◌≡◌, ℕ, zero, suc, ◌+◌, ◌*◌, ◌<◌, ◌≤◌, List, [], ◌∷◌, ◌++◌, length, take, drop, slice_get, Option, None, Some, refl, sym, ap, ◌∙◌, arith}
+use Rattle.std.proofs.Common.{◌≡◌, ℕ, zero, suc, ◌+◌, ◌*◌, ◌<◌, ◌≤◌, List, [], ◌∷◌, ◌++◌, length, take, drop, slice_get, Option, None, Some, refl, sym, ap, ◌∙◌, arith, subst, All}
 use Rattle.std.proofs.Math.Nat.{suc-mul, zero-mul, mul-le-mul_right}
-use Rattle.std.proofs.lemmas.List.{take_all, length-drop, take-append-le, drop-append-le, drop-drop}
+use Rattle.std.proofs.lemmas.List.{take_all, length-take, length-drop, take-append-le, drop-append-le, drop-drop}
 use Rattle.row_core.specs.RowList.{RowList, rows_in, stride, padded}
 
 module _ {X : Type 0} (w s : ℕ) where
@@ -40,6 +40,18 @@ module _ {X : Type 0} (w s : ℕ) where
       ∙ ap (λ (r : List X). Some (take w r)) (drop-drop (i * s) s cells)
       ∙ ap (λ k. Some (take w (drop k cells))) (omega arith)
 
+  -- each row is as long as it is to be
+  pub wide-rows_in : (n : ℕ) (cells : List X) → n * s ≤ length cells → w ≤ s → All (λ row. length row ≡ w) (rows_in w s n cells)
+  wide-rows_in zero cells h l k d low = absurd (omega arith)
+  wide-rows_in (suc n) cells h l zero d low =
+      let e = suc-mul n s in
+      let t = length-take w cells in
+      omega arith
+  wide-rows_in (suc n) cells h l (suc k) d low =
+      let e = suc-mul n s in
+      let ld = length-drop s cells in
+      wide-rows_in n (drop s cells) (omega arith) l k d (omega arith)
+
 -- a row lies inside the cells
 pub row-inside : (w s n i k : ℕ) → i < n → w ≤ s → k ≡ n * s → i * s + w ≤ k
 row-inside w s n i k h l e =
@@ -72,6 +84,11 @@ module _ (w n : ℕ) (cells : List (Option ℕ)) (v : RowList) (is : record { wi
       let n' = count-shown in
       let l : w ≤ stride w = omega arith in
       row-inside w (stride w) n i (length cells) (omega arith) l e
+
+  pub wide-shown : length cells ≡ n * stride w → All (λ row. length row ≡ v.width) v.rows
+  wide-shown e =
+      let l : w ≤ stride w = omega arith in
+      subst (λ (r : RowList). All (λ row. length row ≡ r.width) r.rows) is (wide-rows_in w (stride w) n cells (omega arith) l)
 
   -- one row more
   pub rows-pushed : (row all : List (Option ℕ)) → length row ≡ v.width → length cells ≡ n * stride w

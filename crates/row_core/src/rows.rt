@@ -1,6 +1,6 @@
 //! Lists of rows of optional numbers, each row of one width.
 ghost use Rattle.row_core.specs.RowList.{stride, padded};
-ghost use Rattle.std.specs.Prelude.{◌≡◌, ◌+◌, ◌<◌, ◌≤◌, take, drop, [], ◌∷◌, ◌++◌, length, Some, None, slice_get, get_or, OnOk, OnErr};
+ghost use Rattle.std.specs.Prelude.{◌≡◌, ◌+◌, ◌<◌, ◌≤◌, take, drop, [], ◌∷◌, ◌++◌, length, Some, None, slice_get, get_or, All, OnOk, OnErr};
 
 use std::alloc::{AllocError, Global};
 use std::marker::Model;
@@ -66,9 +66,10 @@ impl Rows {
         }
     }
 
-    /// The number of variables.
+    /// The number of variables, which is the length of each row.
     pub fn width(&self) -> usize
         ensures value { result ≡ self.now.width }
+        ensures wide { All (λ row. length row ≡ self.now.width) self.now.rows }
     {
         self.width
     }

@@ -1,1 +1,2 @@
 mod PieceSteps
+mod RunningSteps

@@ -7,7 +7,8 @@ ghost use Rattle.row_pieces.specs.How.{IsRunnable};
 ghost use Rattle.row_pieces.specs.Pieces.{AreRowsOf, piece_of};
 
 use crate::how::{EvalFault, How};
-use piece_pool::{Gate, Job, JobFault, Outcome, run_pieces};
+use crate::running::run_all;
+use piece_pool::{Gate, Job, JobFault, Outcome};
 use row_core::Rows;
 use std::alloc::{AllocError, Global};
 use std::sync::Wait;
@@ -71,7 +72,7 @@ impl<'w, W: RowWork> Job for RowPieces<'w, W> {
 }
 
 /// The rows of all elements, element by element and cut into pieces as `how` says: the bag of all
-/// parts. Workers do the pieces: one piece alone takes a worker too.
+/// parts. Workers do the pieces, and one piece alone the caller.
 ///
 /// # Requires
 /// `how` keeps its limits.
@@ -93,7 +94,7 @@ pub fn over_pieces<R: Threads + Wait, W: RowWork + Sync, G: Gate + Sync>(
     let size = piece_size(count, how.rows);
     let pieces = count.div_ceil(size) as u64;
     let job = RowPieces { work, size };
-    match run_pieces(rt, alloc, how.workers, pieces, &job, gate)? {
+    match run_all(rt, alloc, how.workers, pieces, &job, gate)? {
         Outcome::All(outs) => Ok(join_pieces(alloc, work.row_width(), outs)?),
         Outcome::First { .. } => unreachable!(),
     }

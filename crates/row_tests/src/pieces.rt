@@ -1,9 +1,11 @@
-//! How many elements a piece has, and under which name a refusal is told. `over_pieces` is run by the tests
-//! of the operators that stand on it.
+//! How many elements a piece has, under which name a refusal is told, and jobs of no piece, of one and of
+//! more. `over_pieces` is run by the tests of the operators that stand on it.
 
-use piece_pool::PoolFault;
-use row_pieces::{EvalFault, piece_size};
-use std::alloc::AllocError;
+use piece_pool::{Gate, Job, JobFault, Outcome, PoolFault};
+use row_pieces::{EvalFault, piece_size, run_all};
+use std::alloc::{AllocError, Global};
+use std::sync::atomic::{AtomicU64, Ordering};
+use std::test::Fail;
 
 /// A piece has as many elements as asked for, and more only where there would be too many pieces.
 #[test]
@@ -25,4 +27,92 @@ fn a_refusal_keeps_its_name(rt: HostRuntime) {
     assert!(rt; refused == EvalFault::Memory, "memory, by the pool");
     let refused = EvalFault::from(AllocError);
     assert!(rt; refused == EvalFault::Memory, "memory");
+}
+
+/// Answers each piece below `sound` with its number, and faults at every other one with it.
+#[derive(Drop)]
+struct Numbers {
+    sound: u64,
+}
+
+impl Job for Numbers {
+    ghost use Rattle.std.specs.Prelude.{◌≡◌, ◌<◌, ◌≤◌};
+
+    type Out = u64;
+
+    type Fault = u64;
+
+    ghost answers = { λ job i out. (i < job.sound) × (out ≡ i) };
+
+    ghost faults = { λ job i fault. (job.sound ≤ i) × (fault ≡ i) };
+
+    fn run(&self, _alloc: Global, i: u64) -> Result<u64, JobFault<u64>> {
+        if i < self.sound {
+            Ok(i)
+        } else {
+            Err(JobFault::Own(i))
+        }
+    }
+
+    ghost use Rattle.std.proofs.Common.{arith};
+
+    ghost exclusive = { λ _ i out fault a f. absurd (Prim.omega (arith, a.0, f.0)) };
+}
+
+/// Counts its calls.
+#[derive(Drop)]
+struct Counter {
+    entered: AtomicU64,
+    left: AtomicU64,
+}
+
+impl Gate for Counter {
+    fn enter(&self, _i: u64) {
+        self.entered.fetch_add(1, Ordering::SeqCst);
+    }
+
+    fn leave(&self, _i: u64) {
+        self.left.fetch_add(1, Ordering::SeqCst);
+    }
+}
+
+/// No piece, one piece, which the caller runs, and more: each answer is in its place, and each piece passed
+/// the gate once.
+#[test]
+fn each_piece_is_answered_in_its_place(rt: HostRuntime) -> Result<(), Fail> {
+    for n in [0u64, 1, 2, 9] {
+        let gate = Counter {
+            entered: AtomicU64::new(0),
+            left: AtomicU64::new(0),
+        };
+        let job = Numbers { sound: 9 };
+        let Ok(Outcome::All(outs)) = run_all(&rt, rt.alloc(), 2, n, &job, &gate) else {
+            panic!(rt; "no answers of {n} pieces")
+        };
+        assert_eq!(rt; outs.len() as u64, n);
+        for (i, out) in outs.iter().enumerate() {
+            assert_eq!(rt; *out, i as u64, "of {n} pieces");
+        }
+        assert_eq!(rt; gate.entered.load(Ordering::SeqCst), n);
+        assert_eq!(rt; gate.left.load(Ordering::SeqCst), n);
+    }
+    Ok(())
+}
+
+/// The fault of one piece alone is named, and has left the gate.
+#[test]
+fn a_lone_faulty_piece_is_named(rt: HostRuntime) -> Result<(), Fail> {
+    let gate = Counter {
+        entered: AtomicU64::new(0),
+        left: AtomicU64::new(0),
+    };
+    let job = Numbers { sound: 0 };
+    let Ok(Outcome::First { piece, fault }) = run_all(&rt, rt.alloc(), 2, 1, &job, &gate) else {
+        panic!(rt; "no fault")
+    };
+    assert_eq!(rt; piece, 0);
+    assert_eq!(rt; fault, 0);
+    assert_eq!(rt; gate.entered.load(Ordering::SeqCst), 1);
+    assert_eq!(rt; gate.left.load(Ordering::SeqCst), 1);
+    Ok(())
 }

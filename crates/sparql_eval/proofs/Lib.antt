@@ -11,3 +11,4 @@ mod GraphSteps
 mod NamedSteps
 mod TreeSteps
 mod EvaluateSteps
+mod UnitSteps

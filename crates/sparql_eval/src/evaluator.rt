@@ -20,7 +20,7 @@ use crate::distinctness::distinct;
 use crate::extensions::extend;
 use crate::filters::filter;
 use crate::graphs::{add_named, graph_number, name_row};
-use crate::joins::{join, left_join, minus};
+use crate::joins::{join_of, left_join, minus};
 use crate::patterns::pattern;
 use crate::projections::project;
 use crate::tables::table;
@@ -72,7 +72,7 @@ impl<'a, R: Threads + Wait, G: Gate + Sync> Evaluator<'a, R, G> {
             Operator::Join { left, right } => {
                 let (left, dict) = self.solve(dict, active, left)?;
                 let (right, dict) = self.solve(dict, active, right)?;
-                self.join(dict, &left, &right)
+                self.join(dict, left, right)
             }
             Operator::LeftJoin {
                 left,
@@ -197,14 +197,14 @@ impl<'a, R: Threads + Wait, G: Gate + Sync> Evaluator<'a, R, G> {
         )
     }
 
-    fn join(&self, dict: Dict, left: &Rows, right: &Rows) -> Result<(Rows, Dict), EvalFault>
-        requires same_width { left.now.width ≡ right.now.width }
-        requires known_left { AreKnown dict left.now }
-        requires known_right { AreKnown dict right.now }
-        ensures evaluated { IfOk result (λ r. IsEvaluated dict left.now.width
-            (join term_eq (solutions_of dict left.now) (solutions_of dict right.now)) r.0 r.1) }
+    fn join(&self, dict: Dict, left: Rows, right: Rows) -> Result<(Rows, Dict), EvalFault>
+        requires same_width { left.width ≡ right.width }
+        requires known_left { AreKnown dict left }
+        requires known_right { AreKnown dict right }
+        ensures evaluated { IfOk result (λ r. IsEvaluated dict left.width
+            (join term_eq (solutions_of dict left) (solutions_of dict right)) r.0 r.1) }
     {
-        join(
+        join_of(
             self.rt, self.alloc, self.state, dict, left, right, self.how, self.gate,
         )
     }

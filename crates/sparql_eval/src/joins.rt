@@ -1,5 +1,7 @@
 //! Join, LeftJoin and Minus (SPARQL 1.1 Query Language, section 18.5).
-ghost use Rattle.std.specs.Prelude.{◌≡◌, IfOk};
+ghost use Rattle.std.specs.Bool.{OnTrue};
+ghost use Rattle.std.specs.List.{list_all};
+ghost use Rattle.std.specs.Prelude.{◌≡◌, ◌∷◌, [], is_some, not, replicate, None, IfOk};
 ghost use Rattle.rdf_core.proofs.TermLaws.{term_eq};
 ghost use Rattle.algebra_model.specs.Expression.{holds};
 ghost use Rattle.algebra_model.specs.Operators.{join, left_join, minus};
@@ -51,6 +53,46 @@ pub fn join<R: Threads + Wait, G: Gate + Sync>(
     let _distinct = dict.len();
     let made = row_join::join(rt, alloc, state, left, right, how, gate)?;
     Ok((made, dict))
+}
+
+/// The join of rows that nobody else needs. Where the left side is the one row that binds nothing, with
+/// which each group begins, the right side is the answer.
+pub(crate) fn join_of<R: Threads + Wait, G: Gate + Sync>(
+    rt: &R,
+    alloc: Global,
+    state: RandomState,
+    dict: Dict,
+    left: Rows,
+    right: Rows,
+    how: &How,
+    gate: &G,
+) -> Result<(Rows, Dict), EvalFault>
+    requires same_width { left.width ≡ right.width }
+    requires known_left { AreKnown dict left }
+    requires known_right { AreKnown dict right }
+    requires how { IsRunnable how.now }
+    ensures evaluated { IfOk result (λ r. IsEvaluated dict left.width
+        (join term_eq (solutions_of dict left) (solutions_of dict right)) r.0 r.1) }
+{
+    if binds_nothing(&left, right.width()) {
+        return Ok((right, dict));
+    }
+    join(rt, alloc, state, dict, &left, &right, how, gate)
+}
+
+/// Whether there is one row, of this width, and it binds no variable.
+fn binds_nothing(rows: &Rows, width: usize) -> bool
+    requires width { rows.now.width ≡ width }
+    ensures unit { OnTrue result (rows.now.rows ≡ replicate width None ∷ []) }
+{
+    rows.len() == 1 && all_open(rows.row(0))
+}
+
+/// Whether the row binds no variable.
+fn all_open(row: &[Option<u64>]) -> bool
+    ensures value { result ≡ list_all (λ cell. not (is_some cell)) row.now }
+{
+    row.iter().all(|cell| cell.is_none())
 }
 
 /// LeftJoin: the merges of compatible pairs of which the condition is true, and each left row that

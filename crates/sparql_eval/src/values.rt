@@ -13,10 +13,10 @@ use crate::numbering::number_new;
 use crate::piece_values::{PieceValue, PieceValues};
 use crate::reading::ReadRow;
 use dict_core::Dict;
-use piece_pool::{Gate, Job, JobFault, Outcome, run_pieces};
+use piece_pool::{Gate, Job, JobFault, Outcome};
 use rdf_core::Term;
 use row_core::Rows;
-use row_pieces::{EvalFault, How, piece_size};
+use row_pieces::{EvalFault, How, piece_size, run_all};
 use sparql_algebra::{Expr, ExprFault, value};
 use std::alloc::{AllocError, Global};
 use std::hash::RandomState;
@@ -49,7 +49,7 @@ pub(crate) fn values_of<R: Threads + Wait, G: Gate + Sync>(
         expression,
         size,
     };
-    match run_pieces(rt, alloc, how.workers, pieces, &job, gate)? {
+    match run_all(rt, alloc, how.workers, pieces, &job, gate)? {
         Outcome::All(outs) => Ok(outs),
         Outcome::First { .. } => unreachable!(),
     }

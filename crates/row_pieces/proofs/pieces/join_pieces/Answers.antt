@@ -1,4 +1,4 @@
-use Rattle.std.proofs.Common.{◌≡◌, ◌++◌, ◌∷◌, ap, sym, subst, suc, ◌∙◌, arith, List, ℕ, Option, length, append_assoc}
+use Rattle.std.proofs.Common.{◌≡◌, ◌++◌, ap, sym, subst, suc, ◌∙◌, arith, List, ℕ, Option, length, append_assoc}
 use Rattle.std.specs.List.{flat_map, slice_index_or}
 use Rattle.std.specs.Vec.Iter.{into_iter_items}
 use Rattle.row_core.specs.declared.rows.Rows.{Rows}
