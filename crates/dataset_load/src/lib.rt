@@ -17,6 +17,8 @@
 //! let store = load(&rt, alloc, doc, &cuts, 4, &OpenGate)?;
 //! ```
 //!
+//! The cuts that `Cuts::every` makes of a document fit it, so the condition of [`load`] is met.
+//!
 //! Not promised: that a second thread ran, which worker read what, how much memory is used, that a
 //! call returns (it joins its workers).
 #![tactic(auto)]

@@ -24,6 +24,10 @@ use std::thread::Threads;
 /// Concepts, section 4). Workers read the pieces side by side; neither the cut, nor their number, nor
 /// the gate changes the outcome.
 ///
+/// The gate sees pieces by their place in a round, from 0 on anew in each: a round ends at the first
+/// piece with which it has 8 MiB and 16 pieces for each worker, at 2^20 pieces, or at the end of the
+/// document. The sorting of the index calls no gate of the caller.
+///
 /// # Requires
 /// `cuts` are cuts of this document, and `workers` is 1 to 64.
 ///

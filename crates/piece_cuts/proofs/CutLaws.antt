@@ -3,7 +3,7 @@ use Rattle.std.proofs.Common.{◌≡◌, ℕ, zero, suc, ◌+◌, ◌-◌, ◌<�
 use Rattle.std.proofs.lemmas.List.{get_or-drop, take_all}
 use Rattle.std.proofs.lemmas.Bool.{eqb-true}
 use Rattle.memchr.specs.Find.{Nowhere, NoneBefore, Passes, is_byte}
-use Rattle.piece_cuts.specs.Cuts.{IsNextCut, HasNoNextCut, AreCutsFrom}
+use Rattle.piece_cuts.specs.Cuts.{IsNextCut, HasNoNextCut, AreCutsFrom, AreEveryFrom}
 
 module _ (doc : List ℕ) (from start size : ℕ) (starts : from + 1 ≡ start + size) (inside : from ≤ length doc) where
   abbrev hay : List ℕ
@@ -36,6 +36,11 @@ module _ (doc : List ℕ) (from start size : ℕ) (starts : from + 1 ≡ start +
     far = omega arith;
     least = λ q far before is. first.before (q - 1 - from) (omega arith) (omega arith) (Passes-before q far is);
   }
+
+-- every next cut from a start on is a cut, and they rise
+pub AreCuts-every : (doc : List ℕ) (size start : ℕ) (places : List ℕ) → 1 ≤ size → AreEveryFrom doc size start places → AreCutsFrom doc start places
+AreCuts-every doc size start [] some every = tt
+AreCuts-every doc size start (p ∷ ps) some every = (omega (arith, some, every.0.far), every.0.cut, AreCuts-every doc size p ps some every.1)
 
 -- the ends of a piece lie in order and inside the document
 pub ends-in_order : (doc : List ℕ) (low : ℕ) (places : List ℕ) (i : ℕ) → AreCutsFrom doc low places → low ≤ length doc → i < length places + 1 → get_or (low ∷ places) i 0 ≤ get_or (places ++ length doc ∷ []) i 0

@@ -22,7 +22,8 @@ impl Model for Cuts {
 
 impl Cuts {
     /// Cuts just behind each line feed that makes a piece of at least `size` bytes. A line feed that
-    /// ends the document is no cut, so no piece is empty but the one of an empty document.
+    /// ends the document is no cut, so no piece is empty but the one of an empty document. These are
+    /// cuts of this document, as `fits` says: no caller needs to test them.
     ///
     /// # Requires
     /// `size` is 1 or more.
@@ -32,6 +33,7 @@ impl Cuts {
     pub fn every(alloc: Global, doc: &[u8], size: usize) -> Result<Cuts, AllocError>
         requires some { 1 ≤ size }
         ensures places { IfOk result (AreEveryFrom doc.now size 0) }
+        ensures fits { IfOk result (AreCuts doc.now) }
     {
         let mut places = Vec::new(alloc);
         let mut start = 0;

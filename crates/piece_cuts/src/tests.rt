@@ -51,7 +51,7 @@ fn every_cuts_behind_line_feeds(rt: HostRuntime) -> Result<(), AllocError> {
     let small = Cuts::every(alloc, DOCUMENT, 1)?;
     assert_eq!(rt; small.pieces(), 4);
     assert!(rt; small.fits(DOCUMENT));
-    if small.fits(DOCUMENT) && small.pieces() == 4 {
+    if small.pieces() == 4 {
         assert!(rt; small.piece(DOCUMENT, 0) == b"a\n".as_slice());
         assert!(rt; small.piece(DOCUMENT, 1) == b"b\n".as_slice());
         assert!(rt; small.piece(DOCUMENT, 2) == b"\n".as_slice());
@@ -60,7 +60,7 @@ fn every_cuts_behind_line_feeds(rt: HostRuntime) -> Result<(), AllocError> {
     let middle = Cuts::every(alloc, DOCUMENT, 3)?;
     assert_eq!(rt; middle.pieces(), 2);
     assert!(rt; middle.fits(DOCUMENT));
-    if middle.fits(DOCUMENT) && middle.pieces() == 2 {
+    if middle.pieces() == 2 {
         assert!(rt; middle.piece(DOCUMENT, 0) == b"a\nb\n".as_slice());
         assert!(rt; middle.piece(DOCUMENT, 1) == b"\nc".as_slice());
     }
