@@ -1,2 +1,4 @@
 pub mod NumberSteps
 pub mod CommandSteps
+pub mod TakenRows
+pub mod TakenSteps

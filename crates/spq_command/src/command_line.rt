@@ -1,6 +1,6 @@
 //! The command line.
-ghost use Rattle.std.specs.Prelude.{◌≡◌, ◌≤◌, IfErr, IfOk, codes, false, map, string_bytes};
-ghost use Rattle.clap.specs.Words.{app_of, found_of, rows_of, rule_of, subcommand_rows_of};
+ghost use Rattle.std.specs.Prelude.{◌≡◌, ◌≢◌, ◌≤◌, [], IfErr, IfOk, codes, false, map, string_bytes};
+ghost use Rattle.clap.specs.Words.{app_of, fault_of, found_of, rows_of, rule_of, subcommand_rows_of};
 ghost use Rattle.clap.specs.declared.builder.command.Command.TheViews.{out-Command as fields_of};
 ghost use Rattle.spq_command.specs.Program.{HasNumber, HasReading, HasSelect, IsCommandLine, IsCommandMet, IsCommandOf, number_option, program, reading_options, select_options, with_options};
 ghost use Rattle.spq_command.specs.declared.command_line.CommandFault.TheVariants.{Memory};
@@ -171,11 +171,14 @@ fn command_of(alloc: Global, matches: &ArgMatches<'_>) -> Result<Command, Comman
 ///
 /// # Errors
 /// - `Line`: the words are no command, or ask for help; a number is none, or not within its limits.
+///   The library of command lines refuses such words itself, for another cause than memory.
 /// - `Memory`: a growth was refused. It says nothing of the words.
 pub fn read_command(alloc: Global, words: &[String]) -> Result<Command, CommandFault>
     ensures ok { IfOk result (IsCommandLine (map string_bytes words.now)) }
     ensures line { IfErr result (λ fault. fault ≡ CommandFault.Line
         → (command : _) → IsCommandLine (map string_bytes words.now) command → ⊥) }
+    ensures refused { IfErr result (λ fault. fault ≡ CommandFault.Line
+        → fault_of program (map string_bytes words.now) ≢ []) }
 {
     let line = program_line(alloc)?;
     match line.try_get_matches_from(words) {

@@ -2,7 +2,8 @@
 //!
 //! What the crates above use: a [`Command`] as a value whose type keeps the limits of its numbers
 //! ([`Reading`]), and [`read_command`]: the command that the words are (`IsCommandLine` of
-//! specs/Program.antt), and `Line` exactly where they are none.
+//! specs/Program.antt), and `Line` exactly where they are none, which is where the library of command
+//! lines refuses them (`fault_of`).
 //!
 //! To read in this order: `command` (commands), `command_line` (words).
 //!
