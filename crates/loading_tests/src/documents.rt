@@ -46,9 +46,6 @@ fn loaded<R: Threads + Wait + RandomSource>(
     requires workers { (1 ≤ workers) × (workers ≤ 64) }
 {
     let cuts = Cuts::every(alloc, doc, size)?;
-    if !cuts.fits(doc) {
-        return Err(LoadFault::Memory);
-    }
     load(rt, alloc, doc, &cuts, workers, &OpenGate)
 }
 

@@ -53,9 +53,6 @@ fn by_lines<R: Threads + Wait + RandomSource>(
     requires workers { (1 ≤ workers) × (workers ≤ 64) }
 {
     let cuts = Cuts::every(alloc, doc, 1)?;
-    if !cuts.fits(doc) {
-        return Err(Fault::Memory);
-    }
     let how = How { workers, rows: 1 };
     answer(rt, alloc, doc, query, &cuts, &how, gate)
 }

@@ -57,9 +57,6 @@ fn by_lines<R: Threads + Wait + RandomSource>(
     requires workers { (1 ≤ workers) × (workers ≤ 64) }
 {
     let cuts = Cuts::every(alloc, doc, 1)?;
-    if !cuts.fits(doc) {
-        return Err(LoadFault::Memory);
-    }
     counts(load(rt, alloc, doc, &cuts, workers, gate))
 }
 
