@@ -1,7 +1,7 @@
 """The peers that compare.py measures spq beside; those that this machine lacks are left out.
 
-Parsing: serdi (prints what it reads again), rapper and riot (count), rdflib (loads into its store), and
-plain_reader.rs. Queries: arq of Apache Jena, and rdflib.
+Parsing: serdi (prints what it reads again), serd_parse.c over serd's library, rapper and riot (count), rdflib
+(loads into its store), and plain_reader.rs. Queries: arq of Apache Jena, and rdflib.
 Python 3 standard library only.
 """
 import os
@@ -23,6 +23,9 @@ def parsers(path, folder):
     """A name and a command line for each peer that reads a document."""
     if shutil.which("serdi"):
         yield "serdi, parse and print", ["serdi", "-b", "-i", "nquads", "-o", "nquads", path]
+    serd = serd_parse(folder)
+    if serd:
+        yield "serd's library, parse", [serd]
     if shutil.which("rapper"):
         yield "rapper, parse", ["rapper", "-q", "-c", "-i", "nquads", path, "http://base.example/"]
     riot = jena("riot", "riotcmd.riot", folder)
@@ -52,6 +55,17 @@ def plain_reader(folder):
     if not os.path.exists(binary):
         source = os.path.join(HERE, "plain_reader.rs")
         subprocess.run(["rustc", "-C", "opt-level=3", "--edition", "2021", "-o", binary, source], check=True)
+    return binary
+
+
+def serd_parse(folder):
+    """serd_parse.c over serd's library; None where there is no C compiler or no such library."""
+    flags = subprocess.run(["pkg-config", "--cflags", "--libs", "serd-0"], capture_output=True, text=True) if shutil.which("pkg-config") else None
+    if not shutil.which("cc") or flags is None or flags.returncode:
+        return None
+    binary = os.path.join(folder, "serd_parse")
+    if not os.path.exists(binary):
+        subprocess.run(["cc", "-O2", "-o", binary, os.path.join(HERE, "serd_parse.c"), *flags.stdout.split()], check=True)
     return binary
 
 
