@@ -110,6 +110,15 @@ UnlessWrite P Read = P
 UnlessWrite P Write = ⊤
 UnlessWrite P Line = P
 
+abbrev pub UnlessRead : Type 0 → RunFault → Type 0
+UnlessRead P (Query f) = P
+UnlessRead P (BadLine n) = P
+UnlessRead P WorkerRefused = P
+UnlessRead P Memory = P
+UnlessRead P Read = ⊤
+UnlessRead P Write = P
+UnlessRead P Line = P
+
 abbrev pub IsNotLine : RunFault → Type 0
 IsNotLine (Query f) = ⊤
 IsNotLine (BadLine n) = ⊤
@@ -118,16 +127,6 @@ IsNotLine Memory = ⊤
 IsNotLine Read = ⊤
 IsNotLine Write = ⊤
 IsNotLine Line = ⊥
-
--- reading answers these two: the reader failed, or a growth was refused
-abbrev pub IsOfReading : Type 0 → Type 0 → RunFault → Type 0
-IsOfReading P Q (Query f) = ⊥
-IsOfReading P Q (BadLine n) = ⊥
-IsOfReading P Q WorkerRefused = ⊥
-IsOfReading P Q Memory = Q
-IsOfReading P Q Read = P
-IsOfReading P Q Write = ⊥
-IsOfReading P Q Line = ⊥
 
 -- A beginning of the output for what was read was written, and not all of it.
 pub record IsWrittenInPart (request : Request) (left left' held held' : Option (List ℕ)) : Type 0 where

@@ -28,6 +28,10 @@ use std::sync::Wait;
 use std::thread::Threads;
 
 /// The query that a text is.
+///
+/// # Errors
+/// - `Query(fault)`: this is the first rule that refuses the text; never `QueryFault::Memory`.
+/// - `Memory`: a growth was refused. It says nothing of the text.
 pub fn judged(alloc: Global, text: &str) -> Result<Query, Fault>
     ensures query { IfOk result (λ q. IsRead (chars text.now) (query_of q)) }
     ensures refused { IfErr result (IsFaultOfReading text.now) }
@@ -56,6 +60,7 @@ pub fn answer_query<R: Threads + Wait + RandomSource, G: Gate + Sync>(
     let plan = translate(alloc, query)?;
     let (dict, index) = store.into_parts();
     let (rows, dict) = evaluate(rt, alloc, dict, &index, &plan, how, gate)?;
+    drop(index);
     let offset = query.offset.unwrap_or(0);
     let bytes = print_rows(
         alloc,

@@ -3,7 +3,7 @@ ghost use Rattle.std.specs.Prelude.{◌≡◌, IfErr, IfOk, OnErr, OnOk};
 ghost use Rattle.nquads_core.specs.Device.{Rises, Stays};
 ghost use Rattle.nquads_core.specs.Transfer.{IsReadInPart};
 ghost use Rattle.spq_core.specs.Output.{check, request_of, select, terms};
-ghost use Rattle.spq_core.specs.Run.{IfBadLine, IfQuery, IfRead, IfWrite, IsBadLineFrom, IsBadLineOf, IsComposed, IsDone, IsLoadedFrom, IsNotLine, IsOfComposing, IsOfDocument, IsQueryOf, IsWrittenInPart, UnlessWrite, WriterFailed};
+ghost use Rattle.spq_core.specs.Run.{IfBadLine, IfQuery, IfRead, IfWrite, IsBadLineFrom, IsBadLineOf, IsComposed, IsDone, IsLoadedFrom, IsNotLine, IsOfComposing, IsOfDocument, IsQueryOf, IsWrittenInPart, UnlessRead, UnlessWrite, WriterFailed};
 
 use crate::answering::{answer_query, judged};
 use crate::fault::Fault;
@@ -76,6 +76,8 @@ fn load_document<R: Threads + Wait + RandomSource, S: Source>(
     ensures count { OnOk result (Stays (S.failures reader.old) (S.failures reader.new)) }
     ensures taken { OnErr result (IsReadInPart (S.left reader.old) (S.left reader.new)) }
     ensures read { IfErr result (IfRead (Rises (S.failures reader.old) (S.failures reader.new))) }
+    ensures unfailed { IfErr result
+        (UnlessRead (Stays (S.failures reader.old) (S.failures reader.new))) }
     ensures kind { IfErr result IsOfDocument }
 {
     let blocks = match read_blocks(alloc, reading.piece, reader) {
@@ -110,6 +112,8 @@ fn selected<R: Threads + Wait + RandomSource, S: Source>(
     ensures count { OnOk result (Stays (S.failures reader.old) (S.failures reader.new)) }
     ensures taken { OnErr result (IsReadInPart (S.left reader.old) (S.left reader.new)) }
     ensures read { IfErr result (IfRead (Rises (S.failures reader.old) (S.failures reader.new))) }
+    ensures unfailed { IfErr result
+        (UnlessRead (Stays (S.failures reader.old) (S.failures reader.new))) }
     ensures kind { IfErr result IsOfComposing }
 {
     a_dataset_is_a_set();
@@ -144,6 +148,8 @@ fn checked<R: Threads + Wait + RandomSource, S: Source>(
     ensures count { OnOk result (Stays (S.failures reader.old) (S.failures reader.new)) }
     ensures taken { OnErr result (IsReadInPart (S.left reader.old) (S.left reader.new)) }
     ensures read { IfErr result (IfRead (Rises (S.failures reader.old) (S.failures reader.new))) }
+    ensures unfailed { IfErr result
+        (UnlessRead (Stays (S.failures reader.old) (S.failures reader.new))) }
     ensures kind { IfErr result IsOfDocument }
 {
     let store = load_document(rt, alloc, reading, reader)?;
@@ -167,6 +173,8 @@ fn listed<R: Threads + Wait + RandomSource, S: Source>(
     ensures count { OnOk result (Stays (S.failures reader.old) (S.failures reader.new)) }
     ensures taken { OnErr result (IsReadInPart (S.left reader.old) (S.left reader.new)) }
     ensures read { IfErr result (IfRead (Rises (S.failures reader.old) (S.failures reader.new))) }
+    ensures unfailed { IfErr result
+        (UnlessRead (Stays (S.failures reader.old) (S.failures reader.new))) }
     ensures kind { IfErr result IsOfDocument }
 {
     let store = load_document(rt, alloc, reading, reader)?;
@@ -192,6 +200,8 @@ fn composed<R: Threads + Wait + RandomSource, S: Source>(
     ensures count { OnOk result (Stays (S.failures reader.old) (S.failures reader.new)) }
     ensures taken { OnErr result (IsReadInPart (S.left reader.old) (S.left reader.new)) }
     ensures read { IfErr result (IfRead (Rises (S.failures reader.old) (S.failures reader.new))) }
+    ensures unfailed { IfErr result
+        (UnlessRead (Stays (S.failures reader.old) (S.failures reader.new))) }
     ensures kind { IfErr result IsOfComposing }
 {
     match command {
@@ -219,7 +229,8 @@ fn composed<R: Threads + Wait + RandomSource, S: Source>(
 ///   beginning of the output was written.
 ///
 /// But for `Query`, bytes may have been taken from the reader: a beginning of what it had left. But for
-/// `Write`, nothing was written.
+/// `Write`, nothing was written. No failure is passed over: but for `Read`, no call of the reader
+/// failed, and but for `Write`, none of the writer.
 pub fn run<R: Threads + Wait + RandomSource, S: Source, K: Sink>(
     rt: &R,
     alloc: Global,
@@ -230,12 +241,16 @@ pub fn run<R: Threads + Wait + RandomSource, S: Source, K: Sink>(
     ensures done { OnOk result
         (IsDone (request_of command.now) (S.left reader.old) (S.left reader.new)
         (K.held writer.old) (K.held writer.new)) }
+    ensures read_count { OnOk result (Stays (S.failures reader.old) (S.failures reader.new)) }
+    ensures written_count { OnOk result (Stays (K.failures writer.old) (K.failures writer.new)) }
     ensures query { IfErr result
         (IfQuery (λ f. IsQueryOf (request_of command.now) f × (reader.new ≡ reader.old))) }
     ensures bad_line { IfErr result
         (IfBadLine (IsBadLineOf (request_of command.now) (S.left reader.old) (S.left reader.new))) }
     ensures taken { OnErr result (IsReadInPart (S.left reader.old) (S.left reader.new)) }
     ensures read { IfErr result (IfRead (Rises (S.failures reader.old) (S.failures reader.new))) }
+    ensures unfailed { IfErr result
+        (UnlessRead (Stays (S.failures reader.old) (S.failures reader.new))) }
     ensures write { IfErr result
         (IfWrite (IsWrittenInPart (request_of command.now) (S.left reader.old) (S.left reader.new)
         (K.held writer.old) (K.held writer.new))) }

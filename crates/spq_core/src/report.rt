@@ -1,6 +1,7 @@
 //! What is told of a fault: its line and its status.
 ghost use Rattle.std.specs.Prelude.{◌≡◌, ◌++◌, codes, decimal, OnErr, OnOk};
 ghost use Rattle.std.specs.Io.KnownBytes.{Appends};
+ghost use Rattle.nquads_core.specs.Device.{Stays};
 ghost use Rattle.nquads_core.specs.Transfer.{WroteBeginning};
 ghost use Rattle.spq_core.specs.Report.{fault_line, query_line, status_of};
 ghost use Rattle.spq_core.specs.Run.{WriterFailed};
@@ -52,6 +53,7 @@ fn line_of(fault: &QueryFault) -> &'static [u8]
 fn write_both<K: Sink>(writer: &mut K, front: &[u8], back: &[u8]) -> Result<(), DeviceFailed>
     ensures written { OnOk result
         (Appends (K.held writer.old) (K.held writer.new) (front.now ++ back.now)) }
+    ensures written_count { OnOk result (Stays (K.failures writer.old) (K.failures writer.new)) }
     ensures failed { OnErr result
         (WroteBeginning (K.held writer.old) (K.held writer.new) (front.now ++ back.now)) }
     ensures failed_count { OnErr result
@@ -65,6 +67,7 @@ fn write_both<K: Sink>(writer: &mut K, front: &[u8], back: &[u8]) -> Result<(), 
 fn write_number<K: Sink>(writer: &mut K, line: u128) -> Result<(), DeviceFailed>
     ensures written { OnOk result
         (Appends (K.held writer.old) (K.held writer.new) (decimal line ++ codes "\n")) }
+    ensures written_count { OnOk result (Stays (K.failures writer.old) (K.failures writer.new)) }
     ensures failed { OnErr result
         (WroteBeginning (K.held writer.old) (K.held writer.new) (decimal line ++ codes "\n")) }
     ensures failed_count { OnErr result
@@ -79,6 +82,7 @@ fn write_bad_line<K: Sink>(writer: &mut K, line: u128) -> Result<(), DeviceFaile
     ensures written { OnOk result
         (Appends (K.held writer.old) (K.held writer.new)
         (codes "error: line " ++ (decimal line ++ codes "\n"))) }
+    ensures written_count { OnOk result (Stays (K.failures writer.old) (K.failures writer.new)) }
     ensures failed { OnErr result
         (WroteBeginning (K.held writer.old) (K.held writer.new)
         (codes "error: line " ++ (decimal line ++ codes "\n"))) }
@@ -95,6 +99,7 @@ fn write_bad_line<K: Sink>(writer: &mut K, line: u128) -> Result<(), DeviceFaile
 fn write_query_fault<K: Sink>(writer: &mut K, fault: &QueryFault) -> Result<(), DeviceFailed>
     ensures written { OnOk result
         (Appends (K.held writer.old) (K.held writer.new) (query_line fault.now)) }
+    ensures written_count { OnOk result (Stays (K.failures writer.old) (K.failures writer.new)) }
     ensures failed { OnErr result
         (WroteBeginning (K.held writer.old) (K.held writer.new) (query_line fault.now)) }
     ensures failed_count { OnErr result
@@ -112,6 +117,7 @@ fn write_query_fault<K: Sink>(writer: &mut K, fault: &QueryFault) -> Result<(), 
 pub fn write_fault<K: Sink>(fault: &RunFault, writer: &mut K) -> Result<(), DeviceFailed>
     ensures written { OnOk result
         (Appends (K.held writer.old) (K.held writer.new) (fault_line fault.now)) }
+    ensures written_count { OnOk result (Stays (K.failures writer.old) (K.failures writer.new)) }
     ensures failed { OnErr result
         (WroteBeginning (K.held writer.old) (K.held writer.new) (fault_line fault.now)) }
     ensures failed_count { OnErr result

@@ -19,6 +19,23 @@ struct Meeting {
     late: AtomicU64,
 }
 
+impl Meeting {
+    fn fresh() -> Meeting {
+        Meeting {
+            first: AtomicU64::new(0),
+            second: AtomicU64::new(0),
+            late: AtomicU64::new(0),
+        }
+    }
+
+    /// Whether both pieces came, and none in vain.
+    fn is_met(&self) -> bool {
+        self.first.load(Ordering::SeqCst) == 1
+            && self.second.load(Ordering::SeqCst) == 1
+            && self.late.load(Ordering::SeqCst) == 0
+    }
+}
+
 impl Gate for Meeting {
     fn enter(&self, i: u64) {
         let (mine, other) = if i == 0 {
@@ -42,11 +59,7 @@ impl Gate for Meeting {
 #[test]
 fn two_pieces_of_a_document_are_read_at_once(rt: HostRuntime) -> Result<(), Fault> {
     let alloc = rt.alloc();
-    let gate = Meeting {
-        first: AtomicU64::new(0),
-        second: AtomicU64::new(0),
-        late: AtomicU64::new(0),
-    };
+    let gate = Meeting::fresh();
     let how = How {
         workers: 2,
         rows: 1024,
@@ -62,7 +75,7 @@ fn two_pieces_of_a_document_are_read_at_once(rt: HostRuntime) -> Result<(), Faul
         "{'s':{'type':'uri','value':'http://e/a'}},{'s':{'type':'uri','value':'http://e/a'}}",
     )?;
     assert!(rt; given == wanted, "two rows");
-    assert!(rt; gate.late.load(Ordering::SeqCst) == 0, "the two pieces met");
+    assert!(rt; gate.is_met(), "the two pieces met");
     Ok(())
 }
 
