@@ -1,5 +1,6 @@
 //! Texts and their terminals, by example.
 use rdf_core::Text;
+use rdf_core::lexical::is_pn_chars_base;
 use sparql_lexer::{
     Kind, characters_of, iri_value, one_kind, one_scan, scan_text, string_value, text_of,
 };
@@ -152,6 +153,14 @@ fn names(rt: HostRuntime) -> Result<(), AllocError> {
         ("a.:b", "Keyword(A) a, Sign(Dot) ., PrefixedName :b", ""),
         ("e:%4", "PrefixedNamespace e:", "%4"),
         ("e:%41\\-", "PrefixedName e:%41\\-", ""),
+        (
+            "e:\\_\\~\\.\\-\\!\\$\\&\\'\\(\\)\\*\\+\\,\\;\\=\\/\\?\\#\\@\\%",
+            "PrefixedName e:\\_\\~\\.\\-\\!\\$\\&\\'\\(\\)\\*\\+\\,\\;\\=\\/\\?\\#\\@\\%",
+            "",
+        ),
+        ("e:\\:", "PrefixedNamespace e:", "\\:"),
+        ("e:\\\"", "PrefixedNamespace e:", "\\\""),
+        ("e:a\\<", "PrefixedName e:a", "\\<"),
         ("e:\\u0041", "PrefixedNamespace e:", "\\u0041"),
         ("e:", "PrefixedNamespace e:", ""),
         (":", "PrefixedNamespace :", ""),
@@ -172,6 +181,33 @@ fn names(rt: HostRuntime) -> Result<(), AllocError> {
         assert_eq!(rt; behind.as_str(), rest, "{text}");
     }
     Ok(())
+}
+
+// The letters of names begin and end where the grammar says (SPARQL 1.1 Query Language, section 19.8,
+// PN_CHARS_BASE): of each range the last character before it, its ends, and the first behind it.
+#[test]
+fn letters_of_names_end_where_the_grammar_says(rt: HostRuntime) {
+    for (before, first, last, behind) in [
+        ('@', 'A', 'Z', '['),
+        ('`', 'a', 'z', '{'),
+        ('\u{BF}', '\u{C0}', '\u{D6}', '\u{D7}'),
+        ('\u{D7}', '\u{D8}', '\u{F6}', '\u{F7}'),
+        ('\u{F7}', '\u{F8}', '\u{2FF}', '\u{300}'),
+        ('\u{36F}', '\u{370}', '\u{37D}', '\u{37E}'),
+        ('\u{37E}', '\u{37F}', '\u{1FFF}', '\u{2000}'),
+        ('\u{200B}', '\u{200C}', '\u{200D}', '\u{200E}'),
+        ('\u{206F}', '\u{2070}', '\u{218F}', '\u{2190}'),
+        ('\u{2BFF}', '\u{2C00}', '\u{2FEF}', '\u{2FF0}'),
+        ('\u{3000}', '\u{3001}', '\u{D7FF}', '\u{E000}'),
+        ('\u{F8FF}', '\u{F900}', '\u{FDCF}', '\u{FDD0}'),
+        ('\u{FDEF}', '\u{FDF0}', '\u{FFFD}', '\u{FFFE}'),
+        ('\u{FFFF}', '\u{10000}', '\u{EFFFF}', '\u{F0000}'),
+    ] {
+        assert!(rt; !is_pn_chars_base(before), "before {first}");
+        assert!(rt; is_pn_chars_base(first), "{first}");
+        assert!(rt; is_pn_chars_base(last), "{last}");
+        assert!(rt; !is_pn_chars_base(behind), "behind {last}");
+    }
 }
 
 /// A piece so many times, with the one text before it and the other behind it.

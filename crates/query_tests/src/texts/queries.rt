@@ -182,7 +182,7 @@ fn what_counts_towards_depth(rt: HostRuntime) -> Result<(), AllocError> {
     Ok(())
 }
 
-// A chain is read and dropped at one depth, however long it is, and its first part is judged with its last.
+// A chain or a list is read and dropped at one depth, however long it is, and its first part is judged with its last.
 #[test]
 fn long_chains_are_read(rt: HostRuntime) -> Result<(), AllocError> {
     for (first, part, last, expected) in [
@@ -207,6 +207,12 @@ fn long_chains_are_read(rt: HostRuntime) -> Result<(), AllocError> {
         ),
         ("FILTER (?a", " || ?a", ")", None),
         ("FILTER (?a", " && ?a", ")", None),
+        ("FILTER (?a IN (1", ", 1", "))", None),
+        ("VALUES ?a {", " 1", " }", None),
+        ("?s ?p ?o", " . ?s ?p ?o", "", None),
+        ("?s ?p ?o", " ; ?p ?o", "", None),
+        ("?s ?p ?o", " , ?o", "", None),
+        ("", "OPTIONAL {}", "", None),
     ] {
         let mut text = String::from_str(rt.alloc(), "SELECT * { ")?;
         text.push_str(first)?;
