@@ -29,6 +29,10 @@ refuse_each() {
             return 1
         fi
         if ! grep -qx refused "$room/told"; then
+            if grep -q 'was refused' "$room/said"; then
+                printf '%s: a refusal is told, and nothing was refused\n' "$2"
+                return 1
+            fi
             printf '%s: %s refused, one by one, by REFUSE_%s\n' "$2" $((n - 1)) "$3"
             return 0
         fi

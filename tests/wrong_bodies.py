@@ -1,14 +1,14 @@
 #!/usr/bin/env python3
 """Tries the wrong bodies that the gate leaves out: the prover has to refuse each.
 
-    wrong_bodies.py [CRATE ..] [--jobs N]
+    wrong_bodies.py [CRATE ..]
 
 They are the files crates/CRATE/wrong-bodies/NAME.edit, of the form that `rt help` says of edits, and
 docs/WRONG_BODIES.md lists them. The crates are copied to a temporary folder, in which these files
-stand as must-fail edits; there the crates are proved, and `rt must-fail` tries the edits, of N crates
-side by side (of 2 where none is given; each takes 1 to 4 GB). With no CRATE, of all crates: some
-hours by processor. It prints a line an edit; the last line counts them, and the status is 1 where an
-edit was not refused. Python 3 standard library only.
+stand as must-fail edits; there `rt must-fail` proves the crates and tries the edits, as many side by
+side as there are processors and memory. With no CRATE, of all crates: some hours by processor the first
+time. It prints a line an edit; the last line counts them, and the status is 1 where an edit was not
+refused. Python 3 standard library only.
 """
 import argparse
 import os
@@ -16,7 +16,6 @@ import shutil
 import subprocess
 import sys
 import tempfile
-from concurrent.futures import ThreadPoolExecutor
 
 ROOT = os.path.dirname(os.path.dirname(os.path.abspath(__file__)))
 
@@ -37,30 +36,28 @@ def lay_out(room):
             os.rename(f"{room}/crates/{crate}/wrong-bodies", f"{room}/crates/{crate}/must-fail")
 
 
-def tried(room, crate):
-    """How many edits of the crate are refused."""
-    ran = subprocess.run(["rt", "must-fail", crate], cwd=room, stdout=subprocess.PIPE, stderr=subprocess.STDOUT, text=True)
-    print(ran.stdout, end="", flush=True)
-    return sum(": refused, as it must be" in line for line in ran.stdout.splitlines())
+def tried(room, crates):
+    """How many edits of the crates are refused."""
+    refused = 0
+    with subprocess.Popen(["rt", "must-fail", *crates], cwd=room, stdout=subprocess.PIPE, stderr=subprocess.STDOUT, text=True) as run:
+        for line in run.stdout:
+            print(line, end="", flush=True)
+            refused += ": refused, as it must be" in line
+    return refused
 
 
 def main():
     words = argparse.ArgumentParser(description=__doc__.partition("\n")[0])
     words.add_argument("crates", nargs="*", metavar="CRATE")
-    words.add_argument("--jobs", type=int, default=2, metavar="N")
     asked = words.parse_args()
     crates = asked.crates or sorted(os.listdir(f"{ROOT}/crates"))
     unknown = [it for it in crates if not os.path.isdir(f"{ROOT}/crates/{it}")]
     if unknown:
         words.error(f"there is no crate {unknown[0]}")
-    crates = sorted((it for it in crates if edits_of(it)), key=lambda it: -len(edits_of(it)))
+    crates = [it for it in crates if edits_of(it)]
     with tempfile.TemporaryDirectory(prefix="wrong-bodies-") as room:
         lay_out(room)
-        # (one crate's run proves the libraries below it itself; runs side by side must find them proved)
-        if len(crates) > 1:
-            subprocess.run(["rt", "all", "check", "--jobs", str(asked.jobs)], cwd=room, check=True, stdout=subprocess.DEVNULL)
-        with ThreadPoolExecutor(asked.jobs) as lanes:
-            refused = sum(lanes.map(lambda it: tried(room, it), crates))
+        refused = tried(room, crates)
     missed = sum(len(edits_of(it)) for it in crates) - refused
     print(f"{refused} refused, {missed} not refused")
     return 1 if missed else 0
