@@ -2,3 +2,4 @@ pub mod AnsweringSteps
 pub mod DocumentSteps
 pub mod ListingSteps
 pub mod ReportSteps
+pub mod OutcomeLaws

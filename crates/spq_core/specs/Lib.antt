@@ -1,4 +1,5 @@
 pub mod Outcome
+pub mod Laws
 pub mod Faults
 pub mod Listing
 pub mod Output

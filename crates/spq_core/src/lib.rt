@@ -4,14 +4,15 @@
 //! reason why there is none. The main promise stands on [`answer`]: every result but `Memory` and
 //! `WorkerRefused` is the outcome of document and query (`IsOutcome` of specs/Outcome.antt): the
 //! query is judged first, then the document, and the bytes are the JSON of the algebra's solutions
-//! over the dataset, with their repeats, in order. No cut, worker or gate stands in it. [`run`] says
-//! the same of a command over a reader and a writer, and what a refusal leaves.
+//! over the dataset, with their repeats, in order. No cut, worker or gate stands in it, and document
+//! and query have one outcome at most (`one_outcome` of [`laws`]). [`run`] says the same of a command
+//! over a reader and a writer, and what a refusal leaves.
 //!
 //! Standards: SPARQL 1.1 Query Language, sections 17 to 19; SPARQL 1.1 Query Results JSON Format;
 //! RDF 1.1 N-Quads.
 //!
 //! To read in this order: `fault`, `answering` (the outcome), `listing` (what is told of a dataset),
-//! `program` (`run`), `report` (lines and statuses of faults).
+//! `program` (`run`), `report` (lines and statuses of faults), `laws`.
 //!
 //! Example: the document `<http://e/a> <http://e/p> "x" .` and the query
 //! `SELECT ?o { <http://e/a> <http://e/p> ?o }` give
@@ -24,6 +25,7 @@
 
 mod answering;
 mod fault;
+pub mod laws;
 mod listing;
 mod program;
 mod report;

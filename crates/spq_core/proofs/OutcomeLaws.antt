@@ -1,0 +1,89 @@
+-- Document and text have one outcome.
+use Rattle.std.proofs.Common.{◌≡◌, ℕ, zero, suc, ◌+◌, List, [], ◌∷◌, ◌++◌, Result, Ok, Err, refl, sym, ap, ◌∙◌, subst}
+use Rattle.std.specs.Prelude.{option_to_list}
+use Rattle.std.specs.Str.{chars}
+use Rattle.rdf_core.specs.QuadParts.{QuadParts}
+use Rattle.nquads_core.specs.Laws.{OneMeaning}
+use Rattle.nquads_core.specs.Lines.{lines}
+use Rattle.nquads_core.specs.Pieces.{SpellAll, IsFirstBad}
+use Rattle.sparql_tree.specs.QueryTree.{QueryTree}
+use Rattle.sparql_read.specs.declared.fault.QueryFault.{QueryFault}
+use Rattle.sparql_read.specs.declared.fault.QueryFault.TheVariants.{Syntax, UndefinedPrefix, RelativeIri, BindScope, BlankReuse, TooDeep, Memory}
+use Rattle.sparql_read.specs.Refusal.{Answers, Applies, IsRead, IsRefusal}
+use Rattle.sparql_algebra.specs.Names.{selected_names}
+use Rattle.result_json.specs.Results.{json}
+use Rattle.spq_core.specs.Outcome.{query, bad_line, rows}
+use Rattle.spq_core.specs.Laws.{OneOutcome}
+
+-- ---- the text
+
+-- as the law of sparql_read says it
+abbrev pub OneAnswer : Type 0
+OneAnswer = (text : List ℕ) (r s : Result QueryTree QueryFault) → Answers text r → Answers text s → (r ≡ Err Memory → ⊥) → (s ≡ Err Memory → ⊥) → r ≡ s
+
+refused : (text : List ℕ) (f : QueryFault) → IsRefusal text f → Answers text (Err f)
+refused text Syntax h = h
+refused text UndefinedPrefix h = h
+refused text RelativeIri h = h
+refused text BindScope h = h
+refused text BlankReuse h = h
+refused text TooDeep h = h
+refused text Memory h = tt
+
+same_fault : (f g : QueryFault) (r : Result QueryTree QueryFault) → r ≡ Err f → r ≡ Err g → f ≡ g
+same_fault f g r d e = cc
+
+not_memory : (text : List ℕ) (f : QueryFault) (r : Result QueryTree QueryFault) → r ≡ Err f → IsRefusal text f → r ≡ Err Memory → ⊥
+not_memory text f r d h e = subst (λ (g : QueryFault). Applies g text) (same_fault f Memory r d e) h.applies
+
+not_refused : (q : QueryTree) (x : Result QueryTree QueryFault) → x ≡ Ok q → x ≡ Err Memory → ⊥
+not_refused q x d e = cc
+
+one_refusal : OneAnswer → (text : List ℕ) (f g : QueryFault) → IsRefusal text f → IsRefusal text g → f ≡ g
+one_refusal one text f g h k =
+    same_fault f g (Err f) refl (one text (Err f) (Err g) (refused text f h) (refused text g k) (not_memory text f (Err f) refl h) (not_memory text g (Err g) refl k))
+
+same_query : (q r : QueryTree) (x : Result QueryTree QueryFault) → x ≡ Ok q → x ≡ Ok r → q ≡ r
+same_query q r x d e = cc
+
+one_query : OneAnswer → (text : List ℕ) (q r : QueryTree) → IsRead text q → IsRead text r → q ≡ r
+one_query one text q r h k = same_query q r (Ok q) refl (one text (Ok q) (Ok r) h k (not_refused q (Ok q) refl) (not_refused r (Ok r) refl))
+
+read_and_refused : (text : List ℕ) (q : QueryTree) (f : QueryFault) → IsRead text q → IsRefusal text f → ⊥
+read_and_refused text q f h k = h.allowed f k.applies
+
+-- ---- the document
+
+one_spelling : OneMeaning → (ls : List (List ℕ)) (D E : List QuadParts) → SpellAll ls D → SpellAll ls E → D ≡ E
+one_spelling one [] D E h k = h ∙ sym k
+one_spelling one (l ∷ ls) D E h k =
+    h.3 ∙ (λ i. option_to_list (one l h.0 k.0 h.2 k.2 i) ++ one_spelling one ls h.1 k.1 h.4 k.4 i) ∙ sym k.3
+
+good_and_bad : (ls : List (List ℕ)) (D : List QuadParts) (k : ℕ) → SpellAll ls D → IsFirstBad ls k → ⊥
+good_and_bad [] D k h b = b
+good_and_bad (l ∷ ls) D zero h b = b h.0 h.2
+good_and_bad (l ∷ ls) D (suc k) h b = good_and_bad ls h.1 k h.4 b.1
+
+one_bad_line : (ls : List (List ℕ)) (m n : ℕ) → IsFirstBad ls m → IsFirstBad ls n → m ≡ n
+one_bad_line [] m n h k = absurd h
+one_bad_line (l ∷ ls) zero zero h k = refl
+one_bad_line (l ∷ ls) zero (suc n) h k = absurd (h k.0.0 k.0.1)
+one_bad_line (l ∷ ls) (suc m) zero h k = absurd (k h.0.0 h.0.1)
+one_bad_line (l ∷ ls) (suc m) (suc n) h k = ap (λ (x : ℕ). suc x) (one_bad_line ls m n h.1 k.1)
+
+-- ---- the outcome
+
+pub one_outcome : OneAnswer → OneMeaning → OneOutcome
+one_outcome answer meaning doc text (Ok a) (Ok b) h k =
+    let q = one_query answer (chars text) h.query k.query h.read k.read in
+    let d = one_spelling meaning (lines doc) h.answered.quads k.answered.quads h.answered.spelled k.answered.spelled in
+    ap (λ (x : List ℕ). Ok x) (h.answered.printed ∙ (λ i. json (selected_names (q i)) (rows (q i) (d i))) ∙ sym k.answered.printed)
+one_outcome answer meaning doc text (Ok a) (Err (query f)) h k = absurd (read_and_refused (chars text) h.query f h.read k)
+one_outcome answer meaning doc text (Ok a) (Err (bad_line n)) h k = absurd (good_and_bad (lines doc) h.answered.quads k.1.0 h.answered.spelled k.1.1)
+one_outcome answer meaning doc text (Err (query f)) (Ok b) h k = absurd (read_and_refused (chars text) k.query f k.read h)
+one_outcome answer meaning doc text (Err (query f)) (Err (query g)) h k = ap (λ (x : QueryFault). Err (query x)) (one_refusal answer (chars text) f g h k)
+one_outcome answer meaning doc text (Err (query f)) (Err (bad_line n)) h k = absurd (read_and_refused (chars text) k.0.0 f k.0.1 h)
+one_outcome answer meaning doc text (Err (bad_line m)) (Ok b) h k = absurd (good_and_bad (lines doc) k.answered.quads h.1.0 k.answered.spelled h.1.1)
+one_outcome answer meaning doc text (Err (bad_line m)) (Err (query g)) h k = absurd (read_and_refused (chars text) h.0.0 g h.0.1 k)
+one_outcome answer meaning doc text (Err (bad_line m)) (Err (bad_line n)) h k =
+    ap (λ (x : ℕ). Err (bad_line x)) (h.1.2 ∙ (λ i. one_bad_line (lines doc) h.1.0 k.1.0 h.1.1 k.1.1 i + 1) ∙ sym k.1.2)
