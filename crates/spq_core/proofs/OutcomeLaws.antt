@@ -12,8 +12,10 @@ use Rattle.sparql_read.specs.declared.fault.QueryFault.TheVariants.{Syntax, Unde
 use Rattle.sparql_read.specs.Refusal.{Answers, Applies, IsRead, IsRefusal}
 use Rattle.sparql_algebra.specs.Names.{selected_names}
 use Rattle.result_json.specs.Results.{json}
-use Rattle.spq_core.specs.Outcome.{query, bad_line, rows}
-use Rattle.spq_core.specs.Laws.{OneOutcome}
+use Rattle.spq_core.specs.Listing.{counts_of, listing_of}
+use Rattle.spq_core.specs.Outcome.{Refusal, query, bad_line, IsBadLine, rows}
+use Rattle.spq_core.specs.Output.{select, check, terms, IsListing}
+use Rattle.spq_core.specs.Laws.{OneOutcome, OneOutput}
 
 -- ---- the text
 
@@ -71,6 +73,9 @@ one_bad_line (l ∷ ls) zero (suc n) h k = absurd (h k.0.0 k.0.1)
 one_bad_line (l ∷ ls) (suc m) zero h k = absurd (k h.0.0 h.0.1)
 one_bad_line (l ∷ ls) (suc m) (suc n) h k = ap (λ (x : ℕ). suc x) (one_bad_line ls m n h.1 k.1)
 
+same_bad_line : (doc : List ℕ) (m n : ℕ) → IsBadLine doc m → IsBadLine doc n → m ≡ n
+same_bad_line doc m n h k = h.2 ∙ (λ i. one_bad_line (lines doc) h.0 k.0 h.1 k.1 i + 1) ∙ sym k.2
+
 -- ---- the outcome
 
 pub one_outcome : OneAnswer → OneMeaning → OneOutcome
@@ -86,4 +91,23 @@ one_outcome answer meaning doc text (Err (query f)) (Err (bad_line n)) h k = abs
 one_outcome answer meaning doc text (Err (bad_line m)) (Ok b) h k = absurd (good_and_bad (lines doc) k.answered.quads h.1.0 k.answered.spelled h.1.1)
 one_outcome answer meaning doc text (Err (bad_line m)) (Err (query g)) h k = absurd (read_and_refused (chars text) h.0.0 g h.0.1 k)
 one_outcome answer meaning doc text (Err (bad_line m)) (Err (bad_line n)) h k =
-    ap (λ (x : ℕ). Err (bad_line x)) (h.1.2 ∙ (λ i. one_bad_line (lines doc) h.1.0 k.1.0 h.1.1 k.1.1 i + 1) ∙ sym k.1.2)
+    ap (λ (x : ℕ). Err (bad_line x)) (same_bad_line doc m n h.1 k.1)
+
+-- ---- the output of any command
+
+one_listing : OneMeaning → (text_of : List QuadParts → List ℕ) (doc : List ℕ) (r s : Result (List ℕ) Refusal)
+    → IsListing text_of doc r → IsListing text_of doc s → r ≡ s
+one_listing meaning text_of doc (Ok a) (Ok b) h k =
+    let d = one_spelling meaning (lines doc) h.quads k.quads h.spelled k.spelled in
+    ap (λ (x : List ℕ). Ok x) (h.printed ∙ (λ i. text_of (d i)) ∙ sym k.printed)
+one_listing meaning text_of doc (Ok a) (Err (query f)) h k = absurd k
+one_listing meaning text_of doc (Ok a) (Err (bad_line n)) h k = absurd (good_and_bad (lines doc) h.quads k.0 h.spelled k.1)
+one_listing meaning text_of doc (Err (query f)) s h k = absurd h
+one_listing meaning text_of doc (Err (bad_line m)) (Ok b) h k = absurd (good_and_bad (lines doc) k.quads h.0 k.spelled h.1)
+one_listing meaning text_of doc (Err (bad_line m)) (Err (query g)) h k = absurd k
+one_listing meaning text_of doc (Err (bad_line m)) (Err (bad_line n)) h k = ap (λ (x : ℕ). Err (bad_line x)) (same_bad_line doc m n h k)
+
+pub one_output : OneMeaning → OneOutcome → OneOutput
+one_output meaning outcome (select text) doc r s h k = outcome doc text r s h k
+one_output meaning outcome check doc r s h k = one_listing meaning counts_of doc r s h k
+one_output meaning outcome terms doc r s h k = one_listing meaning listing_of doc r s h k

@@ -1,6 +1,6 @@
-//! The law of outcomes.
+//! The laws of outcomes.
 
-ghost use Rattle.spq_core.specs.Laws.{OneOutcome};
+ghost use Rattle.spq_core.specs.Laws.{OneOutcome, OneOutput};
 
 use nquads_core::laws::one_meaning;
 use sparql_read::one_answer;
@@ -12,4 +12,13 @@ pub fn one_outcome()
 {
     one_meaning();
     one_answer();
+}
+
+/// What is asked for and a document have one output at most: of a query its outcome, of `check` and
+/// `terms` one text, or the line of the fault.
+pub fn one_output()
+    ensures law { OneOutput }
+{
+    one_meaning();
+    one_outcome();
 }

@@ -6,7 +6,8 @@
 //! query is judged first, then the document, and the bytes are the JSON of the algebra's solutions
 //! over the dataset, with their repeats, in order. No cut, worker or gate stands in it, and document
 //! and query have one outcome at most (`one_outcome` of [`laws`]). [`run`] says the same of a command
-//! over a reader and a writer, and what a refusal leaves.
+//! over a reader and a writer, and what a refusal leaves; a command has one output for a document at
+//! most (`one_output`).
 //!
 //! Standards: SPARQL 1.1 Query Language, sections 17 to 19; SPARQL 1.1 Query Results JSON Format;
 //! RDF 1.1 N-Quads.

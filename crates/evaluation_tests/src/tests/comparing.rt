@@ -124,6 +124,11 @@ pub(crate) fn told_plain(alloc: Global, solutions: &[Solution]) -> Result<Vec<St
     Ok(lines)
 }
 
+/// The expression, owned in a box.
+fn boxed(alloc: Global, expression: Expr) -> Result<Box<Expr>, AllocError> {
+    Ok(Box::new(alloc, expression)?)
+}
+
 /// What an operator answers.
 fn answer<R: RandomSource + Threads + Wait>(
     rt: &R,
@@ -141,8 +146,8 @@ fn answer<R: RandomSource + Threads + Wait>(
     let dict = dict_of(rt, alloc, &["a:0", "a:1", "a:2"])?;
     let rows = rows_of(alloc, &dict, left)?;
     let others = rows_of(alloc, &dict, right)?;
-    let bound = Expr::Bound(1);
-    let first = Expr::Variable(0);
+    let bound = boxed(alloc, Expr::Bound(1))?;
+    let first = boxed(alloc, Expr::Variable(0))?;
     let gate = &OpenGate;
     let (made, dict) = match operator {
         0 => join(rt, alloc, state, dict, &rows, &others, how, gate)?,

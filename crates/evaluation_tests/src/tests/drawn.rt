@@ -2,14 +2,13 @@
 ghost use Rattle.row_pieces.specs.How.{IsRunnable};
 
 use super::comparing::{Draws, told_plain};
-use super::plans::{select, store, triple, values};
+use super::plans::{plan_of, select, store, triple, values};
 use super::{text, told};
 use nquads_core::read_piece;
 use piece_pool::OpenGate;
 use row_pieces::{EvalFault, How};
-use sparql_algebra::translate;
 use sparql_eval::evaluate;
-use sparql_tree::{Element, GraphName, Query};
+use sparql_tree::{Element, Expression, GraphName, Query};
 use std::alloc::{AllocError, AllocGlobal, Global};
 use std::random::RandomSource;
 use std::sync::Wait;
@@ -87,18 +86,69 @@ fn drawn_table(alloc: Global, draws: &mut Draws) -> Result<Vec<Element>, AllocEr
     Ok(vec![in alloc; table]?)
 }
 
-/// A query for all variables of at most four triples, graphs and tables.
-fn query(alloc: Global, draws: &mut Draws) -> Result<Query, AllocError> {
+/// A group of one triple, graph or table.
+fn drawn_part(alloc: Global, draws: &mut Draws) -> Result<Vec<Element>, AllocError> {
+    match draws.below(5) {
+        0 => drawn_graph(alloc, draws),
+        1 => drawn_table(alloc, draws),
+        _ => drawn_triple(alloc, draws),
+    }
+}
+
+/// `OPTIONAL { .. FILTER(BOUND(?g)) }` of one part.
+fn drawn_optional(alloc: Global, draws: &mut Draws) -> Result<Vec<Element>, AllocError> {
+    let mut right = drawn_part(alloc, draws)?;
+    if draws.below(2) == 0 {
+        right.push(Element::Filter(Expression::Bound(text(alloc, "g")?)))?;
+    }
+    Ok(vec![in alloc; Element::Optional(right)]?)
+}
+
+/// A union of two parts.
+fn drawn_union(alloc: Global, draws: &mut Draws) -> Result<Vec<Element>, AllocError> {
+    let left = Element::Group(drawn_part(alloc, draws)?);
+    let right = drawn_part(alloc, draws)?;
+    let union = Element::Union(Box::new(alloc, left)?, right);
+    Ok(vec![in alloc; union]?)
+}
+
+/// MINUS of one part.
+fn drawn_minus(alloc: Global, draws: &mut Draws) -> Result<Vec<Element>, AllocError> {
+    let right = drawn_part(alloc, draws)?;
+    Ok(vec![in alloc; Element::Minus(right)]?)
+}
+
+/// `FILTER(BOUND(..))` of a variable that a query may bind.
+fn drawn_filter(alloc: Global, draws: &mut Draws) -> Result<Vec<Element>, AllocError> {
+    let name = match draws.below(3) {
+        0 => "a",
+        1 => "b",
+        _ => "g",
+    };
+    let bound = Expression::Bound(text(alloc, name)?);
+    Ok(vec![in alloc; Element::Filter(bound)]?)
+}
+
+/// A group of one element of any kind; about half are triples, graphs and tables by themselves.
+fn drawn_element(alloc: Global, draws: &mut Draws) -> Result<Vec<Element>, AllocError> {
+    match draws.below(8) {
+        0 => drawn_optional(alloc, draws),
+        1 => drawn_union(alloc, draws),
+        2 => drawn_minus(alloc, draws),
+        3 => drawn_filter(alloc, draws),
+        _ => drawn_part(alloc, draws),
+    }
+}
+
+/// A query for all variables of a group of at most four elements, one in four with DISTINCT.
+fn query(alloc: Global, draws: &mut Draws) -> Result<Box<Query>, AllocError> {
     let mut group = Vec::new(alloc);
     for _ in 0..draws.below(5) {
-        let mut more = match draws.below(5) {
-            0 => drawn_graph(alloc, draws)?,
-            1 => drawn_table(alloc, draws)?,
-            _ => drawn_triple(alloc, draws)?,
-        };
+        let mut more = drawn_element(alloc, draws)?;
         group.append(&mut more)?;
     }
-    select(alloc, false, &["a", "b", "g"], group)
+    let distinct = draws.below(4) == 0;
+    select(alloc, distinct, &["a", "b", "g"], group)
 }
 
 /// Whether the query over the document has the solutions that the plain evaluation gives.
@@ -114,7 +164,7 @@ fn agrees<R: RandomSource + Threads + Wait>(
     let Ok(piece) = read_piece(alloc, document.as_bytes()) else {
         return Err(EvalFault::Memory);
     };
-    let plan = translate(alloc, query)?;
+    let plan = plan_of(alloc, query)?;
     let width = plan.names.len();
     let plain = plain_eval::evaluate(alloc, width, &piece.quads, &None, &plan.tree)?;
     let plain = told_plain(alloc, &plain)?;
@@ -123,8 +173,8 @@ fn agrees<R: RandomSource + Threads + Wait>(
     Ok(told(alloc, &dict, &rows)? == plain)
 }
 
-/// Patterns, graphs and tables have the solutions of the plain evaluation, whatever the workers and
-/// the pieces.
+/// Every operator but Extend has the solutions of the plain evaluation, whatever the workers and the
+/// pieces.
 #[test]
 fn queries_agree_with_the_plain_evaluation(rt: HostRuntime) -> Result<(), EvalFault> {
     let alloc = rt.alloc();

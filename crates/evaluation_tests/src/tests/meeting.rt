@@ -1,5 +1,5 @@
 //! The operators that go over pieces, by two workers that have to meet.
-use super::{dict_of, rows_of, text, told};
+use super::{are, dict_of, rows_of, text, told};
 use piece_pool::Gate;
 use rdf_core::Term;
 use row_pieces::{EvalFault, How};
@@ -7,8 +7,10 @@ use sparql_algebra::Expr;
 use sparql_eval::{extend, filter, join, left_join, minus};
 use std::alloc::{AllocError, AllocGlobal, Global};
 use std::hash::RandomState;
+use std::random::RandomSource;
+use std::sync::Wait;
 use std::sync::atomic::{AtomicU64, Ordering};
-use std::thread::yield_now;
+use std::thread::{Threads, yield_now};
 
 /// Pieces 0 and 1 each set a flag when they enter, and wait until the other's flag is set, at most
 /// 10,000,000 turns. On one thread the first to enter waits in vain.
@@ -57,47 +59,69 @@ impl Gate for Meeting {
 }
 
 /// `true`
-pub(crate) fn truth(alloc: Global) -> Result<Expr, AllocError> {
-    Ok(Expr::Constant(Term::Literal {
+pub(crate) fn truth(alloc: Global) -> Result<Box<Expr>, AllocError> {
+    let truth = Expr::Constant(Term::Literal {
         lexical: text(alloc, "true")?,
         datatype: text(alloc, "http://www.w3.org/2001/XMLSchema#boolean")?,
         tag: None,
-    }))
+    });
+    Ok(Box::new(alloc, truth)?)
 }
 
-/// Two rows in two pieces, with a row that binds nothing and `true`: the two workers meet in every
-/// operator that goes over pieces.
-#[test]
-fn two_workers_meet(rt: HostRuntime) -> Result<(), EvalFault> {
-    let alloc = rt.alloc();
-    let state = RandomState::new(&rt).expect(&rt, "a hash state");
-    let how = How {
+/// What an operator answers of two rows in two pieces, of a row that binds nothing, and of `true`.
+fn answer<R: RandomSource + Threads + Wait>(
+    rt: &R,
+    alloc: Global,
+    operator: u8,
+    gate: &Meeting,
+) -> Result<Vec<String>, EvalFault> {
+    let Ok(state) = RandomState::new(rt) else {
+        return Err(EvalFault::Memory);
+    };
+    let how = &How {
         workers: 2,
         rows: 1,
     };
     let condition = truth(alloc)?;
+    let dict = dict_of(rt, alloc, &["a:x", "a:y"])?;
+    let left = rows_of(alloc, &dict, &[[Some(0), None], [Some(1), None]])?;
+    let right = rows_of(alloc, &dict, &[[None, None]])?;
+    let (rows, dict) = match operator {
+        0 => filter(rt, alloc, dict, &left, &condition, how, gate)?,
+        1 => extend(rt, alloc, state, dict, &left, 1, &condition, how, gate)?,
+        2 => join(rt, alloc, state, dict, &left, &right, how, gate)?,
+        3 => left_join(rt, alloc, state, dict, &left, &right, &condition, how, gate)?,
+        _ => minus(rt, alloc, state, dict, &left, &right, how, gate)?,
+    };
+    Ok(told(alloc, &dict, &rows)?)
+}
+
+/// Whether the two workers meet in an operator, and it answers these lines.
+fn meets<R: RandomSource + Threads + Wait>(
+    rt: &R,
+    alloc: Global,
+    operator: u8,
+    expected: &[&str],
+) -> Result<bool, EvalFault> {
+    let gate = Meeting::fresh();
+    let lines = answer(rt, alloc, operator, &gate)?;
+    Ok(gate.is_met() && are(&lines, expected))
+}
+
+/// The two workers meet in every operator that goes over pieces.
+#[test]
+fn two_workers_meet(rt: HostRuntime) -> Result<(), EvalFault> {
+    let alloc = rt.alloc();
     for operator in 0..5u8 {
-        let dict = dict_of(&rt, alloc, &["a:x", "a:y"])?;
-        let left = rows_of(alloc, &dict, &[[Some(0), None], [Some(1), None]])?;
-        let right = rows_of(alloc, &dict, &[[None, None]])?;
-        let gate = Meeting::fresh();
-        let (rows, dict) = match operator {
-            0 => filter(&rt, alloc, dict, &left, &condition, &how, &gate)?,
-            1 => extend(&rt, alloc, state, dict, &left, 1, &condition, &how, &gate)?,
-            2 => join(&rt, alloc, state, dict, &left, &right, &how, &gate)?,
-            3 => left_join(
-                &rt, alloc, state, dict, &left, &right, &condition, &how, &gate,
-            )?,
-            _ => minus(&rt, alloc, state, dict, &left, &right, &how, &gate)?,
-        };
-        assert!(rt; gate.is_met(), "operator {operator}");
-        let lines = told(alloc, &dict, &rows)?;
         let expected = if operator == 1 {
             ["a:x true ", "a:y true "]
         } else {
             ["a:x - ", "a:y - "]
         };
-        assert!(rt; super::are(&lines, &expected), "operator {operator}");
+        assert!(rt;
+            meets(&rt, alloc, operator, &expected)?,
+            "operator {operator}"
+        );
     }
     Ok(())
 }

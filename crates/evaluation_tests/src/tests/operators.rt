@@ -76,16 +76,9 @@ fn pieces_share_a_computed_term(rt: HostRuntime) -> Result<(), EvalFault> {
         workers: 2,
         rows: 1,
     };
+    let computed = truth(alloc)?;
     let (rows, dict) = extend(
-        &rt,
-        alloc,
-        state,
-        dict,
-        &rows,
-        1,
-        &truth(alloc)?,
-        &how,
-        &OpenGate,
+        &rt, alloc, state, dict, &rows, 1, &computed, &how, &OpenGate,
     )?;
     assert_eq!(rt; dict.len(), 3);
     let lines = told(alloc, &dict, &rows)?;

@@ -1,6 +1,11 @@
 //! Small queries over one document, by one worker and several, in one piece and row by row.
-ghost use Rattle.std.specs.Prelude.{◌≤◌, length, IfOk};
+//!
+//! Queries, plans and trees are owned in boxes: each exit of a function drops what it owns, and a box is
+//! dropped by one call where a tree by value is taken apart at every exit anew.
+ghost use Rattle.std.specs.Prelude.{◌≡◌, ◌≤◌, true, length, IfOk};
+ghost use Rattle.algebra_model.specs.Algebra.{is_name_below, is_within};
 ghost use Rattle.dict_core.specs.NumQuad.{AreBelow};
+ghost use Rattle.sparql_algebra.specs.AlgebraOf.{algebra_of, graph_name_of};
 
 use super::comparing::told_plain;
 use super::{are, iri, text, told};
@@ -10,7 +15,7 @@ use piece_pool::OpenGate;
 use quad_index::{Index, index_reads_the_quads};
 use rdf_core::Text;
 use row_pieces::{EvalFault, How};
-use sparql_algebra::{Operator, translate};
+use sparql_algebra::{Operator, Plan, translate};
 use sparql_eval::{evaluate, graph};
 use sparql_tree::{
     Element, Expression, Function, GraphName, PatternTerm, Query, Selection, Triple,
@@ -112,15 +117,21 @@ pub(crate) fn select(
     distinct: bool,
     names: &[&str],
     group: Vec<Element>,
-) -> Result<Query, AllocError> {
-    Ok(Query {
+) -> Result<Box<Query>, AllocError> {
+    let query = Query {
         distinct,
         selection: Selection::All,
         group,
         limit: None,
         offset: None,
         mentioned: texts(alloc, names)?,
-    })
+    };
+    Ok(Box::new(alloc, query)?)
+}
+
+/// The plan of a query.
+pub(crate) fn plan_of(alloc: Global, query: &Query) -> Result<Box<Plan>, AllocError> {
+    Ok(Box::new(alloc, translate(alloc, query)?)?)
 }
 
 /// A query for a group under GRAPH.
@@ -129,7 +140,7 @@ fn in_graph(
     names: &[&str],
     name: &str,
     inner: Vec<Element>,
-) -> Result<Query, AllocError> {
+) -> Result<Box<Query>, AllocError> {
     let name = match name.strip_prefix("?") {
         Some(name) => GraphName::Variable(text(alloc, name)?),
         None => GraphName::Iri(text(alloc, name)?),
@@ -152,7 +163,7 @@ fn has<R: RandomSource + Threads + Wait>(
 {
     let how = How { workers, rows };
     let (dict, index) = store(rt, alloc, DOCUMENT)?;
-    let plan = translate(alloc, query)?;
+    let plan = plan_of(alloc, query)?;
     let (rows, dict) = evaluate(rt, alloc, dict, &index, &plan, &how, &OpenGate)?;
     let lines = told(alloc, &dict, &rows)?;
     Ok(are(lines.as_slice(), expected))
@@ -163,7 +174,7 @@ fn has_plainly(alloc: Global, query: &Query, expected: &[&str]) -> Result<bool, 
     let Ok(piece) = read_piece(alloc, DOCUMENT.as_bytes()) else {
         return Err(EvalFault::Memory);
     };
-    let plan = translate(alloc, query)?;
+    let plan = plan_of(alloc, query)?;
     let width = plan.names.len();
     let solutions = plain_eval::evaluate(alloc, width, &piece.quads, &None, &plan.tree)?;
     let lines = told_plain(alloc, &solutions)?;
@@ -190,7 +201,7 @@ fn always_has<R: RandomSource + Threads + Wait>(
 }
 
 /// `{ ?s p ?o OPTIONAL { ?o p ?z FILTER(sameTerm(?s, term)) } }`
-fn optional_query(alloc: Global, term: &str) -> Result<Query, AllocError> {
+fn optional_query(alloc: Global, term: &str) -> Result<Box<Query>, AllocError> {
     let mut group = triple(alloc, "?s", "a:p", "?o")?;
     let mut right = triple(alloc, "?o", "a:p", "?z")?;
     right.push(is_term(alloc, "s", term)?)?;
@@ -214,7 +225,7 @@ fn a_filter_in_optional_sees_the_left_row(rt: HostRuntime) -> Result<(), EvalFau
 }
 
 /// `{ VALUES (?a ?b) { (x UNDEF) (UNDEF z) (UNDEF y) } VALUES (?a ?b) { (x z) } }`
-fn values_query(alloc: Global) -> Result<Query, AllocError> {
+fn values_query(alloc: Global) -> Result<Box<Query>, AllocError> {
     let rows = [["a:x", "-"], ["-", "a:z"], ["-", "a:y"]];
     let mut group = Vec::new(alloc);
     group.push(values(alloc, &["a", "b"], &rows)?)?;
@@ -233,7 +244,7 @@ fn an_unbound_variable_meets_every_value(rt: HostRuntime) -> Result<(), EvalFaul
 }
 
 /// `{ ?s p ?o MINUS { ?x q ?y } }`, with this subject in the place of `?x`
-fn minus_query(alloc: Global, subject: &str) -> Result<Query, AllocError> {
+fn minus_query(alloc: Global, subject: &str) -> Result<Box<Query>, AllocError> {
     let mut group = triple(alloc, "?s", "a:p", "?o")?;
     group.push(Element::Minus(triple(alloc, subject, "a:q", "?y")?))?;
     select(alloc, false, &["s", "o", "x", "y"], group)
@@ -253,7 +264,7 @@ fn minus_needs_a_shared_variable(rt: HostRuntime) -> Result<(), EvalFault> {
 }
 
 /// `{ { ?s p ?o } UNION { ?s p ?o } }`
-fn union_query(alloc: Global, distinct: bool) -> Result<Query, AllocError> {
+fn union_query(alloc: Global, distinct: bool) -> Result<Box<Query>, AllocError> {
     let left = Element::Group(triple(alloc, "?s", "a:p", "?o")?);
     let right = triple(alloc, "?s", "a:p", "?o")?;
     let union = Element::Union(Box::new(alloc, left)?, right);
@@ -273,7 +284,7 @@ fn a_union_repeats_and_distinct_does_not(rt: HostRuntime) -> Result<(), EvalFaul
 }
 
 /// `{ GRAPH ?g { ?s p ?o FILTER(BOUND(?g)) } }`
-fn bound_within_query(alloc: Global) -> Result<Query, AllocError> {
+fn bound_within_query(alloc: Global) -> Result<Box<Query>, AllocError> {
     let mut inner = triple(alloc, "?s", "a:p", "?o")?;
     inner.push(Element::Filter(Expression::Bound(text(alloc, "g")?)))?;
     in_graph(alloc, &["g", "s", "o"], "?g", inner)
@@ -319,7 +330,7 @@ fn a_graph_is_known_by_its_name(rt: HostRuntime) -> Result<(), EvalFault> {
 }
 
 /// `{ ?s q ?v BIND(function(?v) AS ?w) }`
-fn bind_query(alloc: Global, function: Function) -> Result<Query, AllocError> {
+fn bind_query(alloc: Global, function: Function) -> Result<Box<Query>, AllocError> {
     let mut group = triple(alloc, "?s", "a:q", "?v")?;
     let argument = Expression::Variable(text(alloc, "v")?);
     let call = Expression::Call(function, Box::new(alloc, argument)?);
@@ -335,7 +346,7 @@ fn added<R: RandomSource + Threads + Wait>(
 ) -> Result<usize, EvalFault> {
     let (dict, index) = store(rt, alloc, DOCUMENT)?;
     let before = dict.len();
-    let plan = translate(alloc, query)?;
+    let plan = plan_of(alloc, query)?;
     let how = How {
         workers: 2,
         rows: 1,
@@ -359,32 +370,49 @@ fn a_computed_term_gets_the_number_of_an_equal_one(rt: HostRuntime) -> Result<()
     Ok(())
 }
 
-/// The empty pattern has one solution in each named graph, and none under a name that no graph has.
-#[test]
-fn graph_stands_by_itself(rt: HostRuntime) -> Result<(), EvalFault> {
-    let alloc = rt.alloc();
-    let state = RandomState::new(&rt).expect(&rt, "a hash state");
-    let gate = &OpenGate;
-    let how = How {
-        workers: 2,
-        rows: 1,
-    };
+/// The empty pattern.
+fn empty_pattern(alloc: Global) -> Result<Box<Operator>, AllocError>
+    ensures within { IfOk result (λ o. is_within 1 (algebra_of o.value) ≡ true) }
+{
     let empty = Operator::Pattern {
         labels: 0,
         triples: Vec::new(alloc),
     };
-    let each = sparql_algebra::GraphName::Variable(0);
-    let (dict, index) = store(&rt, alloc, DOCUMENT)?;
+    Ok(Box::new(alloc, empty)?)
+}
+
+/// The solutions of the empty pattern in a graph of the document, or in each, as lines.
+fn graph_alone<R: RandomSource + Threads + Wait>(
+    rt: &R,
+    alloc: Global,
+    name: &sparql_algebra::GraphName,
+) -> Result<Vec<String>, EvalFault>
+    requires name { is_name_below 1 (graph_name_of name.now) ≡ true }
+{
+    let Ok(state) = RandomState::new(rt) else {
+        return Err(EvalFault::Memory);
+    };
+    let how = How {
+        workers: 2,
+        rows: 1,
+    };
+    let empty = empty_pattern(alloc)?;
+    let (dict, index) = store(rt, alloc, DOCUMENT)?;
     let (rows, dict) = graph(
-        &rt, alloc, state, dict, &index, 1, &each, &empty, &how, gate,
+        rt, alloc, state, dict, &index, 1, name, &empty, &how, &OpenGate,
     )?;
-    let lines = told(alloc, &dict, &rows)?;
+    Ok(told(alloc, &dict, &rows)?)
+}
+
+/// The empty pattern has one solution in each named graph, and none under a name that no graph has.
+#[test]
+fn graph_stands_by_itself(rt: HostRuntime) -> Result<(), EvalFault> {
+    let alloc = rt.alloc();
+    let each = sparql_algebra::GraphName::Variable(0);
+    let lines = graph_alone(&rt, alloc, &each)?;
     assert!(rt; are(&lines, &["a:g ", "h "]));
     let none = sparql_algebra::GraphName::Iri(iri(alloc, "a:none")?);
-    let (dict, index) = store(&rt, alloc, DOCUMENT)?;
-    let (rows, _dict) = graph(
-        &rt, alloc, state, dict, &index, 1, &none, &empty, &how, gate,
-    )?;
-    assert_eq!(rt; rows.len(), 0);
+    let lines = graph_alone(&rt, alloc, &none)?;
+    assert!(rt; are(&lines, &[]));
     Ok(())
 }
