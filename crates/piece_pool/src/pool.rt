@@ -1,8 +1,9 @@
 //! Starting and joining the workers.
-ghost use Rattle.std.specs.Prelude.{◌≡◌, ◌≤◌, ◌^◌, IfOk, All, vec_len};
+ghost use Rattle.std.specs.Prelude.{◌≡◌, ◌≤◌, ◌^◌, IfOk, IfErr, All, vec_len};
 ghost use Rattle.piece_board.specs.Pass.{unused};
 ghost use Rattle.piece_pool.specs.Worked.{IsWorked};
 ghost use Rattle.piece_pool.specs.Outcome.{IsOutcome};
+ghost use Rattle.piece_pool.specs.declared.pool.PoolFault.TheVariants.{Memory};
 
 use crate::collector::{Outcome, gather};
 use crate::gate::Gate;
@@ -74,7 +75,8 @@ impl<J: Job> Promise<Worked<J::Out, J::Fault>> for WorkOn<J> {
 /// `workers` is 1 to 64, and `n` is at most 2^62.
 ///
 /// # Errors
-/// - `WorkerRefused`: the start of a worker was refused. It stands before `Memory`.
+/// - `WorkerRefused`: the start of a worker was refused. It stands before `Memory`, and never comes where
+///   there is no piece.
 /// - `Memory`: a growth was refused.
 ///
 /// Every worker that was started has been joined, and all answers are dropped.
@@ -92,6 +94,7 @@ where
     requires workers { (1 ≤ workers) × (workers ≤ 64) }
     requires pieces { n ≤ 2 ^ 62 }
     ensures outcome { IfOk result (IsOutcome (J.answers job.now) (J.faults job.now) n) }
+    ensures idle { n ≡ 0 → IfErr result (λ fault. fault ≡ Memory) }
 {
     let seats = n.clamp(1, workers as u64) as usize;
     let (board, passes) = Board::open(alloc, n, seats)?;
@@ -116,6 +119,7 @@ where
     ensures len { IfOk result (λ ws. vec_len ws ≡ vec_len passes) }
     ensures works { IfOk result (λ ws. All (IsWorked (J.answers job.now) (J.faults job.now)
         board.now) ws.items) }
+    ensures idle { n ≡ 0 → IfErr result (λ fault. fault ≡ Memory) }
 {
     if n == 0 {
         return Ok(work_in_turn(alloc, board, passes, job, gate)?);

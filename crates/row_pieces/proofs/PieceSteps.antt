@@ -48,3 +48,8 @@ few n size k p h =
     let t : div_ceil n size * size < n + size = (div_ceil_times n size p).1 in
     let low : div_ceil n size < k + 1 = lt_of_not-le (λ (g : k + 1 ≤ div_ceil n size). let m = mul-le-mul_right size g in omega (arith, add-mul k 1 size, one-mul size)) in
     omega arith
+
+pub one-piece : (n size pieces : ℕ) → 0 < size → n ≤ size → pieces ≡ div_ceil n size → pieces ≤ 1
+one-piece n size pieces p h e =
+    let m = one-mul size in
+    subst (λ (x : ℕ). x ≤ 1) (sym e) (few n size 1 p (omega arith))

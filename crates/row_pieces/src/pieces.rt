@@ -1,10 +1,11 @@
 //! Operators run over pieces of rows: each element gives a part of the answer, whatever the cut.
 ghost use Rattle.std.specs.Int.{div_ceil};
 ghost use Rattle.std.specs.List.{flat_map};
-ghost use Rattle.std.specs.Prelude.{◌≡◌, ◌≤◌, ◌^◌, ℕ, List, length, IfOk, All, take, drop, ◌-◌, ◌*◌};
+ghost use Rattle.std.specs.Prelude.{◌≡◌, ◌≤◌, ◌^◌, ℕ, List, length, IfOk, IfErr, All, take, drop, ◌-◌, ◌*◌};
 ghost use Rattle.algebra_model.specs.Solution.{Solution};
 ghost use Rattle.row_pieces.specs.How.{IsRunnable};
 ghost use Rattle.row_pieces.specs.Pieces.{AreRowsOf, piece_of};
+ghost use Rattle.row_pieces.specs.declared.how.EvalFault.TheVariants.{Memory};
 
 use crate::how::{EvalFault, How};
 use crate::running::run_all;
@@ -78,7 +79,7 @@ impl<'w, W: RowWork> Job for RowPieces<'w, W> {
 /// `how` keeps its limits.
 ///
 /// # Errors
-/// - `WorkerRefused`: the start of a worker was refused.
+/// - `WorkerRefused`: the start of a worker was refused. It never comes where one piece holds all elements.
 /// - `Memory`: a growth was refused.
 pub fn over_pieces<R: Threads + Wait, W: RowWork + Sync, G: Gate + Sync>(
     rt: &R,
@@ -89,6 +90,7 @@ pub fn over_pieces<R: Threads + Wait, W: RowWork + Sync, G: Gate + Sync>(
 ) -> Result<Rows, EvalFault>
     requires how { IsRunnable how.now }
     ensures rows { IfOk result (AreRowsOf (W.width work.now) (W.parts work.now)) }
+    ensures alone { length (W.parts work.now) ≤ how.now.rows → IfErr result (λ fault. fault ≡ Memory) }
 {
     let count = work.count();
     let size = piece_size(count, how.rows);
@@ -109,6 +111,8 @@ pub fn piece_size(count: usize, rows: usize) -> usize
     requires { 1 ≤ rows }
     ensures some { 1 ≤ result }
     ensures few { div_ceil count result ≤ 2 ^ 62 }
+    ensures asked { count ≤ 2 ^ 62 → result ≡ rows }
+    ensures least { rows ≤ result }
 {
     if count > 1 << 62 { rows.max(4) } else { rows }
 }

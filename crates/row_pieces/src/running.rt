@@ -1,6 +1,7 @@
 //! The pieces of a job, run by a pool of workers, or by the caller where there is only one.
-ghost use Rattle.std.specs.Prelude.{◌≡◌, ◌≤◌, ◌^◌, IfOk};
+ghost use Rattle.std.specs.Prelude.{◌≡◌, ◌≤◌, ◌^◌, IfOk, IfErr};
 ghost use Rattle.piece_pool.specs.Outcome.{IsOutcome};
+ghost use Rattle.piece_pool.specs.declared.pool.PoolFault.TheVariants.{Memory};
 
 use piece_pool::{Gate, Job, JobFault, Outcome, PoolFault, run_pieces};
 use std::alloc::{AllocError, Global};
@@ -14,7 +15,8 @@ use std::thread::Threads;
 /// `workers` is 1 to 64, and `n` is at most 2^62.
 ///
 /// # Errors
-/// - `WorkerRefused`: the start of a worker was refused. It stands before `Memory`.
+/// - `WorkerRefused`: the start of a worker was refused. It stands before `Memory`, and never comes where
+///   there is one piece at the most.
 /// - `Memory`: a growth was refused.
 pub fn run_all<R: Threads + Wait, J: Job + Sync, G: Gate + Sync>(
     rt: &R,
@@ -30,6 +32,7 @@ where
     requires workers { (1 ≤ workers) × (workers ≤ 64) }
     requires pieces { n ≤ 2 ^ 62 }
     ensures outcome { IfOk result (IsOutcome (J.answers job.now) (J.faults job.now) n) }
+    ensures alone { n ≤ 1 → IfErr result (λ fault. fault ≡ Memory) }
 {
     if n == 1 {
         return Ok(run_one(alloc, job, gate)?);
