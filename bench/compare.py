@@ -1,10 +1,11 @@
 #!/usr/bin/env python3
 """Times spq beside the RDF tools that this machine has, on datasets of several sizes, and prints tables.
 
-    compare.py [--spq PATH] [--quads N,N..] [--runs N] [--workers N,N..] [--limit SECONDS] [--folder PATH]
+    compare.py [--spq PATH] [--quads N,N..] [--runs N] [--workers N,N..] [--limit SECONDS] [--rdflib-most QUADS]
+               [--folder PATH]
 
 The peers of peers.py are taken where they are found. Each command runs so many times, and the least time
-counts; rdflib, which is slow, runs once, and up to 100,000 quads alone. Queries are those of
+counts; rdflib, which is slow, runs once, and up to --rdflib-most quads alone. Queries are those of
 queries.py, each from the bytes of the document to the JSON. All rows of a table are measured one after
 the other in one run: read the ratios, not the seconds.
 Python 3 standard library only.
@@ -16,8 +17,6 @@ import tempfile
 import measure
 import peers
 from queries import PREFIX, QUERIES
-
-RDFLIB_MOST = 100_000
 
 
 class Bench:
@@ -31,7 +30,7 @@ class Bench:
     def take(self, name, command, runs=None):
         """What a command took at best, or how it failed; None where it is left out."""
         slow = name.startswith("rdflib")
-        if slow and self.quads > RDFLIB_MOST:
+        if slow and self.quads > self.words.rdflib_most:
             return None
         try:
             return measure.best(command, self.path, self.output, 1 if slow else self.words.runs, self.words.limit)
@@ -63,7 +62,7 @@ def selecting(bench):
     """The table of the queries: spq by numbers of workers, then the peers."""
     engines = [(f"spq, {workers(n)}", spq_command(bench.words.spq, n)) for n in bench.workers]
     engines += peers.engines(bench.path, bench.room)
-    engines = [(name, command) for name, command in engines if not (name == "rdflib" and bench.quads > RDFLIB_MOST)]
+    engines = [(name, command) for name, command in engines if not (name == "rdflib" and bench.quads > bench.words.rdflib_most)]
     mark = len(bench.workers) - 1
     head = ["query", "rows"] + [name for name, _ in engines]
     head += [f"{name} / {engines[mark][0]}" for name, _ in engines[mark + 1:]]
@@ -104,6 +103,7 @@ def main():
     asked.add_argument("--runs", type=int, default=5)
     asked.add_argument("--workers", default="1,4")
     asked.add_argument("--limit", type=int, default=600, help="seconds after which a run is ended")
+    asked.add_argument("--rdflib-most", type=int, default=100_000, help="rdflib is left out beyond so many quads")
     asked.add_argument("--folder", help="where datasets are kept; a folder of its own where none is given")
     words = asked.parse_args()
     words.spq = measure.program(words.spq)

@@ -320,6 +320,9 @@ def few_processes(program):
         expect(got in answers, f"{workers} workers: status {got[0]} and {got[1][:200]!r}")
         seen.add(got)
     expect(refused in seen, "the system refused no thread")
+    answer = program.run(["select", "--query", "SELECT * {}"], [STATEMENT], limit=limit)
+    got = (answer.status, answer.output)
+    expect(got == refused, f"select, on a thread of its own: status {got[0]} and {got[1][:200]!r}")
 
 
 # ---- command lines

@@ -1,7 +1,8 @@
 /* For the tests: refuses one growth, or the start of one thread, of the program that it is preloaded
-   into (LD_PRELOAD). It stands in for malloc, calloc, realloc and pthread_create of the C library.
+   into (LD_PRELOAD). It stands in for malloc, calloc, realloc, getentropy and pthread_create of the C
+   library. (A hash state is drawn by getentropy, and counts as a growth.)
 
-   REFUSE_GROWTH=N  the Nth call of malloc, calloc and realloc together answers NULL.
+   REFUSE_GROWTH=N  the Nth call of malloc, calloc, realloc and getentropy together answers NULL, or -1.
    REFUSE_START=N   the Nth call of pthread_create answers EAGAIN.
 
    Calls count from 1. Where a call is refused, the line `refused` goes to standard error. */
@@ -53,6 +54,17 @@ void *calloc(size_t count, size_t size) {
 
 void *realloc(void *old, size_t size) {
     return is_refused(&growths, refused_growth) ? nothing() : __libc_realloc(old, size);
+}
+
+int getentropy(void *place, size_t size) {
+    static int (*fill)(void *, size_t);
+    if (is_refused(&growths, refused_growth)) {
+        errno = EIO;
+        return -1;
+    }
+    if (!fill)
+        fill = dlsym(RTLD_NEXT, "getentropy");
+    return fill(place, size);
 }
 
 int pthread_create(pthread_t *thread, const pthread_attr_t *how, void *(*run)(void *), void *with) {

@@ -1,7 +1,8 @@
 #!/usr/bin/env bash
 # Refuses one growth after the other, and one start of a worker after the other, to each test of a
 # module `refusals`: the first, the second, and so on, until a run meets no refusal. These tests say
-# what a refusal leaves, and that a second try succeeds.
+# what a refusal leaves, and that a second try succeeds. A crate in whose tests no start is refused, and a
+# test in which no growth is, fail: then nothing was tried.
 #
 #   tests/refusals.sh                  # every crate that has such tests
 #   tests/refusals.sh loading_tests .. # these crates
@@ -34,6 +35,11 @@ refuse_each() {
                 return 1
             fi
             printf '%s: %s refused, one by one, by REFUSE_%s\n' "$2" $((n - 1)) "$3"
+            [ "$3" = START ] && starts=$((starts + n - 1))
+            if [ "$3" = GROWTH ] && [ "$n" = 1 ]; then
+                printf '%s: no growth was refused\n' "$2"
+                return 1
+            fi
             return 0
         fi
         if [ "$3" = START ] && ! grep -qx 'a worker was refused' "$room/said"; then
@@ -46,12 +52,18 @@ refuse_each() {
 }
 
 try_crate() {
-    local tests=$root/crates/$1/out/$1_tests name
+    local tests=$root/crates/$1/out/$1_tests name names
     (cd "$root/crates/$1" && rt test > "$room/log" 2>&1) || { tail "$room/log"; return 1; }
-    for name in $("$tests" --list | sed -n 's/^\(refusals::.*\): test$/\1/p'); do
+    names=$("$tests" --list | sed -n 's/^\(refusals::.*\): test$/\1/p')
+    starts=0
+    for name in $names; do
         refuse_each "$tests" "$name" GROWTH || return 1
         refuse_each "$tests" "$name" START || return 1
     done
+    if [ "$starts" = 0 ]; then
+        echo "$1: no start of a worker was refused"
+        return 1
+    fi
 }
 
 if [ $# = 0 ]; then

@@ -5,10 +5,9 @@
 
 They are the files crates/CRATE/wrong-bodies/NAME.edit, of the form that `rt help` says of edits, and
 docs/WRONG_BODIES.md lists them. The crates are copied to a temporary folder, in which these files
-stand as must-fail edits; there `rt must-fail` proves the crates and tries the edits, as many side by
-side as there are processors and memory. With no CRATE, of all crates: some hours by processor the first
-time. It prints a line an edit; the last line counts them, and the status is 1 where an edit was not
-refused. Python 3 standard library only.
+stand as must-fail edits; there `rt must-fail` tries them, one by one or side by side as the kit does.
+With no CRATE, of all crates: some hours by processor. It prints a line an edit; the last line counts
+them, and the status is 1 where an edit was not refused. Python 3 standard library only.
 """
 import argparse
 import os

@@ -7,7 +7,7 @@ use piece_pool::OpenGate;
 use plain_eval::{Condition, Solution, Value};
 use rdf_core::Term;
 use row_pieces::{EvalFault, How};
-use sparql_algebra::Expr;
+use sparql_algebra::{Expr, Function};
 use sparql_eval::{distinct, extend, filter, join, left_join, minus, project, union};
 use std::alloc::{AllocError, AllocGlobal, Global};
 use std::hash::RandomState;
@@ -129,6 +129,13 @@ fn boxed(alloc: Global, expression: Expr) -> Result<Box<Expr>, AllocError> {
     Ok(Box::new(alloc, expression)?)
 }
 
+/// `STR(?0)`
+fn text_of_first(alloc: Global) -> Result<Box<Expr>, AllocError> {
+    let argument = boxed(alloc, Expr::Variable(0))?;
+    let function = Function::Str;
+    boxed(alloc, Expr::Call { function, argument })
+}
+
 /// What an operator answers.
 fn answer<R: RandomSource + Threads + Wait>(
     rt: &R,
@@ -148,6 +155,7 @@ fn answer<R: RandomSource + Threads + Wait>(
     let others = rows_of(alloc, &dict, right)?;
     let bound = boxed(alloc, Expr::Bound(1))?;
     let first = boxed(alloc, Expr::Variable(0))?;
+    let text = text_of_first(alloc)?;
     let gate = &OpenGate;
     let (made, dict) = match operator {
         0 => join(rt, alloc, state, dict, &rows, &others, how, gate)?,
@@ -157,6 +165,7 @@ fn answer<R: RandomSource + Threads + Wait>(
         4 => extend(rt, alloc, state, dict, &rows, 1, &first, how, gate)?,
         5 => distinct(alloc, state, dict, &rows)?,
         6 => union(alloc, dict, &rows, &others)?,
+        7 => extend(rt, alloc, state, dict, &rows, 1, &text, how, gate)?,
         _ => project(alloc, dict, &rows, &[1])?,
     };
     Ok(told(alloc, &dict, &made)?)
@@ -171,6 +180,7 @@ fn plain_answer(
 ) -> Result<Vec<String>, AllocError> {
     let left = plain_of(alloc, left)?;
     let right = plain_of(alloc, right)?;
+    let text = text_of_first(alloc)?;
     let made = match operator {
         0 => plain_eval::join(alloc, &left, &right)?,
         1 => plain_eval::left_join(alloc, &SecondIsBound {}, &left, &right)?,
@@ -179,6 +189,7 @@ fn plain_answer(
         4 => plain_eval::extend(alloc, 1, &First {}, &left)?,
         5 => plain_eval::distinct(alloc, &left)?,
         6 => plain_eval::union(alloc, &left, &right)?,
+        7 => plain_eval::extend(alloc, 1, &*text, &left)?,
         _ => plain_eval::project(alloc, &[1], &left)?,
     };
     told_plain(alloc, &made)
@@ -200,7 +211,7 @@ fn operators_agree_with_the_plain_ones(rt: HostRuntime) -> Result<(), EvalFault>
     for round in 0..20u32 {
         let left = draws.pairs(alloc)?;
         let right = draws.pairs(alloc)?;
-        for operator in 0..8u8 {
+        for operator in 0..9u8 {
             let plain = plain_answer(alloc, operator, &left, &right)?;
             let made = answer(&rt, alloc, operator, &left, &right, &cut)?;
             assert!(rt; made == plain, "operator {operator}, round {round}");

@@ -8,7 +8,7 @@ use nquads_core::read_piece;
 use piece_pool::OpenGate;
 use row_pieces::{EvalFault, How};
 use sparql_eval::evaluate;
-use sparql_tree::{Element, Expression, GraphName, Query};
+use sparql_tree::{Element, Expression, Function, GraphName, Query};
 use std::alloc::{AllocError, AllocGlobal, Global};
 use std::random::RandomSource;
 use std::sync::Wait;
@@ -129,13 +129,22 @@ fn drawn_filter(alloc: Global, draws: &mut Draws) -> Result<Vec<Element>, AllocE
     Ok(vec![in alloc; Element::Filter(bound)]?)
 }
 
+/// `BIND(STR(?a) AS ..)`, of a variable that triples or graphs may have bound, too.
+fn drawn_bind(alloc: Global, draws: &mut Draws) -> Result<Vec<Element>, AllocError> {
+    let name = if draws.below(2) == 0 { "b" } else { "g" };
+    let first = Expression::Variable(text(alloc, "a")?);
+    let value = Expression::Call(Function::Str, Box::new(alloc, first)?);
+    Ok(vec![in alloc; Element::Bind(value, text(alloc, name)?)]?)
+}
+
 /// A group of one element of any kind; about half are triples, graphs and tables by themselves.
 fn drawn_element(alloc: Global, draws: &mut Draws) -> Result<Vec<Element>, AllocError> {
-    match draws.below(8) {
+    match draws.below(9) {
         0 => drawn_optional(alloc, draws),
         1 => drawn_union(alloc, draws),
         2 => drawn_minus(alloc, draws),
         3 => drawn_filter(alloc, draws),
+        4 => drawn_bind(alloc, draws),
         _ => drawn_part(alloc, draws),
     }
 }
@@ -173,8 +182,7 @@ fn agrees<R: RandomSource + Threads + Wait>(
     Ok(told(alloc, &dict, &rows)? == plain)
 }
 
-/// Every operator but Extend has the solutions of the plain evaluation, whatever the workers and the
-/// pieces.
+/// Every operator has the solutions of the plain evaluation, whatever the workers and the pieces.
 #[test]
 fn queries_agree_with_the_plain_evaluation(rt: HostRuntime) -> Result<(), EvalFault> {
     let alloc = rt.alloc();

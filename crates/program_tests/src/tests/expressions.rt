@@ -39,6 +39,13 @@ fn filters_and_values(rt: HostRuntime) -> Result<(), AllocError> {
                 "{}",
             ),
             (
+                "what an error leaves open is bound behind it",
+                BLANK,
+                "SELECT ?y { ?s ?p ?o BIND(STR(?s) AS ?y) ?z <http://e/p> ?y }",
+                "'y'",
+                "{'y':{'type':'literal','value':'x'}}",
+            ),
+            (
                 "a member of a list",
                 NUMBERS,
                 "SELECT ?x { <http://e/a> <http://e/p> ?x FILTER(?x IN (2, 1.0)) }",
