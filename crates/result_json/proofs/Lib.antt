@@ -1,10 +1,12 @@
 pub mod ChunkLaws
 pub mod ColumnLaws
 pub mod JsonLaws
+pub mod PairLaws
 pub mod PrintedLaws
 pub mod RankLaws
 pub mod RankSteps
 pub mod RowSteps
 pub mod SeparatedLaws
 pub mod SliceLaws
+pub mod TermSteps
 pub mod TextSteps

@@ -1,16 +1,11 @@
--- What the JSON library prints for a string and for a term is what the results format wants.
-use Rattle.std.proofs.Common.{◌≡◌, ℕ, ◌/◌, ◌%◌, Bool, true, false, cond, ◌||◌, ◌==◌, nat_lt, List, [], ◌∷◌, ◌++◌, flat_map, codes, None, Some, refl, sym, subst, if◌then◌else◌}
+-- What the JSON library prints for a string is what the results format wants.
+use Rattle.std.proofs.Common.{◌≡◌, ℕ, ◌/◌, ◌%◌, Bool, true, false, cond, ◌||◌, ◌==◌, nat_lt, List, [], ◌∷◌, ◌++◌, flat_map, codes, refl, sym, subst, if◌then◌else◌}
 use Rattle.std.specs.Char.{digit_char}
-use Rattle.std.specs.Str.{bytes_eq}
 use Rattle.std.proofs.lemmas.Bool.{eqb-true}
 use Rattle.json.specs.Print.{escape_byte, escape}
-use Rattle.serde_json.specs.Data.{Data, string, object, member, no_members}
-use Rattle.serde_json.specs.Written.{compact_text, has_float}
-use Rattle.rdf_core.specs.Vocabulary.{xsd_string}
-use Rattle.rdf_core.specs.declared.term.Term.{Term}
-use Rattle.rdf_core.specs.declared.term.Term.TheVariants.{Blank, Iri, Literal}
-use Rattle.result_json.specs.Printed.{term_data}
-use Rattle.result_json.specs.Results.{string_byte, string_text, term_text}
+use Rattle.serde_json.specs.Data.{string}
+use Rattle.serde_json.specs.Written.{compact_text}
+use Rattle.result_json.specs.Results.{string_byte, string_text}
 
 abbrev low : ℕ → List ℕ
 low x = 92 ∷ 117 ∷ 48 ∷ 48 ∷ digit_char (x / 16) ∷ digit_char (x % 16) ∷ []
@@ -46,35 +41,3 @@ bytes_are (x ∷ s) = λ i. byte_is x i ++ bytes_are s i
 
 pub string_is : (s : List ℕ) → compact_text (string s) ≡ string_text s
 string_is s = λ i. 34 ∷ (bytes_are s i ++ 34 ∷ [])
-
-abbrev plain_data_by : List ℕ → List ℕ → Bool → Data
-plain_data_by lexical datatype b =
-    if b then object (member (codes "type") (string (codes "literal")) (member (codes "value") (string lexical) no_members))
-    else object (member (codes "datatype") (string datatype) (member (codes "type") (string (codes "literal")) (member (codes "value") (string lexical) no_members)))
-
-abbrev plain_text_by : List ℕ → List ℕ → Bool → List ℕ
-plain_text_by lexical datatype b =
-    if b then codes "{\"type\":\"literal\",\"value\":" ++ (string_text lexical ++ codes "}")
-    else codes "{\"datatype\":" ++ (string_text datatype ++ (codes ",\"type\":\"literal\",\"value\":" ++ (string_text lexical ++ codes "}")))
-
-plain_by : (lexical datatype : List ℕ) (b : Bool) → compact_text (plain_data_by lexical datatype b) ≡ plain_text_by lexical datatype b
-unfolding escape_byte
-plain_by lexical datatype true = λ i. codes "{\"type\":\"literal\",\"value\":" ++ (string_is lexical i ++ codes "}")
-plain_by lexical datatype false = λ i. codes "{\"datatype\":" ++ (string_is datatype i ++ (codes ",\"type\":\"literal\",\"value\":" ++ (string_is lexical i ++ codes "}")))
-
-plain_has_no_float : (lexical datatype : List ℕ) (b : Bool) → has_float (plain_data_by lexical datatype b) ≡ false
-plain_has_no_float lexical datatype true = refl
-plain_has_no_float lexical datatype false = refl
-
-pub term_is : (t : Term) → compact_text (term_data t) ≡ term_text t
-unfolding escape_byte term_text
-term_is (Blank label) = λ i. codes "{\"type\":\"bnode\",\"value\":" ++ (string_is label i ++ codes "}")
-term_is (Iri text) = λ i. codes "{\"type\":\"uri\",\"value\":" ++ (string_is text i ++ codes "}")
-term_is (Literal lexical datatype None) = plain_by lexical datatype (bytes_eq datatype xsd_string)
-term_is (Literal lexical datatype (Some tag)) = λ i. codes "{\"type\":\"literal\",\"value\":" ++ (string_is lexical i ++ (codes ",\"xml:lang\":" ++ (string_is tag i ++ codes "}")))
-
-pub term_has_no_float : (t : Term) → has_float (term_data t) ≡ false
-term_has_no_float (Blank label) = refl
-term_has_no_float (Iri text) = refl
-term_has_no_float (Literal lexical datatype (Some tag)) = refl
-term_has_no_float (Literal lexical datatype None) = plain_has_no_float lexical datatype (bytes_eq datatype xsd_string)

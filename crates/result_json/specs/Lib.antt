@@ -1,3 +1,4 @@
+pub mod Pairs
 pub mod Results
 pub mod Printed
 pub mod Ranks

@@ -9,12 +9,13 @@
 //! 1.1 Query Language, sections 15.4 and 15.5.
 //!
 //! How: the cells of the listed variables are copied into one buffer of numbers. Their distinct terms
-//! are sorted once, each number becomes the rank of its term, and rows are sorted by ranks. Each term
-//! and each name is printed once by the JSON library, and rows are put together by appends, in one
-//! block of a size that is added up before.
+//! are sorted once, each number becomes the rank of its term, and rows are sorted by ranks, those of two
+//! cells as one number each. The texts of each term and each name are printed once by the JSON library;
+//! terms and rows are put together by appends, rows in one block of a size that is added up before.
 //!
 //! To read in this order: `printing`, `coding` (cells as numbers), `ranking` (numbers as ranks),
-//! `ranked_row` and `row_order`, `values` (terms and texts by the JSON library), `term_texts`, `columns`, `results`.
+//! `pair_order` (rows of two ranks), `ranked_row` and `row_order`, `values` (texts by the JSON library,
+//! and terms round them), `term_texts`, `columns`, `results`.
 //!
 //! Example: one variable `o` and the rows `"x"` and `<http://e/a>` give
 //! `{"head":{"vars":["o"]},"results":{"bindings":[{"o":{"type":"uri","value":"http://e/a"}},{"o":{"type":"literal","value":"x"}}]}}`
@@ -25,6 +26,7 @@
 
 mod coding;
 mod columns;
+mod pair_order;
 mod printing;
 mod ranked_row;
 mod ranking;

@@ -7,6 +7,7 @@ ghost use Rattle.dict_core.specs.Dict.{term_at};
 ghost use Rattle.result_json.specs.Results.{json, listed_names};
 
 use crate::coding::listed_codes;
+use crate::pair_order::order_pairs;
 use crate::ranking::rank;
 use crate::results::to_json;
 use crate::row_order::sorted_rows;
@@ -58,6 +59,7 @@ pub fn print_rows(
 {
     let mut ranks = listed_codes(alloc, listed, rows, dict)?;
     let terms = rank(alloc, &mut ranks, dict)?;
+    order_pairs(alloc, &mut ranks, listed.len(), rows.len())?;
     let sorted = sorted_rows(alloc, &ranks, listed.len(), rows.len())?;
     let mut texts = TermTexts::new(alloc, &terms)?;
     to_json(

@@ -41,6 +41,15 @@ fn distinct_terms<'a>(
     Ok(made)
 }
 
+/// What comparisons look at first in a term: a number that rises with its kind, and its first text.
+fn first_text(term: &Term) -> (u8, &str) {
+    match term {
+        Term::Blank(label) => (0, label.as_str()),
+        Term::Iri(text) => (1, text.as_str()),
+        Term::Literal { lexical, .. } => (2, lexical.as_str()),
+    }
+}
+
 /// For each number its last place in the order plus one, and 0 where it has none.
 fn rank_table(alloc: Global, order: &[(&Term, u64)], count: usize) -> Result<Vec<u64>, AllocError>
     requires below { All (λ e. e.1 < count) order.now }
@@ -91,6 +100,9 @@ pub(crate) fn rank<'a>(
     ensures rising { IfOk result (λ order. IsSorted term_cmp (terms_of order.items)) }
 {
     let mut order = distinct_terms(alloc, codes, dict)?;
+    // Comparisons look first at the kind of a term and at its first text, so these stand beside it
+    // while the terms are put in order. The sort behind it settles the order, and finds them sorted.
+    order.sort_by_cached_key(|entry| first_text(entry.0))?;
     order.sort()?;
     let table = rank_table(alloc, &order, dict.len())?;
     put_ranks(codes, &table);

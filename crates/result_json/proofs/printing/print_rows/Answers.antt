@@ -1,5 +1,7 @@
 use Rattle.std.proofs.Common.{◌≡◌, ◌∙◌, ℕ, ap, sym, subst, map, length, List, Option, IfOk, IsPermutation, arith}
+use Rattle.std.specs.Vec.{with_items}
 use Rattle.std.proofs.lemmas.List.{with_items_is}
+use Rattle.std.proofs.lemmas.List.Sorted.{IsPermutation-trans}
 use Rattle.algebra_model.specs.Sorted.{slice, sorted_list}
 use Rattle.algebra_model.specs.RowOrder.{cells_cmp, sorted_rows}
 use Rattle.algebra_model.specs.Reading.{read_row}
@@ -22,14 +24,22 @@ returns c =
     let solutions = c.args.rows.now.rows in
     let terms = terms_of c.in_ok-terms.terms.items in
     let ranks = c.rank.new.codes in
+    let ordered = c.order_pairs.new.ranks in
     let sorted = c.in_ok-sorted.sorted.items in
     let all = map (read_row (term_at dict)) solutions in
-    let rows = rows_in (length listed) (length listed) (length solutions) ranks in
+    let rows_of = λ (n : ℕ) (rs : List ℕ). rows_in (length listed) (length listed) n rs in
+    let rows = rows_of (length solutions) ranks in
     let wide : length ranks ≡ c.in_ok-ranks.ranks.len = omega (arith, c.rank.auto.codes, ap length c.deref_mut.ensures.value, c.in_ok-ranks.ranks.ok.0) in
-    let there : c.deref.result.now ≡ ranks = c.deref.ensures.value ∙ with_items_is c.in_ok-ranks.ranks ranks wide in
-    let permutation : IsPermutation rows (ranks_of sorted) =
-    subst (λ (n : ℕ). IsPermutation (rows_in (length listed) (length listed) n ranks) (ranks_of sorted)) c.len.ensures.value
-    (subst (λ (rs : List ℕ). IsPermutation (rows_in (length listed) (length listed) c.len.result rs) (ranks_of sorted)) there c.in_ok-sorted.ensures.permutation) in
+    let ranked = with_items c.in_ok-ranks.ranks ranks in
+    let lent : c.deref_mut-2.result.now ≡ ranks = c.deref_mut-2.ensures.value ∙ with_items_is c.in_ok-ranks.ranks ranks wide in
+    let there : c.deref.result.now ≡ ordered = c.deref.ensures.value ∙ with_items_is ranked ordered (c.order_pairs.auto.ranks ∙ ap length lent ∙ wide) in
+    let by_pairs : IsPermutation rows (rows_of (length solutions) ordered) =
+    subst (λ (n : ℕ). IsPermutation (rows_of n ranks) (rows_of n ordered)) c.len.ensures.value
+    (subst (λ (rs : List ℕ). IsPermutation (rows_of c.len.result rs) (rows_of c.len.result ordered)) lent c.in_ok-order_pairs.ensures.permutation) in
+    let by_rows : IsPermutation (rows_of (length solutions) ordered) (ranks_of sorted) =
+    subst (λ (n : ℕ). IsPermutation (rows_of n ordered) (ranks_of sorted)) c.len-2.ensures.value
+    (subst (λ (rs : List ℕ). IsPermutation (rows_of c.len-2.result rs) (ranks_of sorted)) there c.in_ok-sorted.ensures.permutation) in
+    let permutation = IsPermutation-trans rows (rows_of (length solutions) ordered) (ranks_of sorted) by_pairs by_rows in
     let by_ranks : map (ranked_row terms) (ranks_of sorted) ≡ sorted_list cells_cmp (map (ranked_row terms) rows) =
     sorted_by_ranks terms c.in_ok-terms.ensures.rising rows (ranks_of sorted) (Each-rows_in (IsRank terms) (length listed) (length solutions) ranks c.in_ok-terms.ensures.ranks) permutation c.in_ok-sorted.ensures.sorted in
     let in_order : map (ranked_row terms) (ranks_of sorted) ≡ sorted_rows listed all =

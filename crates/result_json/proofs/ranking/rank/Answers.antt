@@ -1,5 +1,5 @@
 use Rattle.std.proofs.Common.{◌∙◌, ℕ, List, All, IsPermutation, length, get_or, map, ap, sym, subst, arith}
-use Rattle.std.proofs.lemmas.List.Sorted.{All-permutation}
+use Rattle.std.proofs.lemmas.List.Sorted.{All-permutation, IsPermutation-trans}
 use Rattle.algebra_model.specs.Reading.{Each}
 use Rattle.algebra_model.proofs.RowOrderLaws.{derived, derived-is}
 use Rattle.result_json.specs.Ranks.{ranked_cell, Entry, terms_of, numbers_of, IsEntry, IsRank, IsRankTable}
@@ -10,7 +10,8 @@ pub rank_table-requires : goal.rank_table-requires
 rank_table-requires c =
     let dict = c.args.dict.now in
     let sorted = c.sort.new.self.items in
-    let is : All (IsEntry dict) sorted = All-permutation (IsEntry dict) c.in_ok-order.order.items sorted c.in_ok-sort.ensures.permutation c.in_ok-order.ensures.entries in
+    let p : IsPermutation c.in_ok-order.order.items sorted = IsPermutation-trans _ _ _ c.in_ok-sort_by_cached_key.ensures.permutation c.in_ok-sort.ensures.permutation in
+    let is : All (IsEntry dict) sorted = All-permutation (IsEntry dict) c.in_ok-order.order.items sorted p c.in_ok-order.ensures.entries in
     let there : All (IsEntry dict) c.deref.result.now = subst (λ (es : List Entry). All (IsEntry dict) es) (sym c.deref.ensures.value) is in
     record { below = λ k d l. let b = entries_below dict c.deref.result.now there k d l in omega (arith, b, c.len.ensures.value) }
 
@@ -20,7 +21,7 @@ returns-clause-cells c =
     let codes = c.args.codes.now in
     let sorted = c.sort.new.self.items in
     let table = c.in_ok-table.table.items in
-    let p : IsPermutation c.in_ok-order.order.items sorted = c.in_ok-sort.ensures.permutation in
+    let p : IsPermutation c.in_ok-order.order.items sorted = IsPermutation-trans _ _ _ c.in_ok-sort_by_cached_key.ensures.permutation c.in_ok-sort.ensures.permutation in
     let is : All (IsEntry dict) sorted = All-permutation (IsEntry dict) c.in_ok-order.order.items sorted p c.in_ok-order.ensures.entries in
     let ranks : IsRankTable (numbers_of sorted) table = subst (λ (es : List Entry). IsRankTable (numbers_of es) table) c.deref.ensures.value c.in_ok-table.ensures.ranks in
     let covered = covered_sorted (length dict) c.in_ok-order.order.items sorted codes p c.in_ok-order.ensures.covered in
@@ -33,7 +34,7 @@ returns-clause-ranks c =
     let codes = c.args.codes.now in
     let sorted = c.sort.new.self.items in
     let table = c.in_ok-table.table.items in
-    let p : IsPermutation c.in_ok-order.order.items sorted = c.in_ok-sort.ensures.permutation in
+    let p : IsPermutation c.in_ok-order.order.items sorted = IsPermutation-trans _ _ _ c.in_ok-sort_by_cached_key.ensures.permutation c.in_ok-sort.ensures.permutation in
     let is : All (IsEntry dict) sorted = All-permutation (IsEntry dict) c.in_ok-order.order.items sorted p c.in_ok-order.ensures.entries in
     let ranks : IsRankTable (numbers_of sorted) table = subst (λ (es : List Entry). IsRankTable (numbers_of es) table) c.deref.ensures.value c.in_ok-table.ensures.ranks in
     let covered = covered_sorted (length dict) c.in_ok-order.order.items sorted codes p c.in_ok-order.ensures.covered in
