@@ -1,0 +1,75 @@
+#!/usr/bin/env python3
+"""Times the queries of queries.py by rdflib, on a dataset that it parses once.
+
+    rdflib_queries.py [--quads N] [--limit SECONDS] [--folder PATH]
+
+compare.py has rdflib parse the document for each query anew, from bytes to JSON as every engine does; of a million
+quads that takes minutes a query. Here each query runs in a process of its own that goes on from the parsed
+store, for so many seconds at the most. `parse and query` is what a run from the bytes takes.
+It needs rdflib, for this Python or the system's.
+"""
+import argparse
+import os
+import sys
+import tempfile
+import time
+
+import measure
+import peers
+from queries import PREFIX, QUERIES
+
+
+def load(path):
+    import rdflib
+
+    dataset = rdflib.Dataset()
+    with open(path, "rb") as document:
+        dataset.parse(document, format="nquads", publicID="urn:x-rdflib:default")
+    return dataset
+
+
+def answer(dataset, query, output, limit):
+    """Seconds and peak MiB of a query whose answer goes to a file, by a child; None where it takes longer."""
+    start = time.perf_counter()
+    child = os.fork()
+    if child == 0:
+        import signal
+
+        signal.alarm(limit)
+        with open(output, "wb") as out:
+            out.write(dataset.query(PREFIX + query).serialize(format="json"))
+        os._exit(0)
+    _, status, usage = os.wait4(child, 0)
+    return None if status else (time.perf_counter() - start, usage.ru_maxrss / 1024)
+
+
+def line(name, parsed, taken, output):
+    if taken is None:
+        return [name, "", "not in time", "", ""]
+    seconds, peak = taken
+    return [name, f"{measure.rows(output)}", f"{seconds:.2f}", f"{parsed + seconds:.2f}", f"{peak:.0f}"]
+
+
+def main():
+    asked = argparse.ArgumentParser(description=__doc__.split("\n")[0])
+    asked.add_argument("--quads", type=int, default=1_000_000)
+    asked.add_argument("--limit", type=int, default=120, help="seconds after which a query is ended")
+    asked.add_argument("--folder", help="where datasets are kept; a folder of its own where none is given")
+    words = asked.parse_args()
+    with tempfile.TemporaryDirectory() as room:
+        path, output = measure.dataset(words.folder or room, words.quads), os.path.join(room, "output")
+        start = time.perf_counter()
+        dataset = load(path)
+        parsed = time.perf_counter() - start
+        print(f"{measure.machine()}\n\n## {words.quads} quads, parsed in {parsed:.1f} s\n", flush=True)
+        head = ["query", "rows", "seconds of the query", "parse and query", "peak MiB"]
+        measure.table(head, (line(name, parsed, answer(dataset, query, output, words.limit), output) for name, query in QUERIES.items()))
+
+
+if __name__ == "__main__":
+    python = peers.python_with_rdflib()
+    if python is None:
+        sys.exit("no Python here has rdflib")
+    if python != sys.executable:
+        os.execv(python, [python, *sys.argv])
+    main()
