@@ -1,4 +1,4 @@
-"""What compare.py, queries.py and phases.py share: datasets, runs of a command, tables.
+"""What compare.py, queries.py, phases.py, ordering.py and rdflib_queries.py share: datasets, runs, tables.
 
 A run reads its document from standard input and writes to a file, so that this script stays small: what
 the system tells of a child's memory has the parent's from before the exec in it. The peak of a command

@@ -4,12 +4,14 @@
     rdflib_queries.py [--quads N] [--limit SECONDS] [--folder PATH]
 
 compare.py has rdflib parse the document for each query anew, from bytes to JSON as every engine does; of a million
-quads that takes minutes a query. Here each query runs in a process of its own that goes on from the parsed
-store, for so many seconds at the most. `parse and query` is what a run from the bytes takes.
+quads that takes more than a minute a query. Here each query runs in a process of its own that goes on from the
+parsed store, for so many seconds at the most. `parse and query` is about what a run from the bytes takes: Python's
+start is not in it, and the copying of pages that the process writes to is. The peak has the store in it.
 It needs rdflib, for this Python or the system's.
 """
 import argparse
 import os
+import signal
 import sys
 import tempfile
 import time
@@ -29,23 +31,34 @@ def load(path):
 
 
 def answer(dataset, query, output, limit):
-    """Seconds and peak MiB of a query whose answer goes to a file, by a child; None where it takes longer."""
+    """Seconds and peak MiB of a query that a child answers into a file, or how it failed."""
     start = time.perf_counter()
     child = os.fork()
     if child == 0:
-        import signal
+        write_answer(dataset, query, output, limit)
+    _, status, usage = os.wait4(child, 0)
+    if os.waitstatus_to_exitcode(status) == -signal.SIGALRM:
+        return measure.Failed(f"over {limit} s")
+    if status:
+        return measure.Failed("failed")
+    return time.perf_counter() - start, usage.ru_maxrss / 1024
 
+
+def write_answer(dataset, query, output, limit):
+    """The part of the child. It ends here whatever happens, since folder and output are the parent's."""
+    status = 1
+    try:
         signal.alarm(limit)
         with open(output, "wb") as out:
             out.write(dataset.query(PREFIX + query).serialize(format="json"))
-        os._exit(0)
-    _, status, usage = os.wait4(child, 0)
-    return None if status else (time.perf_counter() - start, usage.ru_maxrss / 1024)
+        status = 0
+    finally:
+        os._exit(status)
 
 
 def line(name, parsed, taken, output):
-    if taken is None:
-        return [name, "", "not in time", "", ""]
+    if isinstance(taken, measure.Failed):
+        return [name, "", f"{taken}", "", ""]
     seconds, peak = taken
     return [name, f"{measure.rows(output)}", f"{seconds:.2f}", f"{parsed + seconds:.2f}", f"{peak:.0f}"]
 
@@ -63,7 +76,8 @@ def main():
         parsed = time.perf_counter() - start
         print(f"{measure.machine()}\n\n## {words.quads} quads, parsed in {parsed:.1f} s\n", flush=True)
         head = ["query", "rows", "seconds of the query", "parse and query", "peak MiB"]
-        measure.table(head, (line(name, parsed, answer(dataset, query, output, words.limit), output) for name, query in QUERIES.items()))
+        answers = ((name, answer(dataset, query, output, words.limit)) for name, query in QUERIES.items())
+        measure.table(head, (line(name, parsed, taken, output) for name, taken in answers))
 
 
 if __name__ == "__main__":

@@ -449,7 +449,7 @@ def growing_answers(program):
 
 
 def many_graphs_in_turn(program):
-    """A group that is evaluated in one graph after the other: each starts a worker."""
+    """A group that is evaluated in one graph after the other."""
     graphs = program.scaled(50_000)
     parts = (b"<http://e/s> <http://e/p> <http://e/o> <http://e/g%d> .\n" % n for n in range(graphs))
     answer = program.run(["select", "--query", "SELECT ?g { GRAPH ?g { ?s ?p ?o } }"], parts)

@@ -11,7 +11,7 @@ use Rattle.algebra_model.proofs.SortedLaws.{rises_from_sort, sorted_is}
 use Rattle.algebra_model.proofs.RowOrderLaws.{then_equal}
 use Rattle.std.specs.Ordering.{ordering_then}
 use Rattle.result_json.specs.Results.{Column, column_cmp, listed_names, numbered, columns}
-use Rattle.result_json.specs.Printed.{column_of}
+use Rattle.result_json.specs.Texts.{column_of}
 
 numbered-push : (k : ℕ) (xs : List (List ℕ)) (x : List ℕ) → numbered k (xs ++ x ∷ []) ≡ numbered k xs ++ (x, k + length xs) ∷ []
 numbered-push k [] x = let e : k ≡ k + 0 = omega arith in λ j. (x, e j) ∷ []

@@ -49,12 +49,12 @@ put_more n cells keys l m h =
     ∙ sym (map-append pair_in (take n keys) (key ∷ [])) ∙ ap (map pair_in) (sym (take_more keys n 0 m))
 
 -- numbers of rows, sorted: as many, and their rows are the same in another order
-module _ (n : ℕ) (cells keys sorted : List ℕ) (of : map pair_in keys ≡ rows_in 2 2 n cells) (p : IsPermutation keys sorted) where
+module _ (n : ℕ) (cells keys sorted : List ℕ) (keyed : map pair_in keys ≡ rows_in 2 2 n cells) (p : IsPermutation keys sorted) where
   pub sorted_count : length sorted ≡ n
-  sorted_count = length_permutation keys sorted p ∙ sym (length-map keys pair_in) ∙ ap length of ∙ length-rows_in 2 2 n cells
+  sorted_count = length_permutation keys sorted p ∙ sym (length-map keys pair_in) ∙ ap length keyed ∙ length-rows_in 2 2 n cells
 
-  pub sorted_rows : (put : List ℕ) → rows_in 2 2 (length sorted) put ≡ map pair_in sorted → IsPermutation (rows_in 2 2 n cells) (rows_in 2 2 n put)
-  sorted_rows put e =
-      let back : map pair_in sorted ≡ rows_in 2 2 n put = sym e ∙ ap (λ k. rows_in 2 2 k put) sorted_count in
-      subst (λ (rs : List (List ℕ)). IsPermutation rs (rows_in 2 2 n put)) of
+  pub pairs_in_order : (ordered : List ℕ) → rows_in 2 2 (length sorted) ordered ≡ map pair_in sorted → IsPermutation (rows_in 2 2 n cells) (rows_in 2 2 n ordered)
+  pairs_in_order ordered e =
+      let back : map pair_in sorted ≡ rows_in 2 2 n ordered = sym e ∙ ap (λ k. rows_in 2 2 k ordered) sorted_count in
+      subst (λ (rs : List (List ℕ)). IsPermutation rs (rows_in 2 2 n ordered)) keyed
       (subst (λ (rs : List (List ℕ)). IsPermutation (map pair_in keys) rs) back (IsPermutation-map pair_in keys sorted p))

@@ -5,8 +5,7 @@ use Rattle.std.proofs.lemmas.List.Concat.{flat_map-append}
 use Rattle.rdf_core.specs.declared.term.Term.{Term}
 use Rattle.result_json.specs.Ranks.{ranked_cell, ranked_row}
 use Rattle.result_json.specs.Results.{Column, member_text, members, row_text, separated, string_text, term_text}
-use Rattle.result_json.specs.Texts.{begun, begun_member, begun_members, begun_row}
-use Rattle.result_json.specs.Printed.{comma_texts}
+use Rattle.result_json.specs.Texts.{begun, begun_member, begun_members, begun_row, comma_texts}
 
 abbrev pub is_cons : {X : Type 0} → List X → Bool
 is_cons [] = false

@@ -1,5 +1,7 @@
--- Texts of terms, each printed once. Private clauses alone cite these words.
-use Rattle.std.specs.Prelude.{◌≡◌, ◌⊎◌, ℕ, ◌<◌, ◌≤◌, List, [], ◌∷◌, ◌++◌, length, flat_map, slice_range, get_or, Option, None, Some, Vec, codes}
+-- Texts of terms, each printed once, and how rows are put together of them. Private clauses alone cite
+-- these words.
+use Rattle.std.specs.Prelude.{◌≡◌, ◌⊎◌, ℕ, ◌<◌, ◌≤◌, Bool, true, false, List, [], ◌∷◌, ◌++◌, length, flat_map, slice_range, get_or, Option, None, Some, Vec, codes}
+use Rattle.std.specs.Borrow.{Bor}
 use Rattle.std.specs.declared.alloc.Global.{Global}
 use Rattle.rdf_core.specs.declared.term.Term.{Term}
 use Rattle.dict_core.specs.Dict.{term_at}
@@ -19,6 +21,10 @@ abbrev pub ArePrinted : List Term → List ℕ → List Span → Type 0
 ArePrinted terms printed spans = (length spans ≡ length terms)
     × ((i : ℕ) → i < length terms → IsSpanOf printed (term_at terms i) (get_or spans i (0, 0)))
 
+-- a column of the code: a name that is lent, and a place
+abbrev pub column_of : Bor (List ℕ) × ℕ → Column
+column_of c = (c.0.now, c.1)
+
 -- the beginning of a column's members, the name as a string and a colon, with the column's place
 abbrev pub begun : Column → Column
 begun c = (string_text c.0 ++ 58 ∷ [], c.1)
@@ -36,3 +42,8 @@ begun_members terms ranks columns = flat_map (λ c. begun_member c.0 (ranked_cel
 
 abbrev pub begun_row : List Term → List Column → List ℕ → List ℕ
 begun_row terms columns ranks = codes "{" ++ (separated (begun_members terms ranks columns) ++ codes "}")
+
+-- texts with a comma before each, or before each but the first
+abbrev pub comma_texts : Bool → List (List ℕ) → List ℕ
+comma_texts true xs = flat_map (λ y. 44 ∷ y) xs
+comma_texts false xs = separated xs

@@ -1,8 +1,7 @@
 //! The columns of the results.
 ghost use Rattle.std.specs.Prelude.{◌≡◌, [], ◌∷◌, ◌++◌, get_or, map, IfOk};
-ghost use Rattle.result_json.specs.Printed.{column_of};
 ghost use Rattle.result_json.specs.Results.{columns, listed_names, numbered, string_text};
-ghost use Rattle.result_json.specs.Texts.{begun, begun_column};
+ghost use Rattle.result_json.specs.Texts.{begun, begun_column, column_of};
 
 use crate::values::printed_string;
 use rdf_core::Text;

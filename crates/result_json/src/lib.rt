@@ -9,9 +9,10 @@
 //! 1.1 Query Language, sections 15.4 and 15.5.
 //!
 //! How: the cells of the listed variables are copied into one buffer of numbers. Their distinct terms
-//! are sorted once, each number becomes the rank of its term, and rows are sorted by ranks, those of two
-//! cells as one number each. The texts of each term and each name are printed once by the JSON library;
-//! terms and rows are put together by appends, rows in one block of a size that is added up before.
+//! are sorted, each number becomes the rank of its term, and rows are sorted by ranks, those of two
+//! cells first as one number each. The JSON library prints the names, and once the texts of each term
+//! that stands in the answer; terms and rows are put together round these by appends, rows in one
+//! block of a size that is added up before.
 //!
 //! To read in this order: `printing`, `coding` (cells as numbers), `ranking` (numbers as ranks),
 //! `pair_order` (rows of two ranks), `ranked_row` and `row_order`, `values` (texts by the JSON library,

@@ -1,8 +1,8 @@
 //! Rows of two ranks in their order, before rows of any width are sorted.
 //!
-//! Most answers have few columns. Two ranks fit into one number, and numbers are sorted faster than
-//! rows. Nothing is promised here but that the rows stay: the sort of rows behind settles their order,
-//! and finds them sorted.
+//! Answers of two columns are common. Two ranks below 2^32 fit into one number, and numbers are sorted
+//! faster than rows. Nothing is promised here but that the rows stay: the sort of rows behind settles
+//! their order, and finds these sorted.
 ghost use Rattle.std.specs.Prelude.{◌≡◌, ◌≤◌, ◌*◌, ◌∷◌, [], length, map, IfOk, IfSome, IsPermutation, OnErr, OnOk};
 ghost use Rattle.row_core.specs.RowList.{rows_in};
 ghost use Rattle.result_json.specs.Pairs.{pair_in};
@@ -50,8 +50,9 @@ fn put_pairs(ranks: &mut [u64], keys: &[u64])
     }
 }
 
-/// Puts so many rows of two ranks in their order, where every rank is below 2^32. Rows of another
-/// width, and such of larger ranks, stay as they are.
+/// Moves so many rows of two ranks into their order, where every rank is below 2^32. Promised is only
+/// that the rows stay. Those of another width or of larger ranks, and a count of more rows than there
+/// are, change nothing.
 ///
 /// # Errors
 /// `AllocError`: a growth was refused. The ranks are as they were.

@@ -1,4 +1,4 @@
-//! Terms by rank: the distinct terms of a result are sorted once, and rows are compared by numbers.
+//! Terms by rank: the distinct terms of a result are sorted, and rows are then compared by numbers.
 ghost use Rattle.std.specs.Prelude.{◌≡◌, ◌<◌, true, get_or, length, map, slice_get, All, IfOk, IsSorted};
 ghost use Rattle.rdf_core.specs.Order.{term_cmp};
 ghost use Rattle.algebra_model.specs.Reading.{Each};
@@ -41,8 +41,8 @@ fn distinct_terms<'a>(
     Ok(made)
 }
 
-/// What comparisons look at first in a term: a number that rises with its kind, and its first text.
-fn first_text(term: &Term) -> (u8, &str) {
+/// What comparisons look at first in a term: its kind, as a number that rises, and its first text.
+fn kind_and_text(term: &Term) -> (u8, &str) {
     match term {
         Term::Blank(label) => (0, label.as_str()),
         Term::Iri(text) => (1, text.as_str()),
@@ -100,9 +100,9 @@ pub(crate) fn rank<'a>(
     ensures rising { IfOk result (λ order. IsSorted term_cmp (terms_of order.items)) }
 {
     let mut order = distinct_terms(alloc, codes, dict)?;
-    // Comparisons look first at the kind of a term and at its first text, so these stand beside it
-    // while the terms are put in order. The sort behind it settles the order, and finds them sorted.
-    order.sort_by_cached_key(|entry| first_text(entry.0))?;
+    // Comparisons look first at the kind of a term and at its first text, so these are taken out once
+    // and sorted. The sort behind settles the order, and moves only terms that have both in common.
+    order.sort_by_cached_key(|entry| kind_and_text(entry.0))?;
     order.sort()?;
     let table = rank_table(alloc, &order, dict.len())?;
     put_ranks(codes, &table);

@@ -1,13 +1,12 @@
 //! The answer of a query as JSON (SPARQL 1.1 Query Results JSON Format).
 //!
-//! Rows are put together by appends, of texts that the JSON library printed once a name and once a
-//! term.
+//! Rows are put together by appends, of the beginnings of members, each made once a column, and of the
+//! texts of terms, each made once a term.
 ghost use Rattle.std.specs.Prelude.{◌≡◌, ◌++◌, ◌||◌, map, is_some, OnOk, IfOk};
 ghost use Rattle.result_json.specs.RankedRows.{ranks_of};
 ghost use Rattle.result_json.specs.Ranks.{ranked_cell, ranked_row};
-ghost use Rattle.result_json.specs.Printed.{comma_texts};
 ghost use Rattle.result_json.specs.Results.{json, listed_names, separated, string_text};
-ghost use Rattle.result_json.specs.Texts.{begun_column, begun_member, begun_row};
+ghost use Rattle.result_json.specs.Texts.{begun_column, begun_member, begun_row, comma_texts};
 
 use crate::columns::{begun_columns, name_of};
 use crate::ranked_row::RankedRow;

@@ -41,8 +41,8 @@ fn put_text(alloc: Global, out: &mut Vec<u8>, before: &[u8], text: &Text) -> Res
     out.extend_from_slice(&printed_string(alloc, text.as_str())?)
 }
 
-/// Appends the members of a term's object, behind its bracket.
-fn put_members(alloc: Global, out: &mut Vec<u8>, term: &Term) -> Result<(), AllocError>
+/// Appends the object of a term, but for the bracket that ends it.
+fn put_open_object(alloc: Global, out: &mut Vec<u8>, term: &Term) -> Result<(), AllocError>
     ensures { OnOk result (out.new.items ++ codes "}" ≡ out.old.items ++ term_text term.now) }
 {
     match term {
@@ -74,7 +74,7 @@ pub(crate) fn printed_term(alloc: Global, term: &Term) -> Result<Vec<u8>, AllocE
     ensures { IfOk result (λ text. text.items ≡ term_text term.now) }
 {
     let mut out = Vec::new(alloc);
-    put_members(alloc, &mut out, term)?;
+    put_open_object(alloc, &mut out, term)?;
     out.push(b'}')?;
     Ok(out)
 }

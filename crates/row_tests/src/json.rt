@@ -26,20 +26,27 @@ fn literal(alloc: Global, lexical: &str, datatype: &str) -> Result<Term, AllocEr
     })
 }
 
-/// A literal of each kind, an IRI and a blank node: their numbers are their places.
-fn terms(alloc: Global, state: RandomState) -> Result<Dict, AllocError> {
-    let tagged = Term::Literal {
-        lexical: text(alloc, "é\n")?,
+/// A literal with the tag `en`.
+fn tagged(alloc: Global, lexical: &str) -> Result<Term, AllocError> {
+    Ok(Term::Literal {
+        lexical: text(alloc, lexical)?,
         datatype: text(alloc, RDF_LANG_STRING)?,
         tag: Some(text(alloc, "en")?),
-    };
+    })
+}
+
+/// A literal of each kind, an IRI and a blank node, and two literals more of the first one's lexical
+/// form: their numbers are their places.
+fn terms(alloc: Global, state: RandomState) -> Result<Dict, AllocError> {
     let all = vec![in alloc;
         literal(alloc, "x", XSD_STRING)?,
         literal(alloc, "1", XSD_INTEGER)?,
-        tagged,
+        tagged(alloc, "é\n")?,
         literal(alloc, "\t\u{1}\\", XSD_STRING)?,
         iri(alloc, "http://e/a")?,
         Term::Blank(text(alloc, "b")?),
+        tagged(alloc, "x")?,
+        literal(alloc, "x", XSD_INTEGER)?,
     ]?;
     let mut dict = Dict::new(alloc, state)?;
     for term in all {
@@ -122,6 +129,26 @@ fn members_stand_by_their_names(rt: HostRuntime) {
     let bytes = answer(rt.alloc(), state, &[0, 1, 2], &cells, 0, None).expect(&rt, "memory");
     let expected =
         "{\"head\":{\"vars\":[\"b\",\"a\",\"é\\\"\"]},\"results\":{\"bindings\":[{\"a\":{\"type\":\"uri\",\"value\":\"http://e/a\"}},{\"b\":{\"type\":\"literal\",\"value\":\"x\"}},{\"a\":{\"type\":\"bnode\",\"value\":\"b\"},\"b\":{\"type\":\"literal\",\"value\":\"x\"}}]}}\n";
+    assert!(rt; bytes.as_slice() == expected.as_bytes());
+}
+
+/// Rows of two cells rise by the first and then by the second, unbound first, and a repeated row stands
+/// twice; literals of one lexical form stand by their datatypes.
+#[test]
+fn rows_of_two_rise_column_by_column(rt: HostRuntime) {
+    let state = RandomState::new(&rt).expect(&rt, "a hash state");
+    let cells = [
+        (Some(0), Some(4)),
+        (Some(7), None),
+        (Some(6), Some(5)),
+        (Some(0), Some(5)),
+        (None, Some(0)),
+        (Some(0), Some(4)),
+        (Some(0), None),
+    ];
+    let bytes = answer(rt.alloc(), state, &[0, 1], &cells, 0, None).expect(&rt, "memory");
+    let expected =
+        "{\"head\":{\"vars\":[\"b\",\"a\"]},\"results\":{\"bindings\":[{\"a\":{\"type\":\"literal\",\"value\":\"x\"}},{\"a\":{\"type\":\"bnode\",\"value\":\"b\"},\"b\":{\"type\":\"literal\",\"value\":\"x\",\"xml:lang\":\"en\"}},{\"b\":{\"datatype\":\"http://www.w3.org/2001/XMLSchema#integer\",\"type\":\"literal\",\"value\":\"x\"}},{\"b\":{\"type\":\"literal\",\"value\":\"x\"}},{\"a\":{\"type\":\"bnode\",\"value\":\"b\"},\"b\":{\"type\":\"literal\",\"value\":\"x\"}},{\"a\":{\"type\":\"uri\",\"value\":\"http://e/a\"},\"b\":{\"type\":\"literal\",\"value\":\"x\"}},{\"a\":{\"type\":\"uri\",\"value\":\"http://e/a\"},\"b\":{\"type\":\"literal\",\"value\":\"x\"}}]}}\n";
     assert!(rt; bytes.as_slice() == expected.as_bytes());
 }
 

@@ -1,6 +1,5 @@
 use Rattle.std.proofs.Common.{◌≡◌, map, take}
-use Rattle.result_json.specs.Printed.{column_of}
-use Rattle.result_json.specs.Texts.{begun, begun_column}
+use Rattle.result_json.specs.Texts.{begun, begun_column, column_of}
 use Rattle.result_json.proofs.columns.begun_columns.Given as goal
 
 abbrev pub invariant-loop-name : goal.invariant-loop-name

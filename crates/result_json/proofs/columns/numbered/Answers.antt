@@ -1,6 +1,6 @@
 use Rattle.std.proofs.Common.{◌++◌, ◌∙◌, [], ◌∷◌, ap, sym, map, take, List, ℕ}
 use Rattle.std.proofs.lemmas.List.{map-append}
-use Rattle.result_json.specs.Printed.{column_of}
+use Rattle.result_json.specs.Texts.{column_of}
 use Rattle.result_json.specs.Results.{Column, listed_names, numbered}
 use Rattle.result_json.proofs.ColumnLaws.{numbered-names}
 use Rattle.result_json.proofs.columns.numbered.Goals as goal

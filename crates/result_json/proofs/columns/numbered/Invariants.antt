@@ -1,5 +1,5 @@
 use Rattle.std.proofs.Common.{◌≡◌, map, take}
-use Rattle.result_json.specs.Printed.{column_of}
+use Rattle.result_json.specs.Texts.{column_of}
 use Rattle.result_json.specs.Results.{listed_names, numbered}
 use Rattle.result_json.proofs.columns.numbered.Given as goal
 

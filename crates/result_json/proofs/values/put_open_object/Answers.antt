@@ -3,7 +3,7 @@ use Rattle.std.specs.Str.{bytes_eq}
 use Rattle.rdf_core.specs.Vocabulary.{xsd_string}
 use Rattle.result_json.specs.Results.{string_text}
 use Rattle.result_json.proofs.TermSteps.{one_text, two_texts, blank_text, iri_text, tagged_text, plain_text_is}
-use Rattle.result_json.proofs.values.put_members.Goals as goal
+use Rattle.result_json.proofs.values.put_open_object.Goals as goal
 
 pub returns-in-Blank : goal.returns-in-Blank
 returns-in-Blank c =
