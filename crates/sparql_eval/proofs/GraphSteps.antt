@@ -1,10 +1,16 @@
 -- The numbers of named graphs, and rows joined with a graph's name.
-use Rattle.std.proofs.Common.{◌≡◌, ℕ, ◌+◌, ◌<◌, Bool, true, false, cond, ◌||◌, List, [], ◌∷◌, ◌++◌, length, map, take, filter_map, nat_eq, slice_get, Contains, Option, None, Some, refl, sym, ap, ◌∙◌, subst, IsPermutation, append_assoc, arith}
+use Rattle.std.proofs.Common.{◌≡◌, ℕ, ◌+◌, ◌<◌, ◌≤◌, Bool, true, false, cond, ◌||◌, List, [], ◌∷◌, ◌++◌, length, map, take, filter_map, nat_eq, nat_cmp, eq-eqb, ne_eqb, get_or, slice_get, Contains, Option, None, Some, MatchOption, Result, Ok, Err, is_ok, ⊎_elim, refl, sym, ap, ◌∙◌, subst, IsPermutation, append_assoc, arith}
+use Rattle.std.specs.Bool.{then_some}
 use Rattle.std.specs.List.{list_any, cons_option, All}
 use Rattle.std.specs.Option.{option_map, ForSome}
+use Rattle.std.specs.List.Sorted.{IsBinarySearchResult, IsStrictlyIncreasing}
+use Rattle.std.proofs.lemmas.Bool.{cases_lt}
 use Rattle.std.proofs.lemmas.Bool.Decides.{Decides-eqb}
 use Rattle.std.proofs.lemmas.List.Elements.{All-head, All-tail, All-cons}
-use Rattle.std.proofs.lemmas.List.Sorted.{IsPermutation-map, IsPermutation-trans, IsPermutation-refl}
+use Rattle.std.proofs.lemmas.List.{get_or_default}
+use Rattle.std.proofs.lemmas.List.Folds.{list_any_at, list_any_none}
+use Rattle.std.proofs.lemmas.List.Sorted.{IsPermutation-map, IsPermutation-trans, IsPermutation-refl, searched}
+use Rattle.std.proofs.lemmas.Map.Keys.{non_decreasing_from_sorted, sorted_from_strictly_increasing}
 use Rattle.rdf_core.specs.declared.term.Term.{Term}
 use Rattle.rdf_core.specs.QuadParts.{QuadParts}
 use Rattle.rdf_core.proofs.TermLaws.{term_eq, term_decides}
@@ -41,6 +47,22 @@ named_turn R ν i μ h before made made' b is was e =
     e ∙ ap (λ (l : List (Solution ℕ)). l ++ cond b (merge μ ν ∷ []) []) was ∙ append_assoc before (join nat_eq (take i R) (ν ∷ [])) (cond b (merge μ ν ∷ []) [])
     ∙ ap (λ (c : Bool). before ++ (join nat_eq (take i R) (ν ∷ []) ++ cond c (merge μ ν ∷ []) [])) is
     ∙ ap (λ (l : List (Solution ℕ)). before ++ l) (sym (named_take R ν i μ h))
+
+-- ---- a search of numbers that rise
+
+rise : (xs : List ℕ) → IsStrictlyIncreasing xs → (i j : ℕ) → i ≤ j → j < length xs → get_or xs i 0 ≤ get_or xs j 0
+rise xs up i j = non_decreasing_from_sorted xs (sorted_from_strictly_increasing xs up) i j 0
+
+-- it finds a number where the number is among them
+pub search_tells : (xs : List ℕ) → IsStrictlyIncreasing xs → (n : ℕ) (r : Result ℕ ℕ) → IsBinarySearchResult (λ x. nat_cmp x n) xs r → is_ok r ≡ list_any (λ x. nat_eq x n) xs
+search_tells xs up n (Ok i) is =
+    let found = searched xs n (Ok i) is (rise xs up) in
+    sym (list_any_at (λ x. nat_eq x n) xs i 0 found.0 (eq-eqb (get_or xs i 0) n found.1))
+search_tells xs up n (Err i) is =
+    let parted = searched xs n (Err i) is (rise xs up) in
+    sym (list_any_none (λ x. nat_eq x n) xs (λ k d low. ne_eqb (get_or xs k d) n (λ same.
+    let read = get_or_default xs k d 0 low in
+    ⊎_elim (λ l. omega (arith, same, read, parted.1 k l)) (λ l. omega (arith, same, read, parted.2 k l low)) (cases_lt k i))))
 
 -- ---- the names of the graphs
 
@@ -90,14 +112,19 @@ module _ (terms : List Term) (once : IsWithoutRepeats terms) (index : List NumQu
       alike_from_set (names (quads_at terms index)) (map (term_at terms) graphs) (set_from_permutation (names (quads_at terms index)) (map (term_at terms) graphs) names_read) (term_eq t)
       ∙ any-map (term_eq t) (term_at terms) graphs ∙ ap (λ u. list_any (λ g. term_eq u (term_at terms g)) graphs) (sym e) ∙ among n low graphs graph_below
 
-  pub number_has : (t : Term) (n : ℕ) → slice_get terms n ≡ Some t → (b : Bool) → b ≡ list_any (λ g. nat_eq g n) graphs → b ≡ true → IsGraphNumber terms index t n
-  number_has t n at b is e =
-      let low = number_known terms n t at in
-      let read = number_read terms n t at in
-      (name_found t n low read ∙ sym is ∙ e, low, read)
+  -- what is answered for a name that has a number, by whether the number is some graph's
+  pub number_told : (t : Term) (n : ℕ) → slice_get terms n ≡ Some t → (b : Bool) → b ≡ list_any (λ g. nat_eq g n) graphs → MatchOption (then_some b n) (list_any (term_eq t) (names (quads_at terms index)) ≡ false) (IsGraphNumber terms index t)
+  number_told t n at b is = by b (name_found t n low read ∙ sym is)
+    where
+      low : n < length terms
+      low = number_known terms n t at
 
-  pub number_lacks : (t : Term) (n : ℕ) → slice_get terms n ≡ Some t → (b : Bool) → b ≡ list_any (λ g. nat_eq g n) graphs → b ≡ false → list_any (term_eq t) (names (quads_at terms index)) ≡ false
-  number_lacks t n at b is e = name_found t n (number_known terms n t at) (number_read terms n t at) ∙ sym is ∙ e
+      read : term_at terms n ≡ t
+      read = number_read terms n t at
+
+      by : (b : Bool) → list_any (term_eq t) (names (quads_at terms index)) ≡ b → MatchOption (then_some b n) (list_any (term_eq t) (names (quads_at terms index)) ≡ false) (IsGraphNumber terms index t)
+      by true e = (e, low, read)
+      by false e = e
 
 -- a term that the dictionary lacks is no graph's name
 pub name_absent : (terms : List Term) → IsWithoutRepeats terms → (index : List NumQuad) → AreBelow (length terms) index → (t : Term) → (Contains terms t → ⊥) → list_any (term_eq t) (names (quads_at terms index)) ≡ false

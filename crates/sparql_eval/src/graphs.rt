@@ -22,11 +22,11 @@ pub(crate) fn graph_number(dict: &Dict, index: &Index, name: &Term) -> Option<u6
 {
     let _distinct = dict.len();
     let number = dict.number_of(name)?;
-    if index.graphs().contains(&number) {
-        Some(number)
-    } else {
-        None
-    }
+    index
+        .graphs()
+        .binary_search(&number)
+        .is_ok()
+        .then_some(number)
 }
 
 /// The row that binds one variable.
