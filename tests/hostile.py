@@ -230,6 +230,19 @@ def many_workers_over_many_pieces(program):
         program.run(["check", *words], lines).is_exactly(0, counts(10_000, 10_008, 0))
 
 
+def many_workers_over_many_rows(program):
+    """A join and an OPTIONAL of ten thousand rows each, row by row: the same bytes as by one worker."""
+    lines = [b"<http://e/s%d> <http://e/%s> <http://e/o%d> .\n" % (n, p, n % 97) for n in range(10_000) for p in (b"p", b"q")]
+    query = "SELECT ?s ?o { { ?s <http://e/p> ?o } { ?s <http://e/q> ?o } OPTIONAL { ?s <http://e/q> ?r FILTER(?r = ?o) } }"
+    answers = set()
+    for words in (["--workers", "64", "--piece", "1", "--rows", "1"], ["--workers", "1"], ["--workers", "64", "--rows", "7"]):
+        answer = program.run(["select", *words, "--query", query], lines)
+        expect(answer.status == 0, f"status {answer.status} and {answer.output[:200]!r}")
+        answers.add(answer.output)
+    expect(len(answers) == 1, "not the same bytes each time")
+    expect(answers.pop().count(b'{"o":{') == 10_000, "not ten thousand rows")
+
+
 def the_least_of_many_bad_lines(program):
     lines = [STATEMENT] * 10_000
     for at in range(4321, 10_000, 3):
@@ -457,6 +470,16 @@ def many_graphs_in_turn(program):
     expect(answer.output.count(b'{"g":{') == graphs, "not a row for each graph")
 
 
+def a_graph_within_many_graphs(program):
+    """A named graph is looked for in one graph after the other."""
+    graphs = program.scaled(50_000)
+    parts = (b"<http://e/s> <http://e/p> <http://e/o> <http://e/g%d> .\n" % n for n in range(graphs))
+    query = "SELECT ?g ?s { GRAPH ?g { GRAPH <http://e/g%d> { ?s ?p ?o } } }" % (graphs - 1)
+    answer = program.run(["select", "--query", query], parts)
+    expect(answer.status == 0, f"status {answer.status} and {answer.output[:200]!r}")
+    expect(answer.output.count(b'{"g":{') == graphs, "not a row for each graph")
+
+
 def long_lists(program):
     """Queries of some hundred kilobytes that are long side by side, not one part behind the other."""
     numbers = [b"%05d" % n for n in range(10_000)]
@@ -582,10 +605,10 @@ CASES = [
     small_documents, a_line_of_blanks, a_long_comment, a_long_bad_line, a_long_document_without_a_line_feed,
     a_long_literal, a_long_literal_of_escapes, a_long_iri_and_label_and_tag, a_label_of_dots, many_empty_lines,
     many_lone_returns, one_statement_many_times, many_graphs, many_workers_over_many_pieces,
-    the_least_of_many_bad_lines, a_full_output, a_reader_that_closes_early, a_closed_output,
-    an_input_that_fails, little_memory, few_processes, wrong_words, growth, terms_of_one_weak_hash, brackets,
-    growing_answers, many_graphs_in_turn, long_lists, a_query_before_a_bad_document, long_queries,
-    long_queries_and_little_memory,
+    many_workers_over_many_rows, the_least_of_many_bad_lines, a_full_output, a_reader_that_closes_early,
+    a_closed_output, an_input_that_fails, little_memory, few_processes, wrong_words, growth, terms_of_one_weak_hash,
+    brackets, growing_answers, many_graphs_in_turn, a_graph_within_many_graphs, long_lists,
+    a_query_before_a_bad_document, long_queries, long_queries_and_little_memory,
 ]
 
 
