@@ -35,25 +35,26 @@ fn tagged(alloc: Global, lexical: &str) -> Result<Term, AllocError> {
     })
 }
 
+/// Adds a term that is new.
+fn put(dict: &mut Dict, term: Result<Term, AllocError>) -> Result<(), AllocError> {
+    match dict.intern(term?) {
+        Ok(_) => Ok(()),
+        Err(_) => Err(AllocError),
+    }
+}
+
 /// A literal of each kind, an IRI and a blank node, and two literals more of the first one's lexical
 /// form: their numbers are their places.
 fn terms(alloc: Global, state: RandomState) -> Result<Dict, AllocError> {
-    let all = vec![in alloc;
-        literal(alloc, "x", XSD_STRING)?,
-        literal(alloc, "1", XSD_INTEGER)?,
-        tagged(alloc, "é\n")?,
-        literal(alloc, "\t\u{1}\\", XSD_STRING)?,
-        iri(alloc, "http://e/a")?,
-        Term::Blank(text(alloc, "b")?),
-        tagged(alloc, "x")?,
-        literal(alloc, "x", XSD_INTEGER)?,
-    ]?;
     let mut dict = Dict::new(alloc, state)?;
-    for term in all {
-        let Ok(_) = dict.intern(term) else {
-            return Err(AllocError);
-        };
-    }
+    put(&mut dict, literal(alloc, "x", XSD_STRING))?;
+    put(&mut dict, literal(alloc, "1", XSD_INTEGER))?;
+    put(&mut dict, tagged(alloc, "é\n"))?;
+    put(&mut dict, literal(alloc, "\t\u{1}\\", XSD_STRING))?;
+    put(&mut dict, iri(alloc, "http://e/a"))?;
+    put(&mut dict, Ok(Term::Blank(text(alloc, "b")?)))?;
+    put(&mut dict, tagged(alloc, "x"))?;
+    put(&mut dict, literal(alloc, "x", XSD_INTEGER))?;
     Ok(dict)
 }
 
