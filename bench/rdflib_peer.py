@@ -5,13 +5,19 @@
 """
 import sys
 
-import rdflib
+
+def load(path):
+    """rdflib's store of a document. It is imported here, so that a script may look for a Python that has it."""
+    import rdflib
+
+    dataset = rdflib.Dataset()
+    with open(path, "rb") as document:
+        dataset.parse(document, format="nquads", publicID="urn:x-rdflib:default")
+    return dataset
 
 
 def main():
-    dataset = rdflib.Dataset()
-    with open(sys.argv[1], "rb") as document:
-        dataset.parse(document, format="nquads", publicID="urn:x-rdflib:default")
+    dataset = load(sys.argv[1])
     if len(sys.argv) > 2:
         sys.stdout.buffer.write(dataset.query(sys.argv[2]).serialize(format="json"))
     else:

@@ -18,16 +18,8 @@ import time
 
 import measure
 import peers
+import rdflib_peer
 from queries import PREFIX, QUERIES
-
-
-def load(path):
-    import rdflib
-
-    dataset = rdflib.Dataset()
-    with open(path, "rb") as document:
-        dataset.parse(document, format="nquads", publicID="urn:x-rdflib:default")
-    return dataset
 
 
 def answer(dataset, query, output, limit):
@@ -72,7 +64,7 @@ def main():
     with tempfile.TemporaryDirectory() as room:
         path, output = measure.dataset(words.folder or room, words.quads), os.path.join(room, "output")
         start = time.perf_counter()
-        dataset = load(path)
+        dataset = rdflib_peer.load(path)
         parsed = time.perf_counter() - start
         print(f"{measure.machine()}\n\n## {words.quads} quads, parsed in {parsed:.1f} s\n", flush=True)
         head = ["query", "rows", "seconds of the query", "parse and query", "peak MiB"]
