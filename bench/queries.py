@@ -8,7 +8,7 @@ takes on the same dataset, which loads it and answers one row, is taken away: th
 its output. It runs before each query anew, and the least of all its times counts. The growth is that of
 the processors' seconds, which other work on the machine disturbs least: a query whose rows grow by ten
 should take about ten times as long.
-A dataset of 1,200,000 quads has about 100,000 works, so there `join` joins two lists of 100,000 rows.
+A dataset of 1,200,000 quads has some 97,000 works, so there `join` joins two lists of 97,000 rows.
 Python 3 standard library only.
 """
 import os

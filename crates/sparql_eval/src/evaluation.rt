@@ -24,8 +24,8 @@ use std::thread::Threads;
 /// read through the given dictionary.
 ///
 /// The answered dictionary begins with the given one, and has the terms that were computed or stand
-/// in VALUES behind it. Each operator is done once, the inputs before it; one that goes over rows
-/// cuts them into pieces of `how.rows` for `how.workers` workers.
+/// in VALUES behind it. Each operator is done once, but within GRAPH under a variable once a named graph, and its
+/// inputs before it; one that goes over rows cuts them into pieces of `how.rows` for `how.workers` workers.
 ///
 /// # Requires
 /// Each number in the index is below the length of the dictionary, and `how` keeps its limits.

@@ -1,6 +1,6 @@
 //! The command line of spq: words go in; a [`Command`] comes out, or the reason why there is none.
 //!
-//! What the crates above use: a [`Command`] as a value whose type keeps the limits of its numbers
+//! What the crates above use: a [`Command`] as a value whose type keeps the limits of workers and blocks
 //! ([`Reading`]), and [`read_command`]: the command that the words are (`IsCommandLine` of
 //! specs/Program.antt), and `Line` exactly where they are none, which is where the library of command
 //! lines refuses them (`fault_of`).
