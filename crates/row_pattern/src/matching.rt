@@ -1,11 +1,12 @@
 //! The solutions of a basic graph pattern, as one job over pieces of the first step's matches.
-ghost use Rattle.std.specs.Prelude.{◌≡◌, ℕ, ◌+◌, ◌≤◌, ◌∷◌, [], nat_eq, map, replicate, None, IfOk, Contains};
+ghost use Rattle.std.specs.Prelude.{◌≡◌, ℕ, ◌+◌, ◌≤◌, ◌∷◌, [], nat_eq, map, replicate, None, IfErr, IfOk, Contains};
 ghost use Rattle.algebra_model.specs.Bag.{IsSameBag, IsWithoutRepeats};
 ghost use Rattle.algebra_model.specs.Bgp.{bgp, occurring};
 ghost use Rattle.algebra_model.specs.Reading.{Each, EachBound};
 ghost use Rattle.algebra_model.specs.Solve.{AreBelow};
 ghost use Rattle.dict_core.proofs.NumQuadLaws.{quad_eq};
-ghost use Rattle.row_pieces.specs.How.{IsRunnable};
+ghost use Rattle.row_pieces.specs.How.{IsRunnable, IsUncut};
+ghost use Rattle.row_pieces.specs.declared.how.EvalFault.TheVariants.{Memory};
 ghost use Rattle.row_pattern.specs.Numbered.{pattern_of, triple_of, triples_of};
 ghost use Rattle.row_pattern.specs.Steps.{solutions_from, solutions_over};
 
@@ -74,7 +75,7 @@ impl<'a> RowWork for Matches<'a> {
 /// limits.
 ///
 /// # Errors
-/// - `WorkerRefused`: the start of a worker was refused.
+/// - `WorkerRefused`: the start of a worker was refused. It never comes where `how.rows` is 2^64 - 1.
 /// - `Memory`: a growth was refused.
 pub fn pattern<R: Threads + Wait, G: Gate + Sync>(
     rt: &R,
@@ -94,6 +95,7 @@ pub fn pattern<R: Threads + Wait, G: Gate + Sync>(
         (bgp nat_eq width labels (map pattern_of patterns.now) (triples_of graph index.now))) }
     ensures known { IfOk result (λ found.
         Each (EachBound (λ n. Contains (occurring (triples_of graph index.now)) n)) found.rows) }
+    ensures uncut { IsUncut how.now → IfErr result (λ fault. fault ≡ Memory) }
 {
     quads_stand_once(index);
     let cells = width.saturating_add(labels);

@@ -8,7 +8,7 @@ pub struct How {
     /// How many workers at the most: 1 to 64.
     pub workers: usize,
     /// How many rows a piece has at the most: 1 or more. Piece `i` of a list of rows has the rows
-    /// from `i * rows` on.
+    /// from `i * rows` on. With 2^64 - 1 each list is one piece, and no worker is started.
     pub rows: usize,
 }
 

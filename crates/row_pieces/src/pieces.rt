@@ -3,7 +3,7 @@ ghost use Rattle.std.specs.Int.{div_ceil};
 ghost use Rattle.std.specs.List.{flat_map};
 ghost use Rattle.std.specs.Prelude.{◌≡◌, ◌≤◌, ◌^◌, ℕ, List, length, IfOk, IfErr, All, take, drop, ◌-◌, ◌*◌};
 ghost use Rattle.algebra_model.specs.Solution.{Solution};
-ghost use Rattle.row_pieces.specs.How.{IsRunnable};
+ghost use Rattle.row_pieces.specs.How.{IsRunnable, IsUncut};
 ghost use Rattle.row_pieces.specs.Pieces.{AreRowsOf, piece_of};
 ghost use Rattle.row_pieces.specs.declared.how.EvalFault.TheVariants.{Memory};
 
@@ -91,6 +91,7 @@ pub fn over_pieces<R: Threads + Wait, W: RowWork + Sync, G: Gate + Sync>(
     requires how { IsRunnable how.now }
     ensures rows { IfOk result (AreRowsOf (W.width work.now) (W.parts work.now)) }
     ensures alone { length (W.parts work.now) ≤ how.now.rows → IfErr result (λ fault. fault ≡ Memory) }
+    ensures uncut { IsUncut how.now → IfErr result (λ fault. fault ≡ Memory) }
 {
     let count = work.count();
     let size = piece_size(count, how.rows);

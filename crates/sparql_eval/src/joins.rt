@@ -1,11 +1,12 @@
 //! Join, LeftJoin and Minus (SPARQL 1.1 Query Language, section 18.5).
 ghost use Rattle.std.specs.Bool.{OnTrue};
 ghost use Rattle.std.specs.List.{list_all};
-ghost use Rattle.std.specs.Prelude.{◌≡◌, ◌∷◌, [], is_some, not, replicate, None, IfOk};
+ghost use Rattle.std.specs.Prelude.{◌≡◌, ◌∷◌, [], is_some, not, replicate, None, IfErr, IfOk};
 ghost use Rattle.rdf_core.proofs.TermLaws.{term_eq};
 ghost use Rattle.algebra_model.specs.Expression.{holds};
 ghost use Rattle.algebra_model.specs.Operators.{join, left_join, minus};
-ghost use Rattle.row_pieces.specs.How.{IsRunnable};
+ghost use Rattle.row_pieces.specs.How.{IsRunnable, IsUncut};
+ghost use Rattle.row_pieces.specs.declared.how.EvalFault.TheVariants.{Memory};
 ghost use Rattle.sparql_algebra.specs.ExpressionOf.{expression_of};
 ghost use Rattle.sparql_eval.specs.Evaluated.{AreKnown, IsEvaluated, solutions_of};
 
@@ -29,7 +30,7 @@ use std::thread::Threads;
 /// keeps its limits.
 ///
 /// # Errors
-/// - `WorkerRefused`: the start of a worker was refused.
+/// - `WorkerRefused`: the start of a worker was refused. It never comes where `how.rows` is 2^64 - 1.
 /// - `Memory`: a growth was refused.
 ///
 /// A refusal drops the dictionary.
@@ -49,6 +50,7 @@ pub fn join<R: Threads + Wait, G: Gate + Sync>(
     requires how { IsRunnable how.now }
     ensures evaluated { IfOk result (λ r. IsEvaluated dict left.now.width
         (join term_eq (solutions_of dict left.now) (solutions_of dict right.now)) r.0 r.1) }
+    ensures uncut { IsUncut how.now → IfErr result (λ fault. fault ≡ Memory) }
 {
     let _distinct = dict.len();
     let made = row_join::join(rt, alloc, state, left, right, how, gate)?;
@@ -73,6 +75,7 @@ pub(crate) fn join_of<R: Threads + Wait, G: Gate + Sync>(
     requires how { IsRunnable how.now }
     ensures evaluated { IfOk result (λ r. IsEvaluated dict left.width
         (join term_eq (solutions_of dict left) (solutions_of dict right)) r.0 r.1) }
+    ensures uncut { IsUncut how.now → IfErr result (λ fault. fault ≡ Memory) }
 {
     if binds_nothing(&left, right.width()) {
         return Ok((right, dict));
@@ -103,7 +106,7 @@ fn all_open(row: &[Option<u64>]) -> bool
 /// keeps its limits.
 ///
 /// # Errors
-/// - `WorkerRefused`: the start of a worker was refused.
+/// - `WorkerRefused`: the start of a worker was refused. It never comes where `how.rows` is 2^64 - 1.
 /// - `Memory`: a growth was refused.
 ///
 /// A refusal drops the dictionary.
@@ -125,6 +128,7 @@ pub fn left_join<R: Threads + Wait, G: Gate + Sync>(
     ensures evaluated { IfOk result (λ r. IsEvaluated dict left.now.width
         (left_join term_eq (holds (expression_of condition.now))
         (solutions_of dict left.now) (solutions_of dict right.now)) r.0 r.1) }
+    ensures uncut { IsUncut how.now → IfErr result (λ fault. fault ≡ Memory) }
 {
     let _distinct = dict.len();
     let made = {
@@ -144,7 +148,7 @@ pub fn left_join<R: Threads + Wait, G: Gate + Sync>(
 /// keeps its limits.
 ///
 /// # Errors
-/// - `WorkerRefused`: the start of a worker was refused.
+/// - `WorkerRefused`: the start of a worker was refused. It never comes where `how.rows` is 2^64 - 1.
 /// - `Memory`: a growth was refused.
 ///
 /// A refusal drops the dictionary.
@@ -164,6 +168,7 @@ pub fn minus<R: Threads + Wait, G: Gate + Sync>(
     requires how { IsRunnable how.now }
     ensures evaluated { IfOk result (λ r. IsEvaluated dict left.now.width
         (minus term_eq (solutions_of dict left.now) (solutions_of dict right.now)) r.0 r.1) }
+    ensures uncut { IsUncut how.now → IfErr result (λ fault. fault ≡ Memory) }
 {
     let _distinct = dict.len();
     let made = row_join::minus(rt, alloc, state, left, right, how, gate)?;

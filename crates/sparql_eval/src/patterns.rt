@@ -1,5 +1,5 @@
 //! Basic graph patterns (SPARQL 1.1 Query Language, section 18.3).
-ghost use Rattle.std.specs.Prelude.{◌≡◌, ◌<◌, true, length, map, option_map, IfOk, MatchOption};
+ghost use Rattle.std.specs.Prelude.{◌≡◌, ◌<◌, true, length, map, option_map, IfErr, IfOk, MatchOption};
 ghost use Rattle.std.specs.List.{list_all};
 ghost use Rattle.std.specs.Option.{ForSome};
 ghost use Rattle.rdf_core.proofs.TermLaws.{term_eq};
@@ -9,7 +9,8 @@ ghost use Rattle.algebra_model.specs.Dataset.{graph};
 ghost use Rattle.dict_core.specs.Dict.{term_at};
 ghost use Rattle.dict_core.specs.NumQuad.{AreBelow, quads_at};
 ghost use Rattle.row_pattern.specs.Numbered.{pattern_of, pattern_term_of as number_term_of};
-ghost use Rattle.row_pieces.specs.How.{IsRunnable};
+ghost use Rattle.row_pieces.specs.How.{IsRunnable, IsUncut};
+ghost use Rattle.row_pieces.specs.declared.how.EvalFault.TheVariants.{Memory};
 ghost use Rattle.sparql_algebra.specs.AlgebraOf.{pattern_term_of, triple_pattern_of};
 ghost use Rattle.sparql_eval.specs.Constants.{ArePatternsOf, IsPatternOf, IsPatternTermOf, LacksSome, LacksTerm, LacksTriple};
 ghost use Rattle.sparql_eval.specs.Evaluated.{IsEvaluated};
@@ -33,7 +34,7 @@ use std::thread::Threads;
 /// of the triples are below `width`, their blank labels below `labels`; and `how` keeps its limits.
 ///
 /// # Errors
-/// - `WorkerRefused`: the start of a worker was refused.
+/// - `WorkerRefused`: the start of a worker was refused. It never comes where `how.rows` is 2^64 - 1.
 /// - `Memory`: a growth was refused.
 ///
 /// A refusal drops the dictionary.
@@ -56,6 +57,7 @@ pub fn pattern<R: Threads + Wait, G: Gate + Sync>(
     ensures evaluated { IfOk result (λ r. IsEvaluated dict width
         (bgp term_eq width labels (map triple_pattern_of triples.now)
         (graph (quads_at dict index.now) (option_map (term_at dict) active))) r.0 r.1) }
+    ensures uncut { IsUncut how.now → IfErr result (λ fault. fault ≡ Memory) }
 {
     let _distinct = dict.len();
     let _once = index.quads();

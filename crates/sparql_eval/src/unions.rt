@@ -42,6 +42,7 @@ pub(crate) fn union_of(dict: Dict, left: Rows, right: Rows) -> Result<(Rows, Dic
     requires known_right { AreKnown dict right }
     ensures evaluated { IfOk result (λ r. IsEvaluated dict left.width
         (solutions_of dict left ++ solutions_of dict right) r.0 r.1) }
+    ensures refused { IfErr result (λ fault. fault ≡ Memory) }
 {
     let mut made = left;
     made.append(right)?;

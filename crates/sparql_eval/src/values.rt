@@ -1,9 +1,10 @@
 //! The values of an expression over pieces of rows, side by side.
-ghost use Rattle.std.specs.Prelude.{◌≡◌, ◌≤◌, ◌-◌, Some, length, take, drop, IfOk, OnOk};
+ghost use Rattle.std.specs.Prelude.{◌≡◌, ◌≤◌, ◌-◌, Some, length, take, drop, IfErr, IfOk, OnOk};
 ghost use Rattle.algebra_model.specs.Expression.{val};
 ghost use Rattle.algebra_model.specs.Reading.{read_row};
 ghost use Rattle.dict_core.specs.Dict.{IsGrown, term_at};
-ghost use Rattle.row_pieces.specs.How.{IsRunnable};
+ghost use Rattle.row_pieces.specs.How.{IsRunnable, IsUncut};
+ghost use Rattle.row_pieces.specs.declared.how.EvalFault.TheVariants.{Memory};
 ghost use Rattle.sparql_algebra.specs.ExpressionOf.{expression_of};
 ghost use Rattle.sparql_eval.specs.Evaluated.{AreKnown};
 ghost use Rattle.sparql_eval.specs.Numbered.{AreKnownAt};
@@ -38,6 +39,7 @@ pub(crate) fn values_of<R: Threads + Wait, G: Gate + Sync>(
     requires how { IsRunnable how.now }
     ensures values { IfOk result (λ pieces. AreAllValues dict.now
         (expression_of expression.now) rows.now.rows pieces.items) }
+    ensures uncut { IsUncut how.now → IfErr result (λ fault. fault ≡ Memory) }
 {
     let count = rows.len();
     let size = piece_size(count, how.rows);

@@ -3,7 +3,8 @@ ghost use Rattle.std.specs.Prelude.{◌≡◌, IfOk, IfErr, Ok};
 ghost use Rattle.std.specs.Str.{chars};
 ghost use Rattle.piece_cuts.specs.Cuts.{AreCuts};
 ghost use Rattle.dict_core.specs.NumQuad.{quads_at};
-ghost use Rattle.row_pieces.specs.How.{IsRunnable};
+ghost use Rattle.row_pieces.specs.How.{IsRunnable, IsUncut};
+ghost use Rattle.row_pieces.specs.declared.how.EvalFault.TheVariants.{Memory};
 ghost use Rattle.sparql_tree.specs.QueryTree.{query_of};
 ghost use Rattle.sparql_read.specs.Refusal.{IsRead};
 ghost use Rattle.sparql_algebra.specs.Names.{selected_names};
@@ -55,6 +56,7 @@ pub fn answer_query<R: Threads + Wait + RandomSource, G: Gate + Sync>(
     requires how { IsRunnable how.now }
     ensures answer { IfOk result (λ bytes. bytes.items ≡ json (selected_names (query_of query.now))
         (rows (query_of query.now) (quads_at store.dict store.index))) }
+    ensures uncut { IsUncut how.now → IfErr result (λ fault. fault ≡ Memory) }
 {
     a_bag_has_one_sorted_list();
     let plan = translate(alloc, query)?;

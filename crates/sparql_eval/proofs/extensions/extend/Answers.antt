@@ -19,8 +19,8 @@ extend_rows-requires-clause-each g c =
     ∙ as_many (option_map (term_at later)) (λ μ. val e (read_by terms μ)) c.in_ok-numbers.numbers.items c.args.rows.now.rows
     (c.in_ok-numbers.ensures.read ∙ c.in_ok-pieces.ensures.values.1)
 
-pub returns : goal.returns
-returns g c =
+pub returns-clause-evaluated : goal.returns-clause-evaluated
+returns-clause-evaluated g c =
     let terms = c.args.dict in
     let later = c.number_values.new.dict in
     let e = expression_of c.args.expression.now in
@@ -32,10 +32,8 @@ returns g c =
     (c.in_ok-numbers.ensures.read ∙ c.in_ok-pieces.ensures.values.1) in
     let is : made.rows ≡ bind_each v numbers rows = c.in_ok-made.ensures.rows ∙ ap (λ (l : List (Option ℕ)). bind_each v l rows) c.as_slice.ensures.value in
     record {
-      evaluated = record {
-        grown = c.in_ok-numbers.ensures.grown;
-        wide = c.in_ok-made.ensures.width;
-        known = subst (Each (Known later)) (sym is) bound.0;
-        bag = same_bag (map (read_by later) made.rows) (extend v (val e) (map (read_by terms) rows)) (ap (map (read_by later)) is ∙ bound.1);
-      };
+      grown = c.in_ok-numbers.ensures.grown;
+      wide = c.in_ok-made.ensures.width;
+      known = subst (Each (Known later)) (sym is) bound.0;
+      bag = same_bag (map (read_by later) made.rows) (extend v (val e) (map (read_by terms) rows)) (ap (map (read_by later)) is ∙ bound.1);
     }

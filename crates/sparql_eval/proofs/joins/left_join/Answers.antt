@@ -8,7 +8,6 @@ left_join-requires-clause-left_known g c κs within = rows_pass c.args.dict c.ar
 pub left_join-requires-clause-right_known : goal.left_join-requires-clause-right_known
 left_join-requires-clause-right_known g c κs within = rows_pass c.args.dict c.args.right.now.rows c.requires.known_right
 
-pub returns : goal.returns
-returns g c = record {
-  evaluated = left_joined c.args.dict c.len-distinct.ensures.distinct c.args.left.now c.args.right.now c.in_ok-made.made c.requires.known_left c.requires.known_right c.in_ok-made.ensures.width (expression_of c.args.condition.now) c.in_ok-made.ensures.rows;
-}
+pub returns-clause-evaluated : goal.returns-clause-evaluated
+returns-clause-evaluated g c =
+    left_joined c.args.dict c.len-distinct.ensures.distinct c.args.left.now c.args.right.now c.in_ok-made.made c.requires.known_left c.requires.known_right c.in_ok-made.ensures.width (expression_of c.args.condition.now) c.in_ok-made.ensures.rows

@@ -7,8 +7,8 @@ use Rattle.sparql_eval.proofs.values.values_of.Goals as goal
 pub invariant_of-job : goal.invariant_of-job
 invariant_of-job g c = record { known = rows_known_at c.args.dict.now c.args.rows.now.rows c.requires.known }
 
-pub returns : goal.returns
-returns g c =
+pub returns-clause-values : goal.returns-clause-values
+returns-clause-values g c =
     let terms = c.args.dict.now in
     let e = expression_of c.args.expression.now in
     let rows = c.args.rows.now.rows in
@@ -16,7 +16,5 @@ returns g c =
     let all = rw c.in-All.is at c.in_ok-outs.ensures.outcome in
     let long = enough c.len-count.result (length rows) size c.div_ceil-pieces.result (length c.in-All.outs.items) c.piece_size-size.ensures.some
     c.len-count.ensures.value c.div_ceil-pieces.ensures all.count in
-    record {
-      values = values_joined terms e size c.in-All.outs.items rows
-          (λ i d low. all.each i d (subst (λ (x : ℕ). i < x) all.count low)) long;
-    }
+    values_joined terms e size c.in-All.outs.items rows
+    (λ i d low. all.each i d (subst (λ (x : ℕ). i < x) all.count low)) long

@@ -36,16 +36,14 @@ solve-solve-requires-in-Join-clause-active g t c κs within = (active_kept c.arg
 pub solve-join-requires-clause-known_left : goal.solve-join-requires-clause-known_left
 solve-join-requires-clause-known_left g t c κs within = (rows_kept c.in_ok-left-in-Join.dict c.in_ok-right-in-Join.dict c.in_ok-right-in-Join.ensures.evaluated.grown c.in_ok-left-in-Join.left.rows c.in_ok-left-in-Join.ensures.evaluated.known).0
 
-pub solve-returns-in_ok-right-in-Join : goal.solve-returns-in_ok-right-in-Join
-solve-returns-in_ok-right-in-Join g t c =
+pub solve-returns-in_ok-right-in-Join-clause-evaluated : goal.solve-returns-in_ok-right-in-Join-clause-evaluated
+solve-returns-in_ok-right-in-Join-clause-evaluated g t c =
     let s = c.args.self.now in
     let S : Operator → List (Solution Term) = λ tree. tree_solutions c.args.dict s.index.now s.width c.args.active tree in
     let h = c.in_ok-left-in-Join.ensures.evaluated in
     let k = still_evaluated c.args.dict c.in_ok-left-in-Join.dict h.grown s.index.now s.width c.args.active c.deref-in-Join.result.now c.requires.index c.requires.active c.in_ok-right-in-Join.right c.in_ok-right-in-Join.dict c.in_ok-right-in-Join.ensures.evaluated in
-    record {
-      evaluated = after_two c.args.dict c.in_ok-left-in-Join.dict c.in_ok-right-in-Join.dict s.width c.join.result (join term_eq) (join_keeps) (S c.deref.result.now) (S c.deref-in-Join.result.now) c.in_ok-left-in-Join.left c.in_ok-right-in-Join.right h k
-          (S c.args.tree.now) (ap S c.in-Join.is ∙ join_tree c.args.dict s.index.now s.width c.args.active c.in-Join.left c.in-Join.right ∙ (λ i. join term_eq (S ((sym c.deref.ensures) i)) (S ((sym c.deref-in-Join.ensures) i)))) c.join.ensures.evaluated;
-    }
+    after_two c.args.dict c.in_ok-left-in-Join.dict c.in_ok-right-in-Join.dict s.width c.join.result (join term_eq) (join_keeps) (S c.deref.result.now) (S c.deref-in-Join.result.now) c.in_ok-left-in-Join.left c.in_ok-right-in-Join.right h k
+    (S c.args.tree.now) (ap S c.in-Join.is ∙ join_tree c.args.dict s.index.now s.width c.args.active c.in-Join.left c.in-Join.right ∙ (λ i. join term_eq (S ((sym c.deref.ensures) i)) (S ((sym c.deref-in-Join.ensures) i)))) c.join.ensures.evaluated
 
 -- ---- LeftJoin
 
@@ -58,16 +56,14 @@ solve-solve-requires-in-LeftJoin-2-clause-active g t c κs within = (active_kept
 pub solve-left_join-requires-clause-known_left : goal.solve-left_join-requires-clause-known_left
 solve-left_join-requires-clause-known_left g t c κs within = (rows_kept c.in_ok-left-in-LeftJoin.dict c.in_ok-right-in-LeftJoin.dict c.in_ok-right-in-LeftJoin.ensures.evaluated.grown c.in_ok-left-in-LeftJoin.left.rows c.in_ok-left-in-LeftJoin.ensures.evaluated.known).0
 
-pub solve-returns-in_ok-right-in-LeftJoin : goal.solve-returns-in_ok-right-in-LeftJoin
-solve-returns-in_ok-right-in-LeftJoin g t c =
+pub solve-returns-in_ok-right-in-LeftJoin-clause-evaluated : goal.solve-returns-in_ok-right-in-LeftJoin-clause-evaluated
+solve-returns-in_ok-right-in-LeftJoin-clause-evaluated g t c =
     let s = c.args.self.now in
     let S : Operator → List (Solution Term) = λ tree. tree_solutions c.args.dict s.index.now s.width c.args.active tree in
     let h = c.in_ok-left-in-LeftJoin.ensures.evaluated in
     let k = still_evaluated c.args.dict c.in_ok-left-in-LeftJoin.dict h.grown s.index.now s.width c.args.active c.deref-in-LeftJoin-2.result.now c.requires.index c.requires.active c.in_ok-right-in-LeftJoin.right c.in_ok-right-in-LeftJoin.dict c.in_ok-right-in-LeftJoin.ensures.evaluated in
-    record {
-      evaluated = after_two c.args.dict c.in_ok-left-in-LeftJoin.dict c.in_ok-right-in-LeftJoin.dict s.width c.left_join.result (left_join term_eq (holds (expression_of c.in-LeftJoin.condition))) (left_join_keeps (holds (expression_of c.in-LeftJoin.condition))) (S c.deref-in-LeftJoin.result.now) (S c.deref-in-LeftJoin-2.result.now) c.in_ok-left-in-LeftJoin.left c.in_ok-right-in-LeftJoin.right h k
-          (S c.args.tree.now) (ap S c.in-LeftJoin.is ∙ left_join_tree c.args.dict s.index.now s.width c.args.active c.in-LeftJoin.left c.in-LeftJoin.right c.in-LeftJoin.condition ∙ (λ i. left_join term_eq (holds (expression_of c.in-LeftJoin.condition)) (S ((sym c.deref-in-LeftJoin.ensures) i)) (S ((sym c.deref-in-LeftJoin-2.ensures) i)))) c.left_join.ensures.evaluated;
-    }
+    after_two c.args.dict c.in_ok-left-in-LeftJoin.dict c.in_ok-right-in-LeftJoin.dict s.width c.left_join.result (left_join term_eq (holds (expression_of c.in-LeftJoin.condition))) (left_join_keeps (holds (expression_of c.in-LeftJoin.condition))) (S c.deref-in-LeftJoin.result.now) (S c.deref-in-LeftJoin-2.result.now) c.in_ok-left-in-LeftJoin.left c.in_ok-right-in-LeftJoin.right h k
+    (S c.args.tree.now) (ap S c.in-LeftJoin.is ∙ left_join_tree c.args.dict s.index.now s.width c.args.active c.in-LeftJoin.left c.in-LeftJoin.right c.in-LeftJoin.condition ∙ (λ i. left_join term_eq (holds (expression_of c.in-LeftJoin.condition)) (S ((sym c.deref-in-LeftJoin.ensures) i)) (S ((sym c.deref-in-LeftJoin-2.ensures) i)))) c.left_join.ensures.evaluated
 
 -- ---- Union
 
@@ -80,16 +76,14 @@ solve-solve-requires-in-Union-2-clause-active g t c κs within = (active_kept c.
 pub solve-union_of-requires-clause-known_left : goal.solve-union_of-requires-clause-known_left
 solve-union_of-requires-clause-known_left g t c = (rows_kept c.in_ok-left-in-Union.dict c.in_ok-right-in-Union.dict c.in_ok-right-in-Union.ensures.evaluated.grown c.in_ok-left-in-Union.left.rows c.in_ok-left-in-Union.ensures.evaluated.known).0
 
-pub solve-returns-in_ok-right-in-Union : goal.solve-returns-in_ok-right-in-Union
-solve-returns-in_ok-right-in-Union g t c =
+pub solve-returns-in_ok-right-in-Union-clause-evaluated : goal.solve-returns-in_ok-right-in-Union-clause-evaluated
+solve-returns-in_ok-right-in-Union-clause-evaluated g t c =
     let s = c.args.self.now in
     let S : Operator → List (Solution Term) = λ tree. tree_solutions c.args.dict s.index.now s.width c.args.active tree in
     let h = c.in_ok-left-in-Union.ensures.evaluated in
     let k = still_evaluated c.args.dict c.in_ok-left-in-Union.dict h.grown s.index.now s.width c.args.active c.deref-in-Union-2.result.now c.requires.index c.requires.active c.in_ok-right-in-Union.right c.in_ok-right-in-Union.dict c.in_ok-right-in-Union.ensures.evaluated in
-    record {
-      evaluated = after_two c.args.dict c.in_ok-left-in-Union.dict c.in_ok-right-in-Union.dict s.width c.union_of.result (λ A B. A ++ B) (union_keeps) (S c.deref-in-Union.result.now) (S c.deref-in-Union-2.result.now) c.in_ok-left-in-Union.left c.in_ok-right-in-Union.right h k
-          (S c.args.tree.now) (ap S c.in-Union.is ∙ union_tree c.args.dict s.index.now s.width c.args.active c.in-Union.left c.in-Union.right ∙ (λ i. (S ((sym c.deref-in-Union.ensures) i)) ++ (S ((sym c.deref-in-Union-2.ensures) i)))) c.union_of.ensures.evaluated;
-    }
+    after_two c.args.dict c.in_ok-left-in-Union.dict c.in_ok-right-in-Union.dict s.width c.union_of.result (λ A B. A ++ B) (union_keeps) (S c.deref-in-Union.result.now) (S c.deref-in-Union-2.result.now) c.in_ok-left-in-Union.left c.in_ok-right-in-Union.right h k
+    (S c.args.tree.now) (ap S c.in-Union.is ∙ union_tree c.args.dict s.index.now s.width c.args.active c.in-Union.left c.in-Union.right ∙ (λ i. (S ((sym c.deref-in-Union.ensures) i)) ++ (S ((sym c.deref-in-Union-2.ensures) i)))) c.union_of.ensures.evaluated
 
 -- ---- Minus
 
@@ -102,60 +96,50 @@ solve-solve-requires-in-Minus-2-clause-active g t c κs within = (active_kept c.
 pub solve-minus-requires-clause-known_left : goal.solve-minus-requires-clause-known_left
 solve-minus-requires-clause-known_left g t c κs within = (rows_kept c.in_ok-left-in-Minus.dict c.in_ok-right-in-Minus.dict c.in_ok-right-in-Minus.ensures.evaluated.grown c.in_ok-left-in-Minus.left.rows c.in_ok-left-in-Minus.ensures.evaluated.known).0
 
-pub solve-returns-in_ok-right-in-Minus : goal.solve-returns-in_ok-right-in-Minus
-solve-returns-in_ok-right-in-Minus g t c =
+pub solve-returns-in_ok-right-in-Minus-clause-evaluated : goal.solve-returns-in_ok-right-in-Minus-clause-evaluated
+solve-returns-in_ok-right-in-Minus-clause-evaluated g t c =
     let s = c.args.self.now in
     let S : Operator → List (Solution Term) = λ tree. tree_solutions c.args.dict s.index.now s.width c.args.active tree in
     let h = c.in_ok-left-in-Minus.ensures.evaluated in
     let k = still_evaluated c.args.dict c.in_ok-left-in-Minus.dict h.grown s.index.now s.width c.args.active c.deref-in-Minus-2.result.now c.requires.index c.requires.active c.in_ok-right-in-Minus.right c.in_ok-right-in-Minus.dict c.in_ok-right-in-Minus.ensures.evaluated in
-    record {
-      evaluated = after_two c.args.dict c.in_ok-left-in-Minus.dict c.in_ok-right-in-Minus.dict s.width c.minus.result (minus term_eq) (minus_keeps) (S c.deref-in-Minus.result.now) (S c.deref-in-Minus-2.result.now) c.in_ok-left-in-Minus.left c.in_ok-right-in-Minus.right h k
-          (S c.args.tree.now) (ap S c.in-Minus.is ∙ minus_tree c.args.dict s.index.now s.width c.args.active c.in-Minus.left c.in-Minus.right ∙ (λ i. minus term_eq (S ((sym c.deref-in-Minus.ensures) i)) (S ((sym c.deref-in-Minus-2.ensures) i)))) c.minus.ensures.evaluated;
-    }
+    after_two c.args.dict c.in_ok-left-in-Minus.dict c.in_ok-right-in-Minus.dict s.width c.minus.result (minus term_eq) (minus_keeps) (S c.deref-in-Minus.result.now) (S c.deref-in-Minus-2.result.now) c.in_ok-left-in-Minus.left c.in_ok-right-in-Minus.right h k
+    (S c.args.tree.now) (ap S c.in-Minus.is ∙ minus_tree c.args.dict s.index.now s.width c.args.active c.in-Minus.left c.in-Minus.right ∙ (λ i. minus term_eq (S ((sym c.deref-in-Minus.ensures) i)) (S ((sym c.deref-in-Minus-2.ensures) i)))) c.minus.ensures.evaluated
 
 -- ---- Filter
 
-pub solve-returns-in_ok-rows-in-Filter : goal.solve-returns-in_ok-rows-in-Filter
-solve-returns-in_ok-rows-in-Filter g t c =
+pub solve-returns-in_ok-rows-in-Filter-clause-evaluated : goal.solve-returns-in_ok-rows-in-Filter-clause-evaluated
+solve-returns-in_ok-rows-in-Filter-clause-evaluated g t c =
     let s = c.args.self.now in
     let S : Operator → List (Solution Term) = λ tree. tree_solutions c.args.dict s.index.now s.width c.args.active tree in
-    record {
-      evaluated = after_one c.args.dict c.in_ok-rows-in-Filter.dict s.width c.filter.result (filter (holds (expression_of c.in-Filter.condition))) (filter_keeps (holds (expression_of c.in-Filter.condition))) (S c.deref-in-Filter.result.now) c.in_ok-rows-in-Filter.rows c.in_ok-rows-in-Filter.ensures.evaluated
-          (S c.args.tree.now) (ap S c.in-Filter.is ∙ filter_tree c.args.dict s.index.now s.width c.args.active c.in-Filter.condition c.in-Filter.inner ∙ (λ i. filter (holds (expression_of c.in-Filter.condition)) (S ((sym c.deref-in-Filter.ensures) i)))) c.filter.ensures.evaluated;
-    }
+    after_one c.args.dict c.in_ok-rows-in-Filter.dict s.width c.filter.result (filter (holds (expression_of c.in-Filter.condition))) (filter_keeps (holds (expression_of c.in-Filter.condition))) (S c.deref-in-Filter.result.now) c.in_ok-rows-in-Filter.rows c.in_ok-rows-in-Filter.ensures.evaluated
+    (S c.args.tree.now) (ap S c.in-Filter.is ∙ filter_tree c.args.dict s.index.now s.width c.args.active c.in-Filter.condition c.in-Filter.inner ∙ (λ i. filter (holds (expression_of c.in-Filter.condition)) (S ((sym c.deref-in-Filter.ensures) i)))) c.filter.ensures.evaluated
 
 -- ---- Extend
 
-pub solve-returns-in_ok-rows-in-Extend : goal.solve-returns-in_ok-rows-in-Extend
-solve-returns-in_ok-rows-in-Extend g t c =
+pub solve-returns-in_ok-rows-in-Extend-clause-evaluated : goal.solve-returns-in_ok-rows-in-Extend-clause-evaluated
+solve-returns-in_ok-rows-in-Extend-clause-evaluated g t c =
     let s = c.args.self.now in
     let S : Operator → List (Solution Term) = λ tree. tree_solutions c.args.dict s.index.now s.width c.args.active tree in
-    record {
-      evaluated = after_one c.args.dict c.in_ok-rows-in-Extend.dict s.width c.extend.result (extend c.in-Extend.variable (val (expression_of c.in-Extend.expression))) (extend_keeps c.in-Extend.variable (val (expression_of c.in-Extend.expression))) (S c.deref-in-Extend.result.now) c.in_ok-rows-in-Extend.rows c.in_ok-rows-in-Extend.ensures.evaluated
-          (S c.args.tree.now) (ap S c.in-Extend.is ∙ extend_tree c.args.dict s.index.now s.width c.args.active c.in-Extend.variable c.in-Extend.expression c.in-Extend.inner ∙ (λ i. extend c.in-Extend.variable (val (expression_of c.in-Extend.expression)) (S ((sym c.deref-in-Extend.ensures) i)))) c.extend.ensures.evaluated;
-    }
+    after_one c.args.dict c.in_ok-rows-in-Extend.dict s.width c.extend.result (extend c.in-Extend.variable (val (expression_of c.in-Extend.expression))) (extend_keeps c.in-Extend.variable (val (expression_of c.in-Extend.expression))) (S c.deref-in-Extend.result.now) c.in_ok-rows-in-Extend.rows c.in_ok-rows-in-Extend.ensures.evaluated
+    (S c.args.tree.now) (ap S c.in-Extend.is ∙ extend_tree c.args.dict s.index.now s.width c.args.active c.in-Extend.variable c.in-Extend.expression c.in-Extend.inner ∙ (λ i. extend c.in-Extend.variable (val (expression_of c.in-Extend.expression)) (S ((sym c.deref-in-Extend.ensures) i)))) c.extend.ensures.evaluated
 
 -- ---- Project
 
-pub solve-returns-in_ok-rows-in-Project : goal.solve-returns-in_ok-rows-in-Project
-solve-returns-in_ok-rows-in-Project g t c =
+pub solve-returns-in_ok-rows-in-Project-clause-evaluated : goal.solve-returns-in_ok-rows-in-Project-clause-evaluated
+solve-returns-in_ok-rows-in-Project-clause-evaluated g t c =
     let s = c.args.self.now in
     let S : Operator → List (Solution Term) = λ tree. tree_solutions c.args.dict s.index.now s.width c.args.active tree in
-    record {
-      evaluated = after_one c.args.dict c.in_ok-rows-in-Project.dict s.width c.project.result (project c.as_slice-in-Project.result.now) (project_keeps c.as_slice-in-Project.result.now) (S c.deref-in-Project.result.now) c.in_ok-rows-in-Project.rows c.in_ok-rows-in-Project.ensures.evaluated
-          (S c.args.tree.now) (ap S c.in-Project.is ∙ project_tree c.args.dict s.index.now s.width c.args.active c.in-Project.variables c.in-Project.inner ∙ (λ i. project ((sym c.as_slice-in-Project.ensures.value) i) (S ((sym c.deref-in-Project.ensures) i)))) c.project.ensures.evaluated;
-    }
+    after_one c.args.dict c.in_ok-rows-in-Project.dict s.width c.project.result (project c.as_slice-in-Project.result.now) (project_keeps c.as_slice-in-Project.result.now) (S c.deref-in-Project.result.now) c.in_ok-rows-in-Project.rows c.in_ok-rows-in-Project.ensures.evaluated
+    (S c.args.tree.now) (ap S c.in-Project.is ∙ project_tree c.args.dict s.index.now s.width c.args.active c.in-Project.variables c.in-Project.inner ∙ (λ i. project ((sym c.as_slice-in-Project.ensures.value) i) (S ((sym c.deref-in-Project.ensures) i)))) c.project.ensures.evaluated
 
 -- ---- Distinct
 
-pub solve-returns-in_ok-rows-in-Distinct : goal.solve-returns-in_ok-rows-in-Distinct
-solve-returns-in_ok-rows-in-Distinct g t c =
+pub solve-returns-in_ok-rows-in-Distinct-clause-evaluated : goal.solve-returns-in_ok-rows-in-Distinct-clause-evaluated
+solve-returns-in_ok-rows-in-Distinct-clause-evaluated g t c =
     let s = c.args.self.now in
     let S : Operator → List (Solution Term) = λ tree. tree_solutions c.args.dict s.index.now s.width c.args.active tree in
-    record {
-      evaluated = after_one c.args.dict c.in_ok-rows-in-Distinct.dict s.width c.distinct.result (distinct term_eq) (distinct_keeps) (S c.deref-in-Distinct.result.now) c.in_ok-rows-in-Distinct.rows c.in_ok-rows-in-Distinct.ensures.evaluated
-          (S c.args.tree.now) (ap S c.in-Distinct.is ∙ distinct_tree c.args.dict s.index.now s.width c.args.active c.in-Distinct.inner ∙ (λ i. distinct term_eq (S ((sym c.deref-in-Distinct.ensures) i)))) c.distinct.ensures.evaluated;
-    }
+    after_one c.args.dict c.in_ok-rows-in-Distinct.dict s.width c.distinct.result (distinct term_eq) (distinct_keeps) (S c.deref-in-Distinct.result.now) c.in_ok-rows-in-Distinct.rows c.in_ok-rows-in-Distinct.ensures.evaluated
+    (S c.args.tree.now) (ap S c.in-Distinct.is ∙ distinct_tree c.args.dict s.index.now s.width c.args.active c.in-Distinct.inner ∙ (λ i. distinct term_eq (S ((sym c.deref-in-Distinct.ensures) i)))) c.distinct.ensures.evaluated
 
 -- ---- Table
 
@@ -166,23 +150,23 @@ solve-table-requires g t c = record {
       (subst (λ (A : Algebra). is_within c.args.self.now.width A ≡ true) (ap algebra_of c.in-Table.is ∙ table_stands_for c.in-Table.variables c.in-Table.rows) c.requires.within));
 }
 
-pub solve-returns-in-Table : goal.solve-returns-in-Table
-solve-returns-in-Table g t c =
+pub solve-returns-in-Table-clause-evaluated : goal.solve-returns-in-Table-clause-evaluated
+solve-returns-in-Table-clause-evaluated g t c =
     let s = c.args.self.now in
     let S : Operator → List (Solution Term) = λ tree. tree_solutions c.args.dict s.index.now s.width c.args.active tree in
     let is : S c.args.tree.now ≡ table s.width c.as_slice-variables.result.now (map (λ row. row.items) c.as_slice-in-Table.result.now) =
     ap S c.in-Table.is ∙ table_tree c.args.dict s.index.now s.width c.args.active c.in-Table.variables c.in-Table.rows ∙ (λ i. table s.width ((sym c.as_slice-variables.ensures.value) i) (map (λ row. row.items) ((sym c.as_slice-in-Table.ensures.value) i))) in
-    record { evaluated = subst (λ (A : List (Solution Term)). IfOk c.table.result (λ r. IsEvaluated c.args.dict s.width A r.0 r.1)) (sym is) c.table.ensures.evaluated }
+    subst (λ (A : List (Solution Term)). IfOk c.table.result (λ r. IsEvaluated c.args.dict s.width A r.0 r.1)) (sym is) c.table.ensures.evaluated
 
 -- ---- Graph
 
-pub solve-returns-in-Graph : goal.solve-returns-in-Graph
-solve-returns-in-Graph g t c =
+pub solve-returns-in-Graph-clause-evaluated : goal.solve-returns-in-Graph-clause-evaluated
+solve-returns-in-Graph-clause-evaluated g t c =
     let s = c.args.self.now in
     let S : Operator → List (Solution Term) = λ tree. tree_solutions c.args.dict s.index.now s.width c.args.active tree in
     let is : S c.args.tree.now ≡ graph_solutions c.args.dict s.index.now s.width (graph_name_of c.in-Graph.name) c.deref-in-Graph.result.now =
     ap S c.in-Graph.is ∙ graph_tree c.args.dict s.index.now s.width c.args.active c.in-Graph.name c.in-Graph.inner ∙ ap (λ (tree : Operator). graph_solutions c.args.dict s.index.now s.width (graph_name_of c.in-Graph.name) tree) (sym c.deref-in-Graph.ensures) in
-    record { evaluated = subst (λ (A : List (Solution Term)). IfOk c.solve_graph.result (λ r. IsEvaluated c.args.dict s.width A r.0 r.1)) (sym is) c.solve_graph.ensures.evaluated }
+    subst (λ (A : List (Solution Term)). IfOk c.solve_graph.result (λ r. IsEvaluated c.args.dict s.width A r.0 r.1)) (sym is) c.solve_graph.ensures.evaluated
 
 pub solve_each-solve-requires-clause-active : goal.solve_each-solve-requires-clause-active
 solve_each-solve-requires-clause-active g t c κs within =
@@ -232,8 +216,8 @@ solve_each-loop-i-preserved g t c =
       bag = more.1;
     }
 
-pub solve_each-returns : goal.solve_each-returns
-solve_each-returns g t c =
+pub solve_each-returns-clause-evaluated : goal.solve_each-returns-clause-evaluated
+solve_each-returns-clause-evaluated g t c =
     let was = c.loop-i.invariant in
     let s = c.args.self.now in
     let terms = c.args.dict in
@@ -241,6 +225,4 @@ solve_each-returns g t c =
     let graphs = c.graphs-names.result.now in
     let F : Term → List (Solution Term) = λ i. join term_eq (eval s.width (quads_at terms s.index.now) (Some i) (algebra_of c.args.inner.now)) (named s.width c.args.variable i) in
     let bag = subst (λ (l : List ℕ). IsSameBag (map (read_by now) c.loop-i.made.rows) (flat_map F (map (term_at terms) l))) (all_taken graphs c.loop-i.i (omega arith)) was.bag in
-    record {
-      evaluated = each_done terms c.len-distinct.ensures.distinct s.index.now c.requires.index graphs c.graphs-names.ensures.names F s.width now was.grown c.loop-i.made was.width was.known bag;
-    }
+    each_done terms c.len-distinct.ensures.distinct s.index.now c.requires.index graphs c.graphs-names.ensures.names F s.width now was.grown c.loop-i.made was.width was.known bag
