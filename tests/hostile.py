@@ -8,7 +8,7 @@ the line and status that must come. A program that ends by a signal, prints anyt
 longer than two minutes has failed. The documents of `growth` are read at a size and at four times that
 size: time and memory may grow by twice that factor, but not by its square.
 `--size N` scales the large documents: N percent of their full size, so that a first try is quick.
-Python 3 standard library only.
+Python 3 standard library, and cc for the case that refuses each call in turn.
 """
 import argparse
 import itertools
@@ -313,7 +313,7 @@ def little_memory(program):
 
 
 def few_processes(program):
-    """No further thread may start: the answer, or a worker is refused (a single one may need a thread too)."""
+    """No further thread may start: one worker, which is the caller, answers; of more one may be refused."""
     copied = shutil.copy(program.path, os.path.join(program.folder, "program"))
     program = Program(copied, program.folder, program.percent)
 
@@ -324,10 +324,9 @@ def few_processes(program):
         resource.setrlimit(resource.RLIMIT_NPROC, (1, 1))
 
     os.chmod(program.folder, 0o755)
-    refused = (4, b"error: worker\n")
-    answers = {(0, counts(1, 3, 0)), refused}
+    answered, refused = (0, counts(1, 3, 0)), (4, b"error: worker\n")
     seen = set()
-    for workers in ("1", "2", "64"):
+    for workers, answers in ("1", [answered]), ("2", [answered, refused]), ("64", [answered, refused]):
         answer = program.run(["check", "--workers", workers], [STATEMENT], limit=limit)
         got = (answer.status, answer.output)
         expect(got in answers, f"{workers} workers: status {got[0]} and {got[1][:200]!r}")
@@ -336,6 +335,31 @@ def few_processes(program):
     answer = program.run(["select", "--query", "SELECT * {}"], [STATEMENT], limit=limit)
     got = (answer.status, answer.output)
     expect(got == refused, f"select, on a thread of its own: status {got[0]} and {got[1][:200]!r}")
+
+
+def refuse_in_turn(program, library, words, answered, kind, refused):
+    """The first call of this kind refused, then the second, up to a run that meets none: the answer, or a refusal."""
+    for n in range(1, 2000):
+        refusal = {**os.environ, "LD_PRELOAD": library, f"REFUSE_{kind}": str(n)}
+        ran = subprocess.run([program.path, *words], input=STATEMENT, capture_output=True, env=refusal, timeout=SECONDS)
+        got = (ran.returncode, ran.stdout)
+        expect(got in [answered, *refused], f"{words[0]}, {kind} {n}: status {got[0]} and {got[1][:200]!r}")
+        if b"refused" not in ran.stderr:
+            expect(got == answered, f"{words[0]}: status {got[0]} and {got[1][:200]!r}, and nothing was refused")
+            expect(n > 1, f"{words[0]}: no {kind} was refused")
+            return
+    raise Failed(f"{words[0]}: more than 2000 refusals of {kind}")
+
+
+def each_call_refused(program):
+    """Each growth of a run refused in turn, from its command line on, and each start of a thread."""
+    library = os.path.join(program.folder, "refusals.so")
+    subprocess.run(["cc", "-O2", "-shared", "-fPIC", "-o", library, os.path.join(HERE, "refusals.c")], check=True)
+    memory, worker = (4, b"error: memory\n"), (4, b"error: worker\n")
+    terms = b"<http://e/s>\n<http://e/p>\n<http://e/o>\n"
+    for words, line in ((["check"], counts(1, 3, 0)), (["terms"], terms), (["select", "--query", "SELECT * {}"], NO_NAMES)):
+        refuse_in_turn(program, library, words, (0, line), "GROWTH", [memory, worker])
+        refuse_in_turn(program, library, words, (0, line), "START", [worker])
 
 
 # ---- command lines
@@ -606,8 +630,8 @@ CASES = [
     a_long_literal, a_long_literal_of_escapes, a_long_iri_and_label_and_tag, a_label_of_dots, many_empty_lines,
     many_lone_returns, one_statement_many_times, many_graphs, many_workers_over_many_pieces,
     many_workers_over_many_rows, the_least_of_many_bad_lines, a_full_output, a_reader_that_closes_early,
-    a_closed_output, an_input_that_fails, little_memory, few_processes, wrong_words, growth, terms_of_one_weak_hash,
-    brackets, growing_answers, many_graphs_in_turn, a_graph_within_many_graphs, long_lists,
+    a_closed_output, an_input_that_fails, little_memory, few_processes, each_call_refused, wrong_words, growth,
+    terms_of_one_weak_hash, brackets, growing_answers, many_graphs_in_turn, a_graph_within_many_graphs, long_lists,
     a_query_before_a_bad_document, long_queries, long_queries_and_little_memory,
 ]
 

@@ -11,6 +11,12 @@ IfBadLine P (BadLine n) = P n
 IfBadLine P WorkerRefused = ⊤
 IfBadLine P Memory = ⊤
 
+-- any fault but a refused worker
+abbrev pub IsNoRefusedWorker : LoadFault → Type 0
+IsNoRefusedWorker (BadLine n) = ⊤
+IsNoRefusedWorker WorkerRefused = ⊥
+IsNoRefusedWorker Memory = ⊤
+
 -- what the pool refuses is refused under the same name
 abbrev pub load_fault_of : PoolFault → LoadFault
 load_fault_of pool.WorkerRefused = WorkerRefused

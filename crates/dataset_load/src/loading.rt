@@ -2,7 +2,7 @@
 ghost use Rattle.std.specs.Prelude.{◌≡◌, ◌≤◌, IfOk, IfErr};
 ghost use Rattle.nquads_core.specs.Lines.{lines};
 ghost use Rattle.piece_cuts.specs.Cuts.{AreCuts};
-ghost use Rattle.dataset_load.specs.Fault.{IfBadLine};
+ghost use Rattle.dataset_load.specs.Fault.{IfBadLine, IsNoRefusedWorker};
 ghost use Rattle.dataset_load.specs.Lines.{all_lines, AreWholeLines, block_texts, joined, texts};
 ghost use Rattle.dataset_load.specs.Loaded.{IsBadLine, IsLoaded};
 
@@ -21,8 +21,8 @@ use std::thread::Threads;
 
 /// Loads a document that is cut into pieces: its terms by first appearance, within a quad subject,
 /// predicate, object, graph name, and an index of the set of its quads (RDF 1.1 N-Quads; RDF 1.1
-/// Concepts, section 4). Workers read the pieces side by side; neither the cut, nor their number, nor
-/// the gate changes the outcome.
+/// Concepts, section 4). Workers read the pieces side by side, and one worker is the caller itself; neither
+/// the cut, nor their number, nor the gate changes the outcome.
 ///
 /// The gate sees pieces by their place in a round, from 0 on anew in each: a round ends at the first
 /// piece with which it has 8 MiB and 16 pieces for each worker, at 2^20 pieces, or at the end of the
@@ -33,7 +33,8 @@ use std::thread::Threads;
 ///
 /// # Errors
 /// - `BadLine(n)`: line n of the document, counted from 1, is the first that spells nothing.
-/// - `WorkerRefused`: the start of a worker was refused. Those that were started have been joined.
+/// - `WorkerRefused`: the start of a worker was refused. Those that were started have been joined. It never
+///   comes of one worker.
 /// - `Memory`: a growth was refused.
 pub fn load<R: Threads + Wait + RandomSource, G: Gate + Sync>(
     rt: &R,
@@ -47,6 +48,7 @@ pub fn load<R: Threads + Wait + RandomSource, G: Gate + Sync>(
     requires workers { (1 ≤ workers) × (workers ≤ 64) }
     ensures loaded { IfOk result (IsLoaded (lines doc.now)) }
     ensures bad_line { IfErr result (IfBadLine (IsBadLine (lines doc.now))) }
+    ensures one_worker { workers ≡ 1 → IfErr result IsNoRefusedWorker }
 {
     let pieces = pieces_of(alloc, doc, cuts)?;
     load_pieces(rt, alloc, pieces.as_slice(), workers, gate)
@@ -71,6 +73,7 @@ pub fn load_blocks<R: Threads + Wait + RandomSource, G: Gate + Sync>(
     ensures loaded { IfOk result (IsLoaded (lines (joined (block_texts blocks.now)))) }
     ensures bad_line { IfErr result
         (IfBadLine (IsBadLine (lines (joined (block_texts blocks.now))))) }
+    ensures one_worker { workers ≡ 1 → IfErr result IsNoRefusedWorker }
 {
     let pieces = lent_blocks(alloc, blocks)?;
     load_pieces(rt, alloc, pieces.as_slice(), workers, gate)
@@ -87,6 +90,7 @@ fn load_pieces<R: Threads + Wait + RandomSource, G: Gate + Sync>(
     requires workers { (1 ≤ workers) × (workers ≤ 64) }
     ensures loaded { IfOk result (IsLoaded (all_lines (texts pieces.now))) }
     ensures bad_line { IfErr result (IfBadLine (IsBadLine (all_lines (texts pieces.now)))) }
+    ensures one_worker { workers ≡ 1 → IfErr result IsNoRefusedWorker }
 {
     let state = hash_state(rt)?;
     let (dict, quads) = number_pieces(rt, alloc, state, pieces, workers, gate)?;

@@ -8,9 +8,10 @@ ghost use Rattle.rdf_core.specs.QuadParts.{QuadParts};
 ghost use Rattle.nquads_core.specs.Lines.{lines};
 ghost use Rattle.nquads_core.specs.Pieces.{IsFirstBad};
 ghost use Rattle.piece_pool.specs.Outcome.{IsOutcome};
+ghost use Rattle.piece_pool.specs.declared.pool.PoolFault.TheVariants.{Memory};
 ghost use Rattle.dict_core.specs.SeenPiece.{IsLookedUp};
 ghost use Rattle.dict_core.specs.Numbered.{IsNumbered, joined};
-ghost use Rattle.dataset_load.specs.Fault.{IfBadLine};
+ghost use Rattle.dataset_load.specs.Fault.{IfBadLine, IsNoRefusedWorker};
 ghost use Rattle.dataset_load.specs.Lines.{all_lines, text_at, texts};
 ghost use Rattle.dataset_load.specs.Loaded.{IsBadLine};
 ghost use Rattle.dataset_load.specs.Reading.{AreNumbered, IsRead};
@@ -19,7 +20,7 @@ use crate::fault::LoadFault;
 use crate::reading::Round;
 use dict_core::{Dict, NumQuad, SeenPiece, take_in};
 use nquads_core::count_lines;
-use piece_pool::{Gate, Outcome, PoolFault, run_pieces};
+use piece_pool::{Gate, Outcome, PoolFault, run_all};
 use std::alloc::{AllocError, Global};
 use std::hash::RandomState;
 use std::sync::Wait;
@@ -38,7 +39,7 @@ const PIECES_A_ROUND: usize = 1 << 20;
 ///
 /// # Errors
 /// - `BadLine(n)`: the line, counted from 1 over all pieces, is the first that spells nothing.
-/// - `WorkerRefused`, `Memory`: as in a pool.
+/// - `WorkerRefused`, `Memory`: as in a pool. The first never comes of one worker.
 pub(crate) fn number_pieces<R: Threads + Wait, G: Gate + Sync>(
     rt: &R,
     alloc: Global,
@@ -51,6 +52,7 @@ pub(crate) fn number_pieces<R: Threads + Wait, G: Gate + Sync>(
     ensures numbered { IfOk result
         (λ r. AreNumbered (all_lines (texts pieces.now)) r.0 r.1.items) }
     ensures bad_line { IfErr result (IfBadLine (IsBadLine (all_lines (texts pieces.now)))) }
+    ensures one_worker { workers ≡ 1 → IfErr result IsNoRefusedWorker }
 {
     let mut dict = Dict::new(alloc, state)?;
     let mut quads = Vec::new(alloc);
@@ -86,13 +88,14 @@ fn read_round<R: Threads + Wait, G: Gate + Sync>(
     ensures outcome { IfOk result
         (IsOutcome (λ i out. IsRead dict.now (text_at pieces.now i) out)
         (λ i line. IsFirstBad (lines (text_at pieces.now i)) line) (length pieces.now)) }
+    ensures one_worker { workers ≡ 1 → IfErr result (λ fault. fault ≡ Memory) }
 {
     let job = Round {
         pieces,
         dict,
         state,
     };
-    run_pieces(rt, alloc, workers, pieces.len() as u64, &job, gate)
+    run_all(rt, alloc, workers, pieces.len() as u64, &job, gate)
 }
 
 /// Where the round that begins at `from` ends.

@@ -2,12 +2,12 @@
 ghost use Rattle.std.specs.Prelude.{◌≡◌, ◌≤◌, ◌∷◌, [], length, IfOk, IfErr, IsPermutation};
 ghost use Rattle.algebra_model.specs.Bag.{without_repeats};
 ghost use Rattle.dict_core.proofs.NumQuadLaws.{quad_eq};
-ghost use Rattle.dataset_load.specs.Fault.{IfBadLine};
+ghost use Rattle.dataset_load.specs.Fault.{IfBadLine, IsNoRefusedWorker};
 ghost use Rattle.dataset_load.specs.Reading.{IsSortedList, order_at};
 
 use crate::fault::LoadFault;
 use dict_core::NumQuad;
-use piece_pool::{Job, JobFault, OpenGate, Outcome, run_pieces};
+use piece_pool::{Job, JobFault, OpenGate, Outcome, run_all};
 use quad_index::{Index, SortOrder, sorted_list};
 use std::alloc::Global;
 use std::sync::Wait;
@@ -55,7 +55,7 @@ fn order_at(i: u64) -> SortOrder
 /// The index of these quads: a statement that is repeated counts once.
 ///
 /// # Errors
-/// `WorkerRefused`, `Memory`: as in a pool.
+/// `WorkerRefused`, `Memory`: as in a pool. The first never comes of one worker.
 pub(crate) fn sorted_index<R: Threads + Wait>(
     rt: &R,
     alloc: Global,
@@ -66,9 +66,10 @@ pub(crate) fn sorted_index<R: Threads + Wait>(
     ensures each_once { IfOk result
         (λ index. IsPermutation (without_repeats quad_eq quads.now) index) }
     ensures refused { IfErr result (IfBadLine (λ _. ⊥)) }
+    ensures one_worker { workers ≡ 1 → IfErr result IsNoRefusedWorker }
 {
     let job = SortedLists { quads };
-    match run_pieces(rt, alloc, workers, 3, &job, &OpenGate)? {
+    match run_all(rt, alloc, workers, 3, &job, &OpenGate)? {
         Outcome::All(lists) => {
             let (gspo, gpos, gosp) = three(lists);
             Ok(Index::of_lists(alloc, gspo, gpos, gosp)?)

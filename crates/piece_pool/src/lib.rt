@@ -8,8 +8,12 @@
 //! Its halves are [`work`], which one worker does with a pass of a claim board (`piece_board`) and
 //! which waits for nobody, and [`gather`], which puts the works of all workers together.
 //!
+//! [`run_all`] does the same, but runs the pieces itself, by [`run_alone`], where there is one worker or
+//! one piece at the most: no start can be refused then.
+//!
 //! To read in this order: `job` (what is run), `gate` (what is called round each piece), `worker`
-//! (one worker's loop), `collector` (answers by number), `pool` (starting and joining the workers).
+//! (one worker's loop), `collector` (answers by number), `pool` (starting and joining the workers),
+//! `running` (by workers, or by the caller).
 //!
 //! ```text
 //! let outcome = run_pieces(&rt, alloc, 4, 1000, &job, &OpenGate)?;
@@ -26,6 +30,7 @@ mod job;
 mod pool;
 #[cfg(test)]
 mod refusals;
+mod running;
 #[cfg(test)]
 mod tests;
 mod worker;
@@ -34,4 +39,5 @@ pub use collector::{Outcome, gather};
 pub use gate::{Gate, OpenGate};
 pub use job::{Job, JobFault};
 pub use pool::{PoolFault, run_pieces};
+pub use running::{run_all, run_alone};
 pub use worker::{Worked, work};

@@ -8,6 +8,7 @@ ghost use Rattle.piece_pool.specs.declared.pool.PoolFault.TheVariants.{Memory};
 use crate::collector::{Outcome, gather};
 use crate::gate::Gate;
 use crate::job::Job;
+use crate::running::run_alone;
 use crate::worker::{Worked, work};
 use core::thread::Stack;
 use piece_board::{Board, BoardFault, Pass};
@@ -96,58 +97,13 @@ where
     ensures outcome { IfOk result (IsOutcome (J.answers job.now) (J.faults job.now) n) }
     ensures idle { n ≡ 0 → IfErr result (λ fault. fault ≡ Memory) }
 {
-    let seats = n.clamp(1, workers as u64) as usize;
-    let (board, passes) = Board::open(alloc, n, seats)?;
-    let works = all_works(rt, alloc, n, &board, passes, job, gate)?;
-    Ok(gather(alloc, board, works, job)?)
-}
-
-/// The works of all passes. Where there is no piece no thread is started.
-fn all_works<R: Threads + Wait, J: Job + Sync, G: Gate + Sync>(
-    rt: &R,
-    alloc: Global,
-    n: u64,
-    board: &Board,
-    passes: Vec<Pass>,
-    job: &J,
-    gate: &G,
-) -> Result<Vec<Worked<J::Out, J::Fault>>, PoolFault>
-where
-    J::Out: Send + Drop,
-    J::Fault: Send + Drop,
-    requires unused { All (λ p. p ≡ unused board.now.id board.now.pieces) passes.items }
-    ensures len { IfOk result (λ ws. vec_len ws ≡ vec_len passes) }
-    ensures works { IfOk result (λ ws. All (IsWorked (J.answers job.now) (J.faults job.now)
-        board.now) ws.items) }
-    ensures idle { n ≡ 0 → IfErr result (λ fault. fault ≡ Memory) }
-{
     if n == 0 {
-        return Ok(work_in_turn(alloc, board, passes, job, gate)?);
+        return Ok(run_alone(alloc, n, job, gate)?);
     }
-    run_workers(rt, alloc, board, passes, job, gate)
-}
-
-/// Works with each pass on the caller's own thread.
-fn work_in_turn<J: Job, G: Gate>(
-    alloc: Global,
-    board: &Board,
-    passes: Vec<Pass>,
-    job: &J,
-    gate: &G,
-) -> Result<Vec<Worked<J::Out, J::Fault>>, AllocError>
-where
-    J::Out: Drop,
-    J::Fault: Drop,
-    requires unused { All (λ p. p ≡ unused board.now.id board.now.pieces) passes.items }
-    ensures len { IfOk result (λ ws. vec_len ws ≡ vec_len passes) }
-    ensures works { IfOk result (λ ws. All (IsWorked (J.answers job.now) (J.faults job.now)
-        board.now) ws.items) }
-{
-    let mut works = Vec::with_capacity(alloc, passes.len())?;
-    for pass in passes {
-        works.push_reserved(work(alloc, board, pass, job, gate));
-    }
-    Ok(works)
+    let seats = n.min(workers as u64) as usize;
+    let (board, passes) = Board::open(alloc, n, seats)?;
+    let works = run_workers(rt, alloc, &board, passes, job, gate)?;
+    Ok(gather(alloc, board, works, job)?)
 }
 
 /// The works of all passes, by a thread for each.

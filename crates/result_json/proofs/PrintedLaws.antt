@@ -1,11 +1,13 @@
 -- What the JSON library prints for a string is what the results format wants.
-use Rattle.std.proofs.Common.{◌≡◌, ℕ, ◌/◌, ◌%◌, Bool, true, false, cond, ◌||◌, ◌==◌, nat_lt, List, [], ◌∷◌, ◌++◌, flat_map, codes, refl, sym, subst, if◌then◌else◌}
+use Rattle.std.proofs.Common.{◌≡◌, ◌∙◌, ℕ, ◌/◌, ◌%◌, ◌<◌, ◌≤◌, Bool, true, false, not, cond, ◌||◌, ◌&&◌, ◌==◌, nat_lt, nat_le, lit<, arith, List, [], ◌∷◌, ◌++◌, flat_map, codes, refl, sym, ap, append_assoc, subst, if◌then◌else◌}
 use Rattle.std.specs.Char.{digit_char}
-use Rattle.std.proofs.lemmas.Bool.{eqb-true}
+use Rattle.std.specs.List.{list_all}
+use Rattle.std.proofs.lemmas.Bool.{eqb-true, leb-true, le-ltb, ne_eqb, not-true, and_parts}
 use Rattle.json.specs.Print.{escape_byte, escape}
 use Rattle.serde_json.specs.Data.{string}
 use Rattle.serde_json.specs.Written.{compact_text}
 use Rattle.result_json.specs.Results.{string_byte, string_text}
+use Rattle.result_json.specs.Texts.{is_plain}
 
 abbrev low : ℕ → List ℕ
 low x = 92 ∷ 117 ∷ 48 ∷ 48 ∷ digit_char (x / 16) ∷ digit_char (x % 16) ∷ []
@@ -41,3 +43,27 @@ bytes_are (x ∷ s) = λ i. byte_is x i ++ bytes_are s i
 
 pub string_is : (s : List ℕ) → compact_text (string s) ≡ string_text s
 string_is s = λ i. 34 ∷ (bytes_are s i ++ 34 ∷ [])
+
+-- ---- a text that needs no escape
+
+plain_byte : (b : ℕ) → is_plain b ≡ true → string_byte b ≡ b ∷ []
+unfolding string_byte
+plain_byte b h =
+    let tests = and_parts (nat_le 32 b && not (b == 34)) (not (b == 92)) h in
+    let first = and_parts (nat_le 32 b) (not (b == 34)) tests.0 in
+    let high : 32 ≤ b = leb-true 32 b first.0 in
+    let low : (k : ℕ) → k < 32 → (b == k) ≡ false = λ k l. ne_eqb b k (λ (e : b ≡ k). omega arith) in
+    let not_below : nat_lt b 32 ≡ false = le-ltb b 32 high in
+    λ i. wanted b (not-true (b == 34) first.1 i) (not-true (b == 92) tests.1 i) (low 8 (lit< tt) i) (low 12 (lit< tt) i) (low 10 (lit< tt) i) (low 13 (lit< tt) i) (low 9 (lit< tt) i) (not_below i)
+
+-- a text of such bytes stands in a string as it is
+pub plain_bytes : (s : List ℕ) → list_all is_plain s ≡ true → flat_map string_byte s ≡ s
+plain_bytes [] h = refl
+plain_bytes (b ∷ s) h =
+    let parts = and_parts (is_plain b) (list_all is_plain s) h in
+    λ i. plain_byte b parts.0 i ++ plain_bytes s parts.1 i
+
+pub plain_string : (s : List ℕ) → list_all is_plain s ≡ true → (before opened full closed : List ℕ) → opened ≡ before ++ 34 ∷ [] → full ≡ opened ++ s → closed ≡ full ++ 34 ∷ [] → closed ≡ before ++ string_text s
+plain_string s h before opened full closed e f g =
+    g ∙ ap (λ x. x ++ 34 ∷ []) (f ∙ ap (λ x. x ++ s) e) ∙ append_assoc (before ++ 34 ∷ []) s (34 ∷ []) ∙ append_assoc before (34 ∷ []) (s ++ 34 ∷ [])
+    ∙ ap (λ x. before ++ (34 ∷ (x ++ 34 ∷ []))) (sym (plain_bytes s h))

@@ -1,9 +1,9 @@
 -- The table of ranks, and what its ranks stand for.
 use Rattle.std.proofs.Common.{◌≡◌, ◌≢◌, ◌⊎◌, ◌++◌, take, Bool, not, ℕ, zero, suc, ◌+◌, ◌<◌, ◌≤◌, true, false, List, [], ◌∷◌, length, get_or, map, set, slice_get, Option, None, Some, option_map, Bor, Contains, IsSorted, IsSortedBy, IsPermutation, All, refl, sym, ap, ◌∙◌, subst, arith, ⊎_elim, Ordering, Less, Equal, Greater, is_lt, nat_cmp}
 use Rattle.std.specs.Ordering.{ordering_then}
-use Rattle.std.proofs.lemmas.Bool.{cases_eq, cases_lt}
+use Rattle.std.proofs.lemmas.Bool.{cases_eq, cases_lt, false≢true}
 use Rattle.std.proofs.lemmas.List.{get_or-map, length-map, length-append, length-set, map-append, get_or_append_left, get_or_push, get_or-set_same, get_or-set_other, get_or_past, get_or_default}
-use Rattle.std.proofs.lemmas.List.Elements.{All-more, All-push, All-weaker}
+use Rattle.std.proofs.lemmas.List.Elements.{All-more, All-weaker}
 use Rattle.std.proofs.lemmas.List.Sorted.{Contains-permutation, IsPermutation-map}
 use Rattle.std.proofs.lemmas.Option.{slice_get-get_or, get_or_from_slice_get, slice_get_within, slice_get_past, slice_get-map}
 use Rattle.rdf_core.specs.declared.term.Term.{Term}
@@ -12,7 +12,7 @@ use Rattle.rdf_core.specs.Order.{term_cmp}
 use Rattle.algebra_model.specs.Reading.{Each}
 use Rattle.dict_core.specs.Dict.{IsWithoutRepeats}
 use Rattle.result_json.proofs.SliceLaws.{Each-from_all}
-use Rattle.result_json.specs.Ranks.{ranked_cell, Entry, terms_of, numbers_of, HasRank, IsCovered, IsEntry, IsRank, IsRankTable}
+use Rattle.result_json.specs.Ranks.{ranked_cell, Entry, terms_of, numbers_of, HasRank, IsCovered, IsEntry, IsMarked, IsRank, IsRankTable}
 
 -- ---- one entry more in the table
 
@@ -154,40 +154,49 @@ covered_sorted count entries sorted codes p h =
     Each-from_all (IsCovered count (numbers_of sorted)) codes (All-weaker (IsCovered count (numbers_of entries)) (IsCovered count (numbers_of sorted))
     (λ n k l. Contains-permutation (numbers_of entries) (numbers_of sorted) n (IsPermutation-map (λ (e : Entry). e.1) entries sorted p) (k l)) codes h)
 
-abbrev pub IsNoted : List Term → List Entry → List Bool → List ℕ → ℕ → Type 0
-IsNoted dict entries seen codes i = (length seen ≡ length dict)
-    × All (IsEntry dict) entries
-    × ((n : ℕ) → get_or seen n true ≡ true → IsCovered (length dict) (numbers_of entries) n)
-    × All (IsCovered (length dict) (numbers_of entries)) (take i codes)
-
-pub noted_old : (dict : List Term) (entries : List Entry) (seen : List Bool) (codes : List ℕ) (i d : ℕ) → i < length codes → IsNoted dict entries seen codes i → get_or seen (get_or codes i d) true ≡ true → IsNoted dict entries seen codes (i + 1)
-noted_old dict entries seen codes i d l h t = (h.0, h.1, h.2, All-more (IsCovered (length dict) (numbers_of entries)) codes i d l h.3 (h.2 (get_or codes i d) t))
-
 contains_last : (ns : List ℕ) (n : ℕ) → Contains (ns ++ n ∷ []) n
 contains_last ns n = (length ns, omega (arith, length-append ns (n ∷ [])), get_or_push ns n n (length ns) refl)
 
 contains_front : (ns : List ℕ) (m n : ℕ) → Contains ns n → Contains (ns ++ m ∷ []) n
 contains_front ns m n c = (c.0, omega (arith, c.1, length-append ns (m ∷ [])), get_or_append_left ns (m ∷ []) n c.0 c.1 ∙ c.2)
 
-pub noted_new : (dict : List Term) (entries : List Entry) (seen : List Bool) (codes : List ℕ) (i d : ℕ) (t : Bor Term) → i < length codes → IsNoted dict entries seen codes i → slice_get dict (get_or codes i d) ≡ Some t.now
-    → IsNoted dict (entries ++ (t, get_or codes i d) ∷ []) (set seen (get_or codes i d) true) codes (i + 1)
-noted_new dict entries seen codes i d t l h e =
-    (length-set seen m true ∙ h.0, All-push (IsEntry dict) entries (t, m) h.1 e, seen_is, All-more Covered codes i d l (All-weaker (IsCovered (length dict) (numbers_of entries)) Covered kept (take i codes) h.3) (λ b. subst (λ ns. Contains ns m) (sym numbers) (contains_last (numbers_of entries) m)))
+-- one code more is marked
+pub marked_more : (marks : List Bool) (codes : List ℕ) (i d : ℕ) → i < length codes → All (IsMarked marks) (take i codes) → All (IsMarked (set marks (get_or codes i d) true)) (take (i + 1) codes)
+marked_more marks codes i d l h = All-more (IsMarked after) codes i d l (All-weaker (IsMarked marks) (IsMarked after) kept (take i codes) h) here
   where
     m : ℕ
     m = get_or codes i d
 
-    numbers : numbers_of (entries ++ (t, m) ∷ []) ≡ numbers_of entries ++ m ∷ []
-    numbers = map-append (λ (x : Entry). x.1) entries ((t, m) ∷ [])
+    after : List Bool
+    after = set marks m true
 
-    Covered : ℕ → Type 0
-    Covered = IsCovered (length dict) (numbers_of (entries ++ (t, m) ∷ []))
+    here : get_or after m true ≡ true
+    here = ⊎_elim (λ (b : m < length marks). get_or-set_same marks m true true b) (λ (b : length marks ≤ m). get_or_past after m true (omega (arith, length-set marks m true))) (cases_lt m (length marks))
 
-    kept : (n : ℕ) → IsCovered (length dict) (numbers_of entries) n → Covered n
-    kept n k b = subst (λ ns. Contains ns n) (sym numbers) (contains_front (numbers_of entries) m n (k b))
+    kept : (n : ℕ) → IsMarked marks n → IsMarked after n
+    kept n e = ⊎_elim (λ (p : n ≡ m). ap (λ k. get_or after k true) p ∙ here) (λ (p : n ≢ m). get_or-set_other marks m n true true p ∙ e) (cases_eq n m)
 
-    seen_is : (n : ℕ) → get_or (set seen m true) n true ≡ true → Covered n
-    seen_is n s = ⊎_elim
-        (λ (p : n ≡ m). λ b. subst (λ ns. Contains ns n) (sym numbers) (subst (λ k. Contains (numbers_of entries ++ m ∷ []) k) (sym p) (contains_last (numbers_of entries) m)))
-        (λ (p : n ≢ m). kept n (h.2 n (sym (get_or-set_other seen m n true true p) ∙ s)))
-        (cases_eq n m)
+-- the marked numbers below i are listed
+abbrev pub AreTaken : List Bool → List ℕ → ℕ → Type 0
+AreTaken marks ns i = (n : ℕ) → n < i → get_or marks n true ≡ true → Contains ns n
+
+pub taken_more : (marks : List Bool) (entries : List Entry) (i : ℕ) (t : Bor Term) → AreTaken marks (numbers_of entries) i → AreTaken marks (numbers_of (entries ++ (t, i) ∷ [])) (i + 1)
+taken_more marks entries i t h n l s = subst (λ ns. Contains ns n) (sym numbers) (⊎_elim earlier last (cases_lt n i))
+  where
+    numbers : numbers_of (entries ++ (t, i) ∷ []) ≡ numbers_of entries ++ i ∷ []
+    numbers = map-append (λ (x : Entry). x.1) entries ((t, i) ∷ [])
+
+    earlier : n < i → Contains (numbers_of entries ++ i ∷ []) n
+    earlier b = contains_front (numbers_of entries) i n (h n b s)
+
+    last : i ≤ n → Contains (numbers_of entries ++ i ∷ []) n
+    last b = let e : i ≡ n = omega arith in subst (λ k. Contains (numbers_of entries ++ i ∷ []) k) e (contains_last (numbers_of entries) i)
+
+pub taken_past : (marks : List Bool) (ns : List ℕ) (i : ℕ) → get_or marks i true ≡ false → AreTaken marks ns i → AreTaken marks ns (i + 1)
+taken_past marks ns i f h n l s = ⊎_elim (λ (b : n < i). h n b s) not_here (cases_lt n i)
+  where
+    not_here : i ≤ n → Contains ns n
+    not_here b = let e : i ≡ n = omega arith in absurd (false≢true (sym f ∙ ap (λ k. get_or marks k true) e ∙ s))
+
+pub covered_all : (count : ℕ) (marks : List Bool) (ns codes : List ℕ) → All (IsMarked marks) codes → AreTaken marks ns count → All (IsCovered count ns) codes
+covered_all count marks ns codes h taken = All-weaker (IsMarked marks) (IsCovered count ns) (λ n m b. taken n b m) codes h

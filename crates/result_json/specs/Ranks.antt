@@ -1,6 +1,6 @@
 -- Cells of rows as numbers: by the numbers of their terms, and by the ranks of these. Private
 -- clauses alone cite these words.
-use Rattle.std.specs.Prelude.{◌≡◌, ℕ, zero, suc, ◌<◌, ◌≤◌, List, length, map, get_or, slice_get, Option, None, Some, Contains}
+use Rattle.std.specs.Prelude.{◌≡◌, ℕ, zero, suc, Bool, true, ◌<◌, ◌≤◌, List, length, map, get_or, slice_get, Option, None, Some, Contains}
 use Rattle.std.specs.Borrow.{Bor}
 use Rattle.rdf_core.specs.declared.term.Term.{Term}
 use Rattle.algebra_model.specs.RowOrder.{cells}
@@ -41,6 +41,10 @@ numbers_of entries = map (λ e. e.1) entries
 -- the term is the one that its number stands for
 abbrev pub IsEntry : List Term → Entry → Type 0
 IsEntry dict e = slice_get dict e.1 ≡ Some e.0.now
+
+-- the number's place is marked, where it has one
+abbrev pub IsMarked : List Bool → ℕ → Type 0
+IsMarked marks n = get_or marks n true ≡ true
 
 -- the number is listed, where it stands for a term at all
 abbrev pub IsCovered : ℕ → List ℕ → ℕ → Type 0

@@ -1,12 +1,16 @@
 -- Texts of terms, each printed once, and how rows are put together of them. Private clauses alone cite
 -- these words.
-use Rattle.std.specs.Prelude.{◌≡◌, ◌⊎◌, ℕ, ◌<◌, ◌≤◌, Bool, true, false, List, [], ◌∷◌, ◌++◌, length, flat_map, slice_range, get_or, Option, None, Some, Vec, codes}
+use Rattle.std.specs.Prelude.{◌≡◌, ◌⊎◌, ℕ, ◌<◌, ◌≤◌, ◌==◌, nat_le, Bool, true, false, not, ◌&&◌, List, [], ◌∷◌, ◌++◌, length, flat_map, slice_range, get_or, Option, None, Some, Vec, codes}
 use Rattle.std.specs.Borrow.{Bor}
 use Rattle.std.specs.declared.alloc.Global.{Global}
 use Rattle.rdf_core.specs.declared.term.Term.{Term}
 use Rattle.dict_core.specs.Dict.{term_at}
 use Rattle.result_json.specs.Ranks.{ranked_cell}
 use Rattle.result_json.specs.Results.{Column, separated, string_text, term_text}
+
+-- the byte stands for itself in a JSON string: no control character, no quote and no backslash
+abbrev pub is_plain : ℕ → Bool
+is_plain b = nat_le 32 b && not (b == 34) && not (b == 92)
 
 -- where a text begins and ends in a buffer
 abbrev pub Span : Type 0

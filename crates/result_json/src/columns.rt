@@ -3,7 +3,7 @@ ghost use Rattle.std.specs.Prelude.{◌≡◌, [], ◌∷◌, ◌++◌, get_or, 
 ghost use Rattle.result_json.specs.Results.{columns, listed_names, numbered, string_text};
 ghost use Rattle.result_json.specs.Texts.{begun, begun_column, column_of};
 
-use crate::values::printed_string;
+use crate::values::put_string;
 use rdf_core::Text;
 use std::alloc::{AllocError, Global};
 
@@ -52,7 +52,8 @@ fn columns_of<'a>(
 fn member_start(alloc: Global, name: &str) -> Result<Vec<u8>, AllocError>
     ensures text { IfOk result (λ text. text.items ≡ string_text name.now ++ 58 ∷ []) }
 {
-    let mut text = printed_string(alloc, name)?;
+    let mut text = Vec::new(alloc);
+    put_string(alloc, &mut text, name)?;
     text.push(b':')?;
     Ok(text)
 }

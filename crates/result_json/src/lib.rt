@@ -10,13 +10,13 @@
 //!
 //! How: the cells of the listed variables are copied into one buffer of numbers. Their distinct terms
 //! are sorted, each number becomes the rank of its term, and rows are sorted by ranks, those of two
-//! cells first as one number each. The JSON library prints the names, and once the texts of each term
-//! that stands in the answer; terms and rows are put together round these by appends, rows in one
-//! block of a size that is added up before.
+//! cells first as one number each. Each term that stands in the answer is printed once: its texts are
+//! copied, and those that need an escape printed by the JSON library. Terms and rows are put together
+//! round these by appends, rows in one block of a size that is added up before.
 //!
 //! To read in this order: `printing`, `coding` (cells as numbers), `ranking` (numbers as ranks),
-//! `pair_order` (rows of two ranks), `ranked_row` and `row_order`, `values` (texts by the JSON library,
-//! and terms round them), `term_texts`, `columns`, `results`.
+//! `pair_order` (rows of two ranks), `ranked_row` and `row_order`, `values` (texts as JSON strings, and
+//! terms round them), `term_texts`, `columns`, `results`.
 //!
 //! Example: one variable `o` and the rows `"x"` and `<http://e/a>` give
 //! `{"head":{"vars":["o"]},"results":{"bindings":[{"o":{"type":"uri","value":"http://e/a"}},{"o":{"type":"literal","value":"x"}}]}}`

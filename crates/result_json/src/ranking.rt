@@ -1,26 +1,36 @@
 //! Terms by rank: the distinct terms of a result are sorted, and rows are then compared by numbers.
-ghost use Rattle.std.specs.Prelude.{◌≡◌, ◌<◌, true, get_or, length, map, slice_get, All, IfOk, IsSorted};
+ghost use Rattle.std.specs.Prelude.{◌≡◌, ◌<◌, true, get_or, length, map, slice_get, slice_set, All, IfOk, IsSorted};
 ghost use Rattle.rdf_core.specs.Order.{term_cmp};
 ghost use Rattle.algebra_model.specs.Reading.{Each};
-ghost use Rattle.result_json.specs.Ranks.{ranked_cell, terms_of, numbers_of, IsCovered, IsEntry, IsRank, IsRankTable};
+ghost use Rattle.result_json.specs.Ranks.{ranked_cell, terms_of, numbers_of, IsCovered, IsEntry, IsMarked, IsRank, IsRankTable};
 
 use dict_core::Dict;
 use rdf_core::Term;
 use std::alloc::{AllocError, Global};
 
-/// Whether a code is marked, and true for one past the end.
-fn is_seen(seen: &[bool], code: u64) -> bool
-    ensures value { result ≡ get_or seen.now code true }
+/// Marks the place of a code. One past the end marks nothing.
+fn mark(marks: &mut [bool], code: u64)
+    ensures marks { marks.new ≡ slice_set marks.old code true }
 {
-    if code < seen.len() as u64 {
-        seen[code as usize]
-    } else {
-        true
+    if code < marks.len() as u64 {
+        marks[code as usize] = true;
     }
 }
 
-/// The terms that the codes stand for, each with its number, in the order in which they come. A code
-/// past the dictionary stands for none.
+/// Marks for so many numbers, whether a code is one.
+fn marked(alloc: Global, codes: &[u64], count: usize) -> Result<Vec<bool>, AllocError>
+    ensures wide { IfOk result (λ marks. length marks.items ≡ count) }
+    ensures marked { IfOk result (λ marks. All (IsMarked marks.items) codes.now) }
+{
+    let mut marks = vec![in alloc; false; count]?;
+    for code in codes {
+        mark(&mut marks, *code);
+    }
+    Ok(marks)
+}
+
+/// The terms that the codes stand for, each with its number, in the order of the dictionary. A code past
+/// the dictionary stands for none.
 fn distinct_terms<'a>(
     alloc: Global,
     codes: &[u64],
@@ -30,24 +40,72 @@ fn distinct_terms<'a>(
     ensures covered { IfOk result
         (λ made. All (IsCovered (length dict.now) (numbers_of made.items)) codes.now) }
 {
-    let mut seen = vec![in alloc; false; dict.len()]?;
+    let marks = marked(alloc, codes, dict.len())?;
     let mut made = Vec::new(alloc);
-    for code in codes {
-        if !is_seen(&seen, *code) {
-            seen[*code as usize] = true;
-            made.push((dict.term(*code), *code))?;
+    for number in 0..dict.len() {
+        if marks[number] {
+            made.push((dict.term(number as u64), number as u64))?;
         }
     }
     Ok(made)
 }
 
-/// What comparisons look at first in a term: its kind, as a number that rises, and its first text.
-fn kind_and_text(term: &Term) -> (u8, &str) {
+/// The kind of a term, as a number that rises, and its first text: what comparisons look at first.
+fn kind_and_text(term: &Term) -> (u8, &str)
+    ensures kind { result.0 < 3 }
+{
     match term {
         Term::Blank(label) => (0, label.as_str()),
         Term::Iri(text) => (1, text.as_str()),
         Term::Literal { lexical, .. } => (2, lexical.as_str()),
     }
+}
+
+/// The bytes that both texts begin with.
+fn shared_beginning<'a>(left: &'a [u8], right: &[u8]) -> &'a [u8] {
+    if right.starts_with(left) {
+        return left;
+    }
+    let count = left.len().min(right.len());
+    for i in 0..count {
+        if left[i] != right[i] {
+            return &left[..i];
+        }
+    }
+    &left[..count]
+}
+
+/// How many bytes the first texts of all terms of a kind begin with in common.
+fn shared_length(order: &[(&Term, u64)], kind: u8) -> usize {
+    let mut shared: Option<&[u8]> = None;
+    for (term, _number) in order {
+        let (its_kind, text) = kind_and_text(term);
+        if its_kind == kind {
+            shared = Some(shared_beginning(shared.unwrap_or(text.as_bytes()), text.as_bytes()));
+        }
+    }
+    shared.unwrap_or(b"").len()
+}
+
+/// The eight bytes of a text behind so many, as a number that rises with them. Zeros stand for those
+/// behind its end.
+fn bytes_behind(text: &[u8], start: usize) -> u64 {
+    let rest = &text[text.len().min(start)..];
+    let count = rest.len().min(8);
+    let mut bytes = [0u8; 8];
+    bytes[..count].copy_from_slice(&rest[..count]);
+    u64::from_be_bytes(bytes)
+}
+
+/// What terms are first put in order by: the kind, the eight bytes behind what the texts of the kind
+/// have in common, and the first text.
+fn first_key<'a>(term: &'a Term, shared: &[usize; 3]) -> (u8, u64, &'a str) {
+    let (kind, text) = kind_and_text(term);
+    (
+        kind,
+        bytes_behind(text.as_bytes(), shared[kind as usize]),
+        text,
+    )
 }
 
 /// For each number its last place in the order plus one, and 0 where it has none.
@@ -101,8 +159,14 @@ pub(crate) fn rank<'a>(
 {
     let mut order = distinct_terms(alloc, codes, dict)?;
     // Comparisons look first at the kind of a term and at its first text, so these are taken out once
-    // and sorted. The sort behind settles the order, and moves only terms that have both in common.
-    order.sort_by_cached_key(|entry| kind_and_text(entry.0))?;
+    // and sorted, with the bytes that mostly decide beside them. The sort behind settles the order, and
+    // moves only terms that have both in common.
+    let shared = [
+        shared_length(&order, 0),
+        shared_length(&order, 1),
+        shared_length(&order, 2),
+    ];
+    order.sort_by_cached_key(|entry| first_key(entry.0, &shared))?;
     order.sort()?;
     let table = rank_table(alloc, &order, dict.len())?;
     put_ranks(codes, &table);

@@ -2,7 +2,7 @@
 //!
 //! Rows are put together by appends, of the beginnings of members, each made once a column, and of the
 //! texts of terms, each made once a term.
-ghost use Rattle.std.specs.Prelude.{◌≡◌, ◌++◌, ◌||◌, map, is_some, OnOk, IfOk};
+ghost use Rattle.std.specs.Prelude.{◌≡◌, ◌++◌, ◌||◌, length, map, is_some, OnOk, IfOk};
 ghost use Rattle.result_json.specs.RankedRows.{ranks_of};
 ghost use Rattle.result_json.specs.Ranks.{ranked_cell, ranked_row};
 ghost use Rattle.result_json.specs.Results.{json, listed_names, separated, string_text};
@@ -11,35 +11,50 @@ ghost use Rattle.result_json.specs.Texts.{begun_column, begun_member, begun_row,
 use crate::columns::{begun_columns, name_of};
 use crate::ranked_row::RankedRow;
 use crate::term_texts::TermTexts;
-use crate::values::printed_string;
+use crate::values::put_string;
 use rdf_core::Text;
 use std::alloc::{AllocError, Global};
 
-/// Prints the terms of a row, and answers the room that its object takes at most, with a comma behind
-/// each member and behind the row.
-fn print_cells(
-    alloc: Global,
+/// Counts the terms of a row, each at its place, and answers the room that the object takes at most
+/// beside them, with a comma behind each member and behind the row.
+fn count_cells(
     columns: &[(Vec<u8>, usize)],
-    texts: &mut TermTexts<'_>,
+    texts: &TermTexts<'_>,
     row: &RankedRow<'_>,
-) -> Result<usize, AllocError>
-    ensures same { texts.new ≡ texts.old }
+    uses: &mut [usize],
+) -> usize
+    requires wide { length uses.old ≡ length texts.now }
 {
     let mut room = 3usize;
     for (prefix, place) in columns {
         if let Some(place) = texts.place(row.rank(*place)) {
-            let text = texts.print(alloc, place)?;
-            room = room
-                .saturating_add(prefix.len())
-                .saturating_add(text)
-                .saturating_add(1);
+            uses[place] = uses[place].saturating_add(1);
+            room = room.saturating_add(prefix.len()).saturating_add(1);
         }
     }
-    Ok(room)
+    room
 }
 
-/// Prints the terms of the rows, and answers the room that the rows and the four bytes behind them take
-/// at most: so the answer is put together in one block, which grows no more.
+/// Counts the terms of the rows, each at its place, and answers the room that the rows and the four
+/// bytes behind them take at most beside these.
+fn count_rows(
+    columns: &[(Vec<u8>, usize)],
+    texts: &TermTexts<'_>,
+    rows: &[RankedRow<'_>],
+    uses: &mut [usize],
+) -> usize
+    requires wide { length uses.old ≡ length texts.now }
+{
+    let mut room = 4usize;
+    for row in rows {
+        room = room.saturating_add(count_cells(columns, texts, row, uses));
+    }
+    room
+}
+
+/// Prints the terms of the rows, in the order of the dictionary, and answers the room that the rows and
+/// the four bytes behind them take at most: so the answer is put together in one block, which grows no
+/// more.
 fn print_texts(
     alloc: Global,
     columns: &[(Vec<u8>, usize)],
@@ -48,9 +63,12 @@ fn print_texts(
 ) -> Result<usize, AllocError>
     ensures same { texts.new ≡ texts.old }
 {
-    let mut room = 4usize;
-    for row in rows {
-        room = room.saturating_add(print_cells(alloc, columns, texts, row)?);
+    let mut uses = vec![in alloc; 0usize; texts.len()]?;
+    let mut room = count_rows(columns, texts, rows, &mut uses);
+    let used = texts.used_places(alloc, &uses)?;
+    for (_number, place) in &used {
+        let text = texts.print(alloc, *place)?;
+        room = room.saturating_add(text.saturating_mul(uses[*place]));
     }
     Ok(room)
 }
@@ -139,7 +157,7 @@ fn put_names(
         if i > 0 {
             out.push(b',')?;
         }
-        out.extend_from_slice(&printed_string(alloc, name_of(names, listed[i]))?)?;
+        put_string(alloc, out, name_of(names, listed[i]))?;
     }
     Ok(())
 }

@@ -1,10 +1,10 @@
 //! Terms as JSON, each printed once.
-ghost use Rattle.std.specs.Prelude.{◌≡◌, ◌++◌, ◌<◌, length, IfOk, MatchOption, None, OnOk, Some};
+ghost use Rattle.std.specs.Prelude.{◌≡◌, ◌++◌, ◌<◌, length, All, IfOk, MatchOption, None, OnOk, Some};
 ghost use Rattle.dict_core.specs.Dict.{term_at};
 ghost use Rattle.result_json.specs.Ranks.{ranked_cell, terms_of};
 ghost use Rattle.result_json.specs.Results.{term_text};
 
-use crate::values::printed_term;
+use crate::values::put_term;
 use rdf_core::Term;
 use std::alloc::{AllocError, Global};
 use std::marker::Model;
@@ -16,6 +16,9 @@ pub(crate) struct TermTexts<'a> {
     terms: &'a [(&'a Term, u64)],
     /// The texts, in the order in which they were printed.
     printed: Vec<u8>,
+    /// Where a text is printed before it joins the others, so that none of these is touched when a
+    /// growth is refused halfway.
+    latest: Vec<u8>,
     /// Where each term's text begins and ends: at one place while it is not printed.
     spans: Vec<(usize, usize)>,
 }
@@ -46,11 +49,43 @@ impl<'a> TermTexts<'a> {
     {
         let spans = vec![in alloc; (0, 0); terms.len()]?;
         let printed = Vec::new(alloc);
+        let latest = Vec::new(alloc);
         Ok(TermTexts {
             terms,
             printed,
+            latest,
             spans,
         })
+    }
+
+    /// The number of terms.
+    pub(crate) fn len(&self) -> usize
+        ensures value { result ≡ length self.now }
+    {
+        self.terms.len()
+    }
+
+    /// The places of the terms that are used at all, each behind the number of its term and in the order
+    /// of these numbers: terms that are gone through so are read as they lie in memory.
+    ///
+    /// # Errors
+    /// `AllocError`: a growth was refused.
+    pub(crate) fn used_places(
+        &self,
+        alloc: Global,
+        uses: &[usize],
+    ) -> Result<Vec<(u64, usize)>, AllocError>
+        requires wide { length uses.now ≡ length self.now }
+        ensures inside { IfOk result (λ used. All (λ e. e.1 < length self.now) used.items) }
+    {
+        let mut used = Vec::new(alloc);
+        for place in 0..self.terms.len() {
+            if uses[place] > 0 {
+                used.push((self.terms[place].1, place))?;
+            }
+        }
+        used.sort_unstable();
+        Ok(used)
     }
 
     /// The place of a rank's term, and None where the rank is no term's.
@@ -78,11 +113,13 @@ impl<'a> TermTexts<'a> {
         if start < end {
             return Ok(end - start);
         }
-        let text = printed_term(alloc, self.terms[place].0)?;
+        let term = self.terms[place].0;
+        self.latest.clear();
+        put_term(alloc, &mut self.latest, term)?;
         let start = self.printed.len();
-        self.printed.extend_from_slice(&text)?;
+        self.printed.extend_from_slice(&self.latest)?;
         self.spans[place] = (start, self.printed.len());
-        Ok(text.len())
+        Ok(self.latest.len())
     }
 
     /// Appends the text of the term at a place. One that was not printed yet is printed for this once.
@@ -103,6 +140,6 @@ impl<'a> TermTexts<'a> {
         if start < end {
             return out.extend_from_slice(&self.printed[start..end]);
         }
-        out.extend_from_slice(&printed_term(alloc, self.terms[place].0)?)
+        put_term(alloc, out, self.terms[place].0)
     }
 }

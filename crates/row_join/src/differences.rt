@@ -5,7 +5,7 @@ ghost use Rattle.algebra_model.specs.Operators.{minus};
 ghost use Rattle.row_join.specs.Numbers.{all_pass};
 ghost use Rattle.row_join.specs.Pairing.{is_apart};
 ghost use Rattle.row_join.specs.Places.{rows_at};
-ghost use Rattle.row_pieces.specs.How.{IsRunnable, IsUncut};
+ghost use Rattle.row_pieces.specs.How.{IsRunnable, HasOneWorker};
 ghost use Rattle.row_pieces.specs.declared.how.EvalFault.TheVariants.{Memory};
 
 use crate::left_rows::{Buffers, Pairing, pair_rows};
@@ -26,7 +26,7 @@ use std::thread::Threads;
 /// Both sides have the same width, and `how` keeps its limits.
 ///
 /// # Errors
-/// - `WorkerRefused`: the start of a worker was refused. It never comes where `how.rows` is 2^64 - 1.
+/// - `WorkerRefused`: the start of a worker was refused. It never comes of one worker.
 /// - `Memory`: a growth was refused.
 pub fn minus<R: Threads + Wait, G: Gate + Sync>(
     rt: &R,
@@ -43,7 +43,7 @@ pub fn minus<R: Threads + Wait, G: Gate + Sync>(
     ensures rows { IfOk result (λ rows. IsSameBag rows.rows (minus nat_eq left.now.rows right.now.rows)) }
     ensures numbers { IfOk result (λ rows. (p : ℕ → Bool) → all_pass p left.now.rows ≡ true
         → all_pass p rows.rows ≡ true) }
-    ensures uncut { IsUncut how.now → IfErr result (λ fault. fault ≡ Memory) }
+    ensures one_worker { HasOneWorker how.now → IfErr result (λ fault. fault ≡ Memory) }
 {
     let right = RightSide::build(alloc, state, left, right)?;
     let rows = pair_rows(rt, alloc, left, &right, &Remainder {}, how, gate)?;

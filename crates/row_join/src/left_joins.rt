@@ -5,7 +5,7 @@ ghost use Rattle.algebra_model.specs.Operators.{left_join, merges};
 ghost use Rattle.algebra_model.specs.Solve.{alone};
 ghost use Rattle.row_join.specs.Numbers.{passes, all_pass};
 ghost use Rattle.row_join.specs.Places.{rows_at};
-ghost use Rattle.row_pieces.specs.How.{IsRunnable, IsUncut};
+ghost use Rattle.row_pieces.specs.How.{IsRunnable, HasOneWorker};
 ghost use Rattle.row_pieces.specs.declared.how.EvalFault.TheVariants.{Memory};
 
 use crate::left_rows::{Buffers, Pairing, pair_rows};
@@ -47,7 +47,7 @@ pub trait RowTest {
 /// Both sides have the same width, the condition knows the numbers of both, and `how` keeps its limits.
 ///
 /// # Errors
-/// - `WorkerRefused`: the start of a worker was refused. It never comes where `how.rows` is 2^64 - 1.
+/// - `WorkerRefused`: the start of a worker was refused. It never comes of one worker.
 /// - `Memory`: a growth was refused.
 pub fn left_join<R: Threads + Wait, T: RowTest + Sync, G: Gate + Sync>(
     rt: &R,
@@ -68,7 +68,7 @@ pub fn left_join<R: Threads + Wait, T: RowTest + Sync, G: Gate + Sync>(
         (left_join nat_eq (T.keeps test.now) left.now.rows right.now.rows)) }
     ensures numbers { IfOk result (λ rows. (p : ℕ → Bool) → all_pass p left.now.rows ≡ true
         → all_pass p right.now.rows ≡ true → all_pass p rows.rows ≡ true) }
-    ensures uncut { IsUncut how.now → IfErr result (λ fault. fault ≡ Memory) }
+    ensures one_worker { HasOneWorker how.now → IfErr result (λ fault. fault ≡ Memory) }
 {
     let right = RightSide::build(alloc, state, left, right)?;
     let rows = pair_rows(rt, alloc, left, &right, &MergesOrItself { test }, how, gate)?;

@@ -3,7 +3,7 @@ ghost use Rattle.std.specs.Prelude.{◌≡◌, ◌++◌, ℕ, Bool, true, List, 
 ghost use Rattle.algebra_model.specs.Bag.{IsSameBag};
 ghost use Rattle.algebra_model.specs.Solution.{Solution};
 ghost use Rattle.row_join.specs.Numbers.{passes, all_pass};
-ghost use Rattle.row_pieces.specs.How.{IsRunnable, IsUncut};
+ghost use Rattle.row_pieces.specs.How.{IsRunnable, HasOneWorker};
 ghost use Rattle.row_pieces.specs.declared.how.EvalFault.TheVariants.{Memory};
 
 use crate::right_side::RightSide;
@@ -89,7 +89,7 @@ impl<'w, 'r, P: Pairing> RowWork for LeftRows<'w, 'r, P> {
 /// What all left rows give with the right side, cut into pieces as `how` says.
 ///
 /// # Errors
-/// - `WorkerRefused`: the start of a worker was refused. It never comes where `how.rows` is 2^64 - 1.
+/// - `WorkerRefused`: the start of a worker was refused. It never comes of one worker.
 /// - `Memory`: a growth was refused.
 pub(crate) fn pair_rows<R: Threads + Wait, P: Pairing + Sync, G: Gate + Sync>(
     rt: &R,
@@ -107,7 +107,7 @@ pub(crate) fn pair_rows<R: Threads + Wait, P: Pairing + Sync, G: Gate + Sync>(
     ensures width { IfOk result (λ rows. rows.width ≡ left.now.width) }
     ensures rows { IfOk result (λ rows. IsSameBag rows.rows
         (flat_map (P.gives pairing.now right.now.rows.now.rows) left.now.rows)) }
-    ensures uncut { IsUncut how.now → IfErr result (λ fault. fault ≡ Memory) }
+    ensures one_worker { HasOneWorker how.now → IfErr result (λ fault. fault ≡ Memory) }
 {
     let work = LeftRows {
         left,

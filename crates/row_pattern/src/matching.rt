@@ -5,7 +5,7 @@ ghost use Rattle.algebra_model.specs.Bgp.{bgp, occurring};
 ghost use Rattle.algebra_model.specs.Reading.{Each, EachBound};
 ghost use Rattle.algebra_model.specs.Solve.{AreBelow};
 ghost use Rattle.dict_core.proofs.NumQuadLaws.{quad_eq};
-ghost use Rattle.row_pieces.specs.How.{IsRunnable, IsUncut};
+ghost use Rattle.row_pieces.specs.How.{IsRunnable, HasOneWorker};
 ghost use Rattle.row_pieces.specs.declared.how.EvalFault.TheVariants.{Memory};
 ghost use Rattle.row_pattern.specs.Numbered.{pattern_of, triple_of, triples_of};
 ghost use Rattle.row_pattern.specs.Steps.{solutions_from, solutions_over};
@@ -75,7 +75,7 @@ impl<'a> RowWork for Matches<'a> {
 /// limits.
 ///
 /// # Errors
-/// - `WorkerRefused`: the start of a worker was refused. It never comes where `how.rows` is 2^64 - 1.
+/// - `WorkerRefused`: the start of a worker was refused. It never comes of one worker.
 /// - `Memory`: a growth was refused.
 pub fn pattern<R: Threads + Wait, G: Gate + Sync>(
     rt: &R,
@@ -95,7 +95,7 @@ pub fn pattern<R: Threads + Wait, G: Gate + Sync>(
         (bgp nat_eq width labels (map pattern_of patterns.now) (triples_of graph index.now))) }
     ensures known { IfOk result (λ found.
         Each (EachBound (λ n. Contains (occurring (triples_of graph index.now)) n)) found.rows) }
-    ensures uncut { IsUncut how.now → IfErr result (λ fault. fault ≡ Memory) }
+    ensures one_worker { HasOneWorker how.now → IfErr result (λ fault. fault ≡ Memory) }
 {
     quads_stand_once(index);
     let cells = width.saturating_add(labels);

@@ -1,2 +1,1 @@
 mod PieceSteps
-mod RunningSteps

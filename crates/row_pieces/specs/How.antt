@@ -1,5 +1,5 @@
 -- How an evaluation is run (our own).
-use Rattle.std.specs.Prelude.{◌≡◌, ◌≤◌, ◌-◌, ◌^◌}
+use Rattle.std.specs.Prelude.{◌≡◌, ◌≤◌}
 use Rattle.piece_pool.specs.declared.pool.PoolFault.{PoolFault}
 use Rattle.piece_pool.specs.declared.pool.PoolFault.TheVariants as pool
 use Rattle.row_pieces.specs.declared.how.How.{How}
@@ -10,9 +10,9 @@ use Rattle.row_pieces.specs.declared.how.EvalFault.TheVariants.{WorkerRefused, M
 abbrev pub IsRunnable : How → Type 0
 IsRunnable how = (1 ≤ how.workers) × (how.workers ≤ 64) × (1 ≤ how.rows)
 
--- no list is cut: every one has a piece's rows or fewer
-abbrev pub IsUncut : How → Type 0
-IsUncut how = how.rows ≡ 2 ^ 64 - 1
+-- one worker, which is the caller itself
+abbrev pub HasOneWorker : How → Type 0
+HasOneWorker how = how.workers ≡ 1
 
 -- what the pool refuses is refused under the same name
 abbrev pub IsFaultOf : PoolFault → EvalFault → Type 0

@@ -5,10 +5,10 @@ use std::alloc::AllocError;
 /// How an evaluation is cut into pieces and run. No answer depends on it.
 #[derive(Clone, Copy, Debug, PartialEq, Eq)]
 pub struct How {
-    /// How many workers at the most: 1 to 64.
+    /// How many workers at the most: 1 to 64. One is the caller itself, and no thread is started.
     pub workers: usize,
     /// How many rows a piece has at the most: 1 or more. Piece `i` of a list of rows has the rows
-    /// from `i * rows` on. With 2^64 - 1 each list is one piece, and no worker is started.
+    /// from `i * rows` on.
     pub rows: usize,
 }
 

@@ -3,13 +3,12 @@ ghost use Rattle.std.specs.Int.{div_ceil};
 ghost use Rattle.std.specs.List.{flat_map};
 ghost use Rattle.std.specs.Prelude.{◌≡◌, ◌≤◌, ◌^◌, ℕ, List, length, IfOk, IfErr, All, take, drop, ◌-◌, ◌*◌};
 ghost use Rattle.algebra_model.specs.Solution.{Solution};
-ghost use Rattle.row_pieces.specs.How.{IsRunnable, IsUncut};
+ghost use Rattle.row_pieces.specs.How.{IsRunnable, HasOneWorker};
 ghost use Rattle.row_pieces.specs.Pieces.{AreRowsOf, piece_of};
 ghost use Rattle.row_pieces.specs.declared.how.EvalFault.TheVariants.{Memory};
 
 use crate::how::{EvalFault, How};
-use crate::running::run_all;
-use piece_pool::{Gate, Job, JobFault, Outcome};
+use piece_pool::{Gate, Job, JobFault, Outcome, run_all};
 use row_core::Rows;
 use std::alloc::{AllocError, Global};
 use std::sync::Wait;
@@ -73,13 +72,14 @@ impl<'w, W: RowWork> Job for RowPieces<'w, W> {
 }
 
 /// The rows of all elements, element by element and cut into pieces as `how` says: the bag of all
-/// parts. Workers do the pieces, and one piece alone the caller.
+/// parts. Workers do the pieces, and one worker's part, or one piece alone, the caller.
 ///
 /// # Requires
 /// `how` keeps its limits.
 ///
 /// # Errors
-/// - `WorkerRefused`: the start of a worker was refused. It never comes where one piece holds all elements.
+/// - `WorkerRefused`: the start of a worker was refused. It never comes of one worker, nor where one piece
+///   holds all elements.
 /// - `Memory`: a growth was refused.
 pub fn over_pieces<R: Threads + Wait, W: RowWork + Sync, G: Gate + Sync>(
     rt: &R,
@@ -91,7 +91,7 @@ pub fn over_pieces<R: Threads + Wait, W: RowWork + Sync, G: Gate + Sync>(
     requires how { IsRunnable how.now }
     ensures rows { IfOk result (AreRowsOf (W.width work.now) (W.parts work.now)) }
     ensures alone { length (W.parts work.now) ≤ how.now.rows → IfErr result (λ fault. fault ≡ Memory) }
-    ensures uncut { IsUncut how.now → IfErr result (λ fault. fault ≡ Memory) }
+    ensures one_worker { HasOneWorker how.now → IfErr result (λ fault. fault ≡ Memory) }
 {
     let count = work.count();
     let size = piece_size(count, how.rows);

@@ -1,11 +1,15 @@
 //! How many elements a piece has, under which name a refusal is told, and jobs of no piece, of one and of
 //! more. `over_pieces` is run by the tests of the operators that stand on it.
 
-use piece_pool::{Gate, Job, JobFault, Outcome, PoolFault};
-use row_pieces::{EvalFault, piece_size, run_all};
+ghost use Rattle.std.specs.Prelude.{◌≤◌, ◌^◌};
+
+use piece_pool::{Gate, Job, JobFault, Outcome, PoolFault, run_all};
+use row_pieces::{EvalFault, piece_size};
 use std::alloc::{AllocError, Global};
+use std::sync::Wait;
 use std::sync::atomic::{AtomicU64, Ordering};
 use std::test::Fail;
+use std::thread::Threads;
 
 /// A piece has as many elements as asked for, and more only where there would be too many pieces.
 #[test]
@@ -76,27 +80,38 @@ impl Gate for Counter {
     }
 }
 
-/// No piece, one piece, which the caller runs, and more: each answer is in its place, and each piece passed
-/// the gate once.
+/// Whether each of so many pieces is answered in its place, and passed the gate once.
+fn are_answered<R: Threads + Wait>(rt: &R, alloc: Global, workers: usize, n: u64) -> bool
+    requires workers { (1 ≤ workers) × (workers ≤ 64) }
+    requires pieces { n ≤ 2 ^ 62 }
+{
+    let gate = Counter {
+        entered: AtomicU64::new(0),
+        left: AtomicU64::new(0),
+    };
+    let job = Numbers { sound: 9 };
+    let Ok(Outcome::All(outs)) = run_all(rt, alloc, workers, n, &job, &gate) else {
+        return false;
+    };
+    let in_place = outs.iter().enumerate().all(|(i, out)| *out == i as u64);
+    let entered = gate.entered.load(Ordering::SeqCst);
+    let left = gate.left.load(Ordering::SeqCst);
+    in_place && outs.len() as u64 == n && entered == n && left == n
+}
+
+/// No piece, one piece, which the caller runs, and more; by two workers, and by one, which is the caller.
 #[test]
-fn each_piece_is_answered_in_its_place(rt: HostRuntime) -> Result<(), Fail> {
-    for n in [0u64, 1, 2, 9] {
-        let gate = Counter {
-            entered: AtomicU64::new(0),
-            left: AtomicU64::new(0),
-        };
-        let job = Numbers { sound: 9 };
-        let Ok(Outcome::All(outs)) = run_all(&rt, rt.alloc(), 2, n, &job, &gate) else {
-            panic!(rt; "no answers of {n} pieces")
-        };
-        assert_eq!(rt; outs.len() as u64, n);
-        for (i, out) in outs.iter().enumerate() {
-            assert_eq!(rt; *out, i as u64, "of {n} pieces");
-        }
-        assert_eq!(rt; gate.entered.load(Ordering::SeqCst), n);
-        assert_eq!(rt; gate.left.load(Ordering::SeqCst), n);
+fn each_piece_is_answered_in_its_place(rt: HostRuntime) {
+    for n in [0, 1, 2, 9] {
+        assert!(rt;
+            are_answered(&rt, rt.alloc(), 2, n),
+            "{n} pieces by two workers"
+        );
+        assert!(rt;
+            are_answered(&rt, rt.alloc(), 1, n),
+            "{n} pieces by one worker"
+        );
     }
-    Ok(())
 }
 
 /// The fault of one piece alone is named, and has left the gate.

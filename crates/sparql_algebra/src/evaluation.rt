@@ -1,5 +1,5 @@
 //! The values of expressions over a row (SPARQL 1.1 Query Language, section 17).
-ghost use Rattle.std.specs.Prelude.{◌≡◌, IfOk, None, Some, map, option_map};
+ghost use Rattle.std.specs.Prelude.{◌≡◌, ℕ, IfOk, IsOk, None, Some, get_or, map, option_map};
 ghost use Rattle.rdf_core.proofs.TermLaws.{term_eq};
 ghost use Rattle.algebra_model.specs.BooleanValue.{logical_and, logical_not, logical_or};
 ghost use Rattle.algebra_model.specs.Call.{call_value};
@@ -31,11 +31,14 @@ pub enum ExprFault {
 /// An unbound variable is an error. `||` and `&&` may have a value although one side is an error.
 ///
 /// # Errors
-/// - `Error`: the expression is an error over this row.
+/// - `Error`: the expression is an error over this row. An unbound variable is answered so whatever
+///   memory there is.
 /// - `Memory`: a growth was refused.
 pub fn value<R: Lookup>(alloc: Global, expr: &Expr, row: &R) -> Result<Term, ExprFault>
     ensures value { IfOk result (λ term. val (expression_of expr.now) (R.solution row.now) ≡ Some term) }
     ensures error { (result ≡ Err ExprFault.Error) → val (expression_of expr.now) (R.solution row.now) ≡ None }
+    ensures unbound { (v : ℕ) → expr.now ≡ Expr.Variable v → get_or (R.solution row.now) v None ≡ None
+        → result ≡ Err ExprFault.Error }
 {
     match evaluate(alloc, expr, row) {
         Ok(Some(value)) => match owned(alloc, value) {
@@ -50,12 +53,14 @@ pub fn value<R: Lookup>(alloc: Global, expr: &Expr, row: &R) -> Result<Term, Exp
 /// Whether a row passes a filter: whether the expression has a value there, and its effective
 /// boolean value is true (SPARQL 1.1 Query Language, section 18.5, Filter).
 ///
-/// It copies no variable's or constant's term, and makes no literal of a truth value.
+/// It copies no variable's or constant's term, and makes no literal of a truth value. BOUND alone takes
+/// no memory.
 ///
 /// # Errors
 /// `AllocError`: a growth was refused.
 pub fn test<R: Lookup>(alloc: Global, expr: &Expr, row: &R) -> Result<bool, AllocError>
     ensures holds { IfOk result (λ passes. passes ≡ holds (expression_of expr.now) (R.solution row.now)) }
+    ensures bound { (v : ℕ) → expr.now ≡ Expr.Bound v → IsOk result }
 {
     match evaluate_truth(alloc, expr, row)? {
         Some(value) => Ok(value),
@@ -78,6 +83,9 @@ fn evaluate<'a, R: Lookup>(
 ) -> Result<Option<Value<'a>>, AllocError>
     ensures value { IfOk result (λ value.
         option_map value_term value ≡ val (expression_of expr.entry.now) (R.solution row.entry.now)) }
+    ensures unbound { (v : ℕ) → expr.entry.now ≡ Expr.Variable v
+        → get_or (R.solution row.entry.now) v None ≡ None → result ≡ Ok None }
+    ensures bound { (v : ℕ) → expr.entry.now ≡ Expr.Bound v → IsOk result }
 {
     match expr {
         Expr::Variable(variable) => Ok(lent(row.get(*variable))),
@@ -154,6 +162,7 @@ fn evaluate_truth<R: Lookup>(
     row: &R,
 ) -> Result<Option<bool>, AllocError>
     ensures truth { IfOk result (λ truth. truth ≡ truth_of (val (expression_of expr.now) (R.solution row.now))) }
+    ensures bound { (v : ℕ) → expr.now ≡ Expr.Bound v → IsOk result }
 {
     match evaluate(alloc, expr, row)? {
         Some(value) => Ok(value.truth()),

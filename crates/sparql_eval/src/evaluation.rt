@@ -3,7 +3,7 @@ ghost use Rattle.std.specs.Prelude.{◌≡◌, None, true, length, IfErr, IfOk};
 ghost use Rattle.algebra_model.specs.Algebra.{is_name_below, is_within};
 ghost use Rattle.algebra_model.specs.Eval.{eval, in_graphs};
 ghost use Rattle.dict_core.specs.NumQuad.{AreBelow, quads_at};
-ghost use Rattle.row_pieces.specs.How.{IsRunnable, IsUncut};
+ghost use Rattle.row_pieces.specs.How.{IsRunnable, HasOneWorker};
 ghost use Rattle.row_pieces.specs.declared.how.EvalFault.TheVariants.{Memory};
 ghost use Rattle.sparql_algebra.specs.AlgebraOf.{algebra_of, graph_name_of};
 ghost use Rattle.sparql_eval.specs.Evaluated.{IsEvaluated};
@@ -32,7 +32,7 @@ use std::thread::Threads;
 /// Each number in the index is below the length of the dictionary, and `how` keeps its limits.
 ///
 /// # Errors
-/// - `WorkerRefused`: the start of a worker was refused. It never comes where `how.rows` is 2^64 - 1.
+/// - `WorkerRefused`: the start of a worker was refused. It never comes of one worker.
 /// - `Memory`: a growth was refused, or the randomness that rows are hashed with.
 ///
 /// A refusal drops the dictionary.
@@ -50,7 +50,7 @@ pub fn evaluate<R: RandomSource + Threads + Wait, G: Gate + Sync>(
     ensures evaluated { IfOk result (λ r. IsEvaluated dict (length plan.now.names.items)
         (eval (length plan.now.names.items) (quads_at dict index.now) None
         (algebra_of plan.now.tree)) r.0 r.1) }
-    ensures uncut { IsUncut how.now → IfErr result (λ fault. fault ≡ Memory) }
+    ensures one_worker { HasOneWorker how.now → IfErr result (λ fault. fault ≡ Memory) }
 {
     let Ok(state) = RandomState::new(rt) else {
         return Err(EvalFault::Memory);
@@ -79,7 +79,7 @@ pub fn evaluate<R: RandomSource + Threads + Wait, G: Gate + Sync>(
 /// tree are below `width`, and `how` keeps its limits.
 ///
 /// # Errors
-/// - `WorkerRefused`: the start of a worker was refused. It never comes where `how.rows` is 2^64 - 1.
+/// - `WorkerRefused`: the start of a worker was refused. It never comes of one worker.
 /// - `Memory`: a growth was refused.
 ///
 /// A refusal drops the dictionary.
@@ -102,7 +102,7 @@ pub fn graph<R: Threads + Wait, G: Gate + Sync>(
     ensures evaluated { IfOk result (λ r. IsEvaluated dict width
         (in_graphs width (quads_at dict index.now) (graph_name_of name.now)
         (λ g. eval width (quads_at dict index.now) g (algebra_of inner.now))) r.0 r.1) }
-    ensures uncut { IsUncut how.now → IfErr result (λ fault. fault ≡ Memory) }
+    ensures one_worker { HasOneWorker how.now → IfErr result (λ fault. fault ≡ Memory) }
 {
     let evaluator = Evaluator {
         rt,

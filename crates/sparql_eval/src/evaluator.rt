@@ -10,7 +10,7 @@ ghost use Rattle.algebra_model.specs.Expression.{holds, val};
 ghost use Rattle.algebra_model.specs.Operators.{extend, join, left_join, minus};
 ghost use Rattle.dict_core.specs.Dict.{term_at};
 ghost use Rattle.dict_core.specs.NumQuad.{AreBelow, quads_at};
-ghost use Rattle.row_pieces.specs.How.{IsRunnable, IsUncut};
+ghost use Rattle.row_pieces.specs.How.{IsRunnable, HasOneWorker};
 ghost use Rattle.row_pieces.specs.declared.how.EvalFault.TheVariants.{Memory};
 ghost use Rattle.sparql_algebra.specs.AlgebraOf.{algebra_of, graph_name_of, triple_pattern_of};
 ghost use Rattle.sparql_algebra.specs.ExpressionOf.{expression_of};
@@ -65,7 +65,7 @@ impl<'a, R: Threads + Wait, G: Gate + Sync> Evaluator<'a, R, G> {
         requires within { is_within self.now.width (algebra_of tree.now) ≡ true }
         ensures evaluated { IfOk result (λ r. IsEvaluated dict self.now.width
             (tree_solutions dict self.now.index.now self.now.width active tree.now) r.0 r.1) }
-        ensures uncut { IsUncut self.now.how.now → IfErr result (λ fault. fault ≡ Memory) }
+        ensures one_worker { HasOneWorker self.now.how.now → IfErr result (λ fault. fault ≡ Memory) }
     {
         match tree {
             Operator::Pattern { labels, triples } => {
@@ -137,7 +137,7 @@ impl<'a, R: Threads + Wait, G: Gate + Sync> Evaluator<'a, R, G> {
         ensures evaluated { IfOk result (λ r. IsEvaluated dict self.now.width
             (graph_solutions dict self.now.index.now self.now.width (graph_name_of name.now)
             inner.now) r.0 r.1) }
-        ensures uncut { IsUncut self.now.how.now → IfErr result (λ fault. fault ≡ Memory) }
+        ensures one_worker { HasOneWorker self.now.how.now → IfErr result (λ fault. fault ≡ Memory) }
     {
         match name {
             GraphName::Variable(variable) => self.solve_each(dict, *variable, inner),
@@ -163,7 +163,7 @@ impl<'a, R: Threads + Wait, G: Gate + Sync> Evaluator<'a, R, G> {
         ensures evaluated { IfOk result (λ r. IsEvaluated dict self.now.width
             (graph_solutions dict self.now.index.now self.now.width (each_graph variable)
             inner.now) r.0 r.1) }
-        ensures uncut { IsUncut self.now.how.now → IfErr result (λ fault. fault ≡ Memory) }
+        ensures one_worker { HasOneWorker self.now.how.now → IfErr result (λ fault. fault ≡ Memory) }
     {
         let _distinct = dict.len();
         let mut dict = dict;
@@ -194,7 +194,7 @@ impl<'a, R: Threads + Wait, G: Gate + Sync> Evaluator<'a, R, G> {
             (bgp term_eq self.now.width labels (map triple_pattern_of triples.now)
             (graph (quads_at dict self.now.index.now) (option_map (term_at dict) active)))
             r.0 r.1) }
-        ensures uncut { IsUncut self.now.how.now → IfErr result (λ fault. fault ≡ Memory) }
+        ensures one_worker { HasOneWorker self.now.how.now → IfErr result (λ fault. fault ≡ Memory) }
     {
         pattern(
             self.rt, self.alloc, dict, self.index, active, self.width, labels, triples, self.how,
@@ -208,7 +208,7 @@ impl<'a, R: Threads + Wait, G: Gate + Sync> Evaluator<'a, R, G> {
         requires known_right { AreKnown dict right }
         ensures evaluated { IfOk result (λ r. IsEvaluated dict left.width
             (join term_eq (solutions_of dict left) (solutions_of dict right)) r.0 r.1) }
-        ensures uncut { IsUncut self.now.how.now → IfErr result (λ fault. fault ≡ Memory) }
+        ensures one_worker { HasOneWorker self.now.how.now → IfErr result (λ fault. fault ≡ Memory) }
     {
         join_of(
             self.rt, self.alloc, self.state, dict, left, right, self.how, self.gate,
@@ -228,7 +228,7 @@ impl<'a, R: Threads + Wait, G: Gate + Sync> Evaluator<'a, R, G> {
         ensures evaluated { IfOk result (λ r. IsEvaluated dict left.now.width
             (left_join term_eq (holds (expression_of condition.now))
             (solutions_of dict left.now) (solutions_of dict right.now)) r.0 r.1) }
-        ensures uncut { IsUncut self.now.how.now → IfErr result (λ fault. fault ≡ Memory) }
+        ensures one_worker { HasOneWorker self.now.how.now → IfErr result (λ fault. fault ≡ Memory) }
     {
         left_join(
             self.rt, self.alloc, self.state, dict, left, right, condition, self.how, self.gate,
@@ -241,7 +241,7 @@ impl<'a, R: Threads + Wait, G: Gate + Sync> Evaluator<'a, R, G> {
         requires known_right { AreKnown dict right.now }
         ensures evaluated { IfOk result (λ r. IsEvaluated dict left.now.width
             (minus term_eq (solutions_of dict left.now) (solutions_of dict right.now)) r.0 r.1) }
-        ensures uncut { IsUncut self.now.how.now → IfErr result (λ fault. fault ≡ Memory) }
+        ensures one_worker { HasOneWorker self.now.how.now → IfErr result (λ fault. fault ≡ Memory) }
     {
         minus(
             self.rt, self.alloc, self.state, dict, left, right, self.how, self.gate,
@@ -252,7 +252,7 @@ impl<'a, R: Threads + Wait, G: Gate + Sync> Evaluator<'a, R, G> {
         requires known { AreKnown dict rows.now }
         ensures evaluated { IfOk result (λ r. IsEvaluated dict rows.now.width
             (filter (holds (expression_of condition.now)) (solutions_of dict rows.now)) r.0 r.1) }
-        ensures uncut { IsUncut self.now.how.now → IfErr result (λ fault. fault ≡ Memory) }
+        ensures one_worker { HasOneWorker self.now.how.now → IfErr result (λ fault. fault ≡ Memory) }
     {
         filter(
             self.rt, self.alloc, dict, rows, condition, self.how, self.gate,
@@ -271,7 +271,7 @@ impl<'a, R: Threads + Wait, G: Gate + Sync> Evaluator<'a, R, G> {
         ensures evaluated { IfOk result (λ r. IsEvaluated dict rows.now.width
             (extend variable (val (expression_of expression.now)) (solutions_of dict rows.now))
             r.0 r.1) }
-        ensures uncut { IsUncut self.now.how.now → IfErr result (λ fault. fault ≡ Memory) }
+        ensures one_worker { HasOneWorker self.now.how.now → IfErr result (λ fault. fault ≡ Memory) }
     {
         extend(
             self.rt, self.alloc, self.state, dict, rows, variable, expression, self.how, self.gate,

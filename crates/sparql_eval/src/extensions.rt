@@ -2,7 +2,7 @@
 ghost use Rattle.std.specs.Prelude.{◌≡◌, ◌<◌, length, get_or, is_some, not, None, IfErr, IfOk, OnOk};
 ghost use Rattle.algebra_model.specs.Expression.{val};
 ghost use Rattle.algebra_model.specs.Operators.{bind, extend};
-ghost use Rattle.row_pieces.specs.How.{IsRunnable, IsUncut};
+ghost use Rattle.row_pieces.specs.How.{IsRunnable, HasOneWorker};
 ghost use Rattle.row_pieces.specs.declared.how.EvalFault.TheVariants.{Memory};
 ghost use Rattle.sparql_algebra.specs.ExpressionOf.{expression_of};
 ghost use Rattle.sparql_eval.specs.Evaluated.{AreKnown, IsEvaluated, solutions_of};
@@ -33,7 +33,7 @@ use std::thread::Threads;
 /// rows, and `how` keeps its limits.
 ///
 /// # Errors
-/// - `WorkerRefused`: the start of a worker was refused. It never comes where `how.rows` is 2^64 - 1.
+/// - `WorkerRefused`: the start of a worker was refused. It never comes of one worker.
 /// - `Memory`: a growth was refused.
 ///
 /// A refusal drops the dictionary.
@@ -53,7 +53,7 @@ pub fn extend<R: Threads + Wait, G: Gate + Sync>(
     requires how { IsRunnable how.now }
     ensures evaluated { IfOk result (λ r. IsEvaluated dict rows.now.width
         (extend variable (val (expression_of expression.now)) (solutions_of dict rows.now)) r.0 r.1) }
-    ensures uncut { IsUncut how.now → IfErr result (λ fault. fault ≡ Memory) }
+    ensures one_worker { HasOneWorker how.now → IfErr result (λ fault. fault ≡ Memory) }
 {
     let pieces = values_of(rt, alloc, state, &dict, rows, expression, how, gate)?;
     let mut dict = dict;

@@ -1,7 +1,7 @@
 //! Filter (SPARQL 1.1 Query Language, section 18.5).
 ghost use Rattle.std.specs.Prelude.{◌≡◌, filter, IfErr, IfOk};
 ghost use Rattle.algebra_model.specs.Expression.{holds};
-ghost use Rattle.row_pieces.specs.How.{IsRunnable, IsUncut};
+ghost use Rattle.row_pieces.specs.How.{IsRunnable, HasOneWorker};
 ghost use Rattle.row_pieces.specs.declared.how.EvalFault.TheVariants.{Memory};
 ghost use Rattle.sparql_algebra.specs.ExpressionOf.{expression_of};
 ghost use Rattle.sparql_eval.specs.Evaluated.{AreKnown, IsEvaluated, solutions_of};
@@ -24,7 +24,7 @@ use std::thread::Threads;
 /// Each number in the rows is below the length of the dictionary, and `how` keeps its limits.
 ///
 /// # Errors
-/// - `WorkerRefused`: the start of a worker was refused. It never comes where `how.rows` is 2^64 - 1.
+/// - `WorkerRefused`: the start of a worker was refused. It never comes of one worker.
 /// - `Memory`: a growth was refused.
 ///
 /// A refusal drops the dictionary.
@@ -41,7 +41,7 @@ pub fn filter<R: Threads + Wait, G: Gate + Sync>(
     requires how { IsRunnable how.now }
     ensures evaluated { IfOk result (λ r. IsEvaluated dict rows.now.width
         (filter (holds (expression_of condition.now)) (solutions_of dict rows.now)) r.0 r.1) }
-    ensures uncut { IsUncut how.now → IfErr result (λ fault. fault ≡ Memory) }
+    ensures one_worker { HasOneWorker how.now → IfErr result (λ fault. fault ≡ Memory) }
 {
     let made = {
         let work = FilterWork {

@@ -5,7 +5,7 @@ ghost use Rattle.std.specs.Prelude.{◌≡◌, ◌∷◌, [], is_some, not, repl
 ghost use Rattle.rdf_core.proofs.TermLaws.{term_eq};
 ghost use Rattle.algebra_model.specs.Expression.{holds};
 ghost use Rattle.algebra_model.specs.Operators.{join, left_join, minus};
-ghost use Rattle.row_pieces.specs.How.{IsRunnable, IsUncut};
+ghost use Rattle.row_pieces.specs.How.{IsRunnable, HasOneWorker};
 ghost use Rattle.row_pieces.specs.declared.how.EvalFault.TheVariants.{Memory};
 ghost use Rattle.sparql_algebra.specs.ExpressionOf.{expression_of};
 ghost use Rattle.sparql_eval.specs.Evaluated.{AreKnown, IsEvaluated, solutions_of};
@@ -30,7 +30,7 @@ use std::thread::Threads;
 /// keeps its limits.
 ///
 /// # Errors
-/// - `WorkerRefused`: the start of a worker was refused. It never comes where `how.rows` is 2^64 - 1.
+/// - `WorkerRefused`: the start of a worker was refused. It never comes of one worker.
 /// - `Memory`: a growth was refused.
 ///
 /// A refusal drops the dictionary.
@@ -50,7 +50,7 @@ pub fn join<R: Threads + Wait, G: Gate + Sync>(
     requires how { IsRunnable how.now }
     ensures evaluated { IfOk result (λ r. IsEvaluated dict left.now.width
         (join term_eq (solutions_of dict left.now) (solutions_of dict right.now)) r.0 r.1) }
-    ensures uncut { IsUncut how.now → IfErr result (λ fault. fault ≡ Memory) }
+    ensures one_worker { HasOneWorker how.now → IfErr result (λ fault. fault ≡ Memory) }
 {
     let _distinct = dict.len();
     let made = row_join::join(rt, alloc, state, left, right, how, gate)?;
@@ -75,7 +75,7 @@ pub(crate) fn join_of<R: Threads + Wait, G: Gate + Sync>(
     requires how { IsRunnable how.now }
     ensures evaluated { IfOk result (λ r. IsEvaluated dict left.width
         (join term_eq (solutions_of dict left) (solutions_of dict right)) r.0 r.1) }
-    ensures uncut { IsUncut how.now → IfErr result (λ fault. fault ≡ Memory) }
+    ensures one_worker { HasOneWorker how.now → IfErr result (λ fault. fault ≡ Memory) }
 {
     if binds_nothing(&left, right.width()) {
         return Ok((right, dict));
@@ -106,7 +106,7 @@ fn all_open(row: &[Option<u64>]) -> bool
 /// keeps its limits.
 ///
 /// # Errors
-/// - `WorkerRefused`: the start of a worker was refused. It never comes where `how.rows` is 2^64 - 1.
+/// - `WorkerRefused`: the start of a worker was refused. It never comes of one worker.
 /// - `Memory`: a growth was refused.
 ///
 /// A refusal drops the dictionary.
@@ -128,7 +128,7 @@ pub fn left_join<R: Threads + Wait, G: Gate + Sync>(
     ensures evaluated { IfOk result (λ r. IsEvaluated dict left.now.width
         (left_join term_eq (holds (expression_of condition.now))
         (solutions_of dict left.now) (solutions_of dict right.now)) r.0 r.1) }
-    ensures uncut { IsUncut how.now → IfErr result (λ fault. fault ≡ Memory) }
+    ensures one_worker { HasOneWorker how.now → IfErr result (λ fault. fault ≡ Memory) }
 {
     let _distinct = dict.len();
     let made = {
@@ -148,7 +148,7 @@ pub fn left_join<R: Threads + Wait, G: Gate + Sync>(
 /// keeps its limits.
 ///
 /// # Errors
-/// - `WorkerRefused`: the start of a worker was refused. It never comes where `how.rows` is 2^64 - 1.
+/// - `WorkerRefused`: the start of a worker was refused. It never comes of one worker.
 /// - `Memory`: a growth was refused.
 ///
 /// A refusal drops the dictionary.
@@ -168,7 +168,7 @@ pub fn minus<R: Threads + Wait, G: Gate + Sync>(
     requires how { IsRunnable how.now }
     ensures evaluated { IfOk result (λ r. IsEvaluated dict left.now.width
         (minus term_eq (solutions_of dict left.now) (solutions_of dict right.now)) r.0 r.1) }
-    ensures uncut { IsUncut how.now → IfErr result (λ fault. fault ≡ Memory) }
+    ensures one_worker { HasOneWorker how.now → IfErr result (λ fault. fault ≡ Memory) }
 {
     let _distinct = dict.len();
     let made = row_join::minus(rt, alloc, state, left, right, how, gate)?;

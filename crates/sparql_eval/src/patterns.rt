@@ -9,7 +9,7 @@ ghost use Rattle.algebra_model.specs.Dataset.{graph};
 ghost use Rattle.dict_core.specs.Dict.{term_at};
 ghost use Rattle.dict_core.specs.NumQuad.{AreBelow, quads_at};
 ghost use Rattle.row_pattern.specs.Numbered.{pattern_of, pattern_term_of as number_term_of};
-ghost use Rattle.row_pieces.specs.How.{IsRunnable, IsUncut};
+ghost use Rattle.row_pieces.specs.How.{IsRunnable, HasOneWorker};
 ghost use Rattle.row_pieces.specs.declared.how.EvalFault.TheVariants.{Memory};
 ghost use Rattle.sparql_algebra.specs.AlgebraOf.{pattern_term_of, triple_pattern_of};
 ghost use Rattle.sparql_eval.specs.Constants.{ArePatternsOf, IsPatternOf, IsPatternTermOf, LacksSome, LacksTerm, LacksTriple};
@@ -34,7 +34,7 @@ use std::thread::Threads;
 /// of the triples are below `width`, their blank labels below `labels`; and `how` keeps its limits.
 ///
 /// # Errors
-/// - `WorkerRefused`: the start of a worker was refused. It never comes where `how.rows` is 2^64 - 1.
+/// - `WorkerRefused`: the start of a worker was refused. It never comes of one worker.
 /// - `Memory`: a growth was refused.
 ///
 /// A refusal drops the dictionary.
@@ -57,7 +57,7 @@ pub fn pattern<R: Threads + Wait, G: Gate + Sync>(
     ensures evaluated { IfOk result (λ r. IsEvaluated dict width
         (bgp term_eq width labels (map triple_pattern_of triples.now)
         (graph (quads_at dict index.now) (option_map (term_at dict) active))) r.0 r.1) }
-    ensures uncut { IsUncut how.now → IfErr result (λ fault. fault ≡ Memory) }
+    ensures one_worker { HasOneWorker how.now → IfErr result (λ fault. fault ≡ Memory) }
 {
     let _distinct = dict.len();
     let _once = index.quads();

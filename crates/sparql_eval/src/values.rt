@@ -3,7 +3,7 @@ ghost use Rattle.std.specs.Prelude.{◌≡◌, ◌≤◌, ◌-◌, Some, length,
 ghost use Rattle.algebra_model.specs.Expression.{val};
 ghost use Rattle.algebra_model.specs.Reading.{read_row};
 ghost use Rattle.dict_core.specs.Dict.{IsGrown, term_at};
-ghost use Rattle.row_pieces.specs.How.{IsRunnable, IsUncut};
+ghost use Rattle.row_pieces.specs.How.{IsRunnable, HasOneWorker};
 ghost use Rattle.row_pieces.specs.declared.how.EvalFault.TheVariants.{Memory};
 ghost use Rattle.sparql_algebra.specs.ExpressionOf.{expression_of};
 ghost use Rattle.sparql_eval.specs.Evaluated.{AreKnown};
@@ -14,10 +14,10 @@ use crate::numbering::number_new;
 use crate::piece_values::{PieceValue, PieceValues};
 use crate::reading::ReadRow;
 use dict_core::Dict;
-use piece_pool::{Gate, Job, JobFault, Outcome};
+use piece_pool::{Gate, Job, JobFault, Outcome, run_all};
 use rdf_core::Term;
 use row_core::Rows;
-use row_pieces::{EvalFault, How, piece_size, run_all};
+use row_pieces::{EvalFault, How, piece_size};
 use sparql_algebra::{Expr, ExprFault, value};
 use std::alloc::{AllocError, Global};
 use std::hash::RandomState;
@@ -39,7 +39,7 @@ pub(crate) fn values_of<R: Threads + Wait, G: Gate + Sync>(
     requires how { IsRunnable how.now }
     ensures values { IfOk result (λ pieces. AreAllValues dict.now
         (expression_of expression.now) rows.now.rows pieces.items) }
-    ensures uncut { IsUncut how.now → IfErr result (λ fault. fault ≡ Memory) }
+    ensures one_worker { HasOneWorker how.now → IfErr result (λ fault. fault ≡ Memory) }
 {
     let count = rows.len();
     let size = piece_size(count, how.rows);

@@ -24,6 +24,13 @@ IsFaultOfReading text (BadLine n) = ⊥
 IsFaultOfReading text WorkerRefused = ⊥
 IsFaultOfReading text Memory = ⊤
 
+-- any fault but a refused worker
+abbrev pub IsNoRefusedWorker : Fault → Type 0
+IsNoRefusedWorker (Query f) = ⊤
+IsNoRefusedWorker (BadLine n) = ⊤
+IsNoRefusedWorker WorkerRefused = ⊥
+IsNoRefusedWorker Memory = ⊤
+
 -- what loading and evaluation refuse is refused under the same name
 abbrev pub fault_of_loading : LoadFault → Fault
 fault_of_loading (load.BadLine n) = BadLine n

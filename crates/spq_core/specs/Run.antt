@@ -1,5 +1,5 @@
 -- What a run did, and what is left where it was refused.
-use Rattle.std.specs.Prelude.{◌⊎◌, ℕ, List, ⊤, Option, Result, Ok, Err}
+use Rattle.std.specs.Prelude.{◌≡◌, ◌⊎◌, ℕ, List, ⊤, Option, Result, Ok, Err}
 use Rattle.std.specs.Str.{chars}
 use Rattle.std.specs.Io.KnownBytes.{Appends, Consumes, IsAtEnd}
 use Rattle.nquads_core.specs.Device.{Rises}
@@ -8,6 +8,8 @@ use Rattle.nquads_core.specs.declared.device.DeviceFailed.{DeviceFailed}
 use Rattle.nquads_core.specs.Lines.{lines}
 use Rattle.dataset_load.specs.Store.{StoreView}
 use Rattle.dataset_load.specs.Loaded.{IsLoaded}
+use Rattle.spq_command.specs.declared.command.Command.{Command}
+use Rattle.spq_command.specs.declared.command.Command.TheVariants.{Select, Check, Terms}
 use Rattle.spq_core.specs.Outcome.{bad_line, IsBadLine}
 use Rattle.spq_core.specs.Output.{Request, select, check, terms, IsOutput}
 use Rattle.spq_core.specs.declared.fault.Fault.{Fault}
@@ -22,6 +24,12 @@ run_fault_of (fault.Query f) = Query f
 run_fault_of (fault.BadLine n) = BadLine n
 run_fault_of fault.WorkerRefused = WorkerRefused
 run_fault_of fault.Memory = Memory
+
+-- The command is done by one worker, which is the caller itself.
+abbrev pub IsByOneWorker : Command → Type 0
+IsByOneWorker (Select text reading rows) = reading.workers ≡ 1
+IsByOneWorker (Check reading) = reading.workers ≡ 1
+IsByOneWorker (Terms reading) = reading.workers ≡ 1
 
 -- The reader was read to its end, and this is the output for what was read.
 pub record IsComposed (request : Request) (left left' : Option (List ℕ)) (text : List ℕ) : Type 0 where
@@ -118,6 +126,15 @@ UnlessRead P Memory = P
 UnlessRead P Read = ⊤
 UnlessRead P Write = P
 UnlessRead P Line = P
+
+abbrev pub IsNoRefusedWorker : RunFault → Type 0
+IsNoRefusedWorker (Query f) = ⊤
+IsNoRefusedWorker (BadLine n) = ⊤
+IsNoRefusedWorker WorkerRefused = ⊥
+IsNoRefusedWorker Memory = ⊤
+IsNoRefusedWorker Read = ⊤
+IsNoRefusedWorker Write = ⊤
+IsNoRefusedWorker Line = ⊤
 
 abbrev pub IsNotLine : RunFault → Type 0
 IsNotLine (Query f) = ⊤

@@ -3,12 +3,12 @@ ghost use Rattle.std.specs.Prelude.{◌≡◌, IfOk, IfErr, Ok};
 ghost use Rattle.std.specs.Str.{chars};
 ghost use Rattle.piece_cuts.specs.Cuts.{AreCuts};
 ghost use Rattle.dict_core.specs.NumQuad.{quads_at};
-ghost use Rattle.row_pieces.specs.How.{IsRunnable, IsUncut};
+ghost use Rattle.row_pieces.specs.How.{IsRunnable, HasOneWorker};
 ghost use Rattle.row_pieces.specs.declared.how.EvalFault.TheVariants.{Memory};
 ghost use Rattle.sparql_tree.specs.QueryTree.{query_of};
 ghost use Rattle.sparql_read.specs.Refusal.{IsRead};
 ghost use Rattle.sparql_algebra.specs.Names.{selected_names};
-ghost use Rattle.spq_core.specs.Faults.{IsFaultOf, IsFaultOfReading};
+ghost use Rattle.spq_core.specs.Faults.{IsFaultOf, IsFaultOfReading, IsNoRefusedWorker};
 ghost use Rattle.spq_core.specs.Outcome.{IsOutcome, rows};
 ghost use Rattle.result_json.specs.Results.{json};
 
@@ -56,7 +56,7 @@ pub fn answer_query<R: Threads + Wait + RandomSource, G: Gate + Sync>(
     requires how { IsRunnable how.now }
     ensures answer { IfOk result (λ bytes. bytes.items ≡ json (selected_names (query_of query.now))
         (rows (query_of query.now) (quads_at store.dict store.index))) }
-    ensures uncut { IsUncut how.now → IfErr result (λ fault. fault ≡ Memory) }
+    ensures one_worker { HasOneWorker how.now → IfErr result (λ fault. fault ≡ Memory) }
 {
     a_bag_has_one_sorted_list();
     let plan = translate(alloc, query)?;
@@ -87,7 +87,8 @@ pub fn answer_query<R: Threads + Wait + RandomSource, G: Gate + Sync>(
 /// - `Query(fault)`: this is the first rule that refuses the text; never `QueryFault::Memory`.
 /// - `BadLine(n)`: the text is a query, and line n of the document, counted from 1, is the first
 ///   that spells nothing.
-/// - `WorkerRefused`: the start of a worker was refused. Those that were started have been joined.
+/// - `WorkerRefused`: the start of a worker was refused. Those that were started have been joined. It never
+///   comes of one worker, which is the caller itself.
 /// - `Memory`: a growth was refused.
 ///
 /// The last two say nothing of query and document.
@@ -104,6 +105,7 @@ pub fn answer<R: Threads + Wait + RandomSource, G: Gate + Sync>(
     requires how { IsRunnable how.now }
     ensures answer { IfOk result (λ bytes. IsOutcome doc.now query.now (Ok bytes.items)) }
     ensures refused { IfErr result (IsFaultOf doc.now query.now) }
+    ensures one_worker { HasOneWorker how.now → IfErr result IsNoRefusedWorker }
 {
     a_dataset_is_a_set();
     a_bag_has_one_sorted_list();

@@ -3,7 +3,7 @@ ghost use Rattle.std.specs.Prelude.{◌≡◌, IfErr, IfOk, OnErr, OnOk};
 ghost use Rattle.nquads_core.specs.Device.{Rises, Stays};
 ghost use Rattle.nquads_core.specs.Transfer.{IsReadInPart};
 ghost use Rattle.spq_core.specs.Output.{check, request_of, select, terms};
-ghost use Rattle.spq_core.specs.Run.{IfBadLine, IfQuery, IfRead, IfWrite, IsBadLineFrom, IsBadLineOf, IsComposed, IsDone, IsLoadedFrom, IsNotLine, IsOfComposing, IsOfDocument, IsQueryOf, IsWrittenInPart, UnlessRead, UnlessWrite, WriterFailed};
+ghost use Rattle.spq_core.specs.Run.{IfBadLine, IfQuery, IfRead, IfWrite, IsBadLineFrom, IsBadLineOf, IsByOneWorker, IsComposed, IsDone, IsLoadedFrom, IsNoRefusedWorker, IsNotLine, IsOfComposing, IsOfDocument, IsQueryOf, IsWrittenInPart, UnlessRead, UnlessWrite, WriterFailed};
 
 use crate::answering::{answer_query, judged};
 use crate::fault::Fault;
@@ -79,6 +79,7 @@ fn load_document<R: Threads + Wait + RandomSource, S: Source>(
     ensures unfailed { IfErr result
         (UnlessRead (Stays (S.failures reader.old) (S.failures reader.new))) }
     ensures kind { IfErr result IsOfDocument }
+    ensures one_worker { reading.workers ≡ 1 → IfErr result IsNoRefusedWorker }
 {
     let blocks = match read_blocks(alloc, reading.piece, reader) {
         Ok(blocks) => blocks,
@@ -115,6 +116,7 @@ fn selected<R: Threads + Wait + RandomSource, S: Source>(
     ensures unfailed { IfErr result
         (UnlessRead (Stays (S.failures reader.old) (S.failures reader.new))) }
     ensures kind { IfErr result IsOfComposing }
+    ensures one_worker { reading.workers ≡ 1 → IfErr result IsNoRefusedWorker }
 {
     a_dataset_is_a_set();
     a_bag_has_one_sorted_list();
@@ -151,6 +153,7 @@ fn checked<R: Threads + Wait + RandomSource, S: Source>(
     ensures unfailed { IfErr result
         (UnlessRead (Stays (S.failures reader.old) (S.failures reader.new))) }
     ensures kind { IfErr result IsOfDocument }
+    ensures one_worker { reading.workers ≡ 1 → IfErr result IsNoRefusedWorker }
 {
     let store = load_document(rt, alloc, reading, reader)?;
     match counts_text(alloc, &store) {
@@ -176,6 +179,7 @@ fn listed<R: Threads + Wait + RandomSource, S: Source>(
     ensures unfailed { IfErr result
         (UnlessRead (Stays (S.failures reader.old) (S.failures reader.new))) }
     ensures kind { IfErr result IsOfDocument }
+    ensures one_worker { reading.workers ≡ 1 → IfErr result IsNoRefusedWorker }
 {
     let store = load_document(rt, alloc, reading, reader)?;
     match terms_text(alloc, store.dict()) {
@@ -203,6 +207,7 @@ fn composed<R: Threads + Wait + RandomSource, S: Source>(
     ensures unfailed { IfErr result
         (UnlessRead (Stays (S.failures reader.old) (S.failures reader.new))) }
     ensures kind { IfErr result IsOfComposing }
+    ensures one_worker { IsByOneWorker command.now → IfErr result IsNoRefusedWorker }
 {
     match command {
         Command::Select {
@@ -222,7 +227,8 @@ fn composed<R: Threads + Wait + RandomSource, S: Source>(
 /// - `Query`: the query of a `select` is refused. Nothing was read.
 /// - `BadLine(n)`: line n of the document, counted from 1, is the first that spells nothing. The
 ///   reader was read to its end.
-/// - `WorkerRefused`: the start of a worker was refused.
+/// - `WorkerRefused`: the start of a worker was refused. It never comes of one worker, which is the caller
+///   itself.
 /// - `Memory`: a growth was refused.
 /// - `Read`: the reader failed in this call.
 /// - `Write`: the writer failed in this call, or took no byte of a text that was not empty. A
@@ -258,6 +264,7 @@ pub fn run<R: Threads + Wait + RandomSource, S: Source, K: Sink>(
         (IfWrite (WriterFailed K.write_gives (K.failures writer.old) (K.failures writer.new))) }
     ensures unwritten { IfErr result (UnlessWrite (writer.new ≡ writer.old)) }
     ensures line { IfErr result IsNotLine }
+    ensures one_worker { IsByOneWorker command.now → IfErr result IsNoRefusedWorker }
 {
     let text = composed(rt, alloc, command, reader)?;
     match write_all(writer, &text) {

@@ -11,18 +11,16 @@ use Rattle.sparql_algebra.proofs.LogicSteps.{member_step, member_value}
 use Rattle.sparql_algebra.proofs.OperandSteps.{and_moves, or_moves, truth}
 use Rattle.sparql_algebra.proofs.evaluation.+evaluate.Goals as goal
 
-pub evaluate-returns-in_ok-evaluate_member-in-In : goal.evaluate-returns-in_ok-evaluate_member-in-In
-evaluate-returns-in_ok-evaluate_member-in-In g t c =
+pub evaluate-returns-in_ok-evaluate_member-in-In-clause-value : goal.evaluate-returns-in_ok-evaluate_member-in-In-clause-value
+evaluate-returns-in_ok-evaluate_member-in-In-clause-value g t c =
     let sol = g.R.Lookup.solution c.args.row.now in
     let item = c.in_ok-item-in-In.ensures.value ∙ ap (λ e. val (expression_of e) sol) c.deref-in-In.ensures in
     let list = c.deref-in-In-2.ensures.value in
     let truth = c.in_ok-evaluate_member-in-In.ensures.truth
     ∙ (λ i. member_truth (item i) (map expression_of (list i)) sol) in
     let among = member_value (expression_of c.in-In.item.value) (map expression_of c.in-In.list.items) sol in
-    record {
-      value = c.boolean_value-in-In.ensures.value ∙ ap boolean_result truth ∙ among
-          ∙ sym (ap (λ e. val e sol) (ap expression_of c.in-In.is ∙ in_stands_for c.in-In.item c.in-In.list));
-    }
+    c.boolean_value-in-In.ensures.value ∙ ap boolean_result truth ∙ among
+    ∙ sym (ap (λ e. val e sol) (ap expression_of c.in-In.is ∙ in_stands_for c.in-In.item c.in-In.list))
 
 pub evaluate_member-loop-member-preserved : goal.evaluate_member-loop-member-preserved
 evaluate_member-loop-member-preserved g t c =

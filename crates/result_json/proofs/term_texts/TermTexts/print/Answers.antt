@@ -1,4 +1,4 @@
-use Rattle.std.proofs.Common.{◌≡◌, ◌<◌, ◌∙◌, List, ℕ, [], ◌++◌, length, set, ap, sym, subst, arith}
+use Rattle.std.proofs.Common.{◌≡◌, ◌<◌, ◌∙◌, List, ℕ, [], ◌++◌, length, get_or, set, ap, sym, subst, arith}
 use Rattle.std.proofs.lemmas.List.{get_or-map, length-map}
 use Rattle.rdf_core.specs.declared.term.Term.TheVariants.{Blank}
 use Rattle.dict_core.specs.Dict.{term_at}
@@ -8,8 +8,8 @@ use Rattle.result_json.specs.Texts.{ArePrinted}
 use Rattle.result_json.proofs.TextSteps.{printed_more}
 use Rattle.result_json.proofs.term_texts.TermTexts.print.Goals as goal
 
-pub invariant_of-self : goal.invariant_of-self
-invariant_of-self c =
+pub invariant_of-self-in_err-extend_from_slice : goal.invariant_of-self-in_err-extend_from_slice
+invariant_of-self-in_err-extend_from_slice c =
     subst (λ (items : List ℕ). ArePrinted (terms_of c.self.inside.terms.now) items c.self.inside.spans.items) (sym c.in_err-extend_from_slice.ensures.items) c.self.invariant
 
 pub invariant_of-self-2 : goal.invariant_of-self-2
@@ -19,10 +19,12 @@ invariant_of-self-2 c =
     let old = c.self.inside.printed.items in
     let new = c.extend_from_slice.new.self.items in
     let spans = c.self.inside.spans.items in
-    let text = c.in_ok-text.text.items in
+    let text = c.put_term.new.out.items in
     let count : length terms ≡ length entries = length-map entries (λ (e : Entry). e.0.now) in
     let inside : c.args.place < length terms = omega (arith, c.requires.inside, ap length c.self.view_is) in
-    let printed : text ≡ term_text (term_at terms c.args.place) = c.in_ok-text.ensures ∙ ap term_text (sym (get_or-map (λ (e : Entry). e.0.now) entries c.args.place c.index-self-place.result (Blank []) (omega arith))) in
+    let printed : text ≡ term_text (term_at terms c.args.place) =
+    c.in_ok-put_term.ensures.text ∙ ap (λ (xs : List ℕ). xs ++ term_text (get_or entries c.args.place c.index-self-place.result).0.now) c.clear.ensures.items
+    ∙ ap term_text (sym (get_or-map (λ (e : Entry). e.0.now) entries c.args.place c.index-self-place.result (Blank []) (omega arith))) in
     let grown : new ≡ old ++ text = c.in_ok-extend_from_slice.ensures.items ∙ ap (λ ys. old ++ ys) c.deref.ensures.value in
     let start : c.len-start.result ≡ length old = c.len-start.ensures ∙ c.self.inside.printed.ok.0 in
     let end : c.len.result ≡ length (old ++ text) = c.len.ensures ∙ c.extend_from_slice.new.self.ok.0 ∙ ap length grown in

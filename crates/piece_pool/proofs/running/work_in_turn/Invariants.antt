@@ -2,7 +2,7 @@ use Rattle.std.proofs.Common.{◌≡◌, ◌+◌, ◌≤◌, All, vec_len, vec_c
 use Rattle.std.specs.Vec.Iter.{into_iter_items, into_iter_len}
 use Rattle.piece_board.specs.Pass.{unused}
 use Rattle.piece_pool.specs.Worked.{IsWorked}
-use Rattle.piece_pool.proofs.pool.work_in_turn.Given as goal
+use Rattle.piece_pool.proofs.running.work_in_turn.Given as goal
 
 abbrev pub invariant-loop-pass : goal.invariant-loop-pass
 invariant-loop-pass g l = record {

@@ -1,7 +1,7 @@
 use Rattle.std.proofs.Common.{rules, arith, suc}
 use Rattle.std.proofs.lemmas.List.Elements.{All-push}
 use Rattle.piece_pool.specs.Worked.{IsWorked}
-use Rattle.piece_pool.proofs.pool.work_in_turn.Goals as goal
+use Rattle.piece_pool.proofs.running.work_in_turn.Goals as goal
 
 pub loop-pass-preserved : goal.loop-pass-preserved
 loop-pass-preserved g c =

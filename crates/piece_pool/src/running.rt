@@ -1,0 +1,99 @@
+//! The pieces of a job by workers, or by the caller where there is nothing to share.
+ghost use Rattle.std.specs.Prelude.{◌≡◌, ◌≤◌, ◌^◌, All, IfErr, IfOk, vec_len};
+ghost use Rattle.piece_board.specs.Pass.{unused};
+ghost use Rattle.piece_pool.specs.Outcome.{IsOutcome};
+ghost use Rattle.piece_pool.specs.Worked.{IsWorked};
+ghost use Rattle.piece_pool.specs.declared.pool.PoolFault.TheVariants.{Memory};
+
+use crate::collector::{Outcome, gather};
+use crate::gate::Gate;
+use crate::job::Job;
+use crate::pool::{PoolFault, run_pieces};
+use crate::worker::{Worked, work};
+use piece_board::{Board, Pass};
+use std::alloc::{AllocError, Global};
+use std::sync::Wait;
+use std::thread::Threads;
+
+/// What the pieces 0 to `n - 1` of a job come to, as [`run_pieces`] answers it; but where there is one
+/// worker, or one piece at the most, the caller's own thread runs them and none is started.
+///
+/// # Requires
+/// `workers` is 1 to 64, and `n` is at most 2^62.
+///
+/// # Errors
+/// - `WorkerRefused`: the start of a worker was refused. It stands before `Memory`, and never comes of
+///   one worker, nor of one piece at the most.
+/// - `Memory`: a growth was refused.
+pub fn run_all<R: Threads + Wait, J: Job + Sync, G: Gate + Sync>(
+    rt: &R,
+    alloc: Global,
+    workers: usize,
+    n: u64,
+    job: &J,
+    gate: &G,
+) -> Result<Outcome<J::Out, J::Fault>, PoolFault>
+where
+    J::Out: Send + Drop,
+    J::Fault: Send + Drop,
+    requires workers { (1 ≤ workers) × (workers ≤ 64) }
+    requires pieces { n ≤ 2 ^ 62 }
+    ensures outcome { IfOk result (IsOutcome (J.answers job.now) (J.faults job.now) n) }
+    ensures alone { n ≤ 1 → IfErr result (λ fault. fault ≡ Memory) }
+    ensures one_worker { workers ≡ 1 → IfErr result (λ fault. fault ≡ Memory) }
+{
+    if n <= 1 || workers == 1 {
+        return Ok(run_alone(alloc, n, job, gate)?);
+    }
+    run_pieces(rt, alloc, workers, n, job, gate)
+}
+
+/// What the pieces 0 to `n - 1` of a job come to, run by the caller's own thread: the outcome of
+/// [`run_pieces`]. It starts no thread and waits for nobody.
+///
+/// # Requires
+/// `n` is at most 2^62.
+///
+/// # Errors
+/// A growth was refused, to the pool or to the job. All answers are dropped.
+pub fn run_alone<J: Job, G: Gate>(
+    alloc: Global,
+    n: u64,
+    job: &J,
+    gate: &G,
+) -> Result<Outcome<J::Out, J::Fault>, AllocError>
+where
+    J::Out: Drop,
+    J::Fault: Drop,
+    requires pieces { n ≤ 2 ^ 62 }
+    ensures outcome { IfOk result (IsOutcome (J.answers job.now) (J.faults job.now) n) }
+{
+    let Ok((board, passes)) = Board::open(alloc, n, 1) else {
+        return Err(AllocError);
+    };
+    let works = work_in_turn(alloc, &board, passes, job, gate)?;
+    gather(alloc, board, works, job)
+}
+
+/// Works with each pass on the caller's own thread.
+fn work_in_turn<J: Job, G: Gate>(
+    alloc: Global,
+    board: &Board,
+    passes: Vec<Pass>,
+    job: &J,
+    gate: &G,
+) -> Result<Vec<Worked<J::Out, J::Fault>>, AllocError>
+where
+    J::Out: Drop,
+    J::Fault: Drop,
+    requires unused { All (λ p. p ≡ unused board.now.id board.now.pieces) passes.items }
+    ensures len { IfOk result (λ ws. vec_len ws ≡ vec_len passes) }
+    ensures works { IfOk result (λ ws. All (IsWorked (J.answers job.now) (J.faults job.now)
+        board.now) ws.items) }
+{
+    let mut works = Vec::with_capacity(alloc, passes.len())?;
+    for pass in passes {
+        works.push_reserved(work(alloc, board, pass, job, gate));
+    }
+    Ok(works)
+}
