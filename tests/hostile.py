@@ -8,7 +8,7 @@ the line and status that must come. A program that ends by a signal, prints anyt
 longer than two minutes has failed. The documents of `growth` are read at a size and at four times that
 size: time and memory may grow by twice that factor, but not by its square.
 `--size N` scales the large documents: N percent of their full size, so that a first try is quick.
-Python 3 standard library, and cc for the case that refuses each call in turn.
+Python 3 standard library, and cc for two cases that stand in for calls of the C library.
 """
 import argparse
 import itertools
@@ -351,15 +351,39 @@ def refuse_in_turn(program, library, words, answered, kind, refused):
     raise Failed(f"{words[0]}: more than 2000 refusals of {kind}")
 
 
+def stand_in(program, name):
+    """A library of tests/NAME.c that stands in for calls of the C library."""
+    library = os.path.join(program.folder, f"{name}.so")
+    subprocess.run(["cc", "-O2", "-shared", "-fPIC", "-o", library, os.path.join(HERE, f"{name}.c")], check=True)
+    return library
+
+
 def each_call_refused(program):
     """Each growth of a run refused in turn, from its command line on, and each start of a thread."""
-    library = os.path.join(program.folder, "refusals.so")
-    subprocess.run(["cc", "-O2", "-shared", "-fPIC", "-o", library, os.path.join(HERE, "refusals.c")], check=True)
+    library = stand_in(program, "refusals")
     memory, worker = (4, b"error: memory\n"), (4, b"error: worker\n")
     terms = b"<http://e/s>\n<http://e/p>\n<http://e/o>\n"
     for words, line in ((["check"], counts(1, 3, 0)), (["terms"], terms), (["select", "--query", "SELECT * {}"], NO_NAMES)):
         refuse_in_turn(program, library, words, (0, line), "GROWTH", [memory, worker])
         refuse_in_turn(program, library, words, (0, line), "START", [worker])
+
+
+def nothing_left_behind(program):
+    """Every block of memory is given back, of long chains too (but for one that the C library keeps of a thread)."""
+    library = stand_in(program, "blocks")
+    filters = [b"||1", b"&&1", b"&&!(1)"]
+    groups = [b"UNION{}", b"UNION{?a?b?c}", b"{}", b"OPTIONAL{}", b"MINUS{?a?b?c}"]
+    queries = [b"SELECT * { FILTER(1%s) }" % (part * 1000) for part in filters]
+    queries += [b"SELECT * { {}%s }" % (part * 1000) for part in groups]
+    queries += [b"SELECT", b"SELECT DISTINCT ?e { GRAPH ?g { ?s ?p ?o } BIND(STR(?o) AS ?e) VALUES (?k ?l) { (1 UNDEF) } } LIMIT 3"]
+    commands = [["check"], ["check", "--workers", "1"], ["terms"], ["none"]] + [["select", "--query", it] for it in queries]
+    lines = [b"<http://e/s%d> <http://e/p> \"x\"@en <http://e/g> .\n" % n for n in range(1000)]
+    for words, document in itertools.product(commands, (lines, lines + [b"x\n"])):
+        with open(program.file(document), "rb") as source:
+            preloaded = {**os.environ, "LD_PRELOAD": library}
+            ran = subprocess.run([program.path, *words], stdin=source, capture_output=True, env=preloaded, timeout=SECONDS)
+        left = int(ran.stderr.split()[0])
+        expect(left <= (words[0] == "select"), f"{words[0]} {words[-1][:60]!r}: {left} blocks are left")
 
 
 # ---- command lines
@@ -630,9 +654,9 @@ CASES = [
     a_long_literal, a_long_literal_of_escapes, a_long_iri_and_label_and_tag, a_label_of_dots, many_empty_lines,
     many_lone_returns, one_statement_many_times, many_graphs, many_workers_over_many_pieces,
     many_workers_over_many_rows, the_least_of_many_bad_lines, a_full_output, a_reader_that_closes_early,
-    a_closed_output, an_input_that_fails, little_memory, few_processes, each_call_refused, wrong_words, growth,
-    terms_of_one_weak_hash, brackets, growing_answers, many_graphs_in_turn, a_graph_within_many_graphs, long_lists,
-    a_query_before_a_bad_document, long_queries, long_queries_and_little_memory,
+    a_closed_output, an_input_that_fails, little_memory, few_processes, each_call_refused,
+    nothing_left_behind, wrong_words, growth, terms_of_one_weak_hash, brackets, growing_answers, many_graphs_in_turn,
+    a_graph_within_many_graphs, long_lists, a_query_before_a_bad_document, long_queries, long_queries_and_little_memory,
 ]
 
 

@@ -1,3 +1,4 @@
+pub mod AheadSteps
 pub mod ChunkLaws
 pub mod ColumnLaws
 pub mod JsonLaws

@@ -1,11 +1,11 @@
 -- Texts with commas between them, one text after another.
-use Rattle.std.proofs.Common.{◌≡◌, ℕ, zero, suc, ◌+◌, ◌<◌, Bool, true, false, ◌||◌, List, [], ◌∷◌, ◌++◌, length, get_or, take, map, flat_map, Option, None, Some, is_some, refl, sym, ap, ◌∙◌, append_assoc, append-nil, codes}
+use Rattle.std.proofs.Common.{◌≡◌, ℕ, zero, suc, ◌+◌, ◌<◌, Bool, true, false, ◌||◌, List, [], ◌∷◌, ◌++◌, length, get_or, take, map, flat_map, Option, None, Some, is_some, Vec, Global, arith, refl, sym, ap, ◌∙◌, append_assoc, append-nil, codes}
 use Rattle.std.proofs.lemmas.List.{take_more, map-append}
 use Rattle.std.proofs.lemmas.List.Concat.{flat_map-append}
 use Rattle.rdf_core.specs.declared.term.Term.{Term}
 use Rattle.result_json.specs.Ranks.{ranked_cell, ranked_row}
 use Rattle.result_json.specs.Results.{Column, member_text, members, row_text, separated, string_text, term_text}
-use Rattle.result_json.specs.Texts.{begun, begun_member, begun_members, begun_row, comma_texts}
+use Rattle.result_json.specs.Texts.{begun, begun_column, begun_member, begun_members, begun_row, comma_texts}
 
 abbrev pub is_cons : {X : Type 0} → List X → Bool
 is_cons [] = false
@@ -24,10 +24,25 @@ is_cons-member prefix None = refl
 is_cons-member prefix (Some t) = refl
 
 -- one column more
-pub members-take : (terms : List Term) (ranks : List ℕ) (cs : List Column) (i : ℕ) (d : Column) → i < length cs
-    → begun_members terms ranks (take (i + 1) cs) ≡ begun_members terms ranks (take i cs) ++ begun_member (get_or cs i d).0 (ranked_cell terms (get_or ranks (get_or cs i d).1 0))
-members-take terms ranks cs i d l =
-    ap (begun_members terms ranks) (take_more cs i d l) ∙ flat_map-append _ (take i cs) (get_or cs i d ∷ []) ∙ ap (λ r. begun_members terms ranks (take i cs) ++ r) (append-nil _)
+pub row_more : (terms : List Term) (ranks : List ℕ) (columns : List (Vec ℕ Global × ℕ)) (i : ℕ) (column : Vec ℕ Global × ℕ) (rank : ℕ) (before out out' : List ℕ) (later later' : Bool)
+    → i < length columns → column ≡ get_or columns i column → rank ≡ get_or ranks column.1 0
+    → out' ≡ out ++ comma_texts later (begun_member column.0.items (ranked_cell terms rank)) → later' ≡ (later || is_some (ranked_cell terms rank))
+    → out ≡ before ++ (codes "{" ++ separated (begun_members terms ranks (map begun_column (take i columns)))) → later ≡ is_cons (begun_members terms ranks (map begun_column (take i columns)))
+    → (out' ≡ before ++ (codes "{" ++ separated (begun_members terms ranks (map begun_column (take (i + 1) columns))))) × (later' ≡ is_cons (begun_members terms ranks (map begun_column (take (i + 1) columns))))
+row_more terms ranks columns i column rank before out out' later later' l at is e f h k =
+    let front = begun_members terms ranks (map begun_column (take i columns)) in
+    let member = begun_member column.0.items (ranked_cell terms rank) in
+    let more : begun_members terms ranks (map begun_column (take (i + 1) columns)) ≡ front ++ member =
+    ap (λ (cs : List (Vec ℕ Global × ℕ)). begun_members terms ranks (map begun_column cs)) (take_more columns i column l)
+    ∙ ap (begun_members terms ranks) (map-append begun_column (take i columns) (get_or columns i column ∷ []))
+    ∙ flat_map-append _ (map begun_column (take i columns)) (begun_column (get_or columns i column) ∷ [])
+    ∙ ap (λ r. front ++ r) (append-nil _)
+    ∙ ap (λ (c : Vec ℕ Global × ℕ). front ++ begun_member c.0.items (ranked_cell terms (get_or ranks c.1 0))) (sym at)
+    ∙ ap (λ n. front ++ begun_member column.0.items (ranked_cell terms n)) (sym is) in (
+      e ∙ (λ t. h t ++ comma_texts (k t) member) ∙ append_assoc before (codes "{" ++ separated front) (comma_texts (is_cons front) member)
+          ∙ ap (λ s. before ++ (codes "{" ++ s)) (sym (separated-append front member)) ∙ ap (λ ms. before ++ (codes "{" ++ separated ms)) (sym more),
+      f ∙ (λ t. k t || sym (is_cons-member column.0.items (ranked_cell terms rank)) t) ∙ sym (is_cons-append front member) ∙ ap is_cons (sym more),
+    )
 
 -- ---- a begun row is a row
 
@@ -62,3 +77,14 @@ separated-take {X} f xs i d l =
     same : (ys : List X) → is_cons (map f ys) ≡ is_cons ys
     same [] = refl
     same (y ∷ ys) = refl
+
+-- ---- row by row, and block by block
+
+pub comma_texts-cons : (later : Bool) (x : List ℕ) (xs : List (List ℕ)) → comma_texts later (x ∷ xs) ≡ comma_texts later ([] ∷ []) ++ (x ++ comma_texts true xs)
+comma_texts-cons true x xs = refl
+comma_texts-cons false x xs = refl
+
+pub comma_texts-append : (later : Bool) (xs ys : List (List ℕ)) → 0 < length xs → comma_texts later (xs ++ ys) ≡ comma_texts later xs ++ comma_texts true ys
+comma_texts-append true xs ys l = flat_map-append (λ y. 44 ∷ y) xs ys
+comma_texts-append false [] ys l = absurd (omega (arith, l))
+comma_texts-append false (x ∷ xs) ys l = ap (λ r. x ++ r) (flat_map-append (λ y. 44 ∷ y) xs ys) ∙ sym (append_assoc x (flat_map (λ y. 44 ∷ y) xs) (flat_map (λ y. 44 ∷ y) ys))

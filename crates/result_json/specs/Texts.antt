@@ -1,6 +1,6 @@
 -- Texts of terms, each printed once, and how rows are put together of them. Private clauses alone cite
 -- these words.
-use Rattle.std.specs.Prelude.{◌≡◌, ◌⊎◌, ℕ, ◌<◌, ◌≤◌, ◌==◌, nat_le, Bool, true, false, not, ◌&&◌, List, [], ◌∷◌, ◌++◌, length, flat_map, slice_range, get_or, Option, None, Some, Vec, codes}
+use Rattle.std.specs.Prelude.{◌≡◌, ◌⊎◌, ℕ, ◌<◌, ◌≤◌, ◌==◌, nat_le, Bool, true, false, not, ◌&&◌, List, [], ◌∷◌, ◌++◌, length, flat_map, slice_range, get_or, map, Option, None, Some, Vec, codes}
 use Rattle.std.specs.Borrow.{Bor}
 use Rattle.std.specs.declared.alloc.Global.{Global}
 use Rattle.rdf_core.specs.declared.term.Term.{Term}
@@ -51,3 +51,31 @@ begun_row terms columns ranks = codes "{" ++ (separated (begun_members terms ran
 abbrev pub comma_texts : Bool → List (List ℕ) → List ℕ
 comma_texts true xs = flat_map (λ y. 44 ∷ y) xs
 comma_texts false xs = separated xs
+
+-- ---- texts that are looked up ahead
+
+-- the text is empty, or that of the rank's term
+abbrev pub IsAhead : List Term → ℕ → List ℕ → Type 0
+IsAhead terms rank text = (text ≡ [])
+    ⊎ ((t : Term) × (ranked_cell terms rank ≡ Some t) × (text ≡ term_text t))
+
+-- the texts of the cells at a place of rows, row by row
+abbrev pub IsColumnAhead : List Term → ℕ → List (List ℕ) → List (List ℕ) → Type 0
+IsColumnAhead terms place rows texts = (i : ℕ) → i < length rows → IsAhead terms (get_or (get_or rows i []) place 0) (get_or texts i [])
+
+-- the texts of rows for each column, whose places in a row are listed
+abbrev pub AreAhead : List Term → List ℕ → List (List ℕ) → List (List (List ℕ)) → Type 0
+AreAhead terms places rows texts = (k : ℕ) → k < length places → IsColumnAhead terms (get_or places k 0) rows (get_or texts k [])
+
+-- for each column the text of the i-th row is that of its cell, or empty
+abbrev pub IsRowAhead : List Term → List ℕ → List ℕ → ℕ → List (List (List ℕ)) → Type 0
+IsRowAhead terms places ranks i texts = (k : ℕ) → k < length places → IsAhead terms (get_or ranks (get_or places k 0) 0) (get_or (get_or texts k []) i [])
+
+abbrev pub places_of : List (Vec ℕ Global × ℕ) → List ℕ
+places_of columns = map (λ c. c.1) columns
+
+abbrev pub lent_texts : List (Bor (List ℕ)) → List (List ℕ)
+lent_texts texts = map (λ t. t.now) texts
+
+abbrev pub all_texts : List (Vec (Bor (List ℕ)) Global) → List (List (List ℕ))
+all_texts columns = map (λ c. lent_texts c.items) columns

@@ -12,11 +12,12 @@
 //! are sorted, each number becomes the rank of its term, and rows are sorted by ranks, those of two
 //! cells first as one number each. Each term that stands in the answer is printed once: its texts are
 //! copied, and those that need an escape printed by the JSON library. Terms and rows are put together
-//! round these by appends, rows in one block of a size that is added up before.
+//! round these by appends, rows into one buffer of a size that is added up before, and the texts of some
+//! rows are looked up before the first of them is copied.
 //!
 //! To read in this order: `printing`, `coding` (cells as numbers), `ranking` (numbers as ranks),
 //! `pair_order` (rows of two ranks), `ranked_row` and `row_order`, `values` (texts as JSON strings, and
-//! terms round them), `term_texts`, `columns`, `results`.
+//! terms round them), `term_texts`, `columns`, `ahead` (texts of some rows at once), `results`.
 //!
 //! Example: one variable `o` and the rows `"x"` and `<http://e/a>` give
 //! `{"head":{"vars":["o"]},"results":{"bindings":[{"o":{"type":"uri","value":"http://e/a"}},{"o":{"type":"literal","value":"x"}}]}}`
@@ -25,6 +26,7 @@
 //! Not promised: that memory suffices, and speed.
 #![tactic(auto)]
 
+mod ahead;
 mod coding;
 mod columns;
 mod pair_order;

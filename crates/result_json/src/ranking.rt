@@ -75,16 +75,16 @@ fn shared_beginning<'a>(left: &'a [u8], right: &[u8]) -> &'a [u8] {
     &left[..count]
 }
 
-/// How many bytes the first texts of all terms of a kind begin with in common.
-fn shared_length(order: &[(&Term, u64)], kind: u8) -> usize {
-    let mut shared: Option<&[u8]> = None;
+/// How many bytes the first texts of all terms of a kind begin with in common, for each kind.
+fn shared_lengths(order: &[(&Term, u64)]) -> [usize; 3] {
+    let mut shared: [Option<&[u8]>; 3] = [None; 3];
     for (term, _number) in order {
-        let (its_kind, text) = kind_and_text(term);
-        if its_kind == kind {
-            shared = Some(shared_beginning(shared.unwrap_or(text.as_bytes()), text.as_bytes()));
-        }
+        let (kind, text) = kind_and_text(term);
+        let text = text.as_bytes();
+        let beginning = shared[kind as usize].unwrap_or(text);
+        shared[kind as usize] = Some(shared_beginning(beginning, text));
     }
-    shared.unwrap_or(b"").len()
+    shared.map(|beginning| beginning.unwrap_or(b"").len())
 }
 
 /// The eight bytes of a text behind so many, as a number that rises with them. Zeros stand for those
@@ -161,11 +161,7 @@ pub(crate) fn rank<'a>(
     // Comparisons look first at the kind of a term and at its first text, so these are taken out once
     // and sorted, with the bytes that mostly decide beside them. The sort behind settles the order, and
     // moves only terms that have both in common.
-    let shared = [
-        shared_length(&order, 0),
-        shared_length(&order, 1),
-        shared_length(&order, 2),
-    ];
+    let shared = shared_lengths(&order);
     order.sort_by_cached_key(|entry| first_key(entry.0, &shared))?;
     order.sort()?;
     let table = rank_table(alloc, &order, dict.len())?;

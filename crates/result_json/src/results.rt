@@ -1,19 +1,25 @@
 //! The answer of a query as JSON (SPARQL 1.1 Query Results JSON Format).
 //!
 //! Rows are put together by appends, of the beginnings of members, each made once a column, and of the
-//! texts of terms, each made once a term.
-ghost use Rattle.std.specs.Prelude.{◌≡◌, ◌++◌, ◌||◌, length, map, is_some, OnOk, IfOk};
+//! texts of terms, each made once a term. They go out block by block: the texts of a block's rows are
+//! looked up first.
+ghost use Rattle.std.specs.Prelude.{◌≡◌, ◌++◌, ◌||◌, drop, length, map, is_some, OnOk, IfOk};
 ghost use Rattle.result_json.specs.RankedRows.{ranks_of};
 ghost use Rattle.result_json.specs.Ranks.{ranked_cell, ranked_row};
 ghost use Rattle.result_json.specs.Results.{json, listed_names, separated, string_text};
-ghost use Rattle.result_json.specs.Texts.{begun_column, begun_member, begun_row, comma_texts};
+ghost use Rattle.result_json.specs.Texts.{all_texts, begun_column, begun_member, begun_row, comma_texts, places_of, IsAhead, IsRowAhead};
 
+use crate::ahead::{looked_up, text_at};
 use crate::columns::{begun_columns, name_of};
 use crate::ranked_row::RankedRow;
 use crate::term_texts::TermTexts;
 use crate::values::put_string;
 use rdf_core::Text;
 use std::alloc::{AllocError, Global};
+
+/// So many rows have their texts looked up at once: enough that their loads overlap, and few enough
+/// that what was loaded is still near when it is copied.
+const BLOCK: usize = 32;
 
 /// Counts the terms of a row, each at its place, and answers the room that the object takes at most
 /// beside them, with a comma behind each member and behind the row.
@@ -74,8 +80,8 @@ fn print_texts(
 }
 
 /// Appends the member of a cell, where it is bound, and a comma before it where a member stands
-/// before. Answers whether a member stands there now.
-fn put_member(
+/// before. Answers whether a member stands there now. The text of its term is asked for only here.
+fn put_cell(
     alloc: Global,
     out: &mut Vec<u8>,
     prefix: &[u8],
@@ -99,28 +105,94 @@ fn put_member(
     Ok(true)
 }
 
-/// Appends the object of a row.
+/// Appends the member of a cell, where it is bound, and a comma before it where a member stands
+/// before. Answers whether a member stands there now. Where the text that was looked up for it is empty,
+/// its own is asked for.
+fn put_member(
+    alloc: Global,
+    out: &mut Vec<u8>,
+    prefix: &[u8],
+    texts: &TermTexts<'_>,
+    rank: u64,
+    text: &[u8],
+    later: bool,
+) -> Result<bool, AllocError>
+    requires ahead { IsAhead texts.now rank text.now }
+    ensures text { OnOk result
+        (out.new.items ≡ out.old.items
+        ++ comma_texts later (begun_member prefix.now (ranked_cell texts.now rank))) }
+    ensures later { IfOk result (λ b. b ≡ (later || is_some (ranked_cell texts.now rank))) }
+{
+    if text.is_empty() {
+        return put_cell(alloc, out, prefix, texts, rank, later);
+    }
+    if later {
+        out.push(b',')?;
+    }
+    out.extend_from_slice(prefix)?;
+    out.extend_from_slice(text)?;
+    Ok(true)
+}
+
+/// Appends the object of a row, which is the row of this number of those whose texts were looked up.
 fn put_row(
     alloc: Global,
     out: &mut Vec<u8>,
     columns: &[(Vec<u8>, usize)],
     texts: &TermTexts<'_>,
     row: &RankedRow<'_>,
+    ahead: &[Vec<&[u8]>],
+    number: usize,
 ) -> Result<(), AllocError>
+    requires ahead { IsRowAhead texts.now (places_of columns.now) row.now.ranks.now number (all_texts ahead.now) }
     ensures text { OnOk result
         (out.new.items ≡ out.old.items
         ++ begun_row texts.now (map begun_column columns.now) row.now.ranks.now) }
 {
     out.push(b'{')?;
     let mut later = false;
-    for (prefix, place) in columns {
-        later = put_member(alloc, out, prefix, texts, row.rank(*place), later)?;
+    for (k, (prefix, place)) in columns.iter().enumerate() {
+        let text = text_at(ahead, k, number);
+        later = put_member(alloc, out, prefix, texts, row.rank(*place), text, later)?;
     }
     out.push(b'}')?;
     Ok(())
 }
 
-/// Appends the rows, with commas between them.
+/// What stands behind so many elements.
+fn behind<T>(elements: &[T], count: usize) -> &[T]
+    ensures value { result.now ≡ drop count elements.now }
+{
+    &elements[elements.len().min(count)..]
+}
+
+/// Appends some rows, with a comma before each, or before each but the first. The texts of them all are
+/// looked up before one is copied.
+fn put_block(
+    alloc: Global,
+    out: &mut Vec<u8>,
+    columns: &[(Vec<u8>, usize)],
+    texts: &TermTexts<'_>,
+    rows: &[RankedRow<'_>],
+    mut later: bool,
+) -> Result<(), AllocError>
+    ensures text { OnOk result
+        (out.new.items ≡ out.old.items
+        ++ comma_texts later (map (begun_row texts.now (map begun_column columns.now))
+        (ranks_of rows.now))) }
+{
+    let ahead = looked_up(alloc, columns, texts, rows)?;
+    for i in 0..rows.len() {
+        if later {
+            out.push(b',')?;
+        }
+        put_row(alloc, out, columns, texts, &rows[i], &ahead, i)?;
+        later = true;
+    }
+    Ok(())
+}
+
+/// Appends the rows, with commas between them, block by block.
 fn put_rows(
     alloc: Global,
     out: &mut Vec<u8>,
@@ -133,11 +205,13 @@ fn put_rows(
         ++ separated (map (begun_row texts.now (map begun_column columns.now))
         (ranks_of rows.now))) }
 {
-    for i in 0..rows.len() {
-        if i > 0 {
-            out.push(b',')?;
-        }
-        put_row(alloc, out, columns, texts, &rows[i])?;
+    let mut rest = rows;
+    let mut later = false;
+    while !rest.is_empty() {
+        let block = &rest[..rest.len().min(BLOCK)];
+        put_block(alloc, out, columns, texts, block, later)?;
+        later = true;
+        rest = behind(rest, block.len());
     }
     Ok(())
 }

@@ -1,5 +1,5 @@
 //! Terms as JSON, each printed once.
-ghost use Rattle.std.specs.Prelude.{◌≡◌, ◌++◌, ◌<◌, length, All, IfOk, MatchOption, None, OnOk, Some};
+ghost use Rattle.std.specs.Prelude.{◌≡◌, ◌⊎◌, ◌++◌, ◌<◌, [], length, All, IfOk, MatchOption, None, OnOk, Some};
 ghost use Rattle.dict_core.specs.Dict.{term_at};
 ghost use Rattle.result_json.specs.Ranks.{ranked_cell, terms_of};
 ghost use Rattle.result_json.specs.Results.{term_text};
@@ -120,6 +120,19 @@ impl<'a> TermTexts<'a> {
         self.printed.extend_from_slice(&self.latest)?;
         self.spans[place] = (start, self.printed.len());
         Ok(self.latest.len())
+    }
+
+    /// The text of the term at a place, empty while it is not printed.
+    pub(crate) fn printed(&self, place: usize) -> &[u8]
+        requires inside { place < length self.now }
+        ensures text { (result.now ≡ []) ⊎ (result.now ≡ term_text (term_at self.now place)) }
+    {
+        let (start, end) = self.spans[place];
+        if start < end {
+            &self.printed[start..end]
+        } else {
+            &[]
+        }
     }
 
     /// Appends the text of the term at a place. One that was not printed yet is printed for this once.

@@ -12,8 +12,8 @@ rank_table-requires c =
     let sorted = c.sort.new.self.items in
     let p : IsPermutation c.in_ok-order.order.items sorted = IsPermutation-trans _ _ _ c.in_ok-sort_by_cached_key.ensures.permutation c.in_ok-sort.ensures.permutation in
     let is : All (IsEntry dict) sorted = All-permutation (IsEntry dict) c.in_ok-order.order.items sorted p c.in_ok-order.ensures.entries in
-    let there : All (IsEntry dict) c.deref-4.result.now = subst (λ (es : List Entry). All (IsEntry dict) es) (sym c.deref-4.ensures.value) is in
-    record { below = λ k d l. let b = entries_below dict c.deref-4.result.now there k d l in omega (arith, b, c.len.ensures.value) }
+    let there : All (IsEntry dict) c.deref-2.result.now = subst (λ (es : List Entry). All (IsEntry dict) es) (sym c.deref-2.ensures.value) is in
+    record { below = λ k d l. let b = entries_below dict c.deref-2.result.now there k d l in omega (arith, b, c.len.ensures.value) }
 
 pub returns-clause-cells : goal.returns-clause-cells
 returns-clause-cells c =
@@ -23,9 +23,9 @@ returns-clause-cells c =
     let table = c.in_ok-table.table.items in
     let p : IsPermutation c.in_ok-order.order.items sorted = IsPermutation-trans _ _ _ c.in_ok-sort_by_cached_key.ensures.permutation c.in_ok-sort.ensures.permutation in
     let is : All (IsEntry dict) sorted = All-permutation (IsEntry dict) c.in_ok-order.order.items sorted p c.in_ok-order.ensures.entries in
-    let ranks : IsRankTable (numbers_of sorted) table = subst (λ (es : List Entry). IsRankTable (numbers_of es) table) c.deref-4.ensures.value c.in_ok-table.ensures.ranks in
+    let ranks : IsRankTable (numbers_of sorted) table = subst (λ (es : List Entry). IsRankTable (numbers_of es) table) c.deref-2.ensures.value c.in_ok-table.ensures.ranks in
     let covered = covered_sorted (length dict) c.in_ok-order.order.items sorted codes p c.in_ok-order.ensures.covered in
-    ap (map (ranked_cell (terms_of sorted))) (c.put_ranks.ensures.ranks ∙ ap (λ (t : List ℕ). map (λ n. get_or t n 0) codes) c.deref-5.ensures.value)
+    ap (map (ranked_cell (terms_of sorted))) (c.put_ranks.ensures.ranks ∙ ap (λ (t : List ℕ). map (λ n. get_or t n 0) codes) c.deref-3.ensures.value)
     ∙ cells_are dict c.len.ensures.distinct sorted is table (c.in_ok-table.ensures.wide ∙ c.len.ensures.value) ranks codes covered
 
 pub returns-clause-ranks : goal.returns-clause-ranks
@@ -36,9 +36,9 @@ returns-clause-ranks c =
     let table = c.in_ok-table.table.items in
     let p : IsPermutation c.in_ok-order.order.items sorted = IsPermutation-trans _ _ _ c.in_ok-sort_by_cached_key.ensures.permutation c.in_ok-sort.ensures.permutation in
     let is : All (IsEntry dict) sorted = All-permutation (IsEntry dict) c.in_ok-order.order.items sorted p c.in_ok-order.ensures.entries in
-    let ranks : IsRankTable (numbers_of sorted) table = subst (λ (es : List Entry). IsRankTable (numbers_of es) table) c.deref-4.ensures.value c.in_ok-table.ensures.ranks in
+    let ranks : IsRankTable (numbers_of sorted) table = subst (λ (es : List Entry). IsRankTable (numbers_of es) table) c.deref-2.ensures.value c.in_ok-table.ensures.ranks in
     let covered = covered_sorted (length dict) c.in_ok-order.order.items sorted codes p c.in_ok-order.ensures.covered in
-    subst (Each (IsRank (terms_of sorted))) (sym (c.put_ranks.ensures.ranks ∙ ap (λ (t : List ℕ). map (λ n. get_or t n 0) codes) c.deref-5.ensures.value))
+    subst (Each (IsRank (terms_of sorted))) (sym (c.put_ranks.ensures.ranks ∙ ap (λ (t : List ℕ). map (λ n. get_or t n 0) codes) c.deref-3.ensures.value))
     (ranks_are dict c.len.ensures.distinct sorted is table (c.in_ok-table.ensures.wide ∙ c.len.ensures.value) ranks codes covered)
 
 pub returns-clause-rising : goal.returns-clause-rising

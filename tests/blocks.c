@@ -1,0 +1,68 @@
+/* For the tests: tells how many blocks of memory the program that it is preloaded into (LD_PRELOAD) has not given
+   back when it ends. It stands in for malloc, calloc, realloc, free and the aligned ones of the C library, and
+   prints the line `N blocks are left` to standard error. */
+#define _GNU_SOURCE
+#include <errno.h>
+#include <stdatomic.h>
+#include <stdio.h>
+#include <stdlib.h>
+#include <sys/syscall.h>
+#include <unistd.h>
+
+void *__libc_malloc(size_t);
+void *__libc_calloc(size_t, size_t);
+void *__libc_realloc(void *, size_t);
+void *__libc_memalign(size_t, size_t);
+void __libc_free(void *);
+
+static atomic_long blocks;
+
+static void *counted(void *block) {
+    if (block)
+        atomic_fetch_add(&blocks, 1);
+    return block;
+}
+
+void *malloc(size_t size) {
+    return counted(__libc_malloc(size));
+}
+
+void *calloc(size_t count, size_t size) {
+    return counted(__libc_calloc(count, size));
+}
+
+void *memalign(size_t alignment, size_t size) {
+    return counted(__libc_memalign(alignment, size));
+}
+
+void *aligned_alloc(size_t alignment, size_t size) {
+    return memalign(alignment, size);
+}
+
+int posix_memalign(void **place, size_t alignment, size_t size) {
+    void *block = memalign(alignment, size);
+    if (!block)
+        return ENOMEM;
+    *place = block;
+    return 0;
+}
+
+void *realloc(void *old, size_t size) {
+    return old ? __libc_realloc(old, size) : malloc(size);
+}
+
+void free(void *block) {
+    if (block)
+        atomic_fetch_sub(&blocks, 1);
+    __libc_free(block);
+}
+
+/* The program ends by this call. */
+void _exit(int status) {
+    char line[40];
+    int size = snprintf(line, sizeof line, "%ld blocks are left\n", atomic_load(&blocks));
+    if (write(2, line, size) < 0)
+        status = 1;
+    syscall(SYS_exit_group, status);
+    __builtin_unreachable();
+}
