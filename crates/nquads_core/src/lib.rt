@@ -25,8 +25,6 @@ pub mod laws;
 mod line;
 mod piece;
 mod statement;
-#[cfg(test)]
-mod tests;
 mod token;
 pub mod transfer;
 

@@ -7,9 +7,6 @@ ghost use Rattle.nquads_core.specs.Transfer.{CountsRead, IsReadInPart, ReadsMore
 use crate::device::{DeviceFailed, Sink, Source};
 use std::alloc::Global;
 
-#[cfg(test)]
-mod tests;
-
 /// Why a source was not read to its end.
 #[derive(Clone, Copy, Debug, PartialEq, Eq)]
 pub enum ReadFault {

@@ -20,7 +20,7 @@
 //! while let Some(i) = board.draw(&mut pass) { .. }         // in each thread
 //! let closed = board.close(passes);                        // drawn is 4
 //! ```
-//! The test `two_threads_draw_each_number_once` runs this.
+//! The test `two_threads_draw_each_number_once` of worker_tests runs this.
 //!
 //! Not promised: which pass draws which number, that a look shows another pass's report at once,
 //! that any thread makes progress, and time.
@@ -31,8 +31,6 @@ pub mod history;
 pub mod laws;
 mod pass;
 pub mod rule;
-#[cfg(test)]
-mod tests;
 
 pub use board::{Board, BoardFault, Closed};
 pub use pass::Pass;

@@ -17,8 +17,6 @@ mod blocks;
 mod cuts;
 pub mod laws;
 mod places;
-#[cfg(test)]
-mod tests;
 
 pub use blocks::{BlockState, Blocks};
 pub use cuts::Cuts;

@@ -18,7 +18,7 @@
 //! ```text
 //! let outcome = run_pieces(&rt, alloc, 4, 1000, &job, &OpenGate)?;
 //! ```
-//! The test `the_least_fault_is_named` runs such calls.
+//! The test `the_least_fault_is_named` of worker_tests runs such calls.
 //!
 //! Not promised: that a second thread ran, that any piece is skipped, which worker ran what, that
 //! `run_pieces` returns (it joins its workers).
@@ -28,11 +28,7 @@ mod collector;
 mod gate;
 mod job;
 mod pool;
-#[cfg(test)]
-mod refusals;
 mod running;
-#[cfg(test)]
-mod tests;
 mod worker;
 
 pub use collector::{Outcome, gather};

@@ -11,8 +11,6 @@ mod escapes;
 mod plain;
 mod schemes;
 mod tags;
-#[cfg(test)]
-mod tests;
 
 pub use characters::{
     first_char, is_hex, is_iri_char, is_joining, is_label_char, is_label_start, is_name_char,

@@ -21,8 +21,6 @@ pub mod lexical;
 mod quad;
 mod spelling;
 mod term;
-#[cfg(test)]
-mod tests;
 mod text;
 pub mod vocabulary;
 

@@ -1,10 +1,10 @@
 //! The lexical forms by example, each function once at least.
-use crate::lexical::{
+use rdf_core::Text;
+use rdf_core::lexical::{
     echar, first_char, has_scheme, is_hex, is_iri_char, is_joining, is_label_char, is_label_start,
     is_name_char, is_name_start, is_pn_chars_base, is_quoted_char, is_string_char, lower_tag,
     read_iri_ref, read_quoted, unescape_iri, unescape_string,
 };
-use crate::text::Text;
 use std::alloc::{AllocError, AllocGlobal};
 
 fn is_text(found: &Option<Text>, expected: &Option<&str>) -> bool {

@@ -1,8 +1,9 @@
 //! Transfers over devices in memory that take few bytes a call and fail when they are told to.
 ghost use Rattle.std.specs.Prelude.{◌<◌};
 
-use crate::device::{Device, DeviceFailed, Sink, Source};
-use crate::transfer::{ReadFault, read_more, read_to_end, write_all};
+use nquads_core::{
+    Device, DeviceFailed, ReadFault, Sink, Source, read_more, read_to_end, write_all,
+};
 use std::alloc::Global;
 
 /// Gives `chunk` bytes a call at most, and fails once `until` bytes were read.

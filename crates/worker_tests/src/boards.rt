@@ -2,7 +2,7 @@
 ghost use Rattle.std.specs.Prelude.{◌≡◌, IfOk, All, vec_len};
 ghost use Rattle.piece_board.specs.Board.{IsPassOf};
 
-use crate::{Board, Pass};
+use piece_board::{Board, Pass};
 use std::alloc::{AllocError, Global};
 use std::test::Fail;
 use std::thread;

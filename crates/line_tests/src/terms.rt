@@ -1,9 +1,6 @@
 //! One call of each public function, and the spellings of terms.
-use crate::quad::{Quad, is_iri, is_node};
-use crate::spelling::write_term;
-use crate::term::Term;
-use crate::text::Text;
-use crate::vocabulary::{RDF_LANG_STRING, XSD_INTEGER, XSD_STRING};
+use rdf_core::vocabulary::{RDF_LANG_STRING, XSD_INTEGER, XSD_STRING};
+use rdf_core::{Quad, Term, Text, is_iri, is_node, write_term};
 use std::alloc::{AllocError, AllocGlobal, Global};
 use std::cmp::Ordering;
 

@@ -3,8 +3,10 @@ ghost use Rattle.std.specs.Prelude.{◌≡◌};
 ghost use Rattle.piece_board.specs.Pass.{unused};
 ghost use Rattle.piece_pool.specs.Worked.{IsWorked};
 
-use crate::{Gate, Job, JobFault, OpenGate, Outcome, PoolFault, Worked, gather, run_pieces, work};
 use piece_board::{Board, Pass};
+use piece_pool::{
+    Gate, Job, JobFault, OpenGate, Outcome, PoolFault, Worked, gather, run_pieces, work,
+};
 use std::alloc::Global;
 use std::sync::atomic::{AtomicU64, Ordering};
 use std::test::Fail;

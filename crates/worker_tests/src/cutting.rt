@@ -1,9 +1,8 @@
 //! Cuts and blocks of the document `a`, LF, `b`, LF, LF, `c`, and of documents that are one piece.
 ghost use Rattle.std.specs.Prelude.{◌<◌};
 
-use crate::blocks::Blocks;
-use crate::cuts::Cuts;
 use nquads_core::{DeviceFailed, ReadFault, Source};
+use piece_cuts::{Blocks, Cuts};
 use std::alloc::{AllocError, AllocGlobal, Global};
 
 const DOCUMENT: &[u8] = b"a\nb\n\nc";

@@ -5,8 +5,8 @@
 //! with the starts of workers. A run meets one refusal at most, so that a second try has to succeed.
 ghost use Rattle.std.specs.Prelude.{◌≤◌};
 
-use crate::tests::{Counter, Numbers};
-use crate::{Outcome, PoolFault, run_pieces};
+use crate::pools::{Counter, Numbers};
+use piece_pool::{Outcome, PoolFault, run_pieces};
 use std::alloc::Global;
 use std::sync::Wait;
 use std::sync::atomic::Ordering;

@@ -1,7 +1,5 @@
 //! Lines and pieces by example: what each spells, and which spell nothing.
-use crate::fault::{LineFault, PieceFault};
-use crate::line::read_line;
-use crate::piece::{count_lines, read_piece};
+use nquads_core::{LineFault, PieceFault, count_lines, read_line, read_piece};
 use rdf_core::{Quad, write_term};
 use std::alloc::{AllocError, AllocGlobal, Global};
 
