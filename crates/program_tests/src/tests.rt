@@ -13,4 +13,5 @@ mod patterns;
 mod refusals;
 pub(crate) mod samples;
 mod tables;
+mod words;
 mod workers;

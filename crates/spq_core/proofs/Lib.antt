@@ -3,3 +3,4 @@ pub mod DocumentSteps
 pub mod ListingSteps
 pub mod ReportSteps
 pub mod OutcomeLaws
+pub mod WordSteps

@@ -5,3 +5,4 @@ pub mod Listing
 pub mod Output
 pub mod Run
 pub mod Report
+pub mod Words

@@ -1,8 +1,13 @@
 -- The line and the status of a fault.
-use Rattle.std.specs.Prelude.{ℕ, List, ◌++◌, codes, decimal}
+use Rattle.std.specs.Prelude.{ℕ, List, ◌++◌, ◌⊎◌, Option, Result, Ok, Err, codes, decimal}
+use Rattle.std.specs.Io.KnownBytes.{Appends}
+use Rattle.nquads_core.specs.Device.{Stays}
+use Rattle.nquads_core.specs.Transfer.{WroteBeginning}
+use Rattle.nquads_core.specs.declared.device.DeviceFailed.{DeviceFailed}
 use Rattle.sparql_read.specs.declared.fault.QueryFault.{QueryFault}
 use Rattle.sparql_read.specs.declared.fault.QueryFault.TheVariants.{Syntax, UndefinedPrefix, RelativeIri, BindScope, BlankReuse, TooDeep}
 use Rattle.sparql_read.specs.declared.fault.QueryFault.TheVariants as query_fault
+use Rattle.spq_core.specs.Run.{WriterFailed}
 use Rattle.spq_core.specs.declared.program.RunFault.{RunFault}
 use Rattle.spq_core.specs.declared.program.RunFault.TheVariants.{Query, BadLine, WorkerRefused, Memory, Read, Write, Line}
 
@@ -42,3 +47,14 @@ status_of WorkerRefused = 4
 status_of Memory = 4
 status_of Read = 5
 status_of Write = 5
+
+-- 0 where nothing was refused, and else the status of the fault
+abbrev pub exit_status : {T : Type 0} → Result T RunFault → ℕ
+exit_status (Ok v) = 0
+exit_status (Err fault) = status_of fault
+
+-- The whole text was written and no call of the writer failed, or the writer failed behind a
+-- beginning of it.
+abbrev pub WroteOrFailed : {K : Type 0} → (K → List ℕ → Result ℕ DeviceFailed → K → Type 0) → Option ℕ → Option ℕ → Option (List ℕ) → Option (List ℕ) → List ℕ → Type 0
+WroteOrFailed gives fails fails' held held' text =
+    (Appends held held' text × Stays fails fails') ⊎ (WroteBeginning held held' text × WriterFailed gives fails fails')

@@ -10,6 +10,8 @@ use Rattle.dataset_load.specs.Store.{StoreView}
 use Rattle.dataset_load.specs.Loaded.{IsLoaded}
 use Rattle.spq_command.specs.declared.command.Command.{Command}
 use Rattle.spq_command.specs.declared.command.Command.TheVariants.{Select, Check, Terms}
+use Rattle.spq_command.specs.declared.command_line.CommandFault.{CommandFault}
+use Rattle.spq_command.specs.declared.command_line.CommandFault.TheVariants as words
 use Rattle.spq_core.specs.Outcome.{bad_line, IsBadLine}
 use Rattle.spq_core.specs.Output.{Request, select, check, terms, IsOutput}
 use Rattle.spq_core.specs.declared.fault.Fault.{Fault}
@@ -24,6 +26,11 @@ run_fault_of (fault.Query f) = Query f
 run_fault_of (fault.BadLine n) = BadLine n
 run_fault_of fault.WorkerRefused = WorkerRefused
 run_fault_of fault.Memory = Memory
+
+-- words that are no command are no command line, and want of memory keeps its name
+abbrev pub fault_of_words : CommandFault → RunFault
+fault_of_words words.Line = Line
+fault_of_words words.Memory = Memory
 
 -- The command is done by one worker, which is the caller itself.
 abbrev pub IsByOneWorker : Command → Type 0

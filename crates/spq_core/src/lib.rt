@@ -7,13 +7,15 @@
 //! over the dataset, with their repeats, in order. No cut, worker or gate stands in it, and document
 //! and query have one outcome at most (`one_outcome` of [`laws`]). [`run`] says the same of a command
 //! over a reader and a writer, and what a refusal leaves; a command has one output for a document at
-//! most (`one_output`).
+//! most (`one_output`). [`run_words`] says it of the words of a command line, and [`finish`] how the
+//! program ends.
 //!
 //! Standards: SPARQL 1.1 Query Language, sections 17 to 19; SPARQL 1.1 Query Results JSON Format;
 //! RDF 1.1 N-Quads.
 //!
 //! To read in this order: `fault`, `answering` (the outcome), `listing` (what is told of a dataset),
-//! `program` (`run`), `report` (lines and statuses of faults), `laws`.
+//! `program` (`run`), `words` (a command line, and the thread of a query), `report` (lines and
+//! statuses of faults, and the end), `laws`.
 //!
 //! Example: the document `<http://e/a> <http://e/p> "x" .` and the query
 //! `SELECT ?o { <http://e/a> <http://e/p> ?o }` give
@@ -30,8 +32,10 @@ pub mod laws;
 mod listing;
 mod program;
 mod report;
+mod words;
 
 pub use answering::answer;
 pub use fault::Fault;
 pub use program::{RunFault, run};
-pub use report::{status, write_fault};
+pub use report::{finish, status, write_fault};
+pub use words::{Ran, run_words};

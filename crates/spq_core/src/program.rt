@@ -14,7 +14,7 @@ use nquads_core::{ReadFault, Sink, Source, write_all};
 use piece_pool::OpenGate;
 use row_pieces::{EvalFault, How};
 use sparql_read::QueryFault;
-use spq_command::{Command, Reading};
+use spq_command::{Command, CommandFault, Reading};
 use std::alloc::Global;
 use std::random::RandomSource;
 use std::sync::Wait;
@@ -59,6 +59,20 @@ impl From<Fault> for RunFault {
             Fault::BadLine(line) => RunFault::BadLine(line),
             Fault::WorkerRefused => RunFault::WorkerRefused,
             Fault::Memory => RunFault::Memory,
+        }
+    }
+}
+
+impl From<CommandFault> for RunFault {
+    ghost use Rattle.std.specs.Prelude.{◌≡◌};
+    ghost use Rattle.spq_core.specs.Run.{fault_of_words};
+
+    ghost from_gives = { λ f e. e ≡ fault_of_words f };
+
+    fn from(fault: CommandFault) -> RunFault {
+        match fault {
+            CommandFault::Line => RunFault::Line,
+            CommandFault::Memory => RunFault::Memory,
         }
     }
 }

@@ -1,9 +1,9 @@
 //! What is told of a fault: its line and its status.
-ghost use Rattle.std.specs.Prelude.{◌≡◌, ◌++◌, codes, decimal, OnErr, OnOk};
+ghost use Rattle.std.specs.Prelude.{◌≡◌, ◌++◌, codes, decimal, IfErr, OnErr, OnOk};
 ghost use Rattle.std.specs.Io.KnownBytes.{Appends};
 ghost use Rattle.nquads_core.specs.Device.{Stays};
 ghost use Rattle.nquads_core.specs.Transfer.{WroteBeginning};
-ghost use Rattle.spq_core.specs.Report.{fault_line, query_line, status_of};
+ghost use Rattle.spq_core.specs.Report.{WroteOrFailed, exit_status, fault_line, query_line, status_of};
 ghost use Rattle.spq_core.specs.Run.{WriterFailed};
 
 use crate::program::RunFault;
@@ -131,5 +131,26 @@ pub fn write_fault<K: Sink>(fault: &RunFault, writer: &mut K) -> Result<(), Devi
         RunFault::Memory => write_all(writer, b"error: memory\n"),
         RunFault::Read => write_all(writer, b"error: input\n"),
         RunFault::Write => write_all(writer, b"error: output\n"),
+    }
+}
+
+/// Ends what was done: answers the status with which the program ends, 0 where nothing was refused
+/// and else that of the fault, and tries once to write the fault's line.
+///
+/// It cannot fail. Where nothing was refused, the writer is as it was. Where the writer fails, a
+/// beginning of the line was written, and the status is still that of the fault.
+pub fn finish<K: Sink>(done: &Result<(), RunFault>, writer: &mut K) -> u8
+    ensures status { result ≡ exit_status done.now }
+    ensures silent { OnOk done.now (writer.new ≡ writer.old) }
+    ensures told { IfErr done.now (λ fault. WroteOrFailed K.write_gives
+        (K.failures writer.old) (K.failures writer.new)
+        (K.held writer.old) (K.held writer.new) (fault_line fault)) }
+{
+    match done {
+        Ok(()) => 0,
+        Err(fault) => {
+            let _tried = write_fault(fault, writer);
+            status(fault)
+        }
     }
 }

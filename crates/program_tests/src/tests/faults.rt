@@ -2,7 +2,7 @@
 
 use super::devices::sink;
 use sparql_read::QueryFault;
-use spq_core::{RunFault, status, write_fault};
+use spq_core::{RunFault, finish, status, write_fault};
 
 #[test]
 fn faults_are_told(rt: HostRuntime) {
@@ -55,5 +55,15 @@ fn faults_are_told(rt: HostRuntime) {
         assert!(rt; write_fault(&fault, &mut writer).is_ok(), "{line}");
         assert!(rt; writer.bytes.as_slice() == line.as_bytes(), "{line}");
         assert!(rt; status(&fault) == wanted, "{line}");
+        let mut writer = sink(rt.alloc(), 1000, usize::MAX);
+        assert!(rt; finish(&Err(fault), &mut writer) == wanted, "{line}");
+        assert!(rt; writer.bytes.as_slice() == line.as_bytes(), "{line}");
     }
+}
+
+#[test]
+fn an_end_without_a_fault_is_told_by_nothing(rt: HostRuntime) {
+    let mut writer = sink(rt.alloc(), 1000, usize::MAX);
+    assert!(rt; finish(&Ok(()), &mut writer) == 0);
+    assert!(rt; writer.bytes.is_empty());
 }

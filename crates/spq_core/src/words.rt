@@ -1,0 +1,202 @@
+//! The words of a command line over a reader and a writer: the command that they are, run on a stack
+//! that is as large as its query may need.
+ghost use Rattle.std.specs.Prelude.{◌≡◌, ◌⊎◌, ◌+◌, ◌*◌, ◌-◌, ◌^◌, IfErr, length, map, min, string_bytes};
+ghost use Rattle.spq_core.specs.Output.{request_of};
+ghost use Rattle.spq_core.specs.Run.{IsByOneWorker, IsNoRefusedWorker};
+ghost use Rattle.spq_core.specs.Words.{IsNotRun, IsRun, IsRunOf};
+
+use crate::program::{RunFault, run};
+use core::thread::Stack;
+use nquads_core::{Sink, Source};
+use spq_command::{Command, read_command};
+use std::alloc::Global;
+use std::random::RandomSource;
+use std::snapshot::Snapshot;
+use std::sync::Wait;
+use std::sync::atomic::{AtomicBool, Ordering};
+use std::thread;
+use std::thread::{Promise, Scope, Threads};
+
+/// The bytes of stack for a query of no length.
+const LEAST_STACK: usize = 8 * 1024 * 1024;
+
+/// The bytes of stack for each byte of a query. A part of a chain that is as short as can be, `{}`,
+/// is walked in less than what its two bytes get.
+const STACK_PER_BYTE: usize = 4 * 1024;
+
+/// What came of the words of a command line, and the reader and the writer that were passed with them.
+#[derive(Drop)]
+pub struct Ran<S, K> {
+    /// Nothing, or why the words were not done.
+    pub done: Result<(), RunFault>,
+    /// The reader, as it was left.
+    pub reader: S,
+    /// The writer, as it was left.
+    pub writer: K,
+}
+
+/// That a thread runs this command over this reader and this writer.
+#[derive(Drop)]
+struct RunOver<S, K> {
+    command: Snapshot<Command>,
+    reader: Snapshot<S>,
+    writer: Snapshot<K>,
+}
+
+impl<S: Source, K: Sink> Promise<Ran<S, K>> for RunOver<S, K> {
+    ghost kept_by = { λ p ran. IsRun S.left S.failures K.held K.failures K.write_gives
+        (request_of p.command.value) p.reader.value ran.reader p.writer.value ran.writer ran.done };
+}
+
+/// The bytes of stack that a query may need.
+fn stack_for(query: &str) -> usize
+    ensures stack { result ≡ min (8388608 + 4096 * length query.now) (2 ^ 64 - 1) }
+{
+    LEAST_STACK.saturating_add(query.len().saturating_mul(STACK_PER_BYTE))
+}
+
+/// Runs a command on the caller's thread.
+fn run_here<R: Threads + Wait + RandomSource, S: Source, K: Sink>(
+    rt: &R,
+    alloc: Global,
+    command: &Command,
+    reader: S,
+    writer: K,
+) -> Ran<S, K>
+    ensures run { IsRun S.left S.failures K.held K.failures K.write_gives
+        (request_of command.now) reader result.reader writer result.writer result.done }
+    ensures one_worker { IsByOneWorker command.now → IfErr result.done IsNoRefusedWorker }
+{
+    let (mut left, mut held) = (reader, writer);
+    let done = run(rt, alloc, command, &mut left, &mut held);
+    Ran {
+        done,
+        reader: left,
+        writer: held,
+    }
+}
+
+/// Runs a command, or hands the reader and the writer back where its thread was refused.
+fn run_if_started<R: Threads + Wait + RandomSource, S: Source, K: Sink>(
+    rt: &R,
+    alloc: Global,
+    command: &Command,
+    refused: &AtomicBool,
+    reader: S,
+    writer: K,
+) -> Ran<S, K>
+    ensures run { IsRun S.left S.failures K.held K.failures K.write_gives
+        (request_of command.now) reader result.reader writer result.writer result.done }
+{
+    if refused.load(Ordering::SeqCst) {
+        return Ran {
+            done: Err(RunFault::WorkerRefused),
+            reader,
+            writer,
+        };
+    }
+    run_here(rt, alloc, command, reader, writer)
+}
+
+/// Starts a thread of a scope that runs a command, and joins it. Where the start is refused, nothing
+/// is read or written.
+fn start_and_join<
+    's,
+    E,
+    R: Threads + Wait + RandomSource + Sync,
+    S: Source + Send + Drop + 's,
+    K: Sink + Send + Drop + 's,
+>(
+    rt: &'s R,
+    scope: &Scope<'s, E>,
+    alloc: Global,
+    command: &'s Command,
+    stack: usize,
+    refused: &'s AtomicBool,
+    reader: S,
+    writer: K,
+) -> Ran<S, K>
+    ensures run { IsRun S.left S.failures K.held K.failures K.write_gives
+        (request_of command.now) reader result.reader writer result.writer result.done }
+{
+    let promise = RunOver {
+        command: Snapshot::of(command),
+        reader: Snapshot::of(&reader),
+        writer: Snapshot::of(&writer),
+    };
+    let stack = Stack::new().stack_size(stack);
+    let worker = move || run_if_started(rt, alloc, command, refused, reader, writer);
+    match stack.spawn_scoped_with(scope, promise, worker) {
+        Ok(thread) => thread.join(rt),
+        Err(unstarted) => {
+            refused.store(true, Ordering::SeqCst);
+            (unstarted.value)()
+        }
+    }
+}
+
+/// Runs a command on a thread of its own, with a stack of so many bytes.
+fn run_apart<
+    R: Threads + Wait + RandomSource + Sync,
+    S: Source + Send + Drop,
+    K: Sink + Send + Drop,
+>(rt: &R, alloc: Global, command: &Command, stack: usize, reader: S, writer: K) -> Ran<S, K>
+    ensures run { IsRun S.left S.failures K.held K.failures K.write_gives
+        (request_of command.now) reader result.reader writer result.writer result.done }
+{
+    let refused = AtomicBool::new(false);
+    let refused = &refused;
+    thread::scope(
+        thread::scope_env(),
+        rt,
+        move |scope| -> Ran<S, K>
+            ensures run { IsRun S.left S.failures K.held K.failures K.write_gives
+                (request_of command.entry.now) reader result.reader writer result.writer
+                result.done }
+        { start_and_join(rt, scope, alloc, command, stack, refused, reader, writer) },
+    )
+}
+
+/// Does what the words of a command line say: reads the command that they are and runs it. A query
+/// gets a thread of its own, whose stack grows with its text; `check` and `terms` run on the
+/// caller's thread.
+///
+/// # Errors
+/// - `Line`: the words are no command. Nothing was read or written.
+/// - `WorkerRefused`: the start of a worker was refused, or that of the thread for a query, and then
+///   nothing was read or written. It never comes of a `check` or a `terms` by one worker.
+/// - `Memory`: a growth was refused, to the words or to the command.
+/// - All else as `run` answers it, of the command that the words are.
+///
+/// The reader and the writer are handed back after each of them.
+pub fn run_words<
+    R: Threads + Wait + RandomSource + Sync,
+    S: Source + Send + Drop,
+    K: Sink + Send + Drop,
+>(rt: &R, alloc: Global, words: &[String], reader: S, writer: K) -> Ran<S, K>
+    ensures run { IsRunOf S.left S.failures K.held K.failures K.write_gives
+        (map string_bytes words.now) reader result.reader writer result.writer result.done
+        ⊎ IsNotRun (map string_bytes words.now) reader result.reader writer result.writer
+        result.done }
+{
+    let command = match read_command(alloc, words) {
+        Ok(command) => command,
+        Err(fault) => {
+            let done = Err(RunFault::from(fault));
+            return Ran {
+                done,
+                reader,
+                writer,
+            };
+        }
+    };
+    match &command {
+        Command::Select { query, .. } => {
+            let stack = stack_for(query.as_str());
+            run_apart(rt, alloc, &command, stack, reader, writer)
+        }
+        Command::Check { .. } | Command::Terms { .. } => {
+            run_here(rt, alloc, &command, reader, writer)
+        }
+    }
+}
