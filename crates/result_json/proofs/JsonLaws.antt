@@ -1,19 +1,15 @@
 -- The parts of the results, one behind the other.
-use Rattle.std.proofs.Common.{◌≡◌, ℕ, List, [], ◌++◌, map, codes, Option, ap, ◌∙◌, append_assoc}
+use Rattle.std.proofs.Common.{◌≡◌, ℕ, List, ◌++◌, map, codes, Option, ap, ◌∙◌, append_assoc}
 use Rattle.rdf_core.specs.declared.term.Term.{Term}
-use Rattle.result_json.specs.Results.{Column, columns, json, row_text, separated, string_text}
+use Rattle.result_json.specs.Results.{json, columns, row_text, separated, string_text}
+use Rattle.result_json.specs.Texts.{head_text}
 
-regroup : (a b c d e : List ℕ) → ((((a ++ b) ++ c) ++ d) ++ e) ≡ a ++ (b ++ (c ++ (d ++ e)))
-regroup a b c d e = append_assoc ((a ++ b) ++ c) d e ∙ append_assoc (a ++ b) c (d ++ e) ∙ append_assoc a b (c ++ (d ++ e))
-
-pub json_is : (vars : List (List ℕ)) (rows : List (List (Option Term))) (cs : List Column) (t0 t1 t2 t3 t4 t5 : List ℕ) → cs ≡ columns vars → t0 ≡ [] → t1 ≡ t0 ++ codes "{\"head\":{\"vars\":["
-    → t2 ≡ t1 ++ separated (map string_text vars) → t3 ≡ t2 ++ codes "]},\"results\":{\"bindings\":[" → t4 ≡ t3 ++ separated (map (row_text cs) rows) → t5 ≡ t4 ++ codes "]}}\n" → t5 ≡ json vars rows
+pub json_is : (vars : List (List ℕ)) (rows : List (List (Option Term))) (head blocks tail : List ℕ) → head ≡ head_text vars → blocks ≡ separated (map (row_text (columns vars)) rows) → tail ≡ codes "]}}\n"
+    → head ++ (blocks ++ tail) ≡ json vars rows
 unfolding json
-json_is vars rows cs t0 t1 t2 t3 t4 t5 cols e0 e1 e2 e3 e4 e5 =
-    let a = codes "{\"head\":{\"vars\":[" in
-    let c = codes "]},\"results\":{\"bindings\":[" in
-    let e = codes "]}}\n" in
-    let b = separated (map string_text vars) in
-    let d = separated (map (row_text cs) rows) in
-    e5 ∙ ap (λ t. t ++ e) (e4 ∙ ap (λ t. t ++ d) (e3 ∙ ap (λ t. t ++ c) (e2 ∙ ap (λ t. t ++ b) (e1 ∙ ap (λ t. t ++ a) e0)))) ∙ regroup a b c d e
-    ∙ ap (λ cs. a ++ (b ++ (c ++ (separated (map (row_text cs) rows) ++ e)))) cols
+json_is vars rows head blocks tail h b t =
+    let front = codes "{\"head\":{\"vars\":[" in
+    let names = separated (map string_text vars) in
+    let middle = codes "]},\"results\":{\"bindings\":[" in
+    let rest = separated (map (row_text (columns vars)) rows) ++ codes "]}}\n" in
+    (λ i. h i ++ (b i ++ t i)) ∙ append_assoc front (names ++ middle) rest ∙ ap (λ x. front ++ x) (append_assoc names middle rest)

@@ -1,10 +1,11 @@
 -- The answer of a SELECT query as JSON (SPARQL 1.1 Query Results JSON Format, sections 3.1 and 3.2;
 -- strings as RFC 8259, section 7, with the shortest escapes), byte by byte. No blanks are written but
 -- the line feed at the end. (That members stand in byte order of their names is our own.)
-use Rattle.std.specs.Prelude.{ℕ, suc, List, [], ◌∷◌, ◌++◌, ◌/◌, ◌%◌, ◌==◌, nat_lt, Option, None, Some, map, flat_map, get_or, codes, if◌then◌else◌}
+use Rattle.std.specs.Prelude.{ℕ, suc, List, [], ◌∷◌, ◌++◌, ◌/◌, ◌%◌, ◌==◌, nat_lt, Option, None, Some, map, flat_map, get_or, Vec, codes, if◌then◌else◌}
 use Rattle.std.specs.Char.{digit_char}
 use Rattle.std.specs.Ordering.{nat_cmp, ordering_then}
 use Rattle.std.specs.Str.{bytes_eq}
+use Rattle.std.specs.declared.alloc.Global.{Global}
 use Rattle.std.specs.declared.cmp.Ordering.{Ordering}
 use Rattle.rdf_core.specs.Order.{bytes_cmp}
 use Rattle.rdf_core.specs.Vocabulary.{xsd_string}
@@ -77,6 +78,10 @@ unfoldable pub json : List (List ℕ) → List (List (Option Term)) → List ℕ
 json vars rows =
     codes "{\"head\":{\"vars\":[" ++ (separated (map string_text vars)
     ++ (codes "]},\"results\":{\"bindings\":[" ++ (separated (map (row_text (columns vars)) rows) ++ codes "]}}\n")))
+
+-- blocks of bytes, one behind the other
+abbrev pub joined_blocks : List (Vec ℕ Global) → List ℕ
+joined_blocks blocks = flat_map (λ block. block.items) blocks
 
 -- the names of listed variables, each variable's at its number; a number without a name has the
 -- empty one

@@ -5,6 +5,9 @@ use Rattle.std.specs.Borrow.{Bor}
 use Rattle.std.specs.declared.alloc.Global.{Global}
 use Rattle.rdf_core.specs.declared.term.Term.{Term}
 use Rattle.dict_core.specs.Dict.{term_at}
+use Rattle.row_pieces.specs.Pieces.{piece_of}
+use Rattle.result_json.specs.declared.ranked_row.RankedRow.{RankedRow}
+use Rattle.result_json.specs.RankedRows.{ranks_of}
 use Rattle.result_json.specs.Ranks.{ranked_cell}
 use Rattle.result_json.specs.Results.{Column, separated, string_text, term_text}
 
@@ -51,6 +54,18 @@ begun_row terms columns ranks = codes "{" ++ (separated (begun_members terms ran
 abbrev pub comma_texts : Bool → List (List ℕ) → List ℕ
 comma_texts true xs = flat_map (λ y. 44 ∷ y) xs
 comma_texts false xs = separated xs
+
+-- the texts of rows
+abbrev pub row_texts : List Term → List (Vec ℕ Global × ℕ) → List RankedRow → List (List ℕ)
+row_texts terms columns rows = map (begun_row terms (map begun_column columns)) (ranks_of rows)
+
+-- piece i of rows, `size` rows a piece, with a comma before each row but the first of all
+abbrev pub piece_text : List Term → List (Vec ℕ Global × ℕ) → List RankedRow → ℕ → ℕ → List ℕ
+piece_text terms columns rows size i = comma_texts (not (i == 0)) (row_texts terms columns (piece_of size i rows))
+
+-- what stands before the rows of an answer
+abbrev pub head_text : List (List ℕ) → List ℕ
+head_text vars = codes "{\"head\":{\"vars\":[" ++ (separated (map string_text vars) ++ codes "]},\"results\":{\"bindings\":[")
 
 -- ---- texts that are looked up ahead
 

@@ -65,27 +65,27 @@ impl<'a> TermTexts<'a> {
         self.terms.len()
     }
 
-    /// The places of the terms that are used at all, each behind the number of its term and in the order
-    /// of these numbers: terms that are gone through so are read as they lie in memory.
+    /// The places of the terms that are shown, each behind the number of its term and in the order of
+    /// these numbers: terms that are gone through so are read as they lie in memory.
     ///
     /// # Errors
     /// `AllocError`: a growth was refused.
-    pub(crate) fn used_places(
+    pub(crate) fn shown_places(
         &self,
         alloc: Global,
-        uses: &[usize],
+        shown: &[bool],
     ) -> Result<Vec<(u64, usize)>, AllocError>
-        requires wide { length uses.now ≡ length self.now }
-        ensures inside { IfOk result (λ used. All (λ e. e.1 < length self.now) used.items) }
+        requires wide { length shown.now ≡ length self.now }
+        ensures inside { IfOk result (λ places. All (λ e. e.1 < length self.now) places.items) }
     {
-        let mut used = Vec::new(alloc);
+        let mut places = Vec::new(alloc);
         for place in 0..self.terms.len() {
-            if uses[place] > 0 {
-                used.push((self.terms[place].1, place))?;
+            if shown[place] {
+                places.push((self.terms[place].1, place))?;
             }
         }
-        used.sort_unstable();
-        Ok(used)
+        places.sort_unstable();
+        Ok(places)
     }
 
     /// The place of a rank's term, and None where the rank is no term's.
@@ -100,18 +100,17 @@ impl<'a> TermTexts<'a> {
         }
     }
 
-    /// Prints the term at a place, if it was not printed yet, and answers the length of its text.
+    /// Prints the term at a place, if it was not printed yet.
     ///
     /// # Errors
     /// `AllocError`: a growth was refused.
-    pub(crate) fn print(&mut self, alloc: Global, place: usize) -> Result<usize, AllocError>
+    pub(crate) fn print(&mut self, alloc: Global, place: usize) -> Result<(), AllocError>
         requires inside { place < length self.old }
         ensures same { self.new ≡ self.old }
-        ensures length { IfOk result (λ n. n ≡ length (term_text (term_at self.old place))) }
     {
         let (start, end) = self.spans[place];
         if start < end {
-            return Ok(end - start);
+            return Ok(());
         }
         let term = self.terms[place].0;
         self.latest.clear();
@@ -119,7 +118,7 @@ impl<'a> TermTexts<'a> {
         let start = self.printed.len();
         self.printed.extend_from_slice(&self.latest)?;
         self.spans[place] = (start, self.printed.len());
-        Ok(self.latest.len())
+        Ok(())
     }
 
     /// The text of the term at a place, empty while it is not printed.

@@ -1,14 +1,19 @@
 //! Worked answers. What is expected is written out by hand from the format.
-ghost use Rattle.std.specs.Prelude.{◌≡◌, ◌∷◌, ◌<◌, [], length, IfOk};
+ghost use Rattle.std.specs.Prelude.{◌≡◌, ◌∷◌, ◌<◌, ◌≤◌, [], length, IfOk};
+ghost use Rattle.row_pieces.specs.How.{IsRunnable};
 ghost use Rattle.algebra_model.specs.Reading.{Each, EachBound};
 
 use dict_core::Dict;
+use piece_pool::OpenGate;
 use rdf_core::vocabulary::{RDF_LANG_STRING, XSD_INTEGER, XSD_STRING};
 use rdf_core::{Term, Text};
-use result_json::print_rows;
+use result_json::{Table, print_rows};
 use row_core::Rows;
+use row_pieces::{EvalFault, How};
 use std::alloc::{AllocError, AllocGlobal, Global};
 use std::hash::RandomState;
+use std::sync::Wait;
+use std::thread::Threads;
 
 fn text(alloc: Global, text: &str) -> Result<Text, AllocError> {
     Ok(Text::from_string(String::from_str(alloc, text)?))
@@ -85,19 +90,67 @@ fn rows_of(
     Ok(rows)
 }
 
+/// Blocks of bytes, one behind the other.
+fn joined(alloc: Global, blocks: &[Vec<u8>]) -> Result<Vec<u8>, AllocError> {
+    let mut bytes = Vec::new(alloc);
+    for block in blocks {
+        bytes.extend_from_slice(block)?;
+    }
+    Ok(bytes)
+}
+
+/// How an answer is printed: by so many workers, with so many rows a piece.
+fn how(workers: usize, rows: usize) -> How
+    requires { (1 ≤ workers) × (workers ≤ 64) × (1 ≤ rows) }
+    ensures { IsRunnable result }
+{
+    How { workers, rows }
+}
+
+/// The names of the variables: `b`, `a` and one that no row has.
+fn variables(alloc: Global) -> Result<Vec<Text>, AllocError> {
+    Ok(vec![in alloc; text(alloc, "b")?, text(alloc, "a")?, text(alloc, "é\"")?]?)
+}
+
 /// The answer over the terms above, with the variables `b`, `a` and one that no row has.
-fn answer(
+fn answer_by<R: Threads + Wait>(
+    rt: &R,
     alloc: Global,
     state: RandomState,
     listed: &[usize],
     cells: &[(Option<u64>, Option<u64>)],
     offset: u64,
     limit: Option<u64>,
-) -> Result<Vec<u8>, AllocError> {
+    how: &How,
+) -> Result<Vec<u8>, EvalFault>
+    requires { IsRunnable how.now }
+{
     let dict = terms(alloc, state)?;
     let rows = rows_of(alloc, &dict, cells)?;
-    let names = vec![in alloc; text(alloc, "b")?, text(alloc, "a")?, text(alloc, "é\"")?]?;
-    print_rows(alloc, &names, listed, &rows, &dict, offset, limit)
+    let names = variables(alloc)?;
+    let table = Table {
+        names: &names,
+        listed,
+        rows: &rows,
+        dict: &dict,
+        offset,
+        limit,
+    };
+    let blocks = print_rows(rt, alloc, &table, how, &OpenGate)?;
+    Ok(joined(alloc, &blocks)?)
+}
+
+/// The answer by two workers, a row a piece.
+fn answer<R: Threads + Wait>(
+    rt: &R,
+    alloc: Global,
+    state: RandomState,
+    listed: &[usize],
+    cells: &[(Option<u64>, Option<u64>)],
+    offset: u64,
+    limit: Option<u64>,
+) -> Result<Vec<u8>, EvalFault> {
+    answer_by(rt, alloc, state, listed, cells, offset, limit, &how(2, 1))
 }
 
 /// Unbound, then blank nodes, IRIs and literals by their bytes; each kind of literal in its form, a
@@ -115,7 +168,7 @@ fn every_term_has_its_form_and_place(rt: HostRuntime) {
         (None, Some(5)),
         (Some(4), None),
     ];
-    let bytes = answer(rt.alloc(), state, &[0], &cells, 0, None).expect(&rt, "memory");
+    let bytes = answer(&rt, rt.alloc(), state, &[0], &cells, 0, None).expect(&rt, "an answer");
     let expected =
         "{\"head\":{\"vars\":[\"b\"]},\"results\":{\"bindings\":[{},{\"b\":{\"type\":\"bnode\",\"value\":\"b\"}},{\"b\":{\"type\":\"uri\",\"value\":\"http://e/a\"}},{\"b\":{\"type\":\"uri\",\"value\":\"http://e/a\"}},{\"b\":{\"type\":\"literal\",\"value\":\"\\t\\u0001\\\\\"}},{\"b\":{\"datatype\":\"http://www.w3.org/2001/XMLSchema#integer\",\"type\":\"literal\",\"value\":\"1\"}},{\"b\":{\"type\":\"literal\",\"value\":\"x\"}},{\"b\":{\"type\":\"literal\",\"value\":\"é\\n\",\"xml:lang\":\"en\"}}]}}\n";
     assert!(rt; bytes.as_slice() == expected.as_bytes());
@@ -127,7 +180,10 @@ fn every_term_has_its_form_and_place(rt: HostRuntime) {
 fn members_stand_by_their_names(rt: HostRuntime) {
     let state = RandomState::new(&rt).expect(&rt, "a hash state");
     let cells = [(Some(0), Some(5)), (None, Some(4)), (Some(0), None)];
-    let bytes = answer(rt.alloc(), state, &[0, 1, 2], &cells, 0, None).expect(&rt, "memory");
+    let bytes = answer(&rt, rt.alloc(), state, &[0, 1, 2], &cells, 0, None).expect(
+        &rt,
+        "an answer",
+    );
     let expected =
         "{\"head\":{\"vars\":[\"b\",\"a\",\"é\\\"\"]},\"results\":{\"bindings\":[{\"a\":{\"type\":\"uri\",\"value\":\"http://e/a\"}},{\"b\":{\"type\":\"literal\",\"value\":\"x\"}},{\"a\":{\"type\":\"bnode\",\"value\":\"b\"},\"b\":{\"type\":\"literal\",\"value\":\"x\"}}]}}\n";
     assert!(rt; bytes.as_slice() == expected.as_bytes());
@@ -147,7 +203,7 @@ fn rows_of_two_rise_column_by_column(rt: HostRuntime) {
         (Some(0), Some(4)),
         (Some(0), None),
     ];
-    let bytes = answer(rt.alloc(), state, &[0, 1], &cells, 0, None).expect(&rt, "memory");
+    let bytes = answer(&rt, rt.alloc(), state, &[0, 1], &cells, 0, None).expect(&rt, "an answer");
     let expected =
         "{\"head\":{\"vars\":[\"b\",\"a\"]},\"results\":{\"bindings\":[{\"a\":{\"type\":\"literal\",\"value\":\"x\"}},{\"a\":{\"type\":\"bnode\",\"value\":\"b\"},\"b\":{\"type\":\"literal\",\"value\":\"x\",\"xml:lang\":\"en\"}},{\"b\":{\"datatype\":\"http://www.w3.org/2001/XMLSchema#integer\",\"type\":\"literal\",\"value\":\"x\"}},{\"b\":{\"type\":\"literal\",\"value\":\"x\"}},{\"a\":{\"type\":\"bnode\",\"value\":\"b\"},\"b\":{\"type\":\"literal\",\"value\":\"x\"}},{\"a\":{\"type\":\"uri\",\"value\":\"http://e/a\"},\"b\":{\"type\":\"literal\",\"value\":\"x\"}},{\"a\":{\"type\":\"uri\",\"value\":\"http://e/a\"},\"b\":{\"type\":\"literal\",\"value\":\"x\"}}]}}\n";
     assert!(rt; bytes.as_slice() == expected.as_bytes());
@@ -157,7 +213,10 @@ fn rows_of_two_rise_column_by_column(rt: HostRuntime) {
 #[test]
 fn a_row_without_variables_is_an_empty_object(rt: HostRuntime) {
     let state = RandomState::new(&rt).expect(&rt, "a hash state");
-    let bytes = answer(rt.alloc(), state, &[], &[(Some(0), None)], 0, None).expect(&rt, "memory");
+    let bytes = answer(&rt, rt.alloc(), state, &[], &[(Some(0), None)], 0, None).expect(
+        &rt,
+        "an answer",
+    );
     let expected = "{\"head\":{\"vars\":[]},\"results\":{\"bindings\":[{}]}}\n";
     assert!(rt; bytes.as_slice() == expected.as_bytes());
 }
@@ -181,7 +240,9 @@ fn offset_and_limit_cut_the_sorted_rows(rt: HostRuntime) {
         (u64::MAX, Some(u64::MAX), ["", "", "", "", ""]),
     ];
     for (offset, limit, parts) in cases {
-        let bytes = answer(rt.alloc(), state, &[0], &cells, offset, limit).expect(&rt, "memory");
+        let bytes = answer(&rt, rt.alloc(), state, &[0], &cells, offset, limit).expect(
+            &rt, "memory",
+        );
         let mut expected = String::from_str(
             rt.alloc(),
             "{\"head\":{\"vars\":[\"b\"]},\"results\":{\"bindings\":[",
@@ -192,5 +253,53 @@ fn offset_and_limit_cut_the_sorted_rows(rt: HostRuntime) {
         }
         expected.push_str("]}}\n").expect(&rt, "memory");
         assert!(rt; bytes.as_slice() == expected.as_bytes(), "offset {offset}");
+    }
+}
+
+/// Seventy rows, so that more than one group of a piece is put together, have the same bytes by any
+/// number of workers and in pieces of any size.
+#[test]
+fn workers_and_pieces_change_no_byte(rt: HostRuntime) {
+    let state = RandomState::new(&rt).expect(&rt, "a hash state");
+    let alloc = rt.alloc();
+    let mut cells = Vec::new(alloc);
+    for i in 0..70u64 {
+        cells.push((Some(i % 9), Some(i % 7))).expect(&rt, "memory");
+    }
+    let whole = answer_by(
+        &rt,
+        alloc,
+        state,
+        &[1, 0],
+        &cells,
+        3,
+        Some(65),
+        &how(1, 1000),
+    );
+    let whole = whole.expect(&rt, "an answer");
+    for (workers, rows) in [
+        (1, 1),
+        (2, 1),
+        (3, 7),
+        (4, 64),
+        (64, 33),
+        (2, 65),
+        (5, usize::MAX),
+    ] {
+        let cut = answer_by(
+            &rt,
+            alloc,
+            state,
+            &[1, 0],
+            &cells,
+            3,
+            Some(65),
+            &how(workers, rows),
+        );
+        let cut = cut.expect(&rt, "an answer");
+        assert!(rt;
+            cut.as_slice() == whole.as_slice(),
+            "{workers} workers, {rows} rows a piece"
+        );
     }
 }

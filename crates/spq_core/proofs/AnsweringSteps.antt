@@ -1,5 +1,5 @@
 -- What the steps of an answer say together.
-use Rattle.std.proofs.Common.{◌≡◌, ℕ, ◌<◌, ◌&&◌, Bool, true, false, nat_lt, List, [], ◌∷◌, length, get_or, map, true≢false, None, refl, sym, ap, ◌∙◌, subst, arith}
+use Rattle.std.proofs.Common.{◌≡◌, ℕ, ◌<◌, ◌&&◌, Bool, true, false, nat_lt, List, [], ◌∷◌, length, get_or, map, true≢false, None, Vec, Global, refl, sym, ap, ◌∙◌, subst, arith}
 use Rattle.std.specs.List.{list_all}
 use Rattle.std.specs.Option.{unwrap_or}
 use Rattle.std.specs.Str.{bytes_eq}
@@ -24,7 +24,7 @@ use Rattle.sparql_algebra.specs.Names.{Name, names_of, number_of, selected_names
 use Rattle.sparql_algebra.specs.Projected.{projected}
 use Rattle.sparql_algebra.specs.Translation.{distinct_where, projection, translate, translate_group}
 use Rattle.spq_core.specs.Outcome.{IsJsonOf, rows}
-use Rattle.result_json.specs.Results.{json, listed_names}
+use Rattle.result_json.specs.Results.{joined_blocks, json, listed_names}
 
 -- ---- the projected variables and their names
 
@@ -98,3 +98,8 @@ answered set one q doc store bytes l e = record {
   spelled = l.spelled;
   printed = e ∙ ap (json (selected_names q)) (same_rows set one q (quads_at store.dict store.index) l.quads l.dataset);
 }
+
+-- the same of bytes that were joined of lent blocks
+pub answered_in_blocks : DatasetIsSet → BagHasOneList → (q : QueryTree) (doc : List ℕ) (store : StoreView) (bytes : List ℕ) (lent blocks : List (Vec ℕ Global)) → IsLoaded (lines doc) store
+    → bytes ≡ joined_blocks lent → lent ≡ blocks → joined_blocks blocks ≡ json (selected_names q) (rows q (quads_at store.dict store.index)) → IsJsonOf doc q bytes
+answered_in_blocks set one q doc store bytes lent blocks l j v e = answered set one q doc store bytes l (j ∙ ap joined_blocks v ∙ e)

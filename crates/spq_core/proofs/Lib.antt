@@ -1,4 +1,5 @@
 pub mod AnsweringSteps
+pub mod BlockSteps
 pub mod DocumentSteps
 pub mod ListingSteps
 pub mod ReportSteps

@@ -10,20 +10,20 @@ ghost use Rattle.sparql_read.specs.Refusal.{IsRead};
 ghost use Rattle.sparql_algebra.specs.Names.{selected_names};
 ghost use Rattle.spq_core.specs.Faults.{IsFaultOf, IsFaultOfReading, IsNoRefusedWorker};
 ghost use Rattle.spq_core.specs.Outcome.{IsOutcome, rows};
-ghost use Rattle.result_json.specs.Results.{json};
+ghost use Rattle.result_json.specs.Results.{joined_blocks, json};
 
 use crate::fault::Fault;
 use algebra_model::laws::{a_bag_has_one_sorted_list, a_dataset_is_a_set};
 use dataset_load::{Store, load};
 use piece_cuts::Cuts;
 use piece_pool::Gate;
-use result_json::print_rows;
+use result_json::{Table, print_rows};
 use row_pieces::{EvalFault, How};
 use sparql_algebra::translate;
 use sparql_eval::evaluate;
 use sparql_read::{QueryFault, read_query};
 use sparql_tree::Query;
-use std::alloc::Global;
+use std::alloc::{AllocError, Global};
 use std::random::RandomSource;
 use std::sync::Wait;
 use std::thread::Threads;
@@ -44,7 +44,8 @@ pub fn judged(alloc: Global, text: &str) -> Result<Query, Fault>
     }
 }
 
-/// The answer of a query that was read, over a dataset that was loaded: the JSON of its rows.
+/// The answer of a query that was read, over a dataset that was loaded: the JSON of its rows, in blocks
+/// that lie one behind the other.
 pub fn answer_query<R: Threads + Wait + RandomSource, G: Gate + Sync>(
     rt: &R,
     alloc: Global,
@@ -52,9 +53,10 @@ pub fn answer_query<R: Threads + Wait + RandomSource, G: Gate + Sync>(
     query: &Query,
     how: &How,
     gate: &G,
-) -> Result<Vec<u8>, EvalFault>
+) -> Result<Vec<Vec<u8>>, EvalFault>
     requires how { IsRunnable how.now }
-    ensures answer { IfOk result (λ bytes. bytes.items ≡ json (selected_names (query_of query.now))
+    ensures answer { IfOk result (λ blocks. joined_blocks blocks.items
+        ≡ json (selected_names (query_of query.now))
         (rows (query_of query.now) (quads_at store.dict store.index))) }
     ensures one_worker { HasOneWorker how.now → IfErr result (λ fault. fault ≡ Memory) }
 {
@@ -63,16 +65,35 @@ pub fn answer_query<R: Threads + Wait + RandomSource, G: Gate + Sync>(
     let (dict, index) = store.into_parts();
     let (rows, dict) = evaluate(rt, alloc, dict, &index, &plan, how, gate)?;
     drop(index);
-    let offset = query.offset.unwrap_or(0);
-    let bytes = print_rows(
-        alloc,
-        &plan.names,
-        plan.projected(),
-        &rows,
-        &dict,
-        offset,
-        query.limit,
-    )?;
+    let table = Table {
+        names: &plan.names,
+        listed: plan.projected(),
+        rows: &rows,
+        dict: &dict,
+        offset: query.offset.unwrap_or(0),
+        limit: query.limit,
+    };
+    let blocks = print_rows(rt, alloc, &table, how, gate)?;
+    Ok(blocks)
+}
+
+/// How many bytes the blocks have, for the room that is made at once.
+fn count_bytes(blocks: &[Vec<u8>]) -> usize {
+    let mut count: usize = 0;
+    for block in blocks {
+        count = count.saturating_add(block.len());
+    }
+    count
+}
+
+/// The bytes of the blocks, one block behind the other.
+fn joined(alloc: Global, blocks: &[Vec<u8>]) -> Result<Vec<u8>, AllocError>
+    ensures joined { IfOk result (λ bytes. bytes.items ≡ joined_blocks blocks.now) }
+{
+    let mut bytes = Vec::with_capacity(alloc, count_bytes(blocks))?;
+    for block in blocks {
+        bytes.extend_from_slice(block)?;
+    }
     Ok(bytes)
 }
 
@@ -111,6 +132,7 @@ pub fn answer<R: Threads + Wait + RandomSource, G: Gate + Sync>(
     a_bag_has_one_sorted_list();
     let query = judged(alloc, query)?;
     let store = load(rt, alloc, doc, cuts, how.workers, gate)?;
-    let bytes = answer_query(rt, alloc, store, &query, how, gate)?;
+    let blocks = answer_query(rt, alloc, store, &query, how, gate)?;
+    let bytes = joined(alloc, &blocks)?;
     Ok(bytes)
 }

@@ -1,7 +1,9 @@
 //! The program: a command over a reader and a writer.
 ghost use Rattle.std.specs.Prelude.{◌≡◌, IfErr, IfOk, OnErr, OnOk};
+ghost use Rattle.std.specs.Io.KnownBytes.{Appends};
 ghost use Rattle.nquads_core.specs.Device.{Rises, Stays};
-ghost use Rattle.nquads_core.specs.Transfer.{IsReadInPart};
+ghost use Rattle.nquads_core.specs.Transfer.{IsReadInPart, WroteBeginning};
+ghost use Rattle.result_json.specs.Results.{joined_blocks};
 ghost use Rattle.spq_core.specs.Output.{check, request_of, select, terms};
 ghost use Rattle.spq_core.specs.Run.{IfBadLine, IfQuery, IfRead, IfWrite, IsBadLineFrom, IsBadLineOf, IsByOneWorker, IsComposed, IsDone, IsLoadedFrom, IsNoRefusedWorker, IsNotLine, IsOfComposing, IsOfDocument, IsQueryOf, IsWrittenInPart, UnlessRead, UnlessWrite, WriterFailed};
 
@@ -10,12 +12,12 @@ use crate::fault::Fault;
 use crate::listing::{counts_text, terms_text};
 use algebra_model::laws::{a_bag_has_one_sorted_list, a_dataset_is_a_set};
 use dataset_load::{LoadFault, Store, load_blocks, read_blocks};
-use nquads_core::{ReadFault, Sink, Source, write_all};
+use nquads_core::{DeviceFailed, ReadFault, Sink, Source, write_all};
 use piece_pool::OpenGate;
 use row_pieces::{EvalFault, How};
 use sparql_read::QueryFault;
 use spq_command::{Command, CommandFault, Reading};
-use std::alloc::Global;
+use std::alloc::{AllocError, Global};
 use std::random::RandomSource;
 use std::sync::Wait;
 use std::thread::Threads;
@@ -108,8 +110,8 @@ fn load_document<R: Threads + Wait + RandomSource, S: Source>(
     }
 }
 
-/// The answer of a query over the document that the reader has left. The query is judged before
-/// anything is read. (A piece of no rows is taken as one of one row.)
+/// The answer of a query over the document that the reader has left, in blocks that lie one behind the
+/// other. The query is judged before anything is read. (A piece of no rows is taken as one of one row.)
 fn selected<R: Threads + Wait + RandomSource, S: Source>(
     rt: &R,
     alloc: Global,
@@ -117,9 +119,10 @@ fn selected<R: Threads + Wait + RandomSource, S: Source>(
     reading: Reading,
     rows: usize,
     reader: &mut S,
-) -> Result<Vec<u8>, RunFault>
+) -> Result<Vec<Vec<u8>>, RunFault>
     ensures composed { IfOk result
-        (λ text. IsComposed (select query.now) (S.left reader.old) (S.left reader.new) text.items) }
+        (λ blocks. IsComposed (select query.now) (S.left reader.old) (S.left reader.new)
+        (joined_blocks blocks.items)) }
     ensures query { IfErr result
         (IfQuery (λ f. IsQueryOf (select query.now) f × (reader.new ≡ reader.old))) }
     ensures bad_line { IfErr result
@@ -144,21 +147,29 @@ fn selected<R: Threads + Wait + RandomSource, S: Source>(
         rows: rows.max(1),
     };
     match answer_query(rt, alloc, store, &query, &how, &OpenGate) {
-        Ok(text) => Ok(text),
+        Ok(blocks) => Ok(blocks),
         Err(EvalFault::WorkerRefused) => Err(RunFault::WorkerRefused),
         Err(EvalFault::Memory) => Err(RunFault::Memory),
     }
 }
 
-/// How many quads, terms and graphs the document has that the reader has left.
+/// A text as a list of one block.
+fn one_block(alloc: Global, text: Vec<u8>) -> Result<Vec<Vec<u8>>, AllocError>
+    ensures joined { IfOk result (λ blocks. joined_blocks blocks.items ≡ text.items) }
+{
+    Ok(vec![in alloc; text]?)
+}
+
+/// How many quads, terms and graphs the document has that the reader has left, as one block.
 fn checked<R: Threads + Wait + RandomSource, S: Source>(
     rt: &R,
     alloc: Global,
     reading: Reading,
     reader: &mut S,
-) -> Result<Vec<u8>, RunFault>
+) -> Result<Vec<Vec<u8>>, RunFault>
     ensures composed { IfOk result
-        (λ text. IsComposed check (S.left reader.old) (S.left reader.new) text.items) }
+        (λ blocks. IsComposed check (S.left reader.old) (S.left reader.new)
+        (joined_blocks blocks.items)) }
     ensures bad_line { IfErr result
         (IfBadLine (IsBadLineOf check (S.left reader.old) (S.left reader.new))) }
     ensures count { OnOk result (Stays (S.failures reader.old) (S.failures reader.new)) }
@@ -170,21 +181,26 @@ fn checked<R: Threads + Wait + RandomSource, S: Source>(
     ensures one_worker { reading.workers ≡ 1 → IfErr result IsNoRefusedWorker }
 {
     let store = load_document(rt, alloc, reading, reader)?;
-    match counts_text(alloc, &store) {
-        Ok(text) => Ok(text),
+    let text = match counts_text(alloc, &store) {
+        Ok(text) => text,
+        Err(_) => return Err(RunFault::Memory),
+    };
+    match one_block(alloc, text) {
+        Ok(blocks) => Ok(blocks),
         Err(_) => Err(RunFault::Memory),
     }
 }
 
-/// The terms of the document that the reader has left.
+/// The terms of the document that the reader has left, as one block.
 fn listed<R: Threads + Wait + RandomSource, S: Source>(
     rt: &R,
     alloc: Global,
     reading: Reading,
     reader: &mut S,
-) -> Result<Vec<u8>, RunFault>
+) -> Result<Vec<Vec<u8>>, RunFault>
     ensures composed { IfOk result
-        (λ text. IsComposed terms (S.left reader.old) (S.left reader.new) text.items) }
+        (λ blocks. IsComposed terms (S.left reader.old) (S.left reader.new)
+        (joined_blocks blocks.items)) }
     ensures bad_line { IfErr result
         (IfBadLine (IsBadLineOf terms (S.left reader.old) (S.left reader.new))) }
     ensures count { OnOk result (Stays (S.failures reader.old) (S.failures reader.new)) }
@@ -196,21 +212,27 @@ fn listed<R: Threads + Wait + RandomSource, S: Source>(
     ensures one_worker { reading.workers ≡ 1 → IfErr result IsNoRefusedWorker }
 {
     let store = load_document(rt, alloc, reading, reader)?;
-    match terms_text(alloc, store.dict()) {
-        Ok(text) => Ok(text),
+    let text = match terms_text(alloc, store.dict()) {
+        Ok(text) => text,
+        Err(_) => return Err(RunFault::Memory),
+    };
+    match one_block(alloc, text) {
+        Ok(blocks) => Ok(blocks),
         Err(_) => Err(RunFault::Memory),
     }
 }
 
-/// The whole output of a command, which is composed before anything is written.
+/// The whole output of a command, which is composed before anything is written: blocks of bytes that
+/// lie one behind the other. Nothing joins them, since they are written as they are.
 fn composed<R: Threads + Wait + RandomSource, S: Source>(
     rt: &R,
     alloc: Global,
     command: &Command,
     reader: &mut S,
-) -> Result<Vec<u8>, RunFault>
+) -> Result<Vec<Vec<u8>>, RunFault>
     ensures composed { IfOk result
-        (λ text. IsComposed (request_of command.now) (S.left reader.old) (S.left reader.new) text.items) }
+        (λ blocks. IsComposed (request_of command.now) (S.left reader.old) (S.left reader.new)
+        (joined_blocks blocks.items)) }
     ensures query { IfErr result
         (IfQuery (λ f. IsQueryOf (request_of command.now) f × (reader.new ≡ reader.old))) }
     ensures bad_line { IfErr result
@@ -232,6 +254,26 @@ fn composed<R: Threads + Wait + RandomSource, S: Source>(
         Command::Check { reading } => checked(rt, alloc, *reading, reader),
         Command::Terms { reading } => listed(rt, alloc, *reading, reader),
     }
+}
+
+/// Writes the blocks, one behind the other.
+///
+/// # Errors
+/// `DeviceFailed`: the writer failed in this call, or took no byte of a text that was not empty. A
+/// beginning of the blocks was written, and not all of them.
+fn write_blocks<K: Sink>(writer: &mut K, blocks: &[Vec<u8>]) -> Result<(), DeviceFailed>
+    ensures written { OnOk result
+        (Appends (K.held writer.old) (K.held writer.new) (joined_blocks blocks.now)) }
+    ensures written_count { OnOk result (Stays (K.failures writer.old) (K.failures writer.new)) }
+    ensures failed { OnErr result
+        (WroteBeginning (K.held writer.old) (K.held writer.new) (joined_blocks blocks.now)) }
+    ensures failed_count { OnErr result
+        (WriterFailed K.write_gives (K.failures writer.old) (K.failures writer.new)) }
+{
+    for block in blocks {
+        write_all(writer, block)?;
+    }
+    Ok(())
 }
 
 /// Runs a command: judges its query, reads the document to its end, composes the whole output and
@@ -280,8 +322,8 @@ pub fn run<R: Threads + Wait + RandomSource, S: Source, K: Sink>(
     ensures line { IfErr result IsNotLine }
     ensures one_worker { IsByOneWorker command.now → IfErr result IsNoRefusedWorker }
 {
-    let text = composed(rt, alloc, command, reader)?;
-    match write_all(writer, &text) {
+    let blocks = composed(rt, alloc, command, reader)?;
+    match write_blocks(writer, &blocks) {
         Ok(()) => Ok(()),
         Err(_failed) => Err(RunFault::Write),
     }

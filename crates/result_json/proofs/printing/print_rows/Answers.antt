@@ -11,17 +11,18 @@ use Rattle.rdf_core.specs.declared.term.Term.{Term}
 use Rattle.result_json.specs.declared.ranked_row.RankedRow.{RankedRow}
 use Rattle.result_json.specs.RankedRows.{ranks_of}
 use Rattle.result_json.specs.Ranks.{IsRank, ranked_row, terms_of}
-use Rattle.result_json.specs.Results.{json, listed_names}
+use Rattle.result_json.specs.Results.{joined_blocks, json, listed_names}
 use Rattle.result_json.proofs.ChunkLaws.{rows_of_ranks, Each-rows_in}
 use Rattle.result_json.proofs.RankLaws.{sorted_by_ranks}
 use Rattle.result_json.proofs.SliceLaws.{slice-map}
 use Rattle.result_json.proofs.printing.print_rows.Goals as goal
 
-pub returns : goal.returns
-returns c =
-    let dict = c.args.dict.now in
-    let listed = c.args.listed.now in
-    let solutions = c.args.rows.now.rows in
+pub returns-clause-json : goal.returns-clause-json
+returns-clause-json g c =
+    let table = c.args.table.now in
+    let dict = table.dict.now in
+    let listed = table.listed.now in
+    let solutions = table.rows.now.rows in
     let terms = terms_of c.in_ok-terms.terms.items in
     let ranks = c.rank.new.codes in
     let ordered = c.order_pairs.new.ranks in
@@ -45,11 +46,9 @@ returns c =
     let in_order : map (ranked_row terms) (ranks_of sorted) ≡ sorted_rows listed all =
     by_ranks ∙ ap (sorted_list cells_cmp) (rows_of_ranks dict listed solutions c.requires.known terms c.deref_mut.result.now ranks (c.deref_mut.ensures.value ∙ c.in_ok-ranks.ensures.codes) c.in_ok-terms.ensures.cells) in
     let texts : c.in_ok-texts.texts ≡ terms = c.in_ok-texts.ensures.terms ∙ ap terms_of c.deref-2.ensures.value in
-    let kept : map (ranked_row c.in_ok-texts.texts) (ranks_of c.kept.result.now) ≡ slice c.args.offset c.args.limit (sorted_rows listed all) =
-    (λ i. map (ranked_row (texts i)) (ranks_of c.kept.result.now))
-    ∙ ap (λ (rs : List RankedRow). map (ranked_row terms) (ranks_of rs)) (c.kept.ensures.value ∙ ap (slice c.args.offset c.args.limit) c.deref-3.ensures.value)
-    ∙ ap (map (ranked_row terms)) (sym (slice-map (λ (r : RankedRow). r.ranks.now) c.args.offset c.args.limit sorted))
-    ∙ sym (slice-map (ranked_row terms) c.args.offset c.args.limit (ranks_of sorted)) ∙ ap (slice c.args.offset c.args.limit) in_order in
-    record {
-      json = subst (λ (rs : List (List (Option Term))). IfOk c.to_json.result (λ bytes. bytes.items ≡ json (listed_names c.args.names.now listed) rs)) kept c.to_json.ensures.json;
-    }
+    let kept : map (ranked_row c.in_ok-texts.texts) (ranks_of c.kept-kept.result.now) ≡ slice table.offset table.limit (sorted_rows listed all) =
+    (λ i. map (ranked_row (texts i)) (ranks_of c.kept-kept.result.now))
+    ∙ ap (λ (rs : List RankedRow). map (ranked_row terms) (ranks_of rs)) (c.kept-kept.ensures.value ∙ ap (slice table.offset table.limit) c.deref-3.ensures.value)
+    ∙ ap (map (ranked_row terms)) (sym (slice-map (λ (r : RankedRow). r.ranks.now) table.offset table.limit sorted))
+    ∙ sym (slice-map (ranked_row terms) table.offset table.limit (ranks_of sorted)) ∙ ap (slice table.offset table.limit) in_order in
+    subst (λ (rs : List (List (Option Term))). IfOk c.to_json.result (λ blocks. joined_blocks blocks.items ≡ json (listed_names table.names.now listed) rs)) kept c.to_json.ensures.json

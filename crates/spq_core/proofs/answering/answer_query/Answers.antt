@@ -5,13 +5,10 @@ use Rattle.sparql_eval.specs.Evaluated.{solutions_of}
 use Rattle.spq_core.proofs.AnsweringSteps.{printed}
 use Rattle.spq_core.proofs.answering.answer_query.Goals as goal
 
-pub print_rows-requires : goal.print_rows-requires
-print_rows-requires g c = record { known = c.in_ok-rows.ensures.evaluated.known }
-
 pub returns-clause-answer : goal.returns-clause-answer
 returns-clause-answer g c =
     let store = c.args.store in
     let parts = c.into_parts-dict in
     printed c.a_bag_has_one_sorted_list.ensures.same (query_of c.args.query.now) (quads_at parts.result.0 parts.result.1) (quads_at store.dict store.index) c.in_ok-plan.plan.names.items c.deref.result.now
-    (algebra_of c.in_ok-plan.plan.tree) (solutions_of c.in_ok-rows.dict c.in_ok-rows.rows) c.projected.result.now c.unwrap_or-offset.result c.in_ok-bytes.bytes.items c.in_ok-plan.ensures.names c.deref.ensures.value c.in_ok-plan.ensures.tree
-    c.in_ok-plan.plan.within c.in_ok-rows.ensures.evaluated.bag (λ i. quads_at (parts.ensures.dict i) (parts.ensures.index i)) c.projected.ensures.listed c.unwrap_or-offset.ensures c.in_ok-bytes.ensures.json
+    (algebra_of c.in_ok-plan.plan.tree) (solutions_of c.in_ok-rows.dict c.in_ok-rows.rows) c.projected.result.now c.unwrap_or.result _ c.in_ok-plan.ensures.names c.deref.ensures.value
+    c.in_ok-plan.ensures.tree c.in_ok-plan.plan.within c.in_ok-rows.ensures.evaluated.bag (λ i. quads_at (parts.ensures.dict i) (parts.ensures.index i)) c.projected.ensures.listed c.unwrap_or.ensures c.in_ok-blocks.ensures.json

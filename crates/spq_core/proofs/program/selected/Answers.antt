@@ -5,7 +5,7 @@ use Rattle.spq_core.proofs.program.selected.Goals as goal
 
 pub returns-in-Ok-answer_query-clause-composed : goal.returns-in-Ok-answer_query-clause-composed
 returns-in-Ok-answer_query-clause-composed g c =
-    composed_select c.a_dataset_is_a_set.ensures.answers c.a_bag_has_one_sorted_list.ensures.same _ _ c.args.query.now (query_of c.in-Ok.query) c.in_ok-store.store c.in-Ok-answer_query.text.items
+    composed_select c.a_dataset_is_a_set.ensures.answers c.a_bag_has_one_sorted_list.ensures.same _ _ c.args.query.now (query_of c.in-Ok.query) c.in_ok-store.store _
     c.in-Ok.ensures.query c.in_ok-store.ensures.loaded c.in-Ok-answer_query.ensures.answer
 
 pub returns-in_err-store-clause-bad_line : goal.returns-in_err-store-clause-bad_line

@@ -3,7 +3,7 @@ use Rattle.std.proofs.lemmas.List.{get_or-map, length-map}
 use Rattle.result_json.specs.Ranks.{ranked_cell}
 use Rattle.result_json.specs.Texts.{all_texts, begun_member, comma_texts, places_of, IsAhead}
 use Rattle.result_json.proofs.SeparatedLaws.{row_more}
-use Rattle.result_json.proofs.results.put_row.Goals as goal
+use Rattle.result_json.proofs.row_texts.put_row.Goals as goal
 
 pub put_member-requires : goal.put_member-requires
 put_member-requires c =

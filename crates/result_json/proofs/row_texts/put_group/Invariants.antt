@@ -1,7 +1,7 @@
 use Rattle.std.proofs.Common.{◌≡◌, ◌++◌, drop, map}
 use Rattle.result_json.specs.RankedRows.{ranks_of}
 use Rattle.result_json.specs.Texts.{begun_column, begun_row, comma_texts}
-use Rattle.result_json.proofs.results.put_block.Given as goal
+use Rattle.result_json.proofs.row_texts.put_group.Given as goal
 
 abbrev pub invariant-loop-i : goal.invariant-loop-i
 invariant-loop-i l =

@@ -3,8 +3,8 @@ use Rattle.std.proofs.Math.Seq.{drop-cons}
 use Rattle.result_json.specs.RankedRows.{ranks_of}
 use Rattle.result_json.specs.Texts.{begun_column, begun_row, comma_texts}
 use Rattle.result_json.proofs.SeparatedLaws.{comma_texts-cons}
-use Rattle.result_json.proofs.results.put_block.Goals as goal
-use Rattle.result_json.proofs.results.put_block.Goals.{then-later+in_ok-push, else-later}
+use Rattle.result_json.proofs.row_texts.put_group.Goals as goal
+use Rattle.result_json.proofs.row_texts.put_group.Goals.{then-later+in_ok-push, else-later}
 
 pub loop-i-preserved : goal.loop-i-preserved
 loop-i-preserved c =

@@ -5,7 +5,7 @@ use Rattle.result_json.specs.declared.ranked_row.RankedRow.{RankedRow}
 use Rattle.result_json.specs.RankedRows.{ranks_of}
 use Rattle.result_json.specs.Texts.{begun_column, begun_row, comma_texts}
 use Rattle.result_json.proofs.SeparatedLaws.{comma_texts-append}
-use Rattle.result_json.proofs.results.put_rows.Goals as goal
+use Rattle.result_json.proofs.row_texts.put_rows.Goals as goal
 
 pub loop-rest-preserved : goal.loop-rest-preserved
 loop-rest-preserved c =
@@ -22,7 +22,7 @@ loop-rest-preserved c =
     sym (map-append text (ranks_of front) (ranks_of behind)) ∙ ap (map text) (sym (map-append (λ (r : RankedRow). r.ranks.now) front behind)) ∙ ap (λ (rs : List RankedRow). map text (ranks_of rs)) parts in
     let nonempty : length rest ≢ 0 = eqb-false (length rest) 0 (sym c.loop-rest-test.ensures) in
     let some : 0 < length (map text (ranks_of front)) = omega (arith, length-map (ranks_of front) text, length-map front (λ (r : RankedRow). r.ranks.now), count, c.min.ensures) in
-    ap (λ t. t ++ comma_texts true (map text (ranks_of behind))) c.in_ok-put_block.ensures.text
+    ap (λ t. t ++ comma_texts true (map text (ranks_of behind))) c.in_ok-put_group.ensures.text
     ∙ append_assoc out (comma_texts later (map text (ranks_of front))) (comma_texts true (map text (ranks_of behind)))
     ∙ ap (λ t. out ++ t) (sym (comma_texts-append later (map text (ranks_of front)) (map text (ranks_of behind)) some) ∙ ap (comma_texts later) texts)
     ∙ c.loop-rest.invariant

@@ -2,7 +2,7 @@ use Rattle.std.proofs.Common.{◌≡◌, ◌++◌, codes, map, take}
 use Rattle.result_json.specs.Results.{separated}
 use Rattle.result_json.specs.Texts.{begun_column, begun_members}
 use Rattle.result_json.proofs.SeparatedLaws.{is_cons}
-use Rattle.result_json.proofs.results.put_row.Given as goal
+use Rattle.result_json.proofs.row_texts.put_row.Given as goal
 
 abbrev pub invariant-loop-k : goal.invariant-loop-k
 invariant-loop-k l = record {

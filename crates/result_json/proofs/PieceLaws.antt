@@ -1,0 +1,83 @@
+-- The texts of rows by pieces, one piece behind the other, are the texts of all rows.
+use Rattle.std.proofs.Common.{◌≡◌, ℕ, zero, suc, ◌*◌, ◌<◌, ◌≤◌, ◌==◌, Bool, true, false, not, List, [], ◌∷◌, ◌++◌, Vec, Global, length, take, drop, map, flat_map, refl, sym, ap, ◌∙◌, subst, arith}
+use Rattle.std.specs.Int.{div_ceil}
+use Rattle.std.specs.List.{slice_index_or}
+use Rattle.std.proofs.Math.Nat.{suc-mul, zero-mul}
+use Rattle.std.proofs.lemmas.Grind.{div_ceil_times}
+use Rattle.std.proofs.lemmas.List.{drop-drop, length-drop, length-map, length-take, map-append, take-append-drop}
+use Rattle.std.proofs.lemmas.Bool.{ne_eqb}
+use Rattle.std.proofs.lemmas.List.Concat.{flat_map-append}
+use Rattle.rdf_core.specs.declared.term.Term.{Term}
+use Rattle.row_pieces.specs.Pieces.{piece_of}
+use Rattle.result_json.specs.declared.ranked_row.RankedRow.{RankedRow}
+use Rattle.result_json.specs.RankedRows.{ranks_of}
+use Rattle.result_json.specs.Results.{joined_blocks, separated}
+use Rattle.result_json.specs.Texts.{begun_column, begun_row, comma_texts, piece_text, row_texts}
+use Rattle.result_json.proofs.SeparatedLaws.{comma_texts-append}
+
+none : {X : Type 0} (xs : List X) → length xs ≤ 0 → xs ≡ []
+none [] h = refl
+none (x ∷ xs) h = absurd (omega arith)
+
+no_texts : (later : Bool) → comma_texts later [] ≡ []
+no_texts true = refl
+no_texts false = refl
+
+-- a front that is empty only where nothing stands behind it
+in_two : (later : Bool) (xs ys : List (List ℕ)) → (length xs ≤ 0 → ys ≡ []) → comma_texts later (xs ++ ys) ≡ comma_texts later xs ++ comma_texts true ys
+in_two true xs ys h = flat_map-append (λ y. 44 ∷ y) xs ys
+in_two false [] ys h = ap separated (h (omega arith)) ∙ sym (ap (flat_map (λ (y : List ℕ). 44 ∷ y)) (h (omega arith)))
+in_two false (x ∷ xs) ys h = comma_texts-append false (x ∷ xs) ys (omega arith)
+
+-- whether a comma stands before the first row of a piece, where `later` says it of the first piece
+abbrev pub comma_at : Bool → ℕ → Bool
+comma_at later zero = later
+comma_at later (suc i) = true
+
+comma_at-true : (i : ℕ) → comma_at true i ≡ true
+comma_at-true zero = refl
+comma_at-true (suc i) = refl
+
+comma_at-false : (i : ℕ) → not (i == 0) ≡ comma_at false i
+comma_at-false zero = refl
+comma_at-false (suc i) = ap not (ne_eqb (suc i) 0 (λ e. omega (arith, e)))
+
+module _ (terms : List Term) (columns : List (Vec ℕ Global × ℕ)) (size : ℕ) where
+  abbrev pub texts : List RankedRow → List (List ℕ)
+  texts rows = row_texts terms columns rows
+
+  texts-append : (xs ys : List RankedRow) → texts (xs ++ ys) ≡ texts xs ++ texts ys
+  texts-append xs ys = ap (map (begun_row terms (map begun_column columns))) (map-append (λ (r : RankedRow). r.ranks.now) xs ys) ∙ map-append (begun_row terms (map begun_column columns)) (ranks_of xs) (ranks_of ys)
+
+  texts-length : (xs : List RankedRow) → length (texts xs) ≡ length xs
+  texts-length xs = length-map (ranks_of xs) (begun_row terms (map begun_column columns)) ∙ length-map xs (λ (r : RankedRow). r.ranks.now)
+
+  pieces : (later : Bool) (blocks : List (Vec ℕ Global)) (rows : List RankedRow) → 0 < size
+      → ((i : ℕ) (d : Vec ℕ Global) → i < length blocks → (slice_index_or blocks i d).items ≡ comma_texts (comma_at later i) (texts (piece_of size i rows)))
+      → length rows ≤ length blocks * size → joined_blocks blocks ≡ comma_texts later (texts rows)
+  pieces later [] rows p each h =
+      let z = zero-mul size in
+      sym (ap (λ (rs : List RankedRow). comma_texts later (texts rs)) (none rows (omega arith)) ∙ no_texts later)
+  pieces later (b ∷ bs) rows p each h =
+      let m = suc-mul (length bs) size in
+      let l = length-drop size rows in
+      let front = take size rows in
+      let behind = drop size rows in
+      let z : drop (0 * size) rows ≡ rows = ap (λ k. drop k rows) (zero-mul size) in
+      let first : b.items ≡ comma_texts later (texts front) = each 0 b (omega arith) ∙ ap (λ (rs : List RankedRow). comma_texts later (texts (take size rs))) z in
+      let next : (i : ℕ) → piece_of size (suc i) rows ≡ piece_of size i behind =
+      λ i. ap (take size) (ap (λ k. drop k rows) (let e = suc-mul i size in omega arith) ∙ sym (drop-drop (i * size) size rows)) in
+      let rest : joined_blocks bs ≡ comma_texts true (texts behind) = pieces true bs behind p
+      (λ i d low. each (suc i) d (omega arith) ∙ ap (λ (rs : List RankedRow). comma_texts true (texts rs)) (next i) ∙ ap (λ (b : Bool). comma_texts b (texts (piece_of size i behind))) (sym (comma_at-true i))) (omega arith) in
+      let nothing : length (texts front) ≤ 0 → texts behind ≡ [] =
+      λ e. ap texts (none behind (omega (arith, e, texts-length front, length-take size rows, l))) in
+      (λ i. first i ++ rest i) ∙ sym (in_two later (texts front) (texts behind) nothing) ∙ ap (comma_texts later) (sym (texts-append front behind) ∙ ap texts (take-append-drop size rows))
+
+  -- so many pieces hold all rows
+  pub pieces-joined : (count number : ℕ) (blocks : List (Vec ℕ Global)) (rows : List RankedRow) → 0 < size → count ≡ length rows → number ≡ div_ceil count size → length blocks ≡ number
+      → ((i : ℕ) (d : Vec ℕ Global) → i < number → (slice_index_or blocks i d).items ≡ piece_text terms columns rows size i)
+      → joined_blocks blocks ≡ separated (texts rows)
+  pieces-joined count number blocks rows p c n b each =
+      let enough : count ≤ div_ceil count size * size = (div_ceil_times count size p).0 in
+      pieces false blocks rows p (λ i d low. each i d (subst (λ (x : ℕ). i < x) b low) ∙ ap (λ (later : Bool). comma_texts later (texts (piece_of size i rows))) (comma_at-false i))
+      (subst (λ (x : ℕ). length rows ≤ x * size) (sym (b ∙ n)) (subst (λ (x : ℕ). x ≤ div_ceil count size * size) c enough))

@@ -1,0 +1,154 @@
+//! Rows as JSON, put together by appends.
+//!
+//! A row is made of the beginnings of its members, each made once a column, and of the texts of terms,
+//! each made once a term. Rows go out group by group: the texts of a group's rows are looked up first.
+ghost use Rattle.std.specs.Prelude.{◌≡◌, ◌++◌, ◌||◌, drop, is_some, map, IfOk, OnOk};
+ghost use Rattle.result_json.specs.Ranks.{ranked_cell};
+ghost use Rattle.result_json.specs.Texts.{all_texts, begun_column, begun_member, begun_row, comma_texts, places_of, row_texts, IsAhead, IsRowAhead};
+
+use crate::ahead::{looked_up, text_at};
+use crate::ranked_row::RankedRow;
+use crate::term_texts::TermTexts;
+use std::alloc::{AllocError, Global};
+
+/// So many rows have their texts looked up at once: enough that their loads overlap, and few enough
+/// that what was loaded is still near when it is copied.
+const GROUP: usize = 32;
+
+/// Appends the member of a cell, where it is bound, and a comma before it where a member stands
+/// before. Answers whether a member stands there now. The text of its term is asked for only here.
+fn put_cell(
+    alloc: Global,
+    out: &mut Vec<u8>,
+    prefix: &[u8],
+    texts: &TermTexts<'_>,
+    rank: u64,
+    later: bool,
+) -> Result<bool, AllocError>
+    ensures text { OnOk result
+        (out.new.items ≡ out.old.items
+        ++ comma_texts later (begun_member prefix.now (ranked_cell texts.now rank))) }
+    ensures later { IfOk result (λ b. b ≡ (later || is_some (ranked_cell texts.now rank))) }
+{
+    let Some(place) = texts.place(rank) else {
+        return Ok(later);
+    };
+    if later {
+        out.push(b',')?;
+    }
+    out.extend_from_slice(prefix)?;
+    texts.put(alloc, out, place)?;
+    Ok(true)
+}
+
+/// Appends the member of a cell, where it is bound, and a comma before it where a member stands
+/// before. Answers whether a member stands there now. Where the text that was looked up for it is empty,
+/// its own is asked for.
+fn put_member(
+    alloc: Global,
+    out: &mut Vec<u8>,
+    prefix: &[u8],
+    texts: &TermTexts<'_>,
+    rank: u64,
+    text: &[u8],
+    later: bool,
+) -> Result<bool, AllocError>
+    requires ahead { IsAhead texts.now rank text.now }
+    ensures text { OnOk result
+        (out.new.items ≡ out.old.items
+        ++ comma_texts later (begun_member prefix.now (ranked_cell texts.now rank))) }
+    ensures later { IfOk result (λ b. b ≡ (later || is_some (ranked_cell texts.now rank))) }
+{
+    if text.is_empty() {
+        return put_cell(alloc, out, prefix, texts, rank, later);
+    }
+    if later {
+        out.push(b',')?;
+    }
+    out.extend_from_slice(prefix)?;
+    out.extend_from_slice(text)?;
+    Ok(true)
+}
+
+/// Appends the object of a row, which is the row of this number of those whose texts were looked up.
+fn put_row(
+    alloc: Global,
+    out: &mut Vec<u8>,
+    columns: &[(Vec<u8>, usize)],
+    texts: &TermTexts<'_>,
+    row: &RankedRow<'_>,
+    ahead: &[Vec<&[u8]>],
+    number: usize,
+) -> Result<(), AllocError>
+    requires ahead { IsRowAhead texts.now (places_of columns.now) row.now.ranks.now number (all_texts ahead.now) }
+    ensures text { OnOk result
+        (out.new.items ≡ out.old.items
+        ++ begun_row texts.now (map begun_column columns.now) row.now.ranks.now) }
+{
+    out.push(b'{')?;
+    let mut later = false;
+    for (k, (prefix, place)) in columns.iter().enumerate() {
+        let text = text_at(ahead, k, number);
+        later = put_member(alloc, out, prefix, texts, row.rank(*place), text, later)?;
+    }
+    out.push(b'}')?;
+    Ok(())
+}
+
+/// What stands behind so many elements.
+fn behind<T>(elements: &[T], count: usize) -> &[T]
+    ensures value { result.now ≡ drop count elements.now }
+{
+    &elements[elements.len().min(count)..]
+}
+
+/// Appends some rows, with a comma before each, or before each but the first. The texts of them all are
+/// looked up before one is copied.
+fn put_group(
+    alloc: Global,
+    out: &mut Vec<u8>,
+    columns: &[(Vec<u8>, usize)],
+    texts: &TermTexts<'_>,
+    rows: &[RankedRow<'_>],
+    mut later: bool,
+) -> Result<(), AllocError>
+    ensures text { OnOk result
+        (out.new.items ≡ out.old.items
+        ++ comma_texts later (row_texts texts.now columns.now rows.now)) }
+{
+    let ahead = looked_up(alloc, columns, texts, rows)?;
+    for i in 0..rows.len() {
+        if later {
+            out.push(b',')?;
+        }
+        put_row(alloc, out, columns, texts, &rows[i], &ahead, i)?;
+        later = true;
+    }
+    Ok(())
+}
+
+/// Appends rows, with a comma before each, or before each but the first, group by group.
+///
+/// # Errors
+/// `AllocError`: a growth was refused. Some rows may stand behind what stood before.
+pub(crate) fn put_rows(
+    alloc: Global,
+    out: &mut Vec<u8>,
+    columns: &[(Vec<u8>, usize)],
+    texts: &TermTexts<'_>,
+    rows: &[RankedRow<'_>],
+    mut later: bool,
+) -> Result<(), AllocError>
+    ensures text { OnOk result
+        (out.new.items ≡ out.old.items
+        ++ comma_texts later (row_texts texts.now columns.now rows.now)) }
+{
+    let mut rest = rows;
+    while !rest.is_empty() {
+        let group = &rest[..rest.len().min(GROUP)];
+        put_group(alloc, out, columns, texts, group, later)?;
+        later = true;
+        rest = behind(rest, group.len());
+    }
+    Ok(())
+}

@@ -1,0 +1,26 @@
+-- A beginning of blocks that lie one behind the other.
+use Rattle.std.proofs.Common.{◌≡◌, ℕ, suc, ◌<◌, List, ◌∷◌, ◌++◌, length, get_or, take, drop, Option, Vec, Global, sym, ap, ◌∙◌, subst}
+use Rattle.std.specs.Io.KnownBytes.{Appends}
+use Rattle.std.proofs.Math.Seq.{drop-cons}
+use Rattle.std.proofs.lemmas.List.{take-append-drop}
+use Rattle.std.proofs.lemmas.List.Concat.{flat_map-append}
+use Rattle.nquads_core.specs.Transfer.{WroteBeginning}
+use Rattle.result_json.specs.Results.{joined_blocks}
+use Rattle.spq_core.proofs.ReportSteps.{back_begun, front_begun}
+
+-- what lies before a block, the block, and what lies behind it
+joined_split : (blocks : List (Vec ℕ Global)) (i : ℕ) (block : Vec ℕ Global) → i < length blocks → block ≡ get_or blocks i block
+    → joined_blocks blocks ≡ joined_blocks (take i blocks) ++ (block.items ++ joined_blocks (drop (suc i) blocks))
+joined_split blocks i block low at =
+    let e : drop i blocks ≡ block ∷ drop (suc i) blocks = drop-cons blocks i block low ∙ ap (λ (b : Vec ℕ Global). b ∷ drop (suc i) blocks) (sym at) in
+    ap joined_blocks (sym (take-append-drop i blocks)) ∙ flat_map-append (λ (b : Vec ℕ Global). b.items) (take i blocks) (drop i blocks)
+    ∙ ap (λ (bs : List (Vec ℕ Global)). joined_blocks (take i blocks) ++ joined_blocks bs) e
+
+-- all blocks before this one were written, and of its text a beginning
+pub block_begun : (a b c : Option (List ℕ)) (blocks : List (Vec ℕ Global)) (i : ℕ) (block : Vec ℕ Global) (text : List ℕ) → i < length blocks → block ≡ get_or blocks i block → text ≡ block.items
+    → Appends a b (joined_blocks (take i blocks)) → WroteBeginning b c text → WroteBeginning a c (joined_blocks blocks)
+block_begun a b c blocks i block text low at is h w =
+    let back = joined_blocks (drop (suc i) blocks) in
+    let begun : WroteBeginning b c block.items = subst (λ (t : List ℕ). WroteBeginning b c t) is w in
+    subst (λ (t : List ℕ). WroteBeginning a c t) (sym (joined_split blocks i block low at))
+    (back_begun a b c (joined_blocks (take i blocks)) (block.items ++ back) h (front_begun b c block.items back begun))
