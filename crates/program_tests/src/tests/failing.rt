@@ -122,7 +122,8 @@ fn tells_each_failed_read<R: Threads + Wait + RandomSource>(
 }
 
 /// Whether a command with this output answers each of its writes that fails, one by one: at once,
-/// with the document read to its end, and what the writes before took written.
+/// with the document read to its end, and what the writes before took written: a beginning of the
+/// output, which grows by each of them.
 fn tells_each_failed_write<R: Threads + Wait + RandomSource>(
     rt: &R,
     alloc: Global,
@@ -130,12 +131,18 @@ fn tells_each_failed_write<R: Threads + Wait + RandomSource>(
     doc: &[u8],
     output: &[u8],
 ) -> bool {
+    let mut before = 0usize;
     for k in 0..MANY {
         let mut reader = source(doc, usize::MAX);
         let mut writer = sink_failing_at(alloc, k);
         let ran = run(rt, alloc, command, &mut reader, &mut writer);
-        let written = (CHUNK * k).min(output.len());
-        if !reader.rest.is_empty() || writer.bytes.as_slice() != &output[..written] {
+        let written = writer.bytes.len();
+        let grows = if k == 0 {
+            written == 0
+        } else {
+            before < written
+        };
+        if !reader.rest.is_empty() || !grows || !output.starts_with(&writer.bytes) {
             return false;
         }
         if writer.failed == 0 {
@@ -144,6 +151,7 @@ fn tells_each_failed_write<R: Threads + Wait + RandomSource>(
         if ran != Err(RunFault::Write) || writer.calls != k + 1 {
             return false;
         }
+        before = written;
     }
     false
 }
