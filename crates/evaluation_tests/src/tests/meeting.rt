@@ -1,7 +1,8 @@
-//! The operators that go over pieces, by two workers that have to meet.
+//! The operators that go over pieces, and the printing of rows, by two workers that have to meet.
 use super::{are, dict_of, rows_of, text, told};
 use piece_pool::Gate;
-use rdf_core::Term;
+use rdf_core::{Term, Text};
+use result_json::{Table, print_rows};
 use row_pieces::{EvalFault, How};
 use sparql_algebra::Expr;
 use sparql_eval::{extend, filter, join, left_join, minus};
@@ -123,5 +124,44 @@ fn two_workers_meet(rt: HostRuntime) -> Result<(), EvalFault> {
             "operator {operator}"
         );
     }
+    Ok(())
+}
+
+/// The name of one variable.
+fn one_name(alloc: Global) -> Result<Vec<Text>, AllocError> {
+    Ok(vec![in alloc; text(alloc, "x")?]?)
+}
+
+/// Whether the two workers meet where two rows are printed, a row a piece: in as many blocks, with what
+/// stands before them and behind.
+fn meets_in_printing<R: RandomSource + Threads + Wait>(
+    rt: &R,
+    alloc: Global,
+) -> Result<bool, EvalFault> {
+    let gate = Meeting::fresh();
+    let how = How {
+        workers: 2,
+        rows: 1,
+    };
+    let dict = dict_of(rt, alloc, &["a:x", "a:y"])?;
+    let rows = rows_of(alloc, &dict, &[[Some(0), None], [Some(1), None]])?;
+    let names = one_name(alloc)?;
+    let table = Table {
+        names: &names,
+        listed: &[0],
+        rows: &rows,
+        dict: &dict,
+        offset: 0,
+        limit: None,
+    };
+    let blocks = print_rows(rt, alloc, &table, &how, &gate)?;
+    Ok(gate.is_met() && blocks.len() == 4)
+}
+
+/// The two workers meet where rows are printed.
+#[test]
+fn two_printers_meet(rt: HostRuntime) -> Result<(), EvalFault> {
+    let alloc = rt.alloc();
+    assert!(rt; meets_in_printing(&rt, alloc)?);
     Ok(())
 }
