@@ -371,10 +371,11 @@ def each_call_refused(program):
 def nothing_left_behind(program):
     """Every block of memory is given back, of long chains too (but for one that the C library keeps of a thread)."""
     library = stand_in(program, "blocks")
-    filters = [b"||1", b"&&1", b"&&!(1)"]
-    groups = [b"UNION{}", b"UNION{?a?b?c}", b"{}", b"OPTIONAL{}", b"MINUS{?a?b?c}"]
-    queries = [b"SELECT * { FILTER(1%s) }" % (part * 1000) for part in filters]
-    queries += [b"SELECT * { {}%s }" % (part * 1000) for part in groups]
+    filters = [b"||1", b"&&1", b"&&!(1)", b"||?a=1", b"||?a IN(1,?b)", b"||STR(?a)", b"||BOUND(?a)", b"||sameTerm(?a,1)"]
+    groups = [b"UNION{}", b"UNION{?a?b?c}", b"{}", b"{?a?b?c}", b"OPTIONAL{?a?b?c}", b"MINUS{?a?b?c}", b"GRAPH?g{?a?b?c}"]
+    groups += [b"FILTER(?a)", b"VALUES?k{1}"]
+    queries = [b"SELECT * { FILTER(1%s) }" % (part * 100) for part in filters]
+    queries += [b"SELECT * { {}%s }" % (part * 100) for part in groups]
     queries += [b"SELECT", b"SELECT DISTINCT ?e { GRAPH ?g { ?s ?p ?o } BIND(STR(?o) AS ?e) VALUES (?k ?l) { (1 UNDEF) } } LIMIT 3"]
     commands = [["check"], ["check", "--workers", "1"], ["terms"], ["none"]] + [["select", "--query", it] for it in queries]
     lines = [b"<http://e/s%d> <http://e/p> \"x\"@en <http://e/g> .\n" % n for n in range(1000)]

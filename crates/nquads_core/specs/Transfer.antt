@@ -32,11 +32,10 @@ pub record WroteBeginning (held held' : Option (List ℕ)) (text : List ℕ) : T
   pub short : count < length text
   pub appended : Appends held held' (take count text)
 
--- Some write of what was left of the text, which was not empty, took none of it.
+-- The device is as a write left it that took none of what was left of the text, which was not empty.
 pub record TookNone {K : Type 0} (write_gives : K → List ℕ → Result ℕ DeviceFailed → K → Type 0)
-    (text : List ℕ) : Type 0 where
+    (text : List ℕ) (device : K) : Type 0 where
   pub before : K
-  pub after : K
   pub at : ℕ
   pub left : at < length text
-  pub none : write_gives before (drop at text) (Ok 0) after
+  pub none : write_gives before (drop at text) (Ok 0) device

@@ -68,7 +68,9 @@ pub fn write_all<K: Sink>(writer: &mut K, text: &[u8]) -> Result<(), DeviceFaile
     ensures ok_count { OnOk result (Stays (K.failures writer.old) (K.failures writer.new)) }
     ensures failed { OnErr result (WroteBeginning (K.held writer.old) (K.held writer.new) text.now) }
     ensures failed_count { OnErr result
-        (Rises (K.failures writer.old) (K.failures writer.new) ⊎ TookNone K.write_gives text.now) }
+        (Rises (K.failures writer.old) (K.failures writer.new)
+        ⊎ (TookNone K.write_gives text.now writer.new
+        × Stays (K.failures writer.old) (K.failures writer.new))) }
 {
     let mut at = 0;
     while at < text.len() {

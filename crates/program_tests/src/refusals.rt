@@ -11,6 +11,7 @@ use piece_cuts::Cuts;
 use piece_pool::Gate;
 use rdf_core::{Term, Text, write_term};
 use row_pieces::How;
+use sparql_read::QueryFault;
 use spq_core::{Fault, answer};
 use std::alloc::{AllocError, Global};
 use std::random::RandomSource;
@@ -68,14 +69,23 @@ fn is_refused<R: Print>(rt: &R, given: &Result<Vec<u8>, Fault>) -> bool {
     true
 }
 
-/// Whether a query has this answer, or is refused and has it at a second try, by one worker and by
+/// Whether this is the outcome that is wanted.
+fn is_outcome(given: &Result<Vec<u8>, Fault>, wanted: Result<&[u8], Fault>) -> bool {
+    match (given, wanted) {
+        (Ok(bytes), Ok(wanted)) => bytes.as_slice() == wanted,
+        (Err(fault), Err(wanted)) => *fault == wanted,
+        _ => false,
+    }
+}
+
+/// Whether a query has this outcome, or is refused and has it at a second try, by one worker and by
 /// two; and after each of these tries, each piece that entered the gate has left it.
-fn has_answer<R: Threads + Wait + RandomSource + Print>(
+fn has_outcome<R: Threads + Wait + RandomSource + Print>(
     rt: &R,
     alloc: Global,
     doc: &str,
     query: &str,
-    wanted: &[u8],
+    wanted: Result<&[u8], Fault>,
 ) -> bool {
     for workers in [1, 2] {
         let gate = Passages {
@@ -89,10 +99,7 @@ fn has_answer<R: Threads + Wait + RandomSource + Print>(
             }
             given = by_lines(rt, alloc, doc.as_bytes(), query, workers, &gate);
         }
-        let Ok(bytes) = given else {
-            return false;
-        };
-        if bytes.as_slice() != wanted || !gate.is_balanced() {
+        if !is_outcome(&given, wanted) || !gate.is_balanced() {
             return false;
         }
     }
@@ -109,7 +116,7 @@ fn a_pattern_is_answered_or_memory_is_refused(rt: HostRuntime) {
     ) else {
         return;
     };
-    assert!(rt; has_answer(&rt, rt.alloc(), TWO_LINES, query, &wanted));
+    assert!(rt; has_outcome(&rt, rt.alloc(), TWO_LINES, query, Ok(&wanted)));
 }
 
 #[test]
@@ -123,7 +130,7 @@ fn an_optional_part_is_answered_or_memory_is_refused(rt: HostRuntime) {
     ) else {
         return;
     };
-    assert!(rt; has_answer(&rt, rt.alloc(), TYPED, query, &wanted));
+    assert!(rt; has_outcome(&rt, rt.alloc(), TYPED, query, Ok(&wanted)));
 }
 
 #[test]
@@ -137,7 +144,7 @@ fn a_join_is_answered_or_memory_is_refused(rt: HostRuntime) {
     ) else {
         return;
     };
-    assert!(rt; has_answer(&rt, rt.alloc(), NUMBERED, query, &wanted));
+    assert!(rt; has_outcome(&rt, rt.alloc(), NUMBERED, query, Ok(&wanted)));
 }
 
 #[test]
@@ -150,7 +157,20 @@ fn a_computed_term_is_answered_or_memory_is_refused(rt: HostRuntime) {
     ) else {
         return;
     };
-    assert!(rt; has_answer(&rt, rt.alloc(), TAGGED, query, &wanted));
+    assert!(rt; has_outcome(&rt, rt.alloc(), TAGGED, query, Ok(&wanted)));
+}
+
+#[test]
+fn a_bad_line_is_named_or_memory_is_refused(rt: HostRuntime) {
+    let doc = "<http://e/a> <http://e/p> <http://e/b> .\nx\n";
+    let wanted = Err(Fault::BadLine(2));
+    assert!(rt; has_outcome(&rt, rt.alloc(), doc, "SELECT * {}", wanted));
+}
+
+#[test]
+fn a_query_is_refused_by_its_rule_or_memory_is(rt: HostRuntime) {
+    let wanted = Err(Fault::Query(QueryFault::Syntax));
+    assert!(rt; has_outcome(&rt, rt.alloc(), "x\n", "SELECT", wanted));
 }
 
 /// A literal whose spelling is longer than what a buffer has at first.

@@ -1,5 +1,5 @@
 //! Minus (SPARQL 1.1 Query Language, section 18.5).
-ghost use Rattle.std.specs.Prelude.{◌≡◌, ◌<◌, ℕ, Bool, true, All, IfErr, IfOk, length, nat_eq};
+ghost use Rattle.std.specs.Prelude.{◌≡◌, ◌<◌, ◌≤◌, ℕ, Bool, true, All, IfErr, IfOk, length, nat_eq};
 ghost use Rattle.algebra_model.specs.Bag.{IsSameBag};
 ghost use Rattle.algebra_model.specs.Operators.{minus};
 ghost use Rattle.row_join.specs.Numbers.{all_pass};
@@ -26,7 +26,8 @@ use std::thread::Threads;
 /// Both sides have the same width, and `how` keeps its limits.
 ///
 /// # Errors
-/// - `WorkerRefused`: the start of a worker was refused. It never comes of one worker.
+/// - `WorkerRefused`: the start of a worker was refused. It never comes of one worker, nor where
+///   one piece holds all left rows.
 /// - `Memory`: a growth was refused.
 pub fn minus<R: Threads + Wait, G: Gate + Sync>(
     rt: &R,
@@ -43,6 +44,7 @@ pub fn minus<R: Threads + Wait, G: Gate + Sync>(
     ensures rows { IfOk result (λ rows. IsSameBag rows.rows (minus nat_eq left.now.rows right.now.rows)) }
     ensures numbers { IfOk result (λ rows. (p : ℕ → Bool) → all_pass p left.now.rows ≡ true
         → all_pass p rows.rows ≡ true) }
+    ensures alone { length left.now.rows ≤ how.now.rows → IfErr result (λ fault. fault ≡ Memory) }
     ensures one_worker { HasOneWorker how.now → IfErr result (λ fault. fault ≡ Memory) }
 {
     let right = RightSide::build(alloc, state, left, right)?;

@@ -1,5 +1,5 @@
 //! Join (SPARQL 1.1 Query Language, section 18.5).
-ghost use Rattle.std.specs.Prelude.{◌≡◌, ◌++◌, ◌<◌, ℕ, Bool, true, All, OnOk, IfErr, IfOk, length, nat_eq};
+ghost use Rattle.std.specs.Prelude.{◌≡◌, ◌++◌, ◌<◌, ◌≤◌, ℕ, Bool, true, All, OnOk, IfErr, IfOk, length, nat_eq};
 ghost use Rattle.algebra_model.specs.Bag.{IsSameBag};
 ghost use Rattle.algebra_model.specs.Operators.{join, merges};
 ghost use Rattle.row_join.specs.Numbers.{all_pass};
@@ -24,7 +24,8 @@ use std::thread::Threads;
 /// Both sides have the same width, and `how` keeps its limits.
 ///
 /// # Errors
-/// - `WorkerRefused`: the start of a worker was refused. It never comes of one worker.
+/// - `WorkerRefused`: the start of a worker was refused. It never comes of one worker, nor where
+///   one piece holds all left rows.
 /// - `Memory`: a growth was refused.
 pub fn join<R: Threads + Wait, G: Gate + Sync>(
     rt: &R,
@@ -41,6 +42,7 @@ pub fn join<R: Threads + Wait, G: Gate + Sync>(
     ensures rows { IfOk result (λ rows. IsSameBag rows.rows (join nat_eq left.now.rows right.now.rows)) }
     ensures numbers { IfOk result (λ rows. (p : ℕ → Bool) → all_pass p left.now.rows ≡ true
         → all_pass p right.now.rows ≡ true → all_pass p rows.rows ≡ true) }
+    ensures alone { length left.now.rows ≤ how.now.rows → IfErr result (λ fault. fault ≡ Memory) }
     ensures one_worker { HasOneWorker how.now → IfErr result (λ fault. fault ≡ Memory) }
 {
     let right = RightSide::build(alloc, state, left, right)?;

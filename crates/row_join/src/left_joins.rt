@@ -1,5 +1,5 @@
 //! LeftJoin (SPARQL 1.1 Query Language, section 18.5).
-ghost use Rattle.std.specs.Prelude.{◌≡◌, ◌++◌, ◌<◌, ℕ, Bool, true, filter, All, OnOk, IfErr, IfOk, length, nat_eq};
+ghost use Rattle.std.specs.Prelude.{◌≡◌, ◌++◌, ◌<◌, ◌≤◌, ℕ, Bool, true, filter, All, OnOk, IfErr, IfOk, length, nat_eq};
 ghost use Rattle.algebra_model.specs.Bag.{IsSameBag};
 ghost use Rattle.algebra_model.specs.Operators.{left_join, merges};
 ghost use Rattle.algebra_model.specs.Solve.{alone};
@@ -47,7 +47,8 @@ pub trait RowTest {
 /// Both sides have the same width, the condition knows the numbers of both, and `how` keeps its limits.
 ///
 /// # Errors
-/// - `WorkerRefused`: the start of a worker was refused. It never comes of one worker.
+/// - `WorkerRefused`: the start of a worker was refused. It never comes of one worker, nor where
+///   one piece holds all left rows.
 /// - `Memory`: a growth was refused.
 pub fn left_join<R: Threads + Wait, T: RowTest + Sync, G: Gate + Sync>(
     rt: &R,
@@ -68,6 +69,7 @@ pub fn left_join<R: Threads + Wait, T: RowTest + Sync, G: Gate + Sync>(
         (left_join nat_eq (T.keeps test.now) left.now.rows right.now.rows)) }
     ensures numbers { IfOk result (λ rows. (p : ℕ → Bool) → all_pass p left.now.rows ≡ true
         → all_pass p right.now.rows ≡ true → all_pass p rows.rows ≡ true) }
+    ensures alone { length left.now.rows ≤ how.now.rows → IfErr result (λ fault. fault ≡ Memory) }
     ensures one_worker { HasOneWorker how.now → IfErr result (λ fault. fault ≡ Memory) }
 {
     let right = RightSide::build(alloc, state, left, right)?;

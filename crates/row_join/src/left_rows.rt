@@ -1,5 +1,5 @@
 //! The left side of a join, run row by row over pieces.
-ghost use Rattle.std.specs.Prelude.{◌≡◌, ◌++◌, ℕ, Bool, true, List, OnOk, IfErr, IfOk, length, flat_map};
+ghost use Rattle.std.specs.Prelude.{◌≡◌, ◌≤◌, ◌++◌, ℕ, Bool, true, List, OnOk, IfErr, IfOk, length, flat_map};
 ghost use Rattle.algebra_model.specs.Bag.{IsSameBag};
 ghost use Rattle.algebra_model.specs.Solution.{Solution};
 ghost use Rattle.row_join.specs.Numbers.{passes, all_pass};
@@ -89,7 +89,8 @@ impl<'w, 'r, P: Pairing> RowWork for LeftRows<'w, 'r, P> {
 /// What all left rows give with the right side, cut into pieces as `how` says.
 ///
 /// # Errors
-/// - `WorkerRefused`: the start of a worker was refused. It never comes of one worker.
+/// - `WorkerRefused`: the start of a worker was refused. It never comes of one worker, nor where
+///   one piece holds all left rows.
 /// - `Memory`: a growth was refused.
 pub(crate) fn pair_rows<R: Threads + Wait, P: Pairing + Sync, G: Gate + Sync>(
     rt: &R,
@@ -107,6 +108,7 @@ pub(crate) fn pair_rows<R: Threads + Wait, P: Pairing + Sync, G: Gate + Sync>(
     ensures width { IfOk result (λ rows. rows.width ≡ left.now.width) }
     ensures rows { IfOk result (λ rows. IsSameBag rows.rows
         (flat_map (P.gives pairing.now right.now.rows.now.rows) left.now.rows)) }
+    ensures alone { length left.now.rows ≤ how.now.rows → IfErr result (λ fault. fault ≡ Memory) }
     ensures one_worker { HasOneWorker how.now → IfErr result (λ fault. fault ≡ Memory) }
 {
     let work = LeftRows {

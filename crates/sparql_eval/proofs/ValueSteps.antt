@@ -1,5 +1,5 @@
 -- The values of an expression, one row and one piece more, and their numbers.
-use Rattle.std.proofs.Common.{◌≡◌, ℕ, zero, suc, ◌+◌, ◌-◌, ◌*◌, ◌<◌, ◌≤◌, List, [], ◌∷◌, ◌++◌, length, take, drop, map, get_or, slice_get, Option, None, Some, option_map, refl, sym, ap, ◌∙◌, subst, arith}
+use Rattle.std.proofs.Common.{◌≡◌, ℕ, zero, suc, ◌+◌, ◌-◌, ◌*◌, ◌<◌, ◌≤◌, List, [], ◌∷◌, ◌++◌, length, take, drop, map, get_or, slice_get, Option, None, Some, option_map, refl, sym, ap, ◌∙◌, subst, arith, lt_of_not-le, mul-le-mul_right}
 use Rattle.std.specs.List.{slice_index_or}
 use Rattle.std.proofs.Math.Nat.{suc-mul, zero-mul}
 use Rattle.std.specs.Int.{div_ceil}
@@ -84,6 +84,12 @@ pub enough : (count total size pieces n : ℕ) → 0 < size → count ≡ total 
 enough count total size pieces n h e p q =
     let t : count ≤ div_ceil count size * size = (div_ceil_times count size h).0 in
     subst (λ (x : ℕ). total ≤ x * size) (sym (q ∙ p)) (subst (λ (x : ℕ). x ≤ div_ceil count size * size) e t)
+
+pub one_piece : (n size pieces : ℕ) → 0 < size → n ≤ size → pieces ≡ div_ceil n size → pieces ≤ 1
+one_piece n size pieces p h e =
+    let t : div_ceil n size * size < n + size = (div_ceil_times n size p).1 in
+    let low : div_ceil n size < 2 = lt_of_not-le (λ (g : 2 ≤ div_ceil n size). let m = mul-le-mul_right size g in omega arith) in
+    omega arith
 
 -- ---- the numbers of values
 

@@ -15,7 +15,7 @@ use std::alloc::{AllocError, Global};
 use std::hash::RandomState;
 
 /// Distinct: each row once. Rows are compared by their numbers, since the dictionary has no term
-/// twice, and hashed with the given state.
+/// twice, and hashed with the given state. The dictionary is handed back as it was.
 ///
 /// # Requires
 /// Each number in the rows is below the length of the dictionary.
@@ -31,6 +31,7 @@ pub fn distinct(
     requires known { AreKnown dict rows.now }
     ensures evaluated { IfOk result (λ r. IsEvaluated dict rows.now.width
         (distinct term_eq (solutions_of dict rows.now)) r.0 r.1) }
+    ensures same_dict { IfOk result (λ r. r.1 ≡ dict) }
     ensures refused { IfErr result (λ fault. fault ≡ Memory) }
 {
     let mut seen = IndexSet::with_hasher(alloc, state);

@@ -1,5 +1,5 @@
 //! Extend (SPARQL 1.1 Query Language, section 18.5).
-ghost use Rattle.std.specs.Prelude.{◌≡◌, ◌<◌, length, get_or, is_some, not, None, IfErr, IfOk, OnOk};
+ghost use Rattle.std.specs.Prelude.{◌≡◌, ◌<◌, ◌≤◌, length, get_or, is_some, not, None, IfErr, IfOk, OnOk};
 ghost use Rattle.algebra_model.specs.Expression.{val};
 ghost use Rattle.algebra_model.specs.Operators.{bind, extend};
 ghost use Rattle.row_pieces.specs.How.{IsRunnable, HasOneWorker};
@@ -33,7 +33,8 @@ use std::thread::Threads;
 /// rows, and `how` keeps its limits.
 ///
 /// # Errors
-/// - `WorkerRefused`: the start of a worker was refused. It never comes of one worker.
+/// - `WorkerRefused`: the start of a worker was refused. It never comes of one worker, nor where
+///   one piece holds all rows.
 /// - `Memory`: a growth was refused.
 ///
 /// A refusal drops the dictionary.
@@ -53,6 +54,7 @@ pub fn extend<R: Threads + Wait, G: Gate + Sync>(
     requires how { IsRunnable how.now }
     ensures evaluated { IfOk result (λ r. IsEvaluated dict rows.now.width
         (extend variable (val (expression_of expression.now)) (solutions_of dict rows.now)) r.0 r.1) }
+    ensures alone { length rows.now.rows ≤ how.now.rows → IfErr result (λ fault. fault ≡ Memory) }
     ensures one_worker { HasOneWorker how.now → IfErr result (λ fault. fault ≡ Memory) }
 {
     let pieces = values_of(rt, alloc, state, &dict, rows, expression, how, gate)?;

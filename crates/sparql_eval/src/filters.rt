@@ -1,5 +1,5 @@
 //! Filter (SPARQL 1.1 Query Language, section 18.5).
-ghost use Rattle.std.specs.Prelude.{◌≡◌, filter, IfErr, IfOk};
+ghost use Rattle.std.specs.Prelude.{◌≡◌, ◌≤◌, filter, length, IfErr, IfOk};
 ghost use Rattle.algebra_model.specs.Expression.{holds};
 ghost use Rattle.row_pieces.specs.How.{IsRunnable, HasOneWorker};
 ghost use Rattle.row_pieces.specs.declared.how.EvalFault.TheVariants.{Memory};
@@ -18,13 +18,14 @@ use std::sync::Wait;
 use std::thread::Threads;
 
 /// Filter: the rows for which the condition's effective boolean value is true. It is tested over
-/// pieces of the rows, side by side.
+/// pieces of the rows, side by side. The dictionary is handed back as it was.
 ///
 /// # Requires
 /// Each number in the rows is below the length of the dictionary, and `how` keeps its limits.
 ///
 /// # Errors
-/// - `WorkerRefused`: the start of a worker was refused. It never comes of one worker.
+/// - `WorkerRefused`: the start of a worker was refused. It never comes of one worker, nor where
+///   one piece holds all rows.
 /// - `Memory`: a growth was refused.
 ///
 /// A refusal drops the dictionary.
@@ -41,6 +42,8 @@ pub fn filter<R: Threads + Wait, G: Gate + Sync>(
     requires how { IsRunnable how.now }
     ensures evaluated { IfOk result (λ r. IsEvaluated dict rows.now.width
         (filter (holds (expression_of condition.now)) (solutions_of dict rows.now)) r.0 r.1) }
+    ensures same_dict { IfOk result (λ r. r.1 ≡ dict) }
+    ensures alone { length rows.now.rows ≤ how.now.rows → IfErr result (λ fault. fault ≡ Memory) }
     ensures one_worker { HasOneWorker how.now → IfErr result (λ fault. fault ≡ Memory) }
 {
     let made = {

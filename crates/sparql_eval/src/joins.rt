@@ -1,7 +1,7 @@
 //! Join, LeftJoin and Minus (SPARQL 1.1 Query Language, section 18.5).
 ghost use Rattle.std.specs.Bool.{OnTrue};
 ghost use Rattle.std.specs.List.{list_all};
-ghost use Rattle.std.specs.Prelude.{◌≡◌, ◌∷◌, [], is_some, not, replicate, None, IfErr, IfOk};
+ghost use Rattle.std.specs.Prelude.{◌≡◌, ◌≤◌, ◌∷◌, [], is_some, length, not, replicate, None, IfErr, IfOk};
 ghost use Rattle.rdf_core.proofs.TermLaws.{term_eq};
 ghost use Rattle.algebra_model.specs.Expression.{holds};
 ghost use Rattle.algebra_model.specs.Operators.{join, left_join, minus};
@@ -23,14 +23,15 @@ use std::sync::Wait;
 use std::thread::Threads;
 
 /// Join: the merge of each compatible pair, once for each pair. The right side is hashed with the
-/// given state, and lent to the pieces of the left side.
+/// given state, and lent to the pieces of the left side. The dictionary is handed back as it was.
 ///
 /// # Requires
 /// Both sides have the same width, each number in them is below the length of the dictionary, and `how`
 /// keeps its limits.
 ///
 /// # Errors
-/// - `WorkerRefused`: the start of a worker was refused. It never comes of one worker.
+/// - `WorkerRefused`: the start of a worker was refused. It never comes of one worker, nor where
+///   one piece holds all left rows.
 /// - `Memory`: a growth was refused.
 ///
 /// A refusal drops the dictionary.
@@ -50,6 +51,8 @@ pub fn join<R: Threads + Wait, G: Gate + Sync>(
     requires how { IsRunnable how.now }
     ensures evaluated { IfOk result (λ r. IsEvaluated dict left.now.width
         (join term_eq (solutions_of dict left.now) (solutions_of dict right.now)) r.0 r.1) }
+    ensures same_dict { IfOk result (λ r. r.1 ≡ dict) }
+    ensures alone { length left.now.rows ≤ how.now.rows → IfErr result (λ fault. fault ≡ Memory) }
     ensures one_worker { HasOneWorker how.now → IfErr result (λ fault. fault ≡ Memory) }
 {
     let _distinct = dict.len();
@@ -57,8 +60,9 @@ pub fn join<R: Threads + Wait, G: Gate + Sync>(
     Ok((made, dict))
 }
 
-/// The join of rows that nobody else needs. Where the left side is the one row that binds nothing, with
-/// which each group begins, the right side is the answer.
+/// The join of rows that nobody else needs. Where the left side is the one row that binds nothing,
+/// with which each group begins, the right side is the answer. The dictionary is handed back as it
+/// was. Left rows that fit in one piece start no worker.
 pub(crate) fn join_of<R: Threads + Wait, G: Gate + Sync>(
     rt: &R,
     alloc: Global,
@@ -75,6 +79,8 @@ pub(crate) fn join_of<R: Threads + Wait, G: Gate + Sync>(
     requires how { IsRunnable how.now }
     ensures evaluated { IfOk result (λ r. IsEvaluated dict left.width
         (join term_eq (solutions_of dict left) (solutions_of dict right)) r.0 r.1) }
+    ensures same_dict { IfOk result (λ r. r.1 ≡ dict) }
+    ensures alone { length left.rows ≤ how.now.rows → IfErr result (λ fault. fault ≡ Memory) }
     ensures one_worker { HasOneWorker how.now → IfErr result (λ fault. fault ≡ Memory) }
 {
     if binds_nothing(&left, right.width()) {
@@ -99,14 +105,15 @@ fn all_open(row: &[Option<u64>]) -> bool
 }
 
 /// LeftJoin: the merges of compatible pairs of which the condition is true, and each left row that
-/// has none.
+/// has none. The dictionary is handed back as it was.
 ///
 /// # Requires
 /// Both sides have the same width, each number in them is below the length of the dictionary, and `how`
 /// keeps its limits.
 ///
 /// # Errors
-/// - `WorkerRefused`: the start of a worker was refused. It never comes of one worker.
+/// - `WorkerRefused`: the start of a worker was refused. It never comes of one worker, nor where
+///   one piece holds all left rows.
 /// - `Memory`: a growth was refused.
 ///
 /// A refusal drops the dictionary.
@@ -128,6 +135,8 @@ pub fn left_join<R: Threads + Wait, G: Gate + Sync>(
     ensures evaluated { IfOk result (λ r. IsEvaluated dict left.now.width
         (left_join term_eq (holds (expression_of condition.now))
         (solutions_of dict left.now) (solutions_of dict right.now)) r.0 r.1) }
+    ensures same_dict { IfOk result (λ r. r.1 ≡ dict) }
+    ensures alone { length left.now.rows ≤ how.now.rows → IfErr result (λ fault. fault ≡ Memory) }
     ensures one_worker { HasOneWorker how.now → IfErr result (λ fault. fault ≡ Memory) }
 {
     let _distinct = dict.len();
@@ -141,14 +150,16 @@ pub fn left_join<R: Threads + Wait, G: Gate + Sync>(
     Ok((made, dict))
 }
 
-/// Minus: each left row with which every right row is incompatible or shares no bound variable.
+/// Minus: each left row with which every right row is incompatible or shares no bound variable. The
+/// dictionary is handed back as it was.
 ///
 /// # Requires
 /// Both sides have the same width, each number in them is below the length of the dictionary, and `how`
 /// keeps its limits.
 ///
 /// # Errors
-/// - `WorkerRefused`: the start of a worker was refused. It never comes of one worker.
+/// - `WorkerRefused`: the start of a worker was refused. It never comes of one worker, nor where
+///   one piece holds all left rows.
 /// - `Memory`: a growth was refused.
 ///
 /// A refusal drops the dictionary.
@@ -168,6 +179,8 @@ pub fn minus<R: Threads + Wait, G: Gate + Sync>(
     requires how { IsRunnable how.now }
     ensures evaluated { IfOk result (λ r. IsEvaluated dict left.now.width
         (minus term_eq (solutions_of dict left.now) (solutions_of dict right.now)) r.0 r.1) }
+    ensures same_dict { IfOk result (λ r. r.1 ≡ dict) }
+    ensures alone { length left.now.rows ≤ how.now.rows → IfErr result (λ fault. fault ≡ Memory) }
     ensures one_worker { HasOneWorker how.now → IfErr result (λ fault. fault ≡ Memory) }
 {
     let _distinct = dict.len();

@@ -27,7 +27,7 @@ use std::sync::Wait;
 use std::thread::Threads;
 
 /// The solutions of a basic graph pattern over one graph of the dataset, None for the default graph.
-/// The dataset is the index, read through the dictionary.
+/// The dataset is the index, read through the dictionary. The dictionary is handed back as it was.
 ///
 /// # Requires
 /// Each number in the index, and that of the graph, is below the length of the dictionary; the variables
@@ -57,6 +57,7 @@ pub fn pattern<R: Threads + Wait, G: Gate + Sync>(
     ensures evaluated { IfOk result (λ r. IsEvaluated dict width
         (bgp term_eq width labels (map triple_pattern_of triples.now)
         (graph (quads_at dict index.now) (option_map (term_at dict) active))) r.0 r.1) }
+    ensures same_dict { IfOk result (λ r. r.1 ≡ dict) }
     ensures one_worker { HasOneWorker how.now → IfErr result (λ fault. fault ≡ Memory) }
 {
     let _distinct = dict.len();

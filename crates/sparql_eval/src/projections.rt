@@ -10,7 +10,8 @@ use row_core::Rows;
 use row_pieces::EvalFault;
 use std::alloc::{AllocError, Global};
 
-/// Project: every row, with the listed variables alone bound.
+/// Project: every row, with the listed variables alone bound. The dictionary is handed back as it
+/// was.
 ///
 /// # Requires
 /// Each number in the rows is below the length of the dictionary.
@@ -26,6 +27,7 @@ pub fn project(
     requires known { AreKnown dict rows.now }
     ensures evaluated { IfOk result (λ r. IsEvaluated dict rows.now.width
         (project variables.now (solutions_of dict rows.now)) r.0 r.1) }
+    ensures same_dict { IfOk result (λ r. r.1 ≡ dict) }
     ensures refused { IfErr result (λ fault. fault ≡ Memory) }
 {
     let kept = kept_variables(alloc, rows.width(), variables)?;

@@ -9,7 +9,8 @@ use row_core::Rows;
 use row_pieces::EvalFault;
 use std::alloc::Global;
 
-/// Union: the rows of both sides, each as often as it stands in them.
+/// Union: the rows of both sides, each as often as it stands in them. The dictionary is handed back
+/// as it was.
 ///
 /// # Requires
 /// Both sides have the same width, and each number in them is below the length of the dictionary.
@@ -27,6 +28,7 @@ pub fn union(
     requires known_right { AreKnown dict right.now }
     ensures evaluated { IfOk result (λ r. IsEvaluated dict left.now.width
         (solutions_of dict left.now ++ solutions_of dict right.now) r.0 r.1) }
+    ensures same_dict { IfOk result (λ r. r.1 ≡ dict) }
     ensures refused { IfErr result (λ fault. fault ≡ Memory) }
 {
     let mut made = Rows::new(alloc, left.width());
@@ -35,13 +37,15 @@ pub fn union(
     Ok((made, dict))
 }
 
-/// The union of rows that nobody needs any more: the right ones are put behind the left ones.
+/// The union of rows that nobody needs any more: the right ones are put behind the left ones. The
+/// dictionary is handed back as it was.
 pub(crate) fn union_of(dict: Dict, left: Rows, right: Rows) -> Result<(Rows, Dict), EvalFault>
     requires same_width { left.width ≡ right.width }
     requires known_left { AreKnown dict left }
     requires known_right { AreKnown dict right }
     ensures evaluated { IfOk result (λ r. IsEvaluated dict left.width
         (solutions_of dict left ++ solutions_of dict right) r.0 r.1) }
+    ensures same_dict { IfOk result (λ r. r.1 ≡ dict) }
     ensures refused { IfErr result (λ fault. fault ≡ Memory) }
 {
     let mut made = left;

@@ -24,7 +24,8 @@ use std::hash::RandomState;
 use std::sync::Wait;
 use std::thread::Threads;
 
-/// The values of the expression for the rows, piece by piece in order.
+/// The values of the expression for the rows, piece by piece in order. Rows that fit in one piece start
+/// no worker.
 pub(crate) fn values_of<R: Threads + Wait, G: Gate + Sync>(
     rt: &R,
     alloc: Global,
@@ -39,6 +40,7 @@ pub(crate) fn values_of<R: Threads + Wait, G: Gate + Sync>(
     requires how { IsRunnable how.now }
     ensures values { IfOk result (λ pieces. AreAllValues dict.now
         (expression_of expression.now) rows.now.rows pieces.items) }
+    ensures alone { length rows.now.rows ≤ how.now.rows → IfErr result (λ fault. fault ≡ Memory) }
     ensures one_worker { HasOneWorker how.now → IfErr result (λ fault. fault ≡ Memory) }
 {
     let count = rows.len();

@@ -1,20 +1,23 @@
--- What a fault says of document and query. Memory and a refused worker say nothing.
+-- What a fault says of document and query. Memory says nothing, and a refused worker nothing of the
+-- document.
 use Rattle.std.specs.Prelude.{ℕ, List, ⊤, Err}
 use Rattle.std.specs.Str.{chars}
 use Rattle.dataset_load.specs.declared.fault.LoadFault.{LoadFault}
 use Rattle.dataset_load.specs.declared.fault.LoadFault.TheVariants as load
 use Rattle.row_pieces.specs.declared.how.EvalFault.{EvalFault}
 use Rattle.row_pieces.specs.declared.how.EvalFault.TheVariants as eval
-use Rattle.sparql_read.specs.Refusal.{IsRefusal}
+use Rattle.sparql_tree.specs.QueryTree.{QueryTree}
+use Rattle.sparql_read.specs.Refusal.{IsRead, IsRefusal}
 use Rattle.spq_core.specs.Outcome.{IsOutcome, bad_line, query}
 use Rattle.spq_core.specs.declared.fault.Fault.{Fault}
 use Rattle.spq_core.specs.declared.fault.Fault.TheVariants.{Query, BadLine, WorkerRefused, Memory}
 
--- the outcome of document and text is this refusal
+-- The outcome of document and text is this refusal. The text is judged before any worker starts, so
+-- where a worker was refused it is a query.
 abbrev pub IsFaultOf : List ℕ → List ℕ → Fault → Type 0
 IsFaultOf doc text (Query f) = IsOutcome doc text (Err (query f))
 IsFaultOf doc text (BadLine n) = IsOutcome doc text (Err (bad_line n))
-IsFaultOf doc text WorkerRefused = ⊤
+IsFaultOf doc text WorkerRefused = (q : QueryTree) × IsRead (chars text) q
 IsFaultOf doc text Memory = ⊤
 
 -- of the first step, which judges the text

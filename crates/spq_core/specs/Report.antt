@@ -55,6 +55,6 @@ exit_status (Err fault) = status_of fault
 
 -- The whole text was written and no call of the writer failed, or the writer failed behind a
 -- beginning of it.
-abbrev pub WroteOrFailed : {K : Type 0} → (K → List ℕ → Result ℕ DeviceFailed → K → Type 0) → Option ℕ → Option ℕ → Option (List ℕ) → Option (List ℕ) → List ℕ → Type 0
-WroteOrFailed gives fails fails' held held' text =
-    (Appends held held' text × Stays fails fails') ⊎ (WroteBeginning held held' text × WriterFailed gives fails fails')
+abbrev pub WroteOrFailed : {K : Type 0} → (K → List ℕ → Result ℕ DeviceFailed → K → Type 0) → Option ℕ → Option ℕ → K → Option (List ℕ) → Option (List ℕ) → List ℕ → Type 0
+WroteOrFailed gives fails fails' writer' held held' text =
+    (Appends held held' text × Stays fails fails') ⊎ (WroteBeginning held held' text × WriterFailed gives fails fails' writer')

@@ -2,7 +2,7 @@
 use Rattle.std.specs.Prelude.{◌≡◌, ◌⊎◌, ℕ, List, ⊤, Option, Result, Ok, Err}
 use Rattle.std.specs.Str.{chars}
 use Rattle.std.specs.Io.KnownBytes.{Appends, Consumes, IsAtEnd}
-use Rattle.nquads_core.specs.Device.{Rises}
+use Rattle.nquads_core.specs.Device.{Rises, Stays}
 use Rattle.nquads_core.specs.Transfer.{TookNone, WroteBeginning}
 use Rattle.nquads_core.specs.declared.device.DeviceFailed.{DeviceFailed}
 use Rattle.nquads_core.specs.Lines.{lines}
@@ -17,7 +17,8 @@ use Rattle.spq_core.specs.Output.{Request, select, check, terms, IsOutput}
 use Rattle.spq_core.specs.declared.fault.Fault.{Fault}
 use Rattle.spq_core.specs.declared.fault.Fault.TheVariants as fault
 use Rattle.sparql_read.specs.declared.fault.QueryFault.{QueryFault}
-use Rattle.sparql_read.specs.Refusal.{IsRefusal}
+use Rattle.sparql_tree.specs.QueryTree.{QueryTree}
+use Rattle.sparql_read.specs.Refusal.{IsRead, IsRefusal}
 use Rattle.spq_core.specs.declared.program.RunFault.{RunFault}
 use Rattle.spq_core.specs.declared.program.RunFault.TheVariants.{Query, BadLine, WorkerRefused, Memory, Read, Write, Line}
 
@@ -64,6 +65,12 @@ IsQueryOf (select text) f = IsRefusal (chars text) f
 IsQueryOf check f = ⊥
 IsQueryOf terms f = ⊥
 
+-- The command lists, checks, or selects by a text that is a query of the subset.
+abbrev pub IsAnswerable : Request → Type 0
+IsAnswerable (select text) = (q : QueryTree) × IsRead (chars text) q
+IsAnswerable check = ⊤
+IsAnswerable terms = ⊤
+
 -- The reader was read to its end, and this is the dataset of what was read.
 pub record IsLoadedFrom (left left' : Option (List ℕ)) (store : StoreView) : Type 0 where
   pub doc : List ℕ
@@ -97,6 +104,15 @@ IfBadLine P Memory = ⊤
 IfBadLine P Read = ⊤
 IfBadLine P Write = ⊤
 IfBadLine P Line = ⊤
+
+abbrev pub IfWorkerRefused : Type 0 → RunFault → Type 0
+IfWorkerRefused P (Query f) = ⊤
+IfWorkerRefused P (BadLine n) = ⊤
+IfWorkerRefused P WorkerRefused = P
+IfWorkerRefused P Memory = ⊤
+IfWorkerRefused P Read = ⊤
+IfWorkerRefused P Write = ⊤
+IfWorkerRefused P Line = ⊤
 
 abbrev pub IfRead : Type 0 → RunFault → Type 0
 IfRead P (Query f) = ⊤
@@ -158,9 +174,10 @@ pub record IsWrittenInPart (request : Request) (left left' held held' : Option (
   pub composed : IsComposed request left left' text
   pub part : WroteBeginning held held' text
 
--- The writer failed, or took no byte of a text that was not empty.
-abbrev pub WriterFailed : {K : Type 0} → (K → List ℕ → Result ℕ DeviceFailed → K → Type 0) → Option ℕ → Option ℕ → Type 0
-WriterFailed gives fails fails' = Rises fails fails' ⊎ ((text : List ℕ) × TookNone gives text)
+-- The writer failed, or is as a write left it that took no byte of a text that was not empty, and
+-- then no call of it failed.
+abbrev pub WriterFailed : {K : Type 0} → (K → List ℕ → Result ℕ DeviceFailed → K → Type 0) → Option ℕ → Option ℕ → K → Type 0
+WriterFailed gives fails fails' writer' = Rises fails fails' ⊎ (((text : List ℕ) × TookNone gives text writer') × Stays fails fails')
 
 -- composing answers neither of these
 abbrev pub IsOfComposing : RunFault → Type 0

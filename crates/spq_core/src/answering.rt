@@ -1,5 +1,5 @@
 //! The answer of a query over a document.
-ghost use Rattle.std.specs.Prelude.{◌≡◌, IfOk, IfErr, Ok};
+ghost use Rattle.std.specs.Prelude.{◌≡◌, ◌-◌, ◌^◌, IfOk, IfErr, Ok, length, min};
 ghost use Rattle.std.specs.Str.{chars};
 ghost use Rattle.piece_cuts.specs.Cuts.{AreCuts};
 ghost use Rattle.dict_core.specs.NumQuad.{quads_at};
@@ -77,8 +77,10 @@ pub fn answer_query<R: Threads + Wait + RandomSource, G: Gate + Sync>(
     Ok(blocks)
 }
 
-/// How many bytes the blocks have, for the room that is made at once.
-fn count_bytes(blocks: &[Vec<u8>]) -> usize {
+/// How many bytes the blocks have, for the room that is made at once, or as many as there can be.
+fn count_bytes(blocks: &[Vec<u8>]) -> usize
+    ensures count { result ≡ min (length (joined_blocks blocks.now)) (2 ^ 64 - 1) }
+{
     let mut count: usize = 0;
     for block in blocks {
         count = count.saturating_add(block.len());
@@ -108,11 +110,10 @@ fn joined(alloc: Global, blocks: &[Vec<u8>]) -> Result<Vec<u8>, AllocError>
 /// - `Query(fault)`: this is the first rule that refuses the text; never `QueryFault::Memory`.
 /// - `BadLine(n)`: the text is a query, and line n of the document, counted from 1, is the first
 ///   that spells nothing.
-/// - `WorkerRefused`: the start of a worker was refused. Those that were started have been joined. It never
-///   comes of one worker, which is the caller itself.
-/// - `Memory`: a growth was refused.
-///
-/// The last two say nothing of query and document.
+/// - `WorkerRefused`: the text is a query, and the start of a worker was refused. Those that were started
+///   have been joined. It says nothing of the document, and never comes of one worker, which is the
+///   caller itself.
+/// - `Memory`: a growth was refused. It says nothing of query and document.
 pub fn answer<R: Threads + Wait + RandomSource, G: Gate + Sync>(
     rt: &R,
     alloc: Global,

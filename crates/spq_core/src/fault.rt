@@ -12,8 +12,8 @@ pub enum Fault {
     Query(QueryFault),
     /// The line, counted from 1, is the first that spells nothing.
     BadLine(u128),
-    /// The start of a worker was refused. Those that were started have been joined. It says nothing
-    /// of query and document.
+    /// The start of a worker was refused. Those that were started have been joined. The text is a query,
+    /// and it says nothing of the document.
     WorkerRefused,
     /// A growth was refused. It says nothing of query and document.
     Memory,

@@ -1,11 +1,11 @@
 //! The program: a command over a reader and a writer.
-ghost use Rattle.std.specs.Prelude.{◌≡◌, IfErr, IfOk, OnErr, OnOk};
+ghost use Rattle.std.specs.Prelude.{◌≡◌, ◌⊎◌, IfErr, IfOk, OnErr, OnOk};
 ghost use Rattle.std.specs.Io.KnownBytes.{Appends};
 ghost use Rattle.nquads_core.specs.Device.{Rises, Stays};
 ghost use Rattle.nquads_core.specs.Transfer.{IsReadInPart, WroteBeginning};
 ghost use Rattle.result_json.specs.Results.{joined_blocks};
 ghost use Rattle.spq_core.specs.Output.{check, request_of, select, terms};
-ghost use Rattle.spq_core.specs.Run.{IfBadLine, IfQuery, IfRead, IfWrite, IsBadLineFrom, IsBadLineOf, IsByOneWorker, IsComposed, IsDone, IsLoadedFrom, IsNoRefusedWorker, IsNotLine, IsOfComposing, IsOfDocument, IsQueryOf, IsWrittenInPart, UnlessRead, UnlessWrite, WriterFailed};
+ghost use Rattle.spq_core.specs.Run.{IfBadLine, IfQuery, IfRead, IfWorkerRefused, IfWrite, IsAnswerable, IsBadLineFrom, IsBadLineOf, IsByOneWorker, IsComposed, IsDone, IsLoadedFrom, IsNoRefusedWorker, IsNotLine, IsOfComposing, IsOfDocument, IsQueryOf, IsWrittenInPart, UnlessRead, UnlessWrite, WriterFailed};
 
 use crate::answering::{answer_query, judged};
 use crate::fault::Fault;
@@ -125,6 +125,9 @@ fn selected<R: Threads + Wait + RandomSource, S: Source>(
         (joined_blocks blocks.items)) }
     ensures query { IfErr result
         (IfQuery (λ f. IsQueryOf (select query.now) f × (reader.new ≡ reader.old))) }
+    ensures judged_first { OnErr result
+        ((reader.new ≡ reader.old) ⊎ IsAnswerable (select query.now)) }
+    ensures answerable { IfErr result (IfWorkerRefused (IsAnswerable (select query.now))) }
     ensures bad_line { IfErr result
         (IfBadLine (IsBadLineOf (select query.now) (S.left reader.old) (S.left reader.new))) }
     ensures count { OnOk result (Stays (S.failures reader.old) (S.failures reader.new)) }
@@ -235,6 +238,9 @@ fn composed<R: Threads + Wait + RandomSource, S: Source>(
         (joined_blocks blocks.items)) }
     ensures query { IfErr result
         (IfQuery (λ f. IsQueryOf (request_of command.now) f × (reader.new ≡ reader.old))) }
+    ensures judged_first { OnErr result
+        ((reader.new ≡ reader.old) ⊎ IsAnswerable (request_of command.now)) }
+    ensures answerable { IfErr result (IfWorkerRefused (IsAnswerable (request_of command.now))) }
     ensures bad_line { IfErr result
         (IfBadLine (IsBadLineOf (request_of command.now) (S.left reader.old) (S.left reader.new))) }
     ensures count { OnOk result (Stays (S.failures reader.old) (S.failures reader.new)) }
@@ -259,8 +265,9 @@ fn composed<R: Threads + Wait + RandomSource, S: Source>(
 /// Writes the blocks, one behind the other.
 ///
 /// # Errors
-/// `DeviceFailed`: the writer failed in this call, or took no byte of a text that was not empty. A
-/// beginning of the blocks was written, and not all of them.
+/// `DeviceFailed`: the writer failed in this call, or took no byte of a text that was not empty, and
+/// then it is as that write left it, and none of its calls failed. A beginning of the blocks was
+/// written, and not all of them.
 fn write_blocks<K: Sink>(writer: &mut K, blocks: &[Vec<u8>]) -> Result<(), DeviceFailed>
     ensures written { OnOk result
         (Appends (K.held writer.old) (K.held writer.new) (joined_blocks blocks.now)) }
@@ -268,7 +275,7 @@ fn write_blocks<K: Sink>(writer: &mut K, blocks: &[Vec<u8>]) -> Result<(), Devic
     ensures failed { OnErr result
         (WroteBeginning (K.held writer.old) (K.held writer.new) (joined_blocks blocks.now)) }
     ensures failed_count { OnErr result
-        (WriterFailed K.write_gives (K.failures writer.old) (K.failures writer.new)) }
+        (WriterFailed K.write_gives (K.failures writer.old) (K.failures writer.new) writer.new) }
 {
     for block in blocks {
         write_all(writer, block)?;
@@ -283,16 +290,17 @@ fn write_blocks<K: Sink>(writer: &mut K, blocks: &[Vec<u8>]) -> Result<(), Devic
 /// - `Query`: the query of a `select` is refused. Nothing was read.
 /// - `BadLine(n)`: line n of the document, counted from 1, is the first that spells nothing. The
 ///   reader was read to its end.
-/// - `WorkerRefused`: the start of a worker was refused. It never comes of one worker, which is the caller
-///   itself.
+/// - `WorkerRefused`: the start of a worker was refused. The text of a `select` is a query: it was judged
+///   before. It never comes of one worker, which is the caller itself.
 /// - `Memory`: a growth was refused.
 /// - `Read`: the reader failed in this call.
-/// - `Write`: the writer failed in this call, or took no byte of a text that was not empty. A
-///   beginning of the output was written.
+/// - `Write`: the writer failed in this call, or took no byte of a text that was not empty, and then it
+///   is as that write left it, and none of its calls failed. A beginning of the output was written.
 ///
-/// But for `Query`, bytes may have been taken from the reader: a beginning of what it had left. But for
-/// `Write`, nothing was written. No failure is passed over: but for `Read`, no call of the reader
-/// failed, and but for `Write`, none of the writer.
+/// The reader is as it was, or the query was judged: the text of a `select` is a query. But for `Query`,
+/// bytes may have been taken from the reader: a beginning of what it had left. But for `Write`, nothing
+/// was written. No failure is passed over: but for `Read`, no call of the reader failed, and but for
+/// `Write`, none of the writer.
 pub fn run<R: Threads + Wait + RandomSource, S: Source, K: Sink>(
     rt: &R,
     alloc: Global,
@@ -307,6 +315,9 @@ pub fn run<R: Threads + Wait + RandomSource, S: Source, K: Sink>(
     ensures written_count { OnOk result (Stays (K.failures writer.old) (K.failures writer.new)) }
     ensures query { IfErr result
         (IfQuery (λ f. IsQueryOf (request_of command.now) f × (reader.new ≡ reader.old))) }
+    ensures judged_first { OnErr result
+        ((reader.new ≡ reader.old) ⊎ IsAnswerable (request_of command.now)) }
+    ensures answerable { IfErr result (IfWorkerRefused (IsAnswerable (request_of command.now))) }
     ensures bad_line { IfErr result
         (IfBadLine (IsBadLineOf (request_of command.now) (S.left reader.old) (S.left reader.new))) }
     ensures taken { OnErr result (IsReadInPart (S.left reader.old) (S.left reader.new)) }
@@ -317,7 +328,7 @@ pub fn run<R: Threads + Wait + RandomSource, S: Source, K: Sink>(
         (IfWrite (IsWrittenInPart (request_of command.now) (S.left reader.old) (S.left reader.new)
         (K.held writer.old) (K.held writer.new))) }
     ensures write_count { IfErr result
-        (IfWrite (WriterFailed K.write_gives (K.failures writer.old) (K.failures writer.new))) }
+        (IfWrite (WriterFailed K.write_gives (K.failures writer.old) (K.failures writer.new) writer.new)) }
     ensures unwritten { IfErr result (UnlessWrite (writer.new ≡ writer.old)) }
     ensures line { IfErr result IsNotLine }
     ensures one_worker { IsByOneWorker command.now → IfErr result IsNoRefusedWorker }

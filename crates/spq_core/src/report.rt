@@ -57,7 +57,7 @@ fn write_both<K: Sink>(writer: &mut K, front: &[u8], back: &[u8]) -> Result<(), 
     ensures failed { OnErr result
         (WroteBeginning (K.held writer.old) (K.held writer.new) (front.now ++ back.now)) }
     ensures failed_count { OnErr result
-        (WriterFailed K.write_gives (K.failures writer.old) (K.failures writer.new)) }
+        (WriterFailed K.write_gives (K.failures writer.old) (K.failures writer.new) writer.new) }
 {
     write_all(writer, front)?;
     write_all(writer, back)
@@ -71,7 +71,7 @@ fn write_number<K: Sink>(writer: &mut K, line: u128) -> Result<(), DeviceFailed>
     ensures failed { OnErr result
         (WroteBeginning (K.held writer.old) (K.held writer.new) (decimal line ++ codes "\n")) }
     ensures failed_count { OnErr result
-        (WriterFailed K.write_gives (K.failures writer.old) (K.failures writer.new)) }
+        (WriterFailed K.write_gives (K.failures writer.old) (K.failures writer.new) writer.new) }
 {
     let mut buffer = Buffer::new();
     write_both(writer, buffer.format(line).as_bytes(), b"\n")
@@ -87,7 +87,7 @@ fn write_bad_line<K: Sink>(writer: &mut K, line: u128) -> Result<(), DeviceFaile
         (WroteBeginning (K.held writer.old) (K.held writer.new)
         (codes "error: line " ++ (decimal line ++ codes "\n"))) }
     ensures failed_count { OnErr result
-        (WriterFailed K.write_gives (K.failures writer.old) (K.failures writer.new)) }
+        (WriterFailed K.write_gives (K.failures writer.old) (K.failures writer.new) writer.new) }
 {
     match write_all(writer, b"error: line ") {
         Ok(()) => write_number(writer, line),
@@ -103,7 +103,7 @@ fn write_query_fault<K: Sink>(writer: &mut K, fault: &QueryFault) -> Result<(), 
     ensures failed { OnErr result
         (WroteBeginning (K.held writer.old) (K.held writer.new) (query_line fault.now)) }
     ensures failed_count { OnErr result
-        (WriterFailed K.write_gives (K.failures writer.old) (K.failures writer.new)) }
+        (WriterFailed K.write_gives (K.failures writer.old) (K.failures writer.new) writer.new) }
 {
     let line = line_of(fault);
     write_all(writer, line)
@@ -112,8 +112,9 @@ fn write_query_fault<K: Sink>(writer: &mut K, fault: &QueryFault) -> Result<(), 
 /// Writes the line of a fault, with a line feed. It takes no memory.
 ///
 /// # Errors
-/// `DeviceFailed`: the writer failed in this call, or took no byte of a text that was not empty. A
-/// beginning of the line was written, and not all of it.
+/// `DeviceFailed`: the writer failed in this call, or took no byte of a text that was not empty, and
+/// then it is as that write left it, and none of its calls failed. A beginning of the line was written,
+/// and not all of it.
 pub fn write_fault<K: Sink>(fault: &RunFault, writer: &mut K) -> Result<(), DeviceFailed>
     ensures written { OnOk result
         (Appends (K.held writer.old) (K.held writer.new) (fault_line fault.now)) }
@@ -121,7 +122,7 @@ pub fn write_fault<K: Sink>(fault: &RunFault, writer: &mut K) -> Result<(), Devi
     ensures failed { OnErr result
         (WroteBeginning (K.held writer.old) (K.held writer.new) (fault_line fault.now)) }
     ensures failed_count { OnErr result
-        (WriterFailed K.write_gives (K.failures writer.old) (K.failures writer.new)) }
+        (WriterFailed K.write_gives (K.failures writer.old) (K.failures writer.new) writer.new) }
 {
     match fault {
         RunFault::BadLine(line) => write_bad_line(writer, *line),
@@ -143,7 +144,7 @@ pub fn finish<K: Sink>(done: &Result<(), RunFault>, writer: &mut K) -> u8
     ensures status { result ≡ exit_status done.now }
     ensures silent { OnOk done.now (writer.new ≡ writer.old) }
     ensures told { IfErr done.now (λ fault. WroteOrFailed K.write_gives
-        (K.failures writer.old) (K.failures writer.new)
+        (K.failures writer.old) (K.failures writer.new) writer.new
         (K.held writer.old) (K.held writer.new) (fault_line fault)) }
 {
     match done {

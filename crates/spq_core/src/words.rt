@@ -2,7 +2,7 @@
 //! that is as large as its query may need.
 ghost use Rattle.std.specs.Prelude.{◌≡◌, ◌⊎◌, ◌+◌, ◌*◌, ◌-◌, ◌^◌, IfErr, length, map, min, string_bytes};
 ghost use Rattle.spq_core.specs.Output.{request_of};
-ghost use Rattle.spq_core.specs.Run.{IsByOneWorker, IsNoRefusedWorker};
+ghost use Rattle.spq_core.specs.Run.{IfWorkerRefused, IsByOneWorker, IsNoRefusedWorker};
 ghost use Rattle.spq_core.specs.Words.{IsNotRun, IsRun, IsRunOf};
 
 use crate::program::{RunFault, run};
@@ -45,7 +45,9 @@ struct RunOver<S, K> {
 
 impl<S: Source, K: Sink> Promise<Ran<S, K>> for RunOver<S, K> {
     ghost kept_by = { λ p ran. IsRun S.left S.failures K.held K.failures K.write_gives
-        (request_of p.command.value) p.reader.value ran.reader p.writer.value ran.writer ran.done };
+        (request_of p.command.value) p.reader.value ran.reader p.writer.value ran.writer ran.done
+        × (IsByOneWorker p.command.value
+        → IfErr ran.done (IfWorkerRefused (ran.reader ≡ p.reader.value))) };
 }
 
 /// The bytes of stack that a query may need.
@@ -65,6 +67,8 @@ fn run_here<R: Threads + Wait + RandomSource, S: Source, K: Sink>(
 ) -> Ran<S, K>
     ensures run { IsRun S.left S.failures K.held K.failures K.write_gives
         (request_of command.now) reader result.reader writer result.writer result.done }
+    ensures unread { IsByOneWorker command.now
+        → IfErr result.done (IfWorkerRefused (result.reader ≡ reader)) }
     ensures one_worker { IsByOneWorker command.now → IfErr result.done IsNoRefusedWorker }
 {
     let (mut left, mut held) = (reader, writer);
@@ -87,6 +91,8 @@ fn run_if_started<R: Threads + Wait + RandomSource, S: Source, K: Sink>(
 ) -> Ran<S, K>
     ensures run { IsRun S.left S.failures K.held K.failures K.write_gives
         (request_of command.now) reader result.reader writer result.writer result.done }
+    ensures unread { IsByOneWorker command.now
+        → IfErr result.done (IfWorkerRefused (result.reader ≡ reader)) }
 {
     if refused.load(Ordering::SeqCst) {
         return Ran {
@@ -118,6 +124,8 @@ fn start_and_join<
 ) -> Ran<S, K>
     ensures run { IsRun S.left S.failures K.held K.failures K.write_gives
         (request_of command.now) reader result.reader writer result.writer result.done }
+    ensures unread { IsByOneWorker command.now
+        → IfErr result.done (IfWorkerRefused (result.reader ≡ reader)) }
 {
     let promise = RunOver {
         command: Snapshot::of(command),
@@ -143,6 +151,8 @@ fn run_apart<
 >(rt: &R, alloc: Global, command: &Command, stack: usize, reader: S, writer: K) -> Ran<S, K>
     ensures run { IsRun S.left S.failures K.held K.failures K.write_gives
         (request_of command.now) reader result.reader writer result.writer result.done }
+    ensures unread { IsByOneWorker command.now
+        → IfErr result.done (IfWorkerRefused (result.reader ≡ reader)) }
 {
     let refused = AtomicBool::new(false);
     let refused = &refused;
@@ -153,6 +163,8 @@ fn run_apart<
             ensures run { IsRun S.left S.failures K.held K.failures K.write_gives
                 (request_of command.entry.now) reader result.reader writer result.writer
                 result.done }
+            ensures unread { IsByOneWorker command.entry.now
+                → IfErr result.done (IfWorkerRefused (result.reader ≡ reader)) }
         { start_and_join(rt, scope, alloc, command, stack, refused, reader, writer) },
     )
 }
@@ -164,7 +176,8 @@ fn run_apart<
 /// # Errors
 /// - `Line`: the words are no command. Nothing was read or written.
 /// - `WorkerRefused`: the start of a worker was refused, or that of the thread for a query, and then
-///   nothing was read or written. It never comes of a `check` or a `terms` by one worker.
+///   nothing was read or written. By one worker it is never a worker's: it never comes of a `check` or a
+///   `terms`, and where it comes of a query, nothing was read or written.
 /// - `Memory`: a growth was refused, to the words or to the command.
 /// - All else as `run` answers it, of the command that the words are.
 ///

@@ -60,11 +60,14 @@ pub(crate) struct VecSink {
 }
 
 impl Sink for VecSink {
-    ghost use Rattle.std.specs.Prelude.{Some};
+    ghost use Rattle.std.specs.Prelude.{◌<◌, IfOk, Some, length};
 
     ghost held = { λ s. Some s.bytes.items };
 
     ghost failures = { λ s. Some s.failed };
+
+    // It takes a byte of each text that is not empty, unless it takes none at all.
+    ghost write_gives = { λ s bs r t. 0 < t.chunk → 0 < length bs → IfOk r (λ n. 0 < n) };
 
     fn write(&mut self, bytes: &[u8]) -> Result<usize, DeviceFailed> {
         let call = self.calls;

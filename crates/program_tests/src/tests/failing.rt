@@ -6,7 +6,7 @@ use super::samples::{GRAPHS, REPEATED, TWO_LINES};
 use nquads_core::Device;
 use sparql_read::QueryFault;
 use spq_command::Command;
-use spq_core::{RunFault, run};
+use spq_core::{RunFault, finish, run};
 use std::alloc::Global;
 use std::random::RandomSource;
 use std::sync::Wait;
@@ -32,6 +32,12 @@ fn devices_that_count_no_failures_do_not_fail(rt: HostRuntime) {
         assert!(rt; ran == Ok(()), "it is answered");
         assert!(rt; writer.inner.as_slice() == OUTPUT, "the output stands");
     }
+}
+
+/// Whether this is told of what a run answered: the status, and the line of its fault.
+fn ends_with(alloc: Global, ran: &Result<(), RunFault>, status: u8, line: &[u8]) -> bool {
+    let mut writer = sink(alloc, 1000, usize::MAX);
+    finish(ran, &mut writer) == status && writer.bytes.as_slice() == line
 }
 
 #[test]
@@ -60,6 +66,8 @@ fn a_writer_that_takes_nothing_has_failed(rt: HostRuntime) {
     let ran = run(&rt, alloc, &command, &mut reader, &mut writer);
     assert!(rt; ran == Err(RunFault::Write), "no byte was taken");
     assert!(rt; writer.bytes.is_empty(), "nothing was written");
+    assert!(rt; writer.failed == 0, "and no call failed");
+    assert!(rt; ends_with(alloc, &ran, 5, b"error: output\n"), "it is told");
 }
 
 #[test]
@@ -76,6 +84,7 @@ fn each_read_that_fails_writes_nothing(rt: HostRuntime) {
         );
         assert!(rt; writer.bytes.is_empty(), "nothing was written");
         assert!(rt; reader.failed == 1, "it failed once");
+        assert!(rt; ends_with(alloc, &ran, 5, b"error: input\n"), "it is told");
     }
 }
 
@@ -91,6 +100,10 @@ fn a_bad_query_reads_nothing(rt: HostRuntime) {
         "the query is refused"
     );
     assert!(rt; reader.calls == 0, "the reader was not called");
+    assert!(rt;
+        ends_with(alloc, &ran, 2, b"error: query syntax\n"),
+        "it is told"
+    );
 }
 
 /// More than any run here has calls of its reader, or of its writer.

@@ -1,7 +1,7 @@
-use Rattle.std.proofs.Common.{◌<◌, ℕ, length, subst}
+use Rattle.std.proofs.Common.{rules, arith, ◌<◌, ℕ, length, subst}
 use Rattle.sparql_algebra.specs.ExpressionOf.{expression_of}
 use Rattle.sparql_eval.proofs.ReadingLaws.{rows_known_at}
-use Rattle.sparql_eval.proofs.ValueSteps.{values_joined, enough}
+use Rattle.sparql_eval.proofs.ValueSteps.{values_joined, enough, one_piece}
 use Rattle.sparql_eval.proofs.values.values_of.Goals as goal
 
 pub invariant_of-job : goal.invariant_of-job
@@ -18,3 +18,13 @@ returns-clause-values g c =
     c.len-count.ensures.value c.div_ceil-pieces.ensures all.count in
     values_joined terms e size c.in-All.outs.items rows
     (λ i d low. all.each i d (subst (λ (x : ℕ). i < x) all.count low)) long
+
+pub returns-in_err-outs-clause-alone : goal.returns-in_err-outs-clause-alone
+returns-in_err-outs-clause-alone g c within =
+    let long = c.len-count.ensures.value in
+    let least = c.piece_size-size.ensures.least in
+    let one = one_piece c.len-count.result c.piece_size-size.result c.div_ceil-pieces.result c.piece_size-size.ensures.some
+    (omega arith) c.div_ceil-pieces.ensures in
+    let refused = c.in_err-outs.ensures.alone one in
+    let told = c.from_residual.ensures in
+    search rules

@@ -9,6 +9,7 @@ returns-in-Select g c = record {
     told = c.in-Ok.ensures.ok;
     run = c.run_apart.ensures.run;
     alone = λ h. absurd (rw c.in-Select.is at h);
+    unread = c.run_apart.ensures.unread;
   });
 }
 
@@ -19,5 +20,6 @@ returns g c = record {
     told = c.in-Ok.ensures.ok;
     run = c.run_here.ensures.run;
     alone = λ h. c.run_here.ensures.one_worker (by_one_worker c.in-Ok.command h);
+    unread = c.run_here.ensures.unread;
   });
 }
