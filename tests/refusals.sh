@@ -2,7 +2,8 @@
 # Refuses one growth after the other, and one start of a worker after the other, to each test of a
 # module `refusals`: the first, the second, and so on, until a run meets no refusal. These tests say
 # what a refusal leaves, and that a second try succeeds. A crate in whose tests no start is refused, and a
-# test in which no growth is, fail: then nothing was tried.
+# test in which no growth is, fail: then nothing was tried. So does a crate in which no refused growth is told as
+# a refused worker, as one inside a start is.
 #
 #   tests/refusals.sh                  # every crate that has such tests
 #   tests/refusals.sh loading_tests .. # these crates
@@ -42,6 +43,9 @@ refuse_each() {
             fi
             return 0
         fi
+        if [ "$3" = GROWTH ] && grep -qx 'a worker was refused' "$room/said"; then
+            inside=$((inside + 1))
+        fi
         if [ "$3" = START ] && ! grep -qx 'a worker was refused' "$room/said"; then
             printf '%s: the refused start %s is not told\n' "$2" "$n"
             return 1
@@ -56,6 +60,7 @@ try_crate() {
     (cd "$root/crates/$1" && rt test > "$room/log" 2>&1) || { tail "$room/log"; return 1; }
     names=$("$tests" --list | sed -n 's/^\(refusals::.*\): test$/\1/p')
     starts=0
+    inside=0
     for name in $names; do
         refuse_each "$tests" "$name" GROWTH || return 1
         refuse_each "$tests" "$name" START || return 1
@@ -64,6 +69,11 @@ try_crate() {
         echo "$1: no start of a worker was refused"
         return 1
     fi
+    if [ "$inside" = 0 ]; then
+        echo "$1: no growth inside a start is told as a refused worker"
+        return 1
+    fi
+    printf '%s: %s refused growths lie in a start, and are told as a refused worker\n' "$1" "$inside"
 }
 
 if [ $# = 0 ]; then
