@@ -61,8 +61,9 @@ pub fn read_more<S: Source>(reader: &mut S, bytes: &mut Vec<u8>) -> Result<usize
 /// Writes the whole text, by as many writes as the writer wants.
 ///
 /// # Errors
-/// `DeviceFailed`: the writer failed in this call, or took no byte of a text that was not empty. A
-/// beginning of the text was written, and not all of it.
+/// `DeviceFailed`: the writer failed in this call, or took no byte of a text that was not empty. Where
+/// it failed, its count rose by one; where it took no byte, no call of it failed, and it is as that call
+/// left it. A beginning of the text was written, and not all of it.
 pub fn write_all<K: Sink>(writer: &mut K, text: &[u8]) -> Result<(), DeviceFailed>
     ensures ok { OnOk result (Appends (K.held writer.old) (K.held writer.new) text.now) }
     ensures ok_count { OnOk result (Stays (K.failures writer.old) (K.failures writer.new)) }

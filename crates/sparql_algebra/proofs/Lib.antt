@@ -1,5 +1,6 @@
 pub mod FoldSteps
 pub mod LogicSteps
+pub mod MemorySteps
 pub mod NameSteps
 pub mod NumberLaws
 pub mod NumberSteps

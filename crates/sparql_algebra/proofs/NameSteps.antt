@@ -1,13 +1,20 @@
 -- The names of a tree, one element after the other.
+use Rattle.std.proofs.lemmas.Grind.{flat_map-append}
+use Rattle.std.proofs.lemmas.List.{take-append-drop}
 use Rattle.std.proofs.lemmas.List.Sums.{prefix_len-le-length}
+use Rattle.std.proofs.Math.Seq.{take-append_seam, take-append-add}
 use Rattle.std.specs.List.{position, position_or_len}
-use Rattle.std.proofs.Common.{Option, Some, None, is_some, nat_lt, not, cond, ◌≤◌, subst, true≢false, arith, ◌≡◌, ℕ, zero, suc, ◌+◌, ◌<◌, Bool, true, false, List, [], ◌∷◌, ◌++◌, length, get_or, map, flat_map, drop, drop-cons, add-one, append_assoc, refl, sym, ap, ◌∙◌}
+use Rattle.std.proofs.Common.{Vec, Global, Result, Ok, Err, OnErr, Option, Some, None, is_some, nat_lt, not, cond, ◌≤◌, subst, true≢false, arith, ◌≡◌, ℕ, suc, ◌+◌, ◌<◌, Bool, true, false, List, [], ◌∷◌, ◌++◌, length, get_or, map, flat_map, take, drop, drop-cons, append_assoc, refl, sym, ap, ◌∙◌}
 use Rattle.std.specs.Str.{bytes_eq}
-use Rattle.indexmap.specs.IndexSet.{insert_key, insert_all}
+use Rattle.indexmap.specs.IndexSet.{insert_all}
+use Rattle.rdf_core.specs.declared.term.Term.{Term}
 use Rattle.sparql_tree.specs.declared.group.Element.{Element}
-use Rattle.sparql_tree.specs.GroupTree.{GroupTree, ElementTree, none, then, onto, element_of, group_of}
+use Rattle.sparql_tree.specs.declared.group.Element.TheFolds.{fold-roll-Element}
+use Rattle.sparql_tree.specs.declared.group.Element.TheOpen.{Element-F}
+use Rattle.sparql_tree.specs.declared.group.Element.TheVariants as variants
+use Rattle.sparql_tree.specs.GroupTree.{GroupTree, ElementTree, none, then, onto, values, element_of, element_step, group_of}
 use Rattle.sparql_tree.specs.Scope.{element_names, group_names}
-use Rattle.sparql_algebra.specs.Names.{Name}
+use Rattle.sparql_algebra.specs.Names.{Name, IsNotedInPart}
 use Rattle.algebra_model.specs.Bag.{without_repeats}
 use Rattle.sparql_algebra.proofs.RepeatSteps.{insert_all-append, inserted_once}
 use Rattle.std.proofs.lemmas.Slice.Eq.{bytes_eq-Decides}
@@ -28,13 +35,50 @@ flat_map-map f g (x ∷ xs) = ap (λ l. f (g x) ++ l) (flat_map-map f g xs)
 pub names_of_group : (all : Bool) (es : List Element) → group_names all (group_of es) ≡ flat_map (λ e. element_names all (element_of e)) es
 names_of_group all es = onto_names all none (map element_of es) ∙ flat_map-map (element_names all) element_of es
 
--- the names of one more element are noted, and those of the rest are left
-pub noted_step : {A : Type 0} (f : A → List Name) (xs : List A) (i : ℕ) (d : A) (names all : List Name) → i < length xs
-    → insert_all bytes_eq names (flat_map f (drop i xs)) ≡ all
-    → insert_all bytes_eq (insert_all bytes_eq names (f (get_or xs i d))) (flat_map f (drop (i + 1) xs)) ≡ all
-noted_step f xs i d names all lt h =
-    rw add-one (sym (insert_all-append bytes_eq names (f (get_or xs i d)) (flat_map f (drop (suc i) xs)))
-    ∙ sym (ap (λ l. insert_all bytes_eq names (flat_map f l)) (drop-cons xs i d lt)) ∙ h)
+-- a fact that holds holds where there is an error
+pub at_refusal : {T E P : Type 0} (r : Result T E) → P → OnErr r P
+at_refusal (Ok x) p = tt
+at_refusal (Err e) p = p
+
+-- a part of the first names is a part of all
+pub noted_first : (xs ys old new : List Name) → IsNotedInPart old xs new → IsNotedInPart old (xs ++ ys) new
+noted_first xs ys old new p = (length (take p.0 xs), p.1 ∙ ap (insert_all bytes_eq old) (sym part))
+  where
+    part : take (length (take p.0 xs)) (xs ++ ys) ≡ take p.0 xs
+    part = ap (λ l. take (length (take p.0 xs)) (l ++ ys)) (sym (take-append-drop p.0 xs))
+        ∙ ap (take (length (take p.0 xs))) (append_assoc (take p.0 xs) (drop p.0 xs) ys)
+        ∙ take-append_seam (take p.0 xs) (drop p.0 xs ++ ys)
+
+-- a part of the further names, behind the whole of the first, is a part of all
+pub noted_behind : (xs ys old names new : List Name) → names ≡ insert_all bytes_eq old xs → IsNotedInPart names ys new → IsNotedInPart old (xs ++ ys) new
+noted_behind xs ys old names new e p = (
+  length xs + p.0,
+  p.1 ∙ ap (λ n. insert_all bytes_eq n (take p.0 ys)) e
+      ∙ sym (insert_all-append bytes_eq old xs (take p.0 ys))
+      ∙ ap (insert_all bytes_eq old) (sym (take-append-add xs ys p.0)),
+)
+
+-- a part of the names of one element, behind those of the elements before it, is a part of all
+pub noted_within : {A : Type 0} (f : A → List Name) (xs : List A) (i : ℕ) (x : A) (old names new : List Name) → i < length xs
+    → names ≡ insert_all bytes_eq old (flat_map f (take i xs))
+    → x ≡ get_or xs i x
+    → IsNotedInPart names (f x) new
+    → IsNotedInPart old (flat_map f xs) new
+noted_within {A} f xs i x old names new lt e is p =
+    subst (λ l. IsNotedInPart old l new) whole
+    (noted_behind (flat_map f (take i xs)) (f x ++ flat_map f (drop (suc i) xs)) old names new e
+    (noted_first (f x) (flat_map f (drop (suc i) xs)) names new p))
+  where
+    whole : flat_map f (take i xs) ++ (f x ++ flat_map f (drop (suc i) xs)) ≡ flat_map f xs
+    whole = ap (λ y. flat_map f (take i xs) ++ (f y ++ flat_map f (drop (suc i) xs))) is
+        ∙ ap (λ l. flat_map f (take i xs) ++ flat_map f l) (sym (drop-cons xs i x lt))
+        ∙ sym (flat_map-append f (take i xs) (drop i xs))
+        ∙ ap (flat_map f) (take-append-drop i xs)
+
+-- what an element that holds a table stands for
+pub values_stands_for : (xs : Vec Name Global) (rows : Vec (Vec (Option Term) Global) Global)
+    → element_of (variants.Values xs rows) ≡ values xs.items (map (λ row. row.items) rows.items)
+values_stands_for xs rows = ap element_of (sym (variants.rolls-Values xs rows)) ∙ fold-roll-Element ElementTree element_step (Element-F.Values xs rows)
 
 -- a name that is not found has the count of names for its number
 pub placed_none : {X : Type 0} (p : X → Bool) (xs : List X) → None ≡ position p xs → length xs ≡ position_or_len p xs

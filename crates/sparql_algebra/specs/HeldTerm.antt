@@ -1,4 +1,5 @@
--- The term that a value on the way stands for.
+-- The term that a value on the way stands for, and whether it is there as a term.
+use Rattle.std.specs.Prelude.{Bool, true, false}
 use Rattle.rdf_core.specs.declared.term.Term.{Term}
 use Rattle.algebra_model.specs.Call.{boolean_term}
 use Rattle.sparql_algebra.specs.declared.held.Held as held
@@ -13,3 +14,7 @@ held_term (Owned term) = term
 abbrev pub value_term : value.Value → Term
 value_term (Held held) = held_term held
 value_term (Truth b) = boolean_term b
+
+abbrev pub is_held : value.Value → Bool
+is_held (Held held) = true
+is_held (Truth b) = false

@@ -6,6 +6,7 @@ pub mod ValueShown
 pub mod Digits
 pub mod HeldTerm
 pub mod MemberTruth
+pub mod Memory
 pub mod Names
 pub mod Translation
 pub mod PartOf

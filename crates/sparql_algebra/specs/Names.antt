@@ -1,9 +1,10 @@
 -- The variables of a query and their numbers (SPARQL 1.1 Query Language, section 18.2.1, variable
 -- scope). A name is a list of bytes, without its sign.
-use Rattle.std.specs.Prelude.{ℕ, Bool, true, List, [], ◌++◌, Option, Some, None}
+use Rattle.std.specs.Prelude.{◌≡◌, ℕ, Bool, true, List, [], ◌++◌, take, Option, Some, None}
 use Rattle.std.specs.Prelude as list
 use Rattle.std.specs.List.{list_any, position_or_len}
 use Rattle.std.specs.Str.{bytes_eq}
+use Rattle.indexmap.specs.IndexSet.{insert_all}
 use Rattle.sparql_tree.specs.QueryTree.{QueryTree}
 pub use Rattle.sparql_tree.specs.Scope.{Name}
 use Rattle.sparql_tree.specs.Scope.{group_names, group_scope}
@@ -15,6 +16,10 @@ is_name_among x xs = list_any (bytes_eq x) xs
 -- a variable's number is the place of its name; one that has no place is never bound
 abbrev pub number_of : List Name → Name → ℕ
 number_of names x = position_or_len (bytes_eq x) names
+
+-- a first part of a list of names is noted behind the old ones, and nothing else
+abbrev pub IsNotedInPart : List Name → List Name → List Name → Type 0
+IsNotedInPart old xs new = (k : ℕ) × (new ≡ insert_all bytes_eq old (take k xs))
 
 abbrev pub listed_names : Option (List Name) → List Name
 listed_names None = []

@@ -1,5 +1,5 @@
 //! The values of expressions over a row (SPARQL 1.1 Query Language, section 17).
-ghost use Rattle.std.specs.Prelude.{◌≡◌, ℕ, IfOk, IsOk, None, Some, get_or, map, option_map};
+ghost use Rattle.std.specs.Prelude.{◌≡◌, ℕ, IfOk, IfSome, IsOk, IsOkAnd, None, Some, get_or, map, option_map, true};
 ghost use Rattle.rdf_core.proofs.TermLaws.{term_eq};
 ghost use Rattle.algebra_model.specs.BooleanValue.{logical_and, logical_not, logical_or};
 ghost use Rattle.algebra_model.specs.Call.{call_value};
@@ -7,7 +7,8 @@ ghost use Rattle.algebra_model.specs.Comparison.{compares};
 ghost use Rattle.algebra_model.specs.Expression.{boolean_result, holds, truth_of, val, with_value, with_values};
 ghost use Rattle.sparql_algebra.specs.ExpressionOf.{comparison_of, expression_of, function_of};
 ghost use Rattle.sparql_algebra.specs.MemberTruth.{member_truth};
-ghost use Rattle.sparql_algebra.specs.HeldTerm.{held_term, value_term};
+ghost use Rattle.sparql_algebra.specs.HeldTerm.{held_term, is_held, value_term};
+ghost use Rattle.sparql_algebra.specs.Memory.{are_lent, is_lent, is_test, takes_none};
 
 use crate::comparison::compare;
 use crate::expression::Expr;
@@ -32,13 +33,15 @@ pub enum ExprFault {
 ///
 /// # Errors
 /// - `Error`: the expression is an error over this row. An unbound variable is answered so whatever
-///   memory there is.
+///   memory there is, and so is each error of an expression for which [`test`] takes no memory.
 /// - `Memory`: a growth was refused.
 pub fn value<R: Lookup>(alloc: Global, expr: &Expr, row: &R) -> Result<Term, ExprFault>
     ensures value { IfOk result (λ term. val (expression_of expr.now) (R.solution row.now) ≡ Some term) }
     ensures error { (result ≡ Err ExprFault.Error) → val (expression_of expr.now) (R.solution row.now) ≡ None }
     ensures unbound { (v : ℕ) → expr.now ≡ Expr.Variable v → get_or (R.solution row.now) v None ≡ None
         → result ≡ Err ExprFault.Error }
+    ensures takes_none { takes_none expr.now ≡ true
+        → val (expression_of expr.now) (R.solution row.now) ≡ None → result ≡ Err ExprFault.Error }
 {
     match evaluate(alloc, expr, row) {
         Ok(Some(value)) => match owned(alloc, value) {
@@ -53,14 +56,17 @@ pub fn value<R: Lookup>(alloc: Global, expr: &Expr, row: &R) -> Result<Term, Exp
 /// Whether a row passes a filter: whether the expression has a value there, and its effective
 /// boolean value is true (SPARQL 1.1 Query Language, section 18.5, Filter).
 ///
-/// It copies no variable's or constant's term, and makes no literal of a truth value. BOUND alone takes
-/// no memory.
+/// It copies no variable's or constant's term, and makes no literal of the truth value that it answers.
+/// So it takes no memory where no operand is a term to be made: for a variable, a constant and BOUND;
+/// for a comparison, sameTerm and IN whose sides are variables and constants; for isIRI, isBlank and
+/// isLiteral of one of these; and for `||`, `&&` and `!` of all these.
 ///
 /// # Errors
-/// `AllocError`: a growth was refused.
+/// `AllocError`: a growth was refused, where the expression takes memory.
 pub fn test<R: Lookup>(alloc: Global, expr: &Expr, row: &R) -> Result<bool, AllocError>
     ensures holds { IfOk result (λ passes. passes ≡ holds (expression_of expr.now) (R.solution row.now)) }
     ensures bound { (v : ℕ) → expr.now ≡ Expr.Bound v → IsOk result }
+    ensures takes_none { takes_none expr.now ≡ true → IsOk result }
 {
     match evaluate_truth(alloc, expr, row)? {
         Some(value) => Ok(value),
@@ -74,7 +80,7 @@ fn owned(alloc: Global, value: Value) -> Result<Term, AllocError>
     value.into_held(alloc)?.into_term(alloc)
 }
 
-/// The value, and None where it is an error.
+/// The value, and None where it is an error. A variable's and a constant's term is lent.
 #[cycle(evaluate)]
 fn evaluate<'a, R: Lookup>(
     alloc: Global,
@@ -86,6 +92,8 @@ fn evaluate<'a, R: Lookup>(
     ensures unbound { (v : ℕ) → expr.entry.now ≡ Expr.Variable v
         → get_or (R.solution row.entry.now) v None ≡ None → result ≡ Ok None }
     ensures bound { (v : ℕ) → expr.entry.now ≡ Expr.Bound v → IsOk result }
+    ensures takes_none { takes_none expr.entry.now ≡ true → IsOk result }
+    ensures held { is_lent expr.entry.now ≡ true → IsOkAnd result (λ value. IfSome value (λ v. is_held v ≡ true)) }
 {
     match expr {
         Expr::Variable(variable) => Ok(lent(row.get(*variable))),
@@ -122,6 +130,7 @@ fn evaluate<'a, R: Lookup>(
 
 fn lent(term: Option<&Term>) -> Option<Value<'_>>
     ensures value { option_map value_term result ≡ option_map (λ t. t.now) term.entry }
+    ensures held { IfSome result (λ v. is_held v ≡ true) }
 {
     match term {
         Some(term) => Some(Value::Held(Held::Lent(term))),
@@ -138,7 +147,8 @@ fn negated(truth: Option<bool>) -> Option<bool>
     }
 }
 
-/// The value as a term, and None where it is an error.
+/// The value as a term, and None where it is an error. A variable's and a constant's term takes no
+/// memory.
 #[cycle(evaluate)]
 fn evaluate_held<'a, R: Lookup>(
     alloc: Global,
@@ -147,6 +157,7 @@ fn evaluate_held<'a, R: Lookup>(
 ) -> Result<Option<Held<'a>>, AllocError>
     ensures value { IfOk result (λ value.
         option_map held_term value ≡ val (expression_of expr.entry.now) (R.solution row.entry.now)) }
+    ensures is_lent { is_lent expr.entry.now ≡ true → IsOk result }
 {
     match evaluate(alloc, expr, row)? {
         Some(value) => Ok(Some(value.into_held(alloc)?)),
@@ -163,6 +174,7 @@ fn evaluate_truth<R: Lookup>(
 ) -> Result<Option<bool>, AllocError>
     ensures truth { IfOk result (λ truth. truth ≡ truth_of (val (expression_of expr.now) (R.solution row.now))) }
     ensures bound { (v : ℕ) → expr.now ≡ Expr.Bound v → IsOk result }
+    ensures takes_none { takes_none expr.now ≡ true → IsOk result }
 {
     match evaluate(alloc, expr, row)? {
         Some(value) => Ok(value.truth()),
@@ -181,6 +193,7 @@ fn evaluate_or<R: Lookup>(
 ) -> Result<Option<bool>, AllocError>
     ensures truth { IfOk result (λ truth.
         truth ≡ logical_or (truth_of (val (expression_of left.now) (R.solution row.now))) right) }
+    ensures takes_none { takes_none left.now ≡ true → IsOk result }
 {
     let mut rest = left;
     let mut found = right;
@@ -205,6 +218,7 @@ fn evaluate_and<R: Lookup>(
 ) -> Result<Option<bool>, AllocError>
     ensures truth { IfOk result (λ truth.
         truth ≡ logical_and (truth_of (val (expression_of left.now) (R.solution row.now))) right) }
+    ensures takes_none { takes_none left.now ≡ true → IsOk result }
 {
     let mut rest = left;
     let mut found = right;
@@ -230,6 +244,7 @@ fn evaluate_comparison<'a, R: Lookup>(
     ensures value { IfOk result (λ value. option_map value_term value ≡ boolean_result
         (with_values (option_map held_term left.now) (val (expression_of right.now) (R.solution row.now))
         (compares (comparison_of operator)))) }
+    ensures is_lent { is_lent right.now ≡ true → IsOk result }
 {
     let right = evaluate_held(alloc, right, row)?;
     Ok(boolean_value(compare_values(operator, left, &right)))
@@ -246,6 +261,7 @@ fn evaluate_same_term<'a, R: Lookup>(
     ensures value { IfOk result (λ value. option_map value_term value ≡ boolean_result
         (with_values (option_map held_term left.now) (val (expression_of right.now) (R.solution row.now))
         (λ s t. Some (term_eq s t)))) }
+    ensures is_lent { is_lent right.now ≡ true → IsOk result }
 {
     let right = evaluate_held(alloc, right, row)?;
     Ok(boolean_value(same_values(left, &right)))
@@ -261,6 +277,7 @@ fn evaluate_call<'a, R: Lookup>(
 ) -> Result<Option<Value<'a>>, AllocError>
     ensures value { IfOk result (λ value. option_map value_term value
         ≡ with_value (val (expression_of argument.now) (R.solution row.now)) (call_value (function_of function))) }
+    ensures takes_none { is_lent argument.now ≡ true → is_test (function_of function) ≡ true → IsOk result }
 {
     match evaluate_held(alloc, argument, row)? {
         Some(term) => call(alloc, function, term.as_term()),
@@ -278,6 +295,7 @@ fn evaluate_member<R: Lookup>(
 ) -> Result<Option<bool>, AllocError>
     ensures truth { IfOk result (λ truth. truth ≡ member_truth (option_map held_term item.now)
         (map expression_of list.now) (R.solution row.now)) }
+    ensures are_lent { are_lent list.now ≡ true → IsOk result }
 {
     let mut found = Some(false);
     for member in list {

@@ -1,10 +1,11 @@
 //! Values on the way: a term is lent as long as that serves, and a truth value is no term yet.
-ghost use Rattle.std.specs.Prelude.{◌≡◌, IfOk, option_map};
+ghost use Rattle.std.specs.Prelude.{◌≡◌, IfOk, IsOk, None, option_map, true};
 ghost use Rattle.algebra_model.specs.BooleanValue.{ebv};
 ghost use Rattle.algebra_model.specs.Call.{boolean_term, call_value, datatype, lang, str, string_term};
 ghost use Rattle.algebra_model.specs.Expression.{boolean_result};
 ghost use Rattle.sparql_algebra.specs.ExpressionOf.{function_of};
-ghost use Rattle.sparql_algebra.specs.HeldTerm.{held_term, value_term};
+ghost use Rattle.sparql_algebra.specs.HeldTerm.{held_term, is_held, value_term};
+ghost use Rattle.sparql_algebra.specs.Memory.{is_test};
 
 use crate::comparison::truth;
 use rdf_core::vocabulary::{XSD_BOOLEAN, XSD_STRING};
@@ -36,9 +37,10 @@ impl<'a> Held<'a> {
         }
     }
 
-    /// The term itself, which is copied only where it was lent.
+    /// The term itself, which is copied only where it was lent: an owned one takes no memory.
     pub fn into_term(self, alloc: Global) -> Result<Term, AllocError>
         ensures term { IfOk result (λ term. term ≡ held_term self.entry) }
+        ensures owned { (term : Term) → self.entry ≡ Held.Owned term → result ≡ Ok term }
     {
         match self {
             Held::Lent(term) => term.copy(alloc),
@@ -48,9 +50,10 @@ impl<'a> Held<'a> {
 }
 
 impl<'a> Value<'a> {
-    /// The value as a term, where a truth value becomes a literal.
+    /// The value as a term, where a truth value becomes a literal. A term takes no memory.
     pub fn into_held(self, alloc: Global) -> Result<Held<'a>, AllocError>
         ensures term { IfOk result (λ held. held_term held ≡ value_term self.entry) }
+        ensures held { is_held self.entry ≡ true → IsOk result }
     {
         match self {
             Value::Held(held) => Ok(held),
@@ -80,13 +83,15 @@ pub fn boolean_value<'a>(outcome: Option<bool>) -> Option<Value<'a>>
 }
 
 /// The call of a function on a term (SPARQL 1.1 Query Language, section 17.4.2), and None where that
-/// is an error.
+/// is an error. isIRI, isBlank and isLiteral take no memory, and an error takes none.
 pub fn call<'a>(
     alloc: Global,
     function: Function,
     term: &Term,
 ) -> Result<Option<Value<'a>>, AllocError>
     ensures value { IfOk result (λ value. option_map value_term value ≡ call_value (function_of function) term.entry.now) }
+    ensures test { is_test (function_of function) ≡ true → IsOk result }
+    ensures error { call_value (function_of function) term.entry.now ≡ None → IsOk result }
 {
     match function {
         Function::Str => text_of(alloc, term),
@@ -100,6 +105,7 @@ pub fn call<'a>(
 
 fn text_of<'a>(alloc: Global, term: &Term) -> Result<Option<Value<'a>>, AllocError>
     ensures value { IfOk result (λ value. option_map value_term value ≡ call_value str term.entry.now) }
+    ensures error { call_value str term.entry.now ≡ None → IsOk result }
 {
     match term {
         Term::Literal { lexical, .. } => Ok(Some(string_value(alloc, lexical.as_str())?)),
@@ -110,6 +116,7 @@ fn text_of<'a>(alloc: Global, term: &Term) -> Result<Option<Value<'a>>, AllocErr
 
 fn language_of<'a>(alloc: Global, term: &Term) -> Result<Option<Value<'a>>, AllocError>
     ensures value { IfOk result (λ value. option_map value_term value ≡ call_value lang term.entry.now) }
+    ensures error { call_value lang term.entry.now ≡ None → IsOk result }
 {
     match term {
         Term::Literal { tag: Some(tag), .. } => Ok(Some(string_value(alloc, tag.as_str())?)),
@@ -120,6 +127,7 @@ fn language_of<'a>(alloc: Global, term: &Term) -> Result<Option<Value<'a>>, Allo
 
 fn datatype_of<'a>(alloc: Global, term: &Term) -> Result<Option<Value<'a>>, AllocError>
     ensures value { IfOk result (λ value. option_map value_term value ≡ call_value datatype term.entry.now) }
+    ensures error { call_value datatype term.entry.now ≡ None → IsOk result }
 {
     match term {
         Term::Literal { datatype, .. } => {

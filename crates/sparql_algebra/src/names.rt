@@ -1,5 +1,5 @@
 //! Names in the order in which they first came, each once, and their numbers.
-ghost use Rattle.std.specs.Prelude.{◌≡◌, ◌<◌, ◌^◌, [], length, IfOk, OnOk};
+ghost use Rattle.std.specs.Prelude.{◌≡◌, ◌<◌, ◌^◌, [], length, IfOk, OnErr, OnOk};
 ghost use Rattle.std.specs.Str.{bytes_eq};
 ghost use Rattle.indexmap.specs.IndexSet.{insert_key};
 ghost use Rattle.sparql_algebra.specs.Names.{is_name_among, number_of};
@@ -44,9 +44,10 @@ impl Names {
     /// Puts the name last where it is not there. It is copied only then.
     ///
     /// # Errors
-    /// `AllocError`: a growth was refused.
+    /// `AllocError`: a growth was refused. The names are as they were.
     pub fn note(&mut self, name: &Text) -> Result<(), AllocError>
         ensures noted { OnOk result (self.new ≡ insert_key bytes_eq self.old name.now) }
+        ensures refused { OnErr result (self.new ≡ self.old) }
     {
         if !self.set.contains(name) {
             let alloc = *self.set.allocator();

@@ -1,11 +1,12 @@
 //! The names that a query's tree mentions, in order (SPARQL 1.1 Query Language, section 18.2.1).
-ghost use Rattle.std.specs.Prelude.{◌≡◌, [], IfOk, OnOk, flat_map};
+//! Where a growth is refused, a first part of the names in question is noted, and nothing else.
+ghost use Rattle.std.specs.Prelude.{◌≡◌, [], IfOk, OnErr, OnOk, flat_map};
 ghost use Rattle.std.specs.Str.{bytes_eq};
 ghost use Rattle.indexmap.specs.IndexSet.{insert_all};
 ghost use Rattle.sparql_tree.specs.GroupTree.{element_of, group_of};
 ghost use Rattle.sparql_tree.specs.QueryTree.{query_of, selection_of};
 ghost use Rattle.sparql_tree.specs.Scope.{element_names, graph_names, group_names, group_scope, place_names, triple_names};
-ghost use Rattle.sparql_algebra.specs.Names.{listed_names, names_of};
+ghost use Rattle.sparql_algebra.specs.Names.{IsNotedInPart, listed_names, names_of};
 
 use crate::names::Names;
 use rdf_core::Text;
@@ -40,8 +41,12 @@ pub fn scope(alloc: Global, group: &[Element]) -> Result<Names, AllocError>
 }
 
 /// Notes each name of a list.
+///
+/// # Errors
+/// `AllocError`: a growth was refused. A first part of the list is noted.
 pub fn note_list(names: &mut Names, list: &[Text]) -> Result<(), AllocError>
     ensures noted { OnOk result (names.new ≡ insert_all bytes_eq names.old list.now) }
+    ensures refused { OnErr result (IsNotedInPart names.old list.now names.new) }
 {
     for name in list {
         names.note(name)?;
@@ -52,6 +57,8 @@ pub fn note_list(names: &mut Names, list: &[Text]) -> Result<(), AllocError>
 fn note_selection(names: &mut Names, selection: &Selection) -> Result<(), AllocError>
     ensures noted { OnOk result
         (names.new ≡ insert_all bytes_eq names.old (listed_names (selection_of selection.now))) }
+    ensures refused { OnErr result
+        (IsNotedInPart names.old (listed_names (selection_of selection.now)) names.new) }
 {
     match selection {
         Selection::All => Ok(()),
@@ -60,10 +67,13 @@ fn note_selection(names: &mut Names, selection: &Selection) -> Result<(), AllocE
 }
 
 /// Notes what the elements of a group bind; where `all` is set, also in the right sides of MINUS.
+/// A refusal leaves a first part of it noted.
 #[cycle(naming)]
 fn note_group(names: &mut Names, all: bool, group: &[Element]) -> Result<(), AllocError>
     ensures noted { OnOk result
         (names.new ≡ insert_all bytes_eq names.old (group_names all (group_of group.now))) }
+    ensures refused { OnErr result
+        (IsNotedInPart names.old (group_names all (group_of group.now)) names.new) }
 {
     for element in group {
         note_element(names, all, element)?;
@@ -75,6 +85,8 @@ fn note_group(names: &mut Names, all: bool, group: &[Element]) -> Result<(), All
 fn note_element(names: &mut Names, all: bool, element: &Element) -> Result<(), AllocError>
     ensures noted { OnOk result
         (names.new ≡ insert_all bytes_eq names.old (element_names all (element_of element.now))) }
+    ensures refused { OnErr result
+        (IsNotedInPart names.old (element_names all (element_of element.now)) names.new) }
 {
     match element {
         Element::Triples(triples) => note_triples(names, triples),
@@ -103,6 +115,7 @@ fn note_element(names: &mut Names, all: bool, element: &Element) -> Result<(), A
 
 fn note_graph_name(names: &mut Names, name: &GraphName) -> Result<(), AllocError>
     ensures noted { OnOk result (names.new ≡ insert_all bytes_eq names.old (graph_names name.now)) }
+    ensures refused { OnErr result (IsNotedInPart names.old (graph_names name.now) names.new) }
 {
     match name {
         GraphName::Variable(variable) => names.note(variable),
@@ -113,6 +126,8 @@ fn note_graph_name(names: &mut Names, name: &GraphName) -> Result<(), AllocError
 fn note_triples(names: &mut Names, triples: &[Triple]) -> Result<(), AllocError>
     ensures noted { OnOk result
         (names.new ≡ insert_all bytes_eq names.old (flat_map triple_names triples.now)) }
+    ensures refused { OnErr result
+        (IsNotedInPart names.old (flat_map triple_names triples.now) names.new) }
 {
     for triple in triples {
         note_triple(names, triple)?;
@@ -122,6 +137,7 @@ fn note_triples(names: &mut Names, triples: &[Triple]) -> Result<(), AllocError>
 
 fn note_triple(names: &mut Names, triple: &Triple) -> Result<(), AllocError>
     ensures noted { OnOk result (names.new ≡ insert_all bytes_eq names.old (triple_names triple.now)) }
+    ensures refused { OnErr result (IsNotedInPart names.old (triple_names triple.now) names.new) }
 {
     note_place(names, &triple.subject)?;
     note_place(names, &triple.predicate)?;
@@ -130,6 +146,7 @@ fn note_triple(names: &mut Names, triple: &Triple) -> Result<(), AllocError>
 
 fn note_place(names: &mut Names, place: &PatternTerm) -> Result<(), AllocError>
     ensures noted { OnOk result (names.new ≡ insert_all bytes_eq names.old (place_names place.now)) }
+    ensures refused { OnErr result (IsNotedInPart names.old (place_names place.now) names.new) }
 {
     match place {
         PatternTerm::Variable(variable) => names.note(variable),

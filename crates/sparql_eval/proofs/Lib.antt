@@ -1,4 +1,5 @@
 pub mod ReadingLaws
+pub mod TakingLaws
 mod ProjectSteps
 mod DistinctSteps
 mod TableSteps
@@ -11,4 +12,5 @@ mod GraphSteps
 mod NamedSteps
 mod TreeSteps
 mod EvaluateSteps
+mod ComputedSteps
 mod UnitSteps

@@ -1,15 +1,17 @@
 -- Tables, from the last cell of a row to the first, and row by row.
-use Rattle.std.proofs.Common.{◌≡◌, ℕ, zero, suc, ◌+◌, ◌-◌, ◌<◌, List, [], ◌∷◌, ◌++◌, length, take, drop, set, replicate, map, get_or, slice_get, Option, None, Some, option_map, refl, sym, ap, ◌∙◌, subst, arith, add-one}
+use Rattle.std.proofs.Common.{◌≡◌, ℕ, zero, suc, ◌+◌, ◌-◌, ◌<◌, List, [], ◌∷◌, ◌++◌, length, take, drop, set, replicate, map, get_or, slice_get, Option, None, Some, option_map, Contains, refl, sym, ap, ◌∙◌, subst, arith, add-one}
 use Rattle.rdf_core.specs.declared.term.Term.{Term}
 use Rattle.algebra_model.specs.Operators.{table, table_row}
 use Rattle.algebra_model.specs.Solution.{Solution}
 use Rattle.algebra_model.specs.Reading.{Each}
 use Rattle.algebra_model.proofs.RangeLaws.{unbound-bound, Each-append}
 use Rattle.std.proofs.lemmas.List.{map-append}
-use Rattle.std.proofs.lemmas.Option.{slice_get-get_or}
+use Rattle.std.proofs.lemmas.Option.{slice_get-get_or, slice_get-map}
 use Rattle.dict_core.specs.Dict.{IsGrown, term_at}
+use Rattle.sparql_eval.specs.Computed.{IsCell}
 use Rattle.sparql_eval.specs.Numbered.{IsKnownCell}
 use Rattle.sparql_eval.proofs.ReadingLaws.{Known, read_by, row_kept, rows_kept, set_known, set_read}
+use Rattle.sparql_eval.proofs.TakingLaws.{Contains-flat_map}
 
 pub drop_at : {X : Type 0} (xs : List X) (i : ℕ) (x : X) → slice_get xs i ≡ Some x → drop i xs ≡ x ∷ drop (i + 1) xs
 drop_at {X} xs i x e = rw add-one (by xs i e)
@@ -83,3 +85,7 @@ table_more now later g w vs made rows row cells known was here read =
       Each-append (Known later) made (row ∷ []) kept.0 (here, tt),
       map-append (read_by later) made (row ∷ []) ∙ (λ i. (kept.1 ∙ was) i ++ read i ∷ []) ∙ sym (map-append (table_row w vs) rows (cells ∷ [])),
     )
+
+-- a cell of a row is one of the table's
+pub cell_of : {X : Type 0} (cells : X → List (Option Term)) (vs : List ℕ) (rows : List X) (k : ℕ) (row : X) (t : Term) → slice_get rows k ≡ Some row → Contains (take (length vs) (cells row)) (Some t) → IsCell vs (map cells rows) t
+cell_of cells vs rows k row t at h = Contains-flat_map (take (length vs)) (map cells rows) k (cells row) (Some t) (slice_get-map cells rows k ∙ ap (option_map cells) at) h

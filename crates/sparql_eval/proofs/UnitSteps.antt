@@ -1,5 +1,5 @@
 -- A join with the one solution that binds nothing is the other side.
-use Rattle.std.proofs.Common.{◌≡◌, ℕ, zero, suc, Bool, true, cond, List, [], ◌∷◌, length, map, filter, replicate, slice_get, None, Some, is_some, not, All, refl, sym, ap, ◌∙◌, arith, append-nil}
+use Rattle.std.proofs.Common.{◌≡◌, ℕ, zero, suc, Bool, true, cond, List, [], ◌∷◌, length, map, filter, replicate, slice_get, Option, None, Some, is_some, not, All, refl, sym, ap, ◌∙◌, arith, append-nil}
 use Rattle.std.specs.List.{list_all}
 use Rattle.std.proofs.lemmas.List.{length-map}
 use Rattle.rdf_core.specs.declared.term.Term.{Term}
@@ -60,3 +60,16 @@ unit_rows (r ∷ []) w row e g l h =
     let same : r ≡ row = cc in
     ap (λ (x : Solution ℕ). x ∷ []) (same ∙ none_each row h ∙ ap (λ n. replicate n None) l)
 unit_rows (r ∷ s ∷ rows) w row e g l h = absurd (omega arith)
+
+-- such a row, the other way about
+all_none : (w : ℕ) → list_all (λ (cell : Option ℕ). not (is_some cell)) (replicate w None) ≡ true
+all_none zero = refl
+all_none (suc w) = all_none w
+
+pub unit_open : (rows : List (Solution ℕ)) (w : ℕ) (row : Solution ℕ) → rows ≡ replicate w None ∷ [] → slice_get rows 0 ≡ Some row → list_all (λ cell. not (is_some cell)) row ≡ true
+unit_open rows w row e g =
+    let same : replicate w None ≡ row = some_same (sym (ap (λ (r : List (Solution ℕ)). slice_get r 0) e) ∙ g) in
+    sym (ap (λ (r : Solution ℕ). list_all (λ cell. not (is_some cell)) r) same) ∙ all_none w
+  where
+    some_same : {x y : Solution ℕ} → Some x ≡ Some y → x ≡ y
+    some_same p = cc

@@ -1,10 +1,12 @@
 -- The values of an expression, one row and one piece more, and their numbers.
-use Rattle.std.proofs.Common.{◌≡◌, ℕ, zero, suc, ◌+◌, ◌-◌, ◌*◌, ◌<◌, ◌≤◌, List, [], ◌∷◌, ◌++◌, length, take, drop, map, get_or, slice_get, Option, None, Some, option_map, refl, sym, ap, ◌∙◌, subst, arith, lt_of_not-le, mul-le-mul_right}
+use Rattle.std.proofs.Common.{◌≡◌, ℕ, zero, suc, ◌+◌, ◌-◌, ◌*◌, ◌<◌, ◌≤◌, List, [], ◌∷◌, ◌++◌, length, take, drop, map, get_or, slice_get, min, Option, None, Some, option_map, Contains, ⊎_elim, refl, sym, ap, ◌∙◌, subst, arith, lt_of_not-le, mul-le-mul_right}
 use Rattle.std.specs.List.{slice_index_or}
 use Rattle.std.proofs.Math.Nat.{suc-mul, zero-mul}
 use Rattle.std.specs.Int.{div_ceil}
 use Rattle.std.proofs.lemmas.Grind.{div_ceil_times}
 use Rattle.std.proofs.lemmas.List.{map-append, take-append-drop, length-drop, drop-drop}
+use Rattle.std.proofs.lemmas.List.Elements.{Contains-append_left, Contains-append_right, Contains-append_cases, Contains-push}
+use Rattle.std.specs.List.{flat_map}
 use Rattle.rdf_core.specs.declared.term.Term.{Term}
 use Rattle.algebra_model.specs.Expression.{Expression, val}
 use Rattle.algebra_model.specs.Reading.{Each}
@@ -19,9 +21,11 @@ use Rattle.row_pieces.specs.Pieces.{piece_of}
 use Rattle.sparql_eval.specs.declared.piece_values.PieceValue.{PieceValue}
 use Rattle.sparql_eval.specs.declared.piece_values.PieceValue.TheVariants.{Error, Known as Number, Own}
 use Rattle.sparql_eval.specs.declared.piece_values.PieceValues.{PieceValues}
-use Rattle.sparql_eval.specs.Values.{AreValues, AreAllValues, ArePieceValues, IsOwnBelow, IsPieceIn, IsValueIn, IsValueOf, piece_terms, value_number, value_term, values_over}
+use Rattle.sparql_eval.specs.Computed.{TakesOnly}
+use Rattle.sparql_eval.specs.Values.{AreValues, AreAllValues, ArePieceValues, IsOwnBelow, IsPieceIn, IsValueIn, IsValueOf, own_terms, piece_terms, value_number, value_term, values_over}
 use Rattle.sparql_eval.proofs.FilterSteps.{get_drop}
 use Rattle.sparql_eval.proofs.ReadingLaws.{Known, read_by, grown_itself, number_kept, number_known, number_read, row_kept}
+use Rattle.sparql_eval.proofs.TakingLaws.{Contains-none}
 
 -- ---- dictionaries that grow
 
@@ -46,16 +50,22 @@ no_rows (x ∷ xs) h = absurd (omega arith)
 
 module _ (terms : List Term) (e : Expression) where
   pub values_more : (own own' : List Term) → IsGrown own own' → IsGrown terms terms → (A : List (Solution ℕ)) (from i : ℕ) (μ : Solution ℕ) (found : List PieceValue) (x : PieceValue) → from ≤ i → slice_get A i ≡ Some μ
-      → AreValues terms own e (take (i - from) (drop from A)) found → IsValueOf terms own' (val e (read_by terms μ)) x
+      → AreValues terms own e (take (i - from) (drop from A)) found → IsValueOf terms own' (val e (read_by terms μ)) x → TakesOnly (λ t. val e (read_by terms μ) ≡ Some t) own own'
       → AreValues terms own' e (take (i + 1 - from) (drop from A)) (found ++ x ∷ [])
-  values_more own own' h g A from i μ found x low at was here =
+  values_more own own' h g A from i μ found x low at was here taken =
       let part = take (i - from) (drop from A) in
       let s : i + 1 - from ≡ (i - from) + 1 = omega arith in
       let more = ap (λ m. take m (drop from A)) s ∙ take_more_get (drop from A) (i - from) μ (get_drop A from (i - from) i (omega arith) ∙ at) in
+      let value = val e (read_by terms μ) in
+      let longer : values_over terms e part ++ value ∷ [] ≡ values_over terms e (take (i + 1 - from) (drop from A)) =
+      sym (map-append (λ ρ. val e (read_by terms ρ)) part (μ ∷ [])) ∙ ap (values_over terms e) (sym more) in
       let kept = values_kept terms terms own own' g h found was.0 in (
         Each-append (IsValueIn terms own') found (x ∷ []) kept.0 (here.0, tt),
-        map-append (value_term terms own') found (x ∷ []) ∙ (λ k. (kept.1 ∙ was.1) k ++ here.1 k ∷ [])
-            ∙ sym (map-append (λ ρ. val e (read_by terms ρ)) part (μ ∷ [])) ∙ ap (values_over terms e) (sym more),
+        map-append (value_term terms own') found (x ∷ []) ∙ (λ k. (kept.1 ∙ was.1) k ++ here.1 k ∷ []) ∙ longer,
+        λ t k. subst (λ l. Contains l (Some t)) longer (⊎_elim
+            (λ old. Contains-append_left (values_over terms e part) (value ∷ []) (Some t) (was.2 t old))
+            (λ is. subst (Contains (values_over terms e part ++ value ∷ [])) is (Contains-push (values_over terms e part) value))
+            (taken t k)),
       )
 
   -- all pieces, one behind the other
@@ -64,7 +74,7 @@ module _ (terms : List Term) (e : Expression) where
       → length A ≤ length outs * size → AreAllValues terms e A outs
   values_joined size [] A each h =
       let z = zero-mul size in
-      (tt, ap (values_over terms e) (no_rows A (omega arith)))
+      (tt, ap (values_over terms e) (no_rows A (omega arith)), λ t k. absurd (Contains-none t k))
   values_joined size (o ∷ os) A each h =
       let m = suc-mul (length os) size in
       let l = length-drop size A in
@@ -74,11 +84,46 @@ module _ (terms : List Term) (e : Expression) where
       let next : (i : ℕ) → piece_of size (suc i) A ≡ piece_of size i (drop size A) =
       λ i. ap (take size) (ap (λ k. drop k A) (let q = suc-mul i size in omega arith) ∙ sym (drop-drop (i * size) size A)) in
       let rest = values_joined size os (drop size A)
-      (λ i d low. subst (λ (ps : List (Solution ℕ)). ArePieceValues terms e ps (slice_index_or os i d)) (next i) (each (suc i) d (omega arith))) (omega arith) in (
+      (λ i d low. subst (λ (ps : List (Solution ℕ)). ArePieceValues terms e ps (slice_index_or os i d)) (next i) (each (suc i) d (omega arith))) (omega arith) in
+      let front = values_over terms e (take size A) in
+      let back = values_over terms e (drop size A) in
+      let parts : front ++ back ≡ values_over terms e A =
+      sym (map-append (λ ρ. val e (read_by terms ρ)) (take size A) (drop size A)) ∙ ap (values_over terms e) (take-append-drop size A) in (
         (first.0, rest.0),
-        (λ k. first.1 k ++ rest.1 k) ∙ sym (map-append (λ ρ. val e (read_by terms ρ)) (take size A) (drop size A))
-            ∙ ap (values_over terms e) (take-append-drop size A),
+        (λ k. first.1 k ++ rest.1 k) ∙ parts,
+        λ t k. subst (λ l. Contains l (Some t)) parts (⊎_elim
+            (λ here. Contains-append_left front back (Some t) (first.2 t here))
+            (λ there. Contains-append_right front back (Some t) (rest.2 t there))
+            (Contains-append_cases o.own (flat_map own_terms os) t k)),
       )
+
+-- ---- the rows of a piece
+
+take_none : {X : Type 0} (n : ℕ) → take {A = X} n [] ≡ []
+take_none zero = refl
+take_none (suc n) = refl
+
+drop_none : {X : Type 0} (n : ℕ) → drop {A = X} n [] ≡ []
+drop_none zero = refl
+drop_none (suc n) = refl
+
+take_least : {X : Type 0} (A : List X) (m n : ℕ) → m ≡ min n (length A) → take m A ≡ take n A
+take_least [] m n e = take_none m ∙ sym (take_none n)
+take_least (x ∷ A) m zero e = let z : m ≡ 0 = omega arith in ap (λ k. take k (x ∷ A)) z
+take_least (x ∷ A) zero (suc n) e = absurd (omega arith)
+take_least (x ∷ A) (suc m) (suc n) e = ap (λ r. x ∷ r) (take_least A m n (omega arith))
+
+drop_least : {X : Type 0} (A : List X) (m n : ℕ) → m ≡ min n (length A) → drop m A ≡ drop n A
+drop_least [] m n e = drop_none m ∙ sym (drop_none n)
+drop_least (x ∷ A) m zero e = let z : m ≡ 0 = omega arith in ap (λ k. drop k (x ∷ A)) z
+drop_least (x ∷ A) zero (suc n) e = absurd (omega arith)
+drop_least (x ∷ A) (suc m) (suc n) e = drop_least A m n (omega arith)
+
+-- the rows between two places, neither of them past the end
+pub piece_between : {X : Type 0} (A : List X) (size start from to : ℕ) → from ≡ min start (length A) → to ≡ min (from + size) (length A) → take (to - from) (drop from A) ≡ take size (drop start A)
+piece_between A size start from to e f =
+    let long = length-drop from A in
+    take_least (drop from A) (to - from) size (omega arith) ∙ ap (take size) (drop_least A from start e)
 
 pub enough : (count total size pieces n : ℕ) → 0 < size → count ≡ total → pieces ≡ div_ceil count size → n ≡ pieces → total ≤ n * size
 enough count total size pieces n h e p q =

@@ -5,3 +5,4 @@ pub mod Values
 pub mod Constants
 pub mod GraphNumbers
 pub mod TreeSolutions
+pub mod Computed

@@ -1,6 +1,6 @@
 -- The values of an expression over pieces of rows, and their numbers. Only private clauses cite
 -- these words.
-use Rattle.std.specs.Prelude.{◌≡◌, ℕ, ◌<◌, List, [], ◌∷◌, length, map, get_or, Option, Some, None}
+use Rattle.std.specs.Prelude.{◌≡◌, ℕ, ◌<◌, List, [], ◌∷◌, length, map, get_or, Option, Some, None, Contains}
 use Rattle.std.specs.List.{flat_map}
 use Rattle.rdf_core.specs.declared.term.Term.{Term}
 use Rattle.algebra_model.specs.Expression.{Expression, val}
@@ -32,10 +32,14 @@ IsValueOf terms own value found = IsValueIn terms own found × (value_term terms
 abbrev pub values_over : List Term → Expression → List (Solution ℕ) → List (Option Term)
 values_over terms e A = map (λ μ. val e (read_row (term_at terms) μ)) A
 
--- these are the values for the rows
+-- each of the terms is one of the values
+abbrev pub AreAmong : List Term → List (Option Term) → Type 0
+AreAmong own values = (t : Term) → Contains own t → Contains values (Some t)
+
+-- these are the values for the rows, and the piece's own dictionary has no other terms
 abbrev pub AreValues : List Term → List Term → Expression → List (Solution ℕ) → List PieceValue → Type 0
 AreValues terms own e A found =
-    Each (IsValueIn terms own) found × (map (value_term terms own) found ≡ values_over terms e A)
+    Each (IsValueIn terms own) found × (map (value_term terms own) found ≡ values_over terms e A) × AreAmong own (values_over terms e A)
 
 -- the same of a piece
 abbrev pub ArePieceValues : List Term → Expression → List (Solution ℕ) → PieceValues → Type 0
@@ -47,10 +51,14 @@ IsPieceIn terms piece = Each (IsValueIn terms piece.own) piece.values.items
 abbrev pub piece_terms : List Term → PieceValues → List (Option Term)
 piece_terms terms piece = map (value_term terms piece.own) piece.values.items
 
+-- the terms of its own
+abbrev pub own_terms : PieceValues → List Term
+own_terms piece = piece.own
+
 -- the same of pieces, one behind the other
 abbrev pub AreAllValues : List Term → Expression → List (Solution ℕ) → List PieceValues → Type 0
 AreAllValues terms e A pieces =
-    Each (IsPieceIn terms) pieces × (flat_map (piece_terms terms) pieces ≡ values_over terms e A)
+    Each (IsPieceIn terms) pieces × (flat_map (piece_terms terms) pieces ≡ values_over terms e A) × AreAmong (flat_map own_terms pieces) (values_over terms e A)
 
 -- a value's number, where the k-th of the piece's own terms has the k-th of these numbers
 abbrev pub value_number : List ℕ → PieceValue → Option ℕ

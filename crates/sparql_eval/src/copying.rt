@@ -1,13 +1,16 @@
 //! Rows put behind other rows.
-ghost use Rattle.std.specs.Prelude.{◌≡◌, ◌++◌, OnOk};
+ghost use Rattle.std.specs.Prelude.{◌≡◌, ◌++◌, ℕ, take, OnErr, OnOk};
 
 use row_core::Rows;
 use std::alloc::AllocError;
 
-/// Adds copies of the rows behind those of `made`.
+/// Adds copies of the rows behind those of `made`. A refusal leaves those that were there, and behind
+/// them copies of the first of the rows, as many as came in.
 pub(crate) fn add_rows(made: &mut Rows, rows: &Rows) -> Result<(), AllocError>
     requires same_width { rows.now.width ≡ made.old.width }
     ensures added { OnOk result (made.new.rows ≡ made.old.rows ++ rows.now.rows) }
+    ensures refused { OnErr result ((k : ℕ)
+        × (made.new.rows ≡ made.old.rows ++ take k rows.now.rows)) }
     ensures width { made.new.width ≡ made.old.width }
 {
     for i in 0..rows.len() {

@@ -6,6 +6,7 @@ ghost use Rattle.dict_core.specs.NumQuad.{AreBelow, quads_at};
 ghost use Rattle.row_pieces.specs.How.{IsRunnable, HasOneWorker};
 ghost use Rattle.row_pieces.specs.declared.how.EvalFault.TheVariants.{Memory};
 ghost use Rattle.sparql_algebra.specs.AlgebraOf.{algebra_of, graph_name_of};
+ghost use Rattle.sparql_eval.specs.Computed.{InSomeGraph, IsComputed, TakesOnly};
 ghost use Rattle.sparql_eval.specs.Evaluated.{IsEvaluated};
 
 use crate::evaluator::Evaluator;
@@ -24,9 +25,11 @@ use std::thread::Threads;
 /// The solutions of a plan over a dataset, with the default graph active. The dataset is the index,
 /// read through the given dictionary.
 ///
-/// The answered dictionary begins with the given one, and has the terms that were computed or stand
-/// in VALUES behind it. Each operator is done once, but within GRAPH under a variable once a named graph, and its
-/// inputs before it; one that goes over rows cuts them into pieces of `how.rows` for `how.workers` workers.
+/// The answered dictionary begins with the given one. It takes in no terms but those that stand in VALUES
+/// somewhere in the plan and the values that Extend computes somewhere in it.
+///
+/// Each operator is done once, but within GRAPH under a variable once a named graph, and its inputs before
+/// it; one that goes over rows cuts them into pieces of `how.rows` for `how.workers` workers.
 ///
 /// # Requires
 /// Each number in the index is below the length of the dictionary, and `how` keeps its limits.
@@ -50,6 +53,8 @@ pub fn evaluate<R: RandomSource + Threads + Wait, G: Gate + Sync>(
     ensures evaluated { IfOk result (λ r. IsEvaluated dict (length plan.now.names.items)
         (eval (length plan.now.names.items) (quads_at dict index.now) None
         (algebra_of plan.now.tree)) r.0 r.1) }
+    ensures needed { IfOk result (λ r. TakesOnly (IsComputed (length plan.now.names.items)
+        (quads_at dict index.now) None (algebra_of plan.now.tree)) dict r.1) }
     ensures one_worker { HasOneWorker how.now → IfErr result (λ fault. fault ≡ Memory) }
 {
     let Ok(state) = RandomState::new(rt) else {
@@ -73,6 +78,9 @@ pub fn evaluate<R: RandomSource + Threads + Wait, G: Gate + Sync>(
 ///
 /// A name that no graph has gives no row. Under a variable the inner tree is evaluated in each named
 /// graph, and its rows are then joined with the variable bound to the graph's name.
+///
+/// The dictionary takes in no terms but those that stand in VALUES somewhere in the tree and the values that
+/// Extend computes somewhere in it, each with one of those graphs active.
 ///
 /// # Requires
 /// Each number in the index is below the length of the dictionary, the variables of the name and of the
@@ -102,6 +110,9 @@ pub fn graph<R: Threads + Wait, G: Gate + Sync>(
     ensures evaluated { IfOk result (λ r. IsEvaluated dict width
         (in_graphs width (quads_at dict index.now) (graph_name_of name.now)
         (λ g. eval width (quads_at dict index.now) g (algebra_of inner.now))) r.0 r.1) }
+    ensures needed { IfOk result (λ r. TakesOnly (λ t. InSomeGraph (quads_at dict index.now)
+        (graph_name_of name.now) (λ g. IsComputed width (quads_at dict index.now) g
+        (algebra_of inner.now) t)) dict r.1) }
     ensures one_worker { HasOneWorker how.now → IfErr result (λ fault. fault ≡ Memory) }
 {
     let evaluator = Evaluator {

@@ -14,6 +14,7 @@ ghost use Rattle.row_pieces.specs.How.{IsRunnable, HasOneWorker};
 ghost use Rattle.row_pieces.specs.declared.how.EvalFault.TheVariants.{Memory};
 ghost use Rattle.sparql_algebra.specs.AlgebraOf.{algebra_of, graph_name_of, triple_pattern_of};
 ghost use Rattle.sparql_algebra.specs.ExpressionOf.{expression_of};
+ghost use Rattle.sparql_eval.specs.Computed.{InSomeGraph, IsComputed, IsValue, TakesOnly};
 ghost use Rattle.sparql_eval.specs.Evaluated.{AreKnown, IsEvaluated, solutions_of};
 ghost use Rattle.sparql_eval.specs.TreeSolutions.{graph_solutions, tree_solutions};
 
@@ -52,7 +53,8 @@ pub(crate) struct Evaluator<'a, R, G> {
 }
 
 impl<'a, R: Threads + Wait, G: Gate + Sync> Evaluator<'a, R, G> {
-    /// The solutions of a tree, with the graph of this number active, the default graph where None.
+    /// The solutions of a tree, with the graph of this number active, the default graph where None. The
+    /// dictionary takes in the terms of VALUES and the values of Extend alone.
     #[cycle(solve)]
     pub(crate) fn solve(
         &self,
@@ -65,6 +67,9 @@ impl<'a, R: Threads + Wait, G: Gate + Sync> Evaluator<'a, R, G> {
         requires within { is_within self.now.width (algebra_of tree.now) ≡ true }
         ensures evaluated { IfOk result (λ r. IsEvaluated dict self.now.width
             (tree_solutions dict self.now.index.now self.now.width active tree.now) r.0 r.1) }
+        ensures needed { IfOk result (λ r. TakesOnly (IsComputed self.now.width
+            (quads_at dict self.now.index.now) (option_map (term_at dict) active)
+            (algebra_of tree.now)) dict r.1) }
         ensures one_worker { HasOneWorker self.now.how.now → IfErr result (λ fault. fault ≡ Memory) }
     {
         match tree {
@@ -123,7 +128,8 @@ impl<'a, R: Threads + Wait, G: Gate + Sync> Evaluator<'a, R, G> {
         }
     }
 
-    /// The solutions of a tree in a named graph, or in each of them in turn.
+    /// The solutions of a tree in a named graph, or in each of them in turn. The dictionary takes in the
+    /// terms that the tree computes there alone.
     #[cycle(solve)]
     pub(crate) fn solve_graph(
         &self,
@@ -137,6 +143,10 @@ impl<'a, R: Threads + Wait, G: Gate + Sync> Evaluator<'a, R, G> {
         ensures evaluated { IfOk result (λ r. IsEvaluated dict self.now.width
             (graph_solutions dict self.now.index.now self.now.width (graph_name_of name.now)
             inner.now) r.0 r.1) }
+        ensures needed { IfOk result (λ r. TakesOnly (λ t.
+            InSomeGraph (quads_at dict self.now.index.now) (graph_name_of name.now)
+            (λ g. IsComputed self.now.width (quads_at dict self.now.index.now) g
+            (algebra_of inner.now) t)) dict r.1) }
         ensures one_worker { HasOneWorker self.now.how.now → IfErr result (λ fault. fault ≡ Memory) }
     {
         match name {
@@ -149,7 +159,7 @@ impl<'a, R: Threads + Wait, G: Gate + Sync> Evaluator<'a, R, G> {
     }
 
     /// The solutions of a tree in each named graph, those of a graph joined with the variable bound
-    /// to the graph's name.
+    /// to the graph's name. The dictionary takes in the terms that the tree computes in these graphs alone.
     #[cycle(solve)]
     fn solve_each(
         &self,
@@ -163,6 +173,10 @@ impl<'a, R: Threads + Wait, G: Gate + Sync> Evaluator<'a, R, G> {
         ensures evaluated { IfOk result (λ r. IsEvaluated dict self.now.width
             (graph_solutions dict self.now.index.now self.now.width (each_graph variable)
             inner.now) r.0 r.1) }
+        ensures needed { IfOk result (λ r. TakesOnly (λ t.
+            InSomeGraph (quads_at dict self.now.index.now) (each_graph variable)
+            (λ g. IsComputed self.now.width (quads_at dict self.now.index.now) g
+            (algebra_of inner.now) t)) dict r.1) }
         ensures one_worker { HasOneWorker self.now.how.now → IfErr result (λ fault. fault ≡ Memory) }
     {
         let _distinct = dict.len();
@@ -194,6 +208,7 @@ impl<'a, R: Threads + Wait, G: Gate + Sync> Evaluator<'a, R, G> {
             (bgp term_eq self.now.width labels (map triple_pattern_of triples.now)
             (graph (quads_at dict self.now.index.now) (option_map (term_at dict) active)))
             r.0 r.1) }
+        ensures same_dict { IfOk result (λ r. r.1 ≡ dict) }
         ensures one_worker { HasOneWorker self.now.how.now → IfErr result (λ fault. fault ≡ Memory) }
     {
         pattern(
@@ -208,6 +223,7 @@ impl<'a, R: Threads + Wait, G: Gate + Sync> Evaluator<'a, R, G> {
         requires known_right { AreKnown dict right }
         ensures evaluated { IfOk result (λ r. IsEvaluated dict left.width
             (join term_eq (solutions_of dict left) (solutions_of dict right)) r.0 r.1) }
+        ensures same_dict { IfOk result (λ r. r.1 ≡ dict) }
         ensures one_worker { HasOneWorker self.now.how.now → IfErr result (λ fault. fault ≡ Memory) }
     {
         join_of(
@@ -228,6 +244,7 @@ impl<'a, R: Threads + Wait, G: Gate + Sync> Evaluator<'a, R, G> {
         ensures evaluated { IfOk result (λ r. IsEvaluated dict left.now.width
             (left_join term_eq (holds (expression_of condition.now))
             (solutions_of dict left.now) (solutions_of dict right.now)) r.0 r.1) }
+        ensures same_dict { IfOk result (λ r. r.1 ≡ dict) }
         ensures one_worker { HasOneWorker self.now.how.now → IfErr result (λ fault. fault ≡ Memory) }
     {
         left_join(
@@ -241,6 +258,7 @@ impl<'a, R: Threads + Wait, G: Gate + Sync> Evaluator<'a, R, G> {
         requires known_right { AreKnown dict right.now }
         ensures evaluated { IfOk result (λ r. IsEvaluated dict left.now.width
             (minus term_eq (solutions_of dict left.now) (solutions_of dict right.now)) r.0 r.1) }
+        ensures same_dict { IfOk result (λ r. r.1 ≡ dict) }
         ensures one_worker { HasOneWorker self.now.how.now → IfErr result (λ fault. fault ≡ Memory) }
     {
         minus(
@@ -252,6 +270,7 @@ impl<'a, R: Threads + Wait, G: Gate + Sync> Evaluator<'a, R, G> {
         requires known { AreKnown dict rows.now }
         ensures evaluated { IfOk result (λ r. IsEvaluated dict rows.now.width
             (filter (holds (expression_of condition.now)) (solutions_of dict rows.now)) r.0 r.1) }
+        ensures same_dict { IfOk result (λ r. r.1 ≡ dict) }
         ensures one_worker { HasOneWorker self.now.how.now → IfErr result (λ fault. fault ≡ Memory) }
     {
         filter(
@@ -271,6 +290,8 @@ impl<'a, R: Threads + Wait, G: Gate + Sync> Evaluator<'a, R, G> {
         ensures evaluated { IfOk result (λ r. IsEvaluated dict rows.now.width
             (extend variable (val (expression_of expression.now)) (solutions_of dict rows.now))
             r.0 r.1) }
+        ensures needed { IfOk result (λ r. TakesOnly (IsValue (val (expression_of expression.now))
+            (solutions_of dict rows.now)) dict r.1) }
         ensures one_worker { HasOneWorker self.now.how.now → IfErr result (λ fault. fault ≡ Memory) }
     {
         extend(

@@ -5,6 +5,7 @@ ghost use Rattle.algebra_model.specs.Operators.{bind, extend};
 ghost use Rattle.row_pieces.specs.How.{IsRunnable, HasOneWorker};
 ghost use Rattle.row_pieces.specs.declared.how.EvalFault.TheVariants.{Memory};
 ghost use Rattle.sparql_algebra.specs.ExpressionOf.{expression_of};
+ghost use Rattle.sparql_eval.specs.Computed.{IsValue, TakesOnly};
 ghost use Rattle.sparql_eval.specs.Evaluated.{AreKnown, IsEvaluated, solutions_of};
 ghost use Rattle.sparql_eval.specs.Values.{bind_each};
 
@@ -26,7 +27,7 @@ use std::thread::Threads;
 /// The values are computed over pieces of the rows, side by side. Each piece numbers those that the
 /// dictionary lacks by a dictionary of its own, hashed with the given state; then the dictionary
 /// takes these in, piece by piece in order. A value that is a term of the dictionary gets that term's
-/// number.
+/// number. The dictionary takes in values of the rows alone.
 ///
 /// # Requires
 /// Each number in the rows is below the length of the dictionary, the variable below the width of the
@@ -54,6 +55,8 @@ pub fn extend<R: Threads + Wait, G: Gate + Sync>(
     requires how { IsRunnable how.now }
     ensures evaluated { IfOk result (λ r. IsEvaluated dict rows.now.width
         (extend variable (val (expression_of expression.now)) (solutions_of dict rows.now)) r.0 r.1) }
+    ensures needed { IfOk result (λ r. TakesOnly
+        (IsValue (val (expression_of expression.now)) (solutions_of dict rows.now)) dict r.1) }
     ensures alone { length rows.now.rows ≤ how.now.rows → IfErr result (λ fault. fault ≡ Memory) }
     ensures one_worker { HasOneWorker how.now → IfErr result (λ fault. fault ≡ Memory) }
 {

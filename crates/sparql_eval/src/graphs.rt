@@ -1,5 +1,5 @@
 //! Named graphs (SPARQL 1.1 Query Language, section 18.6, Graph).
-ghost use Rattle.std.specs.Prelude.{◌≡◌, ◌<◌, ◌++◌, ◌∷◌, [], true, false, Some, None, length, nat_eq, replicate, set, slice_get, IfOk, OnOk, MatchOption};
+ghost use Rattle.std.specs.Prelude.{◌≡◌, ◌<◌, ◌++◌, ◌∷◌, [], true, false, Some, None, length, nat_eq, replicate, set, slice_get, take, ℕ, IfOk, OnErr, OnOk, MatchOption};
 ghost use Rattle.std.specs.List.{list_any};
 ghost use Rattle.rdf_core.proofs.TermLaws.{term_eq};
 ghost use Rattle.algebra_model.specs.Dataset.{names};
@@ -46,7 +46,8 @@ pub(crate) fn name_row(
     Ok(row)
 }
 
-/// Adds the merges of the rows with one row.
+/// Adds the merges of the rows with one row. A refusal leaves the rows that were there, and behind them
+/// the merges of the first of the others, as many as came in.
 pub(crate) fn add_named(
     alloc: Global,
     made: &mut Rows,
@@ -56,6 +57,8 @@ pub(crate) fn add_named(
     requires same_width { rows.now.width ≡ made.old.width }
     requires wide { length name.now ≡ rows.now.width }
     ensures added { OnOk result (made.new.rows ≡ made.old.rows ++ join nat_eq rows.now.rows (name.now ∷ [])) }
+    ensures refused { OnErr result ((k : ℕ) × (made.new.rows
+        ≡ made.old.rows ++ join nat_eq (take k rows.now.rows) (name.now ∷ []))) }
     ensures width { made.new.width ≡ made.old.width }
 {
     let mut merged = Vec::with_capacity(alloc, rows.width())?;

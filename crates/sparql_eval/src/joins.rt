@@ -1,7 +1,7 @@
 //! Join, LeftJoin and Minus (SPARQL 1.1 Query Language, section 18.5).
 ghost use Rattle.std.specs.Bool.{OnTrue};
 ghost use Rattle.std.specs.List.{list_all};
-ghost use Rattle.std.specs.Prelude.{◌≡◌, ◌≤◌, ◌∷◌, [], is_some, length, not, replicate, None, IfErr, IfOk};
+ghost use Rattle.std.specs.Prelude.{◌≡◌, ◌≤◌, ◌∷◌, [], is_some, length, not, replicate, true, None, IfErr, IfOk};
 ghost use Rattle.rdf_core.proofs.TermLaws.{term_eq};
 ghost use Rattle.algebra_model.specs.Expression.{holds};
 ghost use Rattle.algebra_model.specs.Operators.{join, left_join, minus};
@@ -93,6 +93,7 @@ pub(crate) fn join_of<R: Threads + Wait, G: Gate + Sync>(
 fn binds_nothing(rows: &Rows, width: usize) -> bool
     requires width { rows.now.width ≡ width }
     ensures unit { OnTrue result (rows.now.rows ≡ replicate width None ∷ []) }
+    ensures seen { rows.now.rows ≡ replicate width None ∷ [] → result ≡ true }
 {
     rows.len() == 1 && all_open(rows.row(0))
 }

@@ -5,8 +5,9 @@
 //! of their own, over rows, the dictionary, and what else each takes. The contract of each is one
 //! record, `IsEvaluated` of specs/Evaluated.antt: the answered dictionary begins with the given one,
 //! and the rows, read through it, are the bag of solutions that the definition gives of the arguments
-//! so read, whatever the workers and the pieces. Numbers may be compared in place of terms, since a
-//! dictionary has no term twice.
+//! so read, whatever the workers and the pieces. Beside it, the dictionary takes in no terms but those of VALUES and
+//! computed values (`TakesOnly` of specs/Computed.antt). Numbers may be compared in place of terms, since
+//! a dictionary has no term twice.
 //!
 //! Standard: SPARQL 1.1 Query Language, sections 18.5 and 18.6; the definitions are those of
 //! `algebra_model`.

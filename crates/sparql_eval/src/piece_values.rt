@@ -1,10 +1,11 @@
 //! The values of a piece of rows, and the numbers that the dictionary gives them.
-ghost use Rattle.std.specs.Prelude.{◌≡◌, ◌++◌, length, map, IfOk, OnOk};
+ghost use Rattle.std.specs.Prelude.{◌≡◌, ◌++◌, Contains, length, map, IfOk, OnOk};
 ghost use Rattle.std.specs.List.{flat_map};
 ghost use Rattle.algebra_model.specs.Reading.{Each, read_row};
 ghost use Rattle.dict_core.specs.Dict.{IsGrown, term_at};
+ghost use Rattle.sparql_eval.specs.Computed.{TakesOnly};
 ghost use Rattle.sparql_eval.specs.Numbered.{IsKnownRow};
-ghost use Rattle.sparql_eval.specs.Values.{IsOwnBelow, IsPieceIn, piece_terms, value_number};
+ghost use Rattle.sparql_eval.specs.Values.{IsOwnBelow, IsPieceIn, own_terms, piece_terms, value_number};
 
 use dict_core::Dict;
 use std::alloc::{AllocError, Global};
@@ -40,6 +41,8 @@ pub(crate) fn number_values(
     ensures known { IfOk result (λ numbers. IsKnownRow dict.new numbers.items) }
     ensures read { IfOk result (λ numbers. read_row (term_at dict.new) numbers.items
         ≡ flat_map (piece_terms dict.old) pieces.items) }
+    ensures needed { OnOk result
+        (TakesOnly (Contains (flat_map own_terms pieces.items)) dict.old dict.new) }
 {
     let mut numbers = Vec::new(alloc);
     for piece in pieces {
@@ -60,6 +63,7 @@ fn number_piece(
     ensures known { OnOk result (IsKnownRow dict.new numbers.new.items) }
     ensures read { OnOk result (read_row (term_at dict.new) numbers.new.items
         ≡ read_row (term_at dict.old) numbers.old.items ++ piece_terms dict.old piece) }
+    ensures needed { OnOk result (TakesOnly (Contains (own_terms piece)) dict.old dict.new) }
 {
     let _distinct = dict.len();
     let PieceValues { own, values } = piece;

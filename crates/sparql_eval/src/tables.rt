@@ -1,8 +1,9 @@
 //! Tables of VALUES (SPARQL 1.1 Query Language, section 18.2.2.6).
-ghost use Rattle.std.specs.Prelude.{◌≡◌, ◌<◌, All, length, map, option_map, IfErr, IfOk, OnOk};
+ghost use Rattle.std.specs.Prelude.{◌≡◌, ◌<◌, All, Contains, Some, length, map, option_map, take, IfErr, IfOk, OnOk};
 ghost use Rattle.dict_core.specs.Dict.{IsGrown, term_at};
 ghost use Rattle.algebra_model.specs.Operators.{table, table_row};
 ghost use Rattle.algebra_model.specs.Reading.{read_row};
+ghost use Rattle.sparql_eval.specs.Computed.{IsCell, TakesOnly};
 ghost use Rattle.sparql_eval.specs.Evaluated.{IsEvaluated};
 ghost use Rattle.sparql_eval.specs.Numbered.{IsKnownCell, IsKnownRow};
 ghost use Rattle.row_pieces.specs.declared.how.EvalFault.TheVariants.{Memory};
@@ -16,6 +17,7 @@ use std::alloc::{AllocError, Global};
 
 /// A table: a row for each list of cells, which binds each variable to the cell at its place. A
 /// cell that is None (UNDEF) binds nothing. Where a variable is listed twice its first place counts.
+/// The dictionary takes in the terms of cells alone, each once.
 ///
 /// # Requires
 /// Each variable is below `width`.
@@ -32,6 +34,8 @@ pub fn table(
     requires below { All (λ v. v < width) variables.now }
     ensures evaluated { IfOk result (λ r. IsEvaluated dict width
         (table width variables.now (map (λ row. row.items) rows.now)) r.0 r.1) }
+    ensures needed { IfOk result (λ r.
+        TakesOnly (IsCell variables.now (map (λ row. row.items) rows.now)) dict r.1) }
     ensures refused { IfErr result (λ fault. fault ≡ Memory) }
 {
     let mut dict = dict;
@@ -66,6 +70,8 @@ fn number_row(
     ensures known { OnOk result (IsKnownRow dict.new row.new.items) }
     ensures read { OnOk result
         (read_row (term_at dict.new) row.new.items ≡ table_row width variables.now cells.now) }
+    ensures needed { OnOk result (TakesOnly
+        (λ t. Contains (take (length variables.now) cells.now) (Some t)) dict.old dict.new) }
 {
     row.clear();
     row.resize(width, None)?;
@@ -77,7 +83,7 @@ fn number_row(
 }
 
 /// The number of a cell's term, which the dictionary takes in.
-#[tactic(auto, using(crate::proofs::ReadingLaws::grown_itself))]
+#[tactic(auto, using(crate::proofs::ReadingLaws::grown_itself, crate::proofs::TakingLaws::takes_none, crate::proofs::TakingLaws::takes_value))]
 fn number_cell(
     alloc: Global,
     dict: &mut Dict,
@@ -86,6 +92,7 @@ fn number_cell(
     ensures grown { OnOk result (IsGrown dict.old dict.new) }
     ensures known { IfOk result (λ n. IsKnownCell dict.new n) }
     ensures read { IfOk result (λ n. option_map (term_at dict.new) n ≡ cell.now) }
+    ensures needed { OnOk result (TakesOnly (λ t. cell.now ≡ Some t) dict.old dict.new) }
 {
     match cell {
         Some(term) => Ok(Some(number_of_term(alloc, dict, term)?)),

@@ -6,6 +6,7 @@ ghost use Rattle.dict_core.specs.Dict.{IsGrown, term_at};
 ghost use Rattle.row_pieces.specs.How.{IsRunnable, HasOneWorker};
 ghost use Rattle.row_pieces.specs.declared.how.EvalFault.TheVariants.{Memory};
 ghost use Rattle.sparql_algebra.specs.ExpressionOf.{expression_of};
+ghost use Rattle.sparql_eval.specs.Computed.{TakesOnly};
 ghost use Rattle.sparql_eval.specs.Evaluated.{AreKnown};
 ghost use Rattle.sparql_eval.specs.Numbered.{AreKnownAt};
 ghost use Rattle.sparql_eval.specs.Values.{AreAllValues, ArePieceValues, IsValueOf};
@@ -118,7 +119,7 @@ impl<'a> ValueJob<'a> {
 }
 
 /// The value for one row.
-#[tactic(auto, using(crate::proofs::ReadingLaws::grown_itself))]
+#[tactic(auto, using(crate::proofs::ReadingLaws::grown_itself, crate::proofs::TakingLaws::takes_none, crate::proofs::TakingLaws::takes_value))]
 fn value_at(
     alloc: Global,
     own: &mut Dict,
@@ -129,6 +130,8 @@ fn value_at(
     ensures value { IfOk result (λ found. IsValueOf row.now.dict.now own.new
         (val (expression_of expression.now) (read_row (term_at row.now.dict.now) row.now.row.now))
         found) }
+    ensures needed { OnOk result (TakesOnly (λ t. val (expression_of expression.now)
+        (read_row (term_at row.now.dict.now) row.now.row.now) ≡ Some t) own.old own.new) }
 {
     match value(alloc, expression, row) {
         Ok(term) => number_term(row.dict, own, term),
@@ -139,10 +142,11 @@ fn value_at(
 
 /// The number of a term that is a value: the lent dictionary's where it has the term, or else that
 /// of the piece's own, which takes the term in.
-#[tactic(auto, using(crate::proofs::ReadingLaws::grown_itself, crate::proofs::ReadingLaws::number_known, crate::proofs::ReadingLaws::number_read))]
+#[tactic(auto, using(crate::proofs::ReadingLaws::grown_itself, crate::proofs::ReadingLaws::number_known, crate::proofs::ReadingLaws::number_read, crate::proofs::TakingLaws::takes_none))]
 fn number_term(dict: &Dict, own: &mut Dict, term: Term) -> Result<PieceValue, AllocError>
     ensures grown { OnOk result (IsGrown own.old own.new) }
     ensures value { IfOk result (λ found. IsValueOf dict.now own.new (Some term) found) }
+    ensures needed { OnOk result (TakesOnly (λ t. t ≡ term) own.old own.new) }
 {
     match dict.number_of(&term) {
         Some(number) => Ok(PieceValue::Known(number)),

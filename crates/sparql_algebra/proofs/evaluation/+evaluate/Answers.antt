@@ -1,13 +1,16 @@
 use Rattle.std.proofs.Common.{◌∙◌, ap, arith, sym, map, option_map}
+use Rattle.std.proofs.lemmas.Bool.{false≢true}
 use Rattle.algebra_model.specs.BooleanValue.{logical_and, logical_or}
 use Rattle.algebra_model.specs.Comparison.{compares, equal}
 use Rattle.algebra_model.specs.Expression.{boolean_result, val, with_values}
 use Rattle.sparql_algebra.specs.ExpressionOf.{expression_of}
 use Rattle.sparql_algebra.specs.HeldTerm.{held_term}
 use Rattle.sparql_algebra.specs.MemberTruth.{member_truth}
+use Rattle.sparql_algebra.specs.Memory.{is_lent, takes_none}
 use Rattle.sparql_algebra.specs.declared.expression.Expr.{size-Expr}
 use Rattle.sparql_algebra.proofs.FoldSteps.{and_deeper, in_stands_for, or_deeper}
 use Rattle.sparql_algebra.proofs.LogicSteps.{member_step, member_value}
+use Rattle.sparql_algebra.proofs.MemorySteps.{and_sides, member_lent, or_sides}
 use Rattle.sparql_algebra.proofs.OperandSteps.{and_moves, or_moves, truth}
 use Rattle.sparql_algebra.proofs.evaluation.+evaluate.Goals as goal
 
@@ -39,6 +42,8 @@ evaluate_or-operands-preserved g t c =
     record {
       no_deeper = rw c.deref-rest.ensures (omega (arith, or_deeper c.in-Or.left c.in-Or.right, ap size-Expr c.in-Or.is));
       truth = rw (c.deref-rest.ensures, c.either-found.ensures.value, c.in_ok-evaluate_truth-2.ensures.truth, c.deref.ensures) moved;
+      none = λ h. rw c.deref-rest.ensures (or_sides c.in-Or.left c.in-Or.right
+          (ap takes_none (sym c.in-Or.is) ∙ c.operands.invariant.none h)).0;
     }
 
 pub evaluate_and-operands-preserved : goal.evaluate_and-operands-preserved
@@ -49,4 +54,32 @@ evaluate_and-operands-preserved g t c =
     record {
       no_deeper = rw c.deref-rest.ensures (omega (arith, and_deeper c.in-And.left c.in-And.right, ap size-Expr c.in-And.is));
       truth = rw (c.deref-rest.ensures, c.both-found.ensures.value, c.in_ok-evaluate_truth-2.ensures.truth, c.deref.ensures) moved;
+      none = λ h. rw c.deref-rest.ensures (and_sides c.in-And.left c.in-And.right
+          (ap takes_none (sym c.in-And.is) ∙ c.operands.invariant.none h)).0;
     }
+
+pub evaluate_or-returns-in_err-evaluate_truth-clause-takes_none : goal.evaluate_or-returns-in_err-evaluate_truth-clause-takes_none
+evaluate_or-returns-in_err-evaluate_truth-clause-takes_none g t c = λ h.
+    absurd (false≢true (c.in_err-evaluate_truth.ensures.takes_none (c.operands.invariant.none h)))
+
+pub evaluate_or-returns-in_err-evaluate_truth-2-clause-takes_none : goal.evaluate_or-returns-in_err-evaluate_truth-2-clause-takes_none
+evaluate_or-returns-in_err-evaluate_truth-2-clause-takes_none g t c = λ h.
+    let whole = ap takes_none (sym c.in-Or.is) ∙ c.operands.invariant.none h in
+    let right = ap takes_none c.deref.ensures ∙ (or_sides c.in-Or.left c.in-Or.right whole).1 in
+    absurd (false≢true (c.in_err-evaluate_truth-2.ensures.takes_none right))
+
+pub evaluate_and-returns-in_err-evaluate_truth-clause-takes_none : goal.evaluate_and-returns-in_err-evaluate_truth-clause-takes_none
+evaluate_and-returns-in_err-evaluate_truth-clause-takes_none g t c = λ h.
+    absurd (false≢true (c.in_err-evaluate_truth.ensures.takes_none (c.operands.invariant.none h)))
+
+pub evaluate_and-returns-in_err-evaluate_truth-2-clause-takes_none : goal.evaluate_and-returns-in_err-evaluate_truth-2-clause-takes_none
+evaluate_and-returns-in_err-evaluate_truth-2-clause-takes_none g t c = λ h.
+    let whole = ap takes_none (sym c.in-And.is) ∙ c.operands.invariant.none h in
+    let right = ap takes_none c.deref.ensures ∙ (and_sides c.in-And.left c.in-And.right whole).1 in
+    absurd (false≢true (c.in_err-evaluate_truth-2.ensures.takes_none right))
+
+pub evaluate_member-returns-in_err-value-clause-are_lent : goal.evaluate_member-returns-in_err-value-clause-are_lent
+evaluate_member-returns-in_err-value-clause-are_lent g t c = λ h.
+    let here = ap is_lent c.member-item.is
+    ∙ member_lent c.args.list.now c.loop-member.member-index c.member-item.result c.loop-member-test.true h in
+    absurd (false≢true (c.in_err-value.ensures.is_lent here))

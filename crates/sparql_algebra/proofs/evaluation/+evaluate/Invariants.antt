@@ -1,8 +1,9 @@
-use Rattle.std.proofs.Common.{◌≡◌, ◌≤◌, drop, map, option_map}
+use Rattle.std.proofs.Common.{◌≡◌, ◌≤◌, drop, map, option_map, true}
 use Rattle.algebra_model.specs.BooleanValue.{logical_and, logical_or}
 use Rattle.sparql_algebra.specs.ExpressionOf.{expression_of}
 use Rattle.sparql_algebra.specs.HeldTerm.{held_term}
 use Rattle.sparql_algebra.specs.MemberTruth.{member_truth}
+use Rattle.sparql_algebra.specs.Memory.{takes_none}
 use Rattle.sparql_algebra.specs.declared.expression.Expr.{size-Expr}
 use Rattle.sparql_algebra.proofs.OperandSteps.{truth}
 use Rattle.sparql_algebra.proofs.evaluation.+evaluate.Given as goal
@@ -18,6 +19,7 @@ invariant-evaluate_or-operands g l =
     record {
       no_deeper : size-Expr l.rest ≤ size-Expr l.left;
       truth : logical_or (truth l.rest μ) l.found ≡ logical_or (truth l.left μ) l.initial.found;
+      none : takes_none l.left ≡ true → takes_none l.rest ≡ true;
     }
 
 abbrev pub decreases-evaluate_or-operands : goal.decreases-evaluate_or-operands
@@ -29,6 +31,7 @@ invariant-evaluate_and-operands g l =
     record {
       no_deeper : size-Expr l.rest ≤ size-Expr l.left;
       truth : logical_and (truth l.rest μ) l.found ≡ logical_and (truth l.left μ) l.initial.found;
+      none : takes_none l.left ≡ true → takes_none l.rest ≡ true;
     }
 
 abbrev pub decreases-evaluate_and-operands : goal.decreases-evaluate_and-operands

@@ -1,7 +1,7 @@
-use Rattle.std.proofs.Common.{◌≡◌, drop}
+use Rattle.std.proofs.Common.{◌≡◌, take}
 use Rattle.std.specs.Str.{bytes_eq}
 use Rattle.indexmap.specs.IndexSet.{insert_all}
 use Rattle.sparql_algebra.proofs.naming.note_list.Given as goal
 
 abbrev pub invariant-loop-name : goal.invariant-loop-name
-invariant-loop-name l = insert_all bytes_eq l.names (drop l.name-index l.list) ≡ insert_all bytes_eq l.initial.names l.list
+invariant-loop-name l = l.names ≡ insert_all bytes_eq l.initial.names (take l.name-index l.list)

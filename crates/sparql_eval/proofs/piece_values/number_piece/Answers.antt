@@ -3,6 +3,7 @@ use Rattle.algebra_model.specs.Reading.{Each}
 use Rattle.sparql_eval.specs.declared.piece_values.PieceValue.{PieceValue}
 use Rattle.sparql_eval.specs.Values.{IsOwnBelow, value_number}
 use Rattle.sparql_eval.proofs.ValueSteps.{absorbed_grown, own_below, numbers_more}
+use Rattle.sparql_eval.proofs.TakingLaws.{takes_absorbed}
 use Rattle.sparql_eval.proofs.piece_values.number_piece.Goals as goal
 
 pub add_numbers-requires : goal.add_numbers-requires
@@ -30,4 +31,4 @@ returns c =
     let added = c.in_ok-add_numbers.ensures.added
     ∙ (λ i. c.args.numbers.now.items ++ map (value_number (c.as_slice.ensures.value i)) (c.as_slice-2.ensures.value i)) in
     let more = numbers_more old new own numbers grown c.in_ok-own_numbers.ensures.numbers c.args.numbers.now.items c.add_numbers.new.numbers.items values c.requires.numbers c.requires.known added in
-    record { grown = grown; known = more.0; read = more.1 }
+    record { grown = grown; known = more.0; read = more.1; needed = takes_absorbed old own new c.in_ok-own_numbers.ensures.terms }

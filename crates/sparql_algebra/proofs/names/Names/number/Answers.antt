@@ -1,4 +1,4 @@
-use Rattle.std.proofs.Common.{◌≡◌, sym, ap, ◌∙◌, rules}
+use Rattle.std.proofs.Common.{rules}
 use Rattle.sparql_algebra.proofs.NameSteps.{placed_none}
 use Rattle.sparql_algebra.proofs.names.Names.number.Goals as goal
 

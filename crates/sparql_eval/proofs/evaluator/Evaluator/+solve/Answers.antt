@@ -4,7 +4,8 @@ use Rattle.std.proofs.lemmas.List.Sorted.{IsPermutation-refl}
 use Rattle.std.proofs.lemmas.Option.{slice_get-get_or}
 use Rattle.rdf_core.specs.declared.term.Term.{Term}
 use Rattle.rdf_core.proofs.TermLaws.{term_eq}
-use Rattle.algebra_model.specs.Algebra.{Algebra, is_within}
+use Rattle.algebra_model.specs.Algebra as algebra
+use Rattle.algebra_model.specs.Algebra.{Algebra, each_graph, is_within}
 use Rattle.algebra_model.specs.Bag.{IsSameBag}
 use Rattle.algebra_model.specs.Eval.{eval, named}
 use Rattle.algebra_model.specs.Expression.{holds, val}
@@ -16,14 +17,25 @@ use Rattle.dict_core.specs.NumQuad.{quads_at}
 use Rattle.row_core.specs.RowList.{RowList}
 use Rattle.sparql_algebra.specs.AlgebraOf.{algebra_of, graph_name_of}
 use Rattle.sparql_algebra.specs.ExpressionOf.{expression_of}
+use Rattle.sparql_algebra.specs.declared.operator.GraphName.{GraphName}
 use Rattle.sparql_algebra.specs.declared.operator.Operator.{Operator}
+use Rattle.sparql_eval.specs.Computed.{TakesOnly}
 use Rattle.sparql_eval.specs.Evaluated.{IsEvaluated}
 use Rattle.sparql_eval.specs.TreeSolutions.{graph_solutions, tree_solutions}
 use Rattle.sparql_eval.proofs.NamedSteps.{each_done, each_more, graph_known}
 use Rattle.sparql_eval.proofs.ReadingLaws.{Known, all_taken, grown_itself, grown_twice, read_by, rows_kept}
 use Rattle.sparql_eval.proofs.EvaluateSteps.{active_kept, after_one, after_two, all_below, index_kept, still_evaluated, tree_kept, join_keeps, left_join_keeps, union_keeps, minus_keeps, filter_keeps, extend_keeps, project_keeps, distinct_keeps}
-use Rattle.sparql_eval.proofs.TreeSteps.{distinct_tree, extend_tree, filter_tree, graph_tree, join_tree, left_join_tree, minus_tree, project_tree, table_stands_for, table_tree, union_tree}
+use Rattle.sparql_eval.proofs.TreeSteps.{distinct_stands_for, distinct_tree, extend_stands_for, extend_tree, filter_stands_for, filter_tree, graph_stands_for, graph_tree, join_stands_for, join_tree, left_join_stands_for, left_join_tree, minus_stands_for, minus_tree, project_stands_for, project_tree, table_stands_for, table_tree, union_stands_for, union_tree}
+use Rattle.sparql_eval.proofs.ComputedSteps.{Wanted, WantedIn, takes_after_one, takes_after_two, takes_as, takes_in_each, takes_nothing, takes_values}
+use Rattle.sparql_eval.proofs.TakingLaws.{takes_none}
 use Rattle.sparql_eval.proofs.evaluator.Evaluator.+solve.Goals as goal
+
+-- ---- Pattern
+
+pub solve-returns-in-Pattern-clause-needed : goal.solve-returns-in-Pattern-clause-needed
+solve-returns-in-Pattern-clause-needed g t c =
+    let s = c.args.self.now in
+    takes_nothing (Wanted c.args.dict s.index.now s.width c.args.active (algebra_of c.args.tree.now)) c.args.dict c.pattern.result c.pattern.ensures.same_dict
 
 -- ---- Join
 
@@ -45,6 +57,15 @@ solve-returns-in_ok-right-in-Join-clause-evaluated g t c =
     after_two c.args.dict c.in_ok-left-in-Join.dict c.in_ok-right-in-Join.dict s.width c.join.result (join term_eq) (join_keeps) (S c.deref.result.now) (S c.deref-in-Join.result.now) c.in_ok-left-in-Join.left c.in_ok-right-in-Join.right h k
     (S c.args.tree.now) (ap S c.in-Join.is ∙ join_tree c.args.dict s.index.now s.width c.args.active c.in-Join.left c.in-Join.right ∙ (λ i. join term_eq (S ((sym c.deref.ensures) i)) (S ((sym c.deref-in-Join.ensures) i)))) c.join.ensures.evaluated
 
+pub solve-returns-in_ok-right-in-Join-clause-needed : goal.solve-returns-in_ok-right-in-Join-clause-needed
+solve-returns-in_ok-right-in-Join-clause-needed g t c =
+    let s = c.args.self.now in
+    let L = algebra_of c.deref.result.now in
+    let R = algebra_of c.deref-in-Join.result.now in
+    takes_after_two c.args.dict c.in_ok-left-in-Join.dict c.in_ok-left-in-Join.ensures.evaluated.grown s.index.now c.requires.index s.width c.args.active c.requires.active
+    L R (algebra_of c.args.tree.now) (algebra.Join L R) (ap algebra_of c.in-Join.is ∙ join_stands_for c.in-Join.left c.in-Join.right ∙ (λ i. algebra.Join (algebra_of ((sym c.deref.ensures) i)) (algebra_of ((sym c.deref-in-Join.ensures) i)))) (λ x m. m)
+    c.in_ok-right-in-Join.dict c.in_ok-left-in-Join.ensures.needed c.in_ok-right-in-Join.ensures.needed c.join.result c.join.ensures.same_dict
+
 -- ---- LeftJoin
 
 pub solve-solve-requires-in-LeftJoin-2-clause-index : goal.solve-solve-requires-in-LeftJoin-2-clause-index
@@ -64,6 +85,15 @@ solve-returns-in_ok-right-in-LeftJoin-clause-evaluated g t c =
     let k = still_evaluated c.args.dict c.in_ok-left-in-LeftJoin.dict h.grown s.index.now s.width c.args.active c.deref-in-LeftJoin-2.result.now c.requires.index c.requires.active c.in_ok-right-in-LeftJoin.right c.in_ok-right-in-LeftJoin.dict c.in_ok-right-in-LeftJoin.ensures.evaluated in
     after_two c.args.dict c.in_ok-left-in-LeftJoin.dict c.in_ok-right-in-LeftJoin.dict s.width c.left_join.result (left_join term_eq (holds (expression_of c.in-LeftJoin.condition))) (left_join_keeps (holds (expression_of c.in-LeftJoin.condition))) (S c.deref-in-LeftJoin.result.now) (S c.deref-in-LeftJoin-2.result.now) c.in_ok-left-in-LeftJoin.left c.in_ok-right-in-LeftJoin.right h k
     (S c.args.tree.now) (ap S c.in-LeftJoin.is ∙ left_join_tree c.args.dict s.index.now s.width c.args.active c.in-LeftJoin.left c.in-LeftJoin.right c.in-LeftJoin.condition ∙ (λ i. left_join term_eq (holds (expression_of c.in-LeftJoin.condition)) (S ((sym c.deref-in-LeftJoin.ensures) i)) (S ((sym c.deref-in-LeftJoin-2.ensures) i)))) c.left_join.ensures.evaluated
+
+pub solve-returns-in_ok-right-in-LeftJoin-clause-needed : goal.solve-returns-in_ok-right-in-LeftJoin-clause-needed
+solve-returns-in_ok-right-in-LeftJoin-clause-needed g t c =
+    let s = c.args.self.now in
+    let L = algebra_of c.deref-in-LeftJoin.result.now in
+    let R = algebra_of c.deref-in-LeftJoin-2.result.now in
+    takes_after_two c.args.dict c.in_ok-left-in-LeftJoin.dict c.in_ok-left-in-LeftJoin.ensures.evaluated.grown s.index.now c.requires.index s.width c.args.active c.requires.active
+    L R (algebra_of c.args.tree.now) (algebra.LeftJoin L R (expression_of c.in-LeftJoin.condition)) (ap algebra_of c.in-LeftJoin.is ∙ left_join_stands_for c.in-LeftJoin.left c.in-LeftJoin.right c.in-LeftJoin.condition ∙ (λ i. algebra.LeftJoin (algebra_of ((sym c.deref-in-LeftJoin.ensures) i)) (algebra_of ((sym c.deref-in-LeftJoin-2.ensures) i)) (expression_of c.in-LeftJoin.condition))) (λ x m. m)
+    c.in_ok-right-in-LeftJoin.dict c.in_ok-left-in-LeftJoin.ensures.needed c.in_ok-right-in-LeftJoin.ensures.needed c.left_join.result c.left_join.ensures.same_dict
 
 -- ---- Union
 
@@ -85,6 +115,15 @@ solve-returns-in_ok-right-in-Union-clause-evaluated g t c =
     after_two c.args.dict c.in_ok-left-in-Union.dict c.in_ok-right-in-Union.dict s.width c.union_of.result (λ A B. A ++ B) (union_keeps) (S c.deref-in-Union.result.now) (S c.deref-in-Union-2.result.now) c.in_ok-left-in-Union.left c.in_ok-right-in-Union.right h k
     (S c.args.tree.now) (ap S c.in-Union.is ∙ union_tree c.args.dict s.index.now s.width c.args.active c.in-Union.left c.in-Union.right ∙ (λ i. (S ((sym c.deref-in-Union.ensures) i)) ++ (S ((sym c.deref-in-Union-2.ensures) i)))) c.union_of.ensures.evaluated
 
+pub solve-returns-in_ok-right-in-Union-clause-needed : goal.solve-returns-in_ok-right-in-Union-clause-needed
+solve-returns-in_ok-right-in-Union-clause-needed g t c =
+    let s = c.args.self.now in
+    let L = algebra_of c.deref-in-Union.result.now in
+    let R = algebra_of c.deref-in-Union-2.result.now in
+    takes_after_two c.args.dict c.in_ok-left-in-Union.dict c.in_ok-left-in-Union.ensures.evaluated.grown s.index.now c.requires.index s.width c.args.active c.requires.active
+    L R (algebra_of c.args.tree.now) (algebra.Union L R) (ap algebra_of c.in-Union.is ∙ union_stands_for c.in-Union.left c.in-Union.right ∙ (λ i. algebra.Union (algebra_of ((sym c.deref-in-Union.ensures) i)) (algebra_of ((sym c.deref-in-Union-2.ensures) i)))) (λ x m. m)
+    c.in_ok-right-in-Union.dict c.in_ok-left-in-Union.ensures.needed c.in_ok-right-in-Union.ensures.needed c.union_of.result c.union_of.ensures.same_dict
+
 -- ---- Minus
 
 pub solve-solve-requires-in-Minus-2-clause-index : goal.solve-solve-requires-in-Minus-2-clause-index
@@ -105,6 +144,15 @@ solve-returns-in_ok-right-in-Minus-clause-evaluated g t c =
     after_two c.args.dict c.in_ok-left-in-Minus.dict c.in_ok-right-in-Minus.dict s.width c.minus.result (minus term_eq) (minus_keeps) (S c.deref-in-Minus.result.now) (S c.deref-in-Minus-2.result.now) c.in_ok-left-in-Minus.left c.in_ok-right-in-Minus.right h k
     (S c.args.tree.now) (ap S c.in-Minus.is ∙ minus_tree c.args.dict s.index.now s.width c.args.active c.in-Minus.left c.in-Minus.right ∙ (λ i. minus term_eq (S ((sym c.deref-in-Minus.ensures) i)) (S ((sym c.deref-in-Minus-2.ensures) i)))) c.minus.ensures.evaluated
 
+pub solve-returns-in_ok-right-in-Minus-clause-needed : goal.solve-returns-in_ok-right-in-Minus-clause-needed
+solve-returns-in_ok-right-in-Minus-clause-needed g t c =
+    let s = c.args.self.now in
+    let L = algebra_of c.deref-in-Minus.result.now in
+    let R = algebra_of c.deref-in-Minus-2.result.now in
+    takes_after_two c.args.dict c.in_ok-left-in-Minus.dict c.in_ok-left-in-Minus.ensures.evaluated.grown s.index.now c.requires.index s.width c.args.active c.requires.active
+    L R (algebra_of c.args.tree.now) (algebra.Minus L R) (ap algebra_of c.in-Minus.is ∙ minus_stands_for c.in-Minus.left c.in-Minus.right ∙ (λ i. algebra.Minus (algebra_of ((sym c.deref-in-Minus.ensures) i)) (algebra_of ((sym c.deref-in-Minus-2.ensures) i)))) (λ x m. m)
+    c.in_ok-right-in-Minus.dict c.in_ok-left-in-Minus.ensures.needed c.in_ok-right-in-Minus.ensures.needed c.minus.result c.minus.ensures.same_dict
+
 -- ---- Filter
 
 pub solve-returns-in_ok-rows-in-Filter-clause-evaluated : goal.solve-returns-in_ok-rows-in-Filter-clause-evaluated
@@ -113,6 +161,12 @@ solve-returns-in_ok-rows-in-Filter-clause-evaluated g t c =
     let S : Operator → List (Solution Term) = λ tree. tree_solutions c.args.dict s.index.now s.width c.args.active tree in
     after_one c.args.dict c.in_ok-rows-in-Filter.dict s.width c.filter.result (filter (holds (expression_of c.in-Filter.condition))) (filter_keeps (holds (expression_of c.in-Filter.condition))) (S c.deref-in-Filter.result.now) c.in_ok-rows-in-Filter.rows c.in_ok-rows-in-Filter.ensures.evaluated
     (S c.args.tree.now) (ap S c.in-Filter.is ∙ filter_tree c.args.dict s.index.now s.width c.args.active c.in-Filter.condition c.in-Filter.inner ∙ (λ i. filter (holds (expression_of c.in-Filter.condition)) (S ((sym c.deref-in-Filter.ensures) i)))) c.filter.ensures.evaluated
+
+pub solve-returns-in_ok-rows-in-Filter-clause-needed : goal.solve-returns-in_ok-rows-in-Filter-clause-needed
+solve-returns-in_ok-rows-in-Filter-clause-needed g t c =
+    let s = c.args.self.now in
+    takes_after_one c.args.dict s.index.now s.width c.args.active c.filter.result (algebra_of c.args.tree.now) (algebra.Filter (expression_of c.in-Filter.condition) (algebra_of c.deref-in-Filter.result.now))
+    (ap algebra_of c.in-Filter.is ∙ filter_stands_for c.in-Filter.condition c.in-Filter.inner ∙ (λ i. algebra.Filter (expression_of c.in-Filter.condition) (algebra_of ((sym c.deref-in-Filter.ensures) i)))) c.in_ok-rows-in-Filter.dict c.in_ok-rows-in-Filter.ensures.needed c.filter.ensures.same_dict
 
 -- ---- Extend
 
@@ -123,6 +177,14 @@ solve-returns-in_ok-rows-in-Extend-clause-evaluated g t c =
     after_one c.args.dict c.in_ok-rows-in-Extend.dict s.width c.extend.result (extend c.in-Extend.variable (val (expression_of c.in-Extend.expression))) (extend_keeps c.in-Extend.variable (val (expression_of c.in-Extend.expression))) (S c.deref-in-Extend.result.now) c.in_ok-rows-in-Extend.rows c.in_ok-rows-in-Extend.ensures.evaluated
     (S c.args.tree.now) (ap S c.in-Extend.is ∙ extend_tree c.args.dict s.index.now s.width c.args.active c.in-Extend.variable c.in-Extend.expression c.in-Extend.inner ∙ (λ i. extend c.in-Extend.variable (val (expression_of c.in-Extend.expression)) (S ((sym c.deref-in-Extend.ensures) i)))) c.extend.ensures.evaluated
 
+pub solve-returns-in_ok-rows-in-Extend-clause-needed : goal.solve-returns-in_ok-rows-in-Extend-clause-needed
+solve-returns-in_ok-rows-in-Extend-clause-needed g t c =
+    let s = c.args.self.now in
+    let x = c.in-Extend in
+    takes_values c.args.dict s.index.now s.width c.args.active c.extend.result x.variable (expression_of x.expression) (algebra_of c.deref-in-Extend.result.now) (algebra_of c.args.tree.now)
+    (ap algebra_of x.is ∙ extend_stands_for x.variable x.expression x.inner ∙ (λ i. algebra.Extend x.variable (expression_of x.expression) (algebra_of ((sym c.deref-in-Extend.ensures) i))))
+    c.in_ok-rows-in-Extend.dict c.in_ok-rows-in-Extend.rows c.in_ok-rows-in-Extend.ensures.evaluated c.in_ok-rows-in-Extend.ensures.needed c.extend.ensures.needed
+
 -- ---- Project
 
 pub solve-returns-in_ok-rows-in-Project-clause-evaluated : goal.solve-returns-in_ok-rows-in-Project-clause-evaluated
@@ -132,6 +194,12 @@ solve-returns-in_ok-rows-in-Project-clause-evaluated g t c =
     after_one c.args.dict c.in_ok-rows-in-Project.dict s.width c.project.result (project c.as_slice-in-Project.result.now) (project_keeps c.as_slice-in-Project.result.now) (S c.deref-in-Project.result.now) c.in_ok-rows-in-Project.rows c.in_ok-rows-in-Project.ensures.evaluated
     (S c.args.tree.now) (ap S c.in-Project.is ∙ project_tree c.args.dict s.index.now s.width c.args.active c.in-Project.variables c.in-Project.inner ∙ (λ i. project ((sym c.as_slice-in-Project.ensures.value) i) (S ((sym c.deref-in-Project.ensures) i)))) c.project.ensures.evaluated
 
+pub solve-returns-in_ok-rows-in-Project-clause-needed : goal.solve-returns-in_ok-rows-in-Project-clause-needed
+solve-returns-in_ok-rows-in-Project-clause-needed g t c =
+    let s = c.args.self.now in
+    takes_after_one c.args.dict s.index.now s.width c.args.active c.project.result (algebra_of c.args.tree.now) (algebra.Project c.in-Project.variables.items (algebra_of c.deref-in-Project.result.now))
+    (ap algebra_of c.in-Project.is ∙ project_stands_for c.in-Project.variables c.in-Project.inner ∙ (λ i. algebra.Project c.in-Project.variables.items (algebra_of ((sym c.deref-in-Project.ensures) i)))) c.in_ok-rows-in-Project.dict c.in_ok-rows-in-Project.ensures.needed c.project.ensures.same_dict
+
 -- ---- Distinct
 
 pub solve-returns-in_ok-rows-in-Distinct-clause-evaluated : goal.solve-returns-in_ok-rows-in-Distinct-clause-evaluated
@@ -140,6 +208,12 @@ solve-returns-in_ok-rows-in-Distinct-clause-evaluated g t c =
     let S : Operator → List (Solution Term) = λ tree. tree_solutions c.args.dict s.index.now s.width c.args.active tree in
     after_one c.args.dict c.in_ok-rows-in-Distinct.dict s.width c.distinct.result (distinct term_eq) (distinct_keeps) (S c.deref-in-Distinct.result.now) c.in_ok-rows-in-Distinct.rows c.in_ok-rows-in-Distinct.ensures.evaluated
     (S c.args.tree.now) (ap S c.in-Distinct.is ∙ distinct_tree c.args.dict s.index.now s.width c.args.active c.in-Distinct.inner ∙ (λ i. distinct term_eq (S ((sym c.deref-in-Distinct.ensures) i)))) c.distinct.ensures.evaluated
+
+pub solve-returns-in_ok-rows-in-Distinct-clause-needed : goal.solve-returns-in_ok-rows-in-Distinct-clause-needed
+solve-returns-in_ok-rows-in-Distinct-clause-needed g t c =
+    let s = c.args.self.now in
+    takes_after_one c.args.dict s.index.now s.width c.args.active c.distinct.result (algebra_of c.args.tree.now) (algebra.Distinct (algebra_of c.deref-in-Distinct.result.now))
+    (ap algebra_of c.in-Distinct.is ∙ distinct_stands_for c.in-Distinct.inner ∙ (λ i. algebra.Distinct (algebra_of ((sym c.deref-in-Distinct.ensures) i)))) c.in_ok-rows-in-Distinct.dict c.in_ok-rows-in-Distinct.ensures.needed c.distinct.ensures.same_dict
 
 -- ---- Table
 
@@ -158,6 +232,12 @@ solve-returns-in-Table-clause-evaluated g t c =
     ap S c.in-Table.is ∙ table_tree c.args.dict s.index.now s.width c.args.active c.in-Table.variables c.in-Table.rows ∙ (λ i. table s.width ((sym c.as_slice-variables.ensures.value) i) (map (λ row. row.items) ((sym c.as_slice-in-Table.ensures.value) i))) in
     subst (λ (A : List (Solution Term)). IfOk c.table.result (λ r. IsEvaluated c.args.dict s.width A r.0 r.1)) (sym is) c.table.ensures.evaluated
 
+pub solve-returns-in-Table-clause-needed : goal.solve-returns-in-Table-clause-needed
+solve-returns-in-Table-clause-needed g t c =
+    let s = c.args.self.now in
+    takes_as c.args.dict s.index.now s.width c.args.active c.table.result (algebra_of c.args.tree.now) (algebra.Table c.as_slice-variables.result.now (map (λ row. row.items) c.as_slice-in-Table.result.now))
+    (ap algebra_of c.in-Table.is ∙ table_stands_for c.in-Table.variables c.in-Table.rows ∙ (λ i. algebra.Table ((sym c.as_slice-variables.ensures.value) i) (map (λ row. row.items) ((sym c.as_slice-in-Table.ensures.value) i)))) c.table.ensures.needed
+
 -- ---- Graph
 
 pub solve-returns-in-Graph-clause-evaluated : goal.solve-returns-in-Graph-clause-evaluated
@@ -167,6 +247,17 @@ solve-returns-in-Graph-clause-evaluated g t c =
     let is : S c.args.tree.now ≡ graph_solutions c.args.dict s.index.now s.width (graph_name_of c.in-Graph.name) c.deref-in-Graph.result.now =
     ap S c.in-Graph.is ∙ graph_tree c.args.dict s.index.now s.width c.args.active c.in-Graph.name c.in-Graph.inner ∙ ap (λ (tree : Operator). graph_solutions c.args.dict s.index.now s.width (graph_name_of c.in-Graph.name) tree) (sym c.deref-in-Graph.ensures) in
     subst (λ (A : List (Solution Term)). IfOk c.solve_graph.result (λ r. IsEvaluated c.args.dict s.width A r.0 r.1)) (sym is) c.solve_graph.ensures.evaluated
+
+pub solve-returns-in-Graph-clause-needed : goal.solve-returns-in-Graph-clause-needed
+solve-returns-in-Graph-clause-needed g t c =
+    let s = c.args.self.now in
+    takes_as c.args.dict s.index.now s.width c.args.active c.solve_graph.result (algebra_of c.args.tree.now) (algebra.Graph (graph_name_of c.in-Graph.name) (algebra_of c.deref-in-Graph.result.now))
+    (ap algebra_of c.in-Graph.is ∙ graph_stands_for c.in-Graph.name c.in-Graph.inner ∙ (λ i. algebra.Graph (graph_name_of c.in-Graph.name) (algebra_of ((sym c.deref-in-Graph.ensures) i)))) c.solve_graph.ensures.needed
+
+pub solve_graph-returns-in-Variable-clause-needed : goal.solve_graph-returns-in-Variable-clause-needed
+solve_graph-returns-in-Variable-clause-needed g t c =
+    let s = c.args.self.now in
+    subst (λ (n : GraphName). IfOk c.solve_each.result (λ r. TakesOnly (WantedIn c.args.dict s.index.now s.width (algebra_of c.args.inner.now) (graph_name_of n)) c.args.dict r.1)) (sym c.in-Variable.is) c.solve_each.ensures.needed
 
 pub solve_each-solve-requires-clause-active : goal.solve_each-solve-requires-clause-active
 solve_each-solve-requires-clause-active g t c κs within =
@@ -184,6 +275,7 @@ solve_each-loop-i-init g t c =
     record {
       width = ap (λ (r : RowList). r.width) e;
       grown = grown_itself c.args.dict;
+      takes = takes_none (WantedIn c.args.dict c.args.self.now.index.now c.args.self.now.width (algebra_of c.args.inner.now) (each_graph c.args.variable)) c.args.dict;
       known = subst (Each (Known c.args.dict)) (sym none) tt;
       bag = subst (λ (l : List (Solution ℕ)). IsSameBag (map (read_by c.args.dict) l) []) (sym none) (IsPermutation-refl []);
     }
@@ -212,6 +304,7 @@ solve_each-loop-i-preserved g t c =
     record {
       width = c.in_ok-add_named.ensures.width ∙ was.width;
       grown = grown;
+      takes = takes_in_each terms s.index.now s.width (algebra_of tree) c.len-distinct.ensures.distinct c.requires.index graphs c.graphs-names.ensures.names c.args.variable c.loop-i.i n at low now later was.grown was.takes c.in_ok-rows.ensures.needed;
       known = more.0;
       bag = more.1;
     }
@@ -226,3 +319,6 @@ solve_each-returns-clause-evaluated g t c =
     let F : Term → List (Solution Term) = λ i. join term_eq (eval s.width (quads_at terms s.index.now) (Some i) (algebra_of c.args.inner.now)) (named s.width c.args.variable i) in
     let bag = subst (λ (l : List ℕ). IsSameBag (map (read_by now) c.loop-i.made.rows) (flat_map F (map (term_at terms) l))) (all_taken graphs c.loop-i.i (omega arith)) was.bag in
     each_done terms c.len-distinct.ensures.distinct s.index.now c.requires.index graphs c.graphs-names.ensures.names F s.width now was.grown c.loop-i.made was.width was.known bag
+
+pub solve_each-returns-clause-needed : goal.solve_each-returns-clause-needed
+solve_each-returns-clause-needed g t c = c.loop-i.invariant.takes

@@ -1,0 +1,57 @@
+-- Where the evaluation of an expression takes no memory: where no term has to be made on the way. A
+-- variable's and a constant's term is lent; STR, LANG and DATATYPE make the term that they answer, and
+-- a truth value that is compared, or given to a function, becomes a literal.
+use Rattle.std.specs.Prelude.{Bool, true, false, ◌&&◌, List, [], ◌∷◌, map}
+use Rattle.algebra_model.specs.Call.{Function, str, lang, datatype, is_iri, is_blank, is_literal}
+use Rattle.sparql_algebra.specs.ExpressionOf.{function_of}
+use Rattle.sparql_algebra.specs.declared.expression.Expr.{Expr, fold-Expr}
+use Rattle.sparql_algebra.specs.declared.expression.Expr.TheOpen.{Expr-F}
+
+-- isIRI, isBlank and isLiteral answer a truth value
+abbrev pub is_test : Function → Bool
+is_test str = false
+is_test lang = false
+is_test datatype = false
+is_test is_iri = true
+is_test is_blank = true
+is_test is_literal = true
+
+-- of an expression: whether it is a variable or a constant, and whether it takes no memory
+pub record Need : Type 0 where
+  pub is_lent : Bool
+  pub takes_none : Bool
+
+abbrev pub lent : Need
+lent = record { is_lent = true; takes_none = true }
+
+abbrev pub none_where : Bool → Need
+none_where b = record { is_lent = false; takes_none = b }
+
+abbrev pub all_lent : List Need → Bool
+all_lent [] = true
+all_lent (n ∷ ns) = n.is_lent && all_lent ns
+
+-- one level, where each expression below stands for what it needs
+abbrev pub need_step : Expr-F Need → Need
+need_step (Expr-F.Variable v) = lent
+need_step (Expr-F.Constant t) = lent
+need_step (Expr-F.Or a b) = none_where (a.value.takes_none && b.value.takes_none)
+need_step (Expr-F.And a b) = none_where (a.value.takes_none && b.value.takes_none)
+need_step (Expr-F.Not a) = none_where a.value.takes_none
+need_step (Expr-F.Compare op a b) = none_where (a.value.is_lent && b.value.is_lent)
+need_step (Expr-F.In x es) = none_where (x.value.is_lent && all_lent es.items)
+need_step (Expr-F.Call f a) = none_where (a.value.is_lent && is_test (function_of f))
+need_step (Expr-F.Bound v) = none_where true
+need_step (Expr-F.SameTerm a b) = none_where (a.value.is_lent && b.value.is_lent)
+
+abbrev pub need : Expr → Need
+need = fold-Expr Need need_step
+
+abbrev pub is_lent : Expr → Bool
+is_lent e = (need e).is_lent
+
+abbrev pub are_lent : List Expr → Bool
+are_lent es = all_lent (map need es)
+
+abbrev pub takes_none : Expr → Bool
+takes_none e = (need e).takes_none

@@ -1,0 +1,110 @@
+-- The terms that a dictionary takes in, operator by operator.
+use Rattle.std.proofs.Common.{◌≡◌, ◌⊎◌, ℕ, zero, suc, ◌<◌, List, [], ◌∷◌, length, map, slice_get, nat_eq, IsPermutation, Contains, Option, Some, Result, IfOk, inl, inr, ap, sym, subst, arith}
+use Rattle.std.specs.Option.{option_map, ForSome}
+use Rattle.std.proofs.lemmas.List.Sorted.{Contains-permutation, IsPermutation-map, IsPermutation-sym}
+use Rattle.std.proofs.lemmas.Result.{IfOk-weaker}
+use Rattle.rdf_core.specs.declared.term.Term.{Term}
+use Rattle.algebra_model.specs.Algebra.{Algebra, Extend, GraphName, each_graph}
+use Rattle.algebra_model.specs.Bag.{without_repeats}
+use Rattle.algebra_model.specs.Dataset.{names}
+use Rattle.algebra_model.specs.Eval.{eval}
+use Rattle.algebra_model.specs.Expression.{Expression, val}
+use Rattle.algebra_model.specs.Solution.{Solution}
+use Rattle.dict_core.specs.Dict.{IsGrown, IsWithoutRepeats, term_at}
+use Rattle.dict_core.specs.NumQuad.{AreBelow, quads_at}
+use Rattle.dict_core.specs.declared.num_quad.NumQuad.{NumQuad}
+use Rattle.quad_index.specs.Matching.{graph_names}
+use Rattle.row_core.specs.RowList.{RowList}
+use Rattle.sparql_eval.specs.Computed.{InSomeGraph, IsComputed, IsValue, TakesOnly}
+use Rattle.sparql_eval.specs.Evaluated.{IsEvaluated, solutions_of}
+use Rattle.sparql_eval.proofs.EvaluateSteps.{active_kept, index_kept}
+use Rattle.sparql_eval.proofs.GraphSteps.{names_read}
+use Rattle.sparql_eval.proofs.TakingLaws.{takes_more, takes_none, takes_twice}
+
+-- ---- what is answered, where the dictionary stays
+
+pub takes_still : {E : Type 0} (W : Term → Type 0) (t0 t1 : List Term) (r : Result (RowList × List Term) E) → TakesOnly W t0 t1 → IfOk r (λ x. x.1 ≡ t1) → IfOk r (λ x. TakesOnly W t0 x.1)
+takes_still W t0 t1 r h k = IfOk-weaker r (λ x. x.1 ≡ t1) (λ x. TakesOnly W t0 x.1) (λ x e. subst (TakesOnly W t0) (sym e) h) k
+
+pub takes_nothing : {E : Type 0} (W : Term → Type 0) (terms : List Term) (r : Result (RowList × List Term) E) → IfOk r (λ x. x.1 ≡ terms) → IfOk r (λ x. TakesOnly W terms x.1)
+takes_nothing W terms r k = takes_still W terms terms r (takes_none W terms) k
+
+-- what one step wants and what the next one wants, after one another
+takes_two : (V V' W : Term → Type 0) (a b c : List Term) → ((t : Term) → V t ⊎ V' t → W t) → TakesOnly V a b → TakesOnly V' b c → TakesOnly W a c
+takes_two V V' W a b c f h k = takes_twice W a b c (takes_more V W a b (λ t v. f t (inl v)) h) (takes_more V' W b c (λ t v. f t (inr v)) k)
+
+-- ---- what a tree computes, where the dictionary of the index grows
+
+abbrev pub Wanted : List Term → List NumQuad → ℕ → Option ℕ → Algebra → Term → Type 0
+Wanted terms D w g A = IsComputed w (quads_at terms D) (option_map (term_at terms) g) A
+
+module _ (terms now : List Term) (grown : IsGrown terms now) (D : List NumQuad) (below : AreBelow (length terms) D) (w : ℕ) (g : Option ℕ) (named : ForSome g (λ n. n < length terms)) where
+  -- an expression computes the same terms through a dictionary that has grown
+  pub wanted_kept : (A : Algebra) (later : List Term) → TakesOnly (Wanted now D w g A) now later → TakesOnly (Wanted terms D w g A) now later
+  wanted_kept A later h =
+      subst (λ (i : Option Term). TakesOnly (IsComputed w (quads_at terms D) i A) now later) (active_kept terms now grown g named).1
+      (subst (λ Q. TakesOnly (IsComputed w Q (option_map (term_at now) g) A) now later) (index_kept terms now grown D below).1 h)
+
+  -- two inputs, one after the other
+  pub takes_after_two : {E : Type 0} (A B whole joined : Algebra) → whole ≡ joined → ((t : Term) → Wanted terms D w g A t ⊎ Wanted terms D w g B t → Wanted terms D w g joined t) → (later : List Term)
+      → TakesOnly (Wanted terms D w g A) terms now → TakesOnly (Wanted now D w g B) now later → (r : Result (RowList × List Term) E) → IfOk r (λ x. x.1 ≡ later) → IfOk r (λ x. TakesOnly (Wanted terms D w g whole) terms x.1)
+  takes_after_two A B whole joined is f later h k r =
+      takes_still (Wanted terms D w g whole) terms later r
+      (subst (λ (X : Algebra). TakesOnly (Wanted terms D w g X) terms later) (sym is)
+      (takes_two (Wanted terms D w g A) (Wanted terms D w g B) (Wanted terms D w g joined) terms now later f h (wanted_kept B later k)))
+
+module _ {E : Type 0} (terms : List Term) (D : List NumQuad) (w : ℕ) (g : Option ℕ) (r : Result (RowList × List Term) E) (whole made : Algebra) (is : whole ≡ made) where
+  -- what the expression is made of computes the terms
+  pub takes_as : IfOk r (λ x. TakesOnly (Wanted terms D w g made) terms x.1) → IfOk r (λ x. TakesOnly (Wanted terms D w g whole) terms x.1)
+  takes_as h = subst (λ (X : Algebra). IfOk r (λ x. TakesOnly (Wanted terms D w g X) terms x.1)) (sym is) h
+
+  -- one input alone computes them
+  pub takes_after_one : (now : List Term) → TakesOnly (Wanted terms D w g made) terms now → IfOk r (λ x. x.1 ≡ now) → IfOk r (λ x. TakesOnly (Wanted terms D w g whole) terms x.1)
+  takes_after_one now h k = takes_as (takes_still (Wanted terms D w g made) terms now r h k)
+
+-- ---- Extend
+
+-- the values of rows that are evaluated are those of the solutions
+values_wanted : (terms now : List Term) (w : ℕ) (A : List (Solution Term)) (rows : RowList) → IsEvaluated terms w A rows now → (value : Solution Term → Option Term) (t : Term) → IsValue value (solutions_of now rows) t → IsValue value A t
+values_wanted terms now w A rows h value t m = Contains-permutation (map value (solutions_of now rows)) (map value A) (Some t) (IsPermutation-map value (solutions_of now rows) A h.bag) m
+
+-- the terms of the input, and the values behind them
+pub takes_values : {E : Type 0} (terms : List Term) (D : List NumQuad) (w : ℕ) (g : Option ℕ) (r : Result (RowList × List Term) E) (v : ℕ) (e : Expression) (A whole : Algebra) → whole ≡ Extend v e A → (now : List Term) (rows : RowList)
+    → IsEvaluated terms w (eval w (quads_at terms D) (option_map (term_at terms) g) A) rows now → TakesOnly (Wanted terms D w g A) terms now
+    → IfOk r (λ x. TakesOnly (IsValue (val e) (solutions_of now rows)) now x.1) → IfOk r (λ x. TakesOnly (Wanted terms D w g whole) terms x.1)
+takes_values {E} terms D w g r v e A whole is now rows h before k =
+    let S = eval w (quads_at terms D) (option_map (term_at terms) g) A in
+    takes_as terms D w g r whole (Extend v e A) is
+    (IfOk-weaker r (λ x. TakesOnly (IsValue (val e) (solutions_of now rows)) now x.1) (λ x. TakesOnly (Wanted terms D w g (Extend v e A)) terms x.1)
+    (λ x m. takes_two (Wanted terms D w g A) (IsValue (val e) S) (Wanted terms D w g (Extend v e A)) terms now x.1 (λ t o. o) before
+    (takes_more (IsValue (val e) (solutions_of now rows)) (IsValue (val e) S) now x.1 (values_wanted terms now w S rows h (val e)) m)) k)
+
+-- ---- Graph
+
+contains_mapped : {X Y : Type 0} (f : X → Y) (xs : List X) (k : ℕ) (x : X) → slice_get xs k ≡ Some x → Contains (map f xs) (f x)
+contains_mapped f [] k x e = cc
+contains_mapped f (y ∷ xs) zero x e = let p : y ≡ x = cc in (0, omega arith, ap f p)
+contains_mapped f (y ∷ xs) (suc k) x e = let r = contains_mapped f xs k x e in (suc r.0, omega (arith, r.1), r.2)
+
+module _ (terms : List Term) (index : List NumQuad) (w : ℕ) (A : Algebra) where
+  -- the terms that the expression computes in the graphs behind GRAPH
+  abbrev pub WantedIn : GraphName → Term → Type 0
+  WantedIn i t = InSomeGraph (quads_at terms index) i (λ h. IsComputed w (quads_at terms index) h A t)
+
+  -- in one of the named graphs after those before it
+  module _ (once : IsWithoutRepeats terms) (below : AreBelow (length terms) index) (graphs : List ℕ) (are : IsPermutation (without_repeats nat_eq (graph_names index)) graphs) where
+    wanted_in_each : (v k n : ℕ) → slice_get graphs k ≡ Some n → (t : Term) → Wanted terms index w (Some n) A t → WantedIn (each_graph v) t
+    wanted_in_each v k n at t m =
+        let named = map (term_at terms) graphs in
+        let D = names (quads_at terms index) in
+        let it = contains_mapped (term_at terms) graphs k n at in (
+          term_at terms n,
+          (Contains-permutation named D (term_at terms n) (IsPermutation-sym D named (names_read terms once index below graphs are)) it, m),
+        )
+
+    pub takes_in_each : (v k n : ℕ) → slice_get graphs k ≡ Some n → n < length terms → (now later : List Term) → IsGrown terms now
+        → TakesOnly (WantedIn (each_graph v)) terms now → TakesOnly (Wanted now index w (Some n) A) now later → TakesOnly (WantedIn (each_graph v)) terms later
+    takes_in_each v k n at low now later grown h e =
+        takes_twice (WantedIn (each_graph v)) terms now later h
+        (takes_more (Wanted terms index w (Some n) A) (WantedIn (each_graph v)) now later (wanted_in_each v k n at)
+        (wanted_kept terms now grown index below w (Some n) (λ m e. let p : n ≡ m = cc in subst (λ (x : ℕ). x < length terms) p low) A later e))
