@@ -1,120 +1,214 @@
 #!/usr/bin/env python3
-"""Times spq beside the RDF tools that this machine has, on datasets of several sizes, and prints tables.
+"""Compares spq with the RDF programs that are installed, and with another build of spq.
 
-    compare.py [--spq PATH] [--quads N,N..] [--runs N] [--workers N,N..] [--limit SECONDS] [--rdflib-most QUADS]
-               [--folder PATH]
+    compare.py [--spq PATH] [--baseline PATH] [--oxigraph PATH] [--tables NAME,NAME..] [--only TEXT,TEXT..]
+               [--quads N,N..] [--growth N,N..] [--workers N,N..] [--runs N] [--budget SECONDS] [--limit SECONDS]
+               [--rdflib-most QUADS] [--folder PATH] [--write FOLDER]
 
-The peers of peers.py are taken where they are found. Each command runs so many times, and the least time
-counts; rdflib, which is slow, runs once, and up to --rdflib-most quads alone. Queries are those of
-queries.py, each from the bytes of the document to the JSON. All rows of a table are measured one after
-the other in one run: read the ratios, not the seconds.
-Python 3 standard library only.
+Prints tables of time and peak memory:
+
+- loading: `spq check`, `spq terms` and the programs of peers.py that parse or load a document;
+- queries: the queries of queries.py with `spq select` and the engines of peers.py, each from document to JSON;
+- growth: loading of documents of increasing size;
+- summary: the ratios and sizes for which the project has targets.
+
+The commands of a table run in rounds. Each round runs every command once, so that noise affects all of them. A table
+has the least time and the highest peak of each command. Compare ratios within a table, not seconds of different runs.
+With --baseline, each command of spq also runs with that executable, and further tables show the change.
+With --write, the tables replace those of RESULTS.md, and the figures and plots are written next to that page.
+Python 3 standard library only; the plots need matplotlib.
 """
 import argparse
+import dataclasses
+import filecmp
 import os
+import sys
 import tempfile
 
 import measure
 import peers
+import report
+from measure import Command, Measurement
 from queries import PREFIX, QUERIES
+from report import Report, plain, workers
+
+TABLES = ["loading", "queries", "growth"]
 
 
 class Bench:
-    """A dataset and how it is measured."""
+    """One dataset, and how commands are measured on it."""
 
-    def __init__(self, words, quads, path, room):
-        self.words, self.quads, self.path, self.room = words, quads, path, room
-        self.output = os.path.join(room, "output")
-        self.workers = words.workers.split(",")
+    def __init__(self, options, tools, quads, folder):
+        self.options, self.tools, self.quads, self.folder = options, tools, quads, folder
+        self.path = measure.dataset(options.folder or folder, quads)
 
-    def take(self, name, command, runs=None):
-        """What a command took at best, or how it failed; None where it is left out."""
-        slow = name.startswith("rdflib")
-        if slow and self.quads > self.words.rdflib_most:
-            return None
-        try:
-            return measure.best(command, self.path, self.output, 1 if slow else self.words.runs, self.words.limit)
-        except measure.Failed as fault:
-            return fault
+    def measure(self, task, commands):
+        """Returns the results of the commands that --only and --rdflib-most keep, by name."""
+        print(f"{self.quads:,} quads: {task}", file=sys.stderr)
+        kept = [command for command in commands if self.is_kept(command.name)]
+        results = measure.interleaved(kept, self.path, self.folder, self.options)
+        for name, baseline in report.pairs(results):
+            if not filecmp.cmp(self.output(name), self.output(baseline), shallow=False):
+                print(f"{self.quads:,} quads, {task}: the output of {name} differs from that of the baseline.\n")
+        return results
 
+    def is_kept(self, name):
+        if name.startswith("rdflib") and self.quads > self.options.rdflib_most:
+            return False
+        return any(text in name for text in self.options.only)
 
-def reading(bench):
-    """The table of `check` and `terms` and of the peers that parse."""
-    spq = bench.words.spq
-    commands = list(peers.parsers(bench.path, bench.room))
-    for n in bench.workers:
-        commands.append((f"spq check, {workers(n)}", [spq, "check", "--workers", n]))
-    commands.append((f"spq terms, {workers(n)}", [spq, "terms", "--workers", n]))
-    found = [(name, bench.take(name, command)) for name, command in commands]
-    first = next((taken.seconds for _, taken in found if isinstance(taken, measure.Taken)), None)
-    head = ["command", "seconds", "of the first row's", "processors' seconds", "thousand quads a second", "peak MiB"]
-    measure.table(head, [reading_line(name, taken, first, bench.quads) for name, taken in found if taken])
+    def output(self, name):
+        return measure.output_path(self.folder, name)
+
+    def spq(self, label, *arguments):
+        """Returns a command of spq, and the same command of the baseline if there is one."""
+        return [Command(f"{name}{label}", [program, *arguments]) for name, program in self.options.programs.items()]
 
 
-def reading_line(name, taken, first, quads):
-    if isinstance(taken, measure.Failed):
-        return [name, f"failed: {taken}", "", "", "", ""]
-    return [name, f"{taken.seconds:.3f}", measure.ratio(taken.seconds, first), f"{taken.processor:.3f}",
-            f"{quads / taken.seconds / 1000:.0f}", f"{taken.peak:.0f}"]
+def load(bench):
+    """Measures the commands that read the document, as far as the tables need them at this size."""
+    commands = peers.loaders(bench.tools, bench.path, bench.folder)
+    for n in bench.options.workers:
+        commands += bench.spq(f" check, {workers(n)}", "check", "--workers", str(n))
+    commands += bench.spq(f" terms, {workers(n)}", "terms", "--workers", str(n))
+    needed = [command for command in commands if is_needed(command.name, bench.quads, bench.options)]
+    return bench.measure("loading", needed)
 
 
-def selecting(bench):
-    """The table of the queries: spq by numbers of workers, then the peers."""
-    engines = [(f"spq, {workers(n)}", spq_command(bench.words.spq, n)) for n in bench.workers]
-    engines += peers.engines(bench.path, bench.room)
-    engines = [(name, command) for name, command in engines if not (name == "rdflib" and bench.quads > bench.words.rdflib_most)]
-    mark = len(bench.workers) - 1
-    head = ["query", "rows"] + [name for name, _ in engines]
-    head += [f"{name} / {engines[mark][0]}" for name, _ in engines[mark + 1:]]
-    lines = []
+def is_needed(name, quads, options):
+    if quads in options.growth and name.startswith(report.GROWTH):
+        return True
+    return quads in options.quads and ("loading" in options.tables or name == peers.OXIGRAPH_LOAD)
+
+
+def answer(bench, oxigraph_load):
+    """Measures the queries. Returns for each query the results of the engines.
+
+    Oxigraph answers from its store, so its results include the measurement of its load. Without one it is left out.
+    """
+    answers = {}
     for title, query in QUERIES.items():
-        counts, found = [], []
-        for name, command in engines:
-            taken = bench.take(name, command(PREFIX + query))
-            found.append(taken)
-            counts.append(measure.rows(bench.output) if isinstance(taken, measure.Taken) else None)
-        lines.append(selecting_line(title, counts, found, mark))
-    measure.table(head, lines)
+        results = bench.measure(title, engines(bench, PREFIX + query, oxigraph_load))
+        counted = {name: count_rows(it, bench.output(name)) for name, it in results.items()}
+        answers[title] = {name: plus(it, oxigraph_load) if name == "Oxigraph" else it for name, it in counted.items()}
+    return answers
 
 
-def workers(n):
-    return "1 worker" if n == "1" else f"{n} workers"
+def engines(bench, query, oxigraph_load):
+    commands = []
+    for n in dict.fromkeys((bench.options.workers[0], bench.options.workers[-1])):
+        commands += bench.spq(f", {workers(n)}", "select", "--workers", str(n), "--query", query)
+    commands += peers.engines(bench.tools, bench.path, bench.folder, query)
+    return [it for it in commands if it.name != "Oxigraph" or isinstance(oxigraph_load, Measurement)]
 
 
-def spq_command(spq, workers):
-    return lambda query: [spq, "select", "--workers", workers, "--query", query]
+def count_rows(result, output):
+    if not isinstance(result, Measurement):
+        return result
+    return dataclasses.replace(result, rows=measure.rows(output))
 
 
-def selecting_line(title, counts, found, mark):
-    """The rows stand once where all engines agree, and else engine by engine."""
-    agreed = {count for count in counts if count is not None}
-    rows = f"{counts[0]}" if len(agreed) == 1 else " / ".join(str(count) for count in counts)
-    cells = [f"{taken.seconds:.2f} s, {taken.peak:.0f} MiB" if isinstance(taken, measure.Taken) else f"failed: {taken}"
-             for taken in found]
-    times = [taken.seconds if isinstance(taken, measure.Taken) else None for taken in found]
-    ratios = [measure.ratio(time, times[mark]) if time and times[mark] else "" for time in times[mark + 1:]]
-    return [title, rows, *cells, *ratios]
+def plus(result, load):
+    """Adds the time and memory of a load to the result of a query."""
+    if not isinstance(result, Measurement):
+        return result
+    return dataclasses.replace(result, seconds=result.seconds + load.seconds, cpu=result.cpu + load.cpu,
+                               peak=max(result.peak, load.peak))
+
+
+def compare(options, folder):
+    """Measures what the tables need, prints the tables and returns the report."""
+    tools = peers.find_tools(folder, options.oxigraph)
+    page = Report(heading(options, tools))
+    loads, answers = {}, {}
+    for quads in sorted({*options.quads, *options.growth}):
+        bench = Bench(options, tools, quads, folder)
+        title = f"{quads:,} quads, {os.path.getsize(bench.path) / 1e6:.0f} MB"
+        loads[quads] = load(bench)
+        if quads in options.quads and "loading" in options.tables:
+            add(page, "loading", title, report.loading(loads[quads], quads), loads[quads])
+        if quads in options.quads and "queries" in options.tables:
+            answers[quads] = answer(bench, loads[quads].get(peers.OXIGRAPH_LOAD))
+            add(page, "queries", title, report.queries(answers[quads], quads), report.by_query(answers[quads]))
+    if options.growth:
+        page.add("growth", "Loading by size", report.growth({quads: loads[quads] for quads in options.growth}))
+    if options.quads:
+        summarize(page, options, loads, answers)
+    page.figures = {
+        "loading": plain({quads: loads[quads] for quads in options.quads if "loading" in options.tables}),
+        "queries": plain(answers),
+        "growth": plain({quads: loads[quads] for quads in options.growth}),
+    }
+    return page
+
+
+def heading(options, tools):
+    """One paragraph: the machine, what was run how often, and what is left out because it is not installed."""
+    missing = [tool for tool, found in tools.items() if not found]
+    lines = [measure.machine(), peers.versions(tools)]
+    lines.append(f"Best of {options.runs} runs, or of fewer if they take {options.budget} seconds in total")
+    if missing:
+        lines.append(f"Left out, because the program or its compiler is not installed: {', '.join(missing)}")
+    return "".join(f"{line}.\n" for line in lines if line)
+
+
+def add(page, section, title, table, results):
+    """Adds a table to a section and, if there is a baseline, the table of the changes."""
+    page.add(section, title, table)
+    if report.pairs(results):
+        page.add(section, f"{title}, change from the baseline", report.changes(results))
+
+
+def summarize(page, options, loads, answers):
+    quads = max(options.quads)
+    table = report.summary(loads, answers.get(quads, {}), quads, options.workers[0], options.workers[-1])
+    page.add("summary", f"{quads:,} quads", table)
+
+
+def numbers(text):
+    return sorted(int(number) for number in text.split(",") if number)
+
+
+def names(text):
+    return text.split(",")
+
+
+def parse_options():
+    parser = argparse.ArgumentParser(description=__doc__.split("\n")[0])
+    parser.add_argument("--spq", default=measure.SPQ)
+    parser.add_argument("--baseline", help="another spq executable, measured in the same rounds")
+    parser.add_argument("--oxigraph", default="oxigraph", help="Oxigraph's executable (default: the one on the PATH)")
+    parser.add_argument("--tables", type=names, default=TABLES, help="some of loading, queries, growth")
+    parser.add_argument("--only", type=names, default=[""], help="measure commands with one of these in their name")
+    parser.add_argument("--quads", type=numbers, default=[100_000, 1_000_000], help="sizes for loading and queries")
+    parser.add_argument("--growth", type=numbers, default=[100_000, 300_000, 1_000_000, 3_000_000, 10_000_000],
+                        help="sizes for the table of growth")
+    parser.add_argument("--workers", type=numbers, default=[1, 2, 4])
+    parser.add_argument("--runs", type=int, default=5)
+    parser.add_argument("--budget", type=int, default=20, help="seconds after which a command is not run again")
+    parser.add_argument("--limit", type=int, default=600, help="seconds after which a run is killed")
+    parser.add_argument("--rdflib-most", type=int, default=100_000, help="largest dataset, in quads, for rdflib")
+    parser.add_argument("--folder", help="keep the datasets here (default: a temporary folder)")
+    parser.add_argument("--write", help="write the tables, figures and plots into this folder")
+    options = parser.parse_args()
+    if not set(options.tables) <= set(TABLES):
+        parser.error(f"--tables: {', '.join(TABLES)}")
+    options.programs = {"spq": measure.program(options.spq)}
+    if options.baseline:
+        options.programs["baseline"] = measure.program(options.baseline)
+    if "growth" not in options.tables:
+        options.growth = []
+    if not {"loading", "queries"} & set(options.tables):
+        options.quads = []
+    return options
 
 
 def main():
-    asked = argparse.ArgumentParser(description=__doc__.split("\n")[0])
-    asked.add_argument("--spq", default=measure.SPQ)
-    asked.add_argument("--quads", default="100000,1000000")
-    asked.add_argument("--runs", type=int, default=5)
-    asked.add_argument("--workers", default="1,4")
-    asked.add_argument("--limit", type=int, default=600, help="seconds after which a run is ended")
-    asked.add_argument("--rdflib-most", type=int, default=100_000, help="rdflib is left out beyond so many quads")
-    asked.add_argument("--folder", help="where datasets are kept; a folder of its own where none is given")
-    words = asked.parse_args()
-    words.spq = measure.program(words.spq)
-    print(f"{measure.machine()}\n")
-    with tempfile.TemporaryDirectory() as room:
-        for quads in map(int, words.quads.split(",")):
-            path = measure.dataset(words.folder or room, quads)
-            print(f"## {quads} quads, {os.path.getsize(path) / 1e6:.0f} MB, best of {words.runs}\n", flush=True)
-            bench = Bench(words, quads, path, room)
-            reading(bench)
-            selecting(bench)
+    options = parse_options()
+    with tempfile.TemporaryDirectory() as folder:
+        page = compare(options, folder)
+    if options.write:
+        page.write(options.write)
 
 
 if __name__ == "__main__":

@@ -3,9 +3,9 @@
 
     datasets.py QUADS [SEED]
 
-The same arguments give the same bytes. Works, persons and places stand in the default graph, the
-records of each lending branch in a graph of its own (every fifth graph is named by a blank node).
-There are plain, typed and tagged literals, blank nodes, escapes and text beyond ASCII.
+The same arguments give the same bytes. Works, persons and places are in the default graph. The records of each lending
+branch are in a named graph; a blank node names every fifth graph.
+The dataset has plain, typed and language-tagged literals, blank nodes, escapes and non-ASCII text.
 Python 3 standard library only.
 """
 import random
@@ -43,7 +43,7 @@ def phrase(dice, least, most):
 
 
 def by_numbers(literal):
-    """The literal with its characters beyond ASCII written as numeric escapes."""
+    """Replaces the non-ASCII characters of a literal with numeric escapes."""
     return "".join(
         c if ord(c) < 128 else f"\\u{ord(c):04X}" if ord(c) < 0x10000 else f"\\U{ord(c):08X}"
         for c in literal)

@@ -1,16 +1,20 @@
-"""The peers that compare.py measures spq beside; those that this machine lacks are left out.
+"""The programs that compare.py measures spq against. Those that are not installed are left out.
 
-Parsing: serdi (prints what it reads again), serd_parse.c over serd's library, rapper and riot (count), rdflib
-(loads into its store), and plain_reader.rs. Queries: arq of Apache Jena, and rdflib.
+Loading: serdi (parses and prints), serd_parse.c over serd's library, rapper and riot (parse and count), rdflib and
+Oxigraph (load into their stores), plain_reader.rs, and the lower bound of lower_bound.rs.
+Queries: Oxigraph, arq of Apache Jena, and rdflib.
 Python 3 standard library only.
 """
 import os
+import re
 import shutil
 import subprocess
 import sys
 import zipfile
 
-HERE = os.path.dirname(os.path.abspath(__file__))
+from measure import HERE, Command
+
+OXIGRAPH_LOAD = "Oxigraph, load into its store"
 JARS = "/usr/share/java"
 JAR_NAMES = (
     "jena-arq jena-base jena-cmds jena-core jena-iri jena-rdfconnection jena-shacl jena-shex commons-cli commons-codec "
@@ -19,58 +23,98 @@ JAR_NAMES = (
     "thrift titanium-json-ld").split()
 
 
-def parsers(path, folder):
-    """A name and a command line for each peer that reads a document."""
-    if shutil.which("serdi"):
-        yield "serdi, parse and print", ["serdi", "-b", "-i", "nquads", "-o", "nquads", path]
-    serd = serd_parse(folder)
-    if serd:
-        yield "serd's library, parse", [serd]
-    if shutil.which("rapper"):
-        yield "rapper, parse", ["rapper", "-q", "-c", "-i", "nquads", path, "http://base.example/"]
-    riot = jena("riot", "riotcmd.riot", folder)
-    if riot:
-        yield "riot, parse", [*riot, "--count", path]
-    if shutil.which("rustc"):
-        reader = plain_reader(folder)
-        yield "plain Rust reader, terms and quads", [reader, "read"]
-        yield "plain Rust loader, numbered and sorted", [reader, "load"]
-    python = python_with_rdflib()
-    if python:
-        yield "rdflib, parse into its store", [python, os.path.join(HERE, "rdflib_peer.py"), path]
+def find_tools(folder, oxigraph):
+    """Returns for each tool the start of its command line, or None if it is not installed.
+
+    The helper programs are compiled into `folder`. `oxigraph` is a path or the name of a program on the PATH.
+    """
+    python = python_with("rdflib")
+    return {
+        "lower_bound.rs": compiled_rust("lower_bound", folder),
+        "serdi": on_path("serdi"),
+        "serd's library": compiled_serd(folder),
+        "rapper": on_path("rapper"),
+        "riot": jena("riot", "riotcmd.riot", folder),
+        "arq": jena("arq", "arq.sparql", folder),
+        "plain_reader.rs": compiled_rust("plain_reader", folder),
+        "rdflib": python and [python, os.path.join(HERE, "rdflib_peer.py")],
+        "Oxigraph": on_path(oxigraph),
+    }
 
 
-def engines(path, folder):
-    """For each peer that answers queries its name, and the command line of a query."""
-    arq = jena("arq", "arq.sparql", folder)
-    if arq:
-        yield "arq", lambda query: [*arq, f"--data={path}", "--results=JSON", query]
-    python = python_with_rdflib()
-    if python:
-        yield "rdflib", lambda query: [python, os.path.join(HERE, "rdflib_peer.py"), path, query]
+def loaders(tools, path, folder):
+    """Returns the commands that parse or load the document at `path`. Some of them read it from standard input."""
+    store = oxigraph_store(folder)
+    rows = [
+        ("lower_bound.rs", "lower bound: read, find line ends, check UTF-8", []),
+        ("serdi", "serdi, parse and print", ["-b", "-i", "nquads", "-o", "nquads", path]),
+        ("serd's library", "serd's library, parse", []),
+        ("rapper", "rapper, parse", ["-q", "-c", "-i", "nquads", path, "http://base.example/"]),
+        ("riot", "riot, parse", ["--count", path]),
+        ("plain_reader.rs", "plain Rust reader, terms and quads", ["read"]),
+        ("plain_reader.rs", "plain Rust loader, numbered and sorted", ["load"]),
+        ("rdflib", "rdflib, load into its store", [path]),
+        ("Oxigraph", OXIGRAPH_LOAD, ["load", "--location", store, "--file", path]),
+    ]
+    return [Command(name, tools[tool] + arguments, store if tool == "Oxigraph" else None)
+            for tool, name, arguments in rows if tools[tool]]
 
 
-def plain_reader(folder):
-    binary = os.path.join(folder, "plain_reader")
-    if not os.path.exists(binary):
-        source = os.path.join(HERE, "plain_reader.rs")
-        subprocess.run(["rustc", "-C", "opt-level=3", "--edition", "2021", "-o", binary, source], check=True)
-    return binary
+def engines(tools, path, folder, query):
+    """Returns the commands that answer a query over the document at `path`.
+
+    Oxigraph reads the store that its load command has filled; the others load the document first.
+    """
+    rows = [
+        ("Oxigraph", ["query", "--location", oxigraph_store(folder), "--query", query, "--results-format", "json"]),
+        ("arq", [f"--data={path}", "--results=JSON", query]),
+        ("rdflib", [path, query]),
+    ]
+    return [Command(tool, tools[tool] + arguments) for tool, arguments in rows if tools[tool]]
 
 
-def serd_parse(folder):
-    """serd_parse.c over serd's library; None where there is no C compiler or no such library."""
-    flags = subprocess.run(["pkg-config", "--cflags", "--libs", "serd-0"], capture_output=True, text=True) if shutil.which("pkg-config") else None
-    if not shutil.which("cc") or flags is None or flags.returncode:
+def versions(tools):
+    """Returns a list of the tools that print a version, each with its version."""
+    flags = {"serdi": "-v", "rapper": "--version", "riot": "--version", "rdflib": "--version", "Oxigraph": "--version"}
+    printed = {tool: subprocess.run([*tools[tool], flag], capture_output=True, text=True).stdout
+               for tool, flag in flags.items() if tools[tool]}
+    found = {tool: re.search(r"\d+\.\d[-.\w]*", text) for tool, text in printed.items()}
+    return ", ".join(f"{tool} {number[0]}" for tool, number in found.items() if number)
+
+
+def oxigraph_store(folder):
+    return os.path.join(folder, "oxigraph")
+
+
+def on_path(program):
+    found = shutil.which(program)
+    return found and [found]
+
+
+def compiled_rust(name, folder):
+    """Compiles one of the Rust programs of this folder; None if there is no Rust compiler."""
+    if not shutil.which("rustc"):
+        return None
+    binary = os.path.join(folder, name)
+    source = os.path.join(HERE, f"{name}.rs")
+    subprocess.run(["rustc", "-C", "opt-level=3", "--edition", "2021", "-o", binary, source], check=True)
+    return [binary]
+
+
+def compiled_serd(folder):
+    """Compiles serd_parse.c; None if there is no C compiler or no serd library."""
+    if not shutil.which("cc") or not shutil.which("pkg-config"):
+        return None
+    flags = subprocess.run(["pkg-config", "--cflags", "--libs", "serd-0"], capture_output=True, text=True)
+    if flags.returncode:
         return None
     binary = os.path.join(folder, "serd_parse")
-    if not os.path.exists(binary):
-        subprocess.run(["cc", "-O2", "-o", binary, os.path.join(HERE, "serd_parse.c"), *flags.stdout.split()], check=True)
-    return binary
+    subprocess.run(["cc", "-O2", "-o", binary, os.path.join(HERE, "serd_parse.c"), *flags.stdout.split()], check=True)
+    return [binary]
 
 
 def jena(command, main, folder):
-    """Jena's command, or its class over the jars of Debian's libapache-jena-java; None where there is neither."""
+    """Returns Jena's command, or its class over the jars of Debian's libapache-jena-java; None if there is neither."""
     if shutil.which(command):
         return [command]
     jars = [os.path.join(JARS, f"{name}.jar") for name in JAR_NAMES]
@@ -80,7 +124,7 @@ def jena(command, main, folder):
 
 
 def jena_messages(folder):
-    """A folder with the messages of Jena's schema types, which that package has where its classes do not look."""
+    """Copies the messages of Jena's schema types from where Debian's package has them to where the classes look."""
     inside = "org/apache/jena/ext/xerces"
     with zipfile.ZipFile(os.path.join(JARS, "jena-core.jar")) as jar:
         jar.extractall(folder, [name for name in jar.namelist() if name.startswith(inside)])
@@ -88,9 +132,9 @@ def jena_messages(folder):
     return folder
 
 
-def python_with_rdflib():
-    """This Python, or the system's, whichever knows rdflib."""
-    for python in (sys.executable, "/usr/bin/python3"):
-        if os.path.exists(python) and subprocess.run([python, "-c", "import rdflib"], capture_output=True).returncode == 0:
+def python_with(module):
+    """Returns this Python or the system's, whichever has a module; None if neither has it."""
+    for python in filter(os.path.exists, (sys.executable, "/usr/bin/python3")):
+        if subprocess.run([python, "-c", f"import {module}"], capture_output=True).returncode == 0:
             return python
     return None

@@ -1,9 +1,9 @@
-//! A plain reader of N-Quads, as a mark for speed: what a Rust programmer would write with owned terms
-//! and the standard library alone. It takes good documents; what it refuses it does not explain.
+//! A plain N-Quads reader as a reference for speed: owned terms, the standard library alone, one thread.
+//! It reads valid documents and panics on others.
 //!
 //! rustc -C opt-level=3 --edition 2021 -o plain_reader plain_reader.rs
-//! ./plain_reader read < FILE     terms and quads of each line, on one thread
-//! ./plain_reader load < FILE     and then terms numbered, and three lists of quads sorted
+//! ./plain_reader read < FILE     parses the terms and quads of each line
+//! ./plain_reader load < FILE     also numbers the terms and sorts three lists of quads
 use std::collections::HashMap;
 use std::io::Read;
 
@@ -32,7 +32,7 @@ struct Numbers {
     o: u64,
 }
 
-/// Classes of bytes, a bit each: 1 within an IRI, 2 within a string, 4 within a label, 8 within a tag.
+/// The classes of each byte, one bit each: 1 in an IRI, 2 in a string, 4 in a blank node label, 8 in a language tag.
 static CLASSES: [u8; 256] = {
     let mut table = [0; 256];
     let mut at = 0;
@@ -69,7 +69,7 @@ impl<'a> Cursor<'a> {
         }
     }
 
-    /// The longest run of a class; a backslash takes the next byte with it where `escapes` says so.
+    /// Returns the longest run of bytes of a class. If `escapes`, a backslash and the byte after it belong to the run.
     fn run(&mut self, class: u8, escapes: bool) -> (&'a str, bool) {
         let bytes = self.text.as_bytes();
         let from = self.at;

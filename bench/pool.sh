@@ -1,6 +1,6 @@
 #!/usr/bin/env bash
-# Times draws of the claim board and runs of the pool three times over, and then shows what a refused
-# start of a worker answers: a limit on the address space leaves no room for a further thread's stack.
+# Measures draws of the claim board and runs of the pool, three times. Then runs the program with a limit on its address
+# space that leaves no room for the stack of a second thread, to show what happens if a worker thread cannot be started.
 cd "$(dirname "$0")/../crates/pool_time" || exit 1
 rt run > /dev/null || exit 1
 for _ in 1 2 3; do

@@ -1,14 +1,13 @@
 #!/usr/bin/env python3
-"""Times `spq select` on queries over datasets of several sizes, and prints how time grows with size.
+"""Measures `spq select` on queries over datasets of several sizes, and prints how the time grows with the size.
 
-    queries.py [--spq PATH] [--quads N,N..] [--runs N] [--workers N] [--only WORD] [--folder PATH]
+    queries.py [--spq PATH] [--quads N,N..] [--runs N] [--workers N] [--only TEXT] [--folder PATH]
 
-Each query runs so many times on each dataset of datasets.py; the least time counts. What `SELECT * {}`
-takes on the same dataset, which loads it and answers one row, is taken away: the rest is the query and
-its output. It runs before each query anew, and the least of all its times counts. The growth is that of
-the processors' seconds, which other work on the machine disturbs least: a query whose rows grow by ten
-should take about ten times as long.
-A dataset of 1,200,000 quads has some 97,000 works, so there `join` joins two lists of 97,000 rows.
+Each query runs --runs times on each dataset of datasets.py, and the least time counts. The time of `SELECT * {}`,
+which loads the dataset and returns one row, is subtracted; the rest is the query and its output. `SELECT * {}` runs
+before each query, and the least of all its times counts. The growth is that of CPU seconds, which other work on the
+machine affects least. A query whose rows grow by ten should take about ten times as long.
+A dataset of 1,200,000 quads has about 97,000 works, so `join` joins two lists of 97,000 rows there.
 Python 3 standard library only.
 """
 import os
@@ -19,7 +18,7 @@ import measure
 
 PREFIX = "PREFIX l: <http://library.example/terms#> "
 
-# These take time near their input and output; the last is computing more than anything else.
+# Queries whose time should be linear in their input and output. The last one mostly computes.
 QUERIES = {
     "one triple": "SELECT ?w ?t { ?w l:title ?t }",
     "star of five": "SELECT ?w ?t ?i ?p ?c { ?w a l:Book ; l:title ?t ; l:issued ?i ; l:price ?p ; l:creator ?c }",
@@ -38,71 +37,71 @@ QUERIES = {
     "long filter": "SELECT ?w { ?w l:price ?p FILTER(?p IN (%s)) }" % ", ".join(f"{n}.0" for n in range(1, 100)),
 }
 
-# Their answers, or the pairs that a condition has to look at, grow with the square of the dataset.
+# Queries whose solutions, or the pairs that a condition has to test, grow with the square of the dataset.
 PAIRS = {
     "cross product": "SELECT ?a ?b { ?a l:issued 1900 . ?b l:issued 1901 }",
     "join by <": "SELECT ?a ?b { { ?a l:issued 1900 ; l:price ?p } { ?b l:issued 1901 ; l:price ?q } FILTER(?p < ?q) }",
 }
 
-# spq tries every pair here although neither rows nor conditions ask for it: ?a and ?i are open in many rows.
+# A join for which spq tests every pair of rows, although few are compatible: ?a and ?i are unbound in many rows.
 NO_KEY = {
     "join, two open keys": "SELECT ?a ?i { { { ?a a l:Map } UNION { ?p l:place ?i } } { ?a l:issued ?i } }",
 }
 
 
-def measured(words, path, output, chosen):
-    """What loading takes; and of each query its rows and what it took beyond that, or the line of its fault."""
+def measured(options, path, output, chosen):
+    """Measures loading, and each query in addition to loading. A query maps to its figures or its failure."""
 
     def select(query):
-        command = [words.spq, "select", "--workers", words.workers, "--query", query]
-        return measure.best(command, path, output, words.runs)
+        command = [options.spq, "select", "--workers", options.workers, "--query", query]
+        return measure.best(command, path, output, options.runs)
 
     loads, answers = [], {}
     for name, query in chosen.items():
         try:
             loads.append(select("SELECT * {}"))
-        except measure.Failed as fault:
-            sys.exit(f"SELECT * {{}}: {fault}")
+        except measure.Failed as failure:
+            sys.exit(f"SELECT * {{}}: {failure}")
         try:
             answers[name] = select(PREFIX + query), measure.rows(output)
-        except measure.Failed as fault:
-            answers[name] = fault
+        except measure.Failed as failure:
+            answers[name] = failure
     load = measure.least(loads)
     return load, {name: beyond(load, answer) for name, answer in answers.items()}
 
 
 def beyond(load, answer):
-    """The rows of an answer, and what it took beyond loading; a fault stays."""
+    """Returns the number of rows, seconds and CPU seconds in addition to loading, and the peak; or the failure."""
     if isinstance(answer, measure.Failed):
         return answer
-    taken, rows = answer
-    return rows, max(taken.seconds - load.seconds, 0.0), max(taken.processor - load.processor, 0.0), taken.peak
+    it, rows = answer
+    return rows, max(it.seconds - load.seconds, 0.0), max(it.cpu - load.cpu, 0.0), it.peak
 
 
 def line(name, result, before):
     if isinstance(result, measure.Failed):
         return [name, str(result), "", "", "", "", ""]
-    rows, seconds, processor, peak = result
-    cells = [name, f"{rows}", f"{seconds:.3f}", f"{processor:.3f}", f"{peak:.0f}"]
+    rows, seconds, cpu, peak = result
+    cells = [name, f"{rows}", f"{seconds:.3f}", f"{cpu:.3f}", f"{peak:.0f}"]
     if before is None or isinstance(before, measure.Failed):
         return cells + ["", ""]
-    # Under a fiftieth of a second the clock's own grain is most of what was measured.
-    grown = f"{processor / before[2]:.1f}" if before[2] >= 0.02 else "too short"
+    # Below 0.02 seconds, most of the figure is the resolution of the clock.
+    grown = f"{cpu / before[2]:.1f}" if before[2] >= 0.02 else "too short"
     return cells + [f"{rows / before[0]:.1f}" if before[0] else "", grown]
 
 
 def main():
-    words = measure.query_words(__doc__.split("\n")[0], "120000,1200000")
-    chosen = {name: query for name, query in {**QUERIES, **PAIRS, **NO_KEY}.items() if words.only in name}
+    options = measure.query_options(__doc__.split("\n")[0], "120000,1200000")
+    chosen = {name: query for name, query in {**QUERIES, **PAIRS, **NO_KEY}.items() if options.only in name}
     print(f"{measure.machine()}\n")
     before = {}
-    with tempfile.TemporaryDirectory() as room:
-        for quads in map(int, words.quads.split(",")):
-            path = measure.dataset(words.folder or room, quads)
-            load, found = measured(words, path, os.path.join(room, "output"), chosen)
-            print(f"## {quads} quads, {words.workers} workers, best of {words.runs}")
-            print(f"\nLoaded in {load.seconds:.3f} s, {load.processor:.3f} s of processors, {load.peak:.0f} MiB.\n")
-            head = ["query", "rows", "seconds", "processors' seconds", "peak MiB", "rows, of before", "processors' seconds, of before"]
+    with tempfile.TemporaryDirectory() as folder:
+        for quads in map(int, options.quads.split(",")):
+            path = measure.dataset(options.folder or folder, quads)
+            load, found = measured(options, path, os.path.join(folder, "output"), chosen)
+            print(f"## {quads} quads, {options.workers} workers, best of {options.runs}")
+            print(f"\nLoaded in {load.seconds:.3f} s, {load.cpu:.3f} s of CPU time, {load.peak:.0f} MiB.\n")
+            head = ["query", "rows", "seconds", "CPU seconds", "peak MiB", "growth of rows", "growth of CPU seconds"]
             measure.table(head, [line(name, result, before.get(name)) for name, result in found.items()])
             before = found
 

@@ -1,13 +1,15 @@
 #!/usr/bin/env python3
-"""Loads a document of N-Quads into rdflib's store in memory, and prints its size or the answer of a query.
+"""Loads an N-Quads document into rdflib's in-memory store and prints its size, or the result of a query as JSON.
 
     rdflib_peer.py FILE [QUERY]
+    rdflib_peer.py --version
 """
+import importlib.metadata
 import sys
 
 
 def load(path):
-    """rdflib's store of a document. It is imported here, so that a script may look for a Python that has it."""
+    """Returns rdflib's store of a document. The import is here so that a Python without rdflib can import this file."""
     import rdflib
 
     dataset = rdflib.Dataset()
@@ -17,6 +19,9 @@ def load(path):
 
 
 def main():
+    if sys.argv[1] == "--version":
+        print(importlib.metadata.version("rdflib"))
+        return
     dataset = load(sys.argv[1])
     if len(sys.argv) > 2:
         sys.stdout.buffer.write(dataset.query(sys.argv[2]).serialize(format="json"))

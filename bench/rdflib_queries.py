@@ -1,13 +1,14 @@
 #!/usr/bin/env python3
-"""Times the queries of queries.py by rdflib, on a dataset that it parses once.
+"""Measures the queries of queries.py with rdflib, on a dataset that rdflib parses once.
 
     rdflib_queries.py [--quads N] [--limit SECONDS] [--folder PATH]
 
-compare.py has rdflib parse the document for each query anew, from bytes to JSON as every engine does; of a million
-quads that takes more than a minute a query. Here each query runs in a process of its own that goes on from the
-parsed store, for so many seconds at the most. `parse and query` is about what a run from the bytes takes: Python's
-start is not in it, and the copying of pages that the process writes to is. The peak has the store in it.
-It needs rdflib, for this Python or the system's.
+compare.py measures every engine from document to JSON, so rdflib parses the document again for each query. With a
+million quads that takes more than a minute per query. Here each query runs in a forked process that starts with the
+parsed store and is killed after --limit seconds. `parse and query` is about the time of a run from document to JSON: it
+leaves out the start of Python, but includes the copying of pages that the process writes to. The peak memory includes
+the store.
+Needs rdflib for this Python or the system's (Debian: python3-rdflib).
 """
 import argparse
 import os
@@ -23,7 +24,7 @@ from queries import PREFIX, QUERIES
 
 
 def answer(dataset, query, output, limit):
-    """Seconds and peak MiB of a query that a child answers into a file, or how it failed."""
+    """Answers a query in a child process. Returns the seconds and the peak in MiB, or the failure."""
     start = time.perf_counter()
     child = os.fork()
     if child == 0:
@@ -37,7 +38,7 @@ def answer(dataset, query, output, limit):
 
 
 def write_answer(dataset, query, output, limit):
-    """The part of the child. It ends here whatever happens, since folder and output are the parent's."""
+    """Runs in the child process, and ends it in any case: temporary folder and output belong to the parent."""
     status = 1
     try:
         signal.alarm(limit)
@@ -48,34 +49,34 @@ def write_answer(dataset, query, output, limit):
         os._exit(status)
 
 
-def line(name, parsed, taken, output):
-    if isinstance(taken, measure.Failed):
-        return [name, "", f"{taken}", "", ""]
-    seconds, peak = taken
+def line(name, parsed, result, output):
+    if isinstance(result, measure.Failed):
+        return [name, "", f"{result}", "", ""]
+    seconds, peak = result
     return [name, f"{measure.rows(output)}", f"{seconds:.2f}", f"{parsed + seconds:.2f}", f"{peak:.0f}"]
 
 
 def main():
-    asked = argparse.ArgumentParser(description=__doc__.split("\n")[0])
-    asked.add_argument("--quads", type=int, default=1_000_000)
-    asked.add_argument("--limit", type=int, default=120, help="seconds after which a query is ended")
-    asked.add_argument("--folder", help="where datasets are kept; a folder of its own where none is given")
-    words = asked.parse_args()
-    with tempfile.TemporaryDirectory() as room:
-        path, output = measure.dataset(words.folder or room, words.quads), os.path.join(room, "output")
+    parser = argparse.ArgumentParser(description=__doc__.split("\n")[0])
+    parser.add_argument("--quads", type=int, default=1_000_000)
+    parser.add_argument("--limit", type=int, default=120, help="seconds after which a query is killed")
+    parser.add_argument("--folder", help="keep the dataset here (default: a temporary folder)")
+    options = parser.parse_args()
+    with tempfile.TemporaryDirectory() as folder:
+        path, output = measure.dataset(options.folder or folder, options.quads), os.path.join(folder, "output")
         start = time.perf_counter()
         dataset = rdflib_peer.load(path)
         parsed = time.perf_counter() - start
-        print(f"{measure.machine()}\n\n## {words.quads} quads, parsed in {parsed:.1f} s\n", flush=True)
+        print(f"{measure.machine()}\n\n## {options.quads} quads, parsed in {parsed:.1f} s\n", flush=True)
         head = ["query", "rows", "seconds of the query", "parse and query", "peak MiB"]
-        answers = ((name, answer(dataset, query, output, words.limit)) for name, query in QUERIES.items())
-        measure.table(head, (line(name, parsed, taken, output) for name, taken in answers))
+        answers = ((name, answer(dataset, query, output, options.limit)) for name, query in QUERIES.items())
+        measure.table(head, (line(name, parsed, result, output) for name, result in answers))
 
 
 if __name__ == "__main__":
-    python = peers.python_with_rdflib()
+    python = peers.python_with("rdflib")
     if python is None:
-        sys.exit("no Python here has rdflib")
+        sys.exit("rdflib is not installed")
     if python != sys.executable:
         os.execv(python, [python, *sys.argv])
     main()

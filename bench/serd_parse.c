@@ -1,5 +1,5 @@
-/* Parses the N-Quads on standard input by serd and keeps nothing: what parsing alone takes.
-   Prints how many statements it read. Needs libserd-dev. */
+/* Parses N-Quads from standard input with serd's library, keeps nothing, and prints the number of statements.
+   Needs libserd-dev. */
 #include <inttypes.h>
 #include <serd/serd.h>
 #include <stdio.h>

@@ -1,154 +1,186 @@
-//! Lines and pieces by example: what each spells, and which spell nothing.
+//! Lines and pieces by example: what each holds, and which are malformed.
+use crate::cases::{Case, Reader, all_hold};
 use nquads_core::{LineFault, PieceFault, count_lines, read_line, read_piece};
-use rdf_core::{Quad, write_term};
+use rdf_core::{Quad, Term, write_term};
 use std::alloc::{AllocError, AllocGlobal, Global};
 
-/// The terms of a quad in order, each with a space behind it.
-fn terms_of(alloc: Global, quad: &Quad) -> Result<Vec<u8>, AllocError> {
+/// Appends the N-Quads form of a term, and a space.
+fn append_term(out: &mut Vec<u8>, term: &Term) -> Result<(), AllocError> {
+    write_term(term, out)?;
+    out.extend_from_slice(b" ")
+}
+
+/// Appends the terms of a quad in order.
+fn append_quad(out: &mut Vec<u8>, quad: &Quad) -> Result<(), AllocError> {
+    append_term(out, &quad.s)?;
+    append_term(out, &quad.p)?;
+    append_term(out, &quad.o)?;
+    match &quad.g {
+        Some(name) => append_term(out, name),
+        None => Ok(()),
+    }
+}
+
+/// Prints the terms of a quad in order, each with a space after it.
+fn terms_of(alloc: Global, quad: &Quad) -> Result<String, AllocError> {
     let mut out = Vec::new(alloc);
-    for term in [&quad.s, &quad.p, &quad.o] {
-        write_term(term, &mut out)?;
-        out.extend_from_slice(b" ")?;
-    }
-    if let Some(name) = &quad.g {
-        write_term(name, &mut out)?;
-        out.extend_from_slice(b" ")?;
-    }
-    Ok(out)
-}
-
-fn is_spelled(alloc: Global, line: &str, expected: &str) -> Result<bool, AllocError> {
-    match read_line(alloc, line.as_bytes()) {
-        Ok(Some(quad)) => Ok(terms_of(alloc, &quad)?.as_slice() == expected.as_bytes()),
-        Ok(None) => Ok(expected == ""),
-        Err(_) => Ok(false),
+    append_quad(&mut out, quad)?;
+    match String::from_utf8(out) {
+        Ok(text) => Ok(text),
+        Err(_) => String::from_str(alloc, "not UTF-8"),
     }
 }
 
-#[test]
-fn lines_that_spell(rt: HostRuntime) -> Result<(), AllocError> {
-    for (line, expected) in [
-        (
-            "<http://e/a><http://e/p>_:b.",
-            "<http://e/a> <http://e/p> _:b ",
-        ),
-        (
-            "_:b <http://e/q> \"\\u00e9\\n\"@EN .",
-            "_:b <http://e/q> \"\u{e9}\\n\"@en ",
-        ),
-        (
-            "<http://e/a> <http://e/p> _:o_:g .",
-            "<http://e/a> <http://e/p> _:o_:g ",
-        ),
-        (
-            "<http://e/a> <http://e/p> \"x\"@en-GB.",
-            "<http://e/a> <http://e/p> \"x\"@en-gb ",
-        ),
-        (
-            "<http://e/\\u0061> <http://e/p> \"x\" .",
-            "<http://e/a> <http://e/p> \"x\" ",
-        ),
-        (
-            "<a:s> <a:p> \"x\"^^<http://www.w3.org/2001/XMLSchema#string> .",
-            "<a:s> <a:p> \"x\" ",
-        ),
-        (
-            "<a:s> <a:p> \"\\t\\u0001\\\\\" .",
-            "<a:s> <a:p> \"\t\u{1}\\\\\" ",
-        ),
-        ("<a:s> <a:p> <a:o> <a:g> .", "<a:s> <a:p> <a:o> <a:g> "),
-        ("\t<a:s>\t<a:p> <a:o>_:g.", "<a:s> <a:p> <a:o> _:g "),
-        // blanks between the parts of a literal
-        ("<a:s> <a:p> \"x\" @en .", "<a:s> <a:p> \"x\"@en "),
-        ("<a:s> <a:p> \"x\"^^ <a:d> .", "<a:s> <a:p> \"x\"^^<a:d> "),
-        ("<a:s> <a:p> \"x\" ^^<a:d> .", "<a:s> <a:p> \"x\"^^<a:d> "),
-        // dots and colons in labels
-        ("<a:s> <a:p> _:b._:c .", "<a:s> <a:p> _:b._:c "),
-        ("_:: <a:p> _:a: .", "_:: <a:p> _:a: "),
-        ("_:0 <a:p> _:b..c.", "_:0 <a:p> _:b..c "),
-        // a comment may touch the dot; these characters may stand in a literal
-        ("<a:s> <a:p> <a:o> .#<a:c> .", "<a:s> <a:p> <a:o> "),
-        (
-            "<a:s> <a:p> \"\u{85}\u{2028}\0\t\" .",
-            "<a:s> <a:p> \"\u{85}\u{2028}\0\t\" ",
-        ),
-        // the byte order mark is a character like others, but at the start
-        (
-            "<a:\u{feff}> <a:p> _:\u{feff} . # \u{feff}",
-            "<a:\u{feff}> <a:p> _:\u{feff} ",
-        ),
-        ("<a:s> <a:p> \"\u{feff}\" .", "<a:s> <a:p> \"\u{feff}\" "),
-        ("", ""),
-        (" \t", ""),
-        ("# c", ""),
-        ("\t# <a:s> <a:p> <a:o> .", ""),
-    ] {
-        assert!(rt; is_spelled(rt.alloc(), line, expected)?, "{line}");
+/// Prints the terms of the statement of a line, nothing if it has none, or `malformed`.
+fn line_of(alloc: Global, line: &[u8]) -> Result<String, AllocError> {
+    match read_line(alloc, line) {
+        Ok(Some(quad)) => terms_of(alloc, &quad),
+        Ok(None) => Ok(String::new(alloc)),
+        Err(LineFault::Bad) => String::from_str(alloc, "malformed"),
+        Err(LineFault::Memory) => Err(AllocError),
     }
-    Ok(())
 }
 
-#[test]
-fn lines_that_spell_nothing(rt: HostRuntime) {
-    for line in [
-        "x",
-        "<http://e/a> <http://e/p> .",
+/// Prints what the line of a text holds.
+pub(crate) fn line(alloc: Global, text: &str) -> Result<String, AllocError> {
+    line_of(alloc, text.as_bytes())
+}
+
+/// Lines, and the terms that each holds.
+const LINES: &[Case] = &[
+    (
+        "<http://e/a><http://e/p>_:b.",
+        "<http://e/a> <http://e/p> _:b ",
+    ),
+    (
+        "_:b <http://e/q> \"\\u00e9\\n\"@EN .",
+        "_:b <http://e/q> \"\u{e9}\\n\"@en ",
+    ),
+    (
+        "<http://e/a> <http://e/p> _:o_:g .",
+        "<http://e/a> <http://e/p> _:o_:g ",
+    ),
+    (
+        "<http://e/a> <http://e/p> \"x\"@en-GB.",
+        "<http://e/a> <http://e/p> \"x\"@en-gb ",
+    ),
+    (
+        "<http://e/\\u0061> <http://e/p> \"x\" .",
         "<http://e/a> <http://e/p> \"x\" ",
-        "<http://e/a> <http://e/p> \"\\uD800\" .",
-        "<http://e/\\u0020> <http://e/p> \"x\" .",
-        "<http://e/a> <http://e/p> _:b..",
-        "\u{feff}<http://e/a> <http://e/p> _:b .",
-        "<a> <a:p> _:b .",
-        "<a:s> <a:p> \"x\"^ ^<a:d> .",
-        "<a:s> <a:p> \"x\"@ en .",
-        "<a:s> <a:p> \"x\"@en- .",
-        "<a:s> <a:p> <a:c>#.",
-        "<a:s> <a:p> _:-a .",
-        "<a:s> <a:p> _:.a .",
-        "<a:s> <a:p>\u{c}<a:o> .",
-        "\"x\" <a:p> <a:o> .",
-        "<a:s> _:p <a:o> .",
-        "<a:s> <a:p> <a:o> \"g\" .",
-        "<a:s> <a:p> <a:o> . <a:s> <a:p> <a:o> .",
-        "<a:s> <a:p> \"x\ny\" .",
-        "<a:s> <a:p> <a:o> .\r",
-        "<a:s> <a:p> \"\\x\" .",
-    ] {
-        let read = read_line(rt.alloc(), line.as_bytes());
-        assert!(rt; matches!(read, Err(LineFault::Bad)), "{line}");
-    }
-    assert!(rt; matches!(read_line(rt.alloc(), b"# \xFF"), Err(LineFault::Bad)));
+    ),
+    (
+        "<a:s> <a:p> \"x\"^^<http://www.w3.org/2001/XMLSchema#string> .",
+        "<a:s> <a:p> \"x\" ",
+    ),
+    (
+        "<a:s> <a:p> \"\\t\\u0001\\\\\" .",
+        "<a:s> <a:p> \"\t\u{1}\\\\\" ",
+    ),
+    ("<a:s> <a:p> <a:o> <a:g> .", "<a:s> <a:p> <a:o> <a:g> "),
+    ("\t<a:s>\t<a:p> <a:o>_:g.", "<a:s> <a:p> <a:o> _:g "),
+    // blanks between the parts of a literal
+    ("<a:s> <a:p> \"x\" @en .", "<a:s> <a:p> \"x\"@en "),
+    ("<a:s> <a:p> \"x\"^^ <a:d> .", "<a:s> <a:p> \"x\"^^<a:d> "),
+    ("<a:s> <a:p> \"x\" ^^<a:d> .", "<a:s> <a:p> \"x\"^^<a:d> "),
+    // dots and colons in labels
+    ("<a:s> <a:p> _:b._:c .", "<a:s> <a:p> _:b._:c "),
+    ("_:: <a:p> _:a: .", "_:: <a:p> _:a: "),
+    ("_:0 <a:p> _:b..c.", "_:0 <a:p> _:b..c "),
+    // a comment may touch the dot; these characters may stand in a literal
+    ("<a:s> <a:p> <a:o> .#<a:c> .", "<a:s> <a:p> <a:o> "),
+    (
+        "<a:s> <a:p> \"\u{85}\u{2028}\0\t\" .",
+        "<a:s> <a:p> \"\u{85}\u{2028}\0\t\" ",
+    ),
+    // the byte order mark is a character like others, but at the start
+    (
+        "<a:\u{feff}> <a:p> _:\u{feff} . # \u{feff}",
+        "<a:\u{feff}> <a:p> _:\u{feff} ",
+    ),
+    ("<a:s> <a:p> \"\u{feff}\" .", "<a:s> <a:p> \"\u{feff}\" "),
+    ("", ""),
+    (" \t", ""),
+    ("# c", ""),
+    ("\t# <a:s> <a:p> <a:o> .", ""),
+];
+
+#[test]
+fn lines_are_read(rt: HostRuntime) {
+    assert!(rt; all_hold(&rt, rt.alloc(), Reader::Line, LINES));
 }
+
+/// Lines that are malformed.
+const MALFORMED: &[Case] = &[
+    ("x", "malformed"),
+    ("<http://e/a> <http://e/p> .", "malformed"),
+    ("<http://e/a> <http://e/p> \"x\" ", "malformed"),
+    ("<http://e/a> <http://e/p> \"\\uD800\" .", "malformed"),
+    ("<http://e/\\u0020> <http://e/p> \"x\" .", "malformed"),
+    ("<http://e/a> <http://e/p> _:b..", "malformed"),
+    ("\u{feff}<http://e/a> <http://e/p> _:b .", "malformed"),
+    ("<a> <a:p> _:b .", "malformed"),
+    ("<a:s> <a:p> \"x\"^ ^<a:d> .", "malformed"),
+    ("<a:s> <a:p> \"x\"@ en .", "malformed"),
+    ("<a:s> <a:p> \"x\"@en- .", "malformed"),
+    ("<a:s> <a:p> <a:c>#.", "malformed"),
+    ("<a:s> <a:p> _:-a .", "malformed"),
+    ("<a:s> <a:p> _:.a .", "malformed"),
+    ("<a:s> <a:p>\u{c}<a:o> .", "malformed"),
+    ("\"x\" <a:p> <a:o> .", "malformed"),
+    ("<a:s> _:p <a:o> .", "malformed"),
+    ("<a:s> <a:p> <a:o> \"g\" .", "malformed"),
+    ("<a:s> <a:p> <a:o> . <a:s> <a:p> <a:o> .", "malformed"),
+    ("<a:s> <a:p> \"x\ny\" .", "malformed"),
+    ("<a:s> <a:p> <a:o> .\r", "malformed"),
+    ("<a:s> <a:p> \"\\x\" .", "malformed"),
+];
+
+/// Whether a line that is not UTF-8 is malformed.
+fn is_malformed(alloc: Global, line: &[u8]) -> bool {
+    matches!(read_line(alloc, line), Err(LineFault::Bad))
+}
+
+#[test]
+fn malformed_lines_are_rejected(rt: HostRuntime) {
+    assert!(rt; all_hold(&rt, rt.alloc(), Reader::Line, MALFORMED));
+    assert!(rt; is_malformed(rt.alloc(), b"# \xFF"), "not UTF-8");
+}
+
+/// Prints the number of lines, and the numbers of lines and quads of the piece or its first malformed line.
+pub(crate) fn piece(alloc: Global, text: &str) -> Result<String, AllocError> {
+    let lines = count_lines(text.as_bytes());
+    match read_piece(alloc, text.as_bytes()) {
+        Ok(piece) => format!(in alloc;
+            "{lines}: {} lines, {} quads",
+            piece.lines,
+            piece.quads.len()
+        ),
+        Err(PieceFault::BadLine(k)) => format!(in alloc; "{lines}: malformed {k}"),
+        Err(PieceFault::Memory) => Err(AllocError),
+    }
+}
+
+/// Pieces, and what each holds. Malformed lines are numbered from 0.
+const PIECES: &[Case] = &[
+    ("", "0: 0 lines, 0 quads"),
+    ("\n", "1: 1 lines, 0 quads"),
+    ("\r\r\n", "2: 2 lines, 0 quads"),
+    ("\n\r", "2: 2 lines, 0 quads"),
+    ("\r\n", "1: 1 lines, 0 quads"),
+    (
+        "<a:s> <a:p> <a:o> .\r\n# c\n\r<a:s> <a:p> <a:o> .",
+        "4: 4 lines, 2 quads",
+    ),
+    (
+        "<a:s> <a:p> <a:o> .\r\n# c\n<a:s> <a:p> .\n",
+        "3: malformed 2",
+    ),
+    ("<a:s> <a:p> <a:o> .\rx", "2: malformed 1"),
+    ("<a:s> <a:p> <a:o> .\n<a:s> <a:p> \"x\" ", "2: malformed 1"),
+    ("x\nx", "2: malformed 0"),
+];
 
 #[test]
 fn pieces_are_read(rt: HostRuntime) {
-    // the bytes, how many lines, how many quads, and the first bad line
-    for (text, lines, quads, bad) in [
-        ("", 0, 0, None),
-        ("\n", 1, 0, None),
-        ("\r\r\n", 2, 0, None),
-        ("\n\r", 2, 0, None),
-        ("\r\n", 1, 0, None),
-        (
-            "<a:s> <a:p> <a:o> .\r\n# c\n\r<a:s> <a:p> <a:o> .",
-            4,
-            2,
-            None,
-        ),
-        ("<a:s> <a:p> <a:o> .\r\n# c\n<a:s> <a:p> .\n", 3, 0, Some(2)),
-        ("<a:s> <a:p> <a:o> .\rx", 2, 0, Some(1)),
-        ("<a:s> <a:p> <a:o> .\n<a:s> <a:p> \"x\" ", 2, 0, Some(1)),
-        ("x\nx", 2, 0, Some(0)),
-    ] {
-        assert_eq!(rt; count_lines(text.as_bytes()), lines, "{text}");
-        match read_piece(rt.alloc(), text.as_bytes()) {
-            Ok(piece) => {
-                assert!(rt; bad.is_none(), "{text}");
-                assert_eq!(rt; piece.lines, lines, "{text}");
-                assert_eq!(rt; piece.quads.len(), quads, "{text}");
-            }
-            Err(PieceFault::BadLine(k)) => assert!(rt; bad == Some(k), "{text}"),
-            Err(PieceFault::Memory) => assert!(rt; false, "{text}"),
-        }
-    }
+    assert!(rt; all_hold(&rt, rt.alloc(), Reader::Piece, PIECES));
 }

@@ -1,16 +1,17 @@
-//! Worked examples by direct calls: numbers are places by first appearance, within a quad subject,
+//! Dictionaries by example. Numbers follow the first appearance of the terms, and in a quad the order is subject,
 //! predicate, object, graph name.
 
+use crate::cases::holds;
 use dict_core::{
-    Dict, LocalPiece, NumQuad, Seen, absorbing_keeps_the_numbering, earlier_places_serve, look_up,
-    merge, number_piece, take_in,
+    Dict, LocalPiece, NumQuad, Seen, SeenPiece, absorbing_keeps_the_numbering,
+    earlier_places_serve, look_up, merge, number_piece, take_in,
 };
 use nquads_core::read_piece;
 use rdf_core::{Term, Text};
-use std::alloc::{AllocError, Global};
+use std::alloc::{AllocError, AllocGlobal, Global};
 use std::hash::RandomState;
 
-/// The spellings of the terms that the examples name.
+/// The IRIs of the examples.
 pub(crate) const A: &str = "http://e/a";
 
 pub(crate) const B: &str = "http://e/b";
@@ -23,6 +24,12 @@ pub(crate) const P: &str = "http://e/p";
 
 pub(crate) const Q: &str = "http://e/q";
 
+pub(crate) const FIRST: &str = "<http://e/a> <http://e/p> <http://e/b> .\n";
+
+pub(crate) const SECOND: &str = "<http://e/b> <http://e/p> <http://e/a> .\n";
+
+pub(crate) const THIRD: &str = "<http://e/a> <http://e/q> _:x <http://e/g> .\n";
+
 pub(crate) fn iri(alloc: Global, text: &str) -> Result<Term, AllocError> {
     Ok(Term::Iri(Text::from_string(String::from_str(alloc, text)?)))
 }
@@ -31,17 +38,38 @@ fn blank(alloc: Global, label: &str) -> Result<Term, AllocError> {
     Ok(Term::Blank(Text::from_string(String::from_str(alloc, label)?)))
 }
 
-/// The piece that a text is, numbered; none where it is bad or a growth was refused.
+pub(crate) fn quad(g: Option<u64>, s: u64, p: u64, o: u64) -> NumQuad {
+    NumQuad { g, s, p, o }
+}
+
+/// Returns the numbered piece of a text, or `None` if the text is malformed or an allocation fails.
 pub(crate) fn numbered(alloc: Global, state: RandomState, text: &str) -> Option<LocalPiece> {
     let Ok(piece) = read_piece(alloc, text.as_bytes()) else {
         return None;
     };
-    let Ok(local) = number_piece(alloc, state, piece) else {
-        return None;
-    };
-    Some(local)
+    number_piece(alloc, state, piece).ok()
 }
 
+/// Returns the numbered pieces of the texts.
+pub(crate) fn pieces(alloc: Global, state: RandomState, texts: &[&str]) -> Option<Vec<LocalPiece>> {
+    let mut pieces = Vec::new(alloc);
+    for text in texts {
+        let Ok(()) = pieces.push(numbered(alloc, state, *text)?) else {
+            return None;
+        };
+    }
+    Some(pieces)
+}
+
+/// Adds the IRI to the dictionary, and returns its number.
+fn add(alloc: Global, dict: &mut Dict, name: &str) -> Result<u64, AllocError> {
+    match dict.intern(iri(alloc, name)?) {
+        Ok(number) => Ok(number),
+        Err(_) => Err(AllocError),
+    }
+}
+
+/// Returns a dictionary of these IRIs.
 pub(crate) fn dict_of(
     alloc: Global,
     state: RandomState,
@@ -49,14 +77,12 @@ pub(crate) fn dict_of(
 ) -> Result<Dict, AllocError> {
     let mut dict = Dict::new(alloc, state)?;
     for name in names {
-        let Ok(_) = dict.intern(iri(alloc, name)?) else {
-            return Err(AllocError);
-        };
+        add(alloc, &mut dict, *name)?;
     }
     Ok(dict)
 }
 
-/// Whether the dictionary has just these terms, in this order, by each of its look-ups.
+/// Whether the dictionary has exactly these terms, in this order, by each of its look-ups.
 pub(crate) fn has(dict: &Dict, terms: &[Term]) -> bool {
     if dict.len() != terms.len() {
         return false;
@@ -72,149 +98,278 @@ pub(crate) fn has(dict: &Dict, terms: &[Term]) -> bool {
     true
 }
 
-pub(crate) fn quad(g: Option<u64>, s: u64, p: u64, o: u64) -> NumQuad {
-    NumQuad { g, s, p, o }
+/// Appends a number, or `None`.
+fn append_number(alloc: Global, out: &mut String, number: Option<u64>) -> Result<(), AllocError> {
+    let written = format!(in alloc; "{number:?} ")?;
+    out.push_str(written.as_str())
 }
 
-pub(crate) const FIRST: &str = "<http://e/a> <http://e/p> <http://e/b> .\n";
+/// Appends the term, after the number by which a copy of it is found.
+fn append_term(
+    alloc: Global,
+    out: &mut String,
+    dict: &Dict,
+    term: &Term,
+) -> Result<(), AllocError> {
+    let copy = term.copy(alloc)?;
+    append_number(alloc, out, dict.number_of(&copy))?;
+    let written = format!(in alloc; "{copy:?}; ")?;
+    out.push_str(written.as_str())
+}
 
-pub(crate) const SECOND: &str = "<http://e/b> <http://e/p> <http://e/a> .\n";
+/// Appends each term of the dictionary.
+fn append_terms(alloc: Global, out: &mut String, dict: &Dict) -> Result<(), AllocError> {
+    for n in 0..dict.len() as u64 {
+        append_term(alloc, out, dict, dict.term(n))?;
+    }
+    Ok(())
+}
 
-pub(crate) const THIRD: &str = "<http://e/a> <http://e/q> _:x <http://e/g> .\n";
+/// Appends subject, predicate, object and graph name.
+fn append_quad(alloc: Global, out: &mut String, quad: &NumQuad) -> Result<(), AllocError> {
+    append_number(alloc, out, Some(quad.s))?;
+    append_number(alloc, out, Some(quad.p))?;
+    append_number(alloc, out, Some(quad.o))?;
+    append_number(alloc, out, quad.g)
+}
+
+/// Prints a dictionary and quads.
+fn printed(alloc: Global, dict: &Dict, quads: &[NumQuad]) -> Result<String, AllocError> {
+    let mut out = String::new(alloc);
+    append_terms(alloc, &mut out, dict)?;
+    for quad in quads {
+        append_quad(alloc, &mut out, quad)?;
+    }
+    Ok(out)
+}
+
+/// Adds the IRI, and appends its number.
+fn append_added(
+    alloc: Global,
+    out: &mut String,
+    dict: &mut Dict,
+    name: &str,
+) -> Result<(), AllocError> {
+    let number = add(alloc, dict, name)?;
+    append_number(alloc, out, Some(number))
+}
+
+/// Prints the numbers of the IRIs as they are added to an empty dictionary, and the dictionary.
+fn added(alloc: Global, state: RandomState, names: &[&str]) -> Result<String, AllocError> {
+    let mut dict = Dict::new(alloc, state)?;
+    let mut out = String::new(alloc);
+    for name in names {
+        append_added(alloc, &mut out, &mut dict, *name)?;
+    }
+    append_terms(alloc, &mut out, &dict)?;
+    Ok(out)
+}
+
+/// Whether the dictionary has no number for the term.
+fn is_absent(dict: &Dict, term: Result<Term, AllocError>) -> bool {
+    match term {
+        Ok(term) => dict.number_of(&term).is_none(),
+        Err(_) => false,
+    }
+}
+
+/// Whether the dictionary of a, b, c has no number for `<g>` and for `_:a`.
+fn are_absent(alloc: Global, state: RandomState) -> bool {
+    match dict_of(alloc, state, &[A, B, C]) {
+        Ok(dict) => is_absent(&dict, iri(alloc, G)) && is_absent(&dict, blank(alloc, A)),
+        Err(_) => false,
+    }
+}
+
+/// The numbers of a, b, a, c, b, and the dictionary.
+const ADDED: &str = "Some(0) Some(1) Some(0) Some(2) Some(1) \
+                     Some(0) Iri(http://e/a); Some(1) Iri(http://e/b); Some(2) Iri(http://e/c); ";
 
 /// A term that is there keeps its number, a new one goes last, and one that is not there has none.
 #[test]
 fn terms_keep_their_numbers(rt: HostRuntime) {
     let alloc = rt.alloc();
     let state = RandomState::new(&rt).expect(&rt, "a hash state");
-    let mut dict = Dict::new(alloc, state).expect(&rt, "memory");
-    assert_eq!(rt; dict.len(), 0);
-    for (name, want) in [(A, 0), (B, 1), (A, 0), (C, 2), (B, 1)] {
-        let term = iri(alloc, name).expect(&rt, "memory");
-        let Ok(number) = dict.intern(term) else {
-            panic!(rt; "memory");
-        };
-        assert_eq!(rt; number, want, "at {name}");
-    }
-    let a = iri(alloc, A).expect(&rt, "memory");
-    let b = iri(alloc, B).expect(&rt, "memory");
-    let c = iri(alloc, C).expect(&rt, "memory");
-    let g = iri(alloc, G).expect(&rt, "memory");
-    let label = blank(alloc, A).expect(&rt, "memory");
-    assert!(rt; dict.number_of(&g).is_none());
-    assert!(rt; dict.number_of(&label).is_none());
-    assert!(rt; has(&dict, &[a, b, c]));
+    assert!(rt; holds(&rt, "no term", "", added(alloc, state, &[])));
+    assert!(rt;
+        holds(
+            &rt,
+            "a b a c b",
+            ADDED,
+            added(alloc, state, &[A, B, A, C, B])
+        )
+    );
+    assert!(rt; are_absent(alloc, state));
 }
 
-/// Three pieces, in order and with the first two exchanged.
+/// Prints what the pieces of the texts are merged into.
+fn merged(alloc: Global, state: RandomState, texts: &[&str]) -> Result<String, AllocError> {
+    let Some(pieces) = pieces(alloc, state, texts) else {
+        return Err(AllocError);
+    };
+    let (dict, quads) = merge(alloc, state, pieces)?;
+    printed(alloc, &dict, quads.as_slice())
+}
+
+/// What the first, the second and the third piece are merged into.
+const MERGED: &str = "Some(0) Iri(http://e/a); Some(1) Iri(http://e/p); Some(2) Iri(http://e/b); \
+                      Some(3) Iri(http://e/q); Some(4) Blank(x); Some(5) Iri(http://e/g); \
+                      Some(0) Some(1) Some(2) None Some(2) Some(1) Some(0) None Some(0) Some(3) Some(4) Some(5) ";
+
+/// The same with the first two pieces exchanged.
+const EXCHANGED: &str =
+    "Some(0) Iri(http://e/b); Some(1) Iri(http://e/p); Some(2) Iri(http://e/a); \
+                         Some(3) Iri(http://e/q); Some(4) Blank(x); Some(5) Iri(http://e/g); \
+                         Some(0) Some(1) Some(2) None Some(2) Some(1) Some(0) None Some(2) Some(3) Some(4) Some(5) ";
+
 #[test]
 fn pieces_merge_in_order(rt: HostRuntime) {
-    let alloc = rt.alloc();
     let state = RandomState::new(&rt).expect(&rt, "a hash state");
-    for (texts, names, want) in [
-        (
-            [FIRST, SECOND, THIRD],
-            [A, P, B, Q],
-            [
-                quad(None, 0, 1, 2),
-                quad(None, 2, 1, 0),
-                quad(Some(5), 0, 3, 4),
-            ],
-        ),
-        (
-            [SECOND, FIRST, THIRD],
-            [B, P, A, Q],
-            [
-                quad(None, 0, 1, 2),
-                quad(None, 2, 1, 0),
-                quad(Some(5), 2, 3, 4),
-            ],
-        ),
-    ] {
-        let mut pieces = Vec::new(alloc);
-        for text in texts {
-            let piece = numbered(alloc, state, text).expect(&rt, "a piece");
-            pieces.push(piece).expect(&rt, "memory");
-        }
-        let (dict, quads) = merge(alloc, state, pieces).expect(&rt, "memory");
-        let [one, two, three, four] = names;
-        let terms = [
-            iri(alloc, one).expect(&rt, "memory"),
-            iri(alloc, two).expect(&rt, "memory"),
-            iri(alloc, three).expect(&rt, "memory"),
-            iri(alloc, four).expect(&rt, "memory"),
-            blank(alloc, "x").expect(&rt, "memory"),
-            iri(alloc, G).expect(&rt, "memory"),
-        ];
-        assert!(rt; has(&dict, &terms), "terms from {one}");
-        assert!(rt; quads.as_slice() == want.as_slice(), "quads from {one}");
-    }
+    let in_order = merged(rt.alloc(), state, &[FIRST, SECOND, THIRD]);
+    assert!(rt; holds(&rt, "in order", MERGED, in_order));
+    let exchanged = merged(rt.alloc(), state, &[SECOND, FIRST, THIRD]);
+    assert!(rt; holds(&rt, "exchanged", EXCHANGED, exchanged));
 }
 
-/// A piece by itself: a repeated statement stands twice, with the same numbers.
+/// Prints the numbered piece of a text.
+fn piece(alloc: Global, state: RandomState, text: &str) -> Result<String, AllocError> {
+    let Some(piece) = numbered(alloc, state, text) else {
+        return Err(AllocError);
+    };
+    printed(alloc, piece.dict(), piece.quads())
+}
+
+/// The text of a repeated statement.
+const REPEATS: &str =
+    "<http://e/a> <http://e/p> _:x .\n# nothing\n<http://e/a> <http://e/p> _:x .\n";
+
+/// Its piece.
+const REPEATED: &str = "Some(0) Iri(http://e/a); Some(1) Iri(http://e/p); Some(2) Blank(x); \
+                        Some(0) Some(1) Some(2) None Some(0) Some(1) Some(2) None ";
+
+/// A repeated statement is in the piece twice, with the same numbers.
 #[test]
 fn a_piece_keeps_its_repeats(rt: HostRuntime) {
-    let alloc = rt.alloc();
     let state = RandomState::new(&rt).expect(&rt, "a hash state");
-    let text = "<http://e/a> <http://e/p> _:x .\n# nothing\n<http://e/a> <http://e/p> _:x .\n";
-    let piece = numbered(alloc, state, text).expect(&rt, "a piece");
-    let want = [quad(None, 0, 1, 2), quad(None, 0, 1, 2)];
-    assert!(rt; piece.quads() == want.as_slice());
-    assert_eq!(rt; piece.dict().len(), 3);
+    assert!(rt; holds(&rt, REPEATS, REPEATED, piece(rt.alloc(), state, REPEATS)));
 }
 
-/// Absorbing b, c into a, b answers 1, 2 and leaves a, b, c.
+/// Absorbs b, c, and appends their numbers.
+fn append_absorbed(
+    alloc: Global,
+    state: RandomState,
+    out: &mut String,
+    dict: &mut Dict,
+) -> Result<(), AllocError> {
+    let numbers = dict.absorb(dict_of(alloc, state, &[B, C])?)?;
+    for number in &numbers {
+        append_number(alloc, out, Some(*number))?;
+    }
+    Ok(())
+}
+
+/// Prints the numbers of b, c as a, b absorb them, and the dictionary.
+fn absorbed(alloc: Global, state: RandomState) -> Result<String, AllocError> {
+    let mut dict = dict_of(alloc, state, &[A, B])?;
+    let mut out = String::new(alloc);
+    append_absorbed(alloc, state, &mut out, &mut dict)?;
+    append_terms(alloc, &mut out, &dict)?;
+    Ok(out)
+}
+
+/// The numbers 1, 2 and the dictionary of a, b, c.
+const ABSORBED: &str = "Some(1) Some(2) \
+                        Some(0) Iri(http://e/a); Some(1) Iri(http://e/b); Some(2) Iri(http://e/c); ";
+
+/// Absorbing b, c into a, b returns 1, 2 and leaves a, b, c.
 #[test]
 fn absorbed_terms_go_last(rt: HostRuntime) {
-    let alloc = rt.alloc();
     let state = RandomState::new(&rt).expect(&rt, "a hash state");
-    let mut dict = dict_of(alloc, state, &[A, B]).expect(&rt, "memory");
-    let other = dict_of(alloc, state, &[B, C]).expect(&rt, "memory");
-    let numbers = dict.absorb(other).expect(&rt, "memory");
-    assert!(rt; numbers.as_slice() == [1, 2].as_slice());
-    let terms = [
-        iri(alloc, A).expect(&rt, "memory"),
-        iri(alloc, B).expect(&rt, "memory"),
-        iri(alloc, C).expect(&rt, "memory"),
-    ];
-    assert!(rt; has(&dict, &terms));
+    assert!(rt; holds(&rt, "a b, b c", ABSORBED, absorbed(rt.alloc(), state)));
 }
 
-/// Two pieces are looked up in the dictionary of the first, and then taken in, in order: the outcome
-/// is that of `merge`.
+/// Returns the dictionary and the quads of the first piece.
+pub(crate) fn first_round(alloc: Global, state: RandomState) -> Option<(Dict, Vec<NumQuad>)> {
+    merge(alloc, state, pieces(alloc, state, &[FIRST])?).ok()
+}
+
+/// Looks the piece of a text up in the dictionary.
+pub(crate) fn looked_up(
+    alloc: Global,
+    state: RandomState,
+    dict: &Dict,
+    text: &str,
+) -> Option<SeenPiece> {
+    look_up(alloc, dict, numbered(alloc, state, text)?).ok()
+}
+
+/// Prints the numbers that the look-ups of a piece return, and `None` for new terms.
+fn seen_of(alloc: Global, piece: &SeenPiece) -> Result<String, AllocError> {
+    let mut out = String::new(alloc);
+    for seen in &piece.seen {
+        let number = match seen {
+            Seen::Known(number) => Some(*number),
+            Seen::New(_) => None,
+        };
+        append_number(alloc, &mut out, number)?;
+    }
+    Ok(out)
+}
+
+/// Prints what the look-ups of a text return in the dictionary of the first piece.
+fn seen_after_first(alloc: Global, state: RandomState, text: &str) -> Result<String, AllocError> {
+    let Some((dict, _quads)) = first_round(alloc, state) else {
+        return Err(AllocError);
+    };
+    let Some(piece) = looked_up(alloc, state, &dict, text) else {
+        return Err(AllocError);
+    };
+    seen_of(alloc, &piece)
+}
+
+/// Looks two pieces up in the dictionary, and then adds them in order.
+fn add_two(
+    alloc: Global,
+    state: RandomState,
+    dict: &mut Dict,
+    quads: &mut Vec<NumQuad>,
+) -> Result<(), AllocError> {
+    let (Some(second), Some(third)) = (
+        looked_up(alloc, state, dict, SECOND),
+        looked_up(alloc, state, dict, THIRD),
+    ) else {
+        return Err(AllocError);
+    };
+    take_in(alloc, dict, quads, second)?;
+    take_in(alloc, dict, quads, third)
+}
+
+/// Prints the dictionary and the quads of three pieces, of which two are looked up and then added.
+fn rounds(alloc: Global, state: RandomState) -> Result<String, AllocError> {
+    let Some((mut dict, mut quads)) = first_round(alloc, state) else {
+        return Err(AllocError);
+    };
+    add_two(alloc, state, &mut dict, &mut quads)?;
+    printed(alloc, &dict, quads.as_slice())
+}
+
+/// Two pieces are looked up in the dictionary of the first, and then added in order: the result is that of `merge`.
 #[test]
 fn rounds_come_to_the_same(rt: HostRuntime) {
     let alloc = rt.alloc();
     let state = RandomState::new(&rt).expect(&rt, "a hash state");
-    let first = numbered(alloc, state, FIRST).expect(&rt, "a piece");
-    let mut pieces = Vec::new(alloc);
-    pieces.push(first).expect(&rt, "memory");
-    let (mut dict, mut quads) = merge(alloc, state, pieces).expect(&rt, "memory");
-    let second = numbered(alloc, state, SECOND).expect(&rt, "a piece");
-    let third = numbered(alloc, state, THIRD).expect(&rt, "a piece");
-    let second = look_up(alloc, &dict, second).expect(&rt, "memory");
-    let third = look_up(alloc, &dict, third).expect(&rt, "memory");
+    let second = "Some(2) Some(1) Some(0) ";
     assert!(rt;
-        matches!(
-            second.seen.as_slice(),
-            [Seen::Known(2), Seen::Known(1), Seen::Known(0)]
+        holds(
+            &rt,
+            "second",
+            second,
+            seen_after_first(alloc, state, SECOND)
         )
     );
-    assert!(rt;
-        matches!(
-            third.seen.as_slice(),
-            [Seen::Known(0), Seen::New(_), Seen::New(_), Seen::New(_)]
-        )
-    );
-    take_in(alloc, &mut dict, &mut quads, second).expect(&rt, "memory");
-    take_in(alloc, &mut dict, &mut quads, third).expect(&rt, "memory");
-    let want = [
-        quad(None, 0, 1, 2),
-        quad(None, 2, 1, 0),
-        quad(Some(5), 0, 3, 4),
-    ];
-    assert!(rt; quads.as_slice() == want.as_slice());
-    assert_eq!(rt; dict.len(), 6);
+    let third = "Some(0) None None None ";
+    assert!(rt; holds(&rt, "third", third, seen_after_first(alloc, state, THIRD)));
+    assert!(rt; holds(&rt, "all three", MERGED, rounds(alloc, state)));
     absorbing_keeps_the_numbering();
     earlier_places_serve();
 }

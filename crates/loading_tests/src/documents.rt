@@ -1,11 +1,12 @@
-//! Worked examples: what is loaded of a document, whatever the cut and the workers.
+//! Documents by example: what is loaded of each, however it is cut and with any number of workers.
 ghost use Rattle.std.specs.Prelude.{◌≤◌};
 
+use crate::cases::holds;
 use dataset_load::{LoadFault, Store, load, load_blocks, read_blocks};
 use nquads_core::Device;
 use piece_cuts::Cuts;
 use piece_pool::OpenGate;
-use std::alloc::Global;
+use std::alloc::{AllocGlobal, Global};
 use std::random::RandomSource;
 use std::sync::Wait;
 use std::thread::Threads;
@@ -19,22 +20,22 @@ pub(crate) const GRAPHS: &[u8] =
 pub(crate) const BAD: &[u8] =
     b"<http://e/a> <http://e/p> <http://e/b> .\r\n# c\n<http://e/a> <http://e/p> .\nx\n";
 
-/// No blanks, escapes, and a tag in capitals.
+/// No blanks, escapes, and a language tag in capitals.
 pub(crate) const TWO_LINES: &[u8] =
     b"<http://e/a><http://e/p>_:b.\n_:b <http://e/q> \"\\u00e9\\n\"@EN .\n";
 
-/// Three things of one kind, with numbers, of which the last is ill-formed.
+/// Three subjects of one type, with numbers. The last number is ill-typed.
 pub(crate) const TYPED: &[u8] =
     b"<http://e/a> <http://e/t> <http://e/k> .\n<http://e/b> <http://e/t> <http://e/k> .\n<http://e/c> <http://e/t> <http://e/k> .\n<http://e/a> <http://e/n> \"2\"^^<http://www.w3.org/2001/XMLSchema#integer> .\n<http://e/b> <http://e/n> \"5\"^^<http://www.w3.org/2001/XMLSchema#integer> .\n<http://e/c> <http://e/n> \"abc\"^^<http://www.w3.org/2001/XMLSchema#integer> .\n";
 
-/// Two things of one kind, one with a number, and two numbers of something else.
+/// Two subjects of one type, one with a number, and another subject with two numbers.
 pub(crate) const NUMBERED: &[u8] =
     b"<http://e/a> <http://e/t> <http://e/k> .\n<http://e/b> <http://e/t> <http://e/k> .\n<http://e/a> <http://e/n> \"1\" .\n<http://e/z> <http://e/m> \"1\" .\n<http://e/z> <http://e/m> \"2\" .\n";
 
-/// A literal with a tag.
+/// A literal with a language tag.
 pub(crate) const TAGGED: &[u8] = b"<http://e/a> <http://e/p> \"x\"@en .\n";
 
-/// The document, cut into pieces of at least so many bytes.
+/// Loads the document, cut into pieces of at least `size` bytes.
 fn loaded<R: Threads + Wait + RandomSource>(
     rt: &R,
     alloc: Global,
@@ -49,7 +50,7 @@ fn loaded<R: Threads + Wait + RandomSource>(
     load(rt, alloc, doc, &cuts, workers, &OpenGate)
 }
 
-/// The same of blocks of at least so many bytes.
+/// Loads the document in blocks of at least `size` bytes, with two workers.
 fn loaded_blocks<R: Threads + Wait + RandomSource>(
     rt: &R,
     alloc: Global,
@@ -66,13 +67,28 @@ fn loaded_blocks<R: Threads + Wait + RandomSource>(
 }
 
 /// The counts of quads, terms and graph names.
-pub(crate) fn counts(loaded: Result<Store, LoadFault>) -> Result<(u64, u64, u64), LoadFault> {
+pub(crate) fn counts(loaded: Result<Store, LoadFault>) -> Counts {
     let store = loaded?;
     Ok((store.quads(), store.terms(), store.graphs()))
 }
 
-/// Whether each example is loaded as it should be.
-fn are_right<R: Threads + Wait + RandomSource>(
+/// The counts of quads, terms and graph names, or the fault.
+pub(crate) type Counts = Result<(u64, u64, u64), LoadFault>;
+
+/// Documents, and what is loaded of each.
+const DOCUMENTS: &[(&str, &[u8], &str)] = &[
+    ("a repeated statement", REPEATED, "Ok((2, 4, 0))"),
+    ("two graphs", GRAPHS, "Ok((3, 7, 2))"),
+    ("escapes", TWO_LINES, "Ok((2, 5, 0))"),
+    ("typed literals", TYPED, "Ok((6, 9, 0))"),
+    ("plain literals", NUMBERED, "Ok((5, 9, 0))"),
+    ("a language tag", TAGGED, "Ok((1, 3, 0))"),
+    ("a malformed line", BAD, "Err(BadLine(3))"),
+    ("the empty document", b"", "Ok((0, 0, 0))"),
+];
+
+/// Whether each document is loaded as it should be.
+fn are_right<R: Threads + Wait + RandomSource + Print>(
     rt: &R,
     alloc: Global,
     size: usize,
@@ -81,49 +97,58 @@ fn are_right<R: Threads + Wait + RandomSource>(
     requires size { 1 ≤ size }
     requires workers { (1 ≤ workers) × (workers ≤ 64) }
 {
-    counts(loaded(rt, alloc, REPEATED, size, workers)) == Ok((2, 4, 0))
-        && counts(loaded(rt, alloc, GRAPHS, size, workers)) == Ok((3, 7, 2))
-        && counts(loaded(rt, alloc, TWO_LINES, size, workers)) == Ok((2, 5, 0))
-        && counts(loaded(rt, alloc, TYPED, size, workers)) == Ok((6, 9, 0))
-        && counts(loaded(rt, alloc, NUMBERED, size, workers)) == Ok((5, 9, 0))
-        && counts(loaded(rt, alloc, TAGGED, size, workers)) == Ok((1, 3, 0))
-        && counts(loaded(rt, alloc, BAD, size, workers)) == Err(LoadFault::BadLine(3))
-        && counts(loaded(rt, alloc, b"", size, workers)) == Ok((0, 0, 0))
+    for (name, doc, expected) in DOCUMENTS {
+        let found = counts(loaded(rt, alloc, *doc, size, workers));
+        if !holds(rt, *name, *expected, format!(in alloc; "{found:?}")) {
+            return false;
+        }
+    }
+    true
 }
 
 #[test]
 fn every_cut_loads_the_same(rt: HostRuntime) {
-    assert!(rt;
-        are_right(&rt, rt.alloc(), 1, 1),
-        "line by line, by one worker"
-    );
-    assert!(rt; are_right(&rt, rt.alloc(), 1, 2), "by two");
-    assert!(rt; are_right(&rt, rt.alloc(), 1, 8), "by eight");
-    assert!(rt; are_right(&rt, rt.alloc(), 65536, 4), "in one piece");
+    for (size, workers) in [(1, 1), (1, 2), (1, 8), (65536, 4)] {
+        assert!(rt;
+            are_right(&rt, rt.alloc(), size, workers),
+            "pieces of {size} bytes, {workers} workers"
+        );
+    }
 }
+
+/// Documents, the smallest size of their blocks in bytes, and what is loaded of each.
+const BLOCKS: &[(&str, &[u8], usize, &str)] = &[
+    ("a repeated statement", REPEATED, 1, "Ok((2, 4, 0))"),
+    ("two graphs", GRAPHS, 60, "Ok((3, 7, 2))"),
+    ("a malformed line", BAD, 1, "Err(BadLine(3))"),
+    ("the empty document", b"", 1, "Ok((0, 0, 0))"),
+];
 
 #[test]
 fn blocks_load_as_the_document(rt: HostRuntime) {
-    let repeated = counts(loaded_blocks(&rt, rt.alloc(), REPEATED, 1));
-    assert!(rt;
-        repeated == Ok((2, 4, 0)),
-        "a repeated statement counts once"
-    );
-    let graphs = counts(loaded_blocks(&rt, rt.alloc(), GRAPHS, 60));
-    assert!(rt; graphs == Ok((3, 7, 2)), "two graphs have a name");
-    let bad = counts(loaded_blocks(&rt, rt.alloc(), BAD, 1));
-    assert!(rt; bad == Err(LoadFault::BadLine(3)), "the first bad line");
-    let empty = counts(loaded_blocks(&rt, rt.alloc(), b"", 1));
-    assert!(rt; empty == Ok((0, 0, 0)), "the empty document");
+    let alloc = rt.alloc();
+    for (name, doc, size, expected) in BLOCKS {
+        let found = counts(loaded_blocks(&rt, alloc, *doc, *size));
+        assert!(rt;
+            holds(&rt, *name, *expected, format!(in alloc; "{found:?}")),
+            "{name}"
+        );
+    }
+}
+
+/// Whether the store of the two graphs has its terms, quads and graphs, also in its parts.
+fn has_parts(store: Store) -> bool {
+    if store.dict().len() != 7 || store.index().quads() != 3 {
+        return false;
+    }
+    let (dict, index) = store.into_parts();
+    dict.len() == 7 && index.graphs().len() == 2
 }
 
 #[test]
-fn a_store_lends_its_parts(rt: HostRuntime) -> Result<(), LoadFault> {
-    let store = loaded(&rt, rt.alloc(), GRAPHS, 1, 2)?;
-    assert!(rt; store.dict().len() == 7, "its terms");
-    assert!(rt; store.index().quads() == 3, "its quads");
-    let (dict, index) = store.into_parts();
-    assert!(rt; dict.len() == 7, "the same terms");
-    assert!(rt; index.graphs().len() == 2, "the same graphs");
-    Ok(())
+fn a_store_lends_its_parts(rt: HostRuntime) {
+    let Ok(store) = loaded(&rt, rt.alloc(), GRAPHS, 1, 2) else {
+        panic!(rt; "not loaded");
+    };
+    assert!(rt; has_parts(store));
 }

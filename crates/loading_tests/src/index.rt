@@ -1,17 +1,17 @@
-//! Worked examples by direct calls.
+//! Indexes by example.
 
 use dict_core::NumQuad;
 use quad_index::{
     Index, SortOrder, index_counts_the_quads, index_names_the_graphs, index_reads_the_quads,
     sorted_list,
 };
-use std::alloc::{AllocError, Global};
+use std::alloc::{AllocError, AllocGlobal, Global};
 
 pub(crate) fn quad(g: Option<u64>, s: u64, p: u64, o: u64) -> NumQuad {
     NumQuad { g, s, p, o }
 }
 
-/// Four quads, of which one stands twice.
+/// Four quads, of which two are equal.
 pub(crate) const QUADS: [NumQuad; 4] = [
     NumQuad {
         g: None,
@@ -39,7 +39,7 @@ pub(crate) const QUADS: [NumQuad; 4] = [
     },
 ];
 
-/// The same index, its lists sorted one by one, as three jobs may do side by side.
+/// The same index, its lists sorted one by one, as three jobs may do in parallel.
 pub(crate) fn side_by_side(alloc: Global, quads: &[NumQuad]) -> Result<Index, AllocError> {
     let gspo = sorted_list(alloc, quads, SortOrder::Gspo)?;
     let gpos = sorted_list(alloc, quads, SortOrder::Gpos)?;
@@ -47,48 +47,58 @@ pub(crate) fn side_by_side(alloc: Global, quads: &[NumQuad]) -> Result<Index, Al
     Index::of_lists(alloc, gspo, gpos, gosp)
 }
 
-/// A repeated statement counts once, and a graph has a name where a quad names it.
+/// Returns the index of the four quads.
+fn built(alloc: Global) -> Result<Index, AllocError> {
+    Index::build(alloc, Vec::from_slice(alloc, &QUADS)?)
+}
+
+/// Whether the index has three quads, one graph name, and one quad with predicate 1 and object 3.
+fn counts_once(index: &Index) -> bool {
+    index.quads() == 3
+        && index.graphs() == [5].as_slice()
+        && index.scan(None, None, Some(1), Some(3)).len() == 1
+}
+
+/// A repeated statement counts once, and a graph has a name if a quad names it.
 #[test]
 fn an_index_counts_each_quad_once(rt: HostRuntime) {
-    let alloc = rt.alloc();
-    let quads = Vec::from_slice(alloc, &QUADS).expect(&rt, "memory");
-    let built = Index::build(alloc, quads).expect(&rt, "memory");
-    let sorted = side_by_side(alloc, &QUADS).expect(&rt, "memory");
-    for index in [&built, &sorted] {
-        assert_eq!(rt; index.quads(), 3);
-        assert!(rt; index.graphs() == [5].as_slice());
-        assert_eq!(rt; index.scan(None, None, Some(1), Some(3)).len(), 1);
-    }
+    let index = built(rt.alloc()).expect(&rt, "memory");
+    assert!(rt; counts_once(&index), "built");
+    let index = side_by_side(rt.alloc(), &QUADS).expect(&rt, "memory");
+    assert!(rt; counts_once(&index), "sorted");
     index_reads_the_quads();
     index_counts_the_quads();
     index_names_the_graphs();
 }
 
-/// All eight combinations of given places, in the default graph, in a named one and in one that
-/// nothing names.
+/// A name, what is given of graph, subject, predicate and object, and the number of quads.
+type Scan = (&'static str, [Option<u64>; 4], usize);
+
+/// All eight combinations of given places, in the default graph, in a named graph and in a graph that no quad names.
+const SCANS: &[Scan] = &[
+    ("s p", [None, Some(0), Some(1), None], 2),
+    ("o", [None, None, None, Some(2)], 1),
+    ("graph 5", [Some(5), None, None, None], 1),
+    ("graph 9", [Some(9), None, None, None], 0),
+    ("none given", [None, None, None, None], 2),
+    ("s", [None, Some(0), None, None], 2),
+    ("s of no quad", [None, Some(1), None, None], 0),
+    ("p", [None, None, Some(1), None], 2),
+    ("p of no quad", [None, None, Some(2), None], 0),
+    ("s o", [None, Some(0), None, Some(3)], 1),
+    ("p o", [None, None, Some(1), Some(3)], 1),
+    ("p o of no quad", [None, None, Some(1), Some(4)], 0),
+    ("s p o", [None, Some(0), Some(1), Some(2)], 1),
+    ("s p o of graph 5", [Some(5), Some(0), Some(1), Some(2)], 1),
+    ("s p o of no quad", [Some(5), Some(0), Some(1), Some(3)], 0),
+];
+
 #[test]
 fn scans_give_what_agrees(rt: HostRuntime) {
-    let alloc = rt.alloc();
-    let quads = Vec::from_slice(alloc, &QUADS).expect(&rt, "memory");
-    let index = Index::build(alloc, quads).expect(&rt, "memory");
-    for (name, g, s, p, o, want) in [
-        ("s p", None, Some(0), Some(1), None, 2),
-        ("o", None, None, None, Some(2), 1),
-        ("graph 5", Some(5), None, None, None, 1),
-        ("graph 9", Some(9), None, None, None, 0),
-        ("none given", None, None, None, None, 2),
-        ("s", None, Some(0), None, None, 2),
-        ("s of no quad", None, Some(1), None, None, 0),
-        ("p", None, None, Some(1), None, 2),
-        ("p of no quad", None, None, Some(2), None, 0),
-        ("s o", None, Some(0), None, Some(3), 1),
-        ("p o", None, None, Some(1), Some(3), 1),
-        ("p o of no quad", None, None, Some(1), Some(4), 0),
-        ("s p o", None, Some(0), Some(1), Some(2), 1),
-        ("s p o of graph 5", Some(5), Some(0), Some(1), Some(2), 1),
-        ("s p o of no quad", Some(5), Some(0), Some(1), Some(3), 0),
-    ] {
-        assert_eq!(rt; index.scan(g, s, p, o).len(), want, "at {name}");
+    let index = built(rt.alloc()).expect(&rt, "memory");
+    for (name, given, count) in SCANS {
+        let [g, s, p, o] = *given;
+        assert_eq!(rt; index.scan(g, s, p, o).len(), *count, "{name}");
     }
     assert!(rt; index.scan(None, None, None, Some(3)) == [quad(None, 0, 1, 3)].as_slice());
     assert!(rt; index.scan(Some(5), Some(0), None, None) == [quad(Some(5), 0, 1, 2)].as_slice());

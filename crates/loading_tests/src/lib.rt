@@ -1,9 +1,12 @@
-//! Tests of what a document becomes: `dictionary` of dict_core, `index` of quad_index, `documents` of
-//! dataset_load, and `refusals` (what a refused growth or start leaves of each).
+//! Tests of loading: `dictionary` of dict_core, `index` of quad_index, `documents` of dataset_load, and `refusals`
+//! (what a failed allocation, or a worker thread that could not be started, leaves of each).
 //!
-//! They stand in a crate of their own, so that a check of the tests proves nothing a second time.
+//! The tests are in a crate of their own, so that a check of the tests proves no library a second time. A test calls
+//! small functions that print what they find: a function that holds many owned values is slow to prove.
 #![tactic(auto)]
 
+#[cfg(test)]
+mod cases;
 #[cfg(test)]
 mod dictionary;
 #[cfg(test)]

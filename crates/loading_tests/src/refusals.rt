@@ -1,4 +1,4 @@
-//! What a refused growth or a refused start of a worker leaves, whichever it is.
+//! What a failed allocation leaves, or a worker thread that could not be started.
 mod dictionary;
 mod documents;
 mod index;

@@ -1,132 +1,124 @@
 //! Words of command lines, and the commands that they are.
 
+use crate::tests::words::words_of;
 use spq_command::{Command, CommandFault, read_command};
+use std::alloc::{AllocError, Global};
 
-/// The command that the words are.
-fn command(rt: &HostRuntime, words: &[&str]) -> Result<Command, CommandFault> {
-    let alloc = rt.alloc();
-    let mut line = Vec::new(alloc);
-    for word in words {
-        let Ok(()) = line.push(String::from_str(alloc, word)?) else {
-            return Err(CommandFault::Memory);
-        };
-    }
-    read_command(alloc, &line)
-}
-
-/// Whether the words are a select of this query, with these numbers.
-fn is_select(
-    rt: &HostRuntime,
-    words: &[&str],
-    query: &str,
-    numbers: (usize, usize, usize),
-) -> bool {
-    match command(rt, words) {
-        Ok(
-            Command::Select {
-                query: read,
-                reading,
-                rows,
-            },
-        ) => read.as_str() == query && (reading.workers, reading.piece, rows) == numbers,
-        _ => false,
+/// The command as text: its name, the workers and the bytes of a block, and of a select the rows of a piece and the
+/// query. Words that are no command are `none`.
+fn told(alloc: Global, line: &[&str]) -> Result<String, AllocError> {
+    let words = words_of(alloc, line)?;
+    match read_command(alloc, &words) {
+        Ok(command) => command_text(alloc, &command),
+        Err(CommandFault::Line) => String::from_str(alloc, "none"),
+        Err(CommandFault::Memory) => Err(AllocError),
     }
 }
 
-/// Whether the words are a check, with these numbers.
-fn is_check(rt: &HostRuntime, words: &[&str], numbers: (usize, usize)) -> bool {
-    match command(rt, words) {
-        Ok(Command::Check { reading }) => (reading.workers, reading.piece) == numbers,
-        _ => false,
+fn command_text(alloc: Global, command: &Command) -> Result<String, AllocError> {
+    match command {
+        Command::Select {
+            query,
+            reading,
+            rows,
+        } => format!(in alloc;
+            "select {} {} {rows} {query}",
+            reading.workers, reading.piece
+        ),
+        Command::Check { reading } => {
+            format!(in alloc; "check {} {}", reading.workers, reading.piece)
+        }
+        Command::Terms { reading } => {
+            format!(in alloc; "terms {} {}", reading.workers, reading.piece)
+        }
     }
 }
 
-/// Whether the words ask for the terms, with these numbers.
-fn is_terms(rt: &HostRuntime, words: &[&str], numbers: (usize, usize)) -> bool {
-    match command(rt, words) {
-        Ok(Command::Terms { reading }) => (reading.workers, reading.piece) == numbers,
-        _ => false,
-    }
-}
+/// Words and the command that they are.
+const COMMANDS: [(&[&str], &str); 9] = [
+    // A query, and the defaults.
+    (
+        &["spq", "select", "--query", "SELECT"],
+        "select 4 65536 1024 SELECT",
+    ),
+    // An equals sign, and numbers.
+    (
+        &[
+            "spq",
+            "select",
+            "--query=S",
+            "--rows",
+            "7",
+            "--piece=1",
+            "--workers",
+            "64",
+        ],
+        "select 64 1 7 S",
+    ),
+    // The largest piece.
+    (
+        &["spq", "check", "--workers", "8", "--piece", "1073741824"],
+        "check 8 1073741824",
+    ),
+    // The defaults.
+    (&["spq", "terms"], "terms 4 65536"),
+    // A plus, a leading zero, and two hyphens at the end.
+    (
+        &["spq", "check", "--workers=+4", "--piece", "07", "--"],
+        "check 4 7",
+    ),
+    (&["spq", "select", "--query="], "select 4 65536 1024 "),
+    (&["spq", "select", "--query=-x"], "select 4 65536 1024 -x"),
+    (&["spq", "select", "--query=a=b"], "select 4 65536 1024 a=b"),
+    // A hyphen alone is a value.
+    (&["", "select", "--query", "-"], "select 4 65536 1024 -"),
+];
 
-/// Whether the words are none of the program's.
-fn is_refused(rt: &HostRuntime, words: &[&str]) -> bool {
-    match command(rt, words) {
-        Err(fault) => fault == CommandFault::Line,
-        Ok(_) => false,
+/// Words that are no command.
+const NO_COMMANDS: [&[&str]; 20] = [
+    &[],
+    &["spq", "help"],
+    &["spq", "--", "check"],
+    &["spq", "select", "--query", "-x"],
+    &["spq", "select", "--query", "--rows", "7"],
+    &["spq", "check", "--workers", "1", "--workers", "1"],
+    &["spq", "check", "--worker", "1"],
+    &["spq"],
+    &["spq", "select"],
+    &["spq", "select", "--query"],
+    &["spq", "select", "--help"],
+    &["spq", "other"],
+    &["spq", "check", "--workers", "65"],
+    &["spq", "check", "--workers", "0"],
+    &["spq", "check", "--workers", "x"],
+    &["spq", "check", "--piece", "1073741825"],
+    &["spq", "check", "--piece", "0"],
+    &["spq", "check", "--rows", "1"],
+    &["spq", "select", "--query", "S", "--rows", "0"],
+    &["spq", "terms", "more"],
+];
+
+/// Whether the words are this command. It is printed if not.
+fn is_read<R: Print>(
+    rt: &R,
+    alloc: Global,
+    line: &[&str],
+    expected: &str,
+) -> Result<bool, AllocError> {
+    let given = told(alloc, line)?;
+    if given.as_str() != expected {
+        let _ = println!(rt; "{line:?}: expected {expected}, got {given}");
     }
+    Ok(given.as_str() == expected)
 }
 
 #[test]
-fn command_lines_are_read(rt: HostRuntime) {
-    let good = ["spq", "select", "--query", "SELECT"];
-    assert!(rt;
-        is_select(&rt, &good, "SELECT", (4, 65536, 1024)),
-        "a query, and the defaults"
-    );
-    let joined = [
-        "spq",
-        "select",
-        "--query=S",
-        "--rows",
-        "7",
-        "--piece=1",
-        "--workers",
-        "64",
-    ];
-    assert!(rt;
-        is_select(&rt, &joined, "S", (64, 1, 7)),
-        "an equals sign, and numbers"
-    );
-    let check = ["spq", "check", "--workers", "8", "--piece", "1073741824"];
-    assert!(rt; is_check(&rt, &check, (8, 1073741824)), "the largest piece");
-    assert!(rt;
-        is_terms(&rt, &["spq", "terms"], (4, 65536)),
-        "the defaults"
-    );
-    assert!(rt;
-        is_check(
-            &rt,
-            &["spq", "check", "--workers=+4", "--piece", "07", "--"],
-            (4, 7)
-        ),
-        "a plus, a zero in front, and two hyphens at the end"
-    );
-    for (word, query) in [
-        ("--query=", ""),
-        ("--query=-x", "-x"),
-        ("--query=a=b", "a=b"),
-    ] {
-        let words = ["spq", "select", word];
-        assert!(rt; is_select(&rt, &words, query, (4, 65536, 1024)), "{word}");
+fn command_lines_are_read(rt: HostRuntime) -> Result<(), AllocError> {
+    for (line, expected) in COMMANDS {
+        assert!(rt; is_read(&rt, rt.alloc(), line, expected)?);
     }
-    assert!(rt;
-        is_select(&rt, &["", "select", "--query", "-"], "-", (4, 65536, 1024)),
-        "a hyphen alone is a value"
-    );
-    let bad: [&[&str]; 20] = [
-        &[],
-        &["spq", "help"],
-        &["spq", "--", "check"],
-        &["spq", "select", "--query", "-x"],
-        &["spq", "select", "--query", "--rows", "7"],
-        &["spq", "check", "--workers", "1", "--workers", "1"],
-        &["spq", "check", "--worker", "1"],
-        &["spq"],
-        &["spq", "select"],
-        &["spq", "select", "--query"],
-        &["spq", "select", "--help"],
-        &["spq", "other"],
-        &["spq", "check", "--workers", "65"],
-        &["spq", "check", "--workers", "0"],
-        &["spq", "check", "--workers", "x"],
-        &["spq", "check", "--piece", "1073741825"],
-        &["spq", "check", "--piece", "0"],
-        &["spq", "check", "--rows", "1"],
-        &["spq", "select", "--query", "S", "--rows", "0"],
-        &["spq", "terms", "more"],
-    ];
-    for words in bad {
-        assert!(rt; is_refused(&rt, words), "no command");
+    for line in NO_COMMANDS {
+        assert!(rt; is_read(&rt, rt.alloc(), line, "none")?);
     }
+    Ok(())
 }

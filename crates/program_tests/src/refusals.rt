@@ -1,14 +1,13 @@
-//! What a refused growth or a refused start of a worker leaves of an answer, whichever it is.
+//! What is left of an answer if an allocation fails or a worker thread cannot be started, whichever it is.
 //!
-//! With ample memory nothing is refused here. tests/refusals.sh runs each of these tests with its
-//! first growth refused, then with its second, and so on, until a run meets no refusal; and the same
-//! with the starts of workers. A run meets one refusal at most, so that a second try has to succeed.
+//! With ample memory nothing fails here. tests/refusals.sh runs each of these tests with its first allocation
+//! failing, then with its second, and so on, until nothing fails in a run; and the same with the starts of
+//! workers. At most one call fails in a run, so a second try has to succeed.
 ghost use Rattle.std.specs.Prelude.{◌≤◌};
 
 use crate::tests::asking::json;
 use crate::tests::samples::{NUMBERED, TAGGED, TWO_LINES, TYPED};
 use piece_cuts::Cuts;
-use piece_pool::Gate;
 use rdf_core::{Term, Text, write_term};
 use row_pieces::How;
 use sparql_read::QueryFault;
@@ -16,40 +15,17 @@ use spq_core::{Fault, answer};
 use std::alloc::{AllocError, Global};
 use std::random::RandomSource;
 use std::sync::Wait;
-use std::sync::atomic::{AtomicU64, Ordering};
 use std::thread::Threads;
+use test_fixtures::Counter;
 
-/// Counts the pieces that entered and those that left.
-#[derive(Drop)]
-struct Passages {
-    entered: AtomicU64,
-    left: AtomicU64,
-}
-
-impl Gate for Passages {
-    fn enter(&self, _i: u64) {
-        self.entered.fetch_add(1, Ordering::SeqCst);
-    }
-
-    fn leave(&self, _i: u64) {
-        self.left.fetch_add(1, Ordering::SeqCst);
-    }
-}
-
-impl Passages {
-    fn is_balanced(&self) -> bool {
-        self.entered.load(Ordering::SeqCst) == self.left.load(Ordering::SeqCst)
-    }
-}
-
-/// The answer over a document that is cut line by line, by pieces of one row.
+/// The answer over a document that is cut line by line, with pieces of one row.
 fn by_lines<R: Threads + Wait + RandomSource>(
     rt: &R,
     alloc: Global,
     doc: &[u8],
     query: &str,
     workers: usize,
-    gate: &Passages,
+    gate: &Counter,
 ) -> Result<Vec<u8>, Fault>
     requires workers { (1 ≤ workers) × (workers ≤ 64) }
 {
@@ -58,28 +34,64 @@ fn by_lines<R: Threads + Wait + RandomSource>(
     answer(rt, alloc, doc, query, &cuts, &how, gate)
 }
 
-/// Whether memory or a worker was refused, which is printed, for the script to see.
-fn is_refused<R: Print>(rt: &R, given: &Result<Vec<u8>, Fault>) -> bool {
-    let what = match given {
-        Err(Fault::Memory) => "memory",
-        Err(Fault::WorkerRefused) => "a worker",
+/// Whether memory or a worker is missing, which is printed, for the script to see.
+fn is_refused<R: Print>(rt: &R, fault: Fault) -> bool {
+    let what = match fault {
+        Fault::Memory => "memory",
+        Fault::WorkerRefused => "a worker",
         _ => return false,
     };
     let _ = println!(rt; "{what} was refused");
     true
 }
 
-/// Whether this is the outcome that is wanted.
-fn is_outcome(given: &Result<Vec<u8>, Fault>, wanted: Result<&[u8], Fault>) -> bool {
-    match (given, wanted) {
-        (Ok(bytes), Ok(wanted)) => bytes.as_slice() == wanted,
-        (Err(fault), Err(wanted)) => *fault == wanted,
-        _ => false,
+/// The answer, or that of a second try if memory or a worker is missing at the first one. None if a piece that entered
+/// the gate has not left it.
+fn answered<R: Threads + Wait + RandomSource + Print>(
+    rt: &R,
+    alloc: Global,
+    doc: &[u8],
+    query: &str,
+    workers: usize,
+    gate: &Counter,
+) -> Option<Result<Vec<u8>, Fault>>
+    requires workers { (1 ≤ workers) × (workers ≤ 64) }
+{
+    let given = by_lines(rt, alloc, doc, query, workers, gate);
+    let Err(fault) = given else {
+        return Some(given)
+    };
+    if !is_refused(rt, fault) {
+        return Some(Err(fault));
     }
+    if !gate.is_balanced() {
+        return None;
+    }
+    Some(by_lines(rt, alloc, doc, query, workers, gate))
 }
 
-/// Whether a query has this outcome, or is refused and has it at a second try, by one worker and by
-/// two; and after each of these tries, each piece that entered the gate has left it.
+/// Whether a query has this outcome, at once or at a second try, and then each piece that entered the gate has left
+/// it.
+fn comes_to<R: Threads + Wait + RandomSource + Print>(
+    rt: &R,
+    alloc: Global,
+    doc: &[u8],
+    query: &str,
+    workers: usize,
+    wanted: Result<&[u8], Fault>,
+) -> bool
+    requires workers { (1 ≤ workers) × (workers ≤ 64) }
+{
+    let gate = Counter::new();
+    let is_wanted = match (answered(rt, alloc, doc, query, workers, &gate), wanted) {
+        (Some(Ok(bytes)), Ok(wanted)) => bytes.as_slice() == wanted,
+        (Some(Err(fault)), Err(wanted)) => fault == wanted,
+        _ => false,
+    };
+    is_wanted && gate.is_balanced()
+}
+
+/// Whether a query has this outcome with one worker and with two.
 fn has_outcome<R: Threads + Wait + RandomSource + Print>(
     rt: &R,
     alloc: Global,
@@ -87,77 +99,64 @@ fn has_outcome<R: Threads + Wait + RandomSource + Print>(
     query: &str,
     wanted: Result<&[u8], Fault>,
 ) -> bool {
-    for workers in [1, 2] {
-        let gate = Passages {
-            entered: AtomicU64::new(0),
-            left: AtomicU64::new(0),
-        };
-        let mut given = by_lines(rt, alloc, doc.as_bytes(), query, workers, &gate);
-        if is_refused(rt, &given) {
-            if !gate.is_balanced() {
-                return false;
-            }
-            given = by_lines(rt, alloc, doc.as_bytes(), query, workers, &gate);
-        }
-        if !is_outcome(&given, wanted) || !gate.is_balanced() {
-            return false;
-        }
+    comes_to(rt, alloc, doc.as_bytes(), query, 1, wanted)
+        && comes_to(rt, alloc, doc.as_bytes(), query, 2, wanted)
+}
+
+/// Whether a query has these variables and bindings, or there is no memory for the expected document.
+fn has_rows<R: Threads + Wait + RandomSource + Print>(
+    rt: &R,
+    alloc: Global,
+    doc: &str,
+    query: &str,
+    rows: (&str, &str),
+) -> bool {
+    match json(alloc, rows.0, rows.1) {
+        Ok(wanted) => has_outcome(rt, alloc, doc, query, Ok(&wanted)),
+        Err(_) => true,
     }
-    true
 }
 
 #[test]
 fn a_pattern_is_answered_or_memory_is_refused(rt: HostRuntime) {
     let query = "SELECT ?x ?v { <http://e/a> <http://e/p> ?x . ?x <http://e/q> ?v }";
-    let Ok(wanted) = json(
-        rt.alloc(),
+    let rows = (
         "'x','v'",
         "{'v':{'type':'literal','value':'é\\n','xml:lang':'en'},'x':{'type':'bnode','value':'b'}}",
-    ) else {
-        return;
-    };
-    assert!(rt; has_outcome(&rt, rt.alloc(), TWO_LINES, query, Ok(&wanted)));
+    );
+    assert!(rt; has_rows(&rt, rt.alloc(), TWO_LINES, query, rows));
 }
 
 #[test]
 fn an_optional_part_is_answered_or_memory_is_refused(rt: HostRuntime) {
     let query =
         "SELECT ?n { ?s <http://e/t> <http://e/k> OPTIONAL { ?s <http://e/n> ?n FILTER(?n < 3) } }";
-    let Ok(wanted) = json(
-        rt.alloc(),
+    let rows = (
         "'n'",
         "{},{},{'n':{'datatype':'http://www.w3.org/2001/XMLSchema#integer','type':'literal','value':'2'}}",
-    ) else {
-        return;
-    };
-    assert!(rt; has_outcome(&rt, rt.alloc(), TYPED, query, Ok(&wanted)));
+    );
+    assert!(rt; has_rows(&rt, rt.alloc(), TYPED, query, rows));
 }
 
 #[test]
 fn a_join_is_answered_or_memory_is_refused(rt: HostRuntime) {
     let query =
         "SELECT ?y { ?s <http://e/t> <http://e/k> OPTIONAL { ?s <http://e/n> ?y } { <http://e/z> <http://e/m> ?y } }";
-    let Ok(wanted) = json(
-        rt.alloc(),
+    let rows = (
         "'y'",
         "{'y':{'type':'literal','value':'1'}},{'y':{'type':'literal','value':'1'}},{'y':{'type':'literal','value':'2'}}",
-    ) else {
-        return;
-    };
-    assert!(rt; has_outcome(&rt, rt.alloc(), NUMBERED, query, Ok(&wanted)));
+    );
+    assert!(rt; has_rows(&rt, rt.alloc(), NUMBERED, query, rows));
 }
 
 #[test]
 fn a_computed_term_is_answered_or_memory_is_refused(rt: HostRuntime) {
     let query = "SELECT ?d { ?s ?p ?o BIND(DATATYPE(?o) AS ?d) }";
-    let Ok(wanted) = json(
-        rt.alloc(),
+    let rows = (
         "'d'",
         "{'d':{'type':'uri','value':'http://www.w3.org/1999/02/22-rdf-syntax-ns#langString'}}",
-    ) else {
-        return;
-    };
-    assert!(rt; has_outcome(&rt, rt.alloc(), TAGGED, query, Ok(&wanted)));
+    );
+    assert!(rt; has_rows(&rt, rt.alloc(), TAGGED, query, rows));
 }
 
 #[test]
@@ -173,7 +172,7 @@ fn a_query_is_refused_by_its_rule_or_memory_is(rt: HostRuntime) {
     assert!(rt; has_outcome(&rt, rt.alloc(), "x\n", "SELECT", wanted));
 }
 
-/// A literal whose spelling is longer than what a buffer has at first.
+/// A literal whose N-Quads form is longer than the first capacity of a buffer.
 fn long_literal(alloc: Global) -> Result<Term, AllocError> {
     let lexical = String::from_str(alloc, "\"a line\"\nand another one, with a \\ in it")?;
     let datatype = String::from_str(alloc, "http://e/a/datatype/with/a/long/name")?;
@@ -184,7 +183,7 @@ fn long_literal(alloc: Global) -> Result<Term, AllocError> {
     })
 }
 
-/// Its spelling, behind two bytes.
+/// Its N-Quads form, after two bytes.
 const SPELLED: &[u8] =
     b"> \"\\\"a line\\\"\\nand another one, with a \\\\ in it\"^^<http://e/a/datatype/with/a/long/name>";
 
@@ -199,7 +198,7 @@ fn a_term_is_spelled_or_nothing_is_written(rt: HostRuntime) {
     }
     if write_term(&term, &mut out).is_err() {
         let _ = println!(rt; "memory was refused");
-        assert!(rt; out.as_slice() == &SPELLED[..2], "what stood before");
+        assert!(rt; out.as_slice() == &SPELLED[..2], "what was there before");
         assert!(rt; write_term(&term, &mut out).is_ok(), "a second try");
     }
     assert!(rt; out.as_slice() == SPELLED, "the spelling");

@@ -1,7 +1,6 @@
 //! The program over devices in memory, by worked examples: each file of this folder has one subject.
 
 pub(crate) mod asking;
-mod devices;
 mod documents;
 mod expressions;
 mod failing;
@@ -13,5 +12,5 @@ mod patterns;
 mod refusals;
 pub(crate) mod samples;
 mod tables;
-mod words;
+pub(crate) mod words;
 mod workers;

@@ -1,32 +1,55 @@
 //! Declarations, and which one holds.
-
+use crate::cases::{Case, Reader, all_hold};
 use rdf_core::Text;
 use sparql_grammar::{Declaration, Declarations};
-use std::alloc::{AllocError, Global};
+use std::alloc::{AllocError, AllocGlobal, Global};
 
-fn text(alloc: Global, written: &str) -> Result<Text, AllocError> {
-    Ok(Text::from_string(String::from_str(alloc, written)?))
+/// Adds the declaration of a prefix.
+pub(crate) fn declare(
+    alloc: Global,
+    names: &mut Declarations,
+    prefix: &str,
+    iri: &str,
+) -> Result<(), AllocError> {
+    let prefix = Text::from_string(String::from_str(alloc, prefix)?);
+    let iri = Text::from_string(String::from_str(alloc, iri)?);
+    names.add(Declaration { prefix, iri })
 }
 
-// Of two declarations of a prefix the one that was added last holds; one without any has none.
+/// Prints the IRI of a prefix, or `none`.
+pub(crate) fn iri_of(
+    alloc: Global,
+    names: &Declarations,
+    prefix: &str,
+) -> Result<String, AllocError> {
+    match names.find(prefix) {
+        Some(declaration) => String::from_str(alloc, declaration.iri.as_str()),
+        None => String::from_str(alloc, "none"),
+    }
+}
+
+/// Prefixes and their IRIs, in the order in which they are added.
+const ADDED: &[(&str, &str)] = &[("a", "x:1"), ("", "x:2"), ("b", "x:3"), ("a", "x:4")];
+
+/// Prints the IRI of a prefix after all declarations of `ADDED`.
+pub(crate) fn added(alloc: Global, prefix: &str) -> Result<String, AllocError> {
+    let mut names = Declarations::new(alloc);
+    for (prefix, iri) in ADDED {
+        declare(alloc, &mut names, *prefix, *iri)?;
+    }
+    iri_of(alloc, &names, prefix)
+}
+
+/// The last declaration of a prefix holds. A prefix without a declaration has no IRI.
+const PREFIXES: &[Case] = &[
+    ("", "x:2"),
+    ("a", "x:4"),
+    ("b", "x:3"),
+    ("A", "none"),
+    ("aa", "none"),
+];
+
 #[test]
-fn the_last_declaration_of_a_prefix_holds(rt: HostRuntime) -> Result<(), AllocError> {
-    let mut names = Declarations::new(rt.alloc());
-    for (prefix, iri) in [("a", "x:1"), ("", "x:2"), ("b", "x:3"), ("a", "x:4")] {
-        names.add(Declaration {
-            prefix: text(rt.alloc(), prefix)?,
-            iri: text(rt.alloc(), iri)?,
-        })?;
-    }
-    for (prefix, expected) in [
-        ("", Some("x:2")),
-        ("a", Some("x:4")),
-        ("b", Some("x:3")),
-        ("A", None),
-        ("aa", None),
-    ] {
-        let found = names.find(prefix).map(|d| d.iri.as_str());
-        assert_eq!(rt; found, expected, "{prefix}");
-    }
-    Ok(())
+fn the_last_declaration_of_a_prefix_holds(rt: HostRuntime) {
+    assert!(rt; all_hold(&rt, rt.alloc(), Reader::Added, PREFIXES));
 }

@@ -1,17 +1,22 @@
-//! What refuses a query, by example.
-use rdf_core::{Term, Text};
+//! The rules that a query must meet, by example.
+use crate::cases::{Case, Reader, Repeated, all_hold, are_repeated_as, holds, numbered};
+use crate::declarations::iri_of;
+use crate::productions::parsed;
+use sparql_expression::ReadFault;
 use sparql_lexer::{characters_of, scan_text};
 use sparql_read::{
     breaks_bind_scope, declarations_of, has_relative_iri, has_undefined_prefix, is_too_deep,
     mentioned, reuses_blank,
 };
-use sparql_tree::{Element, Expression, PatternTerm, Triple};
+use sparql_tree::Element;
 use std::alloc::{AllocError, AllocGlobal, Global};
 
 mod queries;
 
-/// Whether brackets are too deep, a prefix is undefined, and an IRI is relative.
-fn judged(alloc: Global, text: &str) -> Result<(bool, bool, bool), AllocError> {
+pub(crate) use queries::{query, verdict};
+
+/// Returns whether brackets are too deep, a prefix is undefined, and an IRI is relative.
+fn checked(alloc: Global, text: &str) -> Result<(bool, bool, bool), AllocError> {
     let characters = characters_of(alloc, text)?;
     let scan = scan_text(alloc, &characters)?;
     let names = declarations_of(alloc, &scan.tokens)?;
@@ -22,187 +27,283 @@ fn judged(alloc: Global, text: &str) -> Result<(bool, bool, bool), AllocError> {
     ))
 }
 
-// 100 brackets may be open at once, and 101 may not. What closes takes one away where one is open, of
-// either kind, and brackets in strings and IRIs do not count.
-#[test]
-fn depth_is_at_most_100(rt: HostRuntime) -> Result<(), AllocError> {
-    for (opening, count, closing, expected) in [
-        ("{", 100, "}", false),
-        ("{", 101, "}", true),
-        ("(", 101, "", true),
-        ("{}", 200, "", false),
-        ("{)", 200, "", false),
-        ("(}", 200, "", false),
-        ("[]", 200, "", false),
-        ("'('", 200, "", false),
-        ("<a:(> ", 200, "", false),
-        ("{", 101, "\\", true),
-        ("\\{", 101, "", false),
-    ] {
-        let mut text = String::new(rt.alloc());
-        for _ in 0..count {
-            text.push_str(opening)?;
-        }
-        text.push_str(closing)?;
-        let (deep, _, _) = judged(rt.alloc(), text.as_str())?;
-        assert_eq!(rt; deep, expected, "{opening}");
-    }
-    Ok(())
+/// Prints which rules of the terminals the text breaks.
+pub(crate) fn rules(alloc: Global, text: &str) -> Result<String, AllocError> {
+    let (deep, undefined, relative) = checked(alloc, text)?;
+    format!(in alloc; "deep {deep}, undefined {undefined}, relative {relative}")
 }
+
+/// At most 100 brackets may be open at once. A closing bracket of either kind closes one if one is open.
+/// Brackets in strings and IRIs do not count.
+const DEPTHS: &[Repeated] = &[
+    (
+        100,
+        ["", "{", "}", "", ""],
+        "deep false, undefined false, relative false",
+    ),
+    (
+        101,
+        ["", "{", "}", "", ""],
+        "deep true, undefined false, relative false",
+    ),
+    (
+        101,
+        ["", "(", "", "", ""],
+        "deep true, undefined false, relative false",
+    ),
+    (
+        200,
+        ["", "{}", "", "", ""],
+        "deep false, undefined false, relative false",
+    ),
+    (
+        200,
+        ["", "{)", "", "", ""],
+        "deep false, undefined false, relative false",
+    ),
+    (
+        200,
+        ["", "(}", "", "", ""],
+        "deep false, undefined false, relative false",
+    ),
+    (
+        200,
+        ["", "[]", "", "", ""],
+        "deep false, undefined false, relative false",
+    ),
+    (
+        200,
+        ["", "'('", "", "", ""],
+        "deep false, undefined false, relative false",
+    ),
+    (
+        200,
+        ["", "<a:(> ", "", "", ""],
+        "deep false, undefined false, relative false",
+    ),
+    (
+        101,
+        ["", "{", "\\", "", ""],
+        "deep true, undefined false, relative false",
+    ),
+    (
+        101,
+        ["", "\\{", "", "", ""],
+        "deep false, undefined false, relative false",
+    ),
+];
 
 #[test]
-fn names_have_declarations_and_iris_a_scheme(rt: HostRuntime) -> Result<(), AllocError> {
-    for (text, undefined, relative) in [
-        ("SELECT ?x { ?x e:p ?y }", true, false),
-        ("SELECT ?x { ?x <p> ?y }", false, true),
-        ("SELECT ?x { ?x e:p <q> }", true, true),
-        ("PREFIX e: <x> SELECT ?s { ?s e:p ?o }", false, true),
-        (
-            "PREFIX e: <x> PREFIX e: <a:> SELECT ?s { ?s e:p ?o }",
-            false,
-            true,
-        ),
-        ("SELECT * { ?x <p> ?y BIND(?x AS ?y) }", false, true),
-        ("PREFIX e: <a:> SELECT ?s { ?s e: e:p }", false, false),
-        ("PREFIX : <a:> SELECT ?s { ?s :p : }", false, false),
-        ("PREFIX ee: <a:> SELECT ?s { ?s e:p ?o }", true, false),
-        ("PREFIX e: <a:> SELECT ?s { ?s ee:p ?o }", true, false),
-        ("SELECT ?s { ?s ?p '1'^^e:d }", true, false),
-        ("SELECT ?s { ?s ?p '1'^^<d> }", false, true),
-        ("SELECT ?s { ?s ?p <\\u0061:b> }", false, false),
-    ] {
-        let (_, no_declaration, no_scheme) = judged(rt.alloc(), text)?;
-        assert_eq!(rt; no_declaration, undefined, "{text}");
-        assert_eq!(rt; no_scheme, relative, "{text}");
-    }
-    Ok(())
+fn depth_is_at_most_100(rt: HostRuntime) {
+    assert!(rt; are_repeated_as(&rt, rt.alloc(), Reader::Rules, DEPTHS));
 }
 
-// Each of many names finds the declaration of its prefix, and one without is found among them.
+/// Each prefix needs a declaration, and each IRI a scheme.
+const NAMES_AND_IRIS: &[Case] = &[
+    (
+        "SELECT ?x { ?x e:p ?y }",
+        "deep false, undefined true, relative false",
+    ),
+    (
+        "SELECT ?x { ?x <p> ?y }",
+        "deep false, undefined false, relative true",
+    ),
+    (
+        "SELECT ?x { ?x e:p <q> }",
+        "deep false, undefined true, relative true",
+    ),
+    (
+        "PREFIX e: <x> SELECT ?s { ?s e:p ?o }",
+        "deep false, undefined false, relative true",
+    ),
+    (
+        "PREFIX e: <x> PREFIX e: <a:> SELECT ?s { ?s e:p ?o }",
+        "deep false, undefined false, relative true",
+    ),
+    (
+        "SELECT * { ?x <p> ?y BIND(?x AS ?y) }",
+        "deep false, undefined false, relative true",
+    ),
+    (
+        "PREFIX e: <a:> SELECT ?s { ?s e: e:p }",
+        "deep false, undefined false, relative false",
+    ),
+    (
+        "PREFIX : <a:> SELECT ?s { ?s :p : }",
+        "deep false, undefined false, relative false",
+    ),
+    (
+        "PREFIX ee: <a:> SELECT ?s { ?s e:p ?o }",
+        "deep false, undefined true, relative false",
+    ),
+    (
+        "PREFIX e: <a:> SELECT ?s { ?s ee:p ?o }",
+        "deep false, undefined true, relative false",
+    ),
+    (
+        "SELECT ?s { ?s ?p '1'^^e:d }",
+        "deep false, undefined true, relative false",
+    ),
+    (
+        "SELECT ?s { ?s ?p '1'^^<d> }",
+        "deep false, undefined false, relative true",
+    ),
+    (
+        "SELECT ?s { ?s ?p <\\u0061:b> }",
+        "deep false, undefined false, relative false",
+    ),
+];
+
 #[test]
-fn many_names_have_declarations(rt: HostRuntime) -> Result<(), AllocError> {
-    for (last, expected) in [("p2999:a", false), ("p3000:a", true), ("p:a", true)] {
-        let mut declared = String::new(rt.alloc());
-        let mut used = String::new(rt.alloc());
-        for i in 0..3000 {
-            let declaration = format!(in rt.alloc(); "PREFIX p{i}: <a:{i}> ")?;
-            declared.push_str(declaration.as_str())?;
-            let triple = format!(in rt.alloc(); "?s p{i}:a ?o . ")?;
-            used.push_str(triple.as_str())?;
-        }
-        let text = format!(in rt.alloc(); "{declared} SELECT * {{ {used} ?s {last} ?o }}")?;
-        let (_, undefined, _) = judged(rt.alloc(), text.as_str())?;
-        assert_eq!(rt; undefined, expected, "{last}");
-    }
-    Ok(())
+fn names_have_declarations_and_iris_a_scheme(rt: HostRuntime) {
+    assert!(rt; all_hold(&rt, rt.alloc(), Reader::Rules, NAMES_AND_IRIS));
 }
 
-// Of two declarations of a prefix the last one of the text holds.
-#[test]
-fn the_last_declaration_of_a_prefix_holds(rt: HostRuntime) -> Result<(), AllocError> {
-    let characters = characters_of(
-        rt.alloc(),
-        "PREFIX e: <a:> PREFIX f: <b:> PREFIX e: <c:> SELECT",
-    )?;
-    let scan = scan_text(rt.alloc(), &characters)?;
-    let names = declarations_of(rt.alloc(), &scan.tokens)?;
-    for (prefix, expected) in [("e", Some("c:")), ("f", Some("b:")), ("", None)] {
-        let found = names.find(prefix).map(|d| d.iri.as_str());
-        assert_eq!(rt; found, expected, "{prefix}");
-    }
-    Ok(())
+/// Returns a query that declares and uses 3000 prefixes and then uses a last name.
+fn many_names(alloc: Global, last: &str) -> Result<String, AllocError> {
+    let declared = numbered(alloc, 3000, ["PREFIX p", ": <a:", "> "])?;
+    let used = numbered(alloc, 3000, ["?s p", ":a", " ?o . "])?;
+    format!(in alloc; "{declared} SELECT * {{ {used} ?s {last} ?o }}")
 }
 
-// Every place counts, in the order of the text: in FILTER, MINUS and BIND too.
-#[test]
-fn variables_are_mentioned_at_each_place(rt: HostRuntime) -> Result<(), AllocError> {
-    let characters = characters_of(rt.alloc(), "SELECT * { FILTER(?b = $a) ?a <p> ?b }")?;
-    let scan = scan_text(rt.alloc(), &characters)?;
-    let names = mentioned(rt.alloc(), &scan.tokens)?;
-    assert!(rt; names.len() == 4);
-    assert!(rt; names[0].as_str() == "b" && names[1].as_str() == "a");
-    assert!(rt; names[2].as_str() == "a" && names[3].as_str() == "b");
-    Ok(())
-}
-
-fn text(alloc: Global, written: &str) -> Result<Text, AllocError> {
-    Ok(Text::from_string(String::from_str(alloc, written)?))
-}
-
-/// `?subject <a:p> _:label`
-fn run(alloc: Global, subject: &str, label: &str) -> Result<Element, AllocError> {
-    let triple = Triple {
-        subject: PatternTerm::Variable(text(alloc, subject)?),
-        predicate: PatternTerm::Term(Term::Iri(text(alloc, "a:p")?)),
-        object: PatternTerm::Blank(text(alloc, label)?),
+/// Whether the rules hold of many names and a last one as expected.
+fn are_names<R: Print>(rt: &R, alloc: Global, last: &str, expected: &str) -> bool {
+    let Ok(text) = many_names(alloc, last) else {
+        return false;
     };
-    Ok(Element::Triples(vec![in alloc; triple]?))
+    holds(rt, alloc, Reader::Rules, text.as_str(), expected)
 }
 
-/// `BIND(?from AS ?to)`
-fn bind(alloc: Global, from: &str, to: &str) -> Result<Element, AllocError> {
-    Ok(Element::Bind(Expression::Variable(text(alloc, from)?), text(alloc, to)?))
-}
+/// Each of many names finds the declaration of its prefix, and a name without one is found among them.
+const LAST_NAMES: &[Case] = &[
+    ("p2999:a", "deep false, undefined false, relative false"),
+    ("p3000:a", "deep false, undefined true, relative false"),
+    ("p:a", "deep false, undefined true, relative false"),
+];
 
-/// `FILTER(?name)`
-fn filter(alloc: Global, name: &str) -> Result<Element, AllocError> {
-    Ok(Element::Filter(Expression::Variable(text(alloc, name)?)))
-}
-
-// What stands before a BIND in its group counts, at any depth, and not what stands behind it or around
-// its group, nor what stands in FILTER or MINUS alone.
 #[test]
-fn bind_is_to_a_variable_that_is_not_in_scope(rt: HostRuntime) -> Result<(), AllocError> {
-    let alloc = rt.alloc();
-    let before = vec![in alloc; run(alloc, "x", "l")?, bind(alloc, "y", "x")?]?;
-    assert!(rt; breaks_bind_scope(alloc, &before)?);
-    let behind = vec![in alloc; bind(alloc, "y", "x")?, run(alloc, "x", "l")?]?;
-    assert!(rt; !breaks_bind_scope(alloc, &behind)?);
-    let twice = vec![in alloc; bind(alloc, "y", "x")?, bind(alloc, "z", "x")?]?;
-    assert!(rt; breaks_bind_scope(alloc, &twice)?);
-    let inner = Element::Optional(vec![in alloc; bind(alloc, "y", "x")?]?);
-    let around = vec![in alloc; bind(alloc, "y", "x")?, inner]?;
-    assert!(rt; !breaks_bind_scope(alloc, &around)?);
-    let optional = Element::Optional(vec![in alloc; run(alloc, "x", "l")?]?);
-    let in_optional = vec![in alloc; optional, bind(alloc, "y", "x")?]?;
-    assert!(rt; breaks_bind_scope(alloc, &in_optional)?);
-    let minus = Element::Minus(vec![in alloc; run(alloc, "x", "l")?]?);
-    let in_minus = vec![in alloc; minus, filter(alloc, "x")?, bind(alloc, "y", "x")?]?;
-    assert!(rt; !breaks_bind_scope(alloc, &in_minus)?);
-    let broken = Element::Minus(vec![in alloc; run(alloc, "x", "l")?, bind(alloc, "y", "x")?]?);
-    assert!(rt; breaks_bind_scope(alloc, &vec![in alloc; broken]?)?);
-    Ok(())
+fn many_names_have_declarations(rt: HostRuntime) {
+    for (last, expected) in LAST_NAMES {
+        assert!(rt; are_names(&rt, rt.alloc(), *last, *expected), "{last}");
+    }
 }
 
-// A run of triples goes on behind FILTER, and every other element ends it.
+/// Prints the IRI of a prefix after a prologue that declares `e:` twice.
+pub(crate) fn declared(alloc: Global, prefix: &str) -> Result<String, AllocError> {
+    let text = "PREFIX e: <a:> PREFIX f: <b:> PREFIX e: <c:> SELECT";
+    let characters = characters_of(alloc, text)?;
+    let scan = scan_text(alloc, &characters)?;
+    let names = declarations_of(alloc, &scan.tokens)?;
+    iri_of(alloc, &names, prefix)
+}
+
+/// The last declaration of a prefix in the text holds.
+const DECLARED: &[Case] = &[("e", "c:"), ("f", "b:"), ("", "none")];
+
 #[test]
-fn a_label_stands_in_one_pattern(rt: HostRuntime) -> Result<(), AllocError> {
-    let alloc = rt.alloc();
-    let filtered = vec![in alloc;
-        run(alloc, "x", "l")?,
-        filter(alloc, "x")?,
-        run(alloc, "x", "l")?,
-    ]?;
-    assert!(rt; !reuses_blank(alloc, &filtered)?);
-    let bound = vec![in alloc;
-        run(alloc, "x", "l")?,
-        bind(alloc, "x", "y")?,
-        run(alloc, "x", "l")?,
-    ]?;
-    assert!(rt; reuses_blank(alloc, &bound)?);
-    let empty = Element::Group(Vec::new(alloc));
-    let parted = vec![in alloc; run(alloc, "x", "l")?, empty, run(alloc, "x", "l")?]?;
-    assert!(rt; reuses_blank(alloc, &parted)?);
-    let inner = Element::Group(vec![in alloc; run(alloc, "x", "l")?]?);
-    let nested = vec![in alloc; run(alloc, "x", "l")?, inner]?;
-    assert!(rt; reuses_blank(alloc, &nested)?);
-    let left = Element::Group(vec![in alloc; run(alloc, "x", "l")?]?);
-    let sides = Element::Union(
-        Box::new(alloc, left)?,
-        vec![in alloc; run(alloc, "y", "l")?]?,
-    );
-    assert!(rt; reuses_blank(alloc, &vec![in alloc; sides]?)?);
-    let other = Element::Minus(vec![in alloc; run(alloc, "x", "m")?]?);
-    assert!(rt; !reuses_blank(alloc, &vec![in alloc; run(alloc, "x", "l")?, other]?)?);
-    Ok(())
+fn the_last_declaration_in_a_text_holds(rt: HostRuntime) {
+    assert!(rt; all_hold(&rt, rt.alloc(), Reader::Declared, DECLARED));
+}
+
+/// Prints the variables that the text mentions.
+pub(crate) fn variables(alloc: Global, text: &str) -> Result<String, AllocError> {
+    let characters = characters_of(alloc, text)?;
+    let scan = scan_text(alloc, &characters)?;
+    let names = mentioned(alloc, &scan.tokens)?;
+    format!(in alloc; "{names:?}")
+}
+
+/// Each place counts, in the order of the text: in FILTER, MINUS and BIND too.
+const MENTIONED: &[Case] = &[("SELECT * { FILTER(?b = $a) ?a <p> ?b }", "[b, a, a, b]")];
+
+#[test]
+fn variables_are_mentioned_at_each_place(rt: HostRuntime) {
+    assert!(rt; all_hold(&rt, rt.alloc(), Reader::Variables, MENTIONED));
+}
+
+/// Prints which rules of scope the group breaks.
+fn group_scope(alloc: Global, group: &[Element]) -> Result<String, AllocError> {
+    let bind = breaks_bind_scope(alloc, group)?;
+    let blank = reuses_blank(alloc, group)?;
+    format!(in alloc; "bind {bind}, blank {blank}")
+}
+
+/// Prints which rules of scope the query of the text breaks.
+pub(crate) fn scope(alloc: Global, text: &str) -> Result<String, AllocError> {
+    match parsed(alloc, text) {
+        Ok(query) => group_scope(alloc, &query.group),
+        Err(ReadFault::Syntax) => String::from_str(alloc, "Syntax"),
+        Err(ReadFault::Memory) => Err(AllocError),
+    }
+}
+
+/// What precedes a BIND in its group counts, at any depth. What follows it, what is outside its group, and what
+/// is in FILTER or MINUS alone does not.
+const BINDS: &[Case] = &[
+    (
+        "SELECT * { ?x <a:p> _:l BIND(?y AS ?x) }",
+        "bind true, blank false",
+    ),
+    (
+        "SELECT * { BIND(?y AS ?x) ?x <a:p> _:l }",
+        "bind false, blank false",
+    ),
+    (
+        "SELECT * { BIND(?y AS ?x) BIND(?z AS ?x) }",
+        "bind true, blank false",
+    ),
+    (
+        "SELECT * { BIND(?y AS ?x) OPTIONAL { BIND(?y AS ?x) } }",
+        "bind false, blank false",
+    ),
+    (
+        "SELECT * { OPTIONAL { ?x <a:p> _:l } BIND(?y AS ?x) }",
+        "bind true, blank false",
+    ),
+    (
+        "SELECT * { MINUS { ?x <a:p> _:l } FILTER(?x) BIND(?y AS ?x) }",
+        "bind false, blank false",
+    ),
+    (
+        "SELECT * { MINUS { ?x <a:p> _:l BIND(?y AS ?x) } }",
+        "bind true, blank false",
+    ),
+];
+
+#[test]
+fn bind_is_to_a_variable_that_is_not_in_scope(rt: HostRuntime) {
+    assert!(rt; all_hold(&rt, rt.alloc(), Reader::Scope, BINDS));
+}
+
+/// A basic graph pattern goes on after FILTER, and every other element ends it.
+const LABELS: &[Case] = &[
+    (
+        "SELECT * { ?x <a:p> _:l FILTER(?x) ?x <a:p> _:l }",
+        "bind false, blank false",
+    ),
+    (
+        "SELECT * { ?x <a:p> _:l BIND(?x AS ?y) ?x <a:p> _:l }",
+        "bind false, blank true",
+    ),
+    (
+        "SELECT * { ?x <a:p> _:l {} ?x <a:p> _:l }",
+        "bind false, blank true",
+    ),
+    (
+        "SELECT * { ?x <a:p> _:l { ?x <a:p> _:l } }",
+        "bind false, blank true",
+    ),
+    (
+        "SELECT * { { ?x <a:p> _:l } UNION { ?y <a:p> _:l } }",
+        "bind false, blank true",
+    ),
+    (
+        "SELECT * { ?x <a:p> _:l MINUS { ?x <a:p> _:m } }",
+        "bind false, blank false",
+    ),
+];
+
+#[test]
+fn a_label_is_in_one_pattern(rt: HostRuntime) {
+    assert!(rt; all_hold(&rt, rt.alloc(), Reader::Scope, LABELS));
 }

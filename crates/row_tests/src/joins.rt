@@ -1,32 +1,27 @@
 //! Worked examples of the three operators, and of the places of a key.
-ghost use Rattle.std.specs.Prelude.{◌≡◌, IfOk, length};
+ghost use Rattle.std.specs.Prelude.{◌≡◌, IfOk};
+ghost use Rattle.row_pieces.specs.How.{IsRunnable};
 
+use crate::cells::{pairs, shown};
 use piece_pool::OpenGate;
 use row_core::Rows;
 use row_join::{Keyed, RowTest, join, left_join, minus};
 use row_pieces::{EvalFault, How};
 use std::alloc::{AllocError, AllocGlobal, Global};
 use std::hash::RandomState;
+use std::random::RandomSource;
+use std::sync::Wait;
+use std::thread::Threads;
 
-/// Two rows of two variables.
-fn two(alloc: Global, a: [Option<u64>; 2], b: [Option<u64>; 2]) -> Result<Rows, AllocError>
+/// The rows of a text.
+fn rows_of(alloc: Global, text: &str) -> Result<Rows, AllocError>
     ensures width { IfOk result (λ rows. rows.width ≡ 2) }
 {
     let mut rows = Rows::new(alloc, 2);
-    rows.push(&a)?;
-    rows.push(&b)?;
-    Ok(rows)
-}
-
-/// How often the row stands among the rows.
-fn count(rows: &Rows, row: [Option<u64>; 2]) -> usize {
-    let mut count: usize = 0;
-    for i in 0..rows.len() {
-        if rows.row(i) == row.as_slice() {
-            count = count.saturating_add(1);
-        }
+    for (a, b) in pairs(alloc, text)? {
+        rows.push(&[a, b])?;
     }
-    count
+    Ok(rows)
 }
 
 /// Whether the second variable is bound.
@@ -48,149 +43,195 @@ impl RowTest for SecondIsBound {
     }
 }
 
-#[test]
-fn unbound_meets_everything(rt: HostRuntime) -> Result<(), EvalFault> {
-    let alloc = rt.alloc();
-    let state = RandomState::new(&rt).expect(&rt, "a hash state");
+#[derive(Clone, Copy)]
+enum Operator {
+    Join,
+    LeftJoin,
+    Minus,
+}
+
+/// The rows of an operator. A left join keeps the joined rows whose second variable is bound.
+fn operated<R: Threads + Wait>(
+    rt: &R,
+    alloc: Global,
+    state: RandomState,
+    operator: Operator,
+    left: &Rows,
+    right: &Rows,
+    how: &How,
+) -> Result<Rows, EvalFault>
+    requires same_width { left.now.width ≡ right.now.width }
+    requires how { IsRunnable how.now }
+{
+    match operator {
+        Operator::Join => join(rt, alloc, state, left, right, how, &OpenGate),
+        Operator::LeftJoin => {
+            left_join(
+                rt,
+                alloc,
+                state,
+                left,
+                right,
+                &SecondIsBound {},
+                how,
+                &OpenGate,
+            )
+        }
+        Operator::Minus => minus(rt, alloc, state, left, right, how, &OpenGate),
+    }
+}
+
+/// The rows of an operator as text.
+fn told<R: RandomSource + Threads + Wait>(
+    rt: &R,
+    alloc: Global,
+    operator: Operator,
+    left: &str,
+    right: &str,
+    how: &How,
+) -> Result<String, EvalFault>
+    requires how { IsRunnable how.now }
+{
+    let Ok(state) = RandomState::new(rt) else {
+        return Err(EvalFault::Memory);
+    };
+    let left = rows_of(alloc, left)?;
+    let right = rows_of(alloc, right)?;
+    let rows = operated(rt, alloc, state, operator, &left, &right, how)?;
+    Ok(shown(alloc, &rows)?)
+}
+
+/// Whether an operator gives these rows, with one worker in one piece and with two in pieces of one row. What it
+/// gives otherwise is printed.
+fn gives<R: RandomSource + Threads + Wait + Print>(
+    rt: &R,
+    alloc: Global,
+    operator: Operator,
+    case: &[&str; 4],
+) -> Result<bool, EvalFault> {
+    let [name, left, right, expected] = *case;
     let whole = How {
         workers: 1,
         rows: 100,
     };
-    let left = two(alloc, [Some(1), None], [Some(2), Some(5)])?;
-    let right = two(alloc, [None, Some(5)], [Some(1), Some(7)])?;
-    let rows = join(&rt, alloc, state, &left, &right, &whole, &OpenGate)?;
-    assert_eq!(rt; rows.len(), 3);
-    assert_eq!(rt; count(&rows, [Some(1), Some(5)]), 1);
-    assert_eq!(rt; count(&rows, [Some(1), Some(7)]), 1);
-    assert_eq!(rt; count(&rows, [Some(2), Some(5)]), 1);
-    Ok(())
-}
-
-#[test]
-fn a_repeat_is_kept_in_two_pieces(rt: HostRuntime) -> Result<(), EvalFault> {
-    let alloc = rt.alloc();
-    let state = RandomState::new(&rt).expect(&rt, "a hash state");
     let cut = How {
         workers: 2,
         rows: 1,
     };
-    let left = two(alloc, [Some(1), None], [Some(1), None])?;
-    let right = two(alloc, [Some(1), Some(7)], [Some(1), Some(7)])?;
-    let rows = join(&rt, alloc, state, &left, &right, &cut, &OpenGate)?;
-    assert_eq!(rt; rows.len(), 4);
-    assert_eq!(rt; count(&rows, [Some(1), Some(7)]), 4);
+    for how in [whole, cut] {
+        let given = told(rt, alloc, operator, left, right, &how)?;
+        if given.as_str() != expected {
+            let _ = println!(rt; "{name}, {how:?}: {left} and {right} give {given}");
+            return Ok(false);
+        }
+    }
+    Ok(true)
+}
+
+/// The name of a case, the left rows, the right rows, and the rows that are expected.
+const JOINS: [[&str; 4]; 3] = [
+    [
+        "an unbound cell joins with every value",
+        "1- 25",
+        "-5 17",
+        "3: 15 17 25",
+    ],
+    ["a repeat is kept", "1- 1-", "17 17", "4: 17 17 17 17"],
+    [
+        "a row that leaves a shared variable open joins with all",
+        "11 12 13",
+        "11 12 1-",
+        "5: 11 11 12 12 13",
+    ],
+];
+
+#[test]
+fn unbound_meets_everything(rt: HostRuntime) -> Result<(), EvalFault> {
+    for case in &JOINS {
+        assert!(rt; gives(&rt, rt.alloc(), Operator::Join, case)?, "{case:?}");
+    }
     Ok(())
 }
 
 #[test]
 fn a_condition_that_fails_keeps_the_left_row(rt: HostRuntime) -> Result<(), EvalFault> {
-    let alloc = rt.alloc();
-    let state = RandomState::new(&rt).expect(&rt, "a hash state");
-    let cut = How {
-        workers: 2,
-        rows: 1,
-    };
-    let left = two(alloc, [Some(1), None], [Some(2), None])?;
-    let right = two(alloc, [Some(1), Some(7)], [Some(2), None])?;
-    let test = SecondIsBound {};
-    let rows = left_join(&rt, alloc, state, &left, &right, &test, &cut, &OpenGate)?;
-    assert_eq!(rt; rows.len(), 2);
-    assert_eq!(rt; count(&rows, [Some(1), Some(7)]), 1);
-    assert_eq!(rt; count(&rows, [Some(2), None]), 1);
+    let case = [
+        "the condition fails for one of two rows",
+        "1- 2-",
+        "17 2-",
+        "2: 17 2-",
+    ];
+    assert!(rt;
+        gives(&rt, rt.alloc(), Operator::LeftJoin, &case)?,
+        "{case:?}"
+    );
     Ok(())
 }
+
+const DIFFERENCES: [[&str; 4]; 4] = [
+    [
+        "rows that share no bound variable are kept",
+        "1- 2-",
+        "-5 --",
+        "2: 1- 2-",
+    ],
+    [
+        "a compatible row that shares a variable is removed",
+        "1- 2-",
+        "15 -5",
+        "1: 2-",
+    ],
+    ["no row shares a variable", "1- 2-", "-1 -2", "2: 1- 2-"],
+    ["some rows bind a variable", "1- -7 27", "1- -8", "2: -7 27"],
+];
 
 #[test]
 fn minus_keeps_what_shares_nothing(rt: HostRuntime) -> Result<(), EvalFault> {
-    let alloc = rt.alloc();
-    let state = RandomState::new(&rt).expect(&rt, "a hash state");
-    let whole = How {
-        workers: 1,
-        rows: 100,
-    };
-    let cut = How {
-        workers: 2,
-        rows: 1,
-    };
-    let left = two(alloc, [Some(1), None], [Some(2), None])?;
-    let others = two(alloc, [None, Some(5)], [None, None])?;
-    let rows = minus(&rt, alloc, state, &left, &others, &whole, &OpenGate)?;
-    assert_eq!(rt; rows.len(), 2);
-    let right = two(alloc, [Some(1), Some(5)], [None, Some(5)])?;
-    let rows = minus(&rt, alloc, state, &left, &right, &cut, &OpenGate)?;
-    assert_eq!(rt; rows.len(), 1);
-    assert_eq!(rt; count(&rows, [Some(2), None]), 1);
+    for case in &DIFFERENCES {
+        assert!(rt; gives(&rt, rt.alloc(), Operator::Minus, case)?, "{case:?}");
+    }
     Ok(())
 }
 
-#[test]
-fn a_row_that_leaves_a_shared_variable_open_meets_all_others(
-    rt: HostRuntime,
-) -> Result<(), EvalFault> {
-    let alloc = rt.alloc();
-    let state = RandomState::new(&rt).expect(&rt, "a hash state");
-    let cut = How {
-        workers: 2,
-        rows: 1,
-    };
-    let mut left = two(alloc, [Some(1), Some(1)], [Some(1), Some(2)])?;
-    left.push(&[Some(1), Some(3)])?;
-    let mut right = two(alloc, [Some(1), Some(1)], [Some(1), Some(2)])?;
-    right.push(&[Some(1), None])?;
-    let rows = join(&rt, alloc, state, &left, &right, &cut, &OpenGate)?;
-    assert_eq!(rt; rows.len(), 5);
-    assert_eq!(rt; count(&rows, [Some(1), Some(1)]), 2);
-    assert_eq!(rt; count(&rows, [Some(1), Some(2)]), 2);
-    assert_eq!(rt; count(&rows, [Some(1), Some(3)]), 1);
-    Ok(())
+/// Appends places, each after a blank, and a bar.
+fn append(text: &mut String, places: &[usize]) -> Result<(), AllocError> {
+    for place in places {
+        text.push(' ')?;
+        text.push(char::from_digit((*place % 10) as u32, 10).unwrap_or('?'))?;
+    }
+    text.push_str(" |")
 }
 
-#[test]
-fn minus_without_a_shared_variable_keeps_all(rt: HostRuntime) -> Result<(), EvalFault> {
-    let alloc = rt.alloc();
-    let state = RandomState::new(&rt).expect(&rt, "a hash state");
-    let cut = How {
-        workers: 2,
-        rows: 1,
-    };
-    let left = two(alloc, [Some(1), None], [Some(2), None])?;
-    let right = two(alloc, [None, Some(1)], [None, Some(2)])?;
-    let rows = minus(&rt, alloc, state, &left, &right, &cut, &OpenGate)?;
-    assert_eq!(rt; rows.len(), 2);
-    assert_eq!(rt; count(&rows, [Some(1), None]), 1);
-    assert_eq!(rt; count(&rows, [Some(2), None]), 1);
-    Ok(())
+/// Appends the places under a key of one number.
+fn append_places(
+    alloc: Global,
+    text: &mut String,
+    keyed: &Keyed,
+    number: u64,
+) -> Result<(), AllocError> {
+    let key = vec![in alloc; number]?;
+    append(text, keyed.places(&key))
 }
 
-#[test]
-fn minus_by_variables_that_some_rows_bind(rt: HostRuntime) -> Result<(), EvalFault> {
-    let alloc = rt.alloc();
-    let state = RandomState::new(&rt).expect(&rt, "a hash state");
-    let whole = How {
-        workers: 1,
-        rows: 100,
+/// The places under the keys 0 and 1 of the first variable, and the places without a key.
+fn places<R: RandomSource>(rt: &R, alloc: Global, rows: &Rows) -> Result<String, AllocError>
+    requires width { rows.now.width ≡ 2 }
+{
+    let Ok(state) = RandomState::new(rt) else {
+        return Err(AllocError);
     };
-    let mut left = two(alloc, [Some(1), None], [None, Some(7)])?;
-    left.push(&[Some(2), Some(7)])?;
-    let right = two(alloc, [Some(1), None], [None, Some(8)])?;
-    let rows = minus(&rt, alloc, state, &left, &right, &whole, &OpenGate)?;
-    assert_eq!(rt; rows.len(), 2);
-    assert_eq!(rt; count(&rows, [None, Some(7)]), 1);
-    assert_eq!(rt; count(&rows, [Some(2), Some(7)]), 1);
-    Ok(())
+    let keyed = Keyed::build(alloc, state, rows, &[0])?;
+    let mut text = String::new(alloc);
+    append_places(alloc, &mut text, &keyed, 0)?;
+    append_places(alloc, &mut text, &keyed, 1)?;
+    append(&mut text, keyed.apart())?;
+    Ok(text)
 }
 
 #[test]
 fn rows_stand_under_their_key_or_apart(rt: HostRuntime) -> Result<(), AllocError> {
-    let alloc = rt.alloc();
-    let state = RandomState::new(&rt).expect(&rt, "a hash state");
-    let mut rows = two(alloc, [Some(0), Some(5)], [None, Some(5)])?;
-    rows.push(&[Some(0), None])?;
-    let keyed = Keyed::build(alloc, state, &rows, &[0])?;
-    let zero = vec![in alloc; 0]?;
-    let one = vec![in alloc; 1]?;
-    assert!(rt; keyed.places(&zero) == [0, 2].as_slice());
-    assert!(rt; keyed.places(&one).is_empty());
-    assert!(rt; keyed.apart() == [1].as_slice());
+    let rows = rows_of(rt.alloc(), "05 -5 0-")?;
+    let text = places(&rt, rt.alloc(), &rows)?;
+    assert!(rt; text.as_str() == " 0 2 | | 1 |", "{text}");
     Ok(())
 }

@@ -1,8 +1,9 @@
-//! Worked answers. What is expected is written out by hand from the format.
+//! Worked results. The expected documents are written by hand from the format, with `'` for `"`.
 ghost use Rattle.std.specs.Prelude.{◌≡◌, ◌∷◌, ◌<◌, ◌≤◌, [], length, IfOk};
 ghost use Rattle.row_pieces.specs.How.{IsRunnable};
 ghost use Rattle.algebra_model.specs.Reading.{Each, EachBound};
 
+use crate::cells::{Pair, pairs};
 use dict_core::Dict;
 use piece_pool::OpenGate;
 use rdf_core::vocabulary::{RDF_LANG_STRING, XSD_INTEGER, XSD_STRING};
@@ -12,58 +13,76 @@ use row_core::Rows;
 use row_pieces::{EvalFault, How};
 use std::alloc::{AllocError, AllocGlobal, Global};
 use std::hash::RandomState;
+use std::random::RandomSource;
 use std::sync::Wait;
 use std::thread::Threads;
+
+/// A term of the dictionary.
+#[derive(Clone, Copy)]
+enum Sample {
+    Iri(&'static str),
+    Blank(&'static str),
+    Typed(&'static str, &'static str),
+    /// A literal with the language tag `en`.
+    Tagged(&'static str),
+}
+
+/// A literal of each kind, an IRI and a blank node, and two more literals with the lexical form of the first one.
+/// The number of a term is its place.
+const TERMS: [Sample; 8] = [
+    Sample::Typed("x", XSD_STRING),
+    Sample::Typed("1", XSD_INTEGER),
+    Sample::Tagged("é\n"),
+    Sample::Typed("\t\u{1}\\", XSD_STRING),
+    Sample::Iri("http://e/a"),
+    Sample::Blank("b"),
+    Sample::Tagged("x"),
+    Sample::Typed("x", XSD_INTEGER),
+];
 
 fn text(alloc: Global, text: &str) -> Result<Text, AllocError> {
     Ok(Text::from_string(String::from_str(alloc, text)?))
 }
 
-fn iri(alloc: Global, name: &str) -> Result<Term, AllocError> {
-    Ok(Term::Iri(text(alloc, name)?))
-}
-
-fn literal(alloc: Global, lexical: &str, datatype: &str) -> Result<Term, AllocError> {
+fn literal(
+    alloc: Global,
+    lexical: &str,
+    datatype: &str,
+    tag: Option<Text>,
+) -> Result<Term, AllocError> {
     Ok(Term::Literal {
         lexical: text(alloc, lexical)?,
         datatype: text(alloc, datatype)?,
-        tag: None,
+        tag,
     })
 }
 
-/// A literal with the tag `en`.
-fn tagged(alloc: Global, lexical: &str) -> Result<Term, AllocError> {
-    Ok(Term::Literal {
-        lexical: text(alloc, lexical)?,
-        datatype: text(alloc, RDF_LANG_STRING)?,
-        tag: Some(text(alloc, "en")?),
-    })
-}
-
-/// Adds a term that is new.
-fn put(dict: &mut Dict, term: Result<Term, AllocError>) -> Result<(), AllocError> {
-    match dict.intern(term?) {
-        Ok(_) => Ok(()),
-        Err(_) => Err(AllocError),
+fn term(alloc: Global, sample: Sample) -> Result<Term, AllocError> {
+    match sample {
+        Sample::Iri(name) => Ok(Term::Iri(text(alloc, name)?)),
+        Sample::Blank(label) => Ok(Term::Blank(text(alloc, label)?)),
+        Sample::Typed(lexical, datatype) => literal(alloc, lexical, datatype, None),
+        Sample::Tagged(lexical) => {
+            literal(alloc, lexical, RDF_LANG_STRING, Some(text(alloc, "en")?))
+        }
     }
 }
 
-/// A literal of each kind, an IRI and a blank node, and two literals more of the first one's lexical
-/// form: their numbers are their places.
-fn terms(alloc: Global, state: RandomState) -> Result<Dict, AllocError> {
+/// The dictionary of the terms.
+fn dict_of<R: RandomSource>(rt: &R, alloc: Global) -> Result<Dict, AllocError> {
+    let Ok(state) = RandomState::new(rt) else {
+        return Err(AllocError);
+    };
     let mut dict = Dict::new(alloc, state)?;
-    put(&mut dict, literal(alloc, "x", XSD_STRING))?;
-    put(&mut dict, literal(alloc, "1", XSD_INTEGER))?;
-    put(&mut dict, tagged(alloc, "é\n"))?;
-    put(&mut dict, literal(alloc, "\t\u{1}\\", XSD_STRING))?;
-    put(&mut dict, iri(alloc, "http://e/a"))?;
-    put(&mut dict, Ok(Term::Blank(text(alloc, "b")?)))?;
-    put(&mut dict, tagged(alloc, "x"))?;
-    put(&mut dict, literal(alloc, "x", XSD_INTEGER))?;
+    for sample in TERMS {
+        if dict.intern(term(alloc, sample)?).is_err() {
+            return Err(AllocError);
+        }
+    }
     Ok(dict)
 }
 
-/// The cell, unbound where its number stands for no term.
+/// The cell, or unbound if no term has its number.
 fn known(cell: Option<u64>, count: u64) -> Option<u64>
     ensures known { EachBound (λ n. n < count) (result ∷ []) }
 {
@@ -74,11 +93,7 @@ fn known(cell: Option<u64>, count: u64) -> Option<u64>
 }
 
 /// Rows of two variables.
-fn rows_of(
-    alloc: Global,
-    dict: &Dict,
-    cells: &[(Option<u64>, Option<u64>)],
-) -> Result<Rows, AllocError>
+fn rows_of(alloc: Global, dict: &Dict, cells: &[Pair]) -> Result<Rows, AllocError>
     ensures known { IfOk result
         (λ rows. Each (EachBound (λ n. n < length dict.now)) rows.rows) }
 {
@@ -90,21 +105,24 @@ fn rows_of(
     Ok(rows)
 }
 
-/// Blocks of bytes, one behind the other.
-fn joined(alloc: Global, blocks: &[Vec<u8>]) -> Result<Vec<u8>, AllocError> {
-    let mut bytes = Vec::new(alloc);
+/// The text of blocks of bytes, with `'` for `"`.
+fn joined(alloc: Global, blocks: &[Vec<u8>]) -> Result<String, AllocError> {
+    let mut text = String::new(alloc);
     for block in blocks {
-        bytes.extend_from_slice(block)?;
+        for character in str::from_utf8(block).unwrap_or("?").chars() {
+            text.push(if character == '"' { '\'' } else { character })?;
+        }
     }
-    Ok(bytes)
+    Ok(text)
 }
 
-/// How an answer is printed: by so many workers, with so many rows a piece.
-fn how(workers: usize, rows: usize) -> How
-    requires { (1 ≤ workers) × (workers ≤ 64) × (1 ≤ rows) }
-    ensures { IsRunnable result }
-{
-    How { workers, rows }
+/// What of the rows is printed.
+#[derive(Clone, Copy, Debug)]
+struct Selection {
+    listed: &'static [usize],
+    rows: &'static str,
+    offset: u64,
+    limit: Option<u64>,
 }
 
 /// The names of the variables: `b`, `a` and one that no row has.
@@ -112,171 +130,168 @@ fn variables(alloc: Global) -> Result<Vec<Text>, AllocError> {
     Ok(vec![in alloc; text(alloc, "b")?, text(alloc, "a")?, text(alloc, "é\"")?]?)
 }
 
-/// The answer over the terms above, with the variables `b`, `a` and one that no row has.
-fn answer_by<R: Threads + Wait>(
+/// The document of rows with the variables `b`, `a` and one that no row has.
+fn document<R: Threads + Wait>(
     rt: &R,
     alloc: Global,
-    state: RandomState,
-    listed: &[usize],
-    cells: &[(Option<u64>, Option<u64>)],
-    offset: u64,
-    limit: Option<u64>,
+    dict: &Dict,
+    rows: &Rows,
+    selection: &Selection,
     how: &How,
-) -> Result<Vec<u8>, EvalFault>
-    requires { IsRunnable how.now }
+) -> Result<String, EvalFault>
+    requires known { Each (EachBound (λ n. n < length dict.now)) rows.now.rows }
+    requires how { IsRunnable how.now }
 {
-    let dict = terms(alloc, state)?;
-    let rows = rows_of(alloc, &dict, cells)?;
     let names = variables(alloc)?;
     let table = Table {
         names: &names,
-        listed,
-        rows: &rows,
-        dict: &dict,
-        offset,
-        limit,
+        listed: selection.listed,
+        rows,
+        dict,
+        offset: selection.offset,
+        limit: selection.limit,
     };
     let blocks = print_rows(rt, alloc, &table, how, &OpenGate)?;
     Ok(joined(alloc, &blocks)?)
 }
 
-/// The answer by two workers, a row a piece.
-fn answer<R: Threads + Wait>(
+/// The document of a selection, with `workers` workers and pieces of `rows` rows.
+fn printed<R: RandomSource + Threads + Wait>(
     rt: &R,
     alloc: Global,
-    state: RandomState,
-    listed: &[usize],
-    cells: &[(Option<u64>, Option<u64>)],
-    offset: u64,
-    limit: Option<u64>,
-) -> Result<Vec<u8>, EvalFault> {
-    answer_by(rt, alloc, state, listed, cells, offset, limit, &how(2, 1))
+    selection: &Selection,
+    workers: usize,
+    rows: usize,
+) -> Result<String, EvalFault>
+    requires how { (1 ≤ workers) × (workers ≤ 64) × (1 ≤ rows) }
+{
+    let dict = dict_of(rt, alloc)?;
+    let cells = pairs(alloc, selection.rows)?;
+    let all = rows_of(alloc, &dict, &cells)?;
+    document(rt, alloc, &dict, &all, selection, &How { workers, rows })
 }
 
-/// Unbound, then blank nodes, IRIs and literals by their bytes; each kind of literal in its form, a
-/// repeated row twice, and control characters by the shortest escapes.
-#[test]
-fn every_term_has_its_form_and_place(rt: HostRuntime) {
-    let state = RandomState::new(&rt).expect(&rt, "a hash state");
-    let cells = [
-        (Some(0), None),
-        (Some(1), None),
-        (Some(2), None),
-        (Some(3), None),
-        (Some(4), None),
-        (Some(5), None),
-        (None, Some(5)),
-        (Some(4), None),
-    ];
-    let bytes = answer(&rt, rt.alloc(), state, &[0], &cells, 0, None).expect(&rt, "an answer");
-    let expected =
-        "{\"head\":{\"vars\":[\"b\"]},\"results\":{\"bindings\":[{},{\"b\":{\"type\":\"bnode\",\"value\":\"b\"}},{\"b\":{\"type\":\"uri\",\"value\":\"http://e/a\"}},{\"b\":{\"type\":\"uri\",\"value\":\"http://e/a\"}},{\"b\":{\"type\":\"literal\",\"value\":\"\\t\\u0001\\\\\"}},{\"b\":{\"datatype\":\"http://www.w3.org/2001/XMLSchema#integer\",\"type\":\"literal\",\"value\":\"1\"}},{\"b\":{\"type\":\"literal\",\"value\":\"x\"}},{\"b\":{\"type\":\"literal\",\"value\":\"é\\n\",\"xml:lang\":\"en\"}}]}}\n";
-    assert!(rt; bytes.as_slice() == expected.as_bytes());
+/// Whether a document of two workers, with a row a piece, has these variables and bindings. It is printed if not.
+fn is_printed<R: RandomSource + Threads + Wait + Print>(
+    rt: &R,
+    alloc: Global,
+    selection: &Selection,
+    variables: &str,
+    bindings: &str,
+) -> Result<bool, EvalFault> {
+    let given = printed(rt, alloc, selection, 2, 1)?;
+    let expected = format!(in alloc;
+        "{{'head':{{'vars':[{variables}]}},'results':{{'bindings':[{bindings}]}}}}\n"
+    )?;
+    if given != expected {
+        let _ = println!(rt; "expected {expected}got {given}");
+    }
+    Ok(given == expected)
 }
 
-/// The head keeps the order of the list; members stand in byte order of their names, and those of
-/// unbound cells are left out. A variable that the rows have no place for is bound in none.
-#[test]
-fn members_stand_by_their_names(rt: HostRuntime) {
-    let state = RandomState::new(&rt).expect(&rt, "a hash state");
-    let cells = [(Some(0), Some(5)), (None, Some(4)), (Some(0), None)];
-    let bytes = answer(&rt, rt.alloc(), state, &[0, 1, 2], &cells, 0, None).expect(
-        &rt,
-        "an answer",
-    );
-    let expected =
-        "{\"head\":{\"vars\":[\"b\",\"a\",\"é\\\"\"]},\"results\":{\"bindings\":[{\"a\":{\"type\":\"uri\",\"value\":\"http://e/a\"}},{\"b\":{\"type\":\"literal\",\"value\":\"x\"}},{\"a\":{\"type\":\"bnode\",\"value\":\"b\"},\"b\":{\"type\":\"literal\",\"value\":\"x\"}}]}}\n";
-    assert!(rt; bytes.as_slice() == expected.as_bytes());
-}
+/// Listed variables and rows, with the variables and bindings of their documents.
+const DOCUMENTS: [(&[usize], &str, &str, &str); 4] = [
+    // Unbound, then blank nodes, IRIs and literals by their bytes; each kind of literal in its form, a repeated row
+    // twice, and control characters by the shortest escapes.
+    (
+        &[0],
+        "0- 1- 2- 3- 4- 5- -5 4-",
+        "'b'",
+        "{},{'b':{'type':'bnode','value':'b'}},{'b':{'type':'uri','value':'http://e/a'}},{'b':{'type':'uri','value':'http://e/a'}},{'b':{'type':'literal','value':'\\t\\u0001\\\\'}},{'b':{'datatype':'http://www.w3.org/2001/XMLSchema#integer','type':'literal','value':'1'}},{'b':{'type':'literal','value':'x'}},{'b':{'type':'literal','value':'é\\n','xml:lang':'en'}}",
+    ),
+    // The head keeps the order of the list. Members are in byte order of their names, and those of unbound cells are
+    // left out. A variable for which the rows have no place is bound in none.
+    (
+        &[0, 1, 2],
+        "05 -4 0-",
+        "'b','a','é\\''",
+        "{'a':{'type':'uri','value':'http://e/a'}},{'b':{'type':'literal','value':'x'}},{'a':{'type':'bnode','value':'b'},'b':{'type':'literal','value':'x'}}",
+    ),
+    // Rows of two cells rise by the first and then by the second, unbound first, and a repeated row is there twice.
+    // Literals with one lexical form are ordered by their datatypes.
+    (
+        &[0, 1],
+        "04 7- 65 05 -0 04 0-",
+        "'b','a'",
+        "{'a':{'type':'literal','value':'x'}},{'a':{'type':'bnode','value':'b'},'b':{'type':'literal','value':'x','xml:lang':'en'}},{'b':{'datatype':'http://www.w3.org/2001/XMLSchema#integer','type':'literal','value':'x'}},{'b':{'type':'literal','value':'x'}},{'a':{'type':'bnode','value':'b'},'b':{'type':'literal','value':'x'}},{'a':{'type':'uri','value':'http://e/a'},'b':{'type':'literal','value':'x'}},{'a':{'type':'uri','value':'http://e/a'},'b':{'type':'literal','value':'x'}}",
+    ),
+    // Without a variable the one row is there.
+    (&[], "0-", "", "{}"),
+];
 
-/// Rows of two cells rise by the first and then by the second, unbound first, and a repeated row stands
-/// twice; literals of one lexical form stand by their datatypes.
 #[test]
-fn rows_of_two_rise_column_by_column(rt: HostRuntime) {
-    let state = RandomState::new(&rt).expect(&rt, "a hash state");
-    let cells = [
-        (Some(0), Some(4)),
-        (Some(7), None),
-        (Some(6), Some(5)),
-        (Some(0), Some(5)),
-        (None, Some(0)),
-        (Some(0), Some(4)),
-        (Some(0), None),
-    ];
-    let bytes = answer(&rt, rt.alloc(), state, &[0, 1], &cells, 0, None).expect(&rt, "an answer");
-    let expected =
-        "{\"head\":{\"vars\":[\"b\",\"a\"]},\"results\":{\"bindings\":[{\"a\":{\"type\":\"literal\",\"value\":\"x\"}},{\"a\":{\"type\":\"bnode\",\"value\":\"b\"},\"b\":{\"type\":\"literal\",\"value\":\"x\",\"xml:lang\":\"en\"}},{\"b\":{\"datatype\":\"http://www.w3.org/2001/XMLSchema#integer\",\"type\":\"literal\",\"value\":\"x\"}},{\"b\":{\"type\":\"literal\",\"value\":\"x\"}},{\"a\":{\"type\":\"bnode\",\"value\":\"b\"},\"b\":{\"type\":\"literal\",\"value\":\"x\"}},{\"a\":{\"type\":\"uri\",\"value\":\"http://e/a\"},\"b\":{\"type\":\"literal\",\"value\":\"x\"}},{\"a\":{\"type\":\"uri\",\"value\":\"http://e/a\"},\"b\":{\"type\":\"literal\",\"value\":\"x\"}}]}}\n";
-    assert!(rt; bytes.as_slice() == expected.as_bytes());
-}
-
-/// No variable, one row: the row is there.
-#[test]
-fn a_row_without_variables_is_an_empty_object(rt: HostRuntime) {
-    let state = RandomState::new(&rt).expect(&rt, "a hash state");
-    let bytes = answer(&rt, rt.alloc(), state, &[], &[(Some(0), None)], 0, None).expect(
-        &rt,
-        "an answer",
-    );
-    let expected = "{\"head\":{\"vars\":[]},\"results\":{\"bindings\":[{}]}}\n";
-    assert!(rt; bytes.as_slice() == expected.as_bytes());
-}
-
-/// Which of the rows bnode, uri, literal stand, for offsets and limits.
-#[test]
-fn offset_and_limit_cut_the_sorted_rows(rt: HostRuntime) {
-    let state = RandomState::new(&rt).expect(&rt, "a hash state");
-    let cells = [(Some(0), None), (Some(5), None), (Some(4), None)];
-    let b = "{\"b\":{\"type\":\"bnode\",\"value\":\"b\"}}";
-    let u = "{\"b\":{\"type\":\"uri\",\"value\":\"http://e/a\"}}";
-    let l = "{\"b\":{\"type\":\"literal\",\"value\":\"x\"}}";
-    let cases = [
-        (0, None, [b, ",", u, ",", l]),
-        (1, None, [u, ",", l, "", ""]),
-        (1, Some(1), [u, "", "", "", ""]),
-        (0, Some(2), [b, ",", u, "", ""]),
-        (2, Some(u64::MAX), [l, "", "", "", ""]),
-        (0, Some(0), ["", "", "", "", ""]),
-        (3, None, ["", "", "", "", ""]),
-        (u64::MAX, Some(u64::MAX), ["", "", "", "", ""]),
-    ];
-    for (offset, limit, parts) in cases {
-        let bytes = answer(&rt, rt.alloc(), state, &[0], &cells, offset, limit).expect(
-            &rt, "memory",
+fn every_term_and_row_has_its_form_and_place(rt: HostRuntime) -> Result<(), EvalFault> {
+    for (listed, rows, variables, bindings) in DOCUMENTS {
+        let selection = Selection {
+            listed,
+            rows,
+            offset: 0,
+            limit: None,
+        };
+        assert!(rt;
+            is_printed(&rt, rt.alloc(), &selection, variables, bindings)?,
+            "{selection:?}"
         );
-        let mut expected = String::from_str(
-            rt.alloc(),
-            "{\"head\":{\"vars\":[\"b\"]},\"results\":{\"bindings\":[",
-        )
-        .expect(&rt, "memory");
-        for part in parts {
-            expected.push_str(part).expect(&rt, "memory");
-        }
-        expected.push_str("]}}\n").expect(&rt, "memory");
-        assert!(rt; bytes.as_slice() == expected.as_bytes(), "offset {offset}");
     }
+    Ok(())
 }
 
-/// Seventy rows, so that more than one group of a piece is put together, have the same bytes by any
-/// number of workers and in pieces of any size.
+/// An offset, a limit, and the bindings that they keep of a blank node, an IRI and a literal.
+const SLICES: [(u64, Option<u64>, &str); 8] = [
+    (
+        0,
+        None,
+        "{'b':{'type':'bnode','value':'b'}},{'b':{'type':'uri','value':'http://e/a'}},{'b':{'type':'literal','value':'x'}}",
+    ),
+    (
+        1,
+        None,
+        "{'b':{'type':'uri','value':'http://e/a'}},{'b':{'type':'literal','value':'x'}}",
+    ),
+    (1, Some(1), "{'b':{'type':'uri','value':'http://e/a'}}"),
+    (
+        0,
+        Some(2),
+        "{'b':{'type':'bnode','value':'b'}},{'b':{'type':'uri','value':'http://e/a'}}",
+    ),
+    (2, Some(u64::MAX), "{'b':{'type':'literal','value':'x'}}"),
+    (0, Some(0), ""),
+    (3, None, ""),
+    (u64::MAX, Some(u64::MAX), ""),
+];
+
 #[test]
-fn workers_and_pieces_change_no_byte(rt: HostRuntime) {
-    let state = RandomState::new(&rt).expect(&rt, "a hash state");
-    let alloc = rt.alloc();
-    let mut cells = Vec::new(alloc);
-    for i in 0..70u64 {
-        cells.push((Some(i % 9), Some(i % 7))).expect(&rt, "memory");
+fn offset_and_limit_cut_the_sorted_rows(rt: HostRuntime) -> Result<(), EvalFault> {
+    for (offset, limit, bindings) in SLICES {
+        let selection = Selection {
+            listed: &[0],
+            rows: "0- 5- 4-",
+            offset,
+            limit,
+        };
+        assert!(rt;
+            is_printed(&rt, rt.alloc(), &selection, "'b'", bindings)?,
+            "{selection:?}"
+        );
     }
-    let whole = answer_by(
-        &rt,
-        alloc,
-        state,
-        &[1, 0],
-        &cells,
-        3,
-        Some(65),
-        &how(1, 1000),
-    );
-    let whole = whole.expect(&rt, "an answer");
+    Ok(())
+}
+
+/// Seventy rows, the row `i` of the cells `i` modulo 9 and modulo 7.
+const SEVENTY: &str =
+    "00 11 22 33 44 55 66 70 81 02 13 24 35 46 50 61 72 83 04 15 26 30 41 52 63 74 85 06 10 21 32 43 54 65 76 80 01 12 23 34 45 56 60 71 82 03 14 25 36 40 51 62 73 84 05 16 20 31 42 53 64 75 86 00 11 22 33 44 55 66";
+
+/// Seventy rows, so that more than one group of a piece is put together, have the same bytes with every number of
+/// workers and pieces of every size.
+#[test]
+fn workers_and_pieces_change_no_byte(rt: HostRuntime) -> Result<(), EvalFault> {
+    let selection = Selection {
+        listed: &[1, 0],
+        rows: SEVENTY,
+        offset: 3,
+        limit: Some(65),
+    };
+    let whole = printed(&rt, rt.alloc(), &selection, 1, 1000)?;
     for (workers, rows) in [
         (1, 1),
         (2, 1),
@@ -286,20 +301,8 @@ fn workers_and_pieces_change_no_byte(rt: HostRuntime) {
         (2, 65),
         (5, usize::MAX),
     ] {
-        let cut = answer_by(
-            &rt,
-            alloc,
-            state,
-            &[1, 0],
-            &cells,
-            3,
-            Some(65),
-            &how(workers, rows),
-        );
-        let cut = cut.expect(&rt, "an answer");
-        assert!(rt;
-            cut.as_slice() == whole.as_slice(),
-            "{workers} workers, {rows} rows a piece"
-        );
+        let cut = printed(&rt, rt.alloc(), &selection, workers, rows)?;
+        assert!(rt; cut == whole, "{workers} workers, {rows} rows a piece");
     }
+    Ok(())
 }

@@ -1,9 +1,11 @@
 //! Tests of rows of numbers: `merging` of row_core, `pieces` of row_pieces, `patterns` of row_pattern, `joins`
-//! of row_join, and `json` of result_json.
+//! of row_join, and `json` of result_json. `cells` has rows as text.
 //!
-//! They stand in a crate of their own, so that a check of the tests proves nothing a second time.
+//! They are in a crate of their own, so that a check of the tests proves nothing a second time.
 #![tactic(auto)]
 
+#[cfg(test)]
+mod cells;
 #[cfg(test)]
 mod joins;
 #[cfg(test)]

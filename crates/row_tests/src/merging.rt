@@ -1,30 +1,70 @@
 //! One call of each public function.
+ghost use Rattle.std.specs.Prelude.{◌≡◌, IfOk};
+
 use row_core::{Rows, is_compatible, merge_into, shares};
-use std::alloc::{AllocError, AllocGlobal};
+use std::alloc::{AllocError, AllocGlobal, Global};
+
+fn symbol(cell: Option<u64>) -> char {
+    match cell {
+        Some(n) if n < 10 => char::from_digit(n as u32, 10).unwrap_or('?'),
+        Some(_) => '?',
+        None => '-',
+    }
+}
+
+/// The width, and for each row its cells and after `=` the same cells one by one.
+fn told(alloc: Global, rows: &Rows) -> Result<String, AllocError> {
+    let mut text = format!(in alloc; "{}:", rows.width())?;
+    for i in 0..rows.len() {
+        text.push(' ')?;
+        for cell in rows.row(i) {
+            text.push(symbol(*cell))?;
+        }
+        text.push('=')?;
+        for variable in 0..rows.width() {
+            text.push(symbol(rows.get(i, variable)))?;
+        }
+    }
+    Ok(text)
+}
+
+/// Two rows of two variables.
+fn two_rows(alloc: Global) -> Result<Rows, AllocError>
+    ensures width { IfOk result (λ rows. rows.width ≡ 2) }
+{
+    let mut rows = Rows::new(alloc, 2);
+    rows.push(&[None, Some(7)])?;
+    rows.push(&[Some(3), Some(4)])?;
+    Ok(rows)
+}
+
+/// A row, and two more that are appended.
+fn appended(alloc: Global) -> Result<Rows, AllocError> {
+    let mut rows = Rows::new(alloc, 2);
+    rows.push(&[Some(1), None])?;
+    rows.append(two_rows(alloc)?)?;
+    Ok(rows)
+}
+
+/// Two rows of no width.
+fn empty_rows(alloc: Global) -> Result<Rows, AllocError> {
+    let mut rows = Rows::new(alloc, 0);
+    rows.push(&[])?;
+    rows.push(&[])?;
+    Ok(rows)
+}
 
 #[test]
 fn rows_stand_as_they_were_pushed(rt: HostRuntime) -> Result<(), AllocError> {
-    let alloc = rt.alloc();
-    let mut rows = Rows::new(alloc, 2);
-    rows.push(&[Some(1), None])?;
-    let mut others = Rows::new(alloc, 2);
-    others.push(&[None, Some(7)])?;
-    others.push(&[Some(3), Some(4)])?;
-    rows.append(others)?;
-    assert_eq!(rt; rows.width(), 2);
-    assert_eq!(rt; rows.len(), 3);
-    assert!(rt; rows.row(1) == [None, Some(7)].as_slice());
-    assert!(rt; rows.get(2, 1) == Some(4) && rows.get(0, 1).is_none());
+    let text = told(rt.alloc(), &appended(rt.alloc())?)?;
+    assert!(rt; text.as_str() == "2: 1-=1- -7=-7 34=34", "{text}");
     Ok(())
 }
 
 #[test]
 fn rows_of_no_width_are_counted(rt: HostRuntime) -> Result<(), AllocError> {
-    let mut rows = Rows::new(rt.alloc(), 0);
-    rows.push(&[])?;
-    rows.push(&[])?;
-    assert_eq!(rt; rows.len(), 2);
-    assert!(rt; rows.row(1).is_empty());
+    let text = told(rt.alloc(), &empty_rows(rt.alloc())?)?;
+    assert!(rt; text.as_str() == "0: = =", "{text}");
     Ok(())
 }
 

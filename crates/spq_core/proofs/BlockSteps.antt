@@ -1,12 +1,15 @@
 -- A beginning of blocks that lie one behind the other.
-use Rattle.std.proofs.Common.{◌≡◌, ℕ, suc, ◌<◌, List, ◌∷◌, ◌++◌, length, get_or, take, drop, Option, Vec, Global, sym, ap, ◌∙◌, subst}
+use Rattle.std.proofs.Common.{◌≡◌, ℕ, suc, ◌<◌, List, ◌∷◌, ◌++◌, length, get_or, take, drop, Option, Result, Vec, Global, sym, ap, ◌∙◌, subst}
 use Rattle.std.specs.Io.KnownBytes.{Appends}
 use Rattle.std.proofs.Math.Seq.{drop-cons}
 use Rattle.std.proofs.lemmas.List.{take-append-drop}
 use Rattle.std.proofs.lemmas.List.Concat.{flat_map-append}
 use Rattle.nquads_core.specs.Transfer.{WroteBeginning}
 use Rattle.result_json.specs.Results.{joined_blocks}
-use Rattle.spq_core.proofs.ReportSteps.{back_begun, front_begun}
+use Rattle.nquads_core.specs.Device.{Stays}
+use Rattle.nquads_core.specs.declared.device.DeviceFailed.{DeviceFailed}
+use Rattle.spq_core.specs.Run.{WriterFailed}
+use Rattle.spq_core.proofs.ReportSteps.{back_begun, back_failed, front_begun, front_failed}
 
 -- what lies before a block, the block, and what lies behind it
 joined_split : (blocks : List (Vec ℕ Global)) (i : ℕ) (block : Vec ℕ Global) → i < length blocks → block ≡ get_or blocks i block
@@ -24,3 +27,12 @@ block_begun a b c blocks i block text low at is h w =
     let begun : WroteBeginning b c block.items = subst (λ (t : List ℕ). WroteBeginning b c t) is w in
     subst (λ (t : List ℕ). WroteBeginning a c t) (sym (joined_split blocks i block low at))
     (back_begun a b c (joined_blocks (take i blocks)) (block.items ++ back) h (front_begun b c block.items back begun))
+
+-- and the writer failed in this block
+pub block_failed : {K : Type 0} (gives : K → List ℕ → Result ℕ DeviceFailed → K → Type 0) (a b c : Option ℕ) (blocks : List (Vec ℕ Global)) (i : ℕ) (block : Vec ℕ Global) (text : List ℕ) (writer : K) → i < length blocks
+    → block ≡ get_or blocks i block → text ≡ block.items → Stays a b → WriterFailed gives b c text writer → WriterFailed gives a c (joined_blocks blocks) writer
+block_failed gives a b c blocks i block text writer low at is h w =
+    let back = joined_blocks (drop (suc i) blocks) in
+    let failed : WriterFailed gives b c block.items writer = subst (λ (t : List ℕ). WriterFailed gives b c t writer) is w in
+    subst (λ (t : List ℕ). WriterFailed gives a c t writer) (sym (joined_split blocks i block low at))
+    (back_failed gives a b c (joined_blocks (take i blocks)) (block.items ++ back) writer h (front_failed gives b c block.items back writer failed))

@@ -5,7 +5,6 @@ use Rattle.std.proofs.lemmas.List.Sorted.{length_permutation}
 use Rattle.std.specs.Io.KnownBytes.{Consumes, IsAtEnd}
 use Rattle.rdf_core.specs.declared.term.Term.{Term}
 use Rattle.nquads_core.specs.Lines.{lines}
-use Rattle.nquads_core.specs.Transfer.{IsReadInPart}
 use Rattle.algebra_model.specs.Bag.{without_repeats}
 use Rattle.algebra_model.specs.Dataset.{names}
 use Rattle.dict_core.specs.Appearances.{terms_of, first_appearances}
@@ -22,13 +21,10 @@ use Rattle.sparql_tree.specs.QueryTree.{QueryTree}
 use Rattle.sparql_read.specs.Refusal.{IsRead}
 use Rattle.sparql_algebra.specs.Names.{selected_names}
 use Rattle.spq_core.specs.Outcome.{rows}
-use Rattle.spq_core.specs.Output.{Request, check, select, terms}
+use Rattle.spq_core.specs.Output.{check, select, terms}
 use Rattle.result_json.specs.Results.{json}
 use Rattle.spq_core.proofs.AnsweringSteps.{answered}
-use Rattle.spq_core.specs.Run.{IfBadLine, IfQuery, IsBadLineFrom, IsBadLineOf, IsComposed, IsLoadedFrom, IsOfComposing, IsOfDocument}
-use Rattle.sparql_read.specs.declared.fault.QueryFault.{QueryFault}
-use Rattle.spq_core.specs.declared.program.RunFault.{RunFault}
-use Rattle.spq_core.specs.declared.program.RunFault.TheVariants.{Query, BadLine, WorkerRefused, Memory, Read, Write, Line}
+use Rattle.spq_core.specs.Run.{IsBadLineFrom, IsBadLineOf, IsComposed, IsLoadedFrom}
 
 pub counts_are : (ls : List (List ℕ)) (store : StoreView) (l : load.IsLoaded ls store)
     → counts_line (length store.index) (length store.dict) (length (names_in store.index)) ≡ counts_of l.quads
@@ -69,58 +65,16 @@ composed_select set one left left' query q store text r h e = record {
   output = record { query = q; read = r; answered = answered set one q h.doc store text h.loaded e };
 }
 
--- ---- what was taken of the reader, where a fault comes after all was read
+-- ---- the first malformed line is the output's
 
-pub part_loaded : (left left' : Option (List ℕ)) (store : StoreView) → IsLoadedFrom left left' store → IsReadInPart left left'
-part_loaded left left' store h = record { taken = h.doc; consumed = h.consumed }
+pub bad_select : (left left' : Option (List ℕ)) (query : List ℕ) (q : QueryTree) → IsRead (chars query) q → (n : ℕ) → IsBadLineFrom left left' n → IsBadLineOf (select query) left left' n
+bad_select left left' query q r n h = record { doc = h.doc; consumed = h.consumed; at_end = h.at_end; output = ((q, r), h.bad) }
 
-pub part_composed : (request : Request) (left left' : Option (List ℕ)) (text : List ℕ) → IsComposed request left left' text → IsReadInPart left left'
-part_composed request left left' text h = record { taken = h.doc; consumed = h.consumed }
+pub bad_check : (left left' : Option (List ℕ)) (n : ℕ) → IsBadLineFrom left left' n → IsBadLineOf check left left' n
+bad_check left left' n h = record { doc = h.doc; consumed = h.consumed; at_end = h.at_end; output = h.bad }
 
-pub bad_select : (left left' : Option (List ℕ)) (query : List ℕ) (q : QueryTree) → IsRead (chars query) q → (f : RunFault) → IfBadLine (IsBadLineFrom left left') f → IfBadLine (IsBadLineOf (select query) left left') f
-bad_select left left' query q r (Query f) h = tt
-bad_select left left' query q r (BadLine n) h = record { doc = h.doc; consumed = h.consumed; at_end = h.at_end; output = ((q, r), h.bad) }
-bad_select left left' query q r WorkerRefused h = tt
-bad_select left left' query q r Memory h = tt
-bad_select left left' query q r Read h = tt
-bad_select left left' query q r Write h = tt
-bad_select left left' query q r Line h = tt
-
-pub bad_check : (left left' : Option (List ℕ)) (f : RunFault) → IfBadLine (IsBadLineFrom left left') f → IfBadLine (IsBadLineOf check left left') f
-bad_check left left' (Query q) h = tt
-bad_check left left' (BadLine n) h = record { doc = h.doc; consumed = h.consumed; at_end = h.at_end; output = h.bad }
-bad_check left left' WorkerRefused h = tt
-bad_check left left' Memory h = tt
-bad_check left left' Read h = tt
-bad_check left left' Write h = tt
-bad_check left left' Line h = tt
-
-pub bad_terms : (left left' : Option (List ℕ)) (f : RunFault) → IfBadLine (IsBadLineFrom left left') f → IfBadLine (IsBadLineOf terms left left') f
-bad_terms left left' (Query q) h = tt
-bad_terms left left' (BadLine n) h = record { doc = h.doc; consumed = h.consumed; at_end = h.at_end; output = h.bad }
-bad_terms left left' WorkerRefused h = tt
-bad_terms left left' Memory h = tt
-bad_terms left left' Read h = tt
-bad_terms left left' Write h = tt
-bad_terms left left' Line h = tt
-
-pub no_query : (P : QueryFault → Type 0) (f : RunFault) → IsOfDocument f → IfQuery P f
-no_query P (Query q) h = absurd h
-no_query P (BadLine n) h = tt
-no_query P WorkerRefused h = tt
-no_query P Memory h = tt
-no_query P Read h = tt
-no_query P Write h = tt
-no_query P Line h = tt
-
-pub of_composing : (f : RunFault) → IsOfDocument f → IsOfComposing f
-of_composing (Query q) h = tt
-of_composing (BadLine n) h = tt
-of_composing WorkerRefused h = tt
-of_composing Memory h = tt
-of_composing Read h = tt
-of_composing Write h = h
-of_composing Line h = h
+pub bad_terms : (left left' : Option (List ℕ)) (n : ℕ) → IsBadLineFrom left left' n → IsBadLineOf terms left left' n
+bad_terms left left' n h = record { doc = h.doc; consumed = h.consumed; at_end = h.at_end; output = h.bad }
 
 pub from_blocks : (left left' : Option (List ℕ)) (blocks slice : List (Vec ℕ Global)) (store : StoreView)
     → Consumes left left' (joined (block_texts blocks)) → IsAtEnd left' → slice ≡ blocks

@@ -1,5 +1,6 @@
 pub mod AnsweringSteps
 pub mod BlockSteps
+pub mod ComposingSteps
 pub mod DocumentSteps
 pub mod ListingSteps
 pub mod ReportSteps

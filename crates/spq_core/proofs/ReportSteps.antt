@@ -1,10 +1,13 @@
 -- A beginning of two texts, one behind the other.
-use Rattle.std.proofs.Common.{ℕ, ◌+◌, ◌≤◌, List, ◌++◌, length, take, Option, sym, subst, arith}
+use Rattle.std.proofs.Common.{◌⊎◌, inl, inr, ℕ, ◌+◌, ◌^◌, ◌-◌, ◌≤◌, List, [], ◌++◌, length, min, take, drop, Option, None, Some, Result, sym, ap, ◌∙◌, subst, arith, append_assoc, append-nil, length-drop}
 use Rattle.std.proofs.Math.Seq.{take-append-add}
-use Rattle.std.proofs.lemmas.List.{take-append-le, length-append}
+use Rattle.std.proofs.lemmas.List.{take-append-le, take-append-drop, length-append}
 use Rattle.std.specs.Io.KnownBytes.{Appends}
 use Rattle.nquads_core.proofs.TransferSteps.{Appends-more}
-use Rattle.nquads_core.specs.Transfer.{WroteBeginning}
+use Rattle.nquads_core.specs.Device.{Rises, Stays}
+use Rattle.nquads_core.specs.Transfer.{TookNone, WroteBeginning}
+use Rattle.nquads_core.specs.declared.device.DeviceFailed.{DeviceFailed}
+use Rattle.spq_core.specs.Run.{WriterFailed}
 
 pub front_begun : (a b : Option (List ℕ)) (front back : List ℕ) → WroteBeginning a b front → WroteBeginning a b (front ++ back)
 front_begun a b front back w =
@@ -18,3 +21,75 @@ back_begun a b c front back h w =
     let l = length-append front back in
     let s = w.short in
     record { count = length front + w.count; short = omega arith; appended = subst (λ (t : List ℕ). Appends a c t) (sym (take-append-add front back w.count)) (Appends-more a b c front (take w.count back) h w.appended) }
+
+-- ---- counts of failures, one step after the other
+
+pub stays_stays : (a b c : Option ℕ) → Stays a b → Stays b c → Stays a c
+stays_stays None b c h k = tt
+stays_stays (Some n) None c h k = absurd h
+stays_stays (Some n) (Some m) None h k = absurd k
+stays_stays (Some n) (Some m) (Some l) h k = k ∙ h
+
+pub stays_rises : (a b c : Option ℕ) → Stays a b → Rises b c → Rises a c
+stays_rises None b c h k = tt
+stays_rises (Some n) None c h k = absurd h
+stays_rises (Some n) (Some m) None h k = absurd k
+stays_rises (Some n) (Some m) (Some l) h k = k ∙ ap (λ (x : ℕ). min (x + 1) (2 ^ 64 - 1)) h
+
+-- ---- why a text was not written whole
+
+pub text_failed : {K : Type 0} (gives : K → List ℕ → Result ℕ DeviceFailed → K → Type 0) (a b : Option ℕ) (text : List ℕ) (writer : K)
+    → Rises a b ⊎ (TookNone gives text writer × Stays a b) → WriterFailed gives a b text writer
+text_failed gives a b text writer (inl h) = inl h
+text_failed gives a b text writer (inr h) =
+    let at = h.0.at in
+    let l = length-drop at text in
+    let w = h.0.left in
+    inr (
+      record {
+        before = h.0.before;
+        front = take at text;
+        given = drop at text;
+        back = [];
+        parts = sym (take-append-drop at text) ∙ ap (λ (x : List ℕ). take at text ++ x) (sym (append-nil (drop at text)));
+        some = omega arith;
+        none = h.0.none;
+      },
+      h.1,
+    )
+
+pub front_failed : {K : Type 0} (gives : K → List ℕ → Result ℕ DeviceFailed → K → Type 0) (a b : Option ℕ) (front back : List ℕ) (writer : K)
+    → WriterFailed gives a b front writer → WriterFailed gives a b (front ++ back) writer
+front_failed gives a b front back writer (inl h) = inl h
+front_failed gives a b front back writer (inr h) =
+    let t = h.0 in
+    inr (
+      record {
+        before = t.before;
+        front = t.front;
+        given = t.given;
+        back = t.back ++ back;
+        parts = ap (λ (x : List ℕ). x ++ back) t.parts ∙ append_assoc t.front (t.given ++ t.back) back ∙ ap (λ (x : List ℕ). t.front ++ x) (append_assoc t.given t.back back);
+        some = t.some;
+        none = t.none;
+      },
+      h.1,
+    )
+
+pub back_failed : {K : Type 0} (gives : K → List ℕ → Result ℕ DeviceFailed → K → Type 0) (a b c : Option ℕ) (front back : List ℕ) (writer : K)
+    → Stays a b → WriterFailed gives b c back writer → WriterFailed gives a c (front ++ back) writer
+back_failed gives a b c front back writer s (inl h) = inl (stays_rises a b c s h)
+back_failed gives a b c front back writer s (inr h) =
+    let t = h.0 in
+    inr (
+      record {
+        before = t.before;
+        front = front ++ t.front;
+        given = t.given;
+        back = t.back;
+        parts = ap (λ (x : List ℕ). front ++ x) t.parts ∙ sym (append_assoc front t.front (t.given ++ t.back));
+        some = t.some;
+        none = t.none;
+      },
+      stays_stays a b c s h.1,
+    )

@@ -57,4 +57,4 @@ exit_status (Err fault) = status_of fault
 -- beginning of it.
 abbrev pub WroteOrFailed : {K : Type 0} → (K → List ℕ → Result ℕ DeviceFailed → K → Type 0) → Option ℕ → Option ℕ → K → Option (List ℕ) → Option (List ℕ) → List ℕ → Type 0
 WroteOrFailed gives fails fails' writer' held held' text =
-    (Appends held held' text × Stays fails fails') ⊎ (WroteBeginning held held' text × WriterFailed gives fails fails' writer')
+    (Appends held held' text × Stays fails fails') ⊎ (WroteBeginning held held' text × WriterFailed gives fails fails' text writer')

@@ -1,9 +1,10 @@
 -- What a run did, and what is left where it was refused.
-use Rattle.std.specs.Prelude.{◌≡◌, ◌⊎◌, ℕ, List, ⊤, Option, Result, Ok, Err}
+use Rattle.std.specs.Prelude.{◌≡◌, ◌⊎◌, ◌<◌, ◌++◌, ℕ, List, length, ⊤, Option, Result, Ok, Err, IfOk, OnOk, OnErr, Vec}
+use Rattle.std.specs.Global.{Global}
 use Rattle.std.specs.Str.{chars}
 use Rattle.std.specs.Io.KnownBytes.{Appends, Consumes, IsAtEnd}
 use Rattle.nquads_core.specs.Device.{Rises, Stays}
-use Rattle.nquads_core.specs.Transfer.{TookNone, WroteBeginning}
+use Rattle.nquads_core.specs.Transfer.{IsReadInPart, WroteBeginning}
 use Rattle.nquads_core.specs.declared.device.DeviceFailed.{DeviceFailed}
 use Rattle.nquads_core.specs.Lines.{lines}
 use Rattle.dataset_load.specs.Store.{StoreView}
@@ -12,6 +13,7 @@ use Rattle.spq_command.specs.declared.command.Command.{Command}
 use Rattle.spq_command.specs.declared.command.Command.TheVariants.{Select, Check, Terms}
 use Rattle.spq_command.specs.declared.command_line.CommandFault.{CommandFault}
 use Rattle.spq_command.specs.declared.command_line.CommandFault.TheVariants as words
+use Rattle.result_json.specs.Results.{joined_blocks}
 use Rattle.spq_core.specs.Outcome.{bad_line, IsBadLine}
 use Rattle.spq_core.specs.Output.{Request, select, check, terms, IsOutput}
 use Rattle.spq_core.specs.declared.fault.Fault.{Fault}
@@ -85,116 +87,85 @@ pub record IsBadLineFrom (left left' : Option (List ℕ)) (line : ℕ) : Type 0 
   pub at_end : IsAtEnd left'
   pub bad : IsBadLine doc line
 
--- ---- a fact for one fault, or for all but one
+-- The device is as a write left it that was given some bytes of the text and took none of them.
+-- The bytes before them are `front`, and the bytes after them are `back`.
+pub record TookNoneOf {K : Type 0} (write_gives : K → List ℕ → Result ℕ DeviceFailed → K → Type 0)
+    (text : List ℕ) (device : K) : Type 0 where
+  pub before : K
+  pub front : List ℕ
+  pub given : List ℕ
+  pub back : List ℕ
+  pub parts : text ≡ front ++ (given ++ back)
+  pub some : 0 < length given
+  pub none : write_gives before given (Ok 0) device
 
-abbrev pub IfQuery : (QueryFault → Type 0) → RunFault → Type 0
-IfQuery P (Query f) = P f
-IfQuery P (BadLine n) = ⊤
-IfQuery P WorkerRefused = ⊤
-IfQuery P Memory = ⊤
-IfQuery P Read = ⊤
-IfQuery P Write = ⊤
-IfQuery P Line = ⊤
+-- The writer failed, or it is as a write left it that took none of the next bytes of the text, and then
+-- no call of it failed.
+abbrev pub WriterFailed : {K : Type 0} → (K → List ℕ → Result ℕ DeviceFailed → K → Type 0) → Option ℕ → Option ℕ → List ℕ → K → Type 0
+WriterFailed write_gives failures failures' text writer' = Rises failures failures' ⊎ (TookNoneOf write_gives text writer' × Stays failures failures')
 
-abbrev pub IfBadLine : (ℕ → Type 0) → RunFault → Type 0
-IfBadLine P (Query f) = ⊤
-IfBadLine P (BadLine n) = P n
-IfBadLine P WorkerRefused = ⊤
-IfBadLine P Memory = ⊤
-IfBadLine P Read = ⊤
-IfBadLine P Write = ⊤
-IfBadLine P Line = ⊤
-
-abbrev pub IfWorkerRefused : Type 0 → RunFault → Type 0
-IfWorkerRefused P (Query f) = ⊤
-IfWorkerRefused P (BadLine n) = ⊤
-IfWorkerRefused P WorkerRefused = P
-IfWorkerRefused P Memory = ⊤
-IfWorkerRefused P Read = ⊤
-IfWorkerRefused P Write = ⊤
-IfWorkerRefused P Line = ⊤
-
-abbrev pub IfRead : Type 0 → RunFault → Type 0
-IfRead P (Query f) = ⊤
-IfRead P (BadLine n) = ⊤
-IfRead P WorkerRefused = ⊤
-IfRead P Memory = ⊤
-IfRead P Read = P
-IfRead P Write = ⊤
-IfRead P Line = ⊤
-
-abbrev pub IfWrite : Type 0 → RunFault → Type 0
-IfWrite P (Query f) = ⊤
-IfWrite P (BadLine n) = ⊤
-IfWrite P WorkerRefused = ⊤
-IfWrite P Memory = ⊤
-IfWrite P Read = ⊤
-IfWrite P Write = P
-IfWrite P Line = ⊤
-
-abbrev pub UnlessWrite : Type 0 → RunFault → Type 0
-UnlessWrite P (Query f) = P
-UnlessWrite P (BadLine n) = P
-UnlessWrite P WorkerRefused = P
-UnlessWrite P Memory = P
-UnlessWrite P Read = P
-UnlessWrite P Write = ⊤
-UnlessWrite P Line = P
-
-abbrev pub UnlessRead : Type 0 → RunFault → Type 0
-UnlessRead P (Query f) = P
-UnlessRead P (BadLine n) = P
-UnlessRead P WorkerRefused = P
-UnlessRead P Memory = P
-UnlessRead P Read = ⊤
-UnlessRead P Write = P
-UnlessRead P Line = P
-
-abbrev pub IsNoRefusedWorker : RunFault → Type 0
-IsNoRefusedWorker (Query f) = ⊤
-IsNoRefusedWorker (BadLine n) = ⊤
-IsNoRefusedWorker WorkerRefused = ⊥
-IsNoRefusedWorker Memory = ⊤
-IsNoRefusedWorker Read = ⊤
-IsNoRefusedWorker Write = ⊤
-IsNoRefusedWorker Line = ⊤
-
-abbrev pub IsNotLine : RunFault → Type 0
-IsNotLine (Query f) = ⊤
-IsNotLine (BadLine n) = ⊤
-IsNotLine WorkerRefused = ⊤
-IsNotLine Memory = ⊤
-IsNotLine Read = ⊤
-IsNotLine Write = ⊤
-IsNotLine Line = ⊥
-
--- A beginning of the output for what was read was written, and not all of it.
-pub record IsWrittenInPart (request : Request) (left left' held held' : Option (List ℕ)) : Type 0 where
+-- A beginning of the output for what was read was written, and not all of it, since the writer failed.
+pub record IsWrittenInPart {K : Type 0} (request : Request) (left left' : Option (List ℕ))
+    (held : K → Option (List ℕ)) (write_failures : K → Option ℕ)
+    (write_gives : K → List ℕ → Result ℕ DeviceFailed → K → Type 0) (writer writer' : K) : Type 0 where
   pub text : List ℕ
   pub composed : IsComposed request left left' text
-  pub part : WroteBeginning held held' text
+  pub part : WroteBeginning (held writer) (held writer') text
+  pub failed : WriterFailed write_gives (write_failures writer) (write_failures writer') text writer'
 
--- The writer failed, or is as a write left it that took no byte of a text that was not empty, and
--- then no call of it failed.
-abbrev pub WriterFailed : {K : Type 0} → (K → List ℕ → Result ℕ DeviceFailed → K → Type 0) → Option ℕ → Option ℕ → K → Type 0
-WriterFailed gives fails fails' writer' = Rises fails fails' ⊎ (((text : List ℕ) × TookNone gives text writer') × Stays fails fails')
+-- What loading the document of a reader returned, and what it did to the reader. What the reader
+-- exposes comes first: the bytes that are left, and the count of its failures. `alone` says that one
+-- worker loads, which is the caller.
+pub record IsLoading {S : Type 0} (left : S → Option (List ℕ)) (read_failures : S → Option ℕ)
+    (alone : Type 0) (reader reader' : S) (result : Result StoreView RunFault) : Type 0 where
+  pub loaded : IfOk result (IsLoadedFrom (left reader) (left reader'))
+  pub bad_line : (n : ℕ) → result ≡ Err (BadLine n) → IsBadLineFrom (left reader) (left reader') n
+  pub taken : OnErr result (IsReadInPart (left reader) (left reader'))
+  pub read : result ≡ Err Read → Rises (read_failures reader) (read_failures reader')
+  pub unfailed : (result ≡ Err Read → ⊥) → Stays (read_failures reader) (read_failures reader')
+  pub query : (f : QueryFault) → result ≡ Err (Query f) → ⊥
+  pub write : result ≡ Err Write → ⊥
+  pub line : result ≡ Err Line → ⊥
+  pub one_worker : alone → result ≡ Err WorkerRefused → ⊥
 
--- composing answers neither of these
-abbrev pub IsOfComposing : RunFault → Type 0
-IsOfComposing (Query f) = ⊤
-IsOfComposing (BadLine n) = ⊤
-IsOfComposing WorkerRefused = ⊤
-IsOfComposing Memory = ⊤
-IsOfComposing Read = ⊤
-IsOfComposing Write = ⊥
-IsOfComposing Line = ⊥
+-- What composing the output of a command returned, and what it did to the reader. Nothing is written.
+-- The output is in blocks, one after the other.
+pub record IsComposing {S : Type 0} (left : S → Option (List ℕ)) (read_failures : S → Option ℕ)
+    (request : Request) (alone : Type 0) (reader reader' : S)
+    (result : Result (Vec (Vec ℕ Global) Global) RunFault) : Type 0 where
+  pub composed : IfOk result (λ blocks. IsComposed request (left reader) (left reader') (joined_blocks blocks.items))
+  pub query : (f : QueryFault) → result ≡ Err (Query f) → IsQueryOf request f × (reader' ≡ reader)
+  pub judged_first : OnErr result ((reader' ≡ reader) ⊎ IsAnswerable request)
+  pub answerable : result ≡ Err WorkerRefused → IsAnswerable request
+  pub bad_line : (n : ℕ) → result ≡ Err (BadLine n) → IsBadLineOf request (left reader) (left reader') n
+  pub taken : OnErr result (IsReadInPart (left reader) (left reader'))
+  pub read : result ≡ Err Read → Rises (read_failures reader) (read_failures reader')
+  pub unfailed : (result ≡ Err Read → ⊥) → Stays (read_failures reader) (read_failures reader')
+  pub write : result ≡ Err Write → ⊥
+  pub line : result ≡ Err Line → ⊥
+  pub one_worker : alone → result ≡ Err WorkerRefused → ⊥
 
--- reading and loading a document answers none of these
-abbrev pub IsOfDocument : RunFault → Type 0
-IsOfDocument (Query f) = ⊥
-IsOfDocument (BadLine n) = ⊤
-IsOfDocument WorkerRefused = ⊤
-IsOfDocument Memory = ⊤
-IsOfDocument Read = ⊤
-IsOfDocument Write = ⊥
-IsOfDocument Line = ⊥
+-- What a run returned, and what it did to its reader and its writer. What these expose comes first: the
+-- bytes that are left, the count of the reader's failures, the bytes that are held, the count of the
+-- writer's failures, and what a write may give.
+pub record IsRun {S K T : Type 0} (left : S → Option (List ℕ)) (read_failures : S → Option ℕ)
+    (held : K → Option (List ℕ)) (write_failures : K → Option ℕ)
+    (write_gives : K → List ℕ → Result ℕ DeviceFailed → K → Type 0) (request : Request)
+    (reader reader' : S) (writer writer' : K) (result : Result T RunFault) : Type 0 where
+  -- the whole output was written
+  pub done : OnOk result (IsDone request (left reader) (left reader') (held writer) (held writer'))
+  -- the query is rejected before anything is read
+  pub query : (f : QueryFault) → result ≡ Err (Query f) → IsQueryOf request f × (reader' ≡ reader)
+  pub judged_first : OnErr result ((reader' ≡ reader) ⊎ IsAnswerable request)
+  -- the first malformed line, and all was read
+  pub bad_line : (n : ℕ) → result ≡ Err (BadLine n) → IsBadLineOf request (left reader) (left reader') n
+  -- what was taken from the reader, and whether it failed
+  pub taken : OnErr result (IsReadInPart (left reader) (left reader'))
+  pub read : result ≡ Err Read → Rises (read_failures reader) (read_failures reader')
+  pub unfailed : (result ≡ Err Read → ⊥) → Stays (read_failures reader) (read_failures reader')
+  -- what was written, and whether the writer failed
+  pub write : result ≡ Err Write → IsWrittenInPart request (left reader) (left reader') held write_failures write_gives writer writer'
+  pub write_count : OnOk result (Stays (write_failures writer) (write_failures writer'))
+  pub unwritten : (result ≡ Err Write → ⊥) → OnErr result (writer' ≡ writer)
+  -- a run returns no fault of the command line
+  pub line : result ≡ Err Line → ⊥

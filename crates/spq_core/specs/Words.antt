@@ -1,36 +1,13 @@
 -- What the words of a command line do to a reader and a writer.
-use Rattle.std.specs.Prelude.{◌≡◌, ◌⊎◌, ℕ, List, ⊤, Option, Result, Err, IfErr, OnErr, OnOk}
-use Rattle.nquads_core.specs.Device.{Rises, Stays}
-use Rattle.nquads_core.specs.Transfer.{IsReadInPart}
+use Rattle.std.specs.Prelude.{◌≡◌, ℕ, List, ⊤, Option, Result, Err}
 use Rattle.nquads_core.specs.declared.device.DeviceFailed.{DeviceFailed}
 use Rattle.spq_command.specs.Program.{IsCommandLine}
 use Rattle.spq_command.specs.declared.command.Command.{Command}
 use Rattle.spq_command.specs.declared.command.Command.TheVariants.{Select, Check, Terms}
-use Rattle.spq_core.specs.Output.{Request, request_of}
-use Rattle.spq_core.specs.Run.{IfBadLine, IfQuery, IfRead, IfWorkerRefused, IfWrite, IsAnswerable, IsBadLineOf, IsByOneWorker, IsDone, IsNoRefusedWorker, IsNotLine, IsQueryOf, IsWrittenInPart, UnlessRead, UnlessWrite, WriterFailed}
+use Rattle.spq_core.specs.Output.{request_of}
+use Rattle.spq_core.specs.Run.{IsByOneWorker, IsRun}
 use Rattle.spq_core.specs.declared.program.RunFault.{RunFault}
 use Rattle.spq_core.specs.declared.program.RunFault.TheVariants.{Query, BadLine, WorkerRefused, Memory, Read, Write, Line}
-
--- What a run answered, and what it did to its reader and its writer. What these tell is passed in
--- front: the bytes that are left, the failures of the reader, the bytes that are held, the failures
--- of the writer, and what a write may give.
-pub record IsRun {S K T : Type 0} (left : S → Option (List ℕ)) (read_failures : S → Option ℕ)
-    (held : K → Option (List ℕ)) (write_failures : K → Option ℕ)
-    (gives : K → List ℕ → Result ℕ DeviceFailed → K → Type 0) (request : Request)
-    (reader reader' : S) (writer writer' : K) (result : Result T RunFault) : Type 0 where
-  pub done : OnOk result (IsDone request (left reader) (left reader') (held writer) (held writer'))
-  pub read_count : OnOk result (Stays (read_failures reader) (read_failures reader'))
-  pub written_count : OnOk result (Stays (write_failures writer) (write_failures writer'))
-  pub query : IfErr result (IfQuery (λ f. IsQueryOf request f × (reader' ≡ reader)))
-  pub judged_first : OnErr result ((reader' ≡ reader) ⊎ IsAnswerable request)
-  pub bad_line : IfErr result (IfBadLine (IsBadLineOf request (left reader) (left reader')))
-  pub taken : OnErr result (IsReadInPart (left reader) (left reader'))
-  pub read : IfErr result (IfRead (Rises (read_failures reader) (read_failures reader')))
-  pub unfailed : IfErr result (UnlessRead (Stays (read_failures reader) (read_failures reader')))
-  pub write : IfErr result (IfWrite (IsWrittenInPart request (left reader) (left reader') (held writer) (held writer')))
-  pub write_count : IfErr result (IfWrite (WriterFailed gives (write_failures writer) (write_failures writer') writer'))
-  pub unwritten : IfErr result (UnlessWrite (writer' ≡ writer))
-  pub line : IfErr result IsNotLine
 
 -- The words are no command, or a growth was refused, which says nothing of the words.
 abbrev pub IsRefusedOf : List (List ℕ) → RunFault → Type 0
@@ -66,5 +43,5 @@ pub record IsRunOf {S K T : Type 0} (left : S → Option (List ℕ)) (read_failu
   pub command : Command
   pub told : IsCommandLine words command
   pub run : IsRun left read_failures held write_failures gives (request_of command) reader reader' writer writer' result
-  pub alone : IsDoneAlone command → IfErr result IsNoRefusedWorker
-  pub unread : IsByOneWorker command → IfErr result (IfWorkerRefused (reader' ≡ reader))
+  pub alone : IsDoneAlone command → result ≡ Err WorkerRefused → ⊥
+  pub unread : IsByOneWorker command → result ≡ Err WorkerRefused → reader' ≡ reader

@@ -7,7 +7,9 @@ ghost use Rattle.row_pieces.specs.How.{IsRunnable, HasOneWorker};
 ghost use Rattle.row_pieces.specs.declared.how.EvalFault.TheVariants.{Memory};
 ghost use Rattle.sparql_tree.specs.QueryTree.{query_of};
 ghost use Rattle.sparql_read.specs.Refusal.{IsRead};
-ghost use Rattle.sparql_algebra.specs.Names.{selected_names};
+ghost use Rattle.sparql_algebra.specs.AlgebraOf.{algebra_of};
+ghost use Rattle.sparql_algebra.specs.Names.{names_of, selected_names};
+ghost use Rattle.sparql_algebra.specs.Translation.{translate};
 ghost use Rattle.spq_core.specs.Faults.{IsFaultOf, IsFaultOfReading, IsNoRefusedWorker};
 ghost use Rattle.spq_core.specs.Outcome.{IsOutcome, rows};
 ghost use Rattle.result_json.specs.Results.{joined_blocks, json};
@@ -19,7 +21,7 @@ use piece_cuts::Cuts;
 use piece_pool::Gate;
 use result_json::{Table, print_rows};
 use row_pieces::{EvalFault, How};
-use sparql_algebra::translate;
+use sparql_algebra::{Plan, translate};
 use sparql_eval::evaluate;
 use sparql_read::{QueryFault, read_query};
 use sparql_tree::Query;
@@ -44,8 +46,7 @@ pub fn judged(alloc: Global, text: &str) -> Result<Query, Fault>
     }
 }
 
-/// The answer of a query that was read, over a dataset that was loaded: the JSON of its rows, in blocks
-/// that lie one behind the other.
+/// Returns the JSON of a query's rows over a loaded dataset, in blocks that follow each other.
 pub fn answer_query<R: Threads + Wait + RandomSource, G: Gate + Sync>(
     rt: &R,
     alloc: Global,
@@ -60,10 +61,33 @@ pub fn answer_query<R: Threads + Wait + RandomSource, G: Gate + Sync>(
         (rows (query_of query.now) (quads_at store.dict store.index))) }
     ensures one_worker { HasOneWorker how.now → IfErr result (λ fault. fault ≡ Memory) }
 {
-    a_bag_has_one_sorted_list();
     let plan = translate(alloc, query)?;
+    answer_plan(rt, alloc, store, query, &plan, how, gate)
+}
+
+/// Evaluates the plan of a query over a loaded dataset, and prints its rows.
+///
+/// The plan is only borrowed here: a function that owns a tree pays for its drop at each of its exits.
+fn answer_plan<R: Threads + Wait + RandomSource, G: Gate + Sync>(
+    rt: &R,
+    alloc: Global,
+    store: Store,
+    query: &Query,
+    plan: &Plan,
+    how: &How,
+    gate: &G,
+) -> Result<Vec<Vec<u8>>, EvalFault>
+    requires names { plan.now.names.items ≡ names_of (query_of query.now) }
+    requires tree { algebra_of plan.now.tree ≡ (translate (query_of query.now)).algebra }
+    requires how { IsRunnable how.now }
+    ensures answer { IfOk result (λ blocks. joined_blocks blocks.items
+        ≡ json (selected_names (query_of query.now))
+        (rows (query_of query.now) (quads_at store.dict store.index))) }
+    ensures one_worker { HasOneWorker how.now → IfErr result (λ fault. fault ≡ Memory) }
+{
+    a_bag_has_one_sorted_list();
     let (dict, index) = store.into_parts();
-    let (rows, dict) = evaluate(rt, alloc, dict, &index, &plan, how, gate)?;
+    let (rows, dict) = evaluate(rt, alloc, dict, &index, plan, how, gate)?;
     drop(index);
     let table = Table {
         names: &plan.names,

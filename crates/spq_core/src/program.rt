@@ -1,11 +1,14 @@
 //! The program: a command over a reader and a writer.
-ghost use Rattle.std.specs.Prelude.{◌≡◌, ◌⊎◌, IfErr, IfOk, OnErr, OnOk};
+ghost use Rattle.std.specs.Prelude.{◌≡◌, Err, IfErr, IfOk, OnErr, OnOk, length};
 ghost use Rattle.std.specs.Io.KnownBytes.{Appends};
-ghost use Rattle.nquads_core.specs.Device.{Rises, Stays};
-ghost use Rattle.nquads_core.specs.Transfer.{IsReadInPart, WroteBeginning};
+ghost use Rattle.nquads_core.specs.Device.{Stays};
+ghost use Rattle.nquads_core.specs.Transfer.{WroteBeginning};
+ghost use Rattle.dataset_load.specs.Store.{names_in};
 ghost use Rattle.result_json.specs.Results.{joined_blocks};
 ghost use Rattle.spq_core.specs.Output.{check, request_of, select, terms};
-ghost use Rattle.spq_core.specs.Run.{IfBadLine, IfQuery, IfRead, IfWorkerRefused, IfWrite, IsAnswerable, IsBadLineFrom, IsBadLineOf, IsByOneWorker, IsComposed, IsDone, IsLoadedFrom, IsNoRefusedWorker, IsNotLine, IsOfComposing, IsOfDocument, IsQueryOf, IsWrittenInPart, UnlessRead, UnlessWrite, WriterFailed};
+ghost use Rattle.spq_core.specs.Listing.{counts_line, term_lines};
+ghost use Rattle.spq_core.specs.Run.{IsAnswerable, IsByOneWorker, IsComposing, IsLoading, IsRun, WriterFailed};
+ghost use Rattle.spq_core.specs.declared.program.RunFault.TheVariants.{Memory, WorkerRefused};
 
 use crate::answering::{answer_query, judged};
 use crate::fault::Fault;
@@ -65,6 +68,17 @@ impl From<Fault> for RunFault {
     }
 }
 
+impl From<AllocError> for RunFault {
+    ghost use Rattle.std.specs.Prelude.{◌≡◌};
+    ghost use Rattle.spq_core.specs.declared.program.RunFault.TheVariants.{Memory};
+
+    ghost from_gives = { λ _ e. e ≡ Memory };
+
+    fn from(_refused: AllocError) -> RunFault {
+        RunFault::Memory
+    }
+}
+
 impl From<CommandFault> for RunFault {
     ghost use Rattle.std.specs.Prelude.{◌≡◌};
     ghost use Rattle.spq_core.specs.Run.{fault_of_words};
@@ -79,23 +93,14 @@ impl From<CommandFault> for RunFault {
     }
 }
 
-/// The dataset of the document that the reader has left. It is read in blocks, which are not joined.
+/// Reads the rest of the reader in blocks of whole lines, and loads them as a dataset.
 fn load_document<R: Threads + Wait + RandomSource, S: Source>(
     rt: &R,
     alloc: Global,
     reading: Reading,
     reader: &mut S,
 ) -> Result<Store, RunFault>
-    ensures loaded { IfOk result (IsLoadedFrom (S.left reader.old) (S.left reader.new)) }
-    ensures bad_line { IfErr result
-        (IfBadLine (IsBadLineFrom (S.left reader.old) (S.left reader.new))) }
-    ensures count { OnOk result (Stays (S.failures reader.old) (S.failures reader.new)) }
-    ensures taken { OnErr result (IsReadInPart (S.left reader.old) (S.left reader.new)) }
-    ensures read { IfErr result (IfRead (Rises (S.failures reader.old) (S.failures reader.new))) }
-    ensures unfailed { IfErr result
-        (UnlessRead (Stays (S.failures reader.old) (S.failures reader.new))) }
-    ensures kind { IfErr result IsOfDocument }
-    ensures one_worker { reading.workers ≡ 1 → IfErr result IsNoRefusedWorker }
+    ensures { IsLoading S.left S.failures (reading.workers ≡ 1) reader.old reader.new result }
 {
     let blocks = match read_blocks(alloc, reading.piece, reader) {
         Ok(blocks) => blocks,
@@ -110,8 +115,8 @@ fn load_document<R: Threads + Wait + RandomSource, S: Source>(
     }
 }
 
-/// The answer of a query over the document that the reader has left, in blocks that lie one behind the
-/// other. The query is judged before anything is read. (A piece of no rows is taken as one of one row.)
+/// Evaluates a query over the rest of the reader, and returns the result in blocks that follow each
+/// other. Checks the query before it reads. (A piece of no rows is taken as one of one row.)
 fn selected<R: Threads + Wait + RandomSource, S: Source>(
     rt: &R,
     alloc: Global,
@@ -120,23 +125,8 @@ fn selected<R: Threads + Wait + RandomSource, S: Source>(
     rows: usize,
     reader: &mut S,
 ) -> Result<Vec<Vec<u8>>, RunFault>
-    ensures composed { IfOk result
-        (λ blocks. IsComposed (select query.now) (S.left reader.old) (S.left reader.new)
-        (joined_blocks blocks.items)) }
-    ensures query { IfErr result
-        (IfQuery (λ f. IsQueryOf (select query.now) f × (reader.new ≡ reader.old))) }
-    ensures judged_first { OnErr result
-        ((reader.new ≡ reader.old) ⊎ IsAnswerable (select query.now)) }
-    ensures answerable { IfErr result (IfWorkerRefused (IsAnswerable (select query.now))) }
-    ensures bad_line { IfErr result
-        (IfBadLine (IsBadLineOf (select query.now) (S.left reader.old) (S.left reader.new))) }
-    ensures count { OnOk result (Stays (S.failures reader.old) (S.failures reader.new)) }
-    ensures taken { OnErr result (IsReadInPart (S.left reader.old) (S.left reader.new)) }
-    ensures read { IfErr result (IfRead (Rises (S.failures reader.old) (S.failures reader.new))) }
-    ensures unfailed { IfErr result
-        (UnlessRead (Stays (S.failures reader.old) (S.failures reader.new))) }
-    ensures kind { IfErr result IsOfComposing }
-    ensures one_worker { reading.workers ≡ 1 → IfErr result IsNoRefusedWorker }
+    ensures { IsComposing S.left S.failures (select query.now) (reading.workers ≡ 1)
+        reader.old reader.new result }
 {
     a_dataset_is_a_set();
     a_bag_has_one_sorted_list();
@@ -156,100 +146,73 @@ fn selected<R: Threads + Wait + RandomSource, S: Source>(
     }
 }
 
-/// A text as a list of one block.
+/// Makes a list of one block.
 fn one_block(alloc: Global, text: Vec<u8>) -> Result<Vec<Vec<u8>>, AllocError>
     ensures joined { IfOk result (λ blocks. joined_blocks blocks.items ≡ text.items) }
 {
     Ok(vec![in alloc; text]?)
 }
 
-/// How many quads, terms and graphs the document has that the reader has left, as one block.
+/// Counts the quads, terms and graphs of a dataset, as one block.
+fn counts_block(alloc: Global, store: &Store) -> Result<Vec<Vec<u8>>, RunFault>
+    ensures text { IfOk result (λ blocks. joined_blocks blocks.items ≡ counts_line
+        (length store.now.index) (length store.now.dict) (length (names_in store.now.index))) }
+    ensures memory { IfErr result (λ fault. fault ≡ Memory) }
+{
+    let text = counts_text(alloc, store)?;
+    Ok(one_block(alloc, text)?)
+}
+
+/// Lists the terms of a dataset, as one block.
+fn terms_block(alloc: Global, store: &Store) -> Result<Vec<Vec<u8>>, RunFault>
+    ensures text { IfOk result (λ blocks. joined_blocks blocks.items ≡ term_lines store.now.dict) }
+    ensures memory { IfErr result (λ fault. fault ≡ Memory) }
+{
+    let text = terms_text(alloc, store.dict())?;
+    Ok(one_block(alloc, text)?)
+}
+
+/// Counts the quads, terms and graphs of the document that is the rest of the reader.
+///
+/// The dataset is only borrowed after it is loaded: a function that owns one pays for its drop at each
+/// of its exits.
 fn checked<R: Threads + Wait + RandomSource, S: Source>(
     rt: &R,
     alloc: Global,
     reading: Reading,
     reader: &mut S,
 ) -> Result<Vec<Vec<u8>>, RunFault>
-    ensures composed { IfOk result
-        (λ blocks. IsComposed check (S.left reader.old) (S.left reader.new)
-        (joined_blocks blocks.items)) }
-    ensures bad_line { IfErr result
-        (IfBadLine (IsBadLineOf check (S.left reader.old) (S.left reader.new))) }
-    ensures count { OnOk result (Stays (S.failures reader.old) (S.failures reader.new)) }
-    ensures taken { OnErr result (IsReadInPart (S.left reader.old) (S.left reader.new)) }
-    ensures read { IfErr result (IfRead (Rises (S.failures reader.old) (S.failures reader.new))) }
-    ensures unfailed { IfErr result
-        (UnlessRead (Stays (S.failures reader.old) (S.failures reader.new))) }
-    ensures kind { IfErr result IsOfDocument }
-    ensures one_worker { reading.workers ≡ 1 → IfErr result IsNoRefusedWorker }
+    ensures { IsComposing S.left S.failures check (reading.workers ≡ 1)
+        reader.old reader.new result }
 {
     let store = load_document(rt, alloc, reading, reader)?;
-    let text = match counts_text(alloc, &store) {
-        Ok(text) => text,
-        Err(_) => return Err(RunFault::Memory),
-    };
-    match one_block(alloc, text) {
-        Ok(blocks) => Ok(blocks),
-        Err(_) => Err(RunFault::Memory),
-    }
+    counts_block(alloc, &store)
 }
 
-/// The terms of the document that the reader has left, as one block.
+/// Lists the terms of the document that is the rest of the reader.
 fn listed<R: Threads + Wait + RandomSource, S: Source>(
     rt: &R,
     alloc: Global,
     reading: Reading,
     reader: &mut S,
 ) -> Result<Vec<Vec<u8>>, RunFault>
-    ensures composed { IfOk result
-        (λ blocks. IsComposed terms (S.left reader.old) (S.left reader.new)
-        (joined_blocks blocks.items)) }
-    ensures bad_line { IfErr result
-        (IfBadLine (IsBadLineOf terms (S.left reader.old) (S.left reader.new))) }
-    ensures count { OnOk result (Stays (S.failures reader.old) (S.failures reader.new)) }
-    ensures taken { OnErr result (IsReadInPart (S.left reader.old) (S.left reader.new)) }
-    ensures read { IfErr result (IfRead (Rises (S.failures reader.old) (S.failures reader.new))) }
-    ensures unfailed { IfErr result
-        (UnlessRead (Stays (S.failures reader.old) (S.failures reader.new))) }
-    ensures kind { IfErr result IsOfDocument }
-    ensures one_worker { reading.workers ≡ 1 → IfErr result IsNoRefusedWorker }
+    ensures { IsComposing S.left S.failures terms (reading.workers ≡ 1)
+        reader.old reader.new result }
 {
     let store = load_document(rt, alloc, reading, reader)?;
-    let text = match terms_text(alloc, store.dict()) {
-        Ok(text) => text,
-        Err(_) => return Err(RunFault::Memory),
-    };
-    match one_block(alloc, text) {
-        Ok(blocks) => Ok(blocks),
-        Err(_) => Err(RunFault::Memory),
-    }
+    terms_block(alloc, &store)
 }
 
-/// The whole output of a command, which is composed before anything is written: blocks of bytes that
-/// lie one behind the other. Nothing joins them, since they are written as they are.
+/// Composes the whole output of a command, before anything is written: blocks that follow each other.
+/// They are not joined, since they are written one by one.
 fn composed<R: Threads + Wait + RandomSource, S: Source>(
     rt: &R,
     alloc: Global,
     command: &Command,
     reader: &mut S,
 ) -> Result<Vec<Vec<u8>>, RunFault>
-    ensures composed { IfOk result
-        (λ blocks. IsComposed (request_of command.now) (S.left reader.old) (S.left reader.new)
-        (joined_blocks blocks.items)) }
-    ensures query { IfErr result
-        (IfQuery (λ f. IsQueryOf (request_of command.now) f × (reader.new ≡ reader.old))) }
-    ensures judged_first { OnErr result
-        ((reader.new ≡ reader.old) ⊎ IsAnswerable (request_of command.now)) }
-    ensures answerable { IfErr result (IfWorkerRefused (IsAnswerable (request_of command.now))) }
-    ensures bad_line { IfErr result
-        (IfBadLine (IsBadLineOf (request_of command.now) (S.left reader.old) (S.left reader.new))) }
-    ensures count { OnOk result (Stays (S.failures reader.old) (S.failures reader.new)) }
-    ensures taken { OnErr result (IsReadInPart (S.left reader.old) (S.left reader.new)) }
-    ensures read { IfErr result (IfRead (Rises (S.failures reader.old) (S.failures reader.new))) }
-    ensures unfailed { IfErr result
-        (UnlessRead (Stays (S.failures reader.old) (S.failures reader.new))) }
-    ensures kind { IfErr result IsOfComposing }
-    ensures one_worker { IsByOneWorker command.now → IfErr result IsNoRefusedWorker }
+    ensures { IsComposing S.left S.failures (request_of command.now) (IsByOneWorker command.now)
+        reader.old reader.new result }
 {
     match command {
         Command::Select {
@@ -262,12 +225,28 @@ fn composed<R: Threads + Wait + RandomSource, S: Source>(
     }
 }
 
-/// Writes the blocks, one behind the other.
+/// Writes a text.
 ///
 /// # Errors
-/// `DeviceFailed`: the writer failed in this call, or took no byte of a text that was not empty, and
-/// then it is as that write left it, and none of its calls failed. A beginning of the blocks was
-/// written, and not all of them.
+/// `DeviceFailed` if the writer fails, or if a write takes no byte. A beginning of the text is written
+/// then, and not all of it.
+pub fn write_text<K: Sink>(writer: &mut K, text: &[u8]) -> Result<(), DeviceFailed>
+    ensures written { OnOk result (Appends (K.held writer.old) (K.held writer.new) text.now) }
+    ensures written_count { OnOk result (Stays (K.failures writer.old) (K.failures writer.new)) }
+    ensures failed { OnErr result
+        (WroteBeginning (K.held writer.old) (K.held writer.new) text.now) }
+    ensures failed_count { OnErr result
+        (WriterFailed K.write_gives (K.failures writer.old) (K.failures writer.new) text.now
+        writer.new) }
+{
+    write_all(writer, text)
+}
+
+/// Writes the blocks, one after the other.
+///
+/// # Errors
+/// `DeviceFailed` if the writer fails, or if a write takes no byte of the next bytes. A beginning of the
+/// blocks is written then, and not all of them.
 fn write_blocks<K: Sink>(writer: &mut K, blocks: &[Vec<u8>]) -> Result<(), DeviceFailed>
     ensures written { OnOk result
         (Appends (K.held writer.old) (K.held writer.new) (joined_blocks blocks.now)) }
@@ -275,32 +254,34 @@ fn write_blocks<K: Sink>(writer: &mut K, blocks: &[Vec<u8>]) -> Result<(), Devic
     ensures failed { OnErr result
         (WroteBeginning (K.held writer.old) (K.held writer.new) (joined_blocks blocks.now)) }
     ensures failed_count { OnErr result
-        (WriterFailed K.write_gives (K.failures writer.old) (K.failures writer.new) writer.new) }
+        (WriterFailed K.write_gives (K.failures writer.old) (K.failures writer.new)
+        (joined_blocks blocks.now) writer.new) }
 {
     for block in blocks {
-        write_all(writer, block)?;
+        write_text(writer, block)?;
     }
     Ok(())
 }
 
-/// Runs a command: judges its query, reads the document to its end, composes the whole output and
+/// Runs a command: checks its query, reads the document to its end, composes the whole output and
 /// then writes it.
 ///
 /// # Errors
-/// - `Query`: the query of a `select` is refused. Nothing was read.
-/// - `BadLine(n)`: line n of the document, counted from 1, is the first that spells nothing. The
+/// - `Query(fault)` if the query of a `select` is rejected. Nothing is read.
+/// - `BadLine(n)` if line n of the document, counted from 1, is the first that is malformed. The
 ///   reader was read to its end.
-/// - `WorkerRefused`: the start of a worker was refused. The text of a `select` is a query: it was judged
-///   before. It never comes of one worker, which is the caller itself.
-/// - `Memory`: a growth was refused.
-/// - `Read`: the reader failed in this call.
-/// - `Write`: the writer failed in this call, or took no byte of a text that was not empty, and then it
-///   is as that write left it, and none of its calls failed. A beginning of the output was written.
+/// - `WorkerRefused` if a worker thread could not be started. The query of a `select` is valid: it was
+///   checked before. With one worker no thread is started, so this cannot occur.
+/// - `Memory` if an allocation fails.
+/// - `Read` if the reader fails.
+/// - `Write` if the writer fails, or if a write takes none of the next bytes of the output. A beginning
+///   of the output was written, and not all of it. A writer that took none is as that write left it,
+///   and none of its calls failed.
 ///
-/// The reader is as it was, or the query was judged: the text of a `select` is a query. But for `Query`,
-/// bytes may have been taken from the reader: a beginning of what it had left. But for `Write`, nothing
-/// was written. No failure is passed over: but for `Read`, no call of the reader failed, and but for
-/// `Write`, none of the writer.
+/// On every error, the bytes that were taken are a beginning of what the reader had left, and either
+/// the reader is unchanged or the query is valid. On every error but `Write`, the writer is unchanged.
+/// The reader fails in no call of a run that does not return `Read`, and the writer fails in no call of
+/// a run that does not return `Write`.
 pub fn run<R: Threads + Wait + RandomSource, S: Source, K: Sink>(
     rt: &R,
     alloc: Global,
@@ -308,30 +289,10 @@ pub fn run<R: Threads + Wait + RandomSource, S: Source, K: Sink>(
     reader: &mut S,
     writer: &mut K,
 ) -> Result<(), RunFault>
-    ensures done { OnOk result
-        (IsDone (request_of command.now) (S.left reader.old) (S.left reader.new)
-        (K.held writer.old) (K.held writer.new)) }
-    ensures read_count { OnOk result (Stays (S.failures reader.old) (S.failures reader.new)) }
-    ensures written_count { OnOk result (Stays (K.failures writer.old) (K.failures writer.new)) }
-    ensures query { IfErr result
-        (IfQuery (λ f. IsQueryOf (request_of command.now) f × (reader.new ≡ reader.old))) }
-    ensures judged_first { OnErr result
-        ((reader.new ≡ reader.old) ⊎ IsAnswerable (request_of command.now)) }
-    ensures answerable { IfErr result (IfWorkerRefused (IsAnswerable (request_of command.now))) }
-    ensures bad_line { IfErr result
-        (IfBadLine (IsBadLineOf (request_of command.now) (S.left reader.old) (S.left reader.new))) }
-    ensures taken { OnErr result (IsReadInPart (S.left reader.old) (S.left reader.new)) }
-    ensures read { IfErr result (IfRead (Rises (S.failures reader.old) (S.failures reader.new))) }
-    ensures unfailed { IfErr result
-        (UnlessRead (Stays (S.failures reader.old) (S.failures reader.new))) }
-    ensures write { IfErr result
-        (IfWrite (IsWrittenInPart (request_of command.now) (S.left reader.old) (S.left reader.new)
-        (K.held writer.old) (K.held writer.new))) }
-    ensures write_count { IfErr result
-        (IfWrite (WriterFailed K.write_gives (K.failures writer.old) (K.failures writer.new) writer.new)) }
-    ensures unwritten { IfErr result (UnlessWrite (writer.new ≡ writer.old)) }
-    ensures line { IfErr result IsNotLine }
-    ensures one_worker { IsByOneWorker command.now → IfErr result IsNoRefusedWorker }
+    ensures run { IsRun S.left S.failures K.held K.failures K.write_gives (request_of command.now)
+        reader.old reader.new writer.old writer.new result }
+    ensures answerable { result ≡ Err WorkerRefused → IsAnswerable (request_of command.now) }
+    ensures one_worker { IsByOneWorker command.now → result ≡ Err WorkerRefused → ⊥ }
 {
     let blocks = composed(rt, alloc, command, reader)?;
     match write_blocks(writer, &blocks) {

@@ -6,9 +6,9 @@ ghost use Rattle.nquads_core.specs.Transfer.{WroteBeginning};
 ghost use Rattle.spq_core.specs.Report.{WroteOrFailed, exit_status, fault_line, query_line, status_of};
 ghost use Rattle.spq_core.specs.Run.{WriterFailed};
 
-use crate::program::RunFault;
+use crate::program::{RunFault, write_text};
 use itoa::Buffer;
-use nquads_core::{DeviceFailed, Sink, write_all};
+use nquads_core::{DeviceFailed, Sink};
 use sparql_read::QueryFault;
 
 /// The status with which the program ends after a fault: 1 for a bad line, 2 for a query, 3 for the
@@ -57,10 +57,11 @@ fn write_both<K: Sink>(writer: &mut K, front: &[u8], back: &[u8]) -> Result<(), 
     ensures failed { OnErr result
         (WroteBeginning (K.held writer.old) (K.held writer.new) (front.now ++ back.now)) }
     ensures failed_count { OnErr result
-        (WriterFailed K.write_gives (K.failures writer.old) (K.failures writer.new) writer.new) }
+        (WriterFailed K.write_gives (K.failures writer.old) (K.failures writer.new)
+        (front.now ++ back.now) writer.new) }
 {
-    write_all(writer, front)?;
-    write_all(writer, back)
+    write_text(writer, front)?;
+    write_text(writer, back)
 }
 
 /// Writes the number of a line, and a line feed.
@@ -71,7 +72,8 @@ fn write_number<K: Sink>(writer: &mut K, line: u128) -> Result<(), DeviceFailed>
     ensures failed { OnErr result
         (WroteBeginning (K.held writer.old) (K.held writer.new) (decimal line ++ codes "\n")) }
     ensures failed_count { OnErr result
-        (WriterFailed K.write_gives (K.failures writer.old) (K.failures writer.new) writer.new) }
+        (WriterFailed K.write_gives (K.failures writer.old) (K.failures writer.new)
+        (decimal line ++ codes "\n") writer.new) }
 {
     let mut buffer = Buffer::new();
     write_both(writer, buffer.format(line).as_bytes(), b"\n")
@@ -87,9 +89,10 @@ fn write_bad_line<K: Sink>(writer: &mut K, line: u128) -> Result<(), DeviceFaile
         (WroteBeginning (K.held writer.old) (K.held writer.new)
         (codes "error: line " ++ (decimal line ++ codes "\n"))) }
     ensures failed_count { OnErr result
-        (WriterFailed K.write_gives (K.failures writer.old) (K.failures writer.new) writer.new) }
+        (WriterFailed K.write_gives (K.failures writer.old) (K.failures writer.new)
+        (codes "error: line " ++ (decimal line ++ codes "\n")) writer.new) }
 {
-    match write_all(writer, b"error: line ") {
+    match write_text(writer, b"error: line ") {
         Ok(()) => write_number(writer, line),
         Err(failed) => Err(failed),
     }
@@ -103,18 +106,19 @@ fn write_query_fault<K: Sink>(writer: &mut K, fault: &QueryFault) -> Result<(), 
     ensures failed { OnErr result
         (WroteBeginning (K.held writer.old) (K.held writer.new) (query_line fault.now)) }
     ensures failed_count { OnErr result
-        (WriterFailed K.write_gives (K.failures writer.old) (K.failures writer.new) writer.new) }
+        (WriterFailed K.write_gives (K.failures writer.old) (K.failures writer.new)
+        (query_line fault.now) writer.new) }
 {
     let line = line_of(fault);
-    write_all(writer, line)
+    write_text(writer, line)
 }
 
-/// Writes the line of a fault, with a line feed. It takes no memory.
+/// Writes the line of a fault, with a line feed. Allocates nothing.
 ///
 /// # Errors
-/// `DeviceFailed`: the writer failed in this call, or took no byte of a text that was not empty, and
-/// then it is as that write left it, and none of its calls failed. A beginning of the line was written,
-/// and not all of it.
+/// `DeviceFailed` if the writer fails, or if a write takes none of the next bytes of the line. A
+/// beginning of the line was written, and not all of it. A writer that took none is as that write left
+/// it, and none of its calls failed.
 pub fn write_fault<K: Sink>(fault: &RunFault, writer: &mut K) -> Result<(), DeviceFailed>
     ensures written { OnOk result
         (Appends (K.held writer.old) (K.held writer.new) (fault_line fault.now)) }
@@ -122,16 +126,17 @@ pub fn write_fault<K: Sink>(fault: &RunFault, writer: &mut K) -> Result<(), Devi
     ensures failed { OnErr result
         (WroteBeginning (K.held writer.old) (K.held writer.new) (fault_line fault.now)) }
     ensures failed_count { OnErr result
-        (WriterFailed K.write_gives (K.failures writer.old) (K.failures writer.new) writer.new) }
+        (WriterFailed K.write_gives (K.failures writer.old) (K.failures writer.new)
+        (fault_line fault.now) writer.new) }
 {
     match fault {
         RunFault::BadLine(line) => write_bad_line(writer, *line),
         RunFault::Query(fault) => write_query_fault(writer, fault),
-        RunFault::Line => write_all(writer, b"error: command line\n"),
-        RunFault::WorkerRefused => write_all(writer, b"error: worker\n"),
-        RunFault::Memory => write_all(writer, b"error: memory\n"),
-        RunFault::Read => write_all(writer, b"error: input\n"),
-        RunFault::Write => write_all(writer, b"error: output\n"),
+        RunFault::Line => write_text(writer, b"error: command line\n"),
+        RunFault::WorkerRefused => write_text(writer, b"error: worker\n"),
+        RunFault::Memory => write_text(writer, b"error: memory\n"),
+        RunFault::Read => write_text(writer, b"error: input\n"),
+        RunFault::Write => write_text(writer, b"error: output\n"),
     }
 }
 

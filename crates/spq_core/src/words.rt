@@ -1,9 +1,10 @@
 //! The words of a command line over a reader and a writer: the command that they are, run on a stack
 //! that is as large as its query may need.
-ghost use Rattle.std.specs.Prelude.{◌≡◌, ◌⊎◌, ◌+◌, ◌*◌, ◌-◌, ◌^◌, IfErr, length, map, min, string_bytes};
+ghost use Rattle.std.specs.Prelude.{◌≡◌, ◌⊎◌, ◌+◌, ◌*◌, ◌-◌, ◌^◌, Err, length, map, min, string_bytes};
 ghost use Rattle.spq_core.specs.Output.{request_of};
-ghost use Rattle.spq_core.specs.Run.{IfWorkerRefused, IsByOneWorker, IsNoRefusedWorker};
-ghost use Rattle.spq_core.specs.Words.{IsNotRun, IsRun, IsRunOf};
+ghost use Rattle.spq_core.specs.Run.{IsByOneWorker, IsRun};
+ghost use Rattle.spq_core.specs.Words.{IsNotRun, IsRunOf};
+ghost use Rattle.spq_core.specs.declared.program.RunFault.TheVariants.{WorkerRefused};
 
 use crate::program::{RunFault, run};
 use core::thread::Stack;
@@ -47,7 +48,7 @@ impl<S: Source, K: Sink> Promise<Ran<S, K>> for RunOver<S, K> {
     ghost kept_by = { λ p ran. IsRun S.left S.failures K.held K.failures K.write_gives
         (request_of p.command.value) p.reader.value ran.reader p.writer.value ran.writer ran.done
         × (IsByOneWorker p.command.value
-        → IfErr ran.done (IfWorkerRefused (ran.reader ≡ p.reader.value))) };
+        → ran.done ≡ Err WorkerRefused → ran.reader ≡ p.reader.value) };
 }
 
 /// The bytes of stack that a query may need.
@@ -68,8 +69,8 @@ fn run_here<R: Threads + Wait + RandomSource, S: Source, K: Sink>(
     ensures run { IsRun S.left S.failures K.held K.failures K.write_gives
         (request_of command.now) reader result.reader writer result.writer result.done }
     ensures unread { IsByOneWorker command.now
-        → IfErr result.done (IfWorkerRefused (result.reader ≡ reader)) }
-    ensures one_worker { IsByOneWorker command.now → IfErr result.done IsNoRefusedWorker }
+        → result.done ≡ Err WorkerRefused → result.reader ≡ reader }
+    ensures one_worker { IsByOneWorker command.now → result.done ≡ Err WorkerRefused → ⊥ }
 {
     let (mut left, mut held) = (reader, writer);
     let done = run(rt, alloc, command, &mut left, &mut held);
@@ -92,7 +93,7 @@ fn run_if_started<R: Threads + Wait + RandomSource, S: Source, K: Sink>(
     ensures run { IsRun S.left S.failures K.held K.failures K.write_gives
         (request_of command.now) reader result.reader writer result.writer result.done }
     ensures unread { IsByOneWorker command.now
-        → IfErr result.done (IfWorkerRefused (result.reader ≡ reader)) }
+        → result.done ≡ Err WorkerRefused → result.reader ≡ reader }
 {
     if refused.load(Ordering::SeqCst) {
         return Ran {
@@ -125,7 +126,7 @@ fn start_and_join<
     ensures run { IsRun S.left S.failures K.held K.failures K.write_gives
         (request_of command.now) reader result.reader writer result.writer result.done }
     ensures unread { IsByOneWorker command.now
-        → IfErr result.done (IfWorkerRefused (result.reader ≡ reader)) }
+        → result.done ≡ Err WorkerRefused → result.reader ≡ reader }
 {
     let promise = RunOver {
         command: Snapshot::of(command),
@@ -152,7 +153,7 @@ fn run_apart<
     ensures run { IsRun S.left S.failures K.held K.failures K.write_gives
         (request_of command.now) reader result.reader writer result.writer result.done }
     ensures unread { IsByOneWorker command.now
-        → IfErr result.done (IfWorkerRefused (result.reader ≡ reader)) }
+        → result.done ≡ Err WorkerRefused → result.reader ≡ reader }
 {
     let refused = AtomicBool::new(false);
     let refused = &refused;
@@ -164,7 +165,7 @@ fn run_apart<
                 (request_of command.entry.now) reader result.reader writer result.writer
                 result.done }
             ensures unread { IsByOneWorker command.entry.now
-                → IfErr result.done (IfWorkerRefused (result.reader ≡ reader)) }
+                → result.done ≡ Err WorkerRefused → result.reader ≡ reader }
         { start_and_join(rt, scope, alloc, command, stack, refused, reader, writer) },
     )
 }

@@ -1,11 +1,48 @@
 //! The board on worked examples, and with two threads.
-ghost use Rattle.std.specs.Prelude.{◌≡◌, IfOk, All, vec_len};
+ghost use Rattle.std.specs.Prelude.{◌≡◌, ◌∷◌, ◌^◌, ◌≤◌, [], IfOk, All, vec_len};
 ghost use Rattle.piece_board.specs.Board.{IsPassOf};
+ghost use Rattle.piece_board.specs.Pass.{unused};
 
-use piece_board::{Board, Pass};
+use piece_board::{Board, BoardFault, Closed, Pass};
 use std::alloc::{AllocError, Global};
-use std::test::Fail;
 use std::thread;
+use std::thread::Threads;
+
+/// Opens a board of `n` numbers with two seats.
+pub(crate) fn open_two(alloc: Global, n: u64) -> Result<(Board, Pass, Pass), BoardFault>
+    requires pieces { n ≤ 2 ^ 62 }
+    ensures board { IfOk result (λ opened. (opened.0.pieces ≡ n) × (opened.0.seats ≡ 2)) }
+    ensures first { IfOk result (λ opened. opened.1 ≡ unused opened.0.id n) }
+    ensures second { IfOk result (λ opened. opened.2 ≡ unused opened.0.id n) }
+{
+    let (board, mut passes) = Board::open(alloc, n, 2)?;
+    let Some(b) = passes.pop() else {
+        unreachable!()
+    };
+    let Some(a) = passes.pop() else {
+        unreachable!()
+    };
+    Ok((board, a, b))
+}
+
+/// The vector of two values.
+pub(crate) fn pair<T: Drop>(alloc: Global, a: T, b: T) -> Result<Vec<T>, AllocError>
+    ensures items { IfOk result (λ pair. pair.items ≡ a ∷ b ∷ []) }
+{
+    let mut pair = Vec::new(alloc);
+    pair.push(a)?;
+    pair.push(b)?;
+    Ok(pair)
+}
+
+/// Closes a board with two seats.
+fn close_two(alloc: Global, board: Board, a: Pass, b: Pass) -> Result<Closed, AllocError>
+    requires seats { board.seats ≡ 2 }
+    requires first { IsPassOf board a }
+    requires second { IsPassOf board b }
+{
+    Ok(board.close(pair(alloc, a, b)?))
+}
 
 /// Draws until there is no number left, and counts the numbers.
 fn draw_all(board: &Board, mut pass: Pass) -> (Pass, u64)
@@ -20,16 +57,18 @@ fn draw_all(board: &Board, mut pass: Pass) -> (Pass, u64)
     (pass, count)
 }
 
-/// Two threads share one board, which no proof of one thread alone runs.
-#[test]
-fn two_threads_draw_each_number_once(rt: HostRuntime) -> Result<(), Fail> {
-    let (board, mut passes) = Board::open(rt.alloc(), 1000, 2)?;
-    let (Some(b), Some(a)) = (passes.pop(), passes.pop()) else {
-        panic!(rt; "two passes")
-    };
+/// Draws all numbers of a board with two threads, and returns how many each of them drew.
+fn draw_with_two_threads<R: Threads>(
+    rt: &R,
+    alloc: Global,
+    n: u64,
+) -> Result<(u64, u64, Closed), BoardFault>
+    requires pieces { n ≤ 2 ^ 62 }
+{
+    let (board, a, b) = open_two(alloc, n)?;
     let shared = &board;
     let ((a, first), (b, second)) = thread::join(
-        &rt,
+        rt,
         move || -> (Pass, u64)
             requires { IsPassOf shared.now a × (a.history.finished ≡ 0) }
             ensures { IsPassOf shared.entry.now result.0 }
@@ -39,86 +78,156 @@ fn two_threads_draw_each_number_once(rt: HostRuntime) -> Result<(), Fail> {
             ensures { IsPassOf shared.entry.now result.0 }
         { draw_all(shared, b) },
     );
-    passes.push(a)?;
-    passes.push(b)?;
-    let closed = board.close(passes);
-    assert!(rt; first.wrapping_add(second) == 1000);
-    assert!(rt; closed.drawn == 1000 && closed.skipped == 0 && closed.least == 1000);
+    Ok((first, second, close_two(alloc, board, a, b)?))
+}
+
+/// Two threads share one board, which no proof of a single thread runs.
+#[test]
+fn two_threads_draw_each_number_once(rt: HostRuntime) -> Result<(), BoardFault> {
+    let (first, second, closed) = draw_with_two_threads(&rt, rt.alloc(), 1000)?;
+    assert!(rt;
+        first.wrapping_add(second) == 1000 && is_closed(&closed, 1000, 0, 1000),
+        "{first} and {second} of 1000: {closed:?}"
+    );
     Ok(())
 }
 
-/// The worked board: what one pass reports the other one sees, and skips what lies above.
-#[test]
-fn a_skip_is_above_a_seen_report(rt: HostRuntime) -> Result<(), Fail> {
-    let (board, mut passes) = Board::open(rt.alloc(), 4, 2)?;
-    let (Some(mut b), Some(mut a)) = (passes.pop(), passes.pop()) else {
-        panic!(rt; "two passes")
-    };
-    assert!(rt; board.draw(&mut a) == Some(0));
-    assert!(rt; board.draw(&mut b) == Some(1));
-    assert!(rt; board.draw(&mut a) == Some(2));
-    assert!(rt; b.last() == Some(1));
-    board.report(&mut b, 1);
-    assert!(rt; board.least(&mut a) == 1 && a.last() == Some(2) && a.seen() < 2);
-    a.skip(2);
-    assert!(rt; board.draw(&mut b) == Some(3) && b.last() == Some(3));
-    assert!(rt; board.least(&mut b) == 1 && b.seen() < 3);
-    b.skip(3);
-    assert!(rt; board.draw(&mut a) == None);
-    assert!(rt; board.draw(&mut b) == None);
-    assert!(rt; a.is_finished() && b.is_finished());
-    passes.push(a)?;
-    passes.push(b)?;
-    let closed = board.close(passes);
-    assert!(rt; closed.drawn == 4 && closed.skipped == 2 && closed.least == 1);
-    Ok(())
+fn is_closed(closed: &Closed, drawn: u64, skipped: u64, least: u64) -> bool {
+    closed.drawn == drawn && closed.skipped == skipped && closed.least == least
 }
 
-/// No number at all: the first draw is None, and nothing is reported.
-#[test]
-fn no_pieces(rt: HostRuntime) -> Result<(), Fail> {
-    let (board, mut passes) = Board::open(rt.alloc(), 0, 1)?;
-    let Some(mut a) = passes.pop() else {
-        panic!(rt; "a pass")
-    };
-    assert!(rt; board.pieces() == 0 && board.seats() == 1);
-    assert!(rt; board.draw(&mut a) == None && a.is_finished() && a.last() == None);
-    passes.push(a)?;
-    let closed = board.close(passes);
-    assert!(rt; closed.drawn == 0 && closed.skipped == 0 && closed.least == 0);
-    Ok(())
-}
-
-/// One number and two passes: who comes second draws None, and sees the report of the first.
-#[test]
-fn one_piece_and_two_passes(rt: HostRuntime) -> Result<(), Fail> {
-    let (board, mut passes) = Board::open(rt.alloc(), 1, 2)?;
-    let (Some(mut b), Some(mut a)) = (passes.pop(), passes.pop()) else {
-        panic!(rt; "two passes")
-    };
-    assert!(rt; board.draw(&mut a) == Some(0) && a.last() == Some(0));
-    assert!(rt; board.draw(&mut b) == None);
-    board.report(&mut a, 0);
-    assert!(rt; board.least(&mut b) == 0);
-    passes.push(a)?;
-    passes.push(b)?;
-    let closed = board.close(passes);
-    assert!(rt; closed.drawn == 1 && closed.skipped == 0 && closed.least == 0);
-    Ok(())
+/// Does what the letter says with a pass, and returns the number that the step is about, if there is one.
+///
+/// - `d` draws a number, unless the pass is finished.
+/// - `r` reports the last draw.
+/// - `l` looks for the least report.
+/// - `s` skips the last draw, if it is above the least report that the pass has seen.
+/// - `f` gives 1 if the pass is finished, and 0 if not.
+fn step(board: &Board, pass: &mut Pass, letter: u8) -> Option<u64>
+    requires of_board { IsPassOf board.now pass.old }
+    ensures of_board { IsPassOf board.now pass.new }
+{
+    match letter {
+        b'd' => draw_unless_finished(board, pass),
+        b'r' => report_last(board, pass),
+        b'l' => Some(board.least(pass)),
+        b's' => skip_last(board, pass),
+        _ => Some(u64::from(pass.is_finished())),
+    }
 }
 
 /// Draws once, unless the pass is finished.
-fn draw_unless_finished(board: &Board, mut pass: Pass) -> Pass
-    requires of_board { IsPassOf board.now pass }
-    ensures of_board { IsPassOf board.now result }
+fn draw_unless_finished(board: &Board, pass: &mut Pass) -> Option<u64>
+    requires of_board { IsPassOf board.now pass.old }
+    ensures of_board { IsPassOf board.now pass.new }
 {
-    if !pass.is_finished() {
-        board.draw(&mut pass);
+    if pass.is_finished() {
+        None
+    } else {
+        board.draw(pass)
     }
-    pass
 }
 
-/// Each pass that is not finished draws once.
+/// Reports the last draw, if there is one.
+fn report_last(board: &Board, pass: &mut Pass) -> Option<u64>
+    requires of_board { IsPassOf board.now pass.old }
+    ensures of_board { IsPassOf board.now pass.new }
+{
+    let last = pass.last()?;
+    board.report(pass, last);
+    Some(last)
+}
+
+/// Skips the last draw, if it is above the least report that the pass has seen.
+fn skip_last(board: &Board, pass: &mut Pass) -> Option<u64>
+    requires of_board { IsPassOf board.now pass.old }
+    ensures of_board { IsPassOf board.now pass.new }
+{
+    let last = pass.last()?;
+    if last <= pass.seen() {
+        return None;
+    }
+    pass.skip(last);
+    Some(last)
+}
+
+/// Does the steps of a script in turn: those in lower case with `a`, those in upper case with `b`.
+fn play(
+    board: &Board,
+    a: &mut Pass,
+    b: &mut Pass,
+    script: &str,
+    found: &mut Vec<Option<u64>>,
+) -> Result<(), AllocError>
+    requires first { IsPassOf board.now a.old }
+    requires second { IsPassOf board.now b.old }
+    ensures first { IsPassOf board.now a.new }
+    ensures second { IsPassOf board.now b.new }
+{
+    for letter in script.as_bytes() {
+        let number = if letter.is_ascii_lowercase() {
+            step(board, a, *letter)
+        } else {
+            step(board, b, letter.to_ascii_lowercase())
+        };
+        found.push(number)?;
+    }
+    Ok(())
+}
+
+/// Plays a script on a board with two seats, and returns the numbers of the steps and the closed board.
+fn played(alloc: Global, n: u64, script: &str) -> Result<(Vec<Option<u64>>, Closed), BoardFault>
+    requires pieces { n ≤ 2 ^ 62 }
+{
+    let (board, mut a, mut b) = open_two(alloc, n)?;
+    let mut found = Vec::new(alloc);
+    play(&board, &mut a, &mut b, script, &mut found)?;
+    let closed = close_two(alloc, board, a, b)?;
+    Ok((found, closed))
+}
+
+/// Plays a script, and prints the numbers of its steps, `-` for none, and what the closed board says.
+fn told(alloc: Global, n: u64, script: &str) -> Result<String, BoardFault>
+    requires pieces { n ≤ 2 ^ 62 }
+{
+    let (found, closed) = played(alloc, n, script)?;
+    let mut text = String::new(alloc);
+    for number in &found {
+        match number {
+            Some(number) => text.push_str(&format!(in alloc; "{number} ")?)?,
+            None => text.push_str("- ")?,
+        }
+    }
+    text.push_str(&format!(in alloc;
+        "drawn {} skipped {} least {}",
+        closed.drawn, closed.skipped, closed.least
+    )?)?;
+    Ok(text)
+}
+
+/// What one pass reports the other one sees, and skips what is above.
+#[test]
+fn a_skip_is_above_a_seen_report(rt: HostRuntime) -> Result<(), BoardFault> {
+    let text = told(rt.alloc(), 4, "dDdRlsDLSdDfF")?;
+    assert!(rt;
+        text.as_str() == "0 1 2 1 1 2 3 1 3 - - 1 1 drawn 4 skipped 2 least 1",
+        "{text}"
+    );
+    Ok(())
+}
+
+/// With one number and two passes, the second to come draws none, and sees the report of the first.
+#[test]
+fn one_piece_and_two_passes(rt: HostRuntime) -> Result<(), BoardFault> {
+    let text = told(rt.alloc(), 1, "dDrL")?;
+    assert!(rt;
+        text.as_str() == "0 - 0 0 drawn 1 skipped 0 least 0",
+        "{text}"
+    );
+    Ok(())
+}
+
+/// Draws once with each pass that is not finished.
 fn draw_in_turn(alloc: Global, board: &Board, passes: Vec<Pass>) -> Result<Vec<Pass>, AllocError>
     requires of_board { All (λ p. IsPassOf board.now p) passes.items }
     ensures of_board { IfOk result (λ drawn. All (λ p. IsPassOf board.now p) drawn.items) }
@@ -126,12 +235,21 @@ fn draw_in_turn(alloc: Global, board: &Board, passes: Vec<Pass>) -> Result<Vec<P
 {
     let mut drawn = Vec::new(alloc);
     for pass in passes {
-        drawn.push(draw_unless_finished(board, pass))?;
+        drawn.push(drawn_unless_finished(board, pass))?;
     }
     Ok(drawn)
 }
 
-/// So many rounds of `draw_in_turn`.
+/// The pass after it drew once, unless it was finished.
+fn drawn_unless_finished(board: &Board, mut pass: Pass) -> Pass
+    requires of_board { IsPassOf board.now pass }
+    ensures of_board { IsPassOf board.now result }
+{
+    draw_unless_finished(board, &mut pass);
+    pass
+}
+
+/// Does `rounds` rounds of `draw_in_turn`.
 fn draw_rounds(
     alloc: Global,
     board: &Board,
@@ -148,17 +266,28 @@ fn draw_rounds(
     Ok(passes)
 }
 
-/// As many seats as there can be, and about as many numbers: the last round ends every seat.
+/// Whether three rounds draw all numbers of a board and finish each of its passes.
+fn are_drawn_in_turn(alloc: Global, n: u64, seats: usize) -> Result<bool, BoardFault>
+    requires pieces { n ≤ 2 ^ 62 }
+    requires seats { (1 ≤ seats) × (seats ≤ 64) }
+{
+    let (board, passes) = Board::open(alloc, n, seats)?;
+    let is_opened = board.pieces() == n && board.seats() == seats;
+    let passes = draw_rounds(alloc, &board, passes, 3)?;
+    let are_over = passes
+        .iter()
+        .all(|pass| pass.is_finished() && pass.last().is_none());
+    Ok(is_opened && are_over && is_closed(&board.close(passes), n, 0, n))
+}
+
+/// As many seats as there can be, and about as many numbers: the last round finishes every pass. A board of no
+/// number finishes a pass at its first draw.
 #[test]
-fn sixty_four_seats_in_turn(rt: HostRuntime) -> Result<(), Fail> {
-    for n in [0u64, 1, 63, 64, 65] {
-        let (board, passes) = Board::open(rt.alloc(), n, 64)?;
-        let passes = draw_rounds(rt.alloc(), &board, passes, 3)?;
-        assert!(rt; passes.iter().all(|pass| pass.is_finished()), "n {n}");
-        let closed = board.close(passes);
+fn seats_draw_in_turn(rt: HostRuntime) -> Result<(), BoardFault> {
+    for (n, seats) in [(0, 1), (0, 64), (1, 64), (63, 64), (64, 64), (65, 64)] {
         assert!(rt;
-            closed.drawn == n && closed.skipped == 0 && closed.least == n,
-            "n {n}"
+            are_drawn_in_turn(rt.alloc(), n, seats)?,
+            "{n} numbers, {seats} seats"
         );
     }
     Ok(())

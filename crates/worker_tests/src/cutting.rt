@@ -1,165 +1,145 @@
 //! Cuts and blocks of the document `a`, LF, `b`, LF, LF, `c`, and of documents that are one piece.
-ghost use Rattle.std.specs.Prelude.{◌<◌};
+ghost use Rattle.std.specs.Prelude.{◌≤◌};
 
-use nquads_core::{DeviceFailed, ReadFault, Source};
+use nquads_core::ReadFault;
 use piece_cuts::{Blocks, Cuts};
-use std::alloc::{AllocError, AllocGlobal, Global};
+use std::alloc::{AllocError, Global};
+use test_fixtures::SliceSource;
 
-const DOCUMENT: &[u8] = b"a\nb\n\nc";
+const DOCUMENT: &str = "a\nb\n\nc";
 
-/// Gives one byte a call, and fails once `until` bytes were read.
-#[derive(Drop)]
-struct ByteSource<'a> {
-    rest: &'a [u8],
-    until: usize,
-    failed: u64,
+/// Appends a block or a piece, after a bar.
+fn append(text: &mut String, bytes: &[u8]) -> Result<(), AllocError> {
+    text.push_str("|")?;
+    text.push_str(str::from_utf8(bytes).unwrap_or("?"))
 }
 
-impl<'a> Source for ByteSource<'a> {
-    ghost use Rattle.std.specs.Prelude.{Some};
-
-    ghost left = { λ s. Some s.rest.now };
-
-    ghost failures = { λ s. Some s.failed };
-
-    fn read(&mut self, buf: &mut [u8]) -> Result<usize, DeviceFailed> {
-        if self.until == 0 {
-            self.failed = self.failed.saturating_add(1);
-            return Err(DeviceFailed);
+/// The pieces of a document, each after a bar.
+fn pieces(alloc: Global, doc: &str, cuts: &Cuts) -> Result<String, AllocError> {
+    let mut text = String::new(alloc);
+    if cuts.fits(doc.as_bytes()) {
+        for i in 0..cuts.pieces() {
+            append(&mut text, cuts.piece(doc.as_bytes(), i))?;
         }
-        let n = 1.min(self.rest.len()).min(buf.len());
-        let (front, back) = self.rest.split_at(n);
-        buf[..n].copy_from_slice(front);
-        self.rest = back;
-        self.until -= n;
-        Ok(n)
     }
+    Ok(text)
 }
 
-fn source(document: &[u8], until: usize) -> ByteSource<'_> {
-    ByteSource {
-        rest: document,
-        until,
-        failed: 0,
-    }
+/// The pieces of at least `size` bytes.
+fn pieces_of_size(alloc: Global, doc: &str, size: usize) -> Result<String, AllocError>
+    requires some { 1 ≤ size }
+{
+    let cuts = Cuts::every(alloc, doc.as_bytes(), size)?;
+    pieces(alloc, doc, &cuts)
 }
 
 #[test]
 fn every_cuts_behind_line_feeds(rt: HostRuntime) -> Result<(), AllocError> {
-    let alloc = rt.alloc();
-    let small = Cuts::every(alloc, DOCUMENT, 1)?;
-    assert_eq!(rt; small.pieces(), 4);
-    assert!(rt; small.fits(DOCUMENT));
-    if small.pieces() == 4 {
-        assert!(rt; small.piece(DOCUMENT, 0) == b"a\n".as_slice());
-        assert!(rt; small.piece(DOCUMENT, 1) == b"b\n".as_slice());
-        assert!(rt; small.piece(DOCUMENT, 2) == b"\n".as_slice());
-        assert!(rt; small.piece(DOCUMENT, 3) == b"c".as_slice());
-    }
-    let middle = Cuts::every(alloc, DOCUMENT, 3)?;
-    assert_eq!(rt; middle.pieces(), 2);
-    assert!(rt; middle.fits(DOCUMENT));
-    if middle.pieces() == 2 {
-        assert!(rt; middle.piece(DOCUMENT, 0) == b"a\nb\n".as_slice());
-        assert!(rt; middle.piece(DOCUMENT, 1) == b"\nc".as_slice());
-    }
-    assert_eq!(rt; Cuts::every(alloc, DOCUMENT, 6)?.pieces(), 1);
-    for size in 1..4 {
-        assert_eq!(rt; Cuts::every(alloc, b"a\n", size)?.pieces(), 1);
-        assert_eq!(rt; Cuts::every(alloc, b"", size)?.pieces(), 1);
+    let cases = [
+        (DOCUMENT, 1, "|a\n|b\n|\n|c"),
+        (DOCUMENT, 3, "|a\nb\n|\nc"),
+        (DOCUMENT, 6, "|a\nb\n\nc"),
+        ("a\n", 1, "|a\n"),
+        ("a\n", 2, "|a\n"),
+        ("a\n", 3, "|a\n"),
+        ("", 1, "|"),
+        ("", 2, "|"),
+        ("", 3, "|"),
+    ];
+    for (doc, size, expected) in cases {
+        let text = pieces_of_size(rt.alloc(), doc, size)?;
+        assert!(rt;
+            text.as_str() == expected,
+            "{doc:?} by {size} bytes: expected {expected:?}, got {text:?}"
+        );
     }
     Ok(())
+}
+
+/// The pieces of the document that is cut at these places, or `none` if they are no cuts of it.
+fn pieces_at(alloc: Global, places: &[usize]) -> Result<String, AllocError> {
+    match Cuts::of(DOCUMENT.as_bytes(), Vec::from_slice(alloc, places)?) {
+        Some(cuts) => pieces(alloc, DOCUMENT, &cuts),
+        None => String::from_str(alloc, "none"),
+    }
 }
 
 #[test]
 fn given_places_are_taken_where_they_cut(rt: HostRuntime) -> Result<(), AllocError> {
-    let alloc = rt.alloc();
-    match Cuts::of(DOCUMENT, vec![in alloc; 2, 5]?) {
-        Some(cuts) => {
-            assert_eq!(rt; cuts.pieces(), 3);
-            if cuts.fits(DOCUMENT) && cuts.pieces() == 3 {
-                assert!(rt; cuts.piece(DOCUMENT, 1) == b"b\n\n".as_slice());
-            }
-        }
-        None => assert!(rt; false),
+    let cases: [(&[usize], &str); 6] = [
+        (&[2, 5], "|a\n|b\n\n|c"),
+        (&[], "|a\nb\n\nc"),
+        (&[0], "none"),
+        (&[3], "none"),
+        (&[6], "none"),
+        (&[2, 2], "none"),
+    ];
+    for (places, expected) in cases {
+        let text = pieces_at(rt.alloc(), places)?;
+        assert!(rt;
+            text.as_str() == expected,
+            "at {places:?}: expected {expected:?}, got {text:?}"
+        );
     }
-    assert!(rt; Cuts::of(DOCUMENT, Vec::new(alloc)).is_some());
-    assert!(rt; Cuts::of(DOCUMENT, vec![in alloc; 0]?).is_none());
-    assert!(rt; Cuts::of(DOCUMENT, vec![in alloc; 3]?).is_none());
-    assert!(rt; Cuts::of(DOCUMENT, vec![in alloc; 6]?).is_none());
-    assert!(rt; Cuts::of(DOCUMENT, vec![in alloc; 2, 2]?).is_none());
     Ok(())
 }
 
-/// Whether the next answer is this block.
-fn gives(blocks: &mut Blocks, reader: &mut ByteSource<'_>, wanted: &[u8]) -> bool {
+/// Appends the next block after a bar, or `.` at the end, or `!` if the reader failed.
+fn append_next(
+    text: &mut String,
+    blocks: &mut Blocks,
+    reader: &mut SliceSource<'_>,
+) -> Result<(), AllocError> {
     match blocks.next(reader) {
-        Ok(Some(block)) => block.as_slice() == wanted,
-        _ => false,
+        Ok(Some(block)) => append(text, &block),
+        Ok(None) => text.push_str("."),
+        Err(ReadFault::Read) => text.push_str("!"),
+        Err(ReadFault::Memory) => Err(AllocError),
     }
 }
 
-/// Whether the next two answers are None.
-fn is_over(blocks: &mut Blocks, reader: &mut ByteSource<'_>) -> bool {
-    let first = matches!(blocks.next(reader), Ok(None));
-    let second = matches!(blocks.next(reader), Ok(None));
-    first && second
+/// What six calls give of the blocks of a document, of which a byte a call is read until the reader fails.
+fn blocks(alloc: Global, doc: &str, size: usize, until: usize) -> Result<String, AllocError>
+    requires some { 1 ≤ size }
+{
+    let mut reader = SliceSource::failing_after(doc.as_bytes(), 1, until);
+    let mut blocks = Blocks::new(alloc, size)?;
+    let mut text = String::new(alloc);
+    for _call in 0..6 {
+        append_next(&mut text, &mut blocks, &mut reader)?;
+    }
+    Ok(text)
 }
 
+/// The blocks are the pieces. Each call after the last block gives none, and each call after a fault the same fault.
 #[test]
-fn blocks_are_the_pieces(rt: HostRuntime) -> Result<(), AllocError> {
-    let alloc = rt.alloc();
-    let mut reader = source(DOCUMENT, 100);
-    let mut blocks = Blocks::new(alloc, 3)?;
-    assert!(rt; gives(&mut blocks, &mut reader, b"a\nb\n"));
-    assert!(rt; gives(&mut blocks, &mut reader, b"\nc"));
-    assert!(rt; is_over(&mut blocks, &mut reader));
-    let mut reader = source(DOCUMENT, 100);
-    let mut blocks = Blocks::new(alloc, 1)?;
-    for block in [
-        b"a\n".as_slice(),
-        b"b\n".as_slice(),
-        b"\n".as_slice(),
-        b"c".as_slice(),
-    ] {
-        assert!(rt; gives(&mut blocks, &mut reader, block));
+fn blocks_are_the_pieces_and_a_fault_is_repeated(rt: HostRuntime) -> Result<(), AllocError> {
+    let cases = [
+        (DOCUMENT, 3, 100, "|a\nb\n|\nc...."),
+        (DOCUMENT, 1, 100, "|a\n|b\n|\n|c.."),
+        ("", 1, 100, "......"),
+        (DOCUMENT, 1, 3, "|a\n!!!!!"),
+    ];
+    for (doc, size, until, expected) in cases {
+        let text = blocks(rt.alloc(), doc, size, until)?;
+        assert!(rt;
+            text.as_str() == expected,
+            "{doc:?} by {size} bytes, failing after {until}: expected {expected:?}, got {text:?}"
+        );
     }
-    assert!(rt; is_over(&mut blocks, &mut reader));
-    let mut blocks = Blocks::new(alloc, 1)?;
-    assert!(rt; is_over(&mut blocks, &mut source(b"", 100)));
     Ok(())
+}
+
+/// The room of the first block.
+fn capacity_of_first(alloc: Global) -> Result<Option<usize>, ReadFault> {
+    let mut reader = SliceSource::new(DOCUMENT.as_bytes(), 1);
+    let mut blocks = Blocks::new(alloc, 1).map_err(|_| ReadFault::Memory)?;
+    Ok(blocks.next(&mut reader)?.map(|block| block.capacity()))
 }
 
 /// A block keeps no room for what was read with it.
 #[test]
-fn a_block_has_room_for_its_own_bytes(rt: HostRuntime) -> Result<(), AllocError> {
-    let mut reader = source(DOCUMENT, 100);
-    let mut blocks = Blocks::new(rt.alloc(), 1)?;
-    match blocks.next(&mut reader) {
-        Ok(Some(block)) => {
-            assert!(rt; block.as_slice() == b"a\n".as_slice());
-            assert_eq!(rt; block.capacity(), 2);
-        }
-        _ => assert!(rt; false),
-    }
-    Ok(())
-}
-
-#[test]
-fn a_fault_is_repeated(rt: HostRuntime) -> Result<(), AllocError> {
-    let mut reader = source(DOCUMENT, 3);
-    let mut blocks = Blocks::new(rt.alloc(), 1)?;
-    let mut has_failed = false;
-    for _call in 0..6 {
-        match blocks.next(&mut reader) {
-            Ok(Some(_)) => assert!(rt; !has_failed),
-            Ok(None) => assert!(rt; false),
-            Err(fault) => {
-                assert!(rt; fault == ReadFault::Read);
-                has_failed = true;
-            }
-        }
-    }
-    assert!(rt; has_failed);
-    Ok(())
+fn a_block_has_room_for_its_own_bytes(rt: HostRuntime) {
+    let capacity = capacity_of_first(rt.alloc());
+    assert!(rt; capacity == Ok(Some(2)), "{capacity:?}");
 }

@@ -1,7 +1,7 @@
-//! Tests of pieces and workers: `boards` of piece_board, `pools` and `refusals` (what a refused growth or start
-//! leaves) of piece_pool, `cutting` of piece_cuts.
+//! Tests of pieces and workers: `boards` of piece_board, `pools` and `refusals` (what is left where memory or a
+//! worker thread is missing) of piece_pool, `cutting` of piece_cuts.
 //!
-//! They stand in a crate of their own, so that a check of the tests proves nothing a second time.
+//! They are in a crate of their own, so that a check of the tests proves nothing a second time.
 #![tactic(auto)]
 
 #[cfg(test)]

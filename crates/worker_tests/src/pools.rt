@@ -1,242 +1,136 @@
-//! The pool on jobs of the tests' own: what no clause says of threads and gates.
-ghost use Rattle.std.specs.Prelude.{◌≡◌};
+//! The pool on jobs of the tests: what no clause says of threads and gates.
+ghost use Rattle.std.specs.Prelude.{◌≡◌, ◌≤◌, ◌^◌};
 ghost use Rattle.piece_board.specs.Pass.{unused};
 ghost use Rattle.piece_pool.specs.Worked.{IsWorked};
 
-use piece_board::{Board, Pass};
+use crate::boards::{open_two, pair};
+use piece_board::{Board, BoardFault, Pass};
 use piece_pool::{
     Gate, Job, JobFault, OpenGate, Outcome, PoolFault, Worked, gather, run_pieces, work,
 };
 use std::alloc::Global;
-use std::sync::atomic::{AtomicU64, Ordering};
-use std::test::Fail;
+use std::sync::Wait;
 use std::thread;
-use std::thread::{Threads, yield_now};
+use std::thread::Threads;
+use test_fixtures::{Counter, Meeting, Numbers};
 
-/// Answers each piece below `sound` with its number, and faults at every other one with it. It
-/// counts its runs.
-#[derive(Drop)]
-pub(crate) struct Numbers {
-    sound: u64,
-    runs: AtomicU64,
+/// The outcome of a run of [`Numbers`].
+#[derive(Clone, Copy, Debug, PartialEq, Eq)]
+enum Ran {
+    /// The number of results, if result `i` is `i`.
+    InPlace(u64),
+    OutOfPlace,
+    Faulty { piece: u64, fault: u64 },
+    Failed,
 }
 
-impl Numbers {
-    pub(crate) fn sound_below(sound: u64) -> Numbers {
-        Numbers {
-            sound,
-            runs: AtomicU64::new(0),
-        }
-    }
-}
-
-impl Job for Numbers {
-    ghost use Rattle.std.specs.Prelude.{◌≡◌, ◌<◌, ◌≤◌};
-
-    type Out = u64;
-
-    type Fault = u64;
-
-    ghost answers = { λ job i out. (i < job.sound) × (out ≡ i) };
-
-    ghost faults = { λ job i fault. (job.sound ≤ i) × (fault ≡ i) };
-
-    fn run(&self, _alloc: Global, i: u64) -> Result<u64, JobFault<u64>> {
-        self.runs.fetch_add(1, Ordering::SeqCst);
-        if i < self.sound {
-            Ok(i)
-        } else {
-            Err(JobFault::Own(i))
-        }
-    }
-
-    ghost use Rattle.std.proofs.Common.{arith};
-
-    ghost exclusive = { λ _ i out fault a f. absurd (Prim.omega (arith, a.0, f.0)) };
-}
-
-/// Has no memory for any piece.
-#[derive(Drop)]
-struct Starved;
-
-impl Job for Starved {
-    ghost use Rattle.std.specs.Prelude.{};
-
-    type Out = u64;
-
-    type Fault = u64;
-
-    ghost answers = { λ _ _ _. ⊥ };
-
-    ghost faults = { λ _ _ _. ⊥ };
-
-    fn run(&self, _alloc: Global, _i: u64) -> Result<u64, JobFault<u64>> {
-        Err(JobFault::Memory)
-    }
-
-    ghost exclusive = { λ _ _ _ _ a _. a };
-}
-
-/// Counts its calls, and adds up the numbers that entered.
-#[derive(Drop)]
-pub(crate) struct Counter {
-    pub(crate) entered: AtomicU64,
-    pub(crate) left: AtomicU64,
-    sum: AtomicU64,
-}
-
-impl Counter {
-    pub(crate) fn fresh() -> Counter {
-        Counter {
-            entered: AtomicU64::new(0),
-            left: AtomicU64::new(0),
-            sum: AtomicU64::new(0),
-        }
-    }
-}
-
-impl Gate for Counter {
-    fn enter(&self, i: u64) {
-        self.entered.fetch_add(1, Ordering::SeqCst);
-        self.sum.fetch_add(i, Ordering::SeqCst);
-    }
-
-    fn leave(&self, _i: u64) {
-        self.left.fetch_add(1, Ordering::SeqCst);
-    }
-}
-
-/// Pieces 0 and 1 each set a flag when they enter, and wait until the other's flag is set, at most
-/// 10,000,000 turns. On one thread the first to enter waits in vain.
-#[derive(Drop)]
-struct Meeting {
-    first: AtomicU64,
-    second: AtomicU64,
-    late: AtomicU64,
-}
-
-impl Meeting {
-    fn fresh() -> Meeting {
-        Meeting {
-            first: AtomicU64::new(0),
-            second: AtomicU64::new(0),
-            late: AtomicU64::new(0),
-        }
-    }
-}
-
-impl Gate for Meeting {
-    fn enter(&self, i: u64) {
-        let (mine, other) = if i == 0 {
-            (&self.first, &self.second)
-        } else {
-            (&self.second, &self.first)
-        };
-        mine.store(1, Ordering::SeqCst);
-        for _ in 0..10_000_000u64 {
-            if other.load(Ordering::SeqCst) == 1 {
-                return;
+impl Ran {
+    fn of(outcome: &Outcome<u64, u64>) -> Ran {
+        match outcome {
+            Outcome::All(outs) => {
+                if outs.iter().enumerate().all(|(i, out)| *out == i as u64) {
+                    Ran::InPlace(outs.len() as u64)
+                } else {
+                    Ran::OutOfPlace
+                }
             }
-            yield_now();
+            Outcome::First { piece, fault } => Ran::Faulty {
+                piece: *piece,
+                fault: *fault,
+            },
         }
-        self.late.store(1, Ordering::SeqCst);
     }
-
-    fn leave(&self, _i: u64) {}
 }
 
-/// With no piece the answer is the empty list, and the gate is not called.
-#[test]
-fn no_pieces(rt: HostRuntime) -> Result<(), Fail> {
-    let gate = Counter::fresh();
-    let job = Numbers::sound_below(100);
-    let Ok(Outcome::All(outs)) = run_pieces(&rt, rt.alloc(), 4, 0, &job, &gate) else {
-        panic!(rt; "no answers")
-    };
-    assert!(rt; outs.is_empty());
-    assert_eq!(rt; gate.entered.load(Ordering::SeqCst), 0);
-    assert_eq!(rt; gate.left.load(Ordering::SeqCst), 0);
-    assert_eq!(rt; job.runs.load(Ordering::SeqCst), 0);
-    Ok(())
-}
-
-/// Each answer is in its place, and each piece passed the gate once, for every number of workers.
-#[test]
-fn each_piece_in_its_place(rt: HostRuntime) -> Result<(), Fail> {
-    for (workers, n) in [(1usize, 1u64), (1, 9), (2, 9), (8, 9), (8, 3), (64, 100)] {
-        let gate = Counter::fresh();
-        let job = Numbers::sound_below(100);
-        let Ok(Outcome::All(outs)) = run_pieces(&rt, rt.alloc(), workers, n, &job, &gate) else {
-            panic!(rt; "no answers with {workers} workers")
-        };
-        assert_eq!(rt; outs.len() as u64, n);
-        for (i, out) in outs.iter().enumerate() {
-            assert_eq!(rt; *out, i as u64, "{workers} workers");
-        }
-        assert_eq!(rt; gate.entered.load(Ordering::SeqCst), n);
-        assert_eq!(rt; gate.left.load(Ordering::SeqCst), n);
-        assert_eq!(rt; job.runs.load(Ordering::SeqCst), n);
+/// Runs `n` pieces with `workers` workers.
+fn run<R: Threads + Wait, G: Gate + Sync>(
+    rt: &R,
+    alloc: Global,
+    workers: usize,
+    n: u64,
+    job: &Numbers,
+    gate: &G,
+) -> Ran
+    requires workers { (1 ≤ workers) × (workers ≤ 64) }
+    requires pieces { n ≤ 2 ^ 62 }
+{
+    match run_pieces(rt, alloc, workers, n, job, gate) {
+        Ok(outcome) => Ran::of(&outcome),
+        Err(_) => Ran::Failed,
     }
-    Ok(())
 }
 
-/// The least faulty piece is named, whoever found which fault first.
+/// Each result is in its place, and each piece passed the gate once, for every number of workers. Without pieces
+/// the gate and the job are not called.
 #[test]
-fn the_least_fault_is_named(rt: HostRuntime) -> Result<(), Fail> {
-    for workers in [1usize, 2, 4, 8] {
-        let gate = Counter::fresh();
+fn each_piece_in_its_place(rt: HostRuntime) {
+    for (workers, n) in [
+        (1usize, 1u64),
+        (1, 9),
+        (2, 9),
+        (8, 9),
+        (8, 3),
+        (64, 100),
+        (4, 0),
+    ] {
+        let gate = Counter::new();
         let job = Numbers::sound_below(100);
-        let Ok(Outcome::First { piece, fault }) = run_pieces(
-            &rt,
-            rt.alloc(),
-            workers,
-            1000,
-            &job,
-            &gate,
-        ) else {
-            panic!(rt; "no fault with {workers} workers")
-        };
-        assert_eq!(rt; piece, 100);
-        assert_eq!(rt; fault, 100);
-        assert_eq!(rt;
-            gate.entered.load(Ordering::SeqCst),
-            gate.left.load(Ordering::SeqCst)
+        let ran = run(&rt, rt.alloc(), workers, n, &job, &gate);
+        let counts = (gate.entered(), gate.left(), job.runs());
+        assert!(rt;
+            ran == Ran::InPlace(n) && counts == (n, n, n),
+            "{workers} workers, {n} pieces: got {ran:?}, entered, left and run {counts:?}"
         );
     }
-    Ok(())
 }
 
-/// One worker and nothing but faults: only the first piece is run, the others lie above its fault.
+/// The least faulty piece is named, whichever fault was found first.
 #[test]
-fn pieces_above_a_fault_are_skipped(rt: HostRuntime) -> Result<(), Fail> {
-    let gate = Counter::fresh();
+fn the_least_fault_is_named(rt: HostRuntime) {
+    let expected = Ran::Faulty {
+        piece: 100,
+        fault: 100,
+    };
+    for workers in [1usize, 2, 4, 8] {
+        let gate = Counter::new();
+        let job = Numbers::sound_below(100);
+        let ran = run(&rt, rt.alloc(), workers, 1000, &job, &gate);
+        assert!(rt;
+            ran == expected && gate.is_balanced(),
+            "{workers} workers: got {ran:?}, entered {}, left {}",
+            gate.entered(),
+            gate.left()
+        );
+    }
+}
+
+/// With one worker and faulty pieces alone, the first piece is run, and the others are skipped.
+#[test]
+fn pieces_above_a_fault_are_skipped(rt: HostRuntime) {
+    let gate = Counter::new();
     let job = Numbers::sound_below(0);
-    let Ok(Outcome::First { piece, fault }) = run_pieces(&rt, rt.alloc(), 1, 16, &job, &gate) else {
-        panic!(rt; "no fault")
-    };
-    assert_eq!(rt; piece, 0);
-    assert_eq!(rt; fault, 0);
-    assert_eq!(rt; gate.entered.load(Ordering::SeqCst), 1);
-    assert_eq!(rt; gate.sum.load(Ordering::SeqCst), 0);
-    Ok(())
+    let ran = run(&rt, rt.alloc(), 1, 16, &job, &gate);
+    let expected = Ran::Faulty { piece: 0, fault: 0 };
+    assert!(rt; ran == expected, "got {ran:?}");
+    assert!(rt;
+        gate.entered() == 1 && gate.sum() == 0,
+        "other pieces were run"
+    );
 }
 
-/// Two pieces that wait for each other meet, so two threads run them at the same time. A pool that
-/// runs its pieces on one thread is late.
+/// Two pieces that wait for each other meet, so two threads run them at the same time. A pool with a single thread
+/// reaches the limit of the wait.
 #[test]
-fn two_workers_meet(rt: HostRuntime) -> Result<(), Fail> {
-    let gate = Meeting::fresh();
+fn two_pool_workers_meet(rt: HostRuntime) {
+    let gate = Meeting::new();
     let job = Numbers::sound_below(2);
-    let Ok(Outcome::All(outs)) = run_pieces(&rt, rt.alloc(), 2, 2, &job, &gate) else {
-        panic!(rt; "no answers")
-    };
-    assert_eq!(rt; outs.as_slice(), [0u64, 1].as_slice());
-    assert_eq!(rt; gate.late.load(Ordering::SeqCst), 0);
-    Ok(())
+    let ran = run(&rt, rt.alloc(), 2, 2, &job, &gate);
+    assert!(rt; ran == Ran::InPlace(2), "got {ran:?}");
+    assert!(rt; gate.is_met(), "the workers did not meet");
 }
 
-/// Two threads work with a pass each.
-fn work_twice<R: Threads + Sync, J: Job + Sync, G: Gate + Sync>(
+/// Works with a pass in each of two threads.
+fn work_twice<R: Threads, J: Job + Sync, G: Gate + Sync>(
     rt: &R,
     alloc: Global,
     board: &Board,
@@ -268,41 +162,64 @@ where
     )
 }
 
-/// The two halves of the pool on threads of the test's own: the two workers meet, and `gather` runs
-/// nothing again.
+/// Whether neither of two workers stopped, and what they did together.
+fn gathered<R: Threads>(
+    rt: &R,
+    alloc: Global,
+    job: &Numbers,
+    gate: &Meeting,
+) -> Result<Ran, BoardFault> {
+    let (board, a, b) = open_two(alloc, 2)?;
+    let (one, other) = work_twice(rt, alloc, &board, a, b, job, gate);
+    if one.stopped || other.stopped {
+        return Ok(Ran::Failed);
+    }
+    let works = pair(alloc, one, other)?;
+    Ok(Ran::of(&gather(alloc, board, works, job)?))
+}
+
+/// The two halves of the pool on threads of the test: the two workers meet, and `gather` runs nothing again.
 #[test]
-fn two_threads_work_on_one_board(rt: HostRuntime) -> Result<(), Fail> {
-    let (board, mut passes) = Board::open(rt.alloc(), 2, 2)?;
-    let (Some(b), Some(a)) = (passes.pop(), passes.pop()) else {
-        panic!(rt; "two passes")
-    };
-    let gate = Meeting::fresh();
+fn two_threads_work_on_one_board(rt: HostRuntime) -> Result<(), BoardFault> {
+    let gate = Meeting::new();
     let job = Numbers::sound_below(2);
-    let (one, other) = work_twice(&rt, rt.alloc(), &board, a, b, &job, &gate);
-    assert!(rt; !one.stopped && !other.stopped);
-    let mut works = Vec::new(rt.alloc());
-    works.push(one)?;
-    works.push(other)?;
-    let Outcome::All(outs) = gather(rt.alloc(), board, works, &job)? else {
-        panic!(rt; "a fault")
-    };
-    assert_eq!(rt; outs.as_slice(), [0u64, 1].as_slice());
-    assert_eq!(rt; gate.late.load(Ordering::SeqCst), 0);
-    assert_eq!(rt; job.runs.load(Ordering::SeqCst), 2);
+    let ran = gathered(&rt, rt.alloc(), &job, &gate)?;
+    assert!(rt; ran == Ran::InPlace(2), "got {ran:?}");
+    assert!(rt; gate.is_met(), "the workers did not meet");
+    assert!(rt; job.runs() == 2, "a piece was run again");
     Ok(())
 }
 
-/// A job's want of memory is the pool's, and no fault of a piece.
+/// Has no memory for any piece.
+#[derive(Drop)]
+struct Starved;
+
+impl Job for Starved {
+    ghost use Rattle.std.specs.Prelude.{};
+
+    type Out = u64;
+
+    type Fault = u64;
+
+    ghost answers = { λ _ _ _. ⊥ };
+
+    ghost faults = { λ _ _ _. ⊥ };
+
+    fn run(&self, _alloc: Global, _i: u64) -> Result<u64, JobFault<u64>> {
+        Err(JobFault::Memory)
+    }
+
+    ghost exclusive = { λ _ _ _ _ a _. a };
+}
+
+/// A job that is out of memory makes the pool fail, and no piece faulty.
 #[test]
-fn a_job_without_memory(rt: HostRuntime) -> Result<(), Fail> {
-    let Err(fault) = run_pieces(&rt, rt.alloc(), 2, 5, &Starved, &OpenGate) else {
-        panic!(rt; "an outcome")
-    };
-    assert!(rt; fault == PoolFault::Memory);
-    Ok(())
+fn a_job_without_memory(rt: HostRuntime) {
+    let outcome = run_pieces(&rt, rt.alloc(), 2, 5, &Starved, &OpenGate);
+    assert!(rt; matches!(outcome, Err(PoolFault::Memory)));
 }
 
-/// Answers each piece with a word that it was lent.
+/// Returns for each piece a word of a borrowed list.
 #[derive(Drop)]
 struct Words<'a> {
     words: &'a [u64],
@@ -328,15 +245,14 @@ impl<'a> Job for Words<'a> {
 
 /// A job may borrow what it works on.
 #[test]
-fn a_job_that_borrows(rt: HostRuntime) -> Result<(), Fail> {
+fn a_job_that_borrows(rt: HostRuntime) {
     let words = [7u64, 8, 9];
     let job = Words { words: &words };
     let Ok(Outcome::All(outs)) = run_pieces(&rt, rt.alloc(), 2, 4, &job, &OpenGate) else {
-        panic!(rt; "no answers")
+        panic!(rt; "no results")
     };
     assert_eq!(rt;
         outs.as_slice(),
         [Some(7u64), Some(8), Some(9), None].as_slice()
     );
-    Ok(())
 }

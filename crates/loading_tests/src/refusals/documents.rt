@@ -1,11 +1,11 @@
-//! What a refused growth or a refused start of a worker leaves, whichever it is.
+//! What a failed allocation leaves of a load, or a worker thread that could not be started, whichever it is.
 //!
-//! With ample memory nothing is refused here. tests/refusals.sh runs each of these tests with its
-//! first growth refused, then with its second, and so on, until a run meets no refusal; and the same
-//! with the starts of workers. A run meets one refusal at most, so that a second try has to succeed.
+//! With ample memory nothing fails here. tests/refusals.sh runs each of these tests with the first allocation
+//! failing, then with the second, and so on, until a run in which none fails; and the same with the starts of worker
+//! threads. At most one of them fails in a run, so a second try has to succeed.
 ghost use Rattle.std.specs.Prelude.{◌≤◌};
 
-use crate::documents::{BAD, GRAPHS, NUMBERED, REPEATED, TAGGED, TWO_LINES, TYPED, counts};
+use crate::documents::{BAD, Counts, GRAPHS, NUMBERED, REPEATED, TAGGED, TWO_LINES, TYPED, counts};
 use dataset_load::{LoadFault, load, load_blocks, read_blocks};
 use nquads_core::{Device, ReadFault};
 use piece_cuts::Cuts;
@@ -46,28 +46,28 @@ impl Passages {
     }
 }
 
-/// The counts of a document that is loaded line by line.
+/// Loads the document line by line, and returns its counts.
 fn by_lines<R: Threads + Wait + RandomSource>(
     rt: &R,
     alloc: Global,
     doc: &[u8],
     workers: usize,
     gate: &Passages,
-) -> Result<(u64, u64, u64), LoadFault>
+) -> Counts
     requires workers { (1 ≤ workers) × (workers ≤ 64) }
 {
     let cuts = Cuts::every(alloc, doc, 1)?;
     counts(load(rt, alloc, doc, &cuts, workers, gate))
 }
 
-/// The same of blocks that a reader gives.
+/// Loads the document in blocks, and returns its counts.
 fn by_blocks<R: Threads + Wait + RandomSource>(
     rt: &R,
     alloc: Global,
     doc: &[u8],
     workers: usize,
     gate: &Passages,
-) -> Result<(u64, u64, u64), LoadFault>
+) -> Counts
     requires workers { (1 ≤ workers) × (workers ≤ 64) }
 {
     let mut reader = Device { inner: doc };
@@ -78,8 +78,8 @@ fn by_blocks<R: Threads + Wait + RandomSource>(
     }
 }
 
-/// Whether memory or a worker was refused, which is printed, for the script to see.
-fn is_refused<R: Print>(rt: &R, counts: &Result<(u64, u64, u64), LoadFault>) -> bool {
+/// Whether an allocation or the start of a worker thread failed. This is printed, for the script to see.
+fn is_refused<R: Print>(rt: &R, counts: &Counts) -> bool {
     let what = match counts {
         Err(LoadFault::Memory) => "memory",
         Err(LoadFault::WorkerRefused) => "a worker",
@@ -89,14 +89,14 @@ fn is_refused<R: Print>(rt: &R, counts: &Result<(u64, u64, u64), LoadFault>) -> 
     true
 }
 
-/// Whether a document that is loaded line by line comes to `want`, or is refused and comes to it at a
-/// second try; and after each of these loads, each piece that entered the gate has left it.
+/// Whether the document, loaded line by line, has these counts, at the second try if an allocation or a start fails;
+/// and after each of these loads, each piece that entered the gate has left it.
 fn lines_come_to<R: Threads + Wait + RandomSource + Print>(
     rt: &R,
     alloc: Global,
     doc: &[u8],
     workers: usize,
-    want: Result<(u64, u64, u64), LoadFault>,
+    want: Counts,
 ) -> bool
     requires workers { (1 ≤ workers) × (workers ≤ 64) }
 {
@@ -111,13 +111,13 @@ fn lines_come_to<R: Threads + Wait + RandomSource + Print>(
     given == want && gate.is_balanced()
 }
 
-/// The same of its blocks.
+/// The same of the document in blocks.
 fn blocks_come_to<R: Threads + Wait + RandomSource + Print>(
     rt: &R,
     alloc: Global,
     doc: &[u8],
     workers: usize,
-    want: Result<(u64, u64, u64), LoadFault>,
+    want: Counts,
 ) -> bool
     requires workers { (1 ≤ workers) × (workers ≤ 64) }
 {
@@ -132,12 +132,12 @@ fn blocks_come_to<R: Threads + Wait + RandomSource + Print>(
     given == want && gate.is_balanced()
 }
 
-/// Both, by one worker and by two.
+/// Both, with one worker and with two.
 fn comes_to<R: Threads + Wait + RandomSource + Print>(
     rt: &R,
     alloc: Global,
     doc: &[u8],
-    want: Result<(u64, u64, u64), LoadFault>,
+    want: Counts,
 ) -> bool {
     for workers in [1, 2] {
         if !lines_come_to(rt, alloc, doc, workers, want) {
@@ -150,7 +150,7 @@ fn comes_to<R: Threads + Wait + RandomSource + Print>(
     true
 }
 
-/// A good document is never called bad, and its counts are never other ones.
+/// A valid document is never rejected, and its counts are never other ones.
 #[test]
 fn a_good_document_is_loaded_or_memory_is_refused(rt: HostRuntime) {
     let alloc = rt.alloc();
@@ -181,7 +181,7 @@ fn a_tag_is_loaded_or_memory_is_refused(rt: HostRuntime) {
     assert!(rt; comes_to(&rt, rt.alloc(), TAGGED, Ok((1, 3, 0))));
 }
 
-/// A bad document is never accepted, and its first bad line never another one.
+/// A document with a malformed line is never accepted, and the first such line is never another one.
 #[test]
 fn a_bad_document_is_refused_or_memory_is(rt: HostRuntime) {
     assert!(rt; comes_to(&rt, rt.alloc(), BAD, Err(LoadFault::BadLine(3))));

@@ -1,15 +1,15 @@
-//! What a refused growth leaves, whichever growth it is.
+//! What a failed allocation leaves of an index, whichever allocation it is.
 //!
-//! With ample memory nothing is refused here. tests/refusals.sh runs each of these tests with its
-//! first growth refused, then with its second, and so on, until a run meets no refusal. A run meets
-//! one refusal at most, so that a second try has to succeed.
+//! With ample memory none fails here. tests/refusals.sh runs each of these tests with the first allocation failing,
+//! then with the second, and so on, until a run in which none fails. At most one allocation fails in a run, so a
+//! second try has to succeed.
 
 use crate::index::{QUADS, quad, side_by_side};
 use dict_core::NumQuad;
 use quad_index::{Index, SortOrder, sorted_list};
 use std::alloc::Global;
 
-/// Whether it is the index of the four quads.
+/// Whether the index is that of the four quads.
 fn is_right(index: &Index) -> bool {
     index.quads() == 3
         && index.graphs() == [5].as_slice()
@@ -22,32 +22,55 @@ fn copied(alloc: Global) -> Option<Vec<NumQuad>> {
     Vec::from_slice(alloc, &QUADS).ok()
 }
 
-/// `Index::build` drops its list, and a list that is made anew is built.
-#[test]
-fn a_refused_build_drops_its_list(rt: HostRuntime) {
-    let alloc = rt.alloc();
-    let (Some(quads), Some(again)) = (copied(alloc), copied(alloc)) else {
-        return;
-    };
-    let index = match Index::build(alloc, quads) {
-        Ok(index) => index,
-        Err(_) => Index::build(alloc, again).expect(&rt, "memory"),
-    };
-    assert!(rt; is_right(&index));
+/// Builds an index, at the second try of another equal list.
+fn build_twice(alloc: Global, quads: Vec<NumQuad>, again: Vec<NumQuad>) -> Option<Index> {
+    match Index::build(alloc, quads) {
+        Ok(index) => Some(index),
+        Err(_) => Index::build(alloc, again).ok(),
+    }
 }
 
-/// `sorted_list` leaves the quads that it was lent, and `of_lists` drops its lists.
+fn is_built(alloc: Global) -> bool {
+    let (Some(quads), Some(again)) = (copied(alloc), copied(alloc)) else {
+        return true;
+    };
+    match build_twice(alloc, quads, again) {
+        Some(index) => is_right(&index),
+        None => false,
+    }
+}
+
+/// On error `Index::build` drops its list, and an equal list is built.
+#[test]
+fn a_refused_build_drops_its_list(rt: HostRuntime) {
+    assert!(rt; is_built(rt.alloc()));
+}
+
+fn is_sorted(alloc: Global) -> bool {
+    let index = match side_by_side(alloc, &QUADS) {
+        Ok(index) => Some(index),
+        Err(_) => side_by_side(alloc, &QUADS).ok(),
+    };
+    match index {
+        Some(index) => is_right(&index),
+        None => false,
+    }
+}
+
+fn is_listed(alloc: Global) -> bool {
+    let list = match sorted_list(alloc, &QUADS, SortOrder::Gpos) {
+        Ok(list) => Some(list),
+        Err(_) => sorted_list(alloc, &QUADS, SortOrder::Gpos).ok(),
+    };
+    match list {
+        Some(list) => list.len() == 3,
+        None => false,
+    }
+}
+
+/// On error `sorted_list` leaves the quads that it borrows, and `of_lists` drops its lists.
 #[test]
 fn a_refused_list_is_sorted_again(rt: HostRuntime) {
-    let alloc = rt.alloc();
-    let index = match side_by_side(alloc, &QUADS) {
-        Ok(index) => index,
-        Err(_) => side_by_side(alloc, &QUADS).expect(&rt, "memory"),
-    };
-    assert!(rt; is_right(&index));
-    let list = match sorted_list(alloc, &QUADS, SortOrder::Gpos) {
-        Ok(list) => list,
-        Err(_) => sorted_list(alloc, &QUADS, SortOrder::Gpos).expect(&rt, "memory"),
-    };
-    assert!(rt; list.len() == 3);
+    assert!(rt; is_sorted(rt.alloc()));
+    assert!(rt; is_listed(rt.alloc()));
 }

@@ -1,13 +1,16 @@
-//! Commands, and what is answered to them.
+//! Commands and their outputs.
 
-use super::devices::{sink, source};
 use rdf_core::Text;
 use spq_command::{Command, Reading};
-use spq_core::{run, write_fault};
+use spq_core::{RunFault, run, write_fault};
 use std::alloc::{AllocError, Global};
 use std::random::RandomSource;
 use std::sync::Wait;
 use std::thread::Threads;
+use test_fixtures::{SliceSource, VecSink};
+
+/// The most bytes that a device moves per call, unless a test says otherwise.
+pub(crate) const CHUNK: usize = 7;
 
 /// Workers, bytes a block and rows a piece: no output depends on them.
 pub(crate) type Way = (usize, usize, usize);
@@ -29,11 +32,17 @@ const WAYS: [Way; 12] = [
     (8, 65536, 1024),
 ];
 
-/// A worked example of a select: its name, the document, the query, and of the wanted output the
-/// variables and the bindings, with `'` for `"`.
-pub(crate) type Example<'a> = (&'a str, &'a str, &'a str, &'a str, &'a str);
+/// A worked example of a select: its name, the document, the query, and the variables and the bindings of the
+/// expected output, with `'` for `"`.
+pub(crate) type Example = (
+    &'static str,
+    &'static str,
+    &'static str,
+    &'static str,
+    &'static str,
+);
 
-/// How a document is read, with numbers out of range taken as the nearest.
+/// How a document is read. A number out of range counts as the nearest one in range.
 fn reading(workers: usize, piece: usize) -> Reading {
     Reading {
         workers: workers.max(1).min(64),
@@ -63,22 +72,55 @@ pub(crate) fn terms(workers: usize, piece: usize) -> Command {
     }
 }
 
+/// Runs a command over devices in memory.
+pub(crate) fn ran<R: Threads + Wait + RandomSource>(
+    rt: &R,
+    alloc: Global,
+    command: &Command,
+    reader: &mut SliceSource<'_>,
+    writer: &mut VecSink,
+) -> Result<(), RunFault> {
+    run(rt, alloc, command, reader, writer)
+}
+
 /// The output of a command, or the line of its fault.
-pub(crate) fn told<R: Threads + Wait + RandomSource>(
+fn told<R: Threads + Wait + RandomSource>(
     rt: &R,
     alloc: Global,
     command: &Command,
     doc: &[u8],
 ) -> Vec<u8> {
-    let mut reader = source(doc, usize::MAX);
-    let mut writer = sink(alloc, 1000, usize::MAX);
-    if let Err(fault) = run(rt, alloc, command, &mut reader, &mut writer) {
+    let mut reader = SliceSource::new(doc, CHUNK);
+    let mut writer = VecSink::new(alloc, 1000);
+    if let Err(fault) = ran(rt, alloc, command, &mut reader, &mut writer) {
         let _tried = write_fault(&fault, &mut writer);
     }
     writer.bytes
 }
 
-/// The JSON of these variables and bindings, which are given with `'` for `"`.
+/// Whether a command gives this output, or the line of its fault. It is printed if not.
+pub(crate) fn gives<R: Threads + Wait + RandomSource + Print>(
+    rt: &R,
+    alloc: Global,
+    command: &Command,
+    doc: &[u8],
+    expected: &[u8],
+) -> bool {
+    let given = told(rt, alloc, command, doc);
+    let is_expected = given.as_slice() == expected;
+    if !is_expected {
+        print_difference(rt, expected, &given);
+    }
+    is_expected
+}
+
+pub(crate) fn print_difference<R: Print>(rt: &R, expected: &[u8], given: &[u8]) {
+    let expected = str::from_utf8(expected).unwrap_or("?");
+    let given = str::from_utf8(given).unwrap_or("?");
+    let _ = println!(rt; "expected {expected}\ngot {given}");
+}
+
+/// The JSON document of these variables and bindings, which are given with `'` for `"`.
 pub(crate) fn json(alloc: Global, vars: &str, bindings: &str) -> Result<Vec<u8>, AllocError> {
     let mut made = Vec::new(alloc);
     let parts = [
@@ -96,29 +138,35 @@ pub(crate) fn json(alloc: Global, vars: &str, bindings: &str) -> Result<Vec<u8>,
     Ok(made)
 }
 
-/// Whether an example is answered as it says, in every way.
-fn is_answered<R: Threads + Wait + RandomSource>(
+/// Whether an example has its output in every way.
+fn is_answered<R: Threads + Wait + RandomSource + Print>(
     rt: &R,
     alloc: Global,
-    example: &Example<'_>,
+    example: &Example,
 ) -> Result<bool, AllocError> {
-    let (_name, doc, query, vars, bindings) = *example;
-    let wanted = json(alloc, vars, bindings)?;
+    let (name, doc, query, vars, bindings) = *example;
+    let expected = json(alloc, vars, bindings)?;
     for way in WAYS {
-        let given = told(rt, alloc, &select(alloc, query, way), doc.as_bytes());
-        if given != wanted {
+        if !gives(
+            rt,
+            alloc,
+            &select(alloc, query, way),
+            doc.as_bytes(),
+            &expected,
+        ) {
+            let _ = println!(rt; "{name}, by workers, bytes and rows {way:?}");
             return Ok(false);
         }
     }
     Ok(true)
 }
 
-/// The name of the first example that is answered otherwise.
-pub(crate) fn first_wrong<'a, R: Threads + Wait + RandomSource>(
+/// Returns the name of the first example with another output.
+pub(crate) fn first_wrong<R: Threads + Wait + RandomSource + Print>(
     rt: &R,
     alloc: Global,
-    examples: &[Example<'a>],
-) -> Result<Option<&'a str>, AllocError> {
+    examples: &[Example],
+) -> Result<Option<&'static str>, AllocError> {
     for example in examples {
         if !is_answered(rt, alloc, example)? {
             return Ok(Some(example.0));

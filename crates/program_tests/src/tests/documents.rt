@@ -1,192 +1,107 @@
 //! Documents that are checked, and whose terms are listed.
 
-use super::asking::{WHOLE, check, select, terms, told};
+use super::asking::{WHOLE, check, gives, select, terms};
 use super::samples::{ESCAPED, GRAPHS, REPEATED, TWO_LINES};
 use std::alloc::{AllocError, Global};
+use std::random::RandomSource;
+use std::sync::Wait;
+use std::thread::Threads;
 
-const CUT_SHORT: &[u8] =
-    b"<http://e/a> <http://e/p> <http://e/b> .\n<http://e/a> <http://e/p> <http://e/b> .\n<http://e/a> <http://e/p> \"x\" ";
+const CUT_SHORT: &str =
+    "<http://e/a> <http://e/p> <http://e/b> .\n<http://e/a> <http://e/p> <http://e/b> .\n<http://e/a> <http://e/p> \"x\" ";
 
-const ONE_LINE_MORE: &[u8] =
-    b"<http://e/a> <http://e/p> <http://e/b> .\n<http://e/a> <http://e/p> <http://e/b> .\n<http://e/a> <http://e/p> \"x\" .\nx\n";
+const ONE_LINE_MORE: &str =
+    "<http://e/a> <http://e/p> <http://e/b> .\n<http://e/a> <http://e/p> <http://e/b> .\n<http://e/a> <http://e/p> \"x\" .\nx\n";
 
-const LINE_ENDS: &[u8] =
-    b"<http://e/a> <http://e/p> <http://e/b> .\r\n# c\n<http://e/a> <http://e/p> .\n";
+const LINE_ENDS: &str =
+    "<http://e/a> <http://e/p> <http://e/b> .\r\n# c\n<http://e/a> <http://e/p> .\n";
 
-const HALF_A_PAIR: &[u8] = b"<http://e/a> <http://e/p> \"\\uD800\" .\n";
+const HALF_A_PAIR: &str = "<http://e/a> <http://e/p> \"\\uD800\" .\n";
+
+/// A name, a document, and the output of `check`.
+const CHECKED: [(&str, &str, &str); 14] = [
+    (
+        "a repeated statement counts once",
+        REPEATED,
+        "ok 2 quads 4 terms 0 graphs\n",
+    ),
+    ("the empty document", "", "ok 0 quads 0 terms 0 graphs\n"),
+    ("two graphs", GRAPHS, "ok 3 quads 7 terms 2 graphs\n"),
+    ("three kinds of line ends", LINE_ENDS, "error: line 3\n"),
+    (
+        "no blanks, and a tag",
+        TWO_LINES,
+        "ok 2 quads 5 terms 0 graphs\n",
+    ),
+    ("half a pair of surrogates", HALF_A_PAIR, "error: line 1\n"),
+    (
+        "a lone CR ends a line",
+        "<http://e/a> <http://e/p> <http://e/b> .\rx",
+        "error: line 2\n",
+    ),
+    ("the last line lacks its dot", CUT_SHORT, "error: line 3\n"),
+    ("the last line is bad", ONE_LINE_MORE, "error: line 4\n"),
+    (
+        "a label takes all it can",
+        "<http://e/a> <http://e/p> _:o_:g .\n",
+        "ok 1 quads 3 terms 0 graphs\n",
+    ),
+    (
+        "escapes in an IRI, and the datatype of plain literals",
+        "<http://e/\\u0061> <http://e/p> \"x\" .\n<http://e/a> <http://e/p> \"x\"^^<http://www.w3.org/2001/XMLSchema#string> .\n",
+        "ok 1 quads 3 terms 0 graphs\n",
+    ),
+    (
+        "an escaped blank in an IRI",
+        "<http://e/\\u0020> <http://e/p> \"x\" .\n",
+        "error: line 1\n",
+    ),
+    (
+        "a byte order mark",
+        "\u{feff}<http://e/a> <http://e/p> \"x\" .\n",
+        "error: line 1\n",
+    ),
+    (
+        "a label does not end with a dot",
+        "<http://e/a> <http://e/p> _:b..\n",
+        "error: line 1\n",
+    ),
+];
+
+/// A comment with a byte that is no UTF-8.
+const NO_TEXT: &[u8] = b"# \xFF\n";
+
+/// Whether `check` gives this output, in one block and line by line.
+fn is_checked<R: Threads + Wait + RandomSource + Print>(
+    rt: &R,
+    alloc: Global,
+    doc: &[u8],
+    expected: &str,
+) -> bool {
+    gives(rt, alloc, &check(1, 65536), doc, expected.as_bytes())
+        && gives(rt, alloc, &check(8, 1), doc, expected.as_bytes())
+}
 
 #[test]
 fn documents_are_checked(rt: HostRuntime) {
-    let cases: [(&str, &[u8], &[u8]); 15] = [
-        (
-            "a repeated statement counts once",
-            REPEATED.as_bytes(),
-            b"ok 2 quads 4 terms 0 graphs\n",
-        ),
-        ("the empty document", b"", b"ok 0 quads 0 terms 0 graphs\n"),
-        (
-            "two graphs",
-            GRAPHS.as_bytes(),
-            b"ok 3 quads 7 terms 2 graphs\n",
-        ),
-        ("three kinds of line ends", LINE_ENDS, b"error: line 3\n"),
-        (
-            "no blanks, and a tag",
-            TWO_LINES.as_bytes(),
-            b"ok 2 quads 5 terms 0 graphs\n",
-        ),
-        ("half a pair of surrogates", HALF_A_PAIR, b"error: line 1\n"),
-        (
-            "a lone CR ends a line",
-            b"<http://e/a> <http://e/p> <http://e/b> .\rx",
-            b"error: line 2\n",
-        ),
-        ("the last line lacks its dot", CUT_SHORT, b"error: line 3\n"),
-        ("the last line is bad", ONE_LINE_MORE, b"error: line 4\n"),
-        (
-            "a label takes all it can",
-            b"<http://e/a> <http://e/p> _:o_:g .\n",
-            b"ok 1 quads 3 terms 0 graphs\n",
-        ),
-        (
-            "escapes in an IRI, and the datatype of plain literals",
-            b"<http://e/\\u0061> <http://e/p> \"x\" .\n<http://e/a> <http://e/p> \"x\"^^<http://www.w3.org/2001/XMLSchema#string> .\n",
-            b"ok 1 quads 3 terms 0 graphs\n",
-        ),
-        (
-            "an escaped blank in an IRI",
-            b"<http://e/\\u0020> <http://e/p> \"x\" .\n",
-            b"error: line 1\n",
-        ),
-        (
-            "a byte order mark",
-            b"\xEF\xBB\xBF<http://e/a> <http://e/p> \"x\" .\n",
-            b"error: line 1\n",
-        ),
-        (
-            "a label does not end with a dot",
-            b"<http://e/a> <http://e/p> _:b..\n",
-            b"error: line 1\n",
-        ),
-        (
-            "a byte that is no text in a comment",
-            b"# \xFF\n",
-            b"error: line 1\n",
-        ),
-    ];
-    for (name, doc, wanted) in cases {
-        let whole = told(&rt, rt.alloc(), &check(1, 65536), doc);
-        assert!(rt; whole.as_slice() == wanted, "{name}, in one piece");
-        let cut = told(&rt, rt.alloc(), &check(8, 1), doc);
-        assert!(rt; cut.as_slice() == wanted, "{name}, line by line");
-    }
-}
-
-#[test]
-fn the_first_of_two_bad_lines_is_named(rt: HostRuntime) {
-    let alloc = rt.alloc();
-    let mut doc = Vec::new(alloc);
-    for line in 1..1001 {
-        let text = if line == 2 || line == 900 {
-            b"x\n".as_slice()
-        } else {
-            b"<http://e/a> <http://e/p> <http://e/b> .\n".as_slice()
-        };
-        if doc.extend_from_slice(text).is_err() {
-            return;
-        }
-    }
-    for piece in [1, 65536] {
-        let given = told(&rt, alloc, &check(8, piece), &doc);
+    for (name, doc, expected) in CHECKED {
         assert!(rt;
-            given.as_slice() == b"error: line 2\n".as_slice(),
-            "line 2 of 1000, in pieces of {piece}"
+            is_checked(&rt, rt.alloc(), doc.as_bytes(), expected),
+            "{name}"
         );
     }
+    assert!(rt;
+        is_checked(&rt, rt.alloc(), NO_TEXT, "error: line 1\n"),
+        "no UTF-8"
+    );
 }
 
-#[test]
-fn terms_are_listed(rt: HostRuntime) {
-    let cases: [(&str, &[u8], &[u8]); 5] = [
-        (
-            "by first appearance",
-            REPEATED.as_bytes(),
-            b"<http://e/a>\n<http://e/p>\n<http://e/b>\n\"x\"\n",
-        ),
-        (
-            "a tag in lower case, and a line feed escaped",
-            TWO_LINES.as_bytes(),
-            b"<http://e/a>\n<http://e/p>\n_:b\n<http://e/q>\n\"\xC3\xA9\\n\"@en\n",
-        ),
-        (
-            "control characters as they are, a backslash escaped",
-            ESCAPED.as_bytes(),
-            b"<http://e/a>\n<http://e/p>\n\"\t\x01\\\\\"\n",
-        ),
-        (
-            "a label takes all it can",
-            b"<http://e/a> <http://e/p> _:o_:g .\n",
-            b"<http://e/a>\n<http://e/p>\n_:o_:g\n",
-        ),
-        (
-            "a dot behind a tag",
-            b"<http://e/a> <http://e/p> \"x\"@en-GB.\n",
-            b"<http://e/a>\n<http://e/p>\n\"x\"@en-gb\n",
-        ),
-    ];
-    for (name, doc, wanted) in cases {
-        let whole = told(&rt, rt.alloc(), &terms(4, 65536), doc);
-        assert!(rt; whole.as_slice() == wanted, "{name}, in one piece");
-        let cut = told(&rt, rt.alloc(), &terms(2, 1), doc);
-        assert!(rt; cut.as_slice() == wanted, "{name}, line by line");
-    }
-}
-
-#[test]
-fn a_bad_line_refuses_a_select(rt: HostRuntime) {
-    let cases: [(&str, &[u8], &[u8]); 3] = [
-        (
-            "SELECT ?o { <http://e/a> <http://e/p> ?o }",
-            HALF_A_PAIR,
-            b"error: line 1\n",
-        ),
-        ("SELECT ?o { ?s ?p ?o }", CUT_SHORT, b"error: line 3\n"),
-        (
-            "SELECT ?o { <http://e/a> <http://e/p> ?o }",
-            ONE_LINE_MORE,
-            b"error: line 4\n",
-        ),
-    ];
-    for (query, doc, wanted) in cases {
-        let given = told(&rt, rt.alloc(), &select(rt.alloc(), query, WHOLE), doc);
-        assert!(rt; given.as_slice() == wanted, "the last line is bad: {query}");
-    }
-}
-
-/// One statement a line.
-const TWICE: &[u8] =
-    b"<http://e/a> <http://e/p> <http://e/b> .\n<http://e/a> <http://e/p> <http://e/b> .\n";
-
-// Each line has 40 bytes, and may end without a line feed.
-#[test]
-fn every_front_of_a_document_is_judged(rt: HostRuntime) {
-    for count in 0..TWICE.len() + 1 {
-        let wanted = match count {
-            0 => b"ok 0 quads 0 terms 0 graphs\n".as_slice(),
-            40 | 41 | 81 | 82 => b"ok 1 quads 3 terms 0 graphs\n".as_slice(),
-            1..=39 => b"error: line 1\n".as_slice(),
-            _ => b"error: line 2\n".as_slice(),
-        };
-        let given = told(&rt, rt.alloc(), &check(4, 1), &TWICE[..count]);
-        assert!(rt; given.as_slice() == wanted, "the first {count} bytes");
-    }
-}
-
-/// Sixteen lines, of which one is bad.
-fn with_a_bad_line(alloc: Global, bad: usize) -> Result<Vec<u8>, AllocError> {
+/// A document of `count` lines, of which the lines of these two numbers are malformed.
+fn with_bad_lines(alloc: Global, count: u64, bad: (u64, u64)) -> Result<Vec<u8>, AllocError> {
     let mut doc = Vec::new(alloc);
-    for line in 1..17 {
-        let text = if line == bad {
+    for line in 0..count {
+        let is_bad = line.wrapping_add(1) == bad.0 || line.wrapping_add(1) == bad.1;
+        let text = if is_bad {
             b"x\n".as_slice()
         } else {
             b"<http://e/a> <http://e/p> <http://e/b> .\n".as_slice()
@@ -196,17 +111,147 @@ fn with_a_bad_line(alloc: Global, bad: usize) -> Result<Vec<u8>, AllocError> {
     Ok(doc)
 }
 
-// A bad line is found wherever it stands, by however many workers.
+/// Whether the first of two malformed lines is named.
+fn is_named<R: Threads + Wait + RandomSource + Print>(
+    rt: &R,
+    alloc: Global,
+    (count, first, second): (u64, u64, u64),
+    workers: usize,
+    piece: usize,
+) -> Result<bool, AllocError> {
+    let doc = with_bad_lines(alloc, count, (first, second))?;
+    let expected = format!(in alloc; "error: line {first}\n")?;
+    Ok(gives(rt, alloc, &check(workers, piece), &doc, expected.as_bytes()))
+}
+
+#[test]
+fn the_first_of_two_bad_lines_is_named(rt: HostRuntime) -> Result<(), AllocError> {
+    for piece in [1, 65536] {
+        assert!(rt;
+            is_named(&rt, rt.alloc(), (1000, 2, 900), 8, piece)?,
+            "blocks of {piece} bytes"
+        );
+    }
+    Ok(())
+}
+
+/// A name, a document, and the output of `terms`.
+const LISTED: [(&str, &str, &str); 5] = [
+    (
+        "by first appearance",
+        REPEATED,
+        "<http://e/a>\n<http://e/p>\n<http://e/b>\n\"x\"\n",
+    ),
+    (
+        "a tag in lower case, and a line feed escaped",
+        TWO_LINES,
+        "<http://e/a>\n<http://e/p>\n_:b\n<http://e/q>\n\"é\\n\"@en\n",
+    ),
+    (
+        "control characters as they are, a backslash escaped",
+        ESCAPED,
+        "<http://e/a>\n<http://e/p>\n\"\t\x01\\\\\"\n",
+    ),
+    (
+        "a label takes all it can",
+        "<http://e/a> <http://e/p> _:o_:g .\n",
+        "<http://e/a>\n<http://e/p>\n_:o_:g\n",
+    ),
+    (
+        "a dot behind a tag",
+        "<http://e/a> <http://e/p> \"x\"@en-GB.\n",
+        "<http://e/a>\n<http://e/p>\n\"x\"@en-gb\n",
+    ),
+];
+
+#[test]
+fn terms_are_listed(rt: HostRuntime) {
+    for (name, doc, expected) in LISTED {
+        for (workers, piece) in [(4, 65536), (2, 1)] {
+            let command = terms(workers, piece);
+            assert!(rt;
+                gives(
+                    &rt,
+                    rt.alloc(),
+                    &command,
+                    doc.as_bytes(),
+                    expected.as_bytes()
+                ),
+                "{name}, {workers} workers, blocks of {piece} bytes"
+            );
+        }
+    }
+}
+
+/// A query, a document whose last line is malformed, and the output.
+const NOT_SELECTED: [(&str, &str, &str); 3] = [
+    (
+        "SELECT ?o { <http://e/a> <http://e/p> ?o }",
+        HALF_A_PAIR,
+        "error: line 1\n",
+    ),
+    ("SELECT ?o { ?s ?p ?o }", CUT_SHORT, "error: line 3\n"),
+    (
+        "SELECT ?o { <http://e/a> <http://e/p> ?o }",
+        ONE_LINE_MORE,
+        "error: line 4\n",
+    ),
+];
+
+#[test]
+fn a_bad_line_refuses_a_select(rt: HostRuntime) {
+    for (query, doc, expected) in NOT_SELECTED {
+        let command = select(rt.alloc(), query, WHOLE);
+        assert!(rt;
+            gives(
+                &rt,
+                rt.alloc(),
+                &command,
+                doc.as_bytes(),
+                expected.as_bytes()
+            ),
+            "{query}"
+        );
+    }
+}
+
+/// One statement per line.
+const TWICE: &[u8] =
+    b"<http://e/a> <http://e/p> <http://e/b> .\n<http://e/a> <http://e/p> <http://e/b> .\n";
+
+/// The output of `check` for a prefix of `TWICE`. Each line has 40 bytes, and may end without a line feed.
+fn expected_of_prefix(count: usize) -> &'static [u8] {
+    match count {
+        0 => b"ok 0 quads 0 terms 0 graphs\n".as_slice(),
+        40 | 41 | 81 | 82 => b"ok 1 quads 3 terms 0 graphs\n".as_slice(),
+        1..=39 => b"error: line 1\n".as_slice(),
+        _ => b"error: line 2\n".as_slice(),
+    }
+}
+
+#[test]
+fn every_front_of_a_document_is_judged(rt: HostRuntime) {
+    for count in 0..TWICE.len() + 1 {
+        assert!(rt;
+            gives(
+                &rt,
+                rt.alloc(),
+                &check(4, 1),
+                &TWICE[..count],
+                expected_of_prefix(count)
+            ),
+            "the first {count} bytes"
+        );
+    }
+}
+
+/// A malformed line is found wherever it is, with every number of workers.
 #[test]
 fn each_bad_line_is_named(rt: HostRuntime) -> Result<(), AllocError> {
-    let alloc = rt.alloc();
     for bad in 1..17 {
-        let doc = with_a_bad_line(alloc, bad)?;
-        let wanted = format!(in alloc; "error: line {bad}\n")?;
         for workers in [1, 2, 8] {
-            let given = told(&rt, alloc, &check(workers, 1), &doc);
             assert!(rt;
-                given.as_slice() == wanted.as_bytes(),
+                is_named(&rt, rt.alloc(), (16, bad, bad), workers, 1)?,
                 "line {bad}, {workers} workers"
             );
         }

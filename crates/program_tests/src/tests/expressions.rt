@@ -1,80 +1,81 @@
 //! FILTER, BIND and the values of expressions.
 
-use super::asking::{WHOLE, first_wrong, json, select, told};
+use super::asking::{Example, WHOLE, first_wrong, gives, json, select};
 use super::samples::{BLANK, NUMBERS, TAGGED};
 use std::alloc::{AllocError, Global};
+use std::random::RandomSource;
+use std::sync::Wait;
+use std::thread::Threads;
+
+const FILTERS: [Example; 9] = [
+    (
+        "numbers are compared by value",
+        NUMBERS,
+        "SELECT ?x { <http://e/a> <http://e/p> ?x FILTER(?x = 1.0) }",
+        "'x'",
+        "{'x':{'datatype':'http://www.w3.org/2001/XMLSchema#integer','type':'literal','value':'01'}}",
+    ),
+    (
+        "an error stays one under a negation",
+        NUMBERS,
+        "SELECT ?x { <http://e/a> <http://e/p> ?x FILTER(!(?x = 1.0)) }",
+        "'x'",
+        "{'x':{'datatype':'http://www.w3.org/2001/XMLSchema#integer','type':'literal','value':'1000000000000000000000000000000000000001'}}",
+    ),
+    (
+        "the datatype of a literal with a tag",
+        TAGGED,
+        "SELECT ?d { ?s ?p ?o BIND(DATATYPE(?o) AS ?d) }",
+        "'d'",
+        "{'d':{'type':'uri','value':'http://www.w3.org/1999/02/22-rdf-syntax-ns#langString'}}",
+    ),
+    (
+        "the text of a blank node is an error",
+        BLANK,
+        "SELECT ?y { ?s ?p ?o BIND(STR(?s) AS ?y) }",
+        "'y'",
+        "{}",
+    ),
+    (
+        "what an error leaves open is bound behind it",
+        BLANK,
+        "SELECT ?y { ?s ?p ?o BIND(STR(?s) AS ?y) ?z <http://e/p> ?y }",
+        "'y'",
+        "{'y':{'type':'literal','value':'x'}}",
+    ),
+    (
+        "a member of a list",
+        NUMBERS,
+        "SELECT ?x { <http://e/a> <http://e/p> ?x FILTER(?x IN (2, 1.0)) }",
+        "'x'",
+        "{'x':{'datatype':'http://www.w3.org/2001/XMLSchema#integer','type':'literal','value':'01'}}",
+    ),
+    (
+        "no member of a list",
+        NUMBERS,
+        "SELECT ?x { <http://e/a> <http://e/p> ?x FILTER(?x NOT IN (2, 1.0)) }",
+        "'x'",
+        "{'x':{'datatype':'http://www.w3.org/2001/XMLSchema#integer','type':'literal','value':'1000000000000000000000000000000000000001'}}",
+    ),
+    (
+        "nothing is in the empty list",
+        NUMBERS,
+        "SELECT ?x { <http://e/a> <http://e/p> ?x FILTER(?x IN ()) }",
+        "'x'",
+        "",
+    ),
+    (
+        "all is out of the empty list",
+        NUMBERS,
+        "SELECT ?x { <http://e/a> <http://e/p> ?x FILTER(?x NOT IN ()) }",
+        "'x'",
+        "{'x':{'datatype':'http://www.w3.org/2001/XMLSchema#integer','type':'literal','value':'01'}},{'x':{'datatype':'http://www.w3.org/2001/XMLSchema#double','type':'literal','value':'1'}},{'x':{'type':'literal','value':'1'}},{'x':{'datatype':'http://www.w3.org/2001/XMLSchema#integer','type':'literal','value':'1000000000000000000000000000000000000001'}}",
+    ),
+];
 
 #[test]
 fn filters_and_values(rt: HostRuntime) -> Result<(), AllocError> {
-    let wrong = first_wrong(
-        &rt,
-        rt.alloc(),
-        &[
-            (
-                "numbers are compared by value",
-                NUMBERS,
-                "SELECT ?x { <http://e/a> <http://e/p> ?x FILTER(?x = 1.0) }",
-                "'x'",
-                "{'x':{'datatype':'http://www.w3.org/2001/XMLSchema#integer','type':'literal','value':'01'}}",
-            ),
-            (
-                "an error stays one under a negation",
-                NUMBERS,
-                "SELECT ?x { <http://e/a> <http://e/p> ?x FILTER(!(?x = 1.0)) }",
-                "'x'",
-                "{'x':{'datatype':'http://www.w3.org/2001/XMLSchema#integer','type':'literal','value':'1000000000000000000000000000000000000001'}}",
-            ),
-            (
-                "the datatype of a literal with a tag",
-                TAGGED,
-                "SELECT ?d { ?s ?p ?o BIND(DATATYPE(?o) AS ?d) }",
-                "'d'",
-                "{'d':{'type':'uri','value':'http://www.w3.org/1999/02/22-rdf-syntax-ns#langString'}}",
-            ),
-            (
-                "the text of a blank node is an error",
-                BLANK,
-                "SELECT ?y { ?s ?p ?o BIND(STR(?s) AS ?y) }",
-                "'y'",
-                "{}",
-            ),
-            (
-                "what an error leaves open is bound behind it",
-                BLANK,
-                "SELECT ?y { ?s ?p ?o BIND(STR(?s) AS ?y) ?z <http://e/p> ?y }",
-                "'y'",
-                "{'y':{'type':'literal','value':'x'}}",
-            ),
-            (
-                "a member of a list",
-                NUMBERS,
-                "SELECT ?x { <http://e/a> <http://e/p> ?x FILTER(?x IN (2, 1.0)) }",
-                "'x'",
-                "{'x':{'datatype':'http://www.w3.org/2001/XMLSchema#integer','type':'literal','value':'01'}}",
-            ),
-            (
-                "no member of a list",
-                NUMBERS,
-                "SELECT ?x { <http://e/a> <http://e/p> ?x FILTER(?x NOT IN (2, 1.0)) }",
-                "'x'",
-                "{'x':{'datatype':'http://www.w3.org/2001/XMLSchema#integer','type':'literal','value':'1000000000000000000000000000000000000001'}}",
-            ),
-            (
-                "nothing is in the empty list",
-                NUMBERS,
-                "SELECT ?x { <http://e/a> <http://e/p> ?x FILTER(?x IN ()) }",
-                "'x'",
-                "",
-            ),
-            (
-                "all is out of the empty list",
-                NUMBERS,
-                "SELECT ?x { <http://e/a> <http://e/p> ?x FILTER(?x NOT IN ()) }",
-                "'x'",
-                "{'x':{'datatype':'http://www.w3.org/2001/XMLSchema#integer','type':'literal','value':'01'}},{'x':{'datatype':'http://www.w3.org/2001/XMLSchema#double','type':'literal','value':'1'}},{'x':{'type':'literal','value':'1'}},{'x':{'datatype':'http://www.w3.org/2001/XMLSchema#integer','type':'literal','value':'1000000000000000000000000000000000000001'}}",
-            ),
-        ],
-    )?;
+    let wrong = first_wrong(&rt, rt.alloc(), &FILTERS)?;
     assert!(rt; wrong.is_none(), "{wrong:?}");
     Ok(())
 }
@@ -99,48 +100,66 @@ fn bindings_of(value: Option<bool>) -> &'static str {
     }
 }
 
-// Comparisons, and effective boolean values; None is an error.
+/// Comparisons and effective boolean values, and None for an error.
+const VALUES: [(&str, Option<bool>); 28] = [
+    ("\"01\"^^x:integer = \"1.0\"^^x:decimal", Some(true)),
+    ("\"-0\"^^x:integer = \"0.0\"^^x:decimal", Some(true)),
+    ("\"+2\"^^x:integer < \"2.5\"^^x:decimal", Some(true)),
+    ("\"10\"^^x:integer < \"9\"^^x:integer", Some(false)),
+    (
+        "\"18446744073709551617\"^^x:integer = \"1\"^^x:integer",
+        Some(false),
+    ),
+    ("\"1\"^^x:integer = \"1\"^^x:double", None),
+    ("\"1\"^^x:double = \"1\"^^x:double", Some(true)),
+    ("\"a\"@en = \"a\"", None),
+    ("<http://e/a> = \"a\"", Some(false)),
+    ("\"0\"^^x:boolean < \"true\"^^x:boolean", Some(true)),
+    ("\"a\"@en < \"b\"@en", None),
+    ("\"5.\"^^x:decimal = \"5\"^^x:decimal", Some(true)),
+    ("\".\"^^x:decimal = \"0\"^^x:decimal", None),
+    ("!(\"abc\"^^x:integer)", Some(true)),
+    ("\"abc\"^^x:integer && true", Some(false)),
+    ("!(\"0.00\"^^x:decimal)", Some(true)),
+    ("\"0.00\"^^x:decimal && true", Some(false)),
+    ("!(\"\")", Some(true)),
+    ("\"\" && true", Some(false)),
+    ("!(\"1\"^^x:double)", None),
+    ("\"1\"^^x:double && true", None),
+    ("!(<http://e/a>)", None),
+    ("<http://e/a> && true", None),
+    ("BOUND(?u) && ?u", Some(false)),
+    ("true && ?u", None),
+    ("true || ?u", Some(true)),
+    ("!(?u)", None),
+    ("sameTerm(\"01\"^^x:integer, \"1\"^^x:integer)", Some(false)),
+];
+
+/// Whether an expression has this value.
+fn has_value<R: Threads + Wait + RandomSource + Print>(
+    rt: &R,
+    alloc: Global,
+    expression: &str,
+    value: Option<bool>,
+) -> Result<bool, AllocError> {
+    let query = binding(alloc, expression)?;
+    let expected = json(alloc, "'v'", bindings_of(value))?;
+    Ok(gives(
+        rt,
+        alloc,
+        &select(alloc, query.as_str(), WHOLE),
+        b"",
+        &expected,
+    ))
+}
+
 #[test]
 fn values_are_true_false_or_an_error(rt: HostRuntime) -> Result<(), AllocError> {
-    let alloc = rt.alloc();
-    let cases = [
-        ("\"01\"^^x:integer = \"1.0\"^^x:decimal", Some(true)),
-        ("\"-0\"^^x:integer = \"0.0\"^^x:decimal", Some(true)),
-        ("\"+2\"^^x:integer < \"2.5\"^^x:decimal", Some(true)),
-        ("\"10\"^^x:integer < \"9\"^^x:integer", Some(false)),
-        (
-            "\"18446744073709551617\"^^x:integer = \"1\"^^x:integer",
-            Some(false),
-        ),
-        ("\"1\"^^x:integer = \"1\"^^x:double", None),
-        ("\"1\"^^x:double = \"1\"^^x:double", Some(true)),
-        ("\"a\"@en = \"a\"", None),
-        ("<http://e/a> = \"a\"", Some(false)),
-        ("\"0\"^^x:boolean < \"true\"^^x:boolean", Some(true)),
-        ("\"a\"@en < \"b\"@en", None),
-        ("\"5.\"^^x:decimal = \"5\"^^x:decimal", Some(true)),
-        ("\".\"^^x:decimal = \"0\"^^x:decimal", None),
-        ("!(\"abc\"^^x:integer)", Some(true)),
-        ("\"abc\"^^x:integer && true", Some(false)),
-        ("!(\"0.00\"^^x:decimal)", Some(true)),
-        ("\"0.00\"^^x:decimal && true", Some(false)),
-        ("!(\"\")", Some(true)),
-        ("\"\" && true", Some(false)),
-        ("!(\"1\"^^x:double)", None),
-        ("\"1\"^^x:double && true", None),
-        ("!(<http://e/a>)", None),
-        ("<http://e/a> && true", None),
-        ("BOUND(?u) && ?u", Some(false)),
-        ("true && ?u", None),
-        ("true || ?u", Some(true)),
-        ("!(?u)", None),
-        ("sameTerm(\"01\"^^x:integer, \"1\"^^x:integer)", Some(false)),
-    ];
-    for (expression, value) in cases {
-        let query = binding(alloc, expression)?;
-        let given = told(&rt, alloc, &select(alloc, query.as_str(), WHOLE), b"");
-        let wanted = json(alloc, "'v'", bindings_of(value))?;
-        assert!(rt; given == wanted, "{expression}");
+    for (expression, value) in VALUES {
+        assert!(rt;
+            has_value(&rt, rt.alloc(), expression, value)?,
+            "{expression}"
+        );
     }
     Ok(())
 }

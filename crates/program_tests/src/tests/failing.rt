@@ -1,7 +1,6 @@
 //! Readers and writers that fail.
 
-use super::asking::{WHOLE, check, select, terms};
-use super::devices::{CHUNK, sink, sink_failing_at, source, source_failing_at};
+use super::asking::{CHUNK, WHOLE, Way, check, ran, select, terms};
 use super::samples::{GRAPHS, REPEATED, TWO_LINES};
 use nquads_core::Device;
 use sparql_read::QueryFault;
@@ -11,206 +10,280 @@ use std::alloc::Global;
 use std::random::RandomSource;
 use std::sync::Wait;
 use std::thread::Threads;
+use test_fixtures::{SliceSource, VecSink};
 
 const OBJECTS: &str = "SELECT ?o { <http://e/a> <http://e/p> ?o }";
 
 const OUTPUT: &[u8] =
     b"{\"head\":{\"vars\":[\"o\"]},\"results\":{\"bindings\":[{\"o\":{\"type\":\"uri\",\"value\":\"http://e/b\"}},{\"o\":{\"type\":\"literal\",\"value\":\"x\"}}]}}\n";
 
-// Devices of the standard library tell no count of failures, by which a clause could say that none failed.
+/// Whether a select over devices of the standard library has its output.
+fn is_answered_by_std<R: Threads + Wait + RandomSource>(rt: &R, alloc: Global, way: Way) -> bool {
+    let command = select(alloc, OBJECTS, way);
+    let mut reader = Device {
+        inner: REPEATED.as_bytes(),
+    };
+    let mut writer = Device {
+        inner: Vec::new(alloc),
+    };
+    let ran = run(rt, alloc, &command, &mut reader, &mut writer);
+    ran == Ok(()) && writer.inner.as_slice() == OUTPUT
+}
+
+/// Devices of the standard library report no count of failures, by which a clause could say that none failed.
 #[test]
 fn devices_that_count_no_failures_do_not_fail(rt: HostRuntime) {
-    let alloc = rt.alloc();
     for way in [WHOLE, (2, 1, 1)] {
-        let command = select(alloc, OBJECTS, way);
-        let mut reader = Device {
-            inner: REPEATED.as_bytes(),
-        };
-        let bytes: Vec<u8> = Vec::new(alloc);
-        let mut writer = Device { inner: bytes };
-        let ran = run(&rt, alloc, &command, &mut reader, &mut writer);
-        assert!(rt; ran == Ok(()), "it is answered");
-        assert!(rt; writer.inner.as_slice() == OUTPUT, "the output stands");
+        assert!(rt; is_answered_by_std(&rt, rt.alloc(), way), "{way:?}");
     }
 }
 
-/// Whether this is told of what a run answered: the status, and the line of its fault.
-fn ends_with(alloc: Global, ran: &Result<(), RunFault>, status: u8, line: &[u8]) -> bool {
-    let mut writer = sink(alloc, 1000, usize::MAX);
-    finish(ran, &mut writer) == status && writer.bytes.as_slice() == line
+/// How a run over `REPEATED` ended.
+#[derive(Clone, Copy, Debug, PartialEq, Eq)]
+struct Ended {
+    done: Result<(), RunFault>,
+    /// The number of bytes written, if they are a prefix of the output.
+    written: Option<usize>,
+    /// The numbers of calls of the reader and of the writer that failed.
+    failed: (u64, u64),
+    /// The number of calls of the reader.
+    reads: usize,
+    /// The status that the program ends with, and whether the line that it prints is the expected one.
+    told: (u8, bool),
+}
+
+/// Runs a select, with the line that is expected if it fails.
+fn run_select<R: Threads + Wait + RandomSource>(
+    rt: &R,
+    alloc: Global,
+    query: &str,
+    mut reader: SliceSource<'_>,
+    mut writer: VecSink,
+    line: &[u8],
+) -> Ended {
+    let command = select(alloc, query, WHOLE);
+    let done = ran(rt, alloc, &command, &mut reader, &mut writer);
+    let is_prefix = OUTPUT.starts_with(&writer.bytes);
+    let mut last = VecSink::new(alloc, 1000);
+    let status = finish(&done, &mut last);
+    Ended {
+        done,
+        written: if is_prefix {
+            Some(writer.bytes.len())
+        } else {
+            None
+        },
+        failed: (reader.failed, writer.failed),
+        reads: reader.calls,
+        told: (status, last.bytes.as_slice() == line),
+    }
 }
 
 #[test]
 fn each_write_that_fails_leaves_a_beginning(rt: HostRuntime) {
-    let alloc = rt.alloc();
-    let command = select(alloc, OBJECTS, WHOLE);
     for k in 0..OUTPUT.len() {
-        let mut reader = source(REPEATED.as_bytes(), usize::MAX);
-        let mut writer = sink(alloc, 1, k);
-        let ran = run(&rt, alloc, &command, &mut reader, &mut writer);
-        assert!(rt; ran == Err(RunFault::Write), "write {k} fails");
+        let reader = SliceSource::new(REPEATED.as_bytes(), CHUNK);
+        let writer = VecSink::failing_after(rt.alloc(), 1, k);
+        let end = run_select(&rt, rt.alloc(), OBJECTS, reader, writer, b"error: output\n");
         assert!(rt;
-            writer.bytes.as_slice() == &OUTPUT[..k],
-            "the first {k} bytes stand"
+            end.done == Err(RunFault::Write) && end.written == Some(k) && end.failed == (0, 1),
+            "write {k}: {end:?}"
         );
-        assert!(rt; writer.failed == 1, "it failed once");
     }
 }
 
 #[test]
 fn a_writer_that_takes_nothing_has_failed(rt: HostRuntime) {
-    let alloc = rt.alloc();
-    let command = select(alloc, OBJECTS, WHOLE);
-    let mut reader = source(REPEATED.as_bytes(), usize::MAX);
-    let mut writer = sink(alloc, 0, usize::MAX);
-    let ran = run(&rt, alloc, &command, &mut reader, &mut writer);
-    assert!(rt; ran == Err(RunFault::Write), "no byte was taken");
-    assert!(rt; writer.bytes.is_empty(), "nothing was written");
-    assert!(rt; writer.failed == 0, "and no call failed");
-    assert!(rt; ends_with(alloc, &ran, 5, b"error: output\n"), "it is told");
+    let reader = SliceSource::new(REPEATED.as_bytes(), CHUNK);
+    let writer = VecSink::new(rt.alloc(), 0);
+    let end = run_select(&rt, rt.alloc(), OBJECTS, reader, writer, b"error: output\n");
+    assert!(rt;
+        end.done == Err(RunFault::Write)
+            && end.written == Some(0)
+            && end.failed == (0, 0)
+            && end.told == (5, true),
+        "{end:?}"
+    );
 }
 
 #[test]
 fn each_read_that_fails_writes_nothing(rt: HostRuntime) {
-    let alloc = rt.alloc();
-    let command = select(alloc, OBJECTS, WHOLE);
     for k in 0..REPEATED.len() + 1 {
-        let mut reader = source(REPEATED.as_bytes(), k);
-        let mut writer = sink(alloc, 1000, usize::MAX);
-        let ran = run(&rt, alloc, &command, &mut reader, &mut writer);
+        let reader = SliceSource::failing_after(REPEATED.as_bytes(), CHUNK, k);
+        let writer = VecSink::new(rt.alloc(), 1000);
+        let end = run_select(&rt, rt.alloc(), OBJECTS, reader, writer, b"error: input\n");
         assert!(rt;
-            ran == Err(RunFault::Read),
-            "the read behind {k} bytes fails"
+            end.done == Err(RunFault::Read)
+                && end.written == Some(0)
+                && end.failed == (1, 0)
+                && end.told == (5, true),
+            "the read after {k} bytes: {end:?}"
         );
-        assert!(rt; writer.bytes.is_empty(), "nothing was written");
-        assert!(rt; reader.failed == 1, "it failed once");
-        assert!(rt; ends_with(alloc, &ran, 5, b"error: input\n"), "it is told");
     }
 }
 
 #[test]
 fn a_bad_query_reads_nothing(rt: HostRuntime) {
-    let alloc = rt.alloc();
-    let command = select(alloc, "SELECT ?x { ?x <http://e/p> }", WHOLE);
-    let mut reader = source(REPEATED.as_bytes(), 0);
-    let mut writer = sink(alloc, 1000, usize::MAX);
-    let ran = run(&rt, alloc, &command, &mut reader, &mut writer);
-    assert!(rt;
-        ran == Err(RunFault::Query(QueryFault::Syntax)),
-        "the query is refused"
+    let reader = SliceSource::failing_after(REPEATED.as_bytes(), CHUNK, 0);
+    let writer = VecSink::new(rt.alloc(), 1000);
+    let query = "SELECT ?x { ?x <http://e/p> }";
+    let end = run_select(
+        &rt,
+        rt.alloc(),
+        query,
+        reader,
+        writer,
+        b"error: query syntax\n",
     );
-    assert!(rt; reader.calls == 0, "the reader was not called");
     assert!(rt;
-        ends_with(alloc, &ran, 2, b"error: query syntax\n"),
-        "it is told"
+        end.done == Err(RunFault::Query(QueryFault::Syntax))
+            && end.reads == 0
+            && end.told == (2, true),
+        "{end:?}"
     );
 }
 
-/// More than any run here has calls of its reader, or of its writer.
+/// More calls of its reader, or of its writer, than any run here has.
 const MANY: usize = 100;
 
-/// Whether a command that is to come to `wanted` answers each of its reads that fails, one by one:
-/// at once, with what the reads before gave taken from the reader, and with nothing written.
+/// What a run with one failing call shows.
+#[derive(Clone, Copy)]
+struct Effects {
+    done: Result<(), RunFault>,
+    /// The bytes that are left of the document, the calls of the reader, and those that failed.
+    rest: usize,
+    reads: usize,
+    failed_reads: u64,
+    /// The bytes written, if they are a prefix of the output, the calls of the writer, and those that failed.
+    written: Option<usize>,
+    writes: usize,
+    failed_writes: u64,
+}
+
+/// A command, its document and its output.
+type Sample<'a> = (&'a Command, &'a [u8], &'a [u8]);
+
+/// Runs a command over these devices.
+fn run_sample<R: Threads + Wait + RandomSource>(
+    rt: &R,
+    alloc: Global,
+    (command, _doc, output): Sample<'_>,
+    mut reader: SliceSource<'_>,
+    mut writer: VecSink,
+) -> Effects {
+    let done = ran(rt, alloc, command, &mut reader, &mut writer);
+    Effects {
+        done,
+        rest: reader.rest.len(),
+        reads: reader.calls,
+        failed_reads: reader.failed,
+        written: if output.starts_with(&writer.bytes) {
+            Some(writer.bytes.len())
+        } else {
+            None
+        },
+        writes: writer.calls,
+        failed_writes: writer.failed,
+    }
+}
+
+/// Whether each read of a command that ends with `wanted` may fail: the command then ends at once, the bytes of the
+/// reads before are taken from the reader, and nothing is written.
 fn tells_each_failed_read<R: Threads + Wait + RandomSource>(
     rt: &R,
     alloc: Global,
-    command: &Command,
-    doc: &[u8],
+    sample: Sample<'_>,
     wanted: Result<(), RunFault>,
 ) -> bool {
+    let doc = sample.1;
     for k in 0..MANY {
-        let mut reader = source_failing_at(doc, k);
-        let mut writer = sink(alloc, 1000, usize::MAX);
-        let ran = run(rt, alloc, command, &mut reader, &mut writer);
+        let reader = SliceSource::failing_at(doc, CHUNK, k);
+        let end = run_sample(rt, alloc, sample, reader, VecSink::new(alloc, 1000));
         let read = (CHUNK * k).min(doc.len());
-        if reader.failed == 0 {
-            return ran == wanted && reader.calls == k && read == doc.len();
+        if end.failed_reads == 0 {
+            return end.done == wanted && end.reads == k && read == doc.len();
         }
-        let is_told = ran == Err(RunFault::Read) && reader.calls == k + 1;
-        if !is_told || reader.rest.len() != doc.len() - read || writer.calls > 0 {
+        let is_told = end.done == Err(RunFault::Read) && end.reads == k + 1;
+        if !is_told || end.rest != doc.len() - read || end.writes > 0 {
             return false;
         }
     }
     false
 }
 
-/// Whether a command with this output answers each of its writes that fails, one by one: at once,
-/// with the document read to its end, and what the writes before took written: a beginning of the
-/// output, which grows by each of them.
+/// Whether each write of a command may fail: the command then ends at once, the document is read to its end, and
+/// the bytes that the writes before took are a prefix of the output, which grows with each of them.
 fn tells_each_failed_write<R: Threads + Wait + RandomSource>(
     rt: &R,
     alloc: Global,
-    command: &Command,
-    doc: &[u8],
-    output: &[u8],
+    sample: Sample<'_>,
 ) -> bool {
-    let mut before = 0usize;
+    let (_, doc, output) = sample;
+    let mut before = None;
     for k in 0..MANY {
-        let mut reader = source(doc, usize::MAX);
-        let mut writer = sink_failing_at(alloc, k);
-        let ran = run(rt, alloc, command, &mut reader, &mut writer);
-        let written = writer.bytes.len();
-        let grows = if k == 0 {
-            written == 0
-        } else {
-            before < written
+        let reader = SliceSource::new(doc, CHUNK);
+        let end = run_sample(
+            rt,
+            alloc,
+            sample,
+            reader,
+            VecSink::failing_at(alloc, CHUNK, k),
+        );
+        let grows = match before {
+            None => end.written == Some(0),
+            Some(_) => before < end.written,
         };
-        if !reader.rest.is_empty() || !grows || !output.starts_with(&writer.bytes) {
+        if end.rest > 0 || !grows {
             return false;
         }
-        if writer.failed == 0 {
-            return ran == Ok(()) && writer.calls == k && written == output.len();
+        if end.failed_writes == 0 {
+            return end.done == Ok(()) && end.writes == k && end.written == Some(output.len());
         }
-        if ran != Err(RunFault::Write) || writer.calls != k + 1 {
+        if end.done != Err(RunFault::Write) || end.writes != k + 1 {
             return false;
         }
-        before = written;
+        before = end.written;
     }
     false
 }
 
+/// Whether a command reports each of its calls that fails.
+fn tells_each_failed_call<R: Threads + Wait + RandomSource>(
+    rt: &R,
+    alloc: Global,
+    command: &Command,
+    doc: &str,
+    output: &[u8],
+) -> bool {
+    let sample = (command, doc.as_bytes(), output);
+    tells_each_failed_read(rt, alloc, sample, Ok(())) && tells_each_failed_write(rt, alloc, sample)
+}
+
 #[test]
-fn each_call_that_fails_is_told(rt: HostRuntime) {
-    let alloc = rt.alloc();
-    let rows: [(&str, Command, &[u8], &[u8]); 4] = [
-        (
-            "a select of one block",
-            select(alloc, OBJECTS, WHOLE),
-            REPEATED.as_bytes(),
-            OUTPUT,
-        ),
-        (
-            "a select of single lines",
-            select(alloc, OBJECTS, (2, 1, 1)),
-            REPEATED.as_bytes(),
-            OUTPUT,
-        ),
-        (
-            "a check",
-            check(2, 1),
-            GRAPHS.as_bytes(),
-            b"ok 3 quads 7 terms 2 graphs\n",
-        ),
-        (
-            "a list of terms",
-            terms(1, 65536),
-            TWO_LINES.as_bytes(),
-            b"<http://e/a>\n<http://e/p>\n_:b\n<http://e/q>\n\"\xC3\xA9\\n\"@en\n",
-        ),
-    ];
-    for (name, command, doc, output) in rows {
+fn each_call_of_a_select_that_fails_is_told(rt: HostRuntime) {
+    for way in [WHOLE, (2, 1, 1)] {
+        let command = select(rt.alloc(), OBJECTS, way);
         assert!(rt;
-            tells_each_failed_read(&rt, alloc, &command, doc, Ok(())),
-            "each read of {name}"
-        );
-        assert!(rt;
-            tells_each_failed_write(&rt, alloc, &command, doc, output),
-            "each write of {name}"
+            tells_each_failed_call(&rt, rt.alloc(), &command, REPEATED, OUTPUT),
+            "{way:?}"
         );
     }
+}
+
+#[test]
+fn each_call_of_a_check_that_fails_is_told(rt: HostRuntime) {
+    let output = b"ok 3 quads 7 terms 2 graphs\n";
+    assert!(rt; tells_each_failed_call(&rt, rt.alloc(), &check(2, 1), GRAPHS, output));
     let bad = b"<http://e/a> <http://e/p> <http://e/b> .\nx\n".as_slice();
+    let sample = (&check(2, 1), bad, b"".as_slice());
     assert!(rt;
-        tells_each_failed_read(&rt, alloc, &check(2, 1), bad, Err(RunFault::BadLine(2))),
-        "each read of a bad document"
+        tells_each_failed_read(&rt, rt.alloc(), sample, Err(RunFault::BadLine(2))),
+        "a malformed document"
     );
+}
+
+#[test]
+fn each_call_of_a_list_of_terms_that_fails_is_told(rt: HostRuntime) {
+    let output = b"<http://e/a>\n<http://e/p>\n_:b\n<http://e/q>\n\"\xC3\xA9\\n\"@en\n";
+    assert!(rt; tells_each_failed_call(&rt, rt.alloc(), &terms(1, 65536), TWO_LINES, output));
 }

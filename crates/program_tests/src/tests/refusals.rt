@@ -1,103 +1,104 @@
-//! Queries that are refused, each by its first rule, whatever the document is.
+//! Queries that are rejected, each by its first rule, whatever the document is.
 
-use super::asking::{WHOLE, json, select, told};
+use super::asking::{WHOLE, gives, json, select};
 use std::alloc::{AllocError, Global};
 use std::random::RandomSource;
 use std::sync::Wait;
 use std::thread::Threads;
 
-/// Whether a query is told this, over the empty document and over one whose first line is bad.
-fn is_told<R: Threads + Wait + RandomSource>(
+/// Whether a query has this output, over the empty document and over one whose first line is malformed.
+fn is_told<R: Threads + Wait + RandomSource + Print>(
     rt: &R,
     alloc: Global,
     query: &str,
-    wanted: &str,
+    expected: &str,
 ) -> bool {
     let command = select(alloc, query, WHOLE);
-    told(rt, alloc, &command, b"").as_slice() == wanted.as_bytes()
-        && told(rt, alloc, &command, b"x\n").as_slice() == wanted.as_bytes()
+    gives(rt, alloc, &command, b"", expected.as_bytes())
+        && gives(rt, alloc, &command, b"x\n", expected.as_bytes())
 }
+
+const REJECTED: [(&str, &str, &str); 14] = [
+    (
+        "no object",
+        "SELECT ?x { ?x <http://e/p> }",
+        "error: query syntax\n",
+    ),
+    (
+        "an IRI takes all it can",
+        "SELECT ?x { ?x <http://e/p> ?a FILTER(?a<?b&&?c>?d) }",
+        "error: query syntax\n",
+    ),
+    (
+        "BIND to a variable in scope",
+        "SELECT * { ?x <http://e/p> ?y BIND(?x AS ?y) }",
+        "error: query bind\n",
+    ),
+    (
+        "an undeclared prefix",
+        "SELECT ?x { ?x e:p ?y }",
+        "error: query prefix\n",
+    ),
+    (
+        "an IRI without a scheme",
+        "SELECT ?x { ?x <p> ?y }",
+        "error: query relative iri\n",
+    ),
+    (
+        "a blank label in two patterns",
+        "SELECT ?x { _:a <http://e/p> ?x { _:a <http://e/p> ?x } }",
+        "error: query blank label\n",
+    ),
+    (
+        "prefixes go before relative IRIs",
+        "SELECT ?x { ?x e:p <q> }",
+        "error: query prefix\n",
+    ),
+    (
+        "a declared prefix may be relative",
+        "PREFIX e: <x> SELECT ?s { ?s e:p ?o }",
+        "error: query relative iri\n",
+    ),
+    (
+        "relative IRIs go before BIND",
+        "SELECT * { ?x <p> ?y BIND(?x AS ?y) }",
+        "error: query relative iri\n",
+    ),
+    (
+        "OPTIONAL ends a pattern",
+        "SELECT ?x { _:a <http://e/p> ?x OPTIONAL { } _:a <http://e/q> ?x }",
+        "error: query blank label\n",
+    ),
+    (
+        "no arithmetic",
+        "SELECT * { FILTER(?a-1) }",
+        "error: query syntax\n",
+    ),
+    (
+        "a short row of a table",
+        "SELECT * { VALUES (?a ?b) { (1) } }",
+        "error: query syntax\n",
+    ),
+    (
+        "a limit twice",
+        "SELECT ?o { <http://e/a> <http://e/p> ?o } LIMIT 1 LIMIT 1",
+        "error: query syntax\n",
+    ),
+    (
+        "a limit with a sign",
+        "SELECT ?o { <http://e/a> <http://e/p> ?o } LIMIT -1",
+        "error: query syntax\n",
+    ),
+];
 
 #[test]
 fn the_first_rule_is_told(rt: HostRuntime) {
-    let cases = [
-        (
-            "no object",
-            "SELECT ?x { ?x <http://e/p> }",
-            "error: query syntax\n",
-        ),
-        (
-            "an IRI takes all it can",
-            "SELECT ?x { ?x <http://e/p> ?a FILTER(?a<?b&&?c>?d) }",
-            "error: query syntax\n",
-        ),
-        (
-            "BIND to a variable in scope",
-            "SELECT * { ?x <http://e/p> ?y BIND(?x AS ?y) }",
-            "error: query bind\n",
-        ),
-        (
-            "an undeclared prefix",
-            "SELECT ?x { ?x e:p ?y }",
-            "error: query prefix\n",
-        ),
-        (
-            "an IRI without a scheme",
-            "SELECT ?x { ?x <p> ?y }",
-            "error: query relative iri\n",
-        ),
-        (
-            "a blank label in two patterns",
-            "SELECT ?x { _:a <http://e/p> ?x { _:a <http://e/p> ?x } }",
-            "error: query blank label\n",
-        ),
-        (
-            "prefixes go before relative IRIs",
-            "SELECT ?x { ?x e:p <q> }",
-            "error: query prefix\n",
-        ),
-        (
-            "a declared prefix may be relative",
-            "PREFIX e: <x> SELECT ?s { ?s e:p ?o }",
-            "error: query relative iri\n",
-        ),
-        (
-            "relative IRIs go before BIND",
-            "SELECT * { ?x <p> ?y BIND(?x AS ?y) }",
-            "error: query relative iri\n",
-        ),
-        (
-            "OPTIONAL ends a pattern",
-            "SELECT ?x { _:a <http://e/p> ?x OPTIONAL { } _:a <http://e/q> ?x }",
-            "error: query blank label\n",
-        ),
-        (
-            "no arithmetic",
-            "SELECT * { FILTER(?a-1) }",
-            "error: query syntax\n",
-        ),
-        (
-            "a short row of a table",
-            "SELECT * { VALUES (?a ?b) { (1) } }",
-            "error: query syntax\n",
-        ),
-        (
-            "a limit twice",
-            "SELECT ?o { <http://e/a> <http://e/p> ?o } LIMIT 1 LIMIT 1",
-            "error: query syntax\n",
-        ),
-        (
-            "a limit with a sign",
-            "SELECT ?o { <http://e/a> <http://e/p> ?o } LIMIT -1",
-            "error: query syntax\n",
-        ),
-    ];
-    for (name, query, wanted) in cases {
-        assert!(rt; is_told(&rt, rt.alloc(), query, wanted), "{name}");
+    for (name, query, expected) in REJECTED {
+        assert!(rt; is_told(&rt, rt.alloc(), query, expected), "{name}");
     }
 }
 
-/// A front, then some text so many times, a middle, some other text as often, and an end.
+/// A front, then `count` times a text, a middle, `count` times another text, and an end.
 fn nested(
     alloc: Global,
     (front, open, middle, close, end): (&str, &str, &str, &str, &str),
@@ -115,34 +116,71 @@ fn nested(
     Ok(text)
 }
 
-// 100 open brackets are read and 101 are not, whatever stands behind them; what no terminal begins
-// with ends the count.
+/// The parts of a nested query, how often the second and the fourth one are repeated, and the output.
+type Nested = (
+    (
+        &'static str,
+        &'static str,
+        &'static str,
+        &'static str,
+        &'static str,
+    ),
+    usize,
+    &'static str,
+);
+
+const DEPTH: &str = "error: query depth\n";
+
+/// Queries with 101 open brackets or more are rejected, whatever follows. Brackets after what no terminal begins
+/// with do not count.
+const TOO_DEEP: [Nested; 4] = [
+    (("SELECT * ", "{", "", "}", ""), 101, DEPTH),
+    (("SELECT * { FILTER", "(", "true", ")", " }"), 100, DEPTH),
+    (("SELECT * ", "{", "", "", ""), 101, DEPTH),
+    (("SELECT ~ ", "{", "", "", ""), 101, "error: query syntax\n"),
+];
+
+/// Whether a nested query is rejected so.
+fn is_rejected<R: Threads + Wait + RandomSource + Print>(
+    rt: &R,
+    alloc: Global,
+    (parts, count, expected): Nested,
+) -> Result<bool, AllocError> {
+    let query = nested(alloc, parts, count)?;
+    Ok(is_told(rt, alloc, query.as_str(), expected))
+}
+
+/// Queries with 100 open brackets.
+const DEEPEST: [Nested; 2] = [
+    (("SELECT * ", "{", "", "}", ""), 100, "{}"),
+    (("SELECT * { FILTER", "(", "true", ")", " }"), 99, "{}"),
+];
+
+/// Whether a nested query without variables has these bindings over the empty document.
+fn is_read<R: Threads + Wait + RandomSource + Print>(
+    rt: &R,
+    alloc: Global,
+    (parts, count, bindings): Nested,
+) -> Result<bool, AllocError> {
+    let query = nested(alloc, parts, count)?;
+    let expected = json(alloc, "", bindings)?;
+    Ok(gives(
+        rt,
+        alloc,
+        &select(alloc, query.as_str(), WHOLE),
+        b"",
+        &expected,
+    ))
+}
+
 #[test]
 fn brackets_are_nested_at_most_100_deep(rt: HostRuntime) -> Result<(), AllocError> {
-    let alloc = rt.alloc();
-    let one_row = json(alloc, "", "{}")?;
-    let braces = ("SELECT * ", "{", "", "}", "");
-    let parentheses = ("SELECT * { FILTER", "(", "true", ")", " }");
-    for (parts, depth) in [(braces, 100), (parentheses, 99)] {
-        let query = nested(alloc, parts, depth)?;
-        let given = told(&rt, alloc, &select(alloc, query.as_str(), WHOLE), b"");
-        assert!(rt; given == one_row, "the deepest that is read");
-        let query = nested(alloc, parts, depth + 1)?;
-        assert!(rt;
-            is_told(&rt, alloc, query.as_str(), "error: query depth\n"),
-            "one deeper"
-        );
+    for query in DEEPEST {
+        assert!(rt; is_read(&rt, rt.alloc(), query)?, "{query:?}");
     }
-    let open = nested(alloc, ("SELECT * ", "{", "", "", ""), 101)?;
-    assert!(rt;
-        is_told(&rt, alloc, open.as_str(), "error: query depth\n"),
-        "nothing behind"
-    );
-    let unread = nested(alloc, ("SELECT ~ ", "{", "", "", ""), 101)?;
-    assert!(rt;
-        is_told(&rt, alloc, unread.as_str(), "error: query syntax\n"),
-        "nothing is counted"
-    );
+    for query in TOO_DEEP {
+        assert!(rt; is_rejected(&rt, rt.alloc(), query)?, "{query:?}");
+    }
     Ok(())
 }
 
@@ -150,9 +188,8 @@ fn brackets_are_nested_at_most_100_deep(rt: HostRuntime) -> Result<(), AllocErro
 fn no_front_of_a_query_is_one(rt: HostRuntime) {
     let query =
         "SELECT ?n { ?s <http://e/t> <http://e/k> OPTIONAL { ?s <http://e/n> ?n FILTER(?n < 3) } }";
-    let bytes = query.as_bytes();
-    for count in 0..bytes.len() {
-        if let Ok(front) = str::from_utf8(&bytes[..count]) {
+    for count in 0..query.len() {
+        if let Ok(front) = str::from_utf8(&query.as_bytes()[..count]) {
             assert!(rt;
                 is_told(&rt, rt.alloc(), front, "error: query syntax\n"),
                 "the first {count} bytes"

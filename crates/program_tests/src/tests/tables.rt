@@ -1,38 +1,36 @@
 //! VALUES.
 
-use super::asking::first_wrong;
+use super::asking::{Example, first_wrong};
 use super::samples::TWO_OBJECTS;
 use std::alloc::AllocError;
 
+const TABLES: [Example; 3] = [
+    (
+        "UNDEF binds nothing",
+        TWO_OBJECTS,
+        "SELECT ?o ?v { ?s <http://e/p> ?o VALUES (?o ?v) { (<http://e/b> 1) (UNDEF \"z\") } }",
+        "'o','v'",
+        "{'o':{'type':'uri','value':'http://e/b'},'v':{'datatype':'http://www.w3.org/2001/XMLSchema#integer','type':'literal','value':'1'}},{'o':{'type':'uri','value':'http://e/b'},'v':{'type':'literal','value':'z'}},{'o':{'type':'uri','value':'http://e/c'},'v':{'type':'literal','value':'z'}}",
+    ),
+    (
+        "rows without variables count",
+        "",
+        "SELECT * { VALUES () { () () } }",
+        "",
+        "{},{}",
+    ),
+    (
+        "a table without rows",
+        "",
+        "SELECT * { VALUES ?a { } }",
+        "'a'",
+        "",
+    ),
+];
+
 #[test]
 fn tables_are_joined(rt: HostRuntime) -> Result<(), AllocError> {
-    let wrong = first_wrong(
-        &rt,
-        rt.alloc(),
-        &[
-            (
-                "UNDEF binds nothing",
-                TWO_OBJECTS,
-                "SELECT ?o ?v { ?s <http://e/p> ?o VALUES (?o ?v) { (<http://e/b> 1) (UNDEF \"z\") } }",
-                "'o','v'",
-                "{'o':{'type':'uri','value':'http://e/b'},'v':{'datatype':'http://www.w3.org/2001/XMLSchema#integer','type':'literal','value':'1'}},{'o':{'type':'uri','value':'http://e/b'},'v':{'type':'literal','value':'z'}},{'o':{'type':'uri','value':'http://e/c'},'v':{'type':'literal','value':'z'}}",
-            ),
-            (
-                "rows without variables count",
-                "",
-                "SELECT * { VALUES () { () () } }",
-                "",
-                "{},{}",
-            ),
-            (
-                "a table without rows",
-                "",
-                "SELECT * { VALUES ?a { } }",
-                "'a'",
-                "",
-            ),
-        ],
-    )?;
+    let wrong = first_wrong(&rt, rt.alloc(), &TABLES)?;
     assert!(rt; wrong.is_none(), "{wrong:?}");
     Ok(())
 }

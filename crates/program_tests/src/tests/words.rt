@@ -1,83 +1,85 @@
 //! Words of command lines, run over devices in memory.
 
-use super::devices::{sink, source};
+use super::asking::{CHUNK, print_difference};
 use sparql_read::QueryFault;
 use spq_core::{RunFault, run_words};
-use std::alloc::Global;
+use std::alloc::{AllocError, Global};
 use std::random::RandomSource;
 use std::sync::Wait;
 use std::thread::Threads;
+use test_fixtures::{SliceSource, VecSink};
 
 const STATEMENT: &[u8] = b"<http://e/s> <http://e/p> <http://e/o> .\n";
 
+/// The words of a line.
+pub(crate) fn words_of(alloc: Global, line: &[&str]) -> Result<Vec<String>, AllocError> {
+    let mut words = Vec::new(alloc);
+    for word in line {
+        words.push(String::from_str(alloc, word)?)?;
+    }
+    Ok(words)
+}
+
 /// Whether the words end so over a document of one statement, and write this.
-fn end_so<R: Threads + Wait + RandomSource + Sync>(
+fn end_so<R: Threads + Wait + RandomSource + Sync + Print>(
     rt: &R,
     alloc: Global,
-    words: &[&str],
+    line: &[&str],
     done: Result<(), RunFault>,
-    wanted: &[u8],
+    expected: &[u8],
 ) -> bool {
-    let mut line = Vec::new(alloc);
-    for word in words {
-        let Ok(word) = String::from_str(alloc, word) else {
-            return false;
-        };
-        if line.push(word).is_err() {
-            return false;
-        }
+    let Ok(words) = words_of(alloc, line) else {
+        return false;
+    };
+    let reader = SliceSource::new(STATEMENT, CHUNK);
+    let writer = VecSink::new(alloc, 1000);
+    let ran = run_words(rt, alloc, &words, reader, writer);
+    if ran.done != done || ran.writer.bytes.as_slice() != expected {
+        let _ = println!(rt; "expected {done:?}, got {:?}", ran.done);
+        print_difference(rt, expected, &ran.writer.bytes);
+        return false;
     }
-    let reader = source(STATEMENT, usize::MAX);
-    let writer = sink(alloc, 1000, usize::MAX);
-    let ran = run_words(rt, alloc, &line, reader, writer);
-    ran.done == done && ran.writer.bytes.as_slice() == wanted
+    true
 }
+
+/// Words, and what they write.
+const RUN: [(&[&str], &[u8]); 4] = [
+    (&["spq", "check"], b"ok 1 quads 3 terms 0 graphs\n"),
+    (
+        &["spq", "check", "--workers", "1"],
+        b"ok 1 quads 3 terms 0 graphs\n",
+    ),
+    (
+        &["spq", "terms"],
+        b"<http://e/s>\n<http://e/p>\n<http://e/o>\n",
+    ),
+    (
+        &["spq", "select", "--query", "SELECT * {}"],
+        b"{\"head\":{\"vars\":[]},\"results\":{\"bindings\":[{}]}}\n",
+    ),
+];
 
 #[test]
 fn words_are_run(rt: HostRuntime) {
-    let counts = b"ok 1 quads 3 terms 0 graphs\n";
-    assert!(rt; end_so(&rt, rt.alloc(), &["spq", "check"], Ok(()), counts));
-    assert!(rt;
-        end_so(
-            &rt,
-            rt.alloc(),
-            &["spq", "check", "--workers", "1"],
-            Ok(()),
-            counts
-        )
-    );
-    let terms = b"<http://e/s>\n<http://e/p>\n<http://e/o>\n";
-    assert!(rt; end_so(&rt, rt.alloc(), &["spq", "terms"], Ok(()), terms));
-    let rows = b"{\"head\":{\"vars\":[]},\"results\":{\"bindings\":[{}]}}\n";
-    assert!(rt;
-        end_so(
-            &rt,
-            rt.alloc(),
-            &["spq", "select", "--query", "SELECT * {}"],
-            Ok(()),
-            rows
-        )
-    );
+    for (line, expected) in RUN {
+        assert!(rt; end_so(&rt, rt.alloc(), line, Ok(()), expected), "{line:?}");
+    }
 }
+
+/// Words that write nothing, and their fault.
+const REJECTED: [(&[&str], RunFault); 4] = [
+    (&["spq"], RunFault::Line),
+    (&["spq", "select"], RunFault::Line),
+    (&["spq", "check", "--workers", "65"], RunFault::Line),
+    (
+        &["spq", "select", "--query", "SELECT"],
+        RunFault::Query(QueryFault::Syntax),
+    ),
+];
 
 #[test]
 fn words_that_are_refused_write_nothing(rt: HostRuntime) {
-    let none: [&[&str]; 3] = [
-        &["spq"],
-        &["spq", "select"],
-        &["spq", "check", "--workers", "65"],
-    ];
-    for words in none {
-        assert!(rt; end_so(&rt, rt.alloc(), words, Err(RunFault::Line), b""));
+    for (line, fault) in REJECTED {
+        assert!(rt; end_so(&rt, rt.alloc(), line, Err(fault), b""), "{line:?}");
     }
-    let syntax = RunFault::Query(QueryFault::Syntax);
-    assert!(rt;
-        end_so(
-            &rt,
-            rt.alloc(),
-            &["spq", "select", "--query", "SELECT"],
-            Err(syntax),
-            b""
-        )
-    );
 }

@@ -1,4 +1,5 @@
-//! That workers run at the same time, and that no outcome tells which of them was first.
+//! That workers run at the same time, and that no outcome depends on which of them was first.
+ghost use Rattle.std.specs.Prelude.{◌≤◌};
 
 use super::asking::json;
 use super::samples::TWO_OBJECTS;
@@ -7,80 +8,58 @@ use piece_cuts::Cuts;
 use piece_pool::Gate;
 use row_pieces::How;
 use spq_core::{Fault, answer};
+use std::alloc::{AllocError, Global};
+use std::random::RandomSource;
+use std::sync::Wait;
 use std::sync::atomic::{AtomicU64, Ordering};
-use std::thread::yield_now;
+use std::thread::{Threads, yield_now};
+use test_fixtures::Meeting;
 
-/// Pieces 0 and 1 each set a flag when they enter, and wait until the other's flag is set, at most
-/// 10,000,000 turns. On one thread the first to enter waits in vain.
-#[derive(Drop)]
-struct Meeting {
-    first: AtomicU64,
-    second: AtomicU64,
-    late: AtomicU64,
-}
-
-impl Meeting {
-    fn fresh() -> Meeting {
-        Meeting {
-            first: AtomicU64::new(0),
-            second: AtomicU64::new(0),
-            late: AtomicU64::new(0),
-        }
-    }
-
-    /// Whether both pieces came, and none in vain.
-    fn is_met(&self) -> bool {
-        self.first.load(Ordering::SeqCst) == 1
-            && self.second.load(Ordering::SeqCst) == 1
-            && self.late.load(Ordering::SeqCst) == 0
-    }
-}
-
-impl Gate for Meeting {
-    fn enter(&self, i: u64) {
-        let (mine, other) = if i == 0 {
-            (&self.first, &self.second)
-        } else {
-            (&self.second, &self.first)
-        };
-        mine.store(1, Ordering::SeqCst);
-        for _ in 0..10_000_000u64 {
-            if other.load(Ordering::SeqCst) == 1 {
-                return;
-            }
-            yield_now();
-        }
-        self.late.store(1, Ordering::SeqCst);
-    }
-
-    fn leave(&self, _i: u64) {}
-}
-
-#[test]
-fn two_pieces_of_a_document_are_read_at_once(rt: HostRuntime) -> Result<(), Fault> {
-    let alloc = rt.alloc();
-    let gate = Meeting::fresh();
+/// The answer over a document that is cut line by line.
+fn by_lines<R: Threads + Wait + RandomSource, G: Gate + Sync>(
+    rt: &R,
+    alloc: Global,
+    doc: &[u8],
+    query: &str,
+    workers: usize,
+    gate: &G,
+) -> Result<Vec<u8>, Fault>
+    requires workers { (1 ≤ workers) × (workers ≤ 64) }
+{
+    let cuts = Cuts::every(alloc, doc, 1)?;
     let how = How {
-        workers: 2,
+        workers,
         rows: 1024,
     };
-    let doc = TWO_OBJECTS.as_bytes();
-    let cuts = Cuts::every(alloc, doc, 1)?;
-    assert!(rt; cuts.fits(doc), "the cut fits");
+    answer(rt, alloc, doc, query, &cuts, &how, gate)
+}
+
+/// Whether a query over two lines, each in a piece, has two rows.
+fn has_two_rows<R: Threads + Wait + RandomSource>(
+    rt: &R,
+    alloc: Global,
+    gate: &Meeting,
+) -> Result<bool, Fault> {
     let query = "SELECT ?s { ?s <http://e/p> _:x }";
-    let given = answer(&rt, alloc, doc, query, &cuts, &how, &gate)?;
-    let wanted = json(
+    let given = by_lines(rt, alloc, TWO_OBJECTS.as_bytes(), query, 2, gate)?;
+    let expected = json(
         alloc,
         "'s'",
         "{'s':{'type':'uri','value':'http://e/a'}},{'s':{'type':'uri','value':'http://e/a'}}",
     )?;
-    assert!(rt; given == wanted, "two rows");
-    assert!(rt; gate.is_met(), "the two pieces met");
+    Ok(given == expected)
+}
+
+#[test]
+fn two_pieces_of_a_document_are_read_at_once(rt: HostRuntime) -> Result<(), Fault> {
+    let gate = Meeting::new();
+    assert!(rt; has_two_rows(&rt, rt.alloc(), &gate)?, "two rows");
+    assert!(rt; gate.is_met(), "the workers did not meet");
     Ok(())
 }
 
-/// Piece 2 waits at its gate until piece 3 has left, at most 10,000,000 turns: so what is found in
-/// piece 3 is found before.
+/// Piece 2 waits at its gate until piece 3 has left, at most 10,000,000 turns, so what is found in piece 3 is found
+/// first.
 #[derive(Drop)]
 struct ThirdBehindFourth {
     left: AtomicU64,
@@ -95,7 +74,7 @@ impl ThirdBehindFourth {
         }
     }
 
-    /// Whether piece 3 left, and piece 2 did not wait in vain.
+    /// Whether piece 3 left, and piece 2 did not wait up to the limit.
     fn is_kept(&self) -> bool {
         self.left.load(Ordering::SeqCst) == 1 && self.late.load(Ordering::SeqCst) == 0
     }
@@ -122,12 +101,8 @@ impl Gate for ThirdBehindFourth {
     }
 }
 
-// Lines 3 to 16 are bad, each in a piece of its own, and line 4 is found before line 3.
-#[test]
-fn the_first_bad_line_is_named_where_a_later_one_is_found_before(
-    rt: HostRuntime,
-) -> Result<(), Fault> {
-    let alloc = rt.alloc();
+/// Sixteen lines, of which lines 3 to 16 are malformed.
+fn with_bad_lines(alloc: Global) -> Result<Vec<u8>, AllocError> {
     let mut doc = Vec::new(alloc);
     for line in 1..17 {
         let text = if line < 3 {
@@ -137,27 +112,50 @@ fn the_first_bad_line_is_named_where_a_later_one_is_found_before(
         };
         doc.extend_from_slice(text)?;
     }
-    let cuts = Cuts::every(alloc, &doc, 1)?;
-    assert!(rt; cuts.fits(&doc), "the cut fits");
+    Ok(doc)
+}
+
+/// The fault of a document that is loaded line by line.
+fn load_fault<R: Threads + Wait + RandomSource>(
+    rt: &R,
+    alloc: Global,
+    doc: &[u8],
+    workers: usize,
+    gate: &ThirdBehindFourth,
+) -> Result<Option<LoadFault>, AllocError>
+    requires workers { (1 ≤ workers) × (workers ≤ 64) }
+{
+    let cuts = Cuts::every(alloc, doc, 1)?;
+    Ok(load(rt, alloc, doc, &cuts, workers, gate).err())
+}
+
+/// Whether line 3 is named where line 4 is found first, when the document is loaded and when a query is answered.
+fn names_line_3<R: Threads + Wait + RandomSource>(
+    rt: &R,
+    alloc: Global,
+    workers: usize,
+) -> Result<bool, AllocError>
+    requires workers { (1 ≤ workers) × (workers ≤ 64) }
+{
+    let doc = with_bad_lines(alloc)?;
+    let gate = ThirdBehindFourth::fresh();
+    let loaded = load_fault(rt, alloc, &doc, workers, &gate)?;
+    let is_loaded = matches!(loaded, Some(LoadFault::BadLine(3))) && gate.is_kept();
+    let gate = ThirdBehindFourth::fresh();
+    let given = by_lines(rt, alloc, &doc, "SELECT * { }", workers, &gate);
+    Ok(is_loaded && given == Err(Fault::BadLine(3)) && gate.is_kept())
+}
+
+/// Each malformed line is in a piece of its own, and line 4 is found before line 3.
+#[test]
+fn the_first_bad_line_is_named_where_a_later_one_is_found_before(
+    rt: HostRuntime,
+) -> Result<(), AllocError> {
     for workers in [2, 8] {
-        let gate = ThirdBehindFourth::fresh();
-        let loaded = load(&rt, alloc, &doc, &cuts, workers, &gate);
         assert!(rt;
-            matches!(&loaded, Err(LoadFault::BadLine(3))),
-            "loaded by {workers} workers"
+            names_line_3(&rt, rt.alloc(), workers)?,
+            "{workers} workers"
         );
-        assert!(rt; gate.is_kept(), "line 4 first, of {workers} workers");
-        let gate = ThirdBehindFourth::fresh();
-        let how = How {
-            workers,
-            rows: 1024,
-        };
-        let given = answer(&rt, alloc, &doc, "SELECT * { }", &cuts, &how, &gate);
-        assert!(rt;
-            given == Err(Fault::BadLine(3)),
-            "answered by {workers} workers"
-        );
-        assert!(rt; gate.is_kept(), "line 4 first, of {workers} workers");
     }
     Ok(())
 }

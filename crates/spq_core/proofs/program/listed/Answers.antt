@@ -1,8 +1,13 @@
 use Rattle.std.proofs.lemmas.Result.{err_from_is_err_and}
+use Rattle.spq_core.specs.Output.{terms}
+use Rattle.spq_core.proofs.ComposingSteps.{listed, not_loaded}
 use Rattle.spq_core.proofs.DocumentSteps.{bad_terms}
 use Rattle.spq_core.proofs.program.listed.Goals as goal
 
-pub returns-in_err-store-clause-bad_line : goal.returns-in_err-store-clause-bad_line
-returns-in_err-store-clause-bad_line g c =
+pub returns-in_err-store : goal.returns-in_err-store
+returns-in_err-store g c =
     let p = err_from_is_err_and c.from_residual.result c.from_residual.ensures.1 in
-    rw (p.1, p.2) (bad_terms _ _ _ c.in_err-store.ensures.bad_line)
+    rw (p.1, p.2) (not_loaded g.S.Source.left g.S.Source.failures terms _ _ _ _ tt (bad_terms _ _) c.in_err-store.ensures)
+
+pub returns : goal.returns
+returns g c = listed g.S.Source.left g.S.Source.failures _ _ _ c.in_ok-store.store c.in_ok-store.ensures c.terms_block.result c.terms_block.ensures.text c.terms_block.ensures.memory

@@ -10,11 +10,11 @@ loop-pass-preserved c =
     let all = rw steps.0 at was.rest in record {
       count = search rules;
       rest = λ k d below. all (suc k) d (omega arith);
-      of_board = rw c.in_ok-push.ensures.items (All-push (λ p. IsPassOf c.args.board.now p) _ _ was.of_board c.draw_unless_finished.ensures.of_board);
+      of_board = rw c.in_ok-push.ensures.items (All-push (λ p. IsPassOf c.args.board.now p) _ _ was.of_board c.drawn_unless_finished.ensures.of_board);
     }
 
-pub draw_unless_finished-requires : goal.draw_unless_finished-requires
-draw_unless_finished-requires c =
+pub drawn_unless_finished-requires : goal.drawn_unless_finished-requires
+drawn_unless_finished-requires c =
     let steps = c.in-Some.ensures.steps in
     let all = rw steps.0 at c.loop-pass.invariant.rest in
     record { of_board = all 0 c.in-Some.pass (omega arith) }

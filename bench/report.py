@@ -1,0 +1,214 @@
+"""The tables of compare.py, as Markdown, and the files that it writes.
+
+A result is the measurement of a command or its failure. Results are kept in dictionaries by the name of the command.
+Python 3 standard library only; the plots need matplotlib.
+"""
+import dataclasses
+import json
+import math
+import os
+import subprocess
+
+import measure
+import peers
+from measure import Failed, Measurement
+
+# How the names of commands begin: those of spq and the baseline, and those in the table of growth.
+OWN = ("spq", "baseline")
+GROWTH = ("lower bound", "serdi", "Oxigraph", "spq check", "baseline check")
+PLOTS = {"loading": ["load-time", "peak-memory"], "growth": ["growth"]}
+
+
+class Report:
+    """The tables of each section (loading, queries, growth, summary), and the figures in them."""
+
+    def __init__(self, heading):
+        print(f"{heading}\n")
+        self.heading, self.texts, self.figures = heading, {}, {}
+
+    def add(self, section, title, table):
+        """Prints a table and adds it to a section."""
+        print(f"{title}:\n\n{table}", flush=True)
+        self.texts.setdefault(section, [self.heading]).append(f"{title}:\n\n{table}")
+
+    def write(self, folder):
+        """Writes the figures into compare.json, draws the plots, and replaces the sections of RESULTS.md.
+
+        If the folder has no RESULTS.md, it gets a copy of the page of this folder.
+        """
+        os.makedirs(folder, exist_ok=True)
+        figures, page = os.path.join(folder, "compare.json"), os.path.join(folder, "RESULTS.md")
+        with open(figures, "w") as out:
+            json.dump(self.figures, out, indent=1)
+        plots = PLOTS if draw(figures, folder) else {}
+        with open(page if os.path.exists(page) else os.path.join(measure.HERE, "RESULTS.md")) as source:
+            text = source.read()
+        for section, parts in self.texts.items():
+            images = [f"![{plot.replace('-', ' ')}]({plot}.svg)" for plot in plots.get(section, [])]
+            text = measure.fill(text, section, "\n\n".join(part.strip() for part in [*parts, *images]))
+        with open(page, "w") as out:
+            out.write(text)
+
+
+def draw(figures, folder):
+    """Draws the plots if one of the Pythons has matplotlib, and returns whether it has."""
+    python = peers.python_with("matplotlib")
+    if python is None:
+        print("matplotlib is not installed: no plots are drawn.")
+        return False
+    subprocess.run([python, os.path.join(measure.HERE, "plots.py"), figures, folder], check=True)
+    return True
+
+
+def plain(results):
+    """Returns results as JSON has them, without the failures."""
+    if isinstance(results, Measurement):
+        return dataclasses.asdict(results)
+    return {name: plain(it) for name, it in results.items() if not isinstance(it, Failed)}
+
+
+def workers(n):
+    return "1 worker" if n == 1 else f"{n} workers"
+
+
+def pairs(results):
+    """Returns the name of each command of spq and of the same command of the baseline, if both are in the results."""
+    names = [(name, name.replace("spq", "baseline", 1)) for name in results if name.startswith("spq")]
+    return [(name, baseline) for name, baseline in names if baseline in results]
+
+
+def loading(results, quads):
+    """Time and memory of the commands that read a document.
+
+    Times are relative to those of serdi, or of the first command if serdi was not measured.
+    """
+    measured = {name: it for name, it in results.items() if isinstance(it, Measurement)}
+    first = next((name for name in measured if name.startswith("serdi")), next(iter(measured), "none"))
+    head = ["command", "runs", "seconds", f"relative to {first}", "CPU seconds", "thousand quads per second"]
+    head += ["peak MiB", "peak bytes per quad"]
+    return measure.markdown(head, [loading_row(name, it, measured.get(first), quads) for name, it in results.items()])
+
+
+def loading_row(name, it, first, quads):
+    if isinstance(it, Failed):
+        return [name, "", f"failed: {it}", "", "", "", "", ""]
+    return [name, f"{it.runs}", f"{it.seconds:.3f}", seconds_ratio(it, first), f"{it.cpu:.3f}",
+            f"{quads / it.seconds / 1000:.0f}", peak(it), per_quad(it, quads)]
+
+
+def queries(answers, quads):
+    """Time and memory of queries. `answers` has for each query the results of the engines.
+
+    The last command of spq is compared with the other engines.
+    """
+    names = list(next(iter(answers.values())))
+    spq = [name for name in names if name.startswith("spq")][-1:]
+    others = [name for name in names if not name.startswith(OWN)]
+    head = ["query", "rows", *map(column, names), *(f"{own} / {column(other)}" for own in spq for other in others)]
+    head += [f"peak bytes per quad, {own}" for own in spq]
+    return measure.markdown(head, [
+        [query, row_counts(it), *map(query_cell, it.values()),
+         *(seconds_ratio(it[own], it[other]) for own in spq for other in others),
+         *(per_quad(it[own], quads) for own in spq)]
+        for query, it in answers.items()])
+
+
+def column(engine):
+    return "Oxigraph, load and query" if engine == "Oxigraph" else engine
+
+
+def query_cell(it):
+    return f"failed: {it}" if isinstance(it, Failed) else f"{it.seconds:.2f} s, {peak(it)} MiB"
+
+
+def row_counts(results):
+    """The number of solutions: one number if the engines agree, otherwise one of each in the order of the columns."""
+    counts = ["failed" if isinstance(it, Failed) else str(it.rows) for it in results.values()]
+    distinct = set(counts) - {"failed"}
+    return distinct.pop() if len(distinct) == 1 else " / ".join(counts)
+
+
+def changes(results):
+    """Each command of spq compared with the same command of the baseline."""
+    head = ["command"]
+    for figure in ("seconds", "CPU seconds", "peak MiB"):
+        head += [f"{figure}, baseline", "spq", "spq / baseline"]
+    return measure.markdown(head, [change_row(name.removeprefix("spq "), results[baseline], results[name])
+                                   for name, baseline in pairs(results)])
+
+
+def change_row(name, before, after):
+    failed = [f"{which} failed: {it}" for which, it in (("baseline", before), ("spq", after)) if isinstance(it, Failed)]
+    if failed:
+        return [name, ", ".join(failed), *[""] * 8]
+    is_limit = before.is_limit or after.is_limit
+    return [name, f"{before.seconds:.3f}", f"{after.seconds:.3f}", measure.ratio(after.seconds, before.seconds),
+            f"{before.cpu:.3f}", f"{after.cpu:.3f}", measure.ratio(after.cpu, before.cpu),
+            peak(before), peak(after), "" if is_limit else measure.ratio(after.peak, before.peak)]
+
+
+def by_query(answers):
+    """Returns the results of spq and the baseline under names such as `spq one triple, 4 workers`."""
+    return {name.replace(",", f" {query},", 1): it for query, results in answers.items()
+            for name, it in results.items() if name.startswith(OWN)}
+
+
+def growth(loads):
+    """Loading by size. `loads` has for each number of quads the results of the commands."""
+    names = [name for name in next(iter(loads.values())) if name.startswith(GROWTH)]
+    lines = [[f"seconds: {name}", *(growth_cell(results[name]) for results in loads.values())] for name in names]
+    lines += [[f"peak bytes per quad: {name}", *(per_quad(results[name], quads) for quads, results in loads.items())]
+              for name in names if name.startswith(OWN)]
+    return measure.markdown(["", *(f"{quads:,} quads" for quads in loads)], lines)
+
+
+def growth_cell(it):
+    return f"failed: {it}" if isinstance(it, Failed) else f"{it.seconds:.3f}"
+
+
+def summary(loads, answers, quads, least, most):
+    """The ratios and sizes for which there are targets. `least` and `most` are numbers of workers.
+
+    `loads` has the results of loading by number of quads, `answers` those of the queries on `quads` quads.
+    """
+    load, largest = loads[quads], max(loads)
+    one, many = (load.get(f"spq check, {workers(n)}") for n in (least, most))
+    serdi, serd = load.get("serdi, parse and print"), load.get("serd's library, parse")
+    select = [results.get(f"spq, {workers(most)}") for results in answers.values()]
+    oxigraph = [results.get("Oxigraph") for results in answers.values()]
+    checks = [it for name, it in loads[largest].items() if name.startswith("spq check")]
+    lines = [
+        (f"spq check, {workers(most)} / serdi", seconds_ratio(many, serdi), "at most 0.30"),
+        (f"spq check, {workers(least)} / serdi", seconds_ratio(one, serdi), "at most 0.65"),
+        (f"spq check, {workers(most)} / serd's library", seconds_ratio(many, serd), "at most 0.55"),
+        (f"spq check, {workers(least)} / {workers(most)}", seconds_ratio(one, many), "at least 2.2"),
+        (f"spq select, {workers(most)} / Oxigraph's load and query, highest of the queries",
+         highest(map(seconds_ratio, select, oxigraph)), "at most 0.05"),
+        ("peak bytes per quad: spq check", highest(per_quad(it, quads) for it in (one, many)), "at most 200"),
+        (f"peak bytes per quad: spq check, {largest:,} quads",
+         highest(per_quad(it, largest) for it in checks), "at most 260"),
+        (f"peak bytes per quad: spq select, {workers(most)}, highest of the queries",
+         highest(per_quad(it, quads) for it in select), "at most 260"),
+    ]
+    return measure.markdown(["", "measured", "target"],
+                            [[what, it or "not measured", target] for what, it, target in lines])
+
+
+def highest(cells):
+    return max(filter(None, cells), key=float, default="")
+
+
+def peak(it):
+    return f"at most {math.ceil(it.peak)}" if it.is_limit else f"{it.peak:.0f}"
+
+
+def per_quad(it, quads):
+    """The peak in bytes per quad; empty if it was not measured."""
+    return f"{it.peak * 2 ** 20 / quads:.0f}" if isinstance(it, Measurement) and not it.is_limit else ""
+
+
+def seconds_ratio(part, whole):
+    """The ratio of two times; empty if one of them was not measured."""
+    if isinstance(part, Measurement) and isinstance(whole, Measurement):
+        return measure.ratio(part.seconds, whole.seconds)
+    return ""

@@ -1,0 +1,29 @@
+//! Whole messages.
+
+use crate::columns::excerpt;
+use std::alloc::{AllocError, Global};
+use std::fmt::Display;
+
+/// The message about a place in a line of text: `spq: PLACE: REASON`, the excerpt with a caret under
+/// the place, and the hint where there is one, each line with LF.
+///
+/// `at` is the number of characters of the line before the place.
+///
+/// # Errors
+/// Out of memory.
+pub fn message<P: Display, R: Display, H: Display>(
+    alloc: Global,
+    place: &P,
+    reason: &R,
+    line: &str,
+    at: usize,
+    hint: Option<&H>,
+) -> Result<String, AllocError> {
+    let mut out = String::new(alloc);
+    write!(out, "spq: {place}: {reason}\n")?;
+    excerpt(&mut out, line, at)?;
+    if let Some(hint) = hint {
+        write!(out, "hint: {hint}\n")?;
+    }
+    Ok(out)
+}

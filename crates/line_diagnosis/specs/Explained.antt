@@ -1,0 +1,14 @@
+-- What a diagnosis says of a line (our own).
+use Rattle.std.specs.Prelude.{◌≡◌, ℕ, List, take}
+use Rattle.std.specs.Str.{IsUtf8}
+use Rattle.line_diagnosis.specs.declared.diagnosis.Counted.TheVariants.{Characters}
+use Rattle.line_diagnosis.specs.declared.diagnosis.Diagnosis.{Diagnosis}
+use Rattle.line_diagnosis.specs.Place.{IsPlace}
+use Rattle.line_diagnosis.specs.Column.{column_of}
+
+-- Its offset is a place of the line, its column is that of this place, and characters are counted only
+-- where the line is UTF-8.
+pub record IsExplained (line : List ℕ) (d : Diagnosis) : Type 0 where
+  pub place : IsPlace line d.offset
+  pub column : d.column ≡ column_of d.counted (take d.offset line)
+  pub characters : d.counted ≡ Characters → IsUtf8 line

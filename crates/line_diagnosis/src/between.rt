@@ -1,0 +1,94 @@
+//! Before, between and after terminals (RDF 1.1 N-Quads, grammar: statement).
+
+use crate::reason::{Found, Next, Reason};
+use crate::state::{Part, Scheme, State};
+
+/// What begins with a character.
+fn found(c: char) -> Found {
+    match c {
+        '<' => Found::Iri,
+        '_' => Found::BlankNode,
+        '"' => Found::Literal,
+        '#' => Found::Comment,
+        _ => Found::Char(c),
+    }
+}
+
+/// The part that an IRI is where this comes next.
+fn iri_part(next: Next) -> Option<Part> {
+    match next {
+        Next::Subject => Some(Part::Subject),
+        Next::Predicate => Some(Part::Predicate),
+        Next::Object => Some(Part::Object),
+        Next::Datatype => Some(Part::Datatype),
+        Next::Graph => Some(Part::Graph),
+        Next::Dot | Next::End => None,
+    }
+}
+
+/// The part that a blank node is where this comes next.
+fn blank_part(next: Next) -> Option<Part> {
+    match next {
+        Next::Predicate | Next::Datatype => None,
+        Next::Subject | Next::Object | Next::Graph | Next::Dot | Next::End => iri_part(next),
+    }
+}
+
+fn is_dot_next(next: Next) -> bool {
+    next == Next::Graph || next == Next::Dot
+}
+
+fn is_comment_next(next: Next) -> bool {
+    next == Next::Subject || next == Next::End
+}
+
+/// The state after the first character of a terminal or a comment; None where none may begin with it.
+fn opened(next: Next, c: char) -> Option<State> {
+    match c {
+        '<' => Some(State::Iri(iri_part(next)?, Scheme::Unread)),
+        '_' => Some(State::Underscore(blank_part(next)?)),
+        '"' if next == Next::Object => Some(State::String),
+        '.' if is_dot_next(next) => Some(State::Between(Next::End)),
+        '#' if is_comment_next(next) => Some(State::Comment),
+        _ => None,
+    }
+}
+
+/// Reads a character before, between or after terminals.
+pub fn step_between(next: Next, c: char) -> Result<State, Reason> {
+    if c == ' ' || c == '\t' {
+        return Ok(State::Between(next));
+    }
+    match opened(next, c) {
+        Some(state) => Ok(state),
+        None => Err(Reason::Unexpected(next, found(c))),
+    }
+}
+
+/// Reads a character after a string.
+pub fn step_after_string(c: char) -> Result<State, Reason> {
+    match c {
+        ' ' | '\t' => Ok(State::AfterString),
+        '^' => Ok(State::Caret),
+        '@' => Ok(State::At),
+        _ => step_between(Next::Graph, c),
+    }
+}
+
+/// Reads a character after one `^`.
+pub fn step_caret(c: char) -> Result<State, Reason> {
+    if c == '^' {
+        Ok(State::Between(Next::Datatype))
+    } else {
+        Err(Reason::OneCaret(Found::Char(c)))
+    }
+}
+
+/// Reads a character of a comment.
+pub fn step_comment(c: char) -> Result<State, Reason> {
+    if c == '\n' || c == '\r' {
+        Err(Reason::LineBreak)
+    } else {
+        Ok(State::Comment)
+    }
+}

@@ -1,0 +1,266 @@
+//! The place of a malformed line, and the reason.
+
+ghost use Rattle.std.specs.Prelude.{◌≡◌, ◌<◌, ◌^◌, true, false, length, IfOk, IfNone, IfSome, OnSome};
+ghost use Rattle.std.specs.Str.{IsUtf8};
+ghost use Rattle.nquads_core.specs.Grammar.{IsBad};
+ghost use Rattle.line_diagnosis.specs.Place.{IsBeginning, IsWellFormed};
+ghost use Rattle.line_diagnosis.specs.Column.{column_of};
+ghost use Rattle.line_diagnosis.specs.Explained.{IsExplained};
+ghost use Rattle.line_diagnosis.specs.declared.diagnosis.Counted.TheVariants.{Characters};
+
+use crate::between::{step_after_string, step_between, step_caret, step_comment};
+use crate::completion::completion;
+use crate::iris::{step_backslash, step_escape, step_iri};
+use crate::labels::{
+    step_label, step_label_dot, step_label_dots, step_label_start, step_underscore,
+};
+use crate::literals::{
+    step_at, step_hyphen, step_string, step_string_backslash, step_string_escape, step_subtag,
+    step_tag,
+};
+use crate::reason::{Found, Next, Packing, Reason};
+use crate::state::{State, after};
+use excerpt::count_of;
+use nquads_core::{LineFault, read_line};
+use std::alloc::{AllocError, Global};
+
+/// What a column counts.
+#[derive(Clone, Copy, Debug, PartialEq, Eq)]
+pub enum Counted {
+    Characters,
+    /// Where the line is not UTF-8
+    Bytes,
+}
+
+/// Where and why a line is malformed.
+#[derive(Clone, Copy, Debug, PartialEq, Eq)]
+pub struct Diagnosis {
+    /// How many bytes of the line are before the place. At the end of the line it is the line's length:
+    /// then a well-formed line begins with the whole line.
+    pub offset: usize,
+    /// The column of the place, from 1.
+    pub column: usize,
+    pub counted: Counted,
+    pub reason: Reason,
+}
+
+/// How far a text is read.
+#[derive(Drop)]
+struct Walk {
+    /// How many bytes are before the first character that is not allowed where it is; the length of the
+    /// text where there is none.
+    offset: usize,
+    /// The state before that character.
+    state: State,
+    /// Why it is not allowed there.
+    reason: Option<Reason>,
+}
+
+/// Reads a character (RDF 1.1 N-Quads, grammar).
+///
+/// # Errors
+/// The reason why no well-formed line goes on with it in this state.
+fn step(state: State, c: char) -> Result<State, Reason> {
+    match state {
+        State::Between(next) => step_between(next, c),
+        State::AfterString => step_after_string(c),
+        State::Comment => step_comment(c),
+        State::Iri(part, scheme) => step_iri(part, scheme, c),
+        State::IriBackslash(part, scheme) => step_backslash(part, scheme, c),
+        State::IriDigits(part, scheme, digits) => step_escape(part, scheme, digits, c),
+        State::String => step_string(c),
+        State::StringBackslash => step_string_backslash(c),
+        State::StringDigits(digits) => step_string_escape(digits, c),
+        State::Caret => step_caret(c),
+        State::At => step_at(c),
+        State::Tag => step_tag(c),
+        State::Hyphen => step_hyphen(c),
+        State::Subtag => step_subtag(c),
+        State::Underscore(part) => step_underscore(part, c),
+        State::LabelStart(part) => step_label_start(part, c),
+        State::Label(part) => step_label(part, c),
+        State::LabelDot(part) => step_label_dot(part, c),
+        State::LabelDots(part) => step_label_dots(part, c),
+    }
+}
+
+/// Why a line may not end in a state.
+fn reason_at_end(state: State) -> Reason {
+    match state {
+        State::Between(next) => Reason::Unexpected(next, Found::LineEnd),
+        State::AfterString | State::Tag | State::Subtag => {
+            Reason::Unexpected(Next::Graph, Found::LineEnd)
+        }
+        State::Comment => Reason::Unexplained,
+        State::Iri(_, _) | State::IriBackslash(_, _) | State::IriDigits(_, _, _) => Reason::OpenIri,
+        State::String | State::StringBackslash | State::StringDigits(_) => Reason::OpenLiteral,
+        State::Caret => Reason::OneCaret(Found::LineEnd),
+        State::At => Reason::NoTag(Found::LineEnd),
+        State::Hyphen => Reason::NoSubtag(Found::LineEnd),
+        State::Underscore(_) => Reason::NoColon(Found::LineEnd),
+        State::LabelStart(_) => Reason::LabelStart(Found::LineEnd),
+        State::Label(part) => Reason::Unexpected(after(part), Found::LineEnd),
+        State::LabelDot(_) | State::LabelDots(_) => Reason::LabelDot,
+    }
+}
+
+/// Reads a text up to the first character that is not allowed where it is.
+fn read_front(text: &str) -> Walk {
+    let mut state = State::Between(Next::Subject);
+    for (offset, c) in text.char_indices() {
+        match step(state, c) {
+            Ok(next) => state = next,
+            Err(reason) => {
+                return Walk {
+                    offset,
+                    state,
+                    reason: Some(reason),
+                };
+            }
+        }
+    }
+    Walk {
+        offset: text.len(),
+        state,
+        reason: None,
+    }
+}
+
+/// The text at the front of the bytes, up to the first that are no character, and why these are none.
+fn text_of(line: &[u8]) -> (&str, Option<Reason>) {
+    match str::from_utf8(line) {
+        Ok(text) => (text, None),
+        Err(error) => {
+            let end = error.valid_up_to();
+            let text = str::from_utf8(&line[..end]).unwrap_or("");
+            let reason = match error.error_len() {
+                Some(_) => Reason::InvalidUtf8(line[end]),
+                None => Reason::CutCharacter,
+            };
+            (text, Some(reason))
+        }
+    }
+}
+
+/// The format of a compressed file that begins with these bytes.
+fn packing_of(line: &[u8]) -> Option<Packing> {
+    match line {
+        [0x1F, 0x8B, ..] => Some(Packing::Gzip),
+        [0xFD, b'7', b'z', b'X', b'Z', ..] => Some(Packing::Xz),
+        [0x28, 0xB5, 0x2F, 0xFD, ..] => Some(Packing::Zstd),
+        [b'B', b'Z', b'h', ..] => Some(Packing::Bzip2),
+        _ => None,
+    }
+}
+
+/// Whether the bytes begin as a text in UTF-16 does: with its byte order mark, or with a character
+/// of ASCII.
+fn is_utf16(line: &[u8]) -> bool {
+    matches!(
+        line,
+        [0xFF, 0xFE, ..] | [0xFE, 0xFF, ..] | [0, _, ..] | [_, 0, ..]
+    )
+}
+
+/// The reason at a place, where the bytes of the line as a whole say more than the character there.
+fn refined(line: &[u8], offset: usize, reason: Reason) -> Reason {
+    if offset == 0 {
+        if let Some(packing) = packing_of(line) {
+            return Reason::Packed(packing);
+        }
+        if line.starts_with("\u{feff}".as_bytes()) {
+            return Reason::ByteOrderMark;
+        }
+    }
+    if offset <= 1 && is_utf16(line) {
+        return Reason::Utf16;
+    }
+    reason
+}
+
+/// Whether a line is malformed.
+fn is_malformed(alloc: Global, line: &[u8]) -> Result<bool, AllocError>
+    ensures bad { IfOk result (λ found. found ≡ true → IsBad line.now) }
+    ensures well_formed { IfOk result (λ found. found ≡ false → IsWellFormed line.now) }
+{
+    match read_line(alloc, line) {
+        Ok(_) => Ok(false),
+        Err(LineFault::Bad) => Ok(true),
+        Err(LineFault::Memory) => Err(AllocError),
+    }
+}
+
+/// Whether a line of these bytes and this end is well-formed.
+fn is_beginning(alloc: Global, front: &[u8], end: &str) -> Result<bool, AllocError>
+    ensures { IfOk result (λ found. found ≡ true → IsBeginning front.now) }
+{
+    let mut line = Vec::from_slice(alloc, front)?;
+    line.extend_from_slice(end.as_bytes())?;
+    if is_malformed(alloc, &line)? {
+        return Ok(false);
+    }
+    Ok(true)
+}
+
+/// The column after a front of the line, and what it counts.
+fn column_of(line: &[u8], front: &[u8]) -> (usize, Counted)
+    requires small { length front.now < 2 ^ 63 }
+    ensures column { result.0 ≡ column_of result.1 front.now }
+    ensures characters { (result.1 ≡ Characters) → IsUtf8 line.now }
+{
+    if let (Ok(_), Ok(text)) = (str::from_utf8(line), str::from_utf8(front)) {
+        return (count_of(text) + 1, Counted::Characters);
+    }
+    (front.len() + 1, Counted::Bytes)
+}
+
+/// The diagnosis of a line for the place after a front of it.
+fn placed(line: &[u8], front: &[u8], reason: Reason) -> Diagnosis
+    requires small { length front.now < 2 ^ 63 }
+    ensures offset { result.offset ≡ length front.now }
+    ensures column { result.column ≡ column_of result.counted front.now }
+    ensures characters { (result.counted ≡ Characters) → IsUtf8 line.now }
+{
+    let (column, counted) = column_of(line, front);
+    Diagnosis {
+        offset: front.len(),
+        column,
+        counted,
+        reason,
+    }
+}
+
+/// The place and the reason of a malformed line.
+fn explain(alloc: Global, line: &[u8]) -> Result<Diagnosis, AllocError>
+    ensures explained { IfOk result (IsExplained line.now) }
+{
+    let (text, broken) = text_of(line);
+    let walk = read_front(text);
+    let reason = walk.reason.or(broken).unwrap_or(reason_at_end(walk.state));
+    let end = completion(alloc, walk.state)?;
+    if let Some(front) = line.get(..walk.offset) {
+        if is_beginning(alloc, front, end.as_str())? {
+            return Ok(placed(line, front, refined(line, walk.offset, reason)));
+        }
+    }
+    Ok(placed(line, &line[..0], Reason::Unexplained))
+}
+
+/// Where and why a line is malformed, given without its line end; None for a well-formed one (RDF 1.1
+/// N-Quads, grammar).
+///
+/// Some well-formed line begins with the bytes before the place.
+///
+/// # Errors
+/// Out of memory.
+pub fn diagnose(alloc: Global, line: &[u8]) -> Result<Option<Diagnosis>, AllocError>
+    ensures well_formed { IfOk result (λ found. IfNone found (IsWellFormed line.now)) }
+    ensures bad { IfOk result (λ found. OnSome found (IsBad line.now)) }
+    ensures explained { IfOk result (λ found. IfSome found (IsExplained line.now)) }
+{
+    if !is_malformed(alloc, line)? {
+        return Ok(None);
+    }
+    let diagnosis = explain(alloc, line)?;
+    Ok(Some(diagnosis))
+}

@@ -1,0 +1,114 @@
+//! One hint for a malformed line.
+
+use crate::diagnosis::Diagnosis;
+use crate::reason::{Found, Next, Packing, Reason};
+use std::fmt;
+
+/// What a user can do.
+#[derive(Clone, Copy, Debug, PartialEq, Eq)]
+pub enum Hint {
+    Unpack(Packing),
+    FromLatin1,
+    FromUtf16,
+    DropByteOrderMark,
+    Truncated,
+    Turtle,
+    Xml,
+    Json,
+    SpaceInIri,
+    WholeIri,
+    DoubleQuotes,
+    QuoteInside,
+    BreakInside,
+    Backslash,
+    HyphenInTag,
+}
+
+impl fmt::Display for Hint {
+    fn fmt<W: fmt::Write>(&self, f: &mut fmt::Formatter<W>) -> fmt::Result {
+        f.write_str(match self {
+            Hint::Unpack(Packing::Gzip) => "unpack it: zcat FILE | spq check",
+            Hint::Unpack(Packing::Xz) => "unpack it: xzcat FILE | spq check",
+            Hint::Unpack(Packing::Zstd) => "unpack it: zstdcat FILE | spq check",
+            Hint::Unpack(Packing::Bzip2) => "unpack it: bzcat FILE | spq check",
+            Hint::FromLatin1 => {
+                "if the input is Latin-1, convert it: iconv -f LATIN1 -t UTF-8 FILE | spq check"
+            }
+            Hint::FromUtf16 => "convert it: iconv -f UTF-16 -t UTF-8 FILE | spq check",
+            Hint::DropByteOrderMark => "leave the mark out: tail -c +4 FILE | spq check",
+            Hint::Truncated => "the document ends inside its last line: truncated?",
+            Hint::Turtle => {
+                "this looks like Turtle; N-Quads has no prefixes and no abbreviations: write each term in full"
+            }
+            Hint::Xml => "this looks like XML; spq reads N-Quads",
+            Hint::Json => "this looks like JSON or TriG; spq reads N-Quads",
+            Hint::SpaceInIri => "write a space in an IRI as %20",
+            Hint::WholeIri => {
+                "N-Quads has no relative IRIs: write the whole IRI, as <http://example.org/name>"
+            }
+            Hint::DoubleQuotes => "write a literal in double quotes",
+            Hint::QuoteInside => "write a double quote inside a literal as \\\"",
+            Hint::BreakInside => "write a line break inside a literal as \\n",
+            Hint::Backslash => "write a backslash as \\\\ in a literal, and as %5C in an IRI",
+            Hint::HyphenInTag => "a language tag has hyphens, as in @en-US",
+        })
+    }
+}
+
+/// Whether the bytes end with a language tag and an underscore.
+fn ends_with_tag(front: &[u8]) -> bool {
+    let Some((b'_', tag)) = front.split_last().map(|x| (*x.0, x.1)) else {
+        return false;
+    };
+    match tag.iter().rposition(|b| !b.is_ascii_alphabetic()) {
+        Some(at) => tag[at] == b'@' && at + 1 < tag.len(),
+        None => false,
+    }
+}
+
+/// The hint for a character that begins no terminal, after these bytes of the line.
+fn hint_of_char(before: &[u8], next: Next, c: char) -> Option<Hint> {
+    let touches_quote = next == Next::Graph && before.last().copied() == Some(b'"');
+    match c {
+        '\'' => Some(Hint::DoubleQuotes),
+        '{' | '[' if before.is_empty() => Some(Hint::Json),
+        '@' | ':' | ';' | ',' | '[' | ']' | '(' | ')' | '{' | '}' => Some(Hint::Turtle),
+        _ if touches_quote => Some(Hint::QuoteInside),
+        _ if next != Next::End && (c.is_ascii_alphanumeric() || c == '+' || c == '-') => {
+            Some(Hint::Turtle)
+        }
+        _ => None,
+    }
+}
+
+/// The hint for a line that ends too early.
+fn hint_at_end(reason: Reason, is_cut: bool) -> Option<Hint> {
+    if is_cut {
+        Some(Hint::Truncated)
+    } else if reason == Reason::OpenLiteral {
+        Some(Hint::BreakInside)
+    } else {
+        None
+    }
+}
+
+/// The hint for a malformed line, where there is one. `is_cut` says that the line is the last of its
+/// document, and no line end follows it.
+pub fn hint_of(line: &[u8], diagnosis: &Diagnosis, is_cut: bool) -> Option<Hint> {
+    let before = line.get(..diagnosis.offset).unwrap_or(line);
+    match diagnosis.reason {
+        Reason::Packed(packing) => Some(Hint::Unpack(packing)),
+        Reason::Utf16 => Some(Hint::FromUtf16),
+        Reason::ByteOrderMark => Some(Hint::DropByteOrderMark),
+        Reason::InvalidUtf8(_) => Some(Hint::FromLatin1),
+        Reason::CutCharacter if is_cut => Some(Hint::Truncated),
+        Reason::IriChar(' ') => Some(Hint::SpaceInIri),
+        Reason::NoScheme(Found::Char('?' | '!')) => Some(Hint::Xml),
+        Reason::NoScheme(_) => Some(Hint::WholeIri),
+        Reason::UnknownEscape(_) => Some(Hint::Backslash),
+        Reason::NoColon(_) if ends_with_tag(before) => Some(Hint::HyphenInTag),
+        Reason::Unexpected(next, Found::Char(c)) => hint_of_char(before, next, c),
+        reason if before.len() == line.len() => hint_at_end(reason, is_cut),
+        _ => None,
+    }
+}

@@ -1,0 +1,58 @@
+//! IRIs in angle brackets (RDF 1.1 N-Quads, grammar: IRIREF), each with a scheme.
+
+use crate::escapes::{digits_after, iri_ranges, is_within, step_digits};
+use crate::reason::{Found, Reason};
+use crate::state::{Digits, Part, Scheme, State, after};
+use rdf_core::lexical::is_iri_char;
+
+/// How far the scheme is read after one more character.
+pub fn scheme_after(scheme: Scheme, code: u64) -> Scheme {
+    match scheme {
+        Scheme::Unread => Scheme::Begun,
+        Scheme::Begun if code == 0x3A => Scheme::Read,
+        Scheme::Begun => Scheme::Begun,
+        Scheme::Read => Scheme::Read,
+    }
+}
+
+/// Why a character is not allowed in an IRI.
+fn reason_of(scheme: Scheme, c: char) -> Reason {
+    match c {
+        '\n' | '\r' => Reason::LineBreak,
+        '<' if scheme == Scheme::Unread => Reason::QuotedTriple,
+        _ if is_iri_char(c) || c == '>' => Reason::NoScheme(Found::Char(c)),
+        _ => Reason::IriChar(c),
+    }
+}
+
+/// Reads a character in an IRI.
+pub fn step_iri(part: Part, scheme: Scheme, c: char) -> Result<State, Reason> {
+    if c == '\\' {
+        return Ok(State::IriBackslash(part, scheme));
+    }
+    if c == '>' && scheme == Scheme::Read {
+        return Ok(State::Between(after(part)));
+    }
+    let code = u64::from(c as u32);
+    if is_within(iri_ranges(scheme), code) {
+        return Ok(State::Iri(part, scheme_after(scheme, code)));
+    }
+    Err(reason_of(scheme, c))
+}
+
+/// Reads a character after a backslash.
+pub fn step_backslash(part: Part, scheme: Scheme, c: char) -> Result<State, Reason> {
+    match digits_after(c) {
+        Some(digits) => Ok(State::IriDigits(part, scheme, digits)),
+        None => Err(Reason::UnknownEscape(Found::Char(c))),
+    }
+}
+
+/// Reads a character of an escape.
+pub fn step_escape(part: Part, scheme: Scheme, digits: Digits, c: char) -> Result<State, Reason> {
+    let digits = step_digits(digits, iri_ranges(scheme), c)?;
+    if digits.is_whole() {
+        return Ok(State::Iri(part, scheme_after(scheme, digits.low)));
+    }
+    Ok(State::IriDigits(part, scheme, digits))
+}

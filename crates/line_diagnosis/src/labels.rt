@@ -1,0 +1,60 @@
+//! Blank node labels (RDF 1.1 N-Quads, grammar: BLANK_NODE_LABEL). A dot after a label is a part of it
+//! where a character of a label follows the dots.
+
+use crate::between::step_between;
+use crate::reason::{Found, Next, Reason};
+use crate::state::{Part, State, after};
+use rdf_core::lexical::{is_label_char, is_label_start};
+
+/// Reads a character after `_`.
+pub fn step_underscore(part: Part, c: char) -> Result<State, Reason> {
+    if c == ':' {
+        Ok(State::LabelStart(part))
+    } else {
+        Err(Reason::NoColon(Found::Char(c)))
+    }
+}
+
+/// Reads a character after `_:`.
+pub fn step_label_start(part: Part, c: char) -> Result<State, Reason> {
+    if is_label_start(c) {
+        Ok(State::Label(part))
+    } else {
+        Err(Reason::LabelStart(Found::Char(c)))
+    }
+}
+
+/// Reads a character in a label.
+pub fn step_label(part: Part, c: char) -> Result<State, Reason> {
+    if is_label_char(c) {
+        Ok(State::Label(part))
+    } else if c == '.' {
+        Ok(State::LabelDot(part))
+    } else {
+        step_between(after(part), c)
+    }
+}
+
+/// Reads a character after the first dot, which may be the one that ends the statement.
+pub fn step_label_dot(part: Part, c: char) -> Result<State, Reason> {
+    if is_label_char(c) {
+        Ok(State::Label(part))
+    } else if c == '.' {
+        Ok(State::LabelDots(part))
+    } else if after(part) == Next::Predicate {
+        Err(Reason::LabelDot)
+    } else {
+        step_between(Next::End, c)
+    }
+}
+
+/// Reads a character after more dots, which only a label can have.
+pub fn step_label_dots(part: Part, c: char) -> Result<State, Reason> {
+    if is_label_char(c) {
+        Ok(State::Label(part))
+    } else if c == '.' {
+        Ok(State::LabelDots(part))
+    } else {
+        Err(Reason::LabelDot)
+    }
+}

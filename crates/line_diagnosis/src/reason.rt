@@ -1,0 +1,254 @@
+//! Why a line is malformed, in words.
+
+use std::fmt;
+
+/// What may come next in a statement (RDF 1.1 N-Quads, grammar).
+#[derive(Clone, Copy, Debug, PartialEq, Eq)]
+pub enum Next {
+    Subject,
+    Predicate,
+    Object,
+    /// The IRI after `^^`
+    Datatype,
+    /// A graph name, or the dot
+    Graph,
+    Dot,
+    /// Blanks or a comment, after the dot
+    End,
+}
+
+/// What is there.
+#[derive(Clone, Copy, Debug, PartialEq, Eq)]
+pub enum Found {
+    /// `<`
+    Iri,
+    /// `_`
+    BlankNode,
+    /// `"`
+    Literal,
+    /// `#`
+    Comment,
+    /// Any other character
+    Char(char),
+    /// The end of the line
+    LineEnd,
+}
+
+/// A format in which files are compressed.
+#[derive(Clone, Copy, Debug, PartialEq, Eq)]
+pub enum Packing {
+    Gzip,
+    Xz,
+    Zstd,
+    Bzip2,
+}
+
+/// Why no well-formed line has this character at this place.
+#[derive(Clone, Copy, Debug, PartialEq, Eq)]
+pub enum Reason {
+    /// A byte that is no part of a character in UTF-8
+    InvalidUtf8(u8),
+    /// The line ends inside a character
+    CutCharacter,
+    /// U+FEFF at the beginning of the line
+    ByteOrderMark,
+    /// The text is in UTF-16
+    Utf16,
+    /// The bytes are those of a compressed file
+    Packed(Packing),
+    /// LF or CR inside the line
+    LineBreak,
+    /// Something else than what may come next
+    Unexpected(Next, Found),
+    /// `<<`
+    QuotedTriple,
+    /// An IRI that begins with no scheme
+    NoScheme(Found),
+    /// A character that an IRI may not have
+    IriChar(char),
+    /// An escape for a character that an IRI may not have there
+    IriEscape,
+    /// The line ends inside an IRI
+    OpenIri,
+    /// The line ends inside a literal
+    OpenLiteral,
+    /// Another escape than those of strings or IRIs
+    UnknownEscape(Found),
+    /// Something else than a hexadecimal digit in an escape
+    NoDigit(Found),
+    /// An escape for a code point from U+D800 to U+DFFF
+    Surrogate,
+    /// An escape for a number over U+10FFFF
+    TooLarge,
+    /// `_` without a colon
+    NoColon(Found),
+    /// A label that begins with another character than it may
+    LabelStart(Found),
+    /// A label that ends with a dot
+    LabelDot,
+    /// `@` without a letter
+    NoTag(Found),
+    /// A hyphen of a language tag without a letter or digit
+    NoSubtag(Found),
+    /// One `^` alone
+    OneCaret(Found),
+    /// No reason is known. The tests never meet it.
+    Unexplained,
+}
+
+/// Writes a character, or its code point where it has no picture of its own.
+fn write_char<W: fmt::Write>(f: &mut fmt::Formatter<W>, c: char) -> fmt::Result {
+    if c == ' ' {
+        f.write_str("a space")
+    } else if c == '\t' {
+        f.write_str("a tab")
+    } else if excerpt::visible(c) == c && !c.is_whitespace() {
+        write!(f, "'{c}'")
+    } else {
+        write!(f, "U+{:04X}", c as u32)
+    }
+}
+
+impl fmt::Display for Found {
+    fn fmt<W: fmt::Write>(&self, f: &mut fmt::Formatter<W>) -> fmt::Result {
+        match self {
+            Found::Iri => f.write_str("an IRI"),
+            Found::BlankNode => f.write_str("a blank node"),
+            Found::Literal => f.write_str("a literal"),
+            Found::Comment => f.write_str("a comment"),
+            Found::Char(c) => write_char(f, *c),
+            Found::LineEnd => f.write_str("the end of the line"),
+        }
+    }
+}
+
+impl fmt::Display for Packing {
+    fn fmt<W: fmt::Write>(&self, f: &mut fmt::Formatter<W>) -> fmt::Result {
+        f.write_str(match self {
+            Packing::Gzip => "gzip",
+            Packing::Xz => "xz",
+            Packing::Zstd => "zstd",
+            Packing::Bzip2 => "bzip2",
+        })
+    }
+}
+
+/// What was expected in place of what was found.
+fn write_unexpected<W: fmt::Write>(
+    f: &mut fmt::Formatter<W>,
+    next: Next,
+    found: Found,
+) -> fmt::Result {
+    let is_end = matches!(found, Found::LineEnd | Found::Comment | Found::Char('.'));
+    let is_term = matches!(found, Found::Iri | Found::BlankNode | Found::Literal);
+    match next {
+        Next::Subject if is_term => {
+            write!(f, "a subject must be an IRI or a blank node, found {found}")
+        }
+        Next::Subject => {
+            write!(
+                f,
+                "expected a subject (an IRI or a blank node), found {found}"
+            )
+        }
+        Next::Predicate if is_term => write!(f, "a predicate must be an IRI, found {found}"),
+        Next::Predicate if is_end => {
+            write!(f, "missing predicate: expected an IRI, found {found}")
+        }
+        Next::Predicate => write!(f, "expected a predicate (an IRI), found {found}"),
+        Next::Object if is_end => write!(
+            f,
+            "missing object: expected an IRI, a blank node or a literal, found {found}"
+        ),
+        Next::Object => write!(
+            f,
+            "expected an object (an IRI, a blank node or a literal), found {found}"
+        ),
+        Next::Datatype => write!(f, "expected a datatype (an IRI) after '^^', found {found}"),
+        Next::Graph | Next::Dot if found == Found::LineEnd => {
+            f.write_str("missing '.' at the end of the statement")
+        }
+        Next::Graph | Next::Dot if found == Found::Comment => {
+            f.write_str("missing '.' before the comment")
+        }
+        Next::Graph if is_term => {
+            write!(
+                f,
+                "a graph name must be an IRI or a blank node, found {found}"
+            )
+        }
+        Next::Graph => write!(
+            f,
+            "expected '.' or a graph name (an IRI or a blank node), found {found}"
+        ),
+        Next::Dot => write!(f, "expected '.' after the graph name, found {found}"),
+        Next::End => write!(
+            f,
+            "text after the '.' that ends the statement: found {found}"
+        ),
+    }
+}
+
+impl fmt::Display for Reason {
+    fn fmt<W: fmt::Write>(&self, f: &mut fmt::Formatter<W>) -> fmt::Result {
+        match self {
+            Reason::InvalidUtf8(byte) => write!(f, "invalid UTF-8: byte 0x{byte:02X}"),
+            Reason::CutCharacter => f.write_str("invalid UTF-8: the line ends inside a character"),
+            Reason::ByteOrderMark => {
+                f.write_str("a byte order mark (U+FEFF) at the beginning of a line")
+            }
+            Reason::Utf16 => f.write_str("the input looks like UTF-16; N-Quads is UTF-8"),
+            Reason::Packed(packing) => write!(f, "the input looks like {packing}"),
+            Reason::LineBreak => f.write_str("a line break inside a line"),
+            Reason::Unexpected(next, found) => write_unexpected(f, *next, *found),
+            Reason::QuotedTriple => f.write_str(
+                "'<<': quoted triples (RDF-star) are not supported",
+            ),
+            Reason::NoScheme(found) => write!(
+                f,
+                "an IRI must begin with a scheme, such as 'http:', found {found}"
+            ),
+            Reason::IriChar(c) => {
+                write_char(f, *c)?;
+                f.write_str(" is not allowed in an IRI")
+            }
+            Reason::IriEscape => {
+                f.write_str("this escape is for a character that is not allowed here in an IRI")
+            }
+            Reason::OpenIri => {
+                f.write_str("the IRI is not closed: expected '>', found the end of the line")
+            }
+            Reason::OpenLiteral => {
+                f.write_str("the literal is not closed: expected '\"', found the end of the line")
+            }
+            Reason::UnknownEscape(found) => write!(f, "unknown escape: found {found} after '\\'"),
+            Reason::NoDigit(found) => write!(
+                f,
+                "expected a hexadecimal digit (4 after '\\u', 8 after '\\U'), found {found}"
+            ),
+            Reason::Surrogate => {
+                f.write_str(
+                    "this escape is for a surrogate (U+D800 to U+DFFF), which is no character",
+                )
+            }
+            Reason::TooLarge => {
+                f.write_str("this escape is for a number over U+10FFFF, which is no character")
+            }
+            Reason::NoColon(found) => write!(f, "expected ':' after '_', found {found}"),
+            Reason::LabelStart(found) => write!(
+                f,
+                "a blank node label must begin with a letter, a digit, '_' or ':', found {found}"
+            ),
+            Reason::LabelDot => f.write_str("a blank node label must not end with '.'"),
+            Reason::NoTag(found) => {
+                write!(f, "a language tag must begin with a letter, found {found}")
+            }
+            Reason::NoSubtag(found) => write!(
+                f,
+                "expected a letter or a digit after '-' in a language tag, found {found}"
+            ),
+            Reason::OneCaret(found) => write!(f, "expected '^^' before a datatype, found {found}"),
+            Reason::Unexplained => f.write_str("this is not a line of N-Quads"),
+        }
+    }
+}

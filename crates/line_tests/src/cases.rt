@@ -1,0 +1,61 @@
+//! Cases of the tests: texts, and what is expected of each.
+use crate::{lexical, lines};
+use std::alloc::{AllocError, Global};
+
+/// A text, and what its reader prints.
+pub(crate) type Case = (&'static str, &'static str);
+
+/// What is printed of a text.
+#[derive(Clone, Copy)]
+pub(crate) enum Reader {
+    /// What the inside of an IRI stands for.
+    Iri,
+    /// The IRI before `>`, and what follows it.
+    IriRef,
+    /// The terms of a line.
+    Line,
+    /// The lines and quads of a piece.
+    Piece,
+    /// The string before `"`, and what follows it.
+    Quoted,
+    /// What the inside of a string stands for.
+    String,
+}
+
+fn printed(alloc: Global, reader: Reader, text: &str) -> Result<String, AllocError> {
+    match reader {
+        Reader::Iri => lexical::iri(alloc, text),
+        Reader::IriRef => lexical::iri_ref(alloc, text),
+        Reader::Line => lines::line(alloc, text),
+        Reader::Piece => lines::piece(alloc, text),
+        Reader::Quoted => lexical::quoted(alloc, text),
+        Reader::String => lexical::string(alloc, text),
+    }
+}
+
+/// Whether the two are equal. Prints the case and both if they are not.
+fn is_same<R: Print>(rt: &R, case: &str, expected: &str, found: &str) -> bool {
+    if found == expected {
+        return true;
+    }
+    let _ = println!(rt; "{case}: expected {expected}, found {found}");
+    false
+}
+
+/// Whether the reader prints of the text what is expected.
+fn holds<R: Print>(rt: &R, alloc: Global, reader: Reader, (text, expected): Case) -> bool {
+    let Ok(found) = printed(alloc, reader, text) else {
+        return false;
+    };
+    is_same(rt, text, expected, found.as_str())
+}
+
+/// Whether each case holds. Prints the first that does not.
+pub(crate) fn all_hold<R: Print>(rt: &R, alloc: Global, reader: Reader, cases: &[Case]) -> bool {
+    for case in cases {
+        if !holds(rt, alloc, reader, *case) {
+            return false;
+        }
+    }
+    true
+}

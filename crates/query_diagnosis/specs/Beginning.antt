@@ -1,0 +1,17 @@
+-- Where a list of terminals stops being the beginning of a query (our own).
+use Rattle.std.specs.Prelude.{List, ◌++◌}
+use Rattle.sparql_lexer.specs.Terminal.{Terminal}
+use Rattle.sparql_grammar.specs.Values.{Names}
+use Rattle.sparql_grammar.specs.Symbol.{Select}
+use Rattle.sparql_parse.specs.Queries.{IsQuery}
+
+-- the terminals are a query, with some declarations
+pub record IsSomeQuery (ts : List Terminal) : Type 0 where
+  pub names : Names
+  pub query : Select
+  pub derived : IsQuery names ts query
+
+-- some query begins with these terminals
+pub record IsBeginning (front : List Terminal) : Type 0 where
+  pub rest : List Terminal
+  pub whole : IsSomeQuery (front ++ rest)

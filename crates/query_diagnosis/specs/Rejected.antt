@@ -1,0 +1,9 @@
+-- A text that no rule rejects (our own; the rules are those of sparql_read).
+use Rattle.std.specs.Prelude.{ℕ, List}
+use Rattle.sparql_tree.specs.QueryTree.{QueryTree}
+use Rattle.sparql_read.specs.Refusal.{IsRead}
+
+-- the text derives a query, and no rule rejects it
+pub record IsReadText (text : List ℕ) : Type 0 where
+  pub query : QueryTree
+  pub read : IsRead text query

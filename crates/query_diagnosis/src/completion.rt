@@ -1,0 +1,135 @@
+//! An end of a query for each state of the machine.
+
+use crate::machine::Machine;
+use crate::symbol::Symbol;
+use sparql_lexer::{Keyword, Kind, Sign, Token};
+use std::alloc::{AllocError, Global};
+
+const OPEN: Token<'static> = Token {
+    kind: Kind::Sign(Sign::OpenParenthesis),
+    text: &['('],
+};
+
+const CLOSE: Token<'static> = Token {
+    kind: Kind::Sign(Sign::CloseParenthesis),
+    text: &[')'],
+};
+
+const OPEN_BRACE: Token<'static> = Token {
+    kind: Kind::Sign(Sign::OpenBrace),
+    text: &['{'],
+};
+
+const CLOSE_BRACE: Token<'static> = Token {
+    kind: Kind::Sign(Sign::CloseBrace),
+    text: &['}'],
+};
+
+const STAR: Token<'static> = Token {
+    kind: Kind::Sign(Sign::Star),
+    text: &['*'],
+};
+
+const COMMA: Token<'static> = Token {
+    kind: Kind::Sign(Sign::Comma),
+    text: &[','],
+};
+
+const VARIABLE: Token<'static> = Token {
+    kind: Kind::Variable,
+    text: &['?', 'a'],
+};
+
+const IRI: Token<'static> = Token {
+    kind: Kind::IriRef,
+    text: &['<', 'a', ':', '>'],
+};
+
+const PREFIX: Token<'static> = Token {
+    kind: Kind::PrefixedNamespace,
+    text: &['a', ':'],
+};
+
+const ONE: Token<'static> = Token {
+    kind: Kind::Integer,
+    text: &['1'],
+};
+
+const SELECT: Token<'static> = Token {
+    kind: Kind::Keyword(Keyword::Select),
+    text: &['S', 'E', 'L', 'E', 'C', 'T'],
+};
+
+const A: Token<'static> = Token {
+    kind: Kind::Keyword(Keyword::A),
+    text: &['a'],
+};
+
+const AS: Token<'static> = Token {
+    kind: Kind::Keyword(Keyword::As),
+    text: &['A', 'S'],
+};
+
+const IN: Token<'static> = Token {
+    kind: Kind::Keyword(Keyword::In),
+    text: &['I', 'N'],
+};
+
+const UNDEF: Token<'static> = Token {
+    kind: Kind::Keyword(Keyword::Undef),
+    text: &['U', 'N', 'D', 'E', 'F'],
+};
+
+/// Terminals that a symbol derives: the first that come to mind, not always the fewest.
+fn end_of(symbol: Symbol) -> &'static [Token<'static>] {
+    match symbol {
+        Symbol::Query => &[SELECT, STAR, OPEN_BRACE, CLOSE_BRACE],
+        Symbol::Namespace => &[PREFIX],
+        Symbol::Reference | Symbol::Name | Symbol::GraphName => &[IRI],
+        Symbol::Distinct | Symbol::Selection => &[STAR, OPEN_BRACE, CLOSE_BRACE],
+        Symbol::Variables | Symbol::Where | Symbol::Group => &[OPEN_BRACE, CLOSE_BRACE],
+        Symbol::Count => &[ONE],
+        Symbol::Body | Symbol::AfterTriples | Symbol::AfterElement => &[CLOSE_BRACE],
+        Symbol::Property => &[A, VARIABLE],
+        Symbol::Object | Symbol::Variable => &[VARIABLE],
+        Symbol::DataBlock => &[VARIABLE, OPEN_BRACE, CLOSE_BRACE],
+        Symbol::Heading => &[CLOSE, OPEN_BRACE, CLOSE_BRACE],
+        Symbol::Rows | Symbol::Column => &[CLOSE_BRACE],
+        Symbol::Condition | Symbol::Bracket => &[OPEN, VARIABLE, CLOSE],
+        Symbol::Expression | Symbol::Unary | Symbol::Primary => &[VARIABLE],
+        Symbol::In => &[IN, OPEN, CLOSE],
+        Symbol::Members => &[OPEN, CLOSE],
+        Symbol::Cells | Symbol::FirstMember | Symbol::MoreMembers | Symbol::Close => &[CLOSE],
+        Symbol::Open => &[OPEN],
+        Symbol::OpenBrace => &[OPEN_BRACE],
+        Symbol::Comma => &[COMMA],
+        Symbol::As => &[AS],
+        Symbol::Modifiers
+        | Symbol::MoreLimit
+        | Symbol::MoreOffset
+        | Symbol::MoreUnion
+        | Symbol::MoreObjects
+        | Symbol::MoreProperties
+        | Symbol::AfterSemicolon
+        | Symbol::LiteralTail
+        | Symbol::MoreRelation
+        | Symbol::MoreLogic => &[],
+    }
+}
+
+/// Terminals with which the query is whole, where those that are read led to this state of the machine.
+///
+/// # Errors
+/// Out of memory.
+pub fn completion(alloc: Global, machine: &Machine) -> Result<Vec<Token<'static>>, AllocError> {
+    let mut end = Vec::new(alloc);
+    for symbol in machine.stack.iter().rev() {
+        if *symbol == Symbol::Cells {
+            for _ in machine.cells..machine.width {
+                end.push(UNDEF)?;
+            }
+        }
+        end.extend_from_slice(end_of(*symbol))?;
+    }
+    Ok(end)
+}

@@ -1,0 +1,347 @@
+//! The place of a rejected query, and the reason.
+
+ghost use Rattle.std.specs.Prelude.{◌≡◌, IfOk, IfNone, IfSome};
+ghost use Rattle.std.specs.Str.{chars};
+ghost use Rattle.sparql_read.specs.Refusal.{IsRefusal};
+ghost use Rattle.query_diagnosis.specs.Rejected.{IsReadText};
+
+use crate::expected::push_expected;
+use crate::hint::Hint;
+use crate::hints::{hint_at, hint_at_char};
+use crate::machine::{Cause, Stop, stop_of};
+use crate::places::{Position, offset_of, position_of};
+use crate::rules::{
+    Clash, bound_twice, deepest, prefix_of, relative_iri, reused_blank, undefined_prefix,
+};
+use excerpt::visible;
+use rdf_core::lexical::echar;
+use sparql_lexer::{Token, characters_of, scan_text, text_of};
+use sparql_read::{QueryFault, declarations_of, read_query};
+use std::alloc::{AllocError, Global};
+
+/// How many characters of a terminal are shown in a reason at the most.
+const SHOWN: usize = 40;
+
+/// Where and why a query is rejected.
+#[derive(Debug, Drop)]
+pub struct Diagnosis {
+    /// The rule that rejects it.
+    pub fault: QueryFault,
+    /// How many characters of the text are before the place.
+    pub offset: usize,
+    pub position: Position,
+    /// In words.
+    pub reason: String,
+    pub hint: Option<Hint>,
+}
+
+/// A text with its terminals up to the first place where none can be read, and what is there.
+#[derive(Clone, Copy)]
+struct Text<'a> {
+    characters: &'a [char],
+    tokens: &'a [Token<'a>],
+    rest: &'a [char],
+}
+
+/// A place with its reason.
+#[derive(Drop)]
+struct Found {
+    offset: usize,
+    reason: String,
+    hint: Option<Hint>,
+}
+
+impl<'a> Text<'a> {
+    /// How many characters are before a terminal.
+    fn offset(self, at: usize) -> usize {
+        if at >= self.tokens.len() && !self.rest.is_empty() {
+            return self.characters.len().saturating_sub(self.rest.len());
+        }
+        offset_of(self.characters, self.tokens, at)
+    }
+
+    fn position(self, at: usize) -> Position {
+        position_of(self.characters, self.offset(at))
+    }
+}
+
+/// Appends a terminal in quotes: its first characters, as they are seen.
+fn push_token(out: &mut String, token: Token<'_>) -> Result<(), AllocError> {
+    out.push('\'')?;
+    for c in token.text.iter().take(SHOWN) {
+        out.push(visible(*c))?;
+    }
+    if token.text.len() > SHOWN {
+        out.push('…')?;
+    }
+    out.push('\'')
+}
+
+/// `expected ..`, without what was found.
+fn expected(alloc: Global, stop: &Stop) -> Result<String, AllocError> {
+    let mut reason = String::from_str(alloc, "expected ")?;
+    push_expected(&mut reason, &stop.stack)?;
+    Ok(reason)
+}
+
+/// The reason at a terminal that may not come.
+fn unexpected(alloc: Global, text: Text<'_>, stop: &Stop) -> Result<Found, AllocError> {
+    let mut reason = expected(alloc, stop)?;
+    reason.push_str(", found ")?;
+    match text.tokens.get(stop.at) {
+        Some(token) => push_token(&mut reason, *token)?,
+        None => reason.push_str("the end of the query")?,
+    }
+    Ok(Found {
+        offset: text.offset(stop.at),
+        reason,
+        hint: hint_at(text.tokens, stop.at, &stop.stack),
+    })
+}
+
+/// Whether the characters after a quote come to an escape that is none before the next quote.
+fn has_unknown_escape(after: &[char], quote: char) -> bool {
+    let mut is_escape = false;
+    for c in after {
+        if is_escape && !matches!(*c, 'u' | 'U') && echar(*c).is_none() {
+            return true;
+        }
+        if !is_escape && *c == quote {
+            return false;
+        }
+        is_escape = !is_escape && *c == '\\';
+    }
+    false
+}
+
+/// The reason at a quote that begins no string.
+fn no_string(rest: &[char], quote: char) -> &'static str {
+    if has_unknown_escape(rest.get(1..).unwrap_or(&[]), quote) {
+        "the string that begins here has an unknown escape"
+    } else {
+        "the string that begins here is not closed"
+    }
+}
+
+/// The reason at a character that begins no terminal.
+fn unreadable(alloc: Global, text: Text<'_>, c: char, stop: &Stop) -> Result<Found, AllocError> {
+    let reason = if c == '"' || c == '\'' {
+        String::from_str(alloc, no_string(text.rest, c))?
+    } else {
+        let mut reason = expected(alloc, stop)?;
+        write!(reason, ", found '{}'", visible(c))?;
+        reason
+    };
+    Ok(Found {
+        offset: text.offset(stop.at),
+        reason,
+        hint: hint_at_char(c, &stop.stack),
+    })
+}
+
+/// The reason at a terminal whose kind may come.
+fn words_of(cause: Cause) -> &'static str {
+    match cause {
+        Cause::Kind => "this may not come here",
+        Cause::Escape =>
+            "an escape here is for no character, or for one that is not allowed in an IRI",
+        Cause::Twice => "this variable is twice in the list of VALUES",
+        Cause::LongRow => "this row of VALUES has more values than there are variables",
+        Cause::ShortRow => "this row of VALUES has fewer values than there are variables",
+    }
+}
+
+/// The first terminal after which no query can continue.
+fn syntax(alloc: Global, text: Text<'_>) -> Result<Option<Found>, AllocError> {
+    let Some(stop) = stop_of(alloc, text.tokens)? else {
+        return Ok(None);
+    };
+    if stop.cause != Cause::Kind {
+        return Ok(Some(Found {
+            offset: text.offset(stop.at),
+            reason: String::from_str(alloc, words_of(stop.cause))?,
+            hint: None,
+        }));
+    }
+    match text.rest.first() {
+        Some(c) if stop.at >= text.tokens.len() => { Ok(Some(unreadable(alloc, text, *c, &stop)?)) }
+        _ => Ok(Some(unexpected(alloc, text, &stop)?)),
+    }
+}
+
+/// The first prefixed name without a declaration.
+fn prefix(alloc: Global, text: Text<'_>) -> Result<Option<Found>, AllocError> {
+    let names = declarations_of(alloc, text.tokens)?;
+    let Some(at) = undefined_prefix(alloc, &names, text.tokens)? else {
+        return Ok(None);
+    };
+    let Some(token) = text.tokens.get(at) else {
+        return Ok(None);
+    };
+    let name = text_of(alloc, prefix_of(token.text))?;
+    Ok(Some(Found {
+        offset: text.offset(at),
+        reason: format!(in alloc; "the prefix '{name}:' is not declared")?,
+        hint: Some(Hint::Declare),
+    }))
+}
+
+/// A reason about a terminal: words, the terminal, and more words.
+fn about(
+    alloc: Global,
+    text: Text<'_>,
+    at: usize,
+    before: &str,
+    after: &str,
+) -> Result<String, AllocError> {
+    let mut reason = String::from_str(alloc, before)?;
+    if let Some(token) = text.tokens.get(at) {
+        push_token(&mut reason, *token)?;
+    }
+    reason.push_str(after)?;
+    Ok(reason)
+}
+
+/// The first IRI without a scheme.
+fn relative(alloc: Global, text: Text<'_>) -> Result<Option<Found>, AllocError> {
+    let Some(at) = relative_iri(alloc, text.tokens)? else {
+        return Ok(None);
+    };
+    Ok(Some(Found {
+        offset: text.offset(at),
+        reason: about(
+            alloc,
+            text,
+            at,
+            "the IRI ",
+            " is relative: it has no scheme",
+        )?,
+        hint: Some(Hint::WholeIri),
+    }))
+}
+
+/// A clash of two terminals, in words.
+fn clashing(
+    alloc: Global,
+    text: Text<'_>,
+    clash: Option<Clash>,
+    before: &str,
+    after: &str,
+    hint: Hint,
+) -> Result<Option<Found>, AllocError> {
+    let Some(clash) = clash else {
+        return Ok(None);
+    };
+    let mut reason = about(alloc, text, clash.at, before, after)?;
+    write!(reason, "{}", text.position(clash.earlier))?;
+    Ok(Some(Found {
+        offset: text.offset(clash.at),
+        reason,
+        hint: Some(hint),
+    }))
+}
+
+/// The first bracket that is one too many.
+fn depth(alloc: Global, text: Text<'_>) -> Result<Option<Found>, AllocError> {
+    let Some(at) = deepest(text.tokens) else {
+        return Ok(None);
+    };
+    Ok(Some(Found {
+        offset: text.offset(at),
+        reason: about(alloc, text, at, "brackets are nested over 100 deep at ", "")?,
+        hint: None,
+    }))
+}
+
+/// The place and the reason of a fault.
+fn find(alloc: Global, text: Text<'_>, fault: QueryFault) -> Result<Option<Found>, AllocError> {
+    match fault {
+        QueryFault::Syntax => syntax(alloc, text),
+        QueryFault::UndefinedPrefix => prefix(alloc, text),
+        QueryFault::RelativeIri => relative(alloc, text),
+        QueryFault::BindScope => clashing(
+            alloc,
+            text,
+            bound_twice(alloc, text.tokens)?,
+            "BIND to ",
+            ", which the group already binds at ",
+            Hint::OtherVariable,
+        ),
+        QueryFault::BlankReuse => clashing(
+            alloc,
+            text,
+            reused_blank(alloc, text.tokens)?,
+            "the blank node label ",
+            " is in another basic graph pattern too, at ",
+            Hint::VariableForBlank,
+        ),
+        QueryFault::TooDeep => depth(alloc, text),
+        QueryFault::Memory => Ok(None),
+    }
+}
+
+/// A place that is not known, at the beginning of the text.
+fn unknown(alloc: Global) -> Result<Found, AllocError> {
+    Ok(Found {
+        offset: 0,
+        reason: String::from_str(alloc, "this is not a query of SPARQL as spq reads it")?,
+        hint: None,
+    })
+}
+
+/// The place and the reason of a fault of a text.
+fn explain(alloc: Global, text: &str, fault: QueryFault) -> Result<Diagnosis, AllocError>
+    ensures fault { IfOk result (λ d. d.fault ≡ fault) }
+{
+    let characters = characters_of(alloc, text)?;
+    let scan = scan_text(alloc, &characters)?;
+    let parts = Text {
+        characters: &characters,
+        tokens: &scan.tokens,
+        rest: scan.rest,
+    };
+    let found = match find(alloc, parts, fault)? {
+        Some(found) => found,
+        None => unknown(alloc)?,
+    };
+    Ok(Diagnosis {
+        fault,
+        offset: found.offset,
+        position: position_of(&characters, found.offset),
+        reason: found.reason,
+        hint: found.hint,
+    })
+}
+
+/// The rule that rejects a text, where one does.
+fn fault_of(alloc: Global, text: &str) -> Result<Option<QueryFault>, AllocError>
+    ensures read { IfOk result (λ found. IfNone found (IsReadText (chars text.now))) }
+    ensures rejected { IfOk result (λ found. IfSome found (IsRefusal (chars text.now))) }
+{
+    match read_query(alloc, text) {
+        Ok(_) => Ok(None),
+        Err(QueryFault::Syntax) => Ok(Some(QueryFault::Syntax)),
+        Err(QueryFault::UndefinedPrefix) => Ok(Some(QueryFault::UndefinedPrefix)),
+        Err(QueryFault::RelativeIri) => Ok(Some(QueryFault::RelativeIri)),
+        Err(QueryFault::BindScope) => Ok(Some(QueryFault::BindScope)),
+        Err(QueryFault::BlankReuse) => Ok(Some(QueryFault::BlankReuse)),
+        Err(QueryFault::TooDeep) => Ok(Some(QueryFault::TooDeep)),
+        Err(QueryFault::Memory) => Err(AllocError),
+    }
+}
+
+/// Where and why the text of a query is rejected; None for a text that `read_query` reads.
+///
+/// # Errors
+/// Out of memory.
+pub fn diagnose(alloc: Global, text: &str) -> Result<Option<Diagnosis>, AllocError>
+    ensures read { IfOk result (λ found. IfNone found (IsReadText (chars text.now))) }
+    ensures rejected { IfOk result
+        (λ found. IfSome found (λ d. IsRefusal (chars text.now) d.fault)) }
+{
+    let Some(fault) = fault_of(alloc, text)? else {
+        return Ok(None);
+    };
+    let diagnosis = explain(alloc, text, fault)?;
+    Ok(Some(diagnosis))
+}

@@ -1,0 +1,140 @@
+//! What may come at a place, in words.
+
+use crate::machine::{may_come, may_end};
+use crate::symbol::Symbol;
+use sparql_lexer::{Keyword, Kind, Sign};
+use std::alloc::{AllocError, Global};
+
+/// Words for terminals, in the order in which they are listed.
+const SINGLE: [(Kind, &str); 18] = [
+    (Kind::LanguageTag, "a language tag"),
+    (Kind::Sign(Sign::Carets), "'^^'"),
+    (Kind::Sign(Sign::OpenBrace), "'{'"),
+    (Kind::Sign(Sign::CloseBrace), "'}'"),
+    (Kind::Sign(Sign::OpenParenthesis), "'('"),
+    (Kind::Sign(Sign::CloseParenthesis), "')'"),
+    (Kind::Sign(Sign::Dot), "'.'"),
+    (Kind::Sign(Sign::Semicolon), "';'"),
+    (Kind::Sign(Sign::Comma), "','"),
+    (Kind::Sign(Sign::Star), "'*'"),
+    (Kind::Keyword(Keyword::Prefix), "PREFIX"),
+    (Kind::Keyword(Keyword::Select), "SELECT"),
+    (Kind::Keyword(Keyword::Distinct), "DISTINCT"),
+    (Kind::Keyword(Keyword::Where), "WHERE"),
+    (Kind::Keyword(Keyword::Limit), "LIMIT"),
+    (Kind::Keyword(Keyword::Offset), "OFFSET"),
+    (Kind::Keyword(Keyword::Union), "UNION"),
+    (Kind::Keyword(Keyword::As), "AS"),
+];
+
+/// What may come at a place, as a list that grows.
+#[derive(Drop)]
+struct List {
+    items: Vec<&'static str>,
+}
+
+impl List {
+    fn add(&mut self, words: &'static str) -> Result<(), AllocError> {
+        self.items.push(words)?;
+        Ok(())
+    }
+
+    /// Adds words if a terminal of this kind may come.
+    fn add_if(
+        &mut self,
+        stack: &[Symbol],
+        kind: Kind,
+        words: &'static str,
+    ) -> Result<(), AllocError> {
+        if may_come(stack, kind) {
+            self.add(words)?;
+        }
+        Ok(())
+    }
+}
+
+/// Whether an operand of an expression may come.
+fn may_come_expression(stack: &[Symbol]) -> bool {
+    may_come(stack, Kind::Keyword(Keyword::Bound)) && may_come(stack, Kind::Variable)
+}
+
+/// Adds what terms, variables and names may come: one phrase for those that come together.
+fn add_terms(list: &mut List, stack: &[Symbol]) -> Result<(), AllocError> {
+    if may_come(stack, Kind::Keyword(Keyword::A)) {
+        return list.add("a verb (an IRI, a prefixed name, a variable or 'a')");
+    }
+    if may_come_expression(stack) {
+        return list.add("an expression");
+    }
+    if may_come(stack, Kind::BlankLabel) {
+        return list.add("a term (an IRI, a prefixed name, a variable, a blank node or a literal)");
+    }
+    if may_come(stack, Kind::Keyword(Keyword::Undef)) {
+        return list.add("a value (an IRI, a prefixed name, a literal or UNDEF)");
+    }
+    list.add_if(stack, Kind::Variable, "a variable")?;
+    list.add_if(stack, Kind::IriRef, "an IRI")?;
+    if may_come(stack, Kind::PrefixedName) {
+        return list.add("a prefixed name");
+    }
+    list.add_if(stack, Kind::PrefixedNamespace, "a prefix (such as 'ex:')")?;
+    list.add_if(stack, Kind::Integer, "a whole number")
+}
+
+/// Adds the operators of expressions that may come.
+fn add_operators(list: &mut List, stack: &[Symbol]) -> Result<(), AllocError> {
+    if may_come(stack, Kind::Sign(Sign::Equal)) {
+        return list.add("an operator (such as '=' or '&&')");
+    }
+    list.add_if(stack, Kind::Sign(Sign::And), "'&&'")?;
+    list.add_if(stack, Kind::Sign(Sign::Or), "'||'")?;
+    list.add_if(stack, Kind::Keyword(Keyword::In), "IN")
+}
+
+/// Adds the terminals that may come one by one, but `(` where an expression may come.
+fn add_single(list: &mut List, stack: &[Symbol]) -> Result<(), AllocError> {
+    let is_operand = may_come_expression(stack);
+    for (kind, words) in SINGLE {
+        let is_part = is_operand && kind == Kind::Sign(Sign::OpenParenthesis);
+        if !is_part {
+            list.add_if(stack, kind, words)?;
+        }
+    }
+    Ok(())
+}
+
+/// What may come, where these symbols are on the stack.
+fn list_of(alloc: Global, stack: &[Symbol]) -> Result<List, AllocError> {
+    let mut list = List {
+        items: Vec::new(alloc),
+    };
+    add_terms(&mut list, stack)?;
+    add_operators(&mut list, stack)?;
+    add_single(&mut list, stack)?;
+    if may_come(stack, Kind::Keyword(Keyword::Bound)) && !may_come(stack, Kind::Variable) {
+        list.add("a function (such as BOUND)")?;
+    }
+    if may_come(stack, Kind::Keyword(Keyword::Optional)) {
+        list.add("a pattern (such as OPTIONAL or FILTER)")?;
+    }
+    if may_end(stack) {
+        list.add("the end of the query")?;
+    }
+    Ok(list)
+}
+
+/// Appends what may come, where these symbols are on the stack: as `a, b or c`.
+///
+/// # Errors
+/// Out of memory.
+pub fn push_expected(out: &mut String, stack: &[Symbol]) -> Result<(), AllocError> {
+    let list = list_of(*out.allocator(), stack)?;
+    let count = list.items.len();
+    for i in 0..count {
+        if i > 0 {
+            out.push_str(if i + 1 == count { " or " } else { ", " })?;
+        }
+        out.push_str(list.items[i])?;
+    }
+    Ok(())
+}

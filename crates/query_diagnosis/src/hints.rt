@@ -1,0 +1,194 @@
+//! Which feature that is left out a query uses at a place.
+
+use crate::hint::Hint;
+use crate::machine::{may_come, may_end};
+use crate::symbol::Symbol;
+use sparql_lexer::{Keyword, Kind, Sign, Token};
+
+/// Words of SPARQL 1.1 that are no keywords here, and what to write instead.
+const WORDS: [(&str, Hint); 35] = [
+    ("ORDER", Hint::OrderBy),
+    ("GROUP", Hint::Aggregate),
+    ("HAVING", Hint::Aggregate),
+    ("COUNT", Hint::Aggregate),
+    ("SUM", Hint::Aggregate),
+    ("MIN", Hint::Aggregate),
+    ("MAX", Hint::Aggregate),
+    ("AVG", Hint::Aggregate),
+    ("SAMPLE", Hint::Aggregate),
+    ("REDUCED", Hint::Reduced),
+    ("FROM", Hint::From),
+    ("BASE", Hint::Base),
+    ("ASK", Hint::Ask),
+    ("CONSTRUCT", Hint::Construct),
+    ("DESCRIBE", Hint::Describe),
+    ("INSERT", Hint::Update),
+    ("DELETE", Hint::Update),
+    ("LOAD", Hint::Update),
+    ("CLEAR", Hint::Update),
+    ("DROP", Hint::Update),
+    ("CREATE", Hint::Update),
+    ("COPY", Hint::Update),
+    ("MOVE", Hint::Update),
+    ("ADD", Hint::Update),
+    ("WITH", Hint::Update),
+    ("SERVICE", Hint::Service),
+    ("EXISTS", Hint::Exists),
+    ("ISURI", Hint::IsUri),
+    ("LANGMATCHES", Hint::LangMatches),
+    ("REGEX", Hint::Function),
+    ("IF", Hint::Function),
+    ("COALESCE", Hint::Function),
+    ("URI", Hint::Function),
+    ("IRI", Hint::Function),
+    ("BNODE", Hint::Function),
+];
+
+/// Whether the characters are those of a word, in any case.
+fn is_word(text: &[char], word: &str) -> bool {
+    text.len() == word.len()
+        && text
+            .iter()
+            .zip(word.bytes())
+            .all(|(c, b)| c.to_ascii_uppercase() == char::from(b))
+}
+
+/// The hint of a word, where it is a feature of its own.
+fn hint_of_word(text: &[char]) -> Option<Hint> {
+    for (word, hint) in WORDS {
+        if is_word(text, word) {
+            return Some(hint);
+        }
+    }
+    None
+}
+
+fn kind_at(tokens: &[Token<'_>], at: usize) -> Option<Kind> {
+    tokens.get(at).map(|token| token.kind)
+}
+
+fn is_kind(tokens: &[Token<'_>], at: usize, kind: Kind) -> bool {
+    kind_at(tokens, at) == Some(kind)
+}
+
+/// The hint of the word at a place, where one is there.
+fn word_at(tokens: &[Token<'_>], at: usize) -> Option<Hint> {
+    let token = tokens.get(at)?;
+    if token.kind == Kind::Word {
+        hint_of_word(token.text)
+    } else {
+        None
+    }
+}
+
+/// Whether an operator of an expression may come.
+fn is_operator_next(stack: &[Symbol]) -> bool {
+    may_come(stack, Kind::Sign(Sign::And))
+}
+
+fn is_operand_next(stack: &[Symbol]) -> bool {
+    may_come(stack, Kind::Keyword(Keyword::Bound))
+}
+
+fn is_verb_next(stack: &[Symbol]) -> bool {
+    may_come(stack, Kind::Keyword(Keyword::A)) && !may_come(stack, Kind::Sign(Sign::Dot))
+}
+
+fn is_term_next(stack: &[Symbol]) -> bool {
+    may_come(stack, Kind::BlankLabel)
+}
+
+/// Whether what SELECT selects may come.
+fn is_selection_next(stack: &[Symbol]) -> bool {
+    may_come(stack, Kind::Sign(Sign::Star)) || stack.last() == Some(&Symbol::Variables)
+}
+
+/// The hint of a word that may not come.
+fn hint_at_word(tokens: &[Token<'_>], at: usize, stack: &[Symbol]) -> Option<Hint> {
+    let follows_not = at > 0 && is_kind(tokens, at - 1, Kind::Keyword(Keyword::Not));
+    match word_at(tokens, at) {
+        Some(Hint::Exists) if follows_not => Some(Hint::NotExists),
+        Some(hint) => Some(hint),
+        None if is_operand_next(stack) => Some(Hint::Function),
+        None => None,
+    }
+}
+
+/// The hint of a keyword that may not come.
+fn hint_at_keyword(
+    tokens: &[Token<'_>],
+    at: usize,
+    stack: &[Symbol],
+    keyword: Keyword,
+) -> Option<Hint> {
+    let next = word_at(tokens, at.saturating_add(1));
+    match keyword {
+        Keyword::Not if next == Some(Hint::Exists) => Some(Hint::NotExists),
+        Keyword::Select if is_term_next(stack) => Some(Hint::Subquery),
+        Keyword::Values if may_end(stack) => Some(Hint::TrailingValues),
+        _ => None,
+    }
+}
+
+/// The hint of `(` that may not come.
+fn hint_at_open(tokens: &[Token<'_>], at: usize, stack: &[Symbol]) -> Option<Hint> {
+    let next = word_at(tokens, at.saturating_add(1));
+    if is_selection_next(stack) {
+        match next {
+            Some(Hint::Aggregate) => Some(Hint::Aggregate),
+            _ => Some(Hint::SelectExpression),
+        }
+    } else if is_operator_next(stack) {
+        Some(Hint::Cast)
+    } else if is_verb_next(stack) {
+        Some(Hint::Path)
+    } else if is_term_next(stack) {
+        Some(Hint::Collection)
+    } else {
+        None
+    }
+}
+
+/// The hint of a sign that may not come.
+fn hint_at_sign(tokens: &[Token<'_>], at: usize, stack: &[Symbol], sign: Sign) -> Option<Hint> {
+    match sign {
+        Sign::OpenParenthesis => hint_at_open(tokens, at, stack),
+        Sign::Comma if is_selection_next(stack) => Some(Hint::NoCommas),
+        Sign::Not if is_kind(tokens, at.saturating_sub(1), Kind::Keyword(Keyword::Filter)) => {
+            Some(Hint::Parentheses)
+        }
+        Sign::Star if is_operator_next(stack) => Some(Hint::Arithmetic),
+        Sign::Star if is_term_next(stack) => Some(Hint::Path),
+        Sign::Not | Sign::Carets if is_verb_next(stack) => Some(Hint::Path),
+        Sign::Less if is_kind(tokens, at.saturating_add(1), Kind::Sign(Sign::Less)) => {
+            Some(Hint::QuotedTriple)
+        }
+        Sign::Less if may_come(stack, Kind::IriRef) => Some(Hint::NoIri),
+        _ => None,
+    }
+}
+
+/// The hint for a terminal that may not come, where these symbols are on the stack.
+pub fn hint_at(tokens: &[Token<'_>], at: usize, stack: &[Symbol]) -> Option<Hint> {
+    match kind_at(tokens, at)? {
+        Kind::Word => hint_at_word(tokens, at, stack),
+        Kind::Keyword(keyword) => hint_at_keyword(tokens, at, stack, keyword),
+        Kind::Sign(sign) => hint_at_sign(tokens, at, stack, sign),
+        Kind::IriRef if is_operator_next(stack) => Some(Hint::SpaceAfterLess),
+        Kind::SignedInteger | Kind::SignedDecimal | Kind::SignedDouble if is_operator_next(stack) =>
+            { Some(Hint::Arithmetic) }
+        _ => None,
+    }
+}
+
+/// The hint for a character that begins no terminal, where these symbols are on the stack.
+pub fn hint_at_char(c: char, stack: &[Symbol]) -> Option<Hint> {
+    match c {
+        '[' => Some(Hint::PropertyList),
+        '+' | '-' | '/' if is_operator_next(stack) || is_operand_next(stack) => {
+            Some(Hint::Arithmetic)
+        }
+        '+' | '/' | '^' | '|' | '?' => Some(Hint::Path),
+        _ => None,
+    }
+}

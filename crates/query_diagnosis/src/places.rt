@@ -1,0 +1,90 @@
+//! Places in the text of a query.
+
+use sparql_lexer::Token;
+use std::fmt;
+
+/// A line and a column of a text, both from 1. A line ends with LF, CR LF, or a CR that no LF follows.
+#[derive(Clone, Copy, Debug, PartialEq, Eq)]
+pub struct Position {
+    pub line: usize,
+    /// Counts characters.
+    pub column: usize,
+}
+
+impl fmt::Display for Position {
+    fn fmt<W: fmt::Write>(&self, f: &mut fmt::Formatter<W>) -> fmt::Result {
+        write!(f, "line {}, column {}", self.line, self.column)
+    }
+}
+
+/// Whether a line ends after the character at a place.
+fn ends_line(text: &[char], at: usize) -> bool {
+    match text.get(at) {
+        Some('\n') => true,
+        Some('\r') => text.get(at.saturating_add(1)) != Some(&'\n'),
+        _ => false,
+    }
+}
+
+/// Where the line of a place begins.
+pub fn line_start(text: &[char], offset: usize) -> usize {
+    let mut start = 0;
+    for i in 0..offset.min(text.len()) {
+        if ends_line(text, i) {
+            start = i + 1;
+        }
+    }
+    start
+}
+
+/// The line of a place, without its end.
+pub fn line_at(text: &[char], offset: usize) -> &[char] {
+    let line = text.get(line_start(text, offset)..).unwrap_or(&[]);
+    let end = line.iter().position(|c| *c == '\n' || *c == '\r');
+    line.get(..end.unwrap_or(line.len())).unwrap_or(line)
+}
+
+/// The position of a place, given by the number of characters before it.
+pub fn position_of(text: &[char], offset: usize) -> Position {
+    let ended = (0..offset.min(text.len()))
+        .filter(|i| ends_line(text, *i))
+        .count();
+    Position {
+        line: ended.saturating_add(1),
+        column: offset
+            .saturating_sub(line_start(text, offset))
+            .saturating_add(1),
+    }
+}
+
+/// How many characters of white space and comments are at the front (SPARQL 1.1 Query Language,
+/// section 19.8, WS).
+fn blanks(text: &[char]) -> usize {
+    let mut in_comment = false;
+    for i in 0..text.len() {
+        let c = text[i];
+        if in_comment {
+            in_comment = c != '\n' && c != '\r';
+        } else if c == '#' {
+            in_comment = true;
+        } else if !matches!(c, ' ' | '\t' | '\n' | '\r') {
+            return i;
+        }
+    }
+    text.len()
+}
+
+/// How many characters are before a terminal of the text, given by its place in the list; after the
+/// last terminal where there is none at that place.
+pub fn offset_of(text: &[char], tokens: &[Token<'_>], at: usize) -> usize {
+    let mut offset = 0usize;
+    for i in 0..tokens.len() {
+        let rest = text.get(offset..).unwrap_or(&[]);
+        let start = offset.saturating_add(blanks(rest));
+        if i == at {
+            return start;
+        }
+        offset = start.saturating_add(tokens[i].text.len());
+    }
+    offset
+}

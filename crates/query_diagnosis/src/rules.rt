@@ -1,0 +1,252 @@
+//! Where a query that the grammar derives breaks one of the other rules: each function returns the place of a
+//! terminal in the list, or None where no terminal breaks the rule.
+
+use crate::machine::is_same_name;
+use rdf_core::lexical::has_scheme;
+use sparql_grammar::Declarations;
+use sparql_lexer::{Keyword, Kind, Sign, Token, iri_value, text_of};
+use std::alloc::{AllocError, Global};
+use std::collections::BTreeMap;
+
+/// The most brackets that may be open at once.
+const MAX_DEPTH: usize = 100;
+
+/// A terminal that clashes with an earlier one.
+#[derive(Clone, Copy, Debug, PartialEq, Eq)]
+pub struct Clash {
+    pub at: usize,
+    pub earlier: usize,
+}
+
+/// What is before the first colon of a prefixed name.
+pub fn prefix_of<'a>(name: &'a [char]) -> &'a [char] {
+    let end = name.iter().position(|c| *c == ':').unwrap_or(name.len());
+    name.get(..end).unwrap_or(name)
+}
+
+/// The first prefixed name without a declaration (SPARQL 1.1 Query Language, section 4.1.1).
+pub fn undefined_prefix(
+    alloc: Global,
+    names: &Declarations,
+    tokens: &[Token<'_>],
+) -> Result<Option<usize>, AllocError> {
+    for i in 0..tokens.len() {
+        if matches!(tokens[i].kind, Kind::PrefixedName | Kind::PrefixedNamespace) {
+            let prefix = text_of(alloc, prefix_of(tokens[i].text))?;
+            if names.find(prefix.as_str()).is_none() {
+                return Ok(Some(i));
+            }
+        }
+    }
+    Ok(None)
+}
+
+/// The first IRI in angle brackets that has no scheme.
+pub fn relative_iri(alloc: Global, tokens: &[Token<'_>]) -> Result<Option<usize>, AllocError> {
+    for i in 0..tokens.len() {
+        if tokens[i].kind == Kind::IriRef {
+            if let Some(iri) = iri_value(alloc, tokens[i].text)? {
+                if !has_scheme(iri.as_str()) {
+                    return Ok(Some(i));
+                }
+            }
+        }
+    }
+    Ok(None)
+}
+
+/// The first bracket that is nested over 100 deep.
+pub fn deepest(tokens: &[Token<'_>]) -> Option<usize> {
+    let mut depth = 0usize;
+    for i in 0..tokens.len() {
+        match tokens[i].kind {
+            Kind::Sign(Sign::OpenBrace | Sign::OpenParenthesis) => {
+                depth = depth.saturating_add(1);
+            }
+            Kind::Sign(Sign::CloseBrace | Sign::CloseParenthesis) => {
+                depth = depth.saturating_sub(1);
+            }
+            _ => {}
+        }
+        if depth > MAX_DEPTH {
+            return Some(i);
+        }
+    }
+    None
+}
+
+/// The first blank node label that is in two basic graph patterns (SPARQL 1.1 Query Language,
+/// section 5.1.1). A brace or a BIND ends a basic graph pattern.
+pub fn reused_blank(alloc: Global, tokens: &[Token<'_>]) -> Result<Option<Clash>, AllocError> {
+    let mut pattern = 0usize;
+    let mut seen: BTreeMap<String, (usize, usize)> = BTreeMap::new(alloc);
+    for i in 0..tokens.len() {
+        match tokens[i].kind {
+            Kind::Sign(Sign::OpenBrace | Sign::CloseBrace) | Kind::Keyword(Keyword::Bind) => {
+                pattern = i;
+            }
+            Kind::BlankLabel => {
+                let label = text_of(alloc, tokens[i].text)?;
+                match seen.get(label.as_str()).copied() {
+                    Some((earlier, p)) if p != pattern => {
+                        return Ok(Some(Clash { at: i, earlier }));
+                    }
+                    Some(_) => {}
+                    None => {
+                        seen.insert(label, (i, pattern))?;
+                    }
+                }
+            }
+            _ => {}
+        }
+    }
+    Ok(None)
+}
+
+/// A group that is open.
+#[derive(Clone, Copy, Debug)]
+struct Frame {
+    /// How many variables were in scope before it.
+    first: usize,
+    /// Whether it is the right side of MINUS, whose variables are not in scope after it.
+    is_minus: bool,
+}
+
+/// The walk over the groups of a query: which variables are in scope (SPARQL 1.1 Query Language,
+/// section 18.2.1).
+#[derive(Drop)]
+struct Scopes {
+    frames: Vec<Frame>,
+    /// The places of the variables in scope in the groups that are open.
+    seen: Vec<usize>,
+    is_minus_next: bool,
+    /// Where the walk goes on: what is before is an expression or the values of VALUES.
+    next: usize,
+}
+
+/// The place after the brackets of the condition that begins at a place.
+fn after_condition(tokens: &[Token<'_>], from: usize) -> usize {
+    let mut depth = 0usize;
+    for i in from.min(tokens.len())..tokens.len() {
+        match tokens[i].kind {
+            Kind::Sign(Sign::OpenParenthesis) => depth = depth.saturating_add(1),
+            Kind::Sign(Sign::CloseParenthesis) => {
+                depth = depth.saturating_sub(1);
+                if depth == 0 {
+                    return i + 1;
+                }
+            }
+            _ => {}
+        }
+    }
+    tokens.len()
+}
+
+/// The first place of a terminal of this kind from a place on.
+fn find(tokens: &[Token<'_>], from: usize, kind: Kind) -> usize {
+    for i in from.min(tokens.len())..tokens.len() {
+        if tokens[i].kind == kind {
+            return i;
+        }
+    }
+    tokens.len()
+}
+
+impl Scopes {
+    fn new(alloc: Global) -> Scopes {
+        Scopes {
+            frames: Vec::new(alloc),
+            seen: Vec::new(alloc),
+            is_minus_next: false,
+            next: 0,
+        }
+    }
+
+    fn open(&mut self) -> Result<(), AllocError> {
+        self.frames.push(Frame {
+            first: self.seen.len(),
+            is_minus: self.is_minus_next,
+        })?;
+        self.is_minus_next = false;
+        Ok(())
+    }
+
+    fn close(&mut self) {
+        if let Some(frame) = self.frames.pop() {
+            if frame.is_minus {
+                self.seen.truncate(frame.first);
+            }
+        }
+    }
+
+    /// Adds the variables of VALUES, and goes on after its values.
+    fn add_values(&mut self, tokens: &[Token<'_>], at: usize) -> Result<(), AllocError> {
+        let values = find(tokens, at, Kind::Sign(Sign::OpenBrace));
+        for i in at..values {
+            if tokens.get(i).map(|token| token.kind) == Some(Kind::Variable) {
+                self.seen.push(i)?;
+            }
+        }
+        self.next = find(tokens, values, Kind::Sign(Sign::CloseBrace)).saturating_add(1);
+        Ok(())
+    }
+
+    /// The place in the open group that already binds the variable at a place.
+    fn earlier(&self, tokens: &[Token<'_>], at: usize) -> Option<usize> {
+        let first = self.frames.last().map_or(0, |frame| frame.first);
+        let variable = tokens.get(at)?;
+        for place in self.seen.get(first..)? {
+            if is_same_name(*tokens.get(*place)?, *variable) {
+                return Some(*place);
+            }
+        }
+        None
+    }
+
+    /// Reads BIND, and returns a clash of its variable.
+    fn add_bind(&mut self, tokens: &[Token<'_>], at: usize) -> Result<Option<Clash>, AllocError> {
+        let variable = find(tokens, at, Kind::Keyword(Keyword::As)).saturating_add(1);
+        if let Some(earlier) = self.earlier(tokens, variable) {
+            return Ok(Some(Clash {
+                at: variable,
+                earlier,
+            }));
+        }
+        self.seen.push(variable)?;
+        self.next = variable.saturating_add(1);
+        Ok(None)
+    }
+
+    /// Reads the terminal at a place, and returns a clash of the variable of BIND.
+    fn read(&mut self, tokens: &[Token<'_>], at: usize) -> Result<Option<Clash>, AllocError> {
+        let Some(token) = tokens.get(at) else {
+            return Ok(None);
+        };
+        match token.kind {
+            Kind::Sign(Sign::OpenBrace) => self.open()?,
+            Kind::Sign(Sign::CloseBrace) => self.close(),
+            Kind::Keyword(Keyword::Minus) => self.is_minus_next = true,
+            Kind::Keyword(Keyword::Filter) => self.next = after_condition(tokens, at),
+            Kind::Keyword(Keyword::Values) => self.add_values(tokens, at)?,
+            Kind::Keyword(Keyword::Bind) => return self.add_bind(tokens, at),
+            Kind::Variable if !self.frames.is_empty() => self.seen.push(at)?,
+            _ => {}
+        }
+        Ok(None)
+    }
+}
+
+/// The first BIND to a variable that the elements before it in its group bind (SPARQL 1.1 Query
+/// Language, section 10.1), and where they do.
+pub fn bound_twice(alloc: Global, tokens: &[Token<'_>]) -> Result<Option<Clash>, AllocError> {
+    let mut scopes = Scopes::new(alloc);
+    for i in 0..tokens.len() {
+        if i < scopes.next {
+            continue;
+        }
+        if let Some(clash) = scopes.read(tokens, i)? {
+            return Ok(Some(clash));
+        }
+    }
+    Ok(None)
+}

@@ -1,0 +1,53 @@
+//! Rows of two variables as text, as `12 3-`: each digit is the number of a cell, and `-` is an unbound cell.
+
+use row_core::Rows;
+use std::alloc::{AllocError, Global};
+
+/// A row of two cells.
+pub(crate) type Pair = (Option<u64>, Option<u64>);
+
+fn cell(character: char) -> Option<u64> {
+    character.to_digit(10).map(u64::from)
+}
+
+/// The rows of a text.
+pub(crate) fn pairs(alloc: Global, text: &str) -> Result<Vec<Pair>, AllocError> {
+    let mut pairs = Vec::new(alloc);
+    let mut first = None;
+    for character in text.chars() {
+        match (first, character) {
+            (_, ' ') => first = None,
+            (None, _) => first = Some(cell(character)),
+            (Some(a), _) => pairs.push((a, cell(character)))?,
+        }
+    }
+    Ok(pairs)
+}
+
+/// How often a row is among the rows.
+fn count(rows: &Rows, row: [Option<u64>; 2]) -> usize {
+    let mut count: usize = 0;
+    for i in 0..rows.len() {
+        if rows.row(i) == row.as_slice() {
+            count = count.saturating_add(1);
+        }
+    }
+    count
+}
+
+const CELLS: &str = "-0123456789";
+
+/// The number of rows, and the rows of such cells in ascending order.
+pub(crate) fn shown(alloc: Global, rows: &Rows) -> Result<String, AllocError> {
+    let mut text = format!(in alloc; "{}:", rows.len())?;
+    for a in CELLS.chars() {
+        for b in CELLS.chars() {
+            for _ in 0..count(rows, [cell(a), cell(b)]) {
+                text.push(' ')?;
+                text.push(a)?;
+                text.push(b)?;
+            }
+        }
+    }
+    Ok(text)
+}

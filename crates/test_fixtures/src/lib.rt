@@ -1,0 +1,27 @@
+//! What the test crates share: gates that worker threads pass, a job, and devices in memory.
+//!
+//! - [`Meeting`] is a gate at which two workers have to meet, so it shows that two threads run at the same time.
+//! - [`Counter`] is a gate that counts the pieces that pass it.
+//! - [`Numbers`] is a job whose result for piece `i` is `i`, up to a first faulty piece.
+//! - [`SliceSource`] and [`VecSink`] are a source and a sink in memory. They move few bytes per call, and fail
+//!   after a number of bytes or at a given call.
+//!
+//! No program depends on this crate.
+//!
+//! ```text
+//! let gate = Meeting::new();
+//! let outcome = run_pieces(&rt, alloc, 2, 2, &job, &gate)?;
+//! assert!(rt; gate.is_met());
+//! ```
+//! The test `two_pool_workers_meet` of worker_tests runs this.
+#![tactic(auto)]
+
+mod gates;
+mod jobs;
+mod sinks;
+mod sources;
+
+pub use gates::{Counter, Meeting};
+pub use jobs::Numbers;
+pub use sinks::VecSink;
+pub use sources::SliceSource;
