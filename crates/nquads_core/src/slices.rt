@@ -1,9 +1,13 @@
 //! The statements of a text as slices of it, in one pass: no term is decoded and none is checked.
 
-ghost use Rattle.std.specs.Prelude.{IfOk, IfSome};
+ghost use Rattle.std.specs.Prelude.{◌≡◌, ◌<◌, ◌≤◌, ◌∷◌, ◌++◌, true, length, IfOk, IfSome, option_copied};
+ghost use Rattle.std.specs.Str.{IsUtf8};
 ghost use Rattle.nquads_core.specs.Lines.{lines};
+ghost use Rattle.nquads_core.specs.Layout.{Adds, graph_then, IsLaidOut, IsOneLine};
 ghost use Rattle.nquads_core.specs.Splitting.{AreStatements};
 
+use crate::token::is_end;
+use memchr::{memchr, memchr2};
 use std::alloc::{AllocError, Global};
 
 /// The slices of one statement, each with one term and no blank around it.
@@ -22,6 +26,118 @@ pub struct RawStatement<'a> {
     pub graph: Option<&'a str>,
 }
 
+/// The first line, without its LF, and what follows that; `None` if the line holds a CR.
+fn cut_line(text: &str) -> Option<(&str, &str)>
+    requires { 0 < length text.now }
+    ensures lines { IfSome result (λ x. lines text.now ≡ x.0.now ∷ lines x.1.now) }
+    ensures utf8 { IfSome result (λ x. IsUtf8 x.0.now × IsUtf8 x.1.now) }
+    ensures one_line { IfSome result (λ x. IsOneLine x.0.now) }
+    ensures shorter { IfSome result (λ x. length x.1.now < length text.now) }
+{
+    let bytes = text.as_bytes();
+    let Some(end) = memchr2(b'\n', b'\r', bytes) else {
+        return Some((text, ""));
+    };
+    if bytes[end] != b'\n' {
+        return None;
+    }
+    Some((&text[..end], &text[end + 1..]))
+}
+
+/// Where the string at the front ends, after its closing quote, and 0 if the text begins with no quote.
+/// A quote after a backslash closes nothing.
+fn string_end(text: &[u8]) -> Option<usize>
+    ensures { IfSome result (λ end. end ≤ length text.now) }
+{
+    if text.is_empty() || text[0] != b'"' {
+        return Some(0);
+    }
+    let mut at = 1;
+    while at < text.len() {
+        let found = at + memchr2(b'"', b'\\', &text[at..])?;
+        if text[found] == b'"' {
+            return Some(found + 1);
+        }
+        at = found + 2;
+    }
+    None
+}
+
+/// The slice up to the first space from this place on, and what follows that space.
+fn cut_at_space(text: &str, from: usize) -> Option<(&str, &str)>
+    requires { from ≤ length text.now }
+    ensures { IfSome result (λ x. text.now ≡ x.0.now ++ 32 ∷ x.1.now) }
+{
+    let end = from + memchr(b' ', &text.as_bytes()[from..])?;
+    Some((&text[..end], &text[end + 1..]))
+}
+
+/// The slice of the term at the front, which a space ends, and what follows that space. A space inside
+/// the quotes of a literal ends nothing.
+fn cut_term(text: &str) -> Option<(&str, &str)>
+    ensures { IfSome result (λ x. text.now ≡ x.0.now ++ 32 ∷ x.1.now) }
+{
+    let from = string_end(text.as_bytes())?;
+    cut_at_space(text, from)
+}
+
+/// What follows the dot at the front.
+fn after_dot(text: &str) -> Option<&str>
+    ensures { IfSome result (λ rest. text.now ≡ 46 ∷ rest.now) }
+{
+    let bytes = text.as_bytes();
+    if bytes.is_empty() || bytes[0] != b'.' {
+        return None;
+    }
+    Some(&text[1..])
+}
+
+/// The slice of the graph label, if there is one, and what follows the dot.
+fn cut_graph(text: &str) -> Option<(Option<&str>, &str)>
+    ensures { IfSome result (λ x. text.now ≡ graph_then (option_copied x.0) (46 ∷ x.1.now)) }
+{
+    if let Some(rest) = after_dot(text) {
+        return Some((None, rest));
+    }
+    let (graph, rest) = cut_term(text)?;
+    let rest = after_dot(rest)?;
+    Some((Some(graph), rest))
+}
+
+/// The slices of a line that holds a statement.
+fn split_statement(line: &str) -> Option<RawStatement<'_>>
+    ensures { IfSome result (IsLaidOut line.now) }
+{
+    let (subject, rest) = cut_term(line)?;
+    let (predicate, rest) = cut_term(rest)?;
+    let (object, rest) = cut_term(rest)?;
+    let (graph, rest) = cut_graph(rest)?;
+    if !is_end(rest) {
+        return None;
+    }
+    Some(RawStatement {
+        subject,
+        predicate,
+        object,
+        graph,
+    })
+}
+
+/// Puts the statement of a line after the others, if it has one. False if it is not split.
+fn add_line<'a>(line: &'a str, statements: &mut Vec<RawStatement<'a>>) -> Result<bool, AllocError>
+    ensures { IfOk result (λ split. split ≡ true
+        → Adds line.now statements.old.items statements.new.items) }
+{
+    if is_end(line) {
+        return Ok(true);
+    }
+    let Some(statement) = split_statement(line) else {
+        return Ok(false);
+    };
+    statements.push(statement)?;
+    Ok(true)
+}
+
 /// Splits a piece of an N-Quads document into the slices of its statements, in order, repeats kept (RDF
 /// 1.1 N-Quads, grammar). A line without a statement gives none.
 ///
@@ -36,5 +152,19 @@ pub fn split_piece(alloc: Global, bytes: &[u8]) -> Result<Option<Vec<RawStatemen
     ensures statements { IfOk result (λ split. IfSome split
         (λ statements. AreStatements (lines bytes.now) statements.items)) }
 {
-    Ok(None)
+    let Ok(text) = simdutf8::basic::from_utf8(bytes) else {
+        return Ok(None);
+    };
+    let mut statements = Vec::new(alloc);
+    let mut rest = text;
+    while !rest.is_empty() {
+        let Some((line, after)) = cut_line(rest) else {
+            return Ok(None);
+        };
+        if !add_line(line, &mut statements)? {
+            return Ok(None);
+        }
+        rest = after;
+    }
+    Ok(Some(statements))
 }
