@@ -29,3 +29,7 @@ pub record Adds (line : List ℕ) (old new : List RawStatement) : Type 0 where
 -- no byte is LF or CR
 abbrev pub IsOneLine : List ℕ → Type 0
 IsOneLine line = (i : ℕ) → i < length line → (slice_index line i ≢ 10) × (slice_index line i ≢ 13)
+
+-- no byte is CR
+abbrev pub HasNoCr : List ℕ → Type 0
+HasNoCr text = (i : ℕ) → i < length text → slice_index text i ≢ 13

@@ -3,11 +3,11 @@
 ghost use Rattle.std.specs.Prelude.{◌≡◌, ◌<◌, ◌≤◌, ◌∷◌, ◌++◌, true, length, IfOk, IfSome, option_copied};
 ghost use Rattle.std.specs.Str.{IsUtf8};
 ghost use Rattle.nquads_core.specs.Lines.{lines};
-ghost use Rattle.nquads_core.specs.Layout.{Adds, graph_then, IsLaidOut, IsOneLine};
+ghost use Rattle.nquads_core.specs.Layout.{Adds, graph_then, HasNoCr, IsLaidOut, IsOneLine};
 ghost use Rattle.nquads_core.specs.Splitting.{AreStatements};
 
 use crate::token::is_end;
-use memchr::{memchr, memchr2};
+use memchr::memchr;
 use std::alloc::{AllocError, Global};
 
 /// The slices of one statement, each with one term and no blank around it.
@@ -26,26 +26,35 @@ pub struct RawStatement<'a> {
     pub graph: Option<&'a str>,
 }
 
-/// The first line, without its LF, and what follows that; `None` if the line holds a CR.
-fn cut_line(text: &str) -> Option<(&str, &str)>
-    requires { 0 < length text.now }
-    ensures lines { IfSome result (λ x. lines text.now ≡ x.0.now ∷ lines x.1.now) }
-    ensures utf8 { IfSome result (λ x. IsUtf8 x.0.now × IsUtf8 x.1.now) }
-    ensures one_line { IfSome result (λ x. IsOneLine x.0.now) }
-    ensures shorter { IfSome result (λ x. length x.1.now < length text.now) }
+/// The first line of a text without CR, without its LF, and what follows that.
+fn cut_line(text: &str) -> (&str, &str)
+    requires some { 0 < length text.now }
+    requires no_cr { HasNoCr text.now }
+    ensures lines { lines text.now ≡ result.0.now ∷ lines result.1.now }
+    ensures one_line { IsOneLine result.0.now }
+    ensures utf8 { IsUtf8 result.0.now × IsUtf8 result.1.now }
+    ensures no_cr { HasNoCr result.1.now }
+    ensures shorter { length result.1.now < length text.now }
 {
     let bytes = text.as_bytes();
-    let Some(end) = memchr2(b'\n', b'\r', bytes) else {
-        return Some((text, ""));
+    let Some(end) = memchr(b'\n', bytes) else {
+        return (text, "");
     };
-    if bytes[end] != b'\n' {
-        return None;
+    (&text[..end], &text[end + 1..])
+}
+
+/// Whether an odd number of backslashes is before this place.
+fn is_escaped(text: &[u8], at: usize) -> bool
+    requires { at ≤ length text.now }
+{
+    let mut from = at;
+    while 0 < from && text[from - 1] == b'\\' {
+        from -= 1;
     }
-    Some((&text[..end], &text[end + 1..]))
+    (at - from) % 2 == 1
 }
 
 /// Where the string at the front ends, after its closing quote, and 0 if the text begins with no quote.
-/// A quote after a backslash closes nothing.
 fn string_end(text: &[u8]) -> Option<usize>
     ensures { IfSome result (λ end. end ≤ length text.now) }
 {
@@ -54,11 +63,11 @@ fn string_end(text: &[u8]) -> Option<usize>
     }
     let mut at = 1;
     while at < text.len() {
-        let found = at + memchr2(b'"', b'\\', &text[at..])?;
-        if text[found] == b'"' {
-            return Some(found + 1);
+        let quote = at + memchr(b'"', &text[at..])?;
+        if !is_escaped(text, quote) {
+            return Some(quote + 1);
         }
-        at = found + 2;
+        at = quote + 1;
     }
     None
 }
@@ -155,12 +164,13 @@ pub fn split_piece(alloc: Global, bytes: &[u8]) -> Result<Option<Vec<RawStatemen
     let Ok(text) = simdutf8::basic::from_utf8(bytes) else {
         return Ok(None);
     };
+    if let Some(_) = memchr(b'\r', bytes) {
+        return Ok(None);
+    }
     let mut statements = Vec::new(alloc);
     let mut rest = text;
     while !rest.is_empty() {
-        let Some((line, after)) = cut_line(rest) else {
-            return Ok(None);
-        };
+        let (line, after) = cut_line(rest);
         if !add_line(line, &mut statements)? {
             return Ok(None);
         }
