@@ -1,14 +1,15 @@
 #!/usr/bin/env python3
-"""Checks docs/API.md and docs/MUTANTS.md against the sources, and the mutants themselves.
+"""Checks docs/API.md, docs/MUTANTS.md and docs/THEOREM.md against the sources, and the mutants themselves.
 
     pages.py            compares, prints one line for each difference, and exits with 1 if there is one
-    pages.py --write    rewrites the generated parts of the two pages first
+    pages.py --write    rewrites the generated parts of the pages first
 
 It proves nothing and needs only Python 3. Besides the generated parts it checks:
 
 - each mutant can be applied: every `old:` text is in its file once;
 - the gate has at most 80 mutants;
-- the mutants and tests that docs/MUTANTS.md names exist.
+- the mutants and tests that docs/MUTANTS.md names exist;
+- docs/THEOREM.md explains each line that it quotes.
 """
 import argparse
 import difflib
@@ -18,6 +19,7 @@ import re
 import sys
 
 sys.dont_write_bytecode = True
+import theorem
 from sources import GHOST_MEMBER, ROOT, crates, mutants, sources_of
 
 MOST_IN_THE_GATE = 80
@@ -395,8 +397,8 @@ def mutants_part():
     return lines
 
 
-PARTS = {"missing": missing_part, "calls": calls_part, "counts": counts_part, "mutants": mutants_part}
-PAGES = ["docs/API.md", "docs/MUTANTS.md"]
+PARTS = {"missing": missing_part, "calls": calls_part, "counts": counts_part, "mutants": mutants_part, **theorem.PARTS}
+PAGES = ["docs/API.md", "docs/MUTANTS.md", theorem.PAGE]
 
 
 def generated(page):
@@ -445,7 +447,8 @@ def main():
             page = generated(read(path))
             with open(f"{ROOT}/{path}", "w", encoding="utf-8") as file:
                 file.write(page)
-    faults = mutant_faults() + name_faults() + [it for path in PAGES for it in page_faults(path)]
+    faults = mutant_faults() + name_faults() + theorem.faults(PART.sub("", read(theorem.PAGE)))
+    faults += [it for path in PAGES for it in page_faults(path)]
     for it in faults:
         print(it)
     if faults:
