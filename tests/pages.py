@@ -10,7 +10,8 @@ It proves nothing and needs only Python 3. Besides the generated parts it checks
 - the gate has at most 80 mutants;
 - the mutants and tests that docs/MUTANTS.md names exist;
 - docs/THEOREM.md explains each line that it quotes;
-- the calls and clauses that docs/CONTRACTS.md names exist.
+- the calls and clauses that docs/CONTRACTS.md names exist;
+- the options, statuses and keywords of docs/USAGE.md, from which docs/spq.1 is generated.
 """
 import argparse
 import difflib
@@ -22,6 +23,7 @@ import sys
 sys.dont_write_bytecode = True
 import contracts
 import theorem
+import usage
 from sources import GHOST_MEMBER, ROOT, crates, mutants, sources_of
 
 MOST_IN_THE_GATE = 80
@@ -474,8 +476,10 @@ def main():
             page = generated(path, read(path))
             with open(f"{ROOT}/{path}", "w", encoding="utf-8") as file:
                 file.write(page)
+        with open(f"{ROOT}/{usage.MAN}", "w", encoding="utf-8") as file:
+            file.write(usage.man_page())
     faults = mutant_faults() + name_faults() + theorem.faults(PART.sub("", read(theorem.PAGE)))
-    faults += contracts.rewritten(read(contracts.PAGE), contract_of)[1]
+    faults += contracts.rewritten(read(contracts.PAGE), contract_of)[1] + usage.faults()
     faults += [it for path in PAGES for it in page_faults(path)]
     for it in faults:
         print(it)
