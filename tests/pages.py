@@ -11,7 +11,8 @@ It proves nothing and needs only Python 3. Besides the generated parts it checks
 - the mutants and tests that docs/MUTANTS.md names exist;
 - docs/THEOREM.md explains each line that it quotes;
 - the calls and clauses that docs/CONTRACTS.md names exist;
-- the options, statuses and keywords of docs/USAGE.md, from which docs/spq.1 is generated.
+- the options, statuses and keywords of docs/USAGE.md, from which docs/spq.1 is generated;
+- docs/architecture.svg shows every crate of the program.
 """
 import argparse
 import difflib
@@ -468,6 +469,12 @@ def name_faults():
     return faults + [f"docs/MUTANTS.md: there is no test {it}" for it in re.findall(r"`(\w+_tests::\w+)`", page) if it not in tests]
 
 
+def diagram_faults():
+    """Returns a line for each crate that docs/architecture.svg does not show. Test crates are not shown."""
+    drawn = set(re.findall(r"\w+", read("docs/architecture.svg")))
+    return [f"docs/architecture.svg: the crate {it} is missing" for it in crates() if it not in drawn and it not in INNER - {"spq"}]
+
+
 def main():
     words = argparse.ArgumentParser(description=__doc__.partition("\n")[0])
     words.add_argument("--write", action="store_true", help="rewrite the generated parts of the pages first")
@@ -479,7 +486,7 @@ def main():
         with open(f"{ROOT}/{usage.MAN}", "w", encoding="utf-8") as file:
             file.write(usage.man_page())
     faults = mutant_faults() + name_faults() + theorem.faults(PART.sub("", read(theorem.PAGE)))
-    faults += contracts.rewritten(read(contracts.PAGE), contract_of)[1] + usage.faults()
+    faults += contracts.rewritten(read(contracts.PAGE), contract_of)[1] + usage.faults() + diagram_faults()
     faults += [it for path in PAGES for it in page_faults(path)]
     for it in faults:
         print(it)
