@@ -18,7 +18,10 @@ import sys
 
 ROOT = os.path.dirname(os.path.dirname(os.path.abspath(__file__)))
 # The files that have none of these words. The script fails if one appears there.
-CLEAN = ["CHANGELOG.md", "CONTRIBUTING.md", "docs/THEOREM.md", "docs/CONTRACTS.md", "docs/USAGE.md", "docs/RECIPES.md", "docs/COMPARISON.md"]
+CLEAN = [
+    "CHANGELOG.md", "CONTRIBUTING.md", "bench/*.md", "docs/COMPARISON.md", "docs/CONTRACTS.md", "docs/COST.md", "docs/DECISIONS.md", "docs/DEFINITIONS.md",
+    "docs/RECIPES.md", "docs/THEOREM.md", "docs/USAGE.md", "docs/decisions/*.md", "docs/definitions/*.md",
+]
 # Each private word, as a regular expression, and what to write.
 WORDS = [
     (r"growths? (?:is|was|were|are) refused|refused growths?|wants? of memory|lack of memory", "an allocation fails; out of memory"),
