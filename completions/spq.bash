@@ -9,7 +9,7 @@ _spq() {
     done
     COMPREPLY=()
     case $before in
-        '<') compopt -o filenames; mapfile -t COMPREPLY < <(compgen -f -- "$word"); return ;;
+        '<') compopt -o filenames 2> /dev/null; mapfile -t COMPREPLY < <(compgen -f -- "$word"); return ;;
         --query | --piece | --rows) return ;;
         --workers) mapfile -t COMPREPLY < <(compgen -W '1 2 4 8 16 32 64' -- "$word"); return ;;
     esac

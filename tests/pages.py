@@ -12,7 +12,7 @@ It proves nothing and needs only Python 3. Besides the generated parts it checks
 - docs/THEOREM.md explains each line that it quotes;
 - the calls and clauses that docs/CONTRACTS.md names exist;
 - the options, statuses and keywords of docs/USAGE.md, from which docs/spq.1 is generated;
-- docs/architecture.svg shows every crate of the program.
+- docs/architecture.svg, which tests/diagram.py draws, shows every crate of the program.
 """
 import argparse
 import difflib
@@ -23,6 +23,7 @@ import sys
 
 sys.dont_write_bytecode = True
 import contracts
+import diagram
 import theorem
 import usage
 from sources import GHOST_MEMBER, ROOT, crates, mutants, sources_of
@@ -470,9 +471,10 @@ def name_faults():
 
 
 def diagram_faults():
-    """Returns a line for each crate that docs/architecture.svg does not show. Test crates are not shown."""
-    drawn = set(re.findall(r"\w+", read("docs/architecture.svg")))
-    return [f"docs/architecture.svg: the crate {it} is missing" for it in crates() if it not in drawn and it not in INNER - {"spq"}]
+    """Returns a line for each crate that the diagram does not show, and one if it is not drawn anew. Test crates are not shown."""
+    drawn = set(re.findall(r"\w+", diagram.svg()))
+    faults = [f"tests/diagram.py: the crate {it} is missing" for it in crates() if it not in drawn and it not in INNER - {"spq"}]
+    return faults if read(diagram.DIAGRAM) == diagram.svg() else faults + [f"{diagram.DIAGRAM}: is not what tests/diagram.py draws"]
 
 
 def main():
@@ -483,8 +485,9 @@ def main():
             page = generated(path, read(path))
             with open(f"{ROOT}/{path}", "w", encoding="utf-8") as file:
                 file.write(page)
-        with open(f"{ROOT}/{usage.MAN}", "w", encoding="utf-8") as file:
-            file.write(usage.man_page())
+        for path, text in {usage.MAN: usage.man_page(), diagram.DIAGRAM: diagram.svg()}.items():
+            with open(f"{ROOT}/{path}", "w", encoding="utf-8") as file:
+                file.write(text)
     faults = mutant_faults() + name_faults() + theorem.faults(PART.sub("", read(theorem.PAGE)))
     faults += contracts.rewritten(read(contracts.PAGE), contract_of)[1] + usage.faults() + diagram_faults()
     faults += [it for path in PAGES for it in page_faults(path)]
