@@ -1,7 +1,7 @@
 """Draws docs/architecture.svg: the crates and how data flows through them. `tests/pages.py --write` writes it."""
 
 DIAGRAM = "docs/architecture.svg"
-WIDTH, HEIGHT = 1080, 800
+WIDTH, HEIGHT = 1080, 816
 STYLE = """  <style>
     text { font-family: "DejaVu Sans", "Helvetica Neue", Arial, sans-serif; font-size: 12px; fill: #1f2933; }
     .name { font-size: 14px; font-weight: bold; }
@@ -95,10 +95,10 @@ def parts():
     yield arrow((280, 586), (280, 617))
     yield arrow((520, 641), (599, 641))
     # What the others use.
-    yield box(40, 692, 240, "rdf_core", "terms, quads, lexical forms", kind="base", height=86)
-    yield box(293, 692, 240, "algebra_model", "definitions and laws", "of the SPARQL algebra;", "no code", kind="base", height=86)
-    yield box(546, 692, 240, "piece_pool", "worker threads run the", "tasks of a job; numbers from", "piece_board, a lock-free counter", kind="base", height=86)
-    yield box(799, 692, 241, "diagnostics", "line_diagnosis, query_diagnosis,", "command_help, excerpt:", "place and reason of an error", kind="base", height=86)
+    yield box(40, 692, 240, "rdf_core", "terms, quads, lexical forms", kind="base", height=102)
+    yield box(293, 692, 240, "algebra_model", "definitions and laws", "of the SPARQL algebra;", "no code", kind="base", height=102)
+    yield box(546, 692, 240, "piece_pool", "worker threads run the", "tasks of a job; numbers from", "piece_board, a lock-free counter", kind="base", height=102)
+    yield box(799, 692, 241, "diagnostics", "line_diagnosis, query_diagnosis,", "command_help, excerpt:", "place and reason of an error", kind="base", height=102)
 
 
 def svg():
