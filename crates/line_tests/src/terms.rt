@@ -134,7 +134,7 @@ const LITERALS: &[Parts] = &[
 fn order(alloc: Global, first: Parts, second: Parts) -> Result<Ordering, AllocError> {
     let first = term(alloc, first)?;
     let second = term(alloc, second)?;
-    Ok(first.order(&second))
+    Ok(first.cmp(&second))
 }
 
 /// Whether each of these terms is less than the next one.
@@ -152,7 +152,7 @@ fn is_same_only_as_copy(alloc: Global, first: Parts, second: Parts) -> Result<bo
     let first = term(alloc, first)?;
     let second = term(alloc, second)?;
     let copy = first.copy(alloc)?;
-    Ok(copy.is_same(&first) && !first.is_same(&second))
+    Ok(copy == first && first != second)
 }
 
 #[test]

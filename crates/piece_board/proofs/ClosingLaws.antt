@@ -1,18 +1,16 @@
 -- Passes taken together, and what the last state says of them.
-use Rattle.std.proofs.Common.{◌≡◌, ⊎_elim, ℕ, zero, suc, ◌+◌, ◌-◌, ◌<◌, ◌≤◌, ◌^◌, min, List, [], ◌∷◌, ◌++◌, length, get_or, sym, ap, arith, length-append}
+use Rattle.std.proofs.Common.{◌≡◌, ⊎_elim, ℕ, zero, suc, ◌+◌, ◌-◌, ◌<◌, ◌≤◌, ◌^◌, min, List, [], ◌∷◌, ◌++◌, length, get_or, sym, ap, arith}
 use Rattle.std.specs.Prelude.{Option, Some, None, IfSome, All}
-use Rattle.std.proofs.lemmas.List.Sums.{sum_by-cons, sum_by_push, get_or-le-sum_by}
+use Rattle.std.proofs.lemmas.List.Sums.{sum_by_push, get_or-le-sum_by}
 use Rattle.std.proofs.lemmas.List.Elements.{All-cons, All-nil, All-push}
 use mathlib.Core.Option.{some, some-injective, some-ne-none}
 use lib.ListN.{get_elem?}
 use Rattle.piece_board.specs.declared.history.History.{History}
 use Rattle.piece_board.specs.declared.rule.Size.{Size}
 use Rattle.piece_board.specs.Counts.{times}
-use Rattle.piece_board.specs.Rule.{together}
 use Rattle.piece_board.specs.Pass.{PassView, PassFacts}
 use Rattle.piece_board.specs.Board.{BoardView, drawn_by, reported_by, finished_of, skips_of, IsClosed}
 use Rattle.piece_board.specs.Joining.{HasJoined}
-use Rattle.piece_board.proofs.CountLaws.{times-append}
 use Rattle.piece_board.proofs.LengthLaws.{length_few}
 use Rattle.piece_board.proofs.TableSteps.{EndClaims}
 
@@ -32,31 +30,6 @@ word_is (w ∷ ws) (suc i) r e = word_is ws i r e
 still_above : (o : Option ℕ) (a b : ℕ) → b ≤ a → IfSome o (λ i. a < i) → IfSome o (λ i. b < i)
 still_above None a b h f = tt
 still_above (Some i) a b h f = omega (arith, f)
-
-pub gathered_none : (r : History) → HasJoined r [] r
-gathered_none r = record {
-  seats = omega arith;
-  draws = λ x. omega arith;
-  reports = λ x. omega arith;
-  finished = omega arith;
-  seen = omega arith;
-  seen_above = All-nil _;
-  above = All-nil _;
-  room = omega arith;
-}
-
-pub gathered_more : (before : History) (ps : List PassView) (after : History) (p : PassView) → HasJoined before ps after → PassFacts p → HasJoined before (p ∷ ps) (together after p.history)
-gathered_more before ps after p h k = let now : History = together after p.history in record {
-  seats = let a = h.seats in let b = k.single in omega arith;
-  draws = λ x. let a = h.draws x in let b = times-append x after.draws p.history.draws in let c = sum_by-cons (λ (q : PassView). times x q.history.draws) p ps in omega arith;
-  reports = λ x. let a = h.reports x in let b = times-append x after.reports p.history.reports in let c = sum_by-cons (λ (q : PassView). times x q.history.reports) p ps in omega arith;
-  finished = let a = h.finished in let c = sum_by-cons (λ (q : PassView). q.history.finished) p ps in omega arith;
-  seen = let a = h.seen in omega arith;
-  seen_above = All-cons (λ (q : PassView). now.seen ≤ q.history.seen) p ps (omega arith) (λ i d l. let a = h.seen_above i d l in omega arith);
-  above = All-cons (λ (q : PassView). IfSome q.lowest_skip (λ i. now.seen < i)) p ps (still_above p.lowest_skip p.history.seen now.seen (omega arith) k.above)
-      (λ i d l. still_above (get_or ps i d).lowest_skip after.seen now.seen (omega arith) (h.above i d l));
-  room = let a = h.room in let b = k.room in let c = sum_by-cons (λ (q : PassView). q.skips) p ps in let d = length-append after.draws p.history.draws in omega arith;
-}
 
 pub closed_is : (size : Size) (b : BoardView) (rest : List PassView) (last : PassView) (history : History) (next least skipped : ℕ) → PassFacts last → HasJoined last.history rest history → EndClaims size next least history
     → size.pieces ≡ b.pieces → last.history.pieces ≡ b.pieces → skipped ≡ min (2 ^ 64 - 1) (last.skips + skips_of rest) → IsClosed b (rest ++ last ∷ []) (min next b.pieces) skipped least

@@ -1,7 +1,6 @@
 -- What a contract sees of a board, and what all its passes have done together when it is closed.
-use Rattle.std.specs.Prelude.{◌≡◌, ℕ, ◌+◌, ◌<◌, ◌≤◌, List, All, IfSome, length, sum_by}
+use Rattle.std.specs.Prelude.{◌≡◌, ℕ, ◌<◌, ◌≤◌, List, All, IfSome, sum_by}
 use Rattle.atomic_table.specs.Seated.{TableId}
-use Rattle.piece_board.specs.declared.history.History.{History}
 use Rattle.piece_board.specs.Counts.{times, once_below}
 use Rattle.piece_board.specs.Pass.{PassView}
 

@@ -1,7 +1,6 @@
 -- What one more read does to the bytes that are kept, and the first piece of them.
 use Rattle.std.proofs.Common.{◌≡◌, ◌≢◌, ℕ, ◌+◌, ◌-◌, ◌<◌, ◌≤◌, List, [], ◌∷◌, ◌++◌, length, get_or, take, drop, Option, Some, None, rules, max, arith, refl, ap, ◌∙◌, sym, subst, append_assoc, length-append, inl, inr, ◌⊎◌, Vec, Global}
 use Rattle.std.proofs.lemmas.List.{append-nil, take-append-drop, get_or_append_left, length-take, take_more}
-use Rattle.std.specs.Io.KnownBytes.{IsAtEnd}
 use Rattle.nquads_core.specs.Transfer.{ReadsMore}
 use Rattle.nquads_core.proofs.TransferSteps.{Consumes-more, Consumes-start}
 use Rattle.piece_cuts.specs.Cuts.{IsNextCut, HasNoNextCut}
@@ -57,19 +56,6 @@ BothKnown-cut (Some xs) None kept mid size place some grows h = absurd grows.con
 BothKnown-cut (Some xs) (Some ys) kept mid size place some grows h =
     let text = text-is kept mid grows.added xs ys grows.appended grows.consumed in
     (rw text (omega (arith, length-append mid ys, h.cut.inside.1)), rw text (IsFirstPiece-cut mid ys size place some h))
-
-pub BothKnown-last : (left left' : Option (List ℕ)) (kept mid : List ℕ) (size : ℕ) → Grows left left' kept mid → HasNoNextCut mid size 0 → IsAtEnd left' → 0 < length mid → BothKnown left left' (λ xs ys. (0 < length (kept ++ xs)) × IsFirstPiece size (kept ++ xs) mid ([] ++ ys))
-BothKnown-last None left' kept mid size grows h end some = tt
-BothKnown-last (Some xs) None kept mid size grows h end some = absurd grows.consumed
-BothKnown-last (Some xs) (Some ys) kept mid size grows h end some =
-    let text = text-is kept mid grows.added xs ys grows.appended grows.consumed ∙ ap (λ us. mid ++ us) end in
-    (rw text (omega (arith, length-append mid [], some)), rw (text, end) (IsFirstPiece-last mid size h))
-
-pub BothKnown-empty : (left left' : Option (List ℕ)) (kept mid : List ℕ) → Grows left left' kept mid → IsAtEnd left' → mid ≡ [] → BothKnown left left' (λ xs ys. kept ++ xs ≡ [])
-BothKnown-empty None left' kept mid grows end none = tt
-BothKnown-empty (Some xs) None kept mid grows end none = absurd grows.consumed
-BothKnown-empty (Some xs) (Some ys) kept mid grows end none =
-    text-is kept mid grows.added xs ys grows.appended grows.consumed ∙ ap (λ us. us ++ ys) none ∙ end
 
 -- the same, by equal sizes and bytes
 pub BothKnown-block : (left left' : Option (List ℕ)) (size size' : ℕ) (kept kept' front tail tail' : List ℕ) (b : Vec ℕ Global) → size ≡ size' → kept ≡ kept' → b.items ≡ front → tail' ≡ tail → BothKnown left left' (λ xs ys. (0 < length (kept ++ xs)) × IsFirstPiece size (kept ++ xs) front (tail ++ ys)) → BothKnown left left' (λ xs ys. GivesBlock size' (kept' ++ xs) (tail' ++ ys) (Some b))

@@ -11,7 +11,7 @@ use std::alloc::{AllocError, Global};
 use std::marker::Model;
 use std::mem;
 
-/// What blocks answer from now on.
+/// What blocks answer from now on. No call returns it: a contract sees it as the field `state` of [`Blocks`].
 #[derive(Clone, Copy)]
 pub enum BlockState {
     /// The next block.

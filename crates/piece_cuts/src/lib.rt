@@ -20,3 +20,6 @@ mod places;
 
 pub use blocks::{BlockState, Blocks};
 pub use cuts::Cuts;
+
+/// Why [`Blocks::next`] has no block: the reader failed, or out of memory.
+pub use nquads_core::ReadFault as BlockFault;

@@ -1,5 +1,5 @@
 -- What one more draw, answer or fault does to the work so far.
-use Rattle.std.proofs.Common.{◌≡◌, ℕ, ◌+◌, ◌<◌, ◌≤◌, List, [], ◌∷◌, ◌++◌, Contains, arith, ap, subst, ⊎_elim}
+use Rattle.std.proofs.Common.{◌≡◌, ℕ, ◌+◌, ◌≤◌, List, [], ◌∷◌, ◌++◌, Contains, arith, ap, subst, ⊎_elim}
 use Rattle.std.proofs.lemmas.List.{map-append}
 use Rattle.std.proofs.lemmas.List.Sums.{sum_by-append}
 use Rattle.std.proofs.lemmas.List.Elements.{All-push, Contains-push, Contains-push_cases, Contains-append_left, Contains-append_right, Contains-append_cases}
@@ -21,11 +21,6 @@ IsNoMoreThan-answer outs failed draws i out h x =
 pub IsNoMoreThan-fault : {Out Fault : Type 0} (outs : List (ℕ × Out)) (failed : List (ℕ × Fault)) (draws : List ℕ) (i : ℕ) (fault : Fault) → IsNoMoreThan (done_of outs failed) draws → IsNoMoreThan (done_of outs (failed ++ (i, fault) ∷ [])) (draws ++ i ∷ [])
 IsNoMoreThan-fault outs failed draws i fault h x =
     rw map-append (omega (arith, h x, times-append x draws (i ∷ []), times-append x (numbers_of outs) (numbers_of failed), times-append x (numbers_of outs) (numbers_of failed ++ i ∷ []), times-append x (numbers_of failed) (i ∷ [])))
-
--- a draw that is skipped
-pub CoversUpTo-skip : (seen seen' i : ℕ) (draws done : List ℕ) → CoversUpTo seen draws done → seen' ≤ seen → seen' < i → CoversUpTo seen' (draws ++ i ∷ []) done
-CoversUpTo-skip seen seen' i draws done h falls above j in' low =
-    ⊎_elim (λ was. h j was (omega arith)) (λ is. absurd (omega (arith, is))) (Contains-push_cases draws i j in')
 
 -- a draw that is done
 pub CoversUpTo-done : (seen seen' i : ℕ) (draws done done' : List ℕ) → CoversUpTo seen draws done → seen' ≤ seen → ((j : ℕ) → Contains done j → Contains done' j) → Contains done' i → CoversUpTo seen' (draws ++ i ∷ []) done'

@@ -1,4 +1,5 @@
-//! What a worker calls round each piece that it runs.
+//! What a worker calls before and after each piece that it runs.
+ghost use Rattle.std.specs.Prelude.{◌≡◌, ◌+◌, ◌<◌, ◌^◌};
 
 /// A door that each piece passes: a worker calls `enter` before it runs piece `i`, and `leave`
 /// after. No contract speaks of a gate, so no gate changes an outcome.
@@ -18,4 +19,37 @@ impl Gate for OpenGate {
     fn enter(&self, _i: u64) {}
 
     fn leave(&self, _i: u64) {}
+}
+
+/// A gate for a job that runs a part of the pieces of a document: it calls another gate with the number
+/// of each piece in the document.
+///
+/// A job numbers its pieces from 0. Piece `i` of the job is piece `first + i` of the document.
+#[derive(Drop)]
+pub struct OffsetGate<'g, G> {
+    /// The gate that is called.
+    pub gate: &'g G,
+    /// The number in the document of piece 0 of the job.
+    pub first: u64,
+}
+
+impl<'g, G> OffsetGate<'g, G> {
+    /// Returns the number in the document of piece `i` of the job.
+    ///
+    /// If that number is greater than `u64::MAX`, the result is `u64::MAX`.
+    pub fn number(&self, i: u64) -> u64
+        ensures number { self.now.first + i < 2 ^ 64 → result ≡ self.now.first + i }
+    {
+        self.first.saturating_add(i)
+    }
+}
+
+impl<'g, G: Gate> Gate for OffsetGate<'g, G> {
+    fn enter(&self, i: u64) {
+        self.gate.enter(self.number(i));
+    }
+
+    fn leave(&self, i: u64) {
+        self.gate.leave(self.number(i));
+    }
 }

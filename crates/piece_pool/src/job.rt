@@ -2,15 +2,26 @@
 ghost use Rattle.std.specs.Prelude.{ℕ, IfOk, IfErr};
 ghost use Rattle.piece_pool.specs.Job.{IfOwn};
 
-use std::alloc::Global;
+use std::alloc::{AllocError, Global};
 
 /// Why a job has no answer for a piece.
 #[derive(Drop)]
 pub enum JobFault<F> {
     /// The piece is faulty, in the job's own words.
     Own(F),
-    /// A growth was refused. It says nothing of the piece.
+    /// Out of memory. Nothing is known of the piece.
     Memory,
+}
+
+impl<F> From<AllocError> for JobFault<F> {
+    ghost use Rattle.std.specs.Prelude.{◌≡◌};
+    ghost use Rattle.piece_pool.specs.declared.job.JobFault.TheVariants.{Memory};
+
+    ghost from_gives = { λ _ fault. fault ≡ Memory };
+
+    fn from(_refused: AllocError) -> JobFault<F> {
+        JobFault::Memory
+    }
 }
 
 /// Work by pieces. It tells by two definitions what an answer is and what a fault is of piece `i`;

@@ -56,7 +56,7 @@ where
 ///
 /// # Errors
 /// A growth was refused, to the pool or to the job. All answers are dropped.
-pub fn run_alone<J: Job, G: Gate>(
+pub(crate) fn run_alone<J: Job, G: Gate>(
     alloc: Global,
     n: u64,
     job: &J,

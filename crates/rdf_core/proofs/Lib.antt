@@ -1,5 +1,4 @@
 pub mod TermLaws
-pub mod QuadLaws
 pub mod HexSteps
 pub mod EscapeSteps
 pub mod EnclosedSteps

@@ -1,5 +1,7 @@
 pub mod Vocabulary
 pub mod Order
+pub mod Equality
+pub mod Laws
 pub mod QuadFacts
 pub mod QuadParts
 pub mod Spelling

@@ -19,9 +19,6 @@ xsd_decimal = codes "http://www.w3.org/2001/XMLSchema#decimal"
 abbrev pub xsd_double : List ℕ
 xsd_double = codes "http://www.w3.org/2001/XMLSchema#double"
 
-abbrev pub xsd_float : List ℕ
-xsd_float = codes "http://www.w3.org/2001/XMLSchema#float"
-
 abbrev pub rdf_lang_string : List ℕ
 rdf_lang_string = codes "http://www.w3.org/1999/02/22-rdf-syntax-ns#langString"
 

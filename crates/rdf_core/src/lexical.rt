@@ -17,6 +17,6 @@ pub use characters::{
     is_name_start, is_pn_chars_base, is_quoted_char, is_string_char,
 };
 pub use enclosed::{read_iri_ref, read_quoted, unescape_iri, unescape_string};
-pub use escapes::{Inside, echar};
+pub use escapes::echar;
 pub use schemes::has_scheme;
 pub use tags::lower_tag;

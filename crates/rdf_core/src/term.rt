@@ -1,14 +1,13 @@
 //! RDF terms (RDF 1.1 Concepts, section 3).
-ghost use Rattle.std.specs.Prelude.{◌≡◌, ◌↔◌, IsTrue, IfOk};
-ghost use Rattle.rdf_core.specs.Order.{term_cmp};
+ghost use Rattle.std.specs.Prelude.{◌≡◌, IfOk};
 
 use crate::text::Text;
 use std::alloc::{AllocError, Global};
-use std::cmp::Ordering;
 
 /// An RDF term (RDF 1.1 Concepts, sections 3.1 to 3.4).
 ///
-/// Two terms are equal where all their parts are. The order is blank nodes, IRIs, literals, and
+/// Two terms are equal where all their parts are (the law [`equality_is_identity`](crate::laws::equality_is_identity)).
+/// The order (the law [`order_is_by_parts`](crate::laws::order_is_by_parts)) is blank nodes, IRIs, literals, and
 /// among each the bytes of the texts: of a literal the lexical form, then the datatype, then the
 /// tag, where no tag comes first.
 #[derive(Debug, Drop, PartialEq, Eq, PartialOrd, Ord, Hash)]
@@ -55,20 +54,5 @@ impl Term {
                 })
             }
         }
-    }
-
-    /// Whether this is the very same term as `other`. (`==` answers the same; this call's clause
-    /// says what it means.)
-    pub fn is_same(&self, other: &Term) -> bool
-        ensures same { IsTrue result ↔ (self.now ≡ other.now) }
-    {
-        self == other
-    }
-
-    /// The order of two terms. (`cmp` answers the same; this call's clause says what it means.)
-    pub fn order(&self, other: &Term) -> Ordering
-        ensures order { result ≡ term_cmp self.now other.now }
-    {
-        self.cmp(other)
     }
 }

@@ -62,10 +62,7 @@ impl<'w, W: RowWork> Job for RowPieces<'w, W> {
         let count = self.work.count();
         let from = (i as usize).saturating_mul(self.size).min(count);
         let to = from.saturating_add(self.size).min(count);
-        match self.work.run(alloc, from, to) {
-            Ok(rows) => Ok(rows),
-            Err(_) => Err(JobFault::Memory),
-        }
+        Ok(self.work.run(alloc, from, to)?)
     }
 
     ghost exclusive = { λ job i out fault _ absurd. absurd };

@@ -1,5 +1,6 @@
--- How far a terminal reaches back into what stands before it. Only private clauses cite this file:
--- it is how a reader of one production says where it stops.
+-- How far a terminal reaches back into what precedes it, and what a terminal may begin. The contracts of the readers in
+-- sparql_expression cite `reach` and `next_level` (through `Reads`), `heads` and `is_call`; only private clauses cite
+-- the rest. The grammar itself does not look ahead.
 use Rattle.std.specs.Prelude.{ℕ, List, [], ◌∷◌, Bool, true, false}
 use Rattle.sparql_lexer.specs.declared.token.Kind.{Kind}
 use Rattle.sparql_lexer.specs.declared.token.Kind.TheVariants as kind

@@ -1,13 +1,13 @@
 -- Where no name with a colon begins.
-use Rattle.std.proofs.Common.{◌≡◌, ℕ, ◌<◌, ◌≤◌, List, [], ◌∷◌, length, Bool, true, false, ◌||◌, ◌-◌, suc, get_or, refl, sym, ap, ◌∙◌, subst, arith, ◌⊎◌, inl, inr, nat_eq, nat_le, if◌then◌else◌}
+use Rattle.std.proofs.Common.{◌≡◌, ℕ, ◌<◌, ◌≤◌, List, [], ◌∷◌, length, Bool, true, false, ◌-◌, suc, get_or, refl, sym, ap, ◌∙◌, subst, arith, ◌⊎◌, inl, inr, nat_eq, nat_le, if◌then◌else◌}
 use Rattle.std.proofs.lemmas.Bool.Decides.{nat_tests}
 use Rattle.rdf_core.specs.Characters.{is_pn_chars_base, is_name_start, is_name_char}
 use Rattle.sparql_lexer.specs.Blanks.{beyond, after_blanks}
 use Rattle.sparql_lexer.specs.Characters.{is_base, is_name_part, is_line_end, is_space}
 use Rattle.sparql_lexer.specs.Colonless.{Behind, here, next, is_name_or_dot, IsClear, IsRun}
 use Rattle.sparql_lexer.specs.Names.{namespace, prefixed_name, local, tail}
-use Rattle.sparql_lexer.specs.Pattern.{Pattern, character, ◌▸◌, ◌or◌, many, is, Matches, is_nothing, is_character, both, left, right, no_more, one_more, EndsAt, Nowhere}
-use Rattle.sparql_lexer.proofs.PatternLaws.{behind, behind_behind, behind_same, behind_shorter, shorter, along, many_append, moved, sure_character, or_left, or_right, not_here, tail_inside, then_none}
+use Rattle.sparql_lexer.specs.Pattern.{character, ◌or◌, many, is, Matches, is_nothing, is_character, both, left, right, no_more, one_more, EndsAt, Nowhere}
+use Rattle.sparql_lexer.proofs.PatternLaws.{behind, behind_behind, behind_same, behind_shorter, shorter, along, many_append, moved, sure_character, or_left, or_right, tail_inside, then_none}
 
 name_or_dot_colon : is_name_or_dot 58 ≡ false
 unfolding is_name_char is_name_start is_pn_chars_base

@@ -1,24 +1,23 @@
 -- No text is a terminal of two kinds.
-use Rattle.std.proofs.Common.{◌≡◌, ℕ, suc, ◌<◌, ◌≤◌, ◌+◌, List, [], ◌∷◌, length, Bool, true, false, ◌||◌, ◌&&◌, refl, sym, ap, ◌∙◌, subst, arith, Option, Some, None, ◌⊎◌, inl, inr, nat_eq, nat_le, if◌then◌else◌}
+use Rattle.std.proofs.Common.{◌≡◌, ℕ, ◌<◌, ◌≤◌, List, [], ◌∷◌, length, Bool, true, false, ◌||◌, ◌&&◌, refl, sym, ap, ◌∙◌, subst, arith, Option, Some, None, ◌⊎◌, inl, inr, nat_eq, nat_le, if◌then◌else◌}
 use Rattle.std.proofs.lemmas.Bool.Decides.{nat_tests}
 use Rattle.sparql_lexer.specs.declared.token.Keyword.{Keyword}
 use Rattle.sparql_lexer.specs.declared.token.Kind.{Kind}
 use Rattle.sparql_lexer.specs.declared.token.Kind.TheVariants as kind
 use Rattle.sparql_lexer.specs.declared.token.Sign.{Sign}
 use Rattle.rdf_core.specs.Characters.{is_pn_chars_base}
-use Rattle.sparql_lexer.specs.Characters.{is_digit, is_letter, is_base, is_short_character}
-use Rattle.sparql_lexer.specs.Enclosed.{iri, iri_piece, anonymous, short_piece, short_string, long_string, long_piece, three}
-use Rattle.sparql_lexer.specs.Names.{variable, namespace, prefixed_name, local, blank_label, word, is_variable_sign}
+use Rattle.sparql_lexer.specs.Characters.{is_digit, is_letter, is_base}
+use Rattle.sparql_lexer.specs.Enclosed.{iri, iri_piece, short_piece, short_string, long_string, long_piece, three}
+use Rattle.sparql_lexer.specs.Names.{variable, namespace, prefixed_name, local, word}
 use Rattle.sparql_lexer.specs.Numbers.{digit, integer, decimal, double, exponent, signed, is_plus_or_minus, is_exponent_letter}
 use Rattle.sparql_lexer.specs.Colonless.{Behind, here, next}
-use Rattle.sparql_lexer.specs.Pattern.{Pattern, character, ◌▸◌, ◌or◌, many, is, some, Matches, is_nothing, is_character, both, left, right, no_more, one_more}
+use Rattle.sparql_lexer.specs.Pattern.{Pattern, character, ◌▸◌, ◌or◌, many, is, some, Matches, is_character, both, left, right, no_more, one_more}
 use Rattle.sparql_lexer.specs.Scan.{Reads, Longest, Scans, stops, reads}
 use Rattle.sparql_lexer.specs.Signs.{IsSign, one, two, sign_of_one, sign_of_two}
 use Rattle.sparql_lexer.specs.Terminal.{Terminal, terminal}
 use Rattle.sparql_lexer.specs.Words.{IsWord, taken}
-use Rattle.sparql_lexer.proofs.PatternLaws.{behind, behind_behind, behind_same, behind_shorter, Begins, begins, takes_nothing, takes_some, first, nullable, not_here, not_at_end, or_left, or_right, strictly, shorter, but, many_append, moved, sure_character}
+use Rattle.sparql_lexer.proofs.PatternLaws.{behind, behind_behind, behind_same, behind_shorter, Begins, begins, takes_nothing, takes_some, first, nullable, not_here, or_left, or_right, strictly, shorter, but, many_append, moved}
 use Rattle.sparql_lexer.proofs.ProductionLaws.{digit_inside, namespace_sure}
-use Rattle.sparql_lexer.proofs.TagLaws.{tag_matches}
 use Rattle.sparql_lexer.proofs.ScanLaws.{reads_behind, reads_shorter}
 
 true_false : {b : Bool} → b ≡ true → b ≡ false → ⊥
@@ -232,7 +231,7 @@ leads kind.PrefixedNamespace c ts r d = inr (lead_name c (begins_name d))
 leads kind.PrefixedName c ts r (both d e) = inr (lead_name c (begins_name_of d))
 leads kind.BlankLabel c ts r d = inr (led 95 c 4 refl (begins_with 95 d))
 leads kind.Anonymous c ts r d = inr (led 91 c 5 refl (begins_with 91 d))
-leads kind.LanguageTag c ts r d = inr (led 64 c 6 refl (begins_with 64 (tag_matches d)))
+leads kind.LanguageTag c ts r d = inr (led 64 c 6 refl (begins_with 64 d))
 leads kind.Integer c ts r d = inr (lead_number c (inl (begins_integer d)))
 leads kind.Decimal c ts r d = inr (lead_number c (begins_decimal d))
 leads kind.Double c ts r d = inr (lead_number c (begins_double d))
@@ -315,7 +314,7 @@ sign_or kind.PrefixedNamespace s c ts r d e = absurd (no_sign (name_signless c (
 sign_or kind.PrefixedName s c ts r (both x y) e = absurd (no_sign (name_signless c (begins_name x)) e)
 sign_or kind.BlankLabel s c ts r d e = absurd (no_sign (signless_at 95 c (refl, λ d. refl) (begins_with 95 d)) e)
 sign_or kind.Anonymous s c ts r d e = absurd (no_sign (signless_at 91 c (refl, λ d. refl) (begins_with 91 d)) e)
-sign_or kind.LanguageTag s c ts r d e = absurd (no_sign (signless_at 64 c (refl, λ d. refl) (begins_with 64 (tag_matches d))) e)
+sign_or kind.LanguageTag s c ts r d e = absurd (no_sign (signless_at 64 c (refl, λ d. refl) (begins_with 64 d)) e)
 sign_or kind.Integer s c ts r d e = absurd (number_sign (inl (begins_integer d)) e)
 sign_or kind.Decimal s c ts r d e = absurd (number_sign (decimal_front d) e)
 sign_or kind.Double s c ts r d e = absurd (number_sign (double_front d) e)

@@ -10,9 +10,9 @@ use Rattle.rdf_core.specs.Characters.{is_hex, is_pn_chars_base, is_name_start, i
 use Rattle.sparql_lexer.specs.Characters.{is_digit, is_letter_or_digit, is_base, is_name_part, is_local_start, is_local_part, is_local_escape, is_iri_character, is_short_character, is_long_character, is_escape_letter, is_space, is_line_end}
 use Rattle.sparql_lexer.specs.Pattern.{Pattern, character, ◌▸◌, ◌or◌, many, is, some, perhaps, Matches, is_nothing, both, left, right, no_more, one_more, EndsAt, Nowhere, Ends}
 use Rattle.sparql_lexer.specs.Numbers.{digit, exponent, is_plus_or_minus, is_exponent_letter}
-use Rattle.sparql_lexer.specs.Names.{tail, namespace, local_escape, local_part}
+use Rattle.sparql_lexer.specs.Names.{tail, namespace, local_escape, local_part, subtag}
 use Rattle.sparql_lexer.specs.Enclosed.{four_digits, numbered, escape, iri_piece, short_piece, three, comment}
-use Rattle.sparql_lexer.specs.Forms.{open_of, close_of, piece_of, part_of, subtag}
+use Rattle.sparql_lexer.specs.Forms.{open_of, close_of, piece_of, part_of}
 use Rattle.sparql_lexer.proofs.PatternLaws.{first, nullable, Sure, Apart, sure_character, sure_then, sure_or, sure_from, sure_many_then, apart_first, apart_is, apart_then, apart_or, apart_swap, apart_behind, apart_from, but, then_none, then_sure, greedy_then, nowhere, nowhere_or, only_left, only_right, spread, regroup, perhaps_taken, shorter, tail_inside, moved}
 
 pub sure_is : (n : ℕ) → Sure (is n)

@@ -1,5 +1,5 @@
 -- Each kind in its row, and all rows together.
-use Rattle.std.proofs.Common.{◌≡◌, ℕ, ◌<◌, ◌≤◌, List, [], ◌∷◌, length, Bool, true, false, refl, sym, ap, ◌∙◌, subst, arith, Option, Some, None, nat_eq}
+use Rattle.std.proofs.Common.{◌≡◌, ℕ, ◌≤◌, List, [], ◌∷◌, length, true, refl, sym, subst, arith, Option, Some, None, nat_eq}
 use Rattle.std.specs.Borrow.{Bor}
 use Rattle.sparql_lexer.specs.declared.token.Keyword.{Keyword}
 use Rattle.sparql_lexer.specs.declared.token.Kind.{Kind}
@@ -7,14 +7,12 @@ use Rattle.sparql_lexer.specs.declared.token.Kind.TheVariants as kind
 use Rattle.sparql_lexer.specs.declared.token.Sign.{Sign}
 use Rattle.sparql_lexer.specs.Candidates.{row, IsRow, BestOf, NoneOf, LongestOf, IsLongest, every_row}
 use Rattle.sparql_lexer.specs.Enclosed.{iri, anonymous, short_string, long_string}
-use Rattle.sparql_lexer.specs.Forms.{language_tag}
-use Rattle.sparql_lexer.specs.Names.{variable, namespace, prefixed_name, blank_label, word}
+use Rattle.sparql_lexer.specs.Names.{variable, namespace, prefixed_name, blank_label, language_tag, word}
 use Rattle.sparql_lexer.specs.Numbers.{integer, decimal, double, signed}
 use Rattle.sparql_lexer.specs.Pattern.{Matches, EndsAt, Nowhere, ◌or◌}
-use Rattle.sparql_lexer.specs.Scan.{Reads, Longest, Unreadable}
+use Rattle.sparql_lexer.specs.Scan.{Reads}
 use Rattle.sparql_lexer.specs.Signs.{IsSign, one, two, sign_of_one, sign_of_two}
-use Rattle.sparql_lexer.specs.Words.{IsWord, keyword_of, taken}
-use Rattle.sparql_lexer.proofs.TagLaws.{is_tag_of, tag_matches}
+use Rattle.sparql_lexer.specs.Words.{keyword_of, taken}
 
 only-iri_ref : (l : Kind) (ts r : List ℕ) → nat_eq 0 (row l) ≡ true → Reads l ts r → Matches iri ts r
 only-iri_ref kind.IriRef ts r e d = d
@@ -59,11 +57,11 @@ pub row-anonymous : IsRow kind.Anonymous anonymous
 row-anonymous = record { reads = λ ts r d. d; only = only-anonymous }
 
 only-language_tag : (l : Kind) (ts r : List ℕ) → nat_eq 6 (row l) ≡ true → Reads l ts r → Matches language_tag ts r
-only-language_tag kind.LanguageTag ts r e d = tag_matches d
+only-language_tag kind.LanguageTag ts r e d = d
 only-language_tag _ ts r e d = absurd (cc)
 
 pub row-language_tag : IsRow kind.LanguageTag language_tag
-row-language_tag = record { reads = λ ts r d. is_tag_of d; only = only-language_tag }
+row-language_tag = record { reads = λ ts r d. d; only = only-language_tag }
 
 only-integer : (l : Kind) (ts r : List ℕ) → nat_eq 7 (row l) ≡ true → Reads l ts r → Matches integer ts r
 only-integer kind.Integer ts r e d = d

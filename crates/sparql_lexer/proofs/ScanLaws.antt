@@ -1,18 +1,16 @@
 -- Terminals are not empty, and one more of them.
-use Rattle.std.proofs.Common.{◌≡◌, ℕ, ◌<◌, ◌≤◌, ◌-◌, List, [], ◌∷◌, ◌++◌, length, take, refl, sym, ap, ◌∙◌, subst, arith}
+use Rattle.std.proofs.Common.{◌≡◌, ℕ, ◌<◌, List, [], ◌∷◌, ◌++◌, length, refl, sym, ap, ◌∙◌, subst, arith}
 use Rattle.sparql_lexer.specs.declared.token.Kind.{Kind}
 use Rattle.sparql_lexer.specs.declared.token.Kind.TheVariants as kind
 use Rattle.sparql_lexer.specs.declared.token.Sign.{Sign}
 use Rattle.sparql_lexer.specs.declared.token.Token.{Token}
 use Rattle.sparql_lexer.specs.Blanks.{after_blanks}
 use Rattle.sparql_lexer.specs.Colonless.{Behind, here, next}
-use Rattle.sparql_lexer.specs.Pattern.{left, right}
 use Rattle.sparql_lexer.specs.Scan.{Reads, Longest, Unreadable, Scans, stops, reads}
 use Rattle.sparql_lexer.specs.Signs.{IsSign, one, two}
 use Rattle.sparql_lexer.specs.Terminal.{Terminal, terminal, terminals}
 use Rattle.sparql_lexer.specs.Words.{taken}
 use Rattle.sparql_lexer.proofs.PatternLaws.{behind, strictly}
-use Rattle.sparql_lexer.proofs.TagLaws.{tag_matches}
 
 sign_behind : {s : Sign} {ts r : List ℕ} → IsSign s ts r → Behind ts r
 sign_behind (one e) = next here
@@ -22,7 +20,6 @@ pub reads_behind : (k : Kind) (ts r : List ℕ) → Reads k ts r → Behind ts r
 reads_behind (kind.Keyword k) ts r d = behind d.letters
 reads_behind kind.Word ts r d = behind d.letters
 reads_behind (kind.Sign s) ts r d = sign_behind d
-reads_behind kind.LanguageTag ts r d = behind (tag_matches d)
 reads_behind _ ts r d = behind d
 
 sign_shorter : {s : Sign} {ts r : List ℕ} → IsSign s ts r → length r < length ts
@@ -33,7 +30,6 @@ pub reads_shorter : (k : Kind) (ts r : List ℕ) → Reads k ts r → length r <
 reads_shorter (kind.Keyword k) ts r d = strictly refl d.letters
 reads_shorter kind.Word ts r d = strictly refl d.letters
 reads_shorter (kind.Sign s) ts r d = sign_shorter d
-reads_shorter kind.LanguageTag ts r d = strictly refl (tag_matches d)
 reads_shorter _ ts r d = strictly refl d
 
 one_more : (xs : List Token) (t : Token) (ts : List Terminal) → terminals (xs ++ t ∷ []) ++ ts ≡ terminals xs ++ (terminal t.kind t.text.now ∷ ts)

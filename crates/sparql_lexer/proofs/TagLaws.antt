@@ -1,12 +1,11 @@
--- LANGTAG in the notation of the productions takes the texts that its definition does.
+-- LANGTAG describes the texts that rdf_core's test for tags accepts.
 use Rattle.std.proofs.Common.{◌≡◌, ℕ, List, [], ◌∷◌, ◌++◌, Bool, true, false, ◌||◌, ◌&&◌, eqb, refl, sym, ap, ◌∙◌, subst, arith, ◌⊎◌, inl, inr, nat_eq, nat_le}
 use Rattle.std.proofs.lemmas.Bool.Decides.{nat_tests}
 use Rattle.std.specs.Char.{is_ascii_alphabetic, is_ascii_alphanumeric}
 use Rattle.rdf_core.specs.Characters.{begins}
 use Rattle.rdf_core.specs.Lexical.{is_subtags, is_tag_tail, is_tag}
 use Rattle.sparql_lexer.specs.Characters.{is_digit, is_letter, is_letter_or_digit}
-use Rattle.sparql_lexer.specs.Forms.{subtag, language_tag}
-use Rattle.sparql_lexer.specs.Names.{IsLanguageTag}
+use Rattle.sparql_lexer.specs.Names.{IsLanguageTag, language_tag, subtag}
 use Rattle.sparql_lexer.specs.Pattern.{character, many, some, Matches, is_character, both, no_more, one_more}
 use Rattle.sparql_lexer.proofs.PatternLaws.{or_left, and_both}
 

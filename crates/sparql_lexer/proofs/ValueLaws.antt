@@ -1,14 +1,15 @@
 -- What decodes a text, from what rdf_core says of it.
-use Rattle.std.proofs.Common.{◌≡◌, ℕ, List, [], ◌∷◌, ◌++◌, refl, sym, ap, ◌∙◌, subst, Option, Some, None}
+use Rattle.std.proofs.Common.{◌≡◌, ◌↔◌, ℕ, ◌-◌, List, [], ◌∷◌, ◌++◌, length, take, refl, sym, ap, ◌∙◌, arith, length-append, Option, Some, None}
+use Rattle.std.proofs.lemmas.List.{drop_at, take_at}
 use Rattle.std.specs.Prelude.{MatchOption}
-use Rattle.std.specs.Str.{IsUtf8, chars, encode_utf8_all}
+use Rattle.std.specs.Str.{IsUtf8, chars}
 use Rattle.std.proofs.lemmas.Str.{chars_from_encodes}
 use lib.Utf8.{encodes}
 use Rattle.rdf_core.specs.declared.lexical.escapes.Inside.{Inside}
 use Rattle.rdf_core.specs.Escapes.{IsPart, IsWritten}
 use Rattle.rdf_core.specs.LexicalReading.{parts_at, with_bytes}
 use Rattle.rdf_core.proofs.EnclosedLaws.{parts_again, written_found}
-use Rattle.sparql_lexer.specs.Values.{decoded, whole_of}
+use Rattle.sparql_lexer.specs.Values.{between, decoded, whole_of}
 
 no_more : (xs : List ℕ) → xs ++ [] ≡ xs
 no_more [] = refl
@@ -27,3 +28,26 @@ decoded_as k cs (Some bytes) h =
 
 pub value_from : (k : Inside) (cs bytes : List ℕ) (found : Option (List ℕ)) → IsUtf8 bytes → bytes ≡ encodes cs → MatchOption found ((bs : List ℕ) → IsWritten (IsPart k) (chars bytes) bs → ⊥) (λ bs. IsWritten (IsPart k) (chars bytes) bs) → found ≡ decoded k cs
 value_from k cs bytes found u e h = decoded_as k (chars bytes) found h ∙ ap (decoded k) (sym (chars_from_encodes cs bytes u (sym e)))
+
+-- The decoded bytes are those that the text writes, and none others.
+
+whole_some : (read : Option (List ℕ × List ℕ)) (bytes : List ℕ) → whole_of read ≡ Some bytes → (rest : List ℕ) × (read ≡ Some (bytes, rest))
+whole_some None bytes e = absurd (cc)
+whole_some (Some x) bytes e = (x.1, (let p : x.0 ≡ bytes = cc in ap (λ (bs : List ℕ). Some (bs, x.1)) p))
+
+decoded_found : (k : Inside) (cs bytes : List ℕ) → decoded k cs ≡ Some bytes → IsWritten (IsPart k) cs bytes
+unfolding decoded
+decoded_found k cs bytes e =
+    let w = whole_some (with_bytes [] (parts_at k None 0 cs)) bytes e in
+    written_found k cs bytes w.0 w.1
+
+pub decoded_is_written : (k : Inside) (cs bytes : List ℕ) → (decoded k cs ≡ Some bytes) ↔ IsWritten (IsPart k) cs bytes
+decoded_is_written k cs bytes = (decoded_found k cs bytes, λ w. sym (decoded_as k cs (Some bytes) w))
+
+-- what is between n characters at each side
+between_sides : (n : ℕ) (front body back : List ℕ) → length front ≡ n → length back ≡ n → between n (front ++ (body ++ back)) ≡ body
+between_sides n front body back f b =
+    ap (λ (z : List ℕ). take (length z - n) z) (drop_at front (body ++ back) n f) ∙ take_at body back (length (body ++ back) - n) (omega (arith, length-append body back))
+
+pub between_is_written : (k : Inside) (n : ℕ) (front body back bytes : List ℕ) → length front ≡ n → length back ≡ n → (decoded k (between n (front ++ (body ++ back))) ≡ Some bytes) ↔ IsWritten (IsPart k) body bytes
+between_is_written k n front body back bytes f b = rw (between_sides n front body back f b) (decoded_is_written k body bytes)

@@ -1,4 +1,4 @@
--- White space and comments between terminals (SPARQL 1.1 Query Language, sections 4.1.5 and 19.4).
+-- White space and comments between terminals (SPARQL 1.1 Query Language, sections 19.3 and 19.4).
 use Rattle.std.specs.Prelude.{ℕ, List, [], ◌∷◌, Bool, true, false, nat_eq, if◌then◌else◌}
 use Rattle.sparql_lexer.specs.Characters.{is_space, is_line_end}
 

@@ -1,6 +1,6 @@
 -- The classes of characters of the productions (SPARQL 1.1 Query Language, section 19.8). A character is the number of its code point.
 -- Those that N-Quads has too are rdf_core's; HEX is `is_hex` there.
-use Rattle.std.specs.Prelude.{ℕ, Bool, ◌&&◌, ◌||◌, not, List, [], ◌∷◌, nat_le, nat_eq}
+use Rattle.std.specs.Prelude.{ℕ, Bool, ◌&&◌, ◌||◌, not, [], ◌∷◌, nat_le, nat_eq}
 use Rattle.std.specs.Option.{is_some}
 use Rattle.rdf_core.specs.Characters.{in_ranges, is_pn_chars_base, is_joining, is_name_start, is_name_char, is_iri_char, is_quoted_char, echar}
 

@@ -1,5 +1,5 @@
 -- Where no name with a colon begins; private clauses alone cite this file.
-use Rattle.std.specs.Prelude.{◌≡◌, ◌<◌, ℕ, List, ◌∷◌, length, Bool, ◌||◌, nat_eq}
+use Rattle.std.specs.Prelude.{◌<◌, ℕ, List, ◌∷◌, length, Bool, ◌||◌, nat_eq}
 use Rattle.sparql_lexer.specs.Characters.{is_name_part}
 use Rattle.sparql_lexer.specs.Names.{namespace}
 use Rattle.sparql_lexer.specs.Pattern.{Matches, EndsAt, many, character}

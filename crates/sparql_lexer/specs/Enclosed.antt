@@ -1,4 +1,6 @@
--- Terminals with an end of their own: IRIs, strings, and ANON (SPARQL 1.1 Query Language, section 19.8).
+-- Terminals with an end of their own: IRIs, strings, and ANON (SPARQL 1.1 Query Language, section 19.8). ECHAR is the
+-- escape of section 19.7, UCHAR that of section 19.2. The standard replaces UCHAR in the whole text before it applies the
+-- grammar; here it is a part of IRIs and strings alone (a choice of this project).
 use Rattle.std.specs.Prelude.{ℕ, not}
 use Rattle.rdf_core.specs.Characters.{is_hex}
 use Rattle.sparql_lexer.specs.Pattern.{Pattern, character, is, many, perhaps, ◌▸◌, ◌or◌}

@@ -1,12 +1,12 @@
--- The code's names for groups of productions, and LANGTAG as a pattern; private clauses alone cite this file.
+-- The code's names for groups of productions; private clauses alone cite this file.
 use Rattle.sparql_lexer.specs.declared.numbers.NumberForm.{NumberForm}
 use Rattle.sparql_lexer.specs.declared.numbers.NumberForm.TheVariants as number
 use Rattle.sparql_lexer.specs.declared.enclosed.Enclosure.{Enclosure}
 use Rattle.sparql_lexer.specs.declared.enclosed.Enclosure.TheVariants as enclosure
 use Rattle.sparql_lexer.specs.declared.names.Part.{Part}
 use Rattle.sparql_lexer.specs.declared.names.Part.TheVariants as part
-use Rattle.sparql_lexer.specs.Characters.{is_letter, is_letter_or_digit, is_space, is_name_part}
-use Rattle.sparql_lexer.specs.Pattern.{Pattern, character, is, some, many, ◌▸◌, ◌or◌}
+use Rattle.sparql_lexer.specs.Characters.{is_space, is_name_part}
+use Rattle.sparql_lexer.specs.Pattern.{Pattern, character, is, many, ◌▸◌, ◌or◌}
 use Rattle.sparql_lexer.specs.Numbers.{integer, decimal, double}
 use Rattle.sparql_lexer.specs.Names.{local_part}
 use Rattle.sparql_lexer.specs.Enclosed.{iri_piece, short_piece, long_piece, three, comment}
@@ -43,13 +43,6 @@ piece_of enclosure.Anonymous = character is_space or comment
 -- behind what opens it
 abbrev pub inside_of : Enclosure → Pattern
 inside_of e = many (piece_of e) ▸ close_of e
-
--- LANGTAG ::= '@' [a-zA-Z]+ ('-' [a-zA-Z0-9]+)*, the texts of IsLanguageTag
-abbrev pub subtag : Pattern
-subtag = is 45 ▸ some (character is_letter_or_digit)
-
-abbrev pub language_tag : Pattern
-language_tag = is 64 ▸ some (character is_letter) ▸ many subtag
 
 abbrev pub part_of : Part → Pattern
 part_of part.Name = character is_name_part

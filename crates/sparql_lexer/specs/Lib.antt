@@ -14,3 +14,4 @@ pub mod Classes
 pub mod Forms
 pub mod Candidates
 pub mod Colonless
+pub mod Laws

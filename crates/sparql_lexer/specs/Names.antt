@@ -3,7 +3,7 @@ use Rattle.std.specs.Prelude.{◌≡◌, ℕ, Bool, true, ◌||◌, List, ◌∷
 use Rattle.rdf_core.specs.Characters.{is_hex}
 use Rattle.rdf_core.specs.Lexical.{is_tag}
 use Rattle.sparql_lexer.specs.Pattern.{Pattern, character, is, some, many, perhaps, ◌▸◌, ◌or◌}
-use Rattle.sparql_lexer.specs.Characters.{is_letter, is_base, is_label_start, is_variable_part, is_name_part, is_local_start, is_local_part, is_local_escape}
+use Rattle.sparql_lexer.specs.Characters.{is_letter, is_letter_or_digit, is_base, is_label_start, is_variable_part, is_name_part, is_local_start, is_local_part, is_local_escape}
 
 abbrev pub is_variable_sign : ℕ → Bool
 is_variable_sign c = nat_eq 63 c || nat_eq 36 c
@@ -39,7 +39,16 @@ prefixed_name = namespace ▸ local
 abbrev pub blank_label : Pattern
 blank_label = is 95 ▸ is 58 ▸ character is_label_start ▸ tail (character is_name_part)
 
--- LANGTAG ::= '@' [a-zA-Z]+ ('-' [a-zA-Z0-9]+)*: text begins with the sign and a tag, which N-Quads has too, and rest stands behind it
+-- '-' [a-zA-Z0-9]+
+abbrev pub subtag : Pattern
+subtag = is 45 ▸ some (character is_letter_or_digit)
+
+-- LANGTAG ::= '@' [a-zA-Z]+ ('-' [a-zA-Z0-9]+)*
+abbrev pub language_tag : Pattern
+language_tag = is 64 ▸ some (character is_letter) ▸ many subtag
+
+-- text begins with '@' and a tag by rdf_core's test, which N-Quads uses too, and rest follows it; the law
+-- `one_language_tag` says that these are the texts of `language_tag`
 pub record IsLanguageTag (text rest : List ℕ) : Type 0 where
   pub tag : List ℕ
   pub parts : text ≡ 64 ∷ (tag ++ rest)

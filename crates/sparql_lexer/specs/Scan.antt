@@ -6,7 +6,7 @@ use Rattle.sparql_lexer.specs.Terminal.{Terminal, terminal}
 use Rattle.sparql_lexer.specs.Pattern.{Matches, ◌or◌}
 use Rattle.sparql_lexer.specs.Blanks.{after_blanks}
 use Rattle.sparql_lexer.specs.Enclosed.{iri, anonymous, short_string, long_string}
-use Rattle.sparql_lexer.specs.Names.{variable, namespace, prefixed_name, blank_label, IsLanguageTag}
+use Rattle.sparql_lexer.specs.Names.{variable, namespace, prefixed_name, blank_label, language_tag}
 use Rattle.sparql_lexer.specs.Numbers.{integer, decimal, double, signed}
 use Rattle.sparql_lexer.specs.Signs.{IsSign}
 use Rattle.sparql_lexer.specs.Words.{IsWord, taken}
@@ -19,7 +19,7 @@ Reads kind.PrefixedNamespace = Matches namespace
 Reads kind.PrefixedName = Matches prefixed_name
 Reads kind.BlankLabel = Matches blank_label
 Reads kind.Anonymous = Matches anonymous
-Reads kind.LanguageTag = IsLanguageTag
+Reads kind.LanguageTag = Matches language_tag
 Reads kind.Integer = Matches integer
 Reads kind.Decimal = Matches decimal
 Reads kind.Double = Matches double

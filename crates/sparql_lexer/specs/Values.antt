@@ -1,4 +1,5 @@
--- What the spellings of IRIs and strings stand for (SPARQL 1.1 Query Language, sections 4.1 and 19.2).
+-- The values of IRIs and strings (SPARQL 1.1 Query Language, sections 4.1.1, 4.1.2, 19.2 and 19.7), found by a scan from
+-- left to right. The law `values_are_written` says that they are what the characters write, raw or as escapes.
 use Rattle.std.specs.Prelude.{ℕ, ◌-◌, List, [], length, take, drop, Option, Some, None}
 use Rattle.rdf_core.specs.declared.lexical.escapes.Inside.{Inside}
 use Rattle.rdf_core.specs.declared.lexical.escapes.Inside.TheVariants as inside

@@ -1,6 +1,7 @@
 //! Laws of the terminals, each a function with no body whose contract is the law.
 
 ghost use Rattle.std.specs.Prelude.{◌≡◌, ℕ, List};
+ghost use Rattle.sparql_lexer.specs.Laws.{OneLanguageTag, ValuesAreWritten};
 ghost use Rattle.sparql_lexer.specs.Scan.{Reads, Scans};
 ghost use Rattle.sparql_lexer.specs.Terminal.{Terminal};
 ghost use Rattle.sparql_lexer.specs.declared.token.Kind.{Kind};
@@ -13,4 +14,16 @@ pub fn one_kind()
 /// A text has one list of terminals, up to one place.
 pub fn one_scan()
     ensures { (text end end' : List ℕ) (ts ts' : List Terminal) → Scans text ts end → Scans text ts' end' → (ts ≡ ts') × (end ≡ end') }
+{}
+
+/// The value of an IRI or a string is what its characters write, raw or as escapes (SPARQL 1.1 Query
+/// Language, sections 19.2 and 19.7). It has no value if its characters write none.
+pub fn values_are_written()
+    ensures law { ValuesAreWritten }
+{}
+
+/// The language tags of queries are those of N-Quads (SPARQL 1.1 Query Language, section 19.8, and RDF 1.1
+/// N-Quads, grammar: LANGTAG).
+pub fn one_language_tag()
+    ensures law { OneLanguageTag }
 {}

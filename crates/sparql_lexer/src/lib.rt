@@ -7,7 +7,8 @@
 //!
 //! A terminal is cut first and decoded afterwards: [`iri_value`] and [`string_value`] give the text
 //! that an IRI or a string stands for, or None where an escape names no character that may stand
-//! there.
+//! there. The law [`values_are_written`] says that this is what the characters write, raw or as escapes, and
+//! [`one_language_tag`] that queries and N-Quads have the same language tags.
 //!
 //! Standard: SPARQL 1.1 Query Language, section 19.8, with what is left out said in the decisions.
 //!
@@ -32,7 +33,7 @@ mod values;
 mod words;
 
 pub use characters::{characters_of, text_of};
-pub use laws::{one_kind, one_scan};
+pub use laws::{one_kind, one_language_tag, one_scan, values_are_written};
 pub use scanner::{Scan, scan_text};
 pub use token::{Keyword, Kind, Sign, Token};
 pub use values::{iri_value, string_value};

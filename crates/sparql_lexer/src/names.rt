@@ -4,8 +4,8 @@ ghost use Rattle.std.specs.Prelude.{◌≡◌, ◌∷◌, Some, true, ℕ, List}
 ghost use Rattle.sparql_lexer.specs.Colonless.{Behind, IsClear, IsRun, is_name_or_dot};
 ghost use Rattle.sparql_lexer.specs.Characters.{is_local_start};
 ghost use Rattle.sparql_lexer.specs.Pattern.{character, many, ◌or◌, Ends, EndsAt};
-ghost use Rattle.sparql_lexer.specs.Names.{local_escape, tail, namespace, local, prefixed_name, blank_label, variable};
-ghost use Rattle.sparql_lexer.specs.Forms.{part_of, subtag, language_tag};
+ghost use Rattle.sparql_lexer.specs.Names.{local_escape, tail, namespace, local, prefixed_name, blank_label, variable, subtag, language_tag};
+ghost use Rattle.sparql_lexer.specs.Forms.{part_of};
 
 use crate::classes::Class;
 use crate::cursor::{accept, accept_one, skip, skip_some};

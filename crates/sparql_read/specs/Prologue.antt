@@ -57,5 +57,10 @@ declarations ts = declared_onto [] ts
 abbrev pub is_undefined : Names → Terminal → Bool
 is_undefined ns (terminal k x) = is_prefixed k && is_none (declaration_of ns (encodes (prefix_of x)))
 
+-- some prefixed name among the terminals has no declaration among these
+abbrev pub lacks_declaration : Names → List Terminal → Bool
+lacks_declaration ns ts = list_any (is_undefined ns) ts
+
+-- the same with the declarations of the terminals themselves
 abbrev pub has_undefined_prefix : List Terminal → Bool
-has_undefined_prefix ts = list_any (is_undefined (declarations ts)) ts
+has_undefined_prefix ts = lacks_declaration (declarations ts) ts

@@ -1,7 +1,8 @@
 //! From the text of a SPARQL query to its tree, or to the rule that refuses it.
 //!
 //! [`read_query`] is what the crate above uses: it answers the tree that the grammar derives from the
-//! text, or the first rule that refuses it (`Answers` of specs/Refusal.antt). The law [`one_tree`] says that
+//! text (a [`Query`], whose types this crate re-exports), or the first rule that refuses it (`Answers` of
+//! specs/Refusal.antt). The law [`one_tree`] says that
 //! a text derives one query at most, refused or not, and [`one_answer`] that one answer at most holds of a
 //! text, besides want of memory.
 //!
@@ -48,3 +49,30 @@ pub use prologue::{declarations_of, has_undefined_prefix};
 pub use reader::read_query;
 pub use scope::breaks_bind_scope;
 pub use variables::mentioned;
+
+/// A SELECT query as it is in its text, which [`read_query`] returns.
+pub use sparql_tree::Query;
+
+/// The variables that a query selects.
+pub use sparql_tree::Selection;
+
+/// An element of a group: triples, a group, OPTIONAL, UNION, MINUS, GRAPH, FILTER, BIND or VALUES.
+pub use sparql_tree::Element;
+
+/// A triple pattern.
+pub use sparql_tree::Triple;
+
+/// A variable, a blank node label or an RDF term in a triple pattern.
+pub use sparql_tree::PatternTerm;
+
+/// The variable or the IRI after GRAPH.
+pub use sparql_tree::GraphName;
+
+/// An expression of FILTER or BIND.
+pub use sparql_tree::Expression;
+
+/// A function of one argument: STR, LANG, DATATYPE, isIRI, isBlank or isLiteral.
+pub use sparql_tree::Function;
+
+/// An operator that compares two values.
+pub use sparql_tree::Comparison;

@@ -6,7 +6,7 @@ ghost use lib.Utf8.{encodes};
 ghost use Rattle.sparql_lexer.specs.Values.{iri_value};
 ghost use Rattle.sparql_lexer.specs.Terminal.{terminals};
 ghost use Rattle.sparql_grammar.specs.Values.{prefix_of};
-ghost use Rattle.sparql_read.specs.Prologue.{declaration_at, declarations, declared, has_undefined_prefix, is_namespace, is_prefix_word, is_prefixed, is_reference};
+ghost use Rattle.sparql_read.specs.Prologue.{declaration_at, declarations, declared, is_namespace, is_prefix_word, is_prefixed, is_reference, lacks_declaration};
 
 use rdf_core::Text;
 use sparql_grammar::{Declaration, Declarations};
@@ -126,20 +126,18 @@ pub fn declarations_of(alloc: Global, tokens: &[Token<'_>]) -> Result<Declaratio
     Ok(names)
 }
 
-/// Whether a prefixed name among the terminals has no declaration, where these are the declarations.
+/// Returns whether some prefixed name among the terminals has no declaration in `names`.
 ///
-/// # Requires
-/// `names` are the declarations of these terminals.
+/// With the declarations of these terminals ([`declarations_of`]) this is the rule that refuses a query.
 ///
 /// # Errors
-/// A growth was refused.
+/// `AllocError` if an allocation fails.
 pub fn has_undefined_prefix(
     alloc: Global,
     names: &Declarations,
     tokens: &[Token<'_>],
 ) -> Result<bool, AllocError>
-    requires names { names.now ≡ declarations (terminals tokens.now) }
-    ensures value { IfOk result (λ found. found ≡ has_undefined_prefix (terminals tokens.now)) }
+    ensures value { IfOk result (λ found. found ≡ lacks_declaration names.now (terminals tokens.now)) }
 {
     for token in tokens {
         if is_prefixed(token.kind) {

@@ -1,8 +1,7 @@
 //! Cuts and blocks of the document `a`, LF, `b`, LF, LF, `c`, and of documents that are one piece.
 ghost use Rattle.std.specs.Prelude.{◌≤◌};
 
-use nquads_core::ReadFault;
-use piece_cuts::{Blocks, Cuts};
+use piece_pool::{BlockFault, Blocks, Cuts};
 use std::alloc::{AllocError, Global};
 use test_fixtures::SliceSource;
 
@@ -93,8 +92,8 @@ fn append_next(
     match blocks.next(reader) {
         Ok(Some(block)) => append(text, &block),
         Ok(None) => text.push_str("."),
-        Err(ReadFault::Read) => text.push_str("!"),
-        Err(ReadFault::Memory) => Err(AllocError),
+        Err(BlockFault::Read) => text.push_str("!"),
+        Err(BlockFault::Memory) => Err(AllocError),
     }
 }
 
@@ -131,9 +130,9 @@ fn blocks_are_the_pieces_and_a_fault_is_repeated(rt: HostRuntime) -> Result<(), 
 }
 
 /// The room of the first block.
-fn capacity_of_first(alloc: Global) -> Result<Option<usize>, ReadFault> {
+fn capacity_of_first(alloc: Global) -> Result<Option<usize>, BlockFault> {
     let mut reader = SliceSource::new(DOCUMENT.as_bytes(), 1);
-    let mut blocks = Blocks::new(alloc, 1).map_err(|_| ReadFault::Memory)?;
+    let mut blocks = Blocks::new(alloc, 1).map_err(|_| BlockFault::Memory)?;
     Ok(blocks.next(&mut reader)?.map(|block| block.capacity()))
 }
 

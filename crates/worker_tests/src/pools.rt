@@ -6,9 +6,10 @@ ghost use Rattle.piece_pool.specs.Worked.{IsWorked};
 use crate::boards::{open_two, pair};
 use piece_board::{Board, BoardFault, Pass};
 use piece_pool::{
-    Gate, Job, JobFault, OpenGate, Outcome, PoolFault, Worked, gather, run_pieces, work,
+    Gate, Job, JobFault, OffsetGate, OpenGate, Outcome, PoolFault, Worked, gather, run_all,
+    run_pieces, work,
 };
-use std::alloc::Global;
+use std::alloc::{AllocError, Global};
 use std::sync::Wait;
 use std::thread;
 use std::thread::Threads;
@@ -129,6 +130,34 @@ fn two_pool_workers_meet(rt: HostRuntime) {
     assert!(rt; gate.is_met(), "the workers did not meet");
 }
 
+/// Runs pieces 10 to 12 of a document as a job of three pieces. Returns the sum of the numbers that its gate got, if
+/// each result is in its place.
+fn sum_of_numbers<R: Threads + Wait>(rt: &R, alloc: Global, workers: usize) -> Option<u64>
+    requires workers { (1 ≤ workers) × (workers ≤ 64) }
+{
+    let counter = Counter::new();
+    let gate = OffsetGate {
+        gate: &counter,
+        first: 10,
+    };
+    let outcome = run_all(rt, alloc, workers, 3, &Numbers::sound_below(3), &gate).ok()?;
+    if Ran::of(&outcome) != Ran::InPlace(3) || counter.left() != 3 {
+        return None;
+    }
+    Some(counter.sum())
+}
+
+/// With an offset a gate gets the number of each piece in the document, in parallel and with one worker.
+#[test]
+fn an_offset_gate_numbers_the_pieces_of_a_document(rt: HostRuntime) {
+    let alone = sum_of_numbers(&rt, rt.alloc(), 1);
+    let shared = sum_of_numbers(&rt, rt.alloc(), 2);
+    assert!(rt;
+        alone == Some(33) && shared == Some(33),
+        "got {alone:?} and {shared:?}"
+    );
+}
+
 /// Works with a pass in each of two threads.
 fn work_twice<R: Threads, J: Job + Sync, G: Gate + Sync>(
     rt: &R,
@@ -206,7 +235,7 @@ impl Job for Starved {
     ghost faults = { λ _ _ _. ⊥ };
 
     fn run(&self, _alloc: Global, _i: u64) -> Result<u64, JobFault<u64>> {
-        Err(JobFault::Memory)
+        Err(JobFault::from(AllocError))
     }
 
     ghost exclusive = { λ _ _ _ _ a _. a };

@@ -1,6 +1,6 @@
 use Rattle.std.proofs.Common.{refl, Some, None}
 use Rattle.sparql_lexer.specs.Characters.{is_letter}
-use Rattle.sparql_lexer.specs.Forms.{subtag}
+use Rattle.sparql_lexer.specs.Names.{subtag}
 use Rattle.sparql_lexer.specs.Pattern.{character, many, some, ◌▸◌}
 use Rattle.sparql_lexer.proofs.PatternLaws.{then_none, then_sure}
 use Rattle.sparql_lexer.proofs.ProductionLaws.{sure_is, then_subtags}

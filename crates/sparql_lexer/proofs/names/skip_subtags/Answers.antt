@@ -1,6 +1,6 @@
 use Rattle.std.proofs.Common.{refl, None, arith}
 use Rattle.sparql_lexer.specs.Characters.{is_letter_or_digit}
-use Rattle.sparql_lexer.specs.Forms.{subtag}
+use Rattle.sparql_lexer.specs.Names.{subtag}
 use Rattle.sparql_lexer.specs.Pattern.{character, is, some}
 use Rattle.sparql_lexer.proofs.PatternLaws.{then_none, then_sure, run_ends, shorter, strictly}
 use Rattle.sparql_lexer.proofs.ProductionLaws.{sure_is, subtag_more}

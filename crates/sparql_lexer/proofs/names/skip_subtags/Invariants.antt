@@ -1,7 +1,7 @@
 use Rattle.std.proofs.Common.{List, ℕ, length}
 use Rattle.std.specs.Borrow.{Bor}
 use Rattle.sparql_lexer.specs.Pattern.{many, EndsAt}
-use Rattle.sparql_lexer.specs.Forms.{subtag}
+use Rattle.sparql_lexer.specs.Names.{subtag}
 use Rattle.sparql_lexer.proofs.names.skip_subtags.Given as goal
 
 abbrev pub invariant-subtags : goal.invariant-subtags

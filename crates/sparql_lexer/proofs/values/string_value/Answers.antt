@@ -1,4 +1,4 @@
-use Rattle.std.proofs.Common.{◌≡◌, ◌∙◌, ap}
+use Rattle.std.proofs.Common.{◌∙◌, ap}
 use Rattle.std.proofs.lemmas.Result.{IfOk-weaker}
 use lib.Utf8.{encodes}
 use Rattle.rdf_core.specs.declared.lexical.escapes.Inside.TheVariants as inside

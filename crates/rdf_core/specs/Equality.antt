@@ -1,0 +1,13 @@
+-- The equality and the order of terms that `==` and `cmp` compute, as `Term` derives them. The laws
+-- `equality_is_identity` and `order_is_by_parts` say what they mean.
+use Rattle.std.specs.Prelude.{Bool}
+use Rattle.std.specs.declared.cmp.Ordering.{Ordering}
+use Rattle.rdf_core.specs.declared.term.Term.{Term}
+use Rattle.rdf_core.specs.contracts.term.TermOrd.TheImpl as orders
+use Rattle.rdf_core.specs.contracts.term.TermPartialEq.TheImpl as equalities
+
+abbrev pub term_eq : Term → Term → Bool
+term_eq = (equalities.ghosts).eq
+
+abbrev pub derived_cmp : Term → Term → Ordering
+derived_cmp = (orders.ghosts).cmp
