@@ -22,14 +22,14 @@ pub(crate) enum Reader {
     Plan,
     /// A plain operator and its solutions.
     Operator,
-    /// A query: its solutions over this document, by the plain evaluation.
-    Over(&'static str),
+    /// A document and a query: its solutions, by the plain evaluation.
+    Solutions,
     /// A query: the solutions of its table, by the operator alone.
     Table,
     /// A query: its solutions after its second variable is bound to the first one.
     BoundAgain,
-    /// A graph name, or another count: the number in this document.
-    Count(&'static str),
+    /// A document and a graph name, or another thing to count: the number.
+    Count,
 }
 
 fn printed(alloc: Global, reader: Reader, case: &str) -> Result<String, AllocError> {
@@ -42,10 +42,10 @@ fn printed(alloc: Global, reader: Reader, case: &str) -> Result<String, AllocErr
         Reader::Filter => expressions::kept(alloc, case),
         Reader::Plan => plans::plan(alloc, case),
         Reader::Operator => operators::operated(alloc, case),
-        Reader::Over(document) => solutions::solutions(alloc, document, case),
+        Reader::Solutions => solutions::solutions(alloc, case),
         Reader::Table => solutions::table_alone(alloc, case),
         Reader::BoundAgain => solutions::bound_again(alloc, case),
-        Reader::Count(document) => solutions::count_of(alloc, document, case),
+        Reader::Count => solutions::count_of(alloc, case),
     }
 }
 

@@ -1,6 +1,7 @@
 //! Comparisons and effective boolean values of terms.
 use crate::cases::{Reader, are_right};
 use crate::terms::read;
+use rdf_core::Term;
 use sparql_algebra::{Comparison, compare, truth};
 use std::alloc::{AllocError, AllocGlobal, Global};
 
@@ -22,6 +23,15 @@ fn word_of(value: Option<bool>) -> &'static str {
     }
 }
 
+/// Reads two terms.
+fn pair(alloc: Global, left: &str, right: &str) -> Result<Vec<Option<Term>>, AllocError> {
+    let mut terms = Vec::new(alloc);
+    for text in [left, right] {
+        terms.push(read(alloc, text)?)?;
+    }
+    Ok(terms)
+}
+
 /// Compares two terms.
 fn compared(
     alloc: Global,
@@ -29,10 +39,9 @@ fn compared(
     operator: Comparison,
     right: &str,
 ) -> Result<&'static str, AllocError> {
-    let left = read(alloc, left)?;
-    let right = read(alloc, right)?;
-    match (&left, &right) {
-        (Some(left), Some(right)) => Ok(word_of(compare(operator, left, right))),
+    let terms = pair(alloc, left, right)?;
+    match terms.as_slice() {
+        [Some(left), Some(right)] => Ok(word_of(compare(operator, left, right))),
         _ => Ok("no term"),
     }
 }

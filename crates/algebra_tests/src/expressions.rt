@@ -1,8 +1,9 @@
 //! Values of expressions over a row of one variable.
 use crate::cases::{Reader, are_right};
+use crate::plans::plan_of;
 use crate::terms::{RDF, XSD, read, shown};
 use rdf_core::Term;
-use sparql_algebra::{Expr, ExprFault, Lookup, Operator, Plan, test, translate, value};
+use sparql_algebra::{Expr, ExprFault, Lookup, Operator, Plan, test, value};
 use sparql_read::read_query;
 use sparql_tree::Query;
 use std::alloc::{AllocError, AllocGlobal, Global};
@@ -72,7 +73,7 @@ fn answer(alloc: Global, plan: &Plan, row: &Row, what: Asked) -> Result<String, 
 }
 
 fn planned(alloc: Global, query: &Query, row: &Row, what: Asked) -> Result<String, AllocError> {
-    let plan = translate(alloc, query)?;
+    let plan = plan_of(alloc, query)?;
     answer(alloc, &plan, row, what)
 }
 
@@ -173,44 +174,30 @@ fn a_comparison_is_a_boolean(rt: HostRuntime) {
     assert!(rt; are_right(&rt, rt.alloc(), Reader::Value, COMPARISONS));
 }
 
-/// A variable alone is its term, and an error if the row has no place for it. Under `||` it is a boolean.
-const VARIABLES: &str = r#"
+/// Variables, bound and unbound, and sameTerm.
+const TERMS: &str = r#"
+# A variable alone is its term, and an error if the row has no place for it. Under `||` it is a boolean.
 ?x where ?x is "01"^^xsd:integer          => "01"^^xsd:integer
 ?y where ?x is "01"^^xsd:integer          => error
 ?x || false where ?x is "01"^^xsd:integer => "true"^^xsd:boolean
-"#;
-
-#[test]
-fn a_variable_is_its_term(rt: HostRuntime) {
-    assert!(rt; are_right(&rt, rt.alloc(), Reader::Value, VARIABLES));
-}
-
-/// BOUND of an unbound variable is false. Other functions of one are an error.
-const UNBOUND: &str = r#"
+# BOUND of an unbound variable is false. Other functions of one are an error.
 BOUND(?x) && ?x  => "false"^^xsd:boolean
 isIRI(?x)        => error
 sameTerm(?x, ?x) => error
-"#;
-
-#[test]
-fn of_an_open_variable_bound_alone_is_no_error(rt: HostRuntime) {
-    assert!(rt; are_right(&rt, rt.alloc(), Reader::Value, UNBOUND));
-}
-
-/// sameTerm compares lexical forms.
-const SAME_TERMS: &str = r#"
+# sameTerm compares lexical forms.
 sameTerm("01"^^xsd:integer, "1"^^xsd:integer)  => "false"^^xsd:boolean
 sameTerm("01"^^xsd:integer, "01"^^xsd:integer) => "true"^^xsd:boolean
 "#;
 
 #[test]
-fn same_term_is_no_comparison_by_value(rt: HostRuntime) {
-    assert!(rt; are_right(&rt, rt.alloc(), Reader::Value, SAME_TERMS));
+fn variables_are_terms_or_errors(rt: HostRuntime) {
+    assert!(rt; are_right(&rt, rt.alloc(), Reader::Value, TERMS));
 }
 
-/// IN and NOT IN compare by value: 01 is among 2 and 1.0, a number of 40 digits is not, and a string, a double and
-/// an unbound variable are errors.
-const MEMBERS: &str = r#"
+/// IN and NOT IN.
+const MEMBERSHIP: &str = r#"
+# IN and NOT IN compare by value: 01 is among 2 and 1.0, a number of 40 digits is not, and a string, a double and
+# an unbound variable are errors.
 ?x IN (2, 1.0) where ?x is "01"^^xsd:integer                                           => "true"^^xsd:boolean
 ?x IN (2, 1.0) where ?x is "1000000000000000000000000000000000000001"^^xsd:integer     => "false"^^xsd:boolean
 ?x IN (2, 1.0) where ?x is "1"                                                         => error
@@ -221,45 +208,10 @@ const MEMBERS: &str = r#"
 ?x NOT IN (2, 1.0) where ?x is "1"                                                     => error
 ?x NOT IN (2, 1.0) where ?x is "1"^^xsd:double                                         => error
 ?x NOT IN (2, 1.0)                                                                     => error
-"#;
-
-/// A filter keeps a row only if its condition is true.
-const KEPT_MEMBERS: &str = r#"
-?x IN (2, 1.0) where ?x is "01"^^xsd:integer                                           => kept
-?x IN (2, 1.0) where ?x is "1000000000000000000000000000000000000001"^^xsd:integer     => removed
-?x IN (2, 1.0) where ?x is "1"                                                         => removed
-?x IN (2, 1.0) where ?x is "1"^^xsd:double                                             => removed
-?x IN (2, 1.0)                                                                         => removed
-?x NOT IN (2, 1.0) where ?x is "01"^^xsd:integer                                       => removed
-?x NOT IN (2, 1.0) where ?x is "1000000000000000000000000000000000000001"^^xsd:integer => kept
-?x NOT IN (2, 1.0) where ?x is "1"                                                     => removed
-?x NOT IN (2, 1.0) where ?x is "1"^^xsd:double                                         => removed
-?x NOT IN (2, 1.0)                                                                     => removed
-"#;
-
-#[test]
-fn membership_is_by_value(rt: HostRuntime) {
-    assert!(rt; are_right(&rt, rt.alloc(), Reader::Value, MEMBERS));
-}
-
-#[test]
-fn a_filter_keeps_members(rt: HostRuntime) {
-    assert!(rt; are_right(&rt, rt.alloc(), Reader::Filter, KEPT_MEMBERS));
-}
-
-/// An error in the list of IN hides no member that is equal. `?x` is unbound.
-const ERRORS_IN_LISTS: &str = r#"
+# An error in the list of IN hides no member that is equal. `?x` is unbound.
 1 IN (?x, 1) => "true"^^xsd:boolean
 1 IN (?x, 2) => error
-"#;
-
-#[test]
-fn an_error_hides_no_member(rt: HostRuntime) {
-    assert!(rt; are_right(&rt, rt.alloc(), Reader::Value, ERRORS_IN_LISTS));
-}
-
-/// Nothing is in the empty list, not even an error.
-const EMPTY_LISTS: &str = r#"
+# Nothing is in the empty list, not even an error.
 ?x IN () where ?x is "01"^^xsd:integer                                           => "false"^^xsd:boolean
 ?x IN () where ?x is "1000000000000000000000000000000000000001"^^xsd:integer     => "false"^^xsd:boolean
 ?x IN () where ?x is "1"                                                         => "false"^^xsd:boolean
@@ -272,8 +224,25 @@ const EMPTY_LISTS: &str = r#"
 ?x NOT IN ()                                                                     => "true"^^xsd:boolean
 "#;
 
-/// A filter keeps every row that is not in the empty list.
-const KEPT_OUTSIDE: &str = r#"
+#[test]
+fn membership_is_by_value(rt: HostRuntime) {
+    assert!(rt; are_right(&rt, rt.alloc(), Reader::Value, MEMBERSHIP));
+}
+
+/// Filters with IN and NOT IN.
+const KEPT: &str = r#"
+# A filter keeps a row only if its condition is true.
+?x IN (2, 1.0) where ?x is "01"^^xsd:integer                                           => kept
+?x IN (2, 1.0) where ?x is "1000000000000000000000000000000000000001"^^xsd:integer     => removed
+?x IN (2, 1.0) where ?x is "1"                                                         => removed
+?x IN (2, 1.0) where ?x is "1"^^xsd:double                                             => removed
+?x IN (2, 1.0)                                                                         => removed
+?x NOT IN (2, 1.0) where ?x is "01"^^xsd:integer                                       => removed
+?x NOT IN (2, 1.0) where ?x is "1000000000000000000000000000000000000001"^^xsd:integer => kept
+?x NOT IN (2, 1.0) where ?x is "1"                                                     => removed
+?x NOT IN (2, 1.0) where ?x is "1"^^xsd:double                                         => removed
+?x NOT IN (2, 1.0)                                                                     => removed
+# A filter keeps every row that is not in the empty list.
 ?x NOT IN () where ?x is "01"^^xsd:integer                                       => kept
 ?x NOT IN () where ?x is "1000000000000000000000000000000000000001"^^xsd:integer => kept
 ?x NOT IN () where ?x is "1"                                                     => kept
@@ -282,13 +251,8 @@ const KEPT_OUTSIDE: &str = r#"
 "#;
 
 #[test]
-fn nothing_is_in_the_empty_list(rt: HostRuntime) {
-    assert!(rt; are_right(&rt, rt.alloc(), Reader::Value, EMPTY_LISTS));
-}
-
-#[test]
-fn a_filter_keeps_what_is_not_in_the_empty_list(rt: HostRuntime) {
-    assert!(rt; are_right(&rt, rt.alloc(), Reader::Filter, KEPT_OUTSIDE));
+fn a_filter_keeps_what_is_true(rt: HostRuntime) {
+    assert!(rt; are_right(&rt, rt.alloc(), Reader::Filter, KEPT));
 }
 
 /// STR, LANG, DATATYPE, isIRI, isBlank and isLiteral of each kind of term.

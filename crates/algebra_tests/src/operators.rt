@@ -130,37 +130,20 @@ pub(crate) fn operated(alloc: Global, case: &str) -> Result<String, AllocError> 
     shown_operator(alloc, operator, &left, &right)
 }
 
-/// The condition of the left join is that the second variable is bound.
-const PAIRS: &str = "
+/// The condition of the left join and of the filter is that the second variable is bound. The extension of the second
+/// variable is an error. The projection keeps the first variable.
+const OPERATORS: &str = "
 join: ab a. c. and ab ad      => ab ab ad
 left join: ab a. c. and ab ad => ab ab ad c.
 minus: ab a. c. and ab ad     => c.
+filter: ab a. ab              => ab ab
+distinct: ab a. ab            => ab a.
+extend: ab a.                 => ab a.
+union: ab c. and ab c.        => ab c. ab c.
+project: ab c.                => a. c.
 ";
 
 #[test]
-fn pairs_are_joined(rt: HostRuntime) {
-    assert!(rt; are_right(&rt, rt.alloc(), Reader::Operator, PAIRS));
-}
-
-/// The filter keeps solutions whose second variable is bound. The extension of the second variable is an error.
-const CHOICES: &str = "
-filter: ab a. ab   => ab ab
-distinct: ab a. ab => ab a.
-extend: ab a.      => ab a.
-";
-
-#[test]
-fn solutions_are_chosen_and_changed(rt: HostRuntime) {
-    assert!(rt; are_right(&rt, rt.alloc(), Reader::Operator, CHOICES));
-}
-
-/// The projection keeps the first variable.
-const WHOLES: &str = "
-union: ab c. and ab c. => ab c. ab c.
-project: ab c.         => a. c.
-";
-
-#[test]
-fn solutions_are_put_together(rt: HostRuntime) {
-    assert!(rt; are_right(&rt, rt.alloc(), Reader::Operator, WHOLES));
+fn operators_make_solutions(rt: HostRuntime) {
+    assert!(rt; are_right(&rt, rt.alloc(), Reader::Operator, OPERATORS));
 }

@@ -1,6 +1,6 @@
 //! Terms as text: `_:b` is a blank node, and all else is an IRI or a literal as SPARQL has it, with the prefixes
 //! `xsd:` and `rdf:`. `-` is an unbound variable.
-use nquads_core::{LineFault, read_line};
+use nquads_core::{PieceFault, read_piece};
 use rdf_core::vocabulary::XSD_STRING;
 use rdf_core::{Quad, Term, Text};
 use sparql_expression::{ReadFault, read_term};
@@ -55,18 +55,21 @@ fn read_name(alloc: Global, text: &str) -> Result<Option<Term>, AllocError> {
     read_tokens(alloc, &scan.tokens)
 }
 
-/// The object of the statement of a line.
-fn object_of(alloc: Global, line: &str) -> Result<Option<Term>, AllocError> {
-    match read_line(alloc, line.as_bytes()) {
-        Ok(Some(quad)) => copied(alloc, &quad),
-        Ok(None) => Ok(None),
-        Err(LineFault::Bad) => Ok(None),
-        Err(LineFault::Memory) => Err(AllocError),
+/// The object of the first quad.
+fn first_object(alloc: Global, quads: &[Quad]) -> Result<Option<Term>, AllocError> {
+    match quads.first() {
+        Some(quad) => Ok(Some(quad.o.copy(alloc)?)),
+        None => Ok(None),
     }
 }
 
-fn copied(alloc: Global, quad: &Quad) -> Result<Option<Term>, AllocError> {
-    Ok(Some(quad.o.copy(alloc)?))
+/// The object of the statement of a line.
+fn object_of(alloc: Global, line: &str) -> Result<Option<Term>, AllocError> {
+    match read_piece(alloc, line.as_bytes()) {
+        Ok(piece) => first_object(alloc, &piece.quads),
+        Err(PieceFault::BadLine(_)) => Ok(None),
+        Err(PieceFault::Memory) => Err(AllocError),
+    }
 }
 
 /// Reads a blank node as N-Quads has it.

@@ -54,7 +54,10 @@ pub(crate) fn compare(
     if found == expected {
         return Ok(());
     }
-    write!(report, "{case}\n  expected {expected}\n  got      {found}\n")
+    write!(
+        report,
+        "{case}\n  expected {expected}\n  got      {found}\n"
+    )
 }
 
 /// Checks a case.

@@ -4,10 +4,10 @@
 //! may be to a variable that is bound, and a label may be in two patterns.
 use crate::cases::{compare, is_empty};
 use crate::operators::{Draws, verdict};
-use crate::plans::{evaluated, plainly};
+use crate::plans::{evaluated, plainly, plan_of};
 use crate::ways::{in_one_piece, row_by_row};
 use row_pieces::EvalFault;
-use sparql_algebra::{Plan, translate};
+use sparql_algebra::Plan;
 use sparql_expression::ReadFault;
 use sparql_grammar::Declarations;
 use sparql_lexer::{characters_of, scan_text};
@@ -221,7 +221,7 @@ fn planned<R: RandomSource + Threads + Wait>(
     document: &str,
     query: &Query,
 ) -> Result<String, EvalFault> {
-    let plan = translate(alloc, query)?;
+    let plan = plan_of(alloc, query)?;
     compared(rt, alloc, document, &plan)
 }
 

@@ -1,6 +1,7 @@
 //! Basic graph patterns that look random, with labels in every place of a triple: the operator has the rows of the
 //! plain one. No text of a query has a label as its predicate, so these patterns are not read.
-ghost use Rattle.std.specs.Prelude.{◌≡◌, true, list_all, map, IfOk};
+ghost use Rattle.std.specs.Prelude.{◌≡◌, true, map, IfOk};
+ghost use Rattle.std.specs.List.{list_all};
 ghost use Rattle.algebra_model.specs.Algebra.{is_below, is_triple_below};
 ghost use Rattle.sparql_algebra.specs.AlgebraOf.{pattern_term_of, triple_pattern_of};
 

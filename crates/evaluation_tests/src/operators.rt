@@ -4,6 +4,7 @@ ghost use Rattle.row_pieces.specs.How.{IsRunnable};
 ghost use Rattle.sparql_eval.specs.Evaluated.{AreKnown};
 
 use crate::cases::{Reader, are_right, check, is_empty};
+use crate::plans::plan_of;
 use crate::printing::{told, told_plain};
 use crate::rows::{dict_of, rows_of, solutions_of};
 use crate::stores::iri;
@@ -15,7 +16,7 @@ use rdf_core::{Term, Text};
 use result_json::{Table, print_rows};
 use row_core::Rows;
 use row_pieces::{EvalFault, How};
-use sparql_algebra::{Expr, Plan, translate};
+use sparql_algebra::{Expr, Plan};
 use sparql_eval::{distinct, extend, filter, join, left_join, minus, project, table, union};
 use sparql_read::read_query;
 use sparql_tree::Query;
@@ -128,17 +129,21 @@ fn run<R: Threads + Wait, G: Gate + Sync>(
     let left = rows_of(alloc, &dict, task.left)?;
     let right = rows_of(alloc, &dict, task.right)?;
     let (rows, dict) = made(
-        rt, alloc, state, dict, task.operator, &left, &right, expression, how, gate,
+        rt,
+        alloc,
+        state,
+        dict,
+        task.operator,
+        &left,
+        &right,
+        expression,
+        how,
+        gate,
     )?;
     Ok(shown(alloc, &dict, &rows, is_counted)?)
 }
 
-fn shown(
-    alloc: Global,
-    dict: &Dict,
-    rows: &Rows,
-    is_counted: bool,
-) -> Result<String, AllocError> {
+fn shown(alloc: Global, dict: &Dict, rows: &Rows, is_counted: bool) -> Result<String, AllocError> {
     let text = told(alloc, dict, rows)?;
     if is_counted {
         format!(in alloc; "{} terms, {text}", dict.len())
@@ -273,7 +278,15 @@ fn compared<R: RandomSource + Threads + Wait>(
 ) -> Result<String, EvalFault> {
     let plain = plainly(alloc, task, expression)?;
     let cut = answered(rt, alloc, task, expression, &row_by_row(), &OpenGate, false)?;
-    let whole = answered(rt, alloc, task, expression, &in_one_piece(), &OpenGate, false)?;
+    let whole = answered(
+        rt,
+        alloc,
+        task,
+        expression,
+        &in_one_piece(),
+        &OpenGate,
+        false,
+    )?;
     Ok(verdict(alloc, plain.as_str(), cut.as_str(), whole.as_str())?)
 }
 
@@ -326,7 +339,7 @@ fn planned<R: RandomSource + Threads + Wait>(
     query: &Query,
     purpose: Purpose,
 ) -> Result<String, EvalFault> {
-    let plan = translate(alloc, query)?;
+    let plan = plan_of(alloc, query)?;
     called(rt, alloc, task, &plan, purpose)
 }
 
@@ -349,7 +362,14 @@ fn operator_of(text: &str) -> (Operator, &str) {
     for (word, operator) in WORDS {
         if let Some(rest) = text.strip_prefix(word) {
             let expression = rest.trim();
-            return (operator, if expression.is_empty() { "true" } else { expression });
+            return (
+                operator,
+                if expression.is_empty() {
+                    "true"
+                } else {
+                    expression
+                },
+            );
         }
     }
     (Operator::Join, "no operator")
@@ -374,27 +394,18 @@ pub(crate) fn operated<R: RandomSource + Threads + Wait>(
     read(rt, alloc, task, text.as_str(), purpose)
 }
 
-/// Each operator that goes over rows alone. A union has the rows of both sides, DISTINCT one of each, and a listed
-/// variable that no row has is never bound.
-const ROWS: &str = "
-union: 01 and 01 -0  => 3 terms, 3: - <a:x>; <a:x> <a:y>; <a:x> <a:y>
-distinct: 0- 01 0-   => 3 terms, 2: <a:x> -; <a:x> <a:y>
-project: 01          => 3 terms, 1: - <a:y>
-";
-
-#[test]
-fn operators_go_over_rows(rt: HostRuntime) {
-    assert!(rt; are_right(&rt, rt.alloc(), Reader::Operator(Purpose::Answer), ROWS));
-}
-
+/// A union has the rows of both sides, DISTINCT one of each, and a listed variable that no row has is never bound.
 /// Three pieces compute the same term, which the dictionary lacks: it is added once.
-const COMPUTED: &str = r#"
+const ROWS: &str = r#"
+union: 01 and 01 -0   => 3 terms, 3: - <a:x>; <a:x> <a:y>; <a:x> <a:y>
+distinct: 0- 01 0-    => 3 terms, 2: <a:x> -; <a:x> <a:y>
+project: 01           => 3 terms, 1: - <a:y>
 extend true: 0- 1- -- => 4 terms, 3: - "true"^^<http://www.w3.org/2001/XMLSchema#boolean>; <a:x> "true"^^<http://www.w3.org/2001/XMLSchema#boolean>; <a:y> "true"^^<http://www.w3.org/2001/XMLSchema#boolean>
 "#;
 
 #[test]
-fn pieces_share_a_computed_term(rt: HostRuntime) {
-    assert!(rt; are_right(&rt, rt.alloc(), Reader::Operator(Purpose::Answer), COMPUTED));
+fn operators_go_over_rows(rt: HostRuntime) {
+    assert!(rt; are_right(&rt, rt.alloc(), Reader::Operator(Purpose::Answer), ROWS));
 }
 
 /// Two workers meet in every operator that goes over pieces.
@@ -449,6 +460,8 @@ pub(crate) struct Draws {
 }
 
 impl Draws {
+    ghost use Rattle.std.specs.Prelude.{◌≤◌};
+
     pub(crate) fn below(&mut self, n: u64) -> u64
         requires some { 1 ≤ n }
     {

@@ -1,5 +1,6 @@
 //! The operator of basic graph patterns by itself.
-ghost use Rattle.std.specs.Prelude.{◌≡◌, ◌<◌, true, length, list_all, map, IfOk};
+ghost use Rattle.std.specs.Prelude.{◌≡◌, ◌<◌, true, length, map, IfOk};
+ghost use Rattle.std.specs.List.{list_all};
 ghost use Rattle.std.specs.Option.{ForSome};
 ghost use Rattle.algebra_model.specs.Algebra.{is_triple_below};
 ghost use Rattle.dict_core.specs.NumQuad.{AreBelow};
