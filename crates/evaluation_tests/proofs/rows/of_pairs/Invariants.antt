@@ -1,6 +1,6 @@
 use Rattle.std.proofs.Common.{◌≡◌}
 use Rattle.sparql_eval.specs.Evaluated.{AreKnown}
-use Rattle.evaluation_tests.proofs.tests.rows_of.Given as goal
+use Rattle.evaluation_tests.proofs.rows.of_pairs.Given as goal
 
 abbrev pub invariant-loop-pair : goal.invariant-loop-pair
 invariant-loop-pair l = record {

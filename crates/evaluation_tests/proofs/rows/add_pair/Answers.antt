@@ -1,5 +1,5 @@
 use Rattle.evaluation_tests.proofs.TestSteps.{pair_added}
-use Rattle.evaluation_tests.proofs.tests.add_pair.Goals as goal
+use Rattle.evaluation_tests.proofs.rows.add_pair.Goals as goal
 
 pub returns-clause-known : goal.returns-clause-known
 returns-clause-known c =

@@ -1,4 +1,4 @@
-use Rattle.evaluation_tests.proofs.tests.plans.store.Goals as goal
+use Rattle.evaluation_tests.proofs.stores.store.Goals as goal
 
 pub returns : goal.returns
 returns g c = record {

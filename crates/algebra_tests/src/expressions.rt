@@ -1,0 +1,286 @@
+//! Values of expressions over a row of one variable.
+use crate::cases::{Reader, are_right};
+use crate::plans::plan_of;
+use crate::terms::{RDF, XSD, read, shown};
+use rdf_core::Term;
+use sparql_algebra::{Expr, ExprFault, Lookup, Operator, Plan, test, value};
+use sparql_read::read_query;
+use sparql_tree::Query;
+use std::alloc::{AllocError, AllocGlobal, Global};
+
+/// A row of one variable.
+#[derive(Drop)]
+struct Row {
+    term: Option<Term>,
+}
+
+impl Lookup for Row {
+    ghost use Rattle.std.specs.Prelude.{◌∷◌, []};
+
+    ghost solution = { λ row. row.term ∷ [] };
+
+    fn get(&self, var: usize) -> Option<&Term> {
+        if var > 0 {
+            return None;
+        }
+        match &self.term {
+            Some(term) => Some(term),
+            None => None,
+        }
+    }
+}
+
+/// What is printed of an expression.
+#[derive(Clone, Copy)]
+enum Asked {
+    Value,
+    Filter,
+}
+
+/// Prints the value, or `error`.
+fn evaluated(alloc: Global, expr: &Expr, row: &Row) -> Result<String, AllocError> {
+    match value(alloc, expr, row) {
+        Ok(term) => shown(alloc, &term),
+        Err(ExprFault::Error) => String::from_str(alloc, "error"),
+        Err(ExprFault::Memory) => Err(AllocError),
+    }
+}
+
+/// Prints whether a filter keeps the row.
+fn filtered(alloc: Global, expr: &Expr, row: &Row) -> Result<String, AllocError> {
+    let is_kept = test(alloc, expr, row)?;
+    String::from_str(alloc, if is_kept { "kept" } else { "removed" })
+}
+
+/// The condition of a filter right below the projection.
+fn condition_of(tree: &Operator) -> Option<&Expr> {
+    match tree {
+        Operator::Project { inner, .. } => match &**inner {
+            Operator::Filter { condition, .. } => Some(condition),
+            _ => None,
+        },
+        _ => None,
+    }
+}
+
+/// Prints what is asked of the condition of a plan.
+fn answer(alloc: Global, plan: &Plan, row: &Row, what: Asked) -> Result<String, AllocError> {
+    match (condition_of(&plan.tree), what) {
+        (Some(condition), Asked::Value) => evaluated(alloc, condition, row),
+        (Some(condition), Asked::Filter) => filtered(alloc, condition, row),
+        (None, _) => String::from_str(alloc, "no condition"),
+    }
+}
+
+fn planned(alloc: Global, query: &Query, row: &Row, what: Asked) -> Result<String, AllocError> {
+    let plan = plan_of(alloc, query)?;
+    answer(alloc, &plan, row, what)
+}
+
+/// Prints what is asked of the filter of a query's text.
+fn read_text(alloc: Global, text: &str, row: &Row, what: Asked) -> Result<String, AllocError> {
+    match read_query(alloc, text) {
+        Ok(query) => planned(alloc, &query, row, what),
+        Err(fault) => format!(in alloc; "{fault:?}"),
+    }
+}
+
+/// Prints what is asked of an expression. The row has a place for `?x` and none for `?y`.
+fn printed(alloc: Global, expr: &str, row: &Row, what: Asked) -> Result<String, AllocError> {
+    let text = format!(in alloc;
+        "PREFIX xsd: <{XSD}> PREFIX rdf: <{RDF}> SELECT ?x ?y {{ FILTER ({expr}) }}"
+    )?;
+    read_text(alloc, text.as_str(), row, what)
+}
+
+/// Reads the row with this term. The row of any other text binds nothing.
+fn row_of(alloc: Global, text: &str) -> Result<Row, AllocError> {
+    let term = read(alloc, text)?;
+    Ok(Row { term })
+}
+
+/// Splits a case at `where ?x is`.
+fn case_of(case: &str) -> (&str, &str) {
+    match case.split_once(" where ?x is ") {
+        Some((expr, term)) => (expr.trim(), term.trim()),
+        None => (case, ""),
+    }
+}
+
+/// Prints the value of an expression.
+pub(crate) fn value_of(alloc: Global, case: &str) -> Result<String, AllocError> {
+    let (expr, term) = case_of(case);
+    let row = row_of(alloc, term)?;
+    printed(alloc, expr, &row, Asked::Value)
+}
+
+/// Prints whether a filter keeps the row.
+pub(crate) fn kept(alloc: Global, case: &str) -> Result<String, AllocError> {
+    let (expr, term) = case_of(case);
+    let row = row_of(alloc, term)?;
+    printed(alloc, expr, &row, Asked::Filter)
+}
+
+/// The tables of `&&`, `||` and `!` (SPARQL 1.1 Query Language, section 17.2). `?x` is unbound, which is an error.
+const LOGIC: &str = r#"
+true && true   => "true"^^xsd:boolean
+true && false  => "false"^^xsd:boolean
+false && true  => "false"^^xsd:boolean
+false && false => "false"^^xsd:boolean
+true && ?x     => error
+?x && true     => error
+false && ?x    => "false"^^xsd:boolean
+?x && false    => "false"^^xsd:boolean
+?x && ?x       => error
+true || true   => "true"^^xsd:boolean
+true || false  => "true"^^xsd:boolean
+false || true  => "true"^^xsd:boolean
+false || false => "false"^^xsd:boolean
+true || ?x     => "true"^^xsd:boolean
+?x || true     => "true"^^xsd:boolean
+false || ?x    => error
+?x || false    => error
+?x || ?x       => error
+!true          => "false"^^xsd:boolean
+!false         => "true"^^xsd:boolean
+!?x            => error
+"#;
+
+#[test]
+fn logic_has_three_values(rt: HostRuntime) {
+    assert!(rt; are_right(&rt, rt.alloc(), Reader::Value, LOGIC));
+}
+
+/// A comparison is a boolean or an error. An operand that is an error makes it one.
+const COMPARISONS: &str = r#"
+"01"^^xsd:integer = "1.0"^^xsd:decimal => "true"^^xsd:boolean
+"-0"^^xsd:integer = "0.0"^^xsd:decimal => "true"^^xsd:boolean
+"+2"^^xsd:integer < "2.5"^^xsd:decimal => "true"^^xsd:boolean
+"10"^^xsd:integer < "9"^^xsd:integer   => "false"^^xsd:boolean
+"18446744073709551617"^^xsd:integer = "1"^^xsd:integer => "false"^^xsd:boolean
+"1"^^xsd:integer = "1"^^xsd:double     => error
+"1"^^xsd:double = "1"^^xsd:double      => "true"^^xsd:boolean
+"a"@en = "a"                           => error
+<http://e/a> = "a"                     => "false"^^xsd:boolean
+"0"^^xsd:boolean < "true"^^xsd:boolean => "true"^^xsd:boolean
+"a"@en < "b"@en                        => error
+"5."^^xsd:decimal = "5"^^xsd:decimal   => "true"^^xsd:boolean
+"."^^xsd:decimal = "0"^^xsd:decimal    => error
+?x = ?x                                => error
+"#;
+
+#[test]
+fn a_comparison_is_a_boolean(rt: HostRuntime) {
+    assert!(rt; are_right(&rt, rt.alloc(), Reader::Value, COMPARISONS));
+}
+
+/// Variables, bound and unbound, and sameTerm.
+const TERMS: &str = r#"
+# A variable alone is its term, and an error if the row has no place for it. Under `||` it is a boolean.
+?x where ?x is "01"^^xsd:integer          => "01"^^xsd:integer
+?y where ?x is "01"^^xsd:integer          => error
+?x || false where ?x is "01"^^xsd:integer => "true"^^xsd:boolean
+# BOUND of an unbound variable is false. Other functions of one are an error.
+BOUND(?x) && ?x  => "false"^^xsd:boolean
+isIRI(?x)        => error
+sameTerm(?x, ?x) => error
+# sameTerm compares lexical forms.
+sameTerm("01"^^xsd:integer, "1"^^xsd:integer)  => "false"^^xsd:boolean
+sameTerm("01"^^xsd:integer, "01"^^xsd:integer) => "true"^^xsd:boolean
+"#;
+
+#[test]
+fn variables_are_terms_or_errors(rt: HostRuntime) {
+    assert!(rt; are_right(&rt, rt.alloc(), Reader::Value, TERMS));
+}
+
+/// IN and NOT IN.
+const MEMBERSHIP: &str = r#"
+# IN and NOT IN compare by value: 01 is among 2 and 1.0, a number of 40 digits is not, and a string, a double and
+# an unbound variable are errors.
+?x IN (2, 1.0) where ?x is "01"^^xsd:integer                                           => "true"^^xsd:boolean
+?x IN (2, 1.0) where ?x is "1000000000000000000000000000000000000001"^^xsd:integer     => "false"^^xsd:boolean
+?x IN (2, 1.0) where ?x is "1"                                                         => error
+?x IN (2, 1.0) where ?x is "1"^^xsd:double                                             => error
+?x IN (2, 1.0)                                                                         => error
+?x NOT IN (2, 1.0) where ?x is "01"^^xsd:integer                                       => "false"^^xsd:boolean
+?x NOT IN (2, 1.0) where ?x is "1000000000000000000000000000000000000001"^^xsd:integer => "true"^^xsd:boolean
+?x NOT IN (2, 1.0) where ?x is "1"                                                     => error
+?x NOT IN (2, 1.0) where ?x is "1"^^xsd:double                                         => error
+?x NOT IN (2, 1.0)                                                                     => error
+# An error in the list of IN hides no member that is equal. `?x` is unbound.
+1 IN (?x, 1) => "true"^^xsd:boolean
+1 IN (?x, 2) => error
+# Nothing is in the empty list, not even an error.
+?x IN () where ?x is "01"^^xsd:integer                                           => "false"^^xsd:boolean
+?x IN () where ?x is "1000000000000000000000000000000000000001"^^xsd:integer     => "false"^^xsd:boolean
+?x IN () where ?x is "1"                                                         => "false"^^xsd:boolean
+?x IN () where ?x is "1"^^xsd:double                                             => "false"^^xsd:boolean
+?x IN ()                                                                         => "false"^^xsd:boolean
+?x NOT IN () where ?x is "01"^^xsd:integer                                       => "true"^^xsd:boolean
+?x NOT IN () where ?x is "1000000000000000000000000000000000000001"^^xsd:integer => "true"^^xsd:boolean
+?x NOT IN () where ?x is "1"                                                     => "true"^^xsd:boolean
+?x NOT IN () where ?x is "1"^^xsd:double                                         => "true"^^xsd:boolean
+?x NOT IN ()                                                                     => "true"^^xsd:boolean
+"#;
+
+#[test]
+fn membership_is_by_value(rt: HostRuntime) {
+    assert!(rt; are_right(&rt, rt.alloc(), Reader::Value, MEMBERSHIP));
+}
+
+/// Filters with IN and NOT IN.
+const KEPT: &str = r#"
+# A filter keeps a row only if its condition is true.
+?x IN (2, 1.0) where ?x is "01"^^xsd:integer                                           => kept
+?x IN (2, 1.0) where ?x is "1000000000000000000000000000000000000001"^^xsd:integer     => removed
+?x IN (2, 1.0) where ?x is "1"                                                         => removed
+?x IN (2, 1.0) where ?x is "1"^^xsd:double                                             => removed
+?x IN (2, 1.0)                                                                         => removed
+?x NOT IN (2, 1.0) where ?x is "01"^^xsd:integer                                       => removed
+?x NOT IN (2, 1.0) where ?x is "1000000000000000000000000000000000000001"^^xsd:integer => kept
+?x NOT IN (2, 1.0) where ?x is "1"                                                     => removed
+?x NOT IN (2, 1.0) where ?x is "1"^^xsd:double                                         => removed
+?x NOT IN (2, 1.0)                                                                     => removed
+# A filter keeps every row that is not in the empty list.
+?x NOT IN () where ?x is "01"^^xsd:integer                                       => kept
+?x NOT IN () where ?x is "1000000000000000000000000000000000000001"^^xsd:integer => kept
+?x NOT IN () where ?x is "1"                                                     => kept
+?x NOT IN () where ?x is "1"^^xsd:double                                         => kept
+?x NOT IN ()                                                                     => kept
+"#;
+
+#[test]
+fn a_filter_keeps_what_is_true(rt: HostRuntime) {
+    assert!(rt; are_right(&rt, rt.alloc(), Reader::Filter, KEPT));
+}
+
+/// STR, LANG, DATATYPE, isIRI, isBlank and isLiteral of each kind of term.
+const FUNCTIONS: &str = r#"
+STR(?x) where ?x is "01"^^xsd:integer      => "01"
+LANG(?x) where ?x is "01"^^xsd:integer     => ""
+DATATYPE(?x) where ?x is "01"^^xsd:integer => <http://www.w3.org/2001/XMLSchema#integer>
+STR(?x) where ?x is "x"@en                 => "x"
+LANG(?x) where ?x is "x"@en                => "en"
+DATATYPE(?x) where ?x is "x"@en            => <http://www.w3.org/1999/02/22-rdf-syntax-ns#langString>
+isLiteral(?x) where ?x is "x"@en           => "true"^^xsd:boolean
+isIRI(?x) where ?x is "x"@en               => "false"^^xsd:boolean
+isBlank(?x) where ?x is "x"@en             => "false"^^xsd:boolean
+STR(?x) where ?x is <a:b>                  => "a:b"
+LANG(?x) where ?x is <a:b>                 => error
+DATATYPE(?x) where ?x is <a:b>             => error
+isIRI(?x) where ?x is <a:b>                => "true"^^xsd:boolean
+isBlank(?x) where ?x is <a:b>              => "false"^^xsd:boolean
+isLiteral(?x) where ?x is <a:b>            => "false"^^xsd:boolean
+STR(?x) where ?x is _:b                    => error
+LANG(?x) where ?x is _:b                   => error
+DATATYPE(?x) where ?x is _:b               => error
+isBlank(?x) where ?x is _:b                => "true"^^xsd:boolean
+isIRI(?x) where ?x is _:b                  => "false"^^xsd:boolean
+isLiteral(?x) where ?x is _:b              => "false"^^xsd:boolean
+"#;
+
+#[test]
+fn functions_of_one_term(rt: HostRuntime) {
+    assert!(rt; are_right(&rt, rt.alloc(), Reader::Value, FUNCTIONS));
+}

@@ -1,0 +1,149 @@
+//! One call of each plain operator. A solution of two variables is a word of two characters: a letter is the blank
+//! node with that label, and `.` is unbound.
+use crate::cases::{Reader, are_right};
+use plain_eval::condition::{Condition, Value};
+use plain_eval::operators::{distinct, extend, filter, join, left_join, minus, project, union};
+use plain_eval::solution::Solution;
+use rdf_core::{Term, Text};
+use std::alloc::{AllocError, AllocGlobal, Global};
+
+/// Whether the second variable is bound.
+struct SecondIsBound {}
+
+impl Condition for SecondIsBound {
+    ghost use Rattle.std.specs.Prelude.{get_or, is_some, None};
+
+    ghost holds = { λ _ μ. is_some (get_or μ 1 None) };
+
+    fn is_true(&self, _alloc: Global, solution: &Solution) -> Result<bool, AllocError> {
+        match solution.terms().get(1) {
+            Some(cell) => Ok(cell.is_some()),
+            None => Ok(false),
+        }
+    }
+}
+
+/// An error for each solution.
+struct NoValue {}
+
+impl Value for NoValue {
+    ghost use Rattle.std.specs.Prelude.{None};
+
+    ghost gives = { λ _ _. None };
+
+    fn value(&self, _alloc: Global, _solution: &Solution) -> Result<Option<Term>, AllocError> {
+        Ok(None)
+    }
+}
+
+/// The cell of a character.
+fn cell(alloc: Global, letter: char) -> Result<Option<Term>, AllocError> {
+    if letter == '.' {
+        return Ok(None);
+    }
+    let mut label = String::new(alloc);
+    label.push(letter)?;
+    Ok(Some(Term::Blank(Text::from_string(label))))
+}
+
+/// The solution of a word.
+fn solution(alloc: Global, word: &str) -> Result<Solution, AllocError> {
+    let mut terms = Vec::new(alloc);
+    for letter in word.chars() {
+        terms.push(cell(alloc, letter)?)?;
+    }
+    Ok(Solution::of(terms))
+}
+
+/// The solutions of a text.
+fn solutions(alloc: Global, text: &str) -> Result<Vec<Solution>, AllocError> {
+    let mut all = Vec::new(alloc);
+    for word in text.split_whitespace() {
+        all.push(solution(alloc, word)?)?;
+    }
+    Ok(all)
+}
+
+fn text_of(cell: &Option<Term>) -> &str {
+    match cell {
+        Some(Term::Blank(label)) => label.as_str(),
+        Some(_) => "?",
+        None => ".",
+    }
+}
+
+fn push_solution(out: &mut String, solution: &Solution) -> Result<(), AllocError> {
+    for cell in solution.terms() {
+        out.push_str(text_of(cell))?;
+    }
+    Ok(())
+}
+
+/// Prints solutions in their order.
+fn shown(alloc: Global, solutions: &[Solution]) -> Result<String, AllocError> {
+    let mut out = String::new(alloc);
+    for solution in solutions {
+        if !out.is_empty() {
+            out.push(' ')?;
+        }
+        push_solution(&mut out, solution)?;
+    }
+    Ok(out)
+}
+
+/// Returns what an operator makes of two lists of solutions, or of the first one.
+fn made(
+    alloc: Global,
+    operator: &str,
+    left: &[Solution],
+    right: &[Solution],
+) -> Result<Vec<Solution>, AllocError> {
+    match operator {
+        "join" => join(alloc, left, right),
+        "left join" => left_join(alloc, &SecondIsBound {}, left, right),
+        "minus" => minus(alloc, left, right),
+        "filter" => filter(alloc, &SecondIsBound {}, left),
+        "distinct" => distinct(alloc, left),
+        "extend" => extend(alloc, 1, &NoValue {}, left),
+        "union" => union(alloc, left, right),
+        "project" => project(alloc, &[0], left),
+        _ => Ok(Vec::new(alloc)),
+    }
+}
+
+fn shown_operator(
+    alloc: Global,
+    operator: &str,
+    left: &[Solution],
+    right: &[Solution],
+) -> Result<String, AllocError> {
+    let made = made(alloc, operator, left, right)?;
+    shown(alloc, &made)
+}
+
+/// Prints what an operator makes of solutions.
+pub(crate) fn operated(alloc: Global, case: &str) -> Result<String, AllocError> {
+    let (operator, texts) = case.split_once(": ").unwrap_or(("", case));
+    let (left, right) = texts.split_once(" and ").unwrap_or((texts, ""));
+    let left = solutions(alloc, left)?;
+    let right = solutions(alloc, right)?;
+    shown_operator(alloc, operator, &left, &right)
+}
+
+/// The condition of the left join and of the filter is that the second variable is bound. The extension of the second
+/// variable is an error. The projection keeps the first variable.
+const OPERATORS: &str = "
+join: ab a. c. and ab ad      => ab ab ad
+left join: ab a. c. and ab ad => ab ab ad c.
+minus: ab a. c. and ab ad     => c.
+filter: ab a. ab              => ab ab
+distinct: ab a. ab            => ab a.
+extend: ab a.                 => ab a.
+union: ab c. and ab c.        => ab c. ab c.
+project: ab c.                => a. c.
+";
+
+#[test]
+fn operators_make_solutions(rt: HostRuntime) {
+    assert!(rt; are_right(&rt, rt.alloc(), Reader::Operator, OPERATORS));
+}

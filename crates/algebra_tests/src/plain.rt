@@ -1,4 +1,0 @@
-//! Each public function, and worked examples of plans.
-mod operators;
-mod plans;
-mod trees;

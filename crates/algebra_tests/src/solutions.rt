@@ -1,0 +1,347 @@
+//! Queries and their solutions over a document, by the plain evaluation. Examples of the SPARQL 1.1 Query Language
+//! name its section.
+use crate::cases::{Reader, are_right};
+use crate::plans::plan_of;
+use crate::terms::{push_cell, read};
+use nquads_core::{PieceFault, read_piece};
+use plain_eval::dataset::{graph, names};
+use plain_eval::evaluation::evaluate;
+use plain_eval::operators::table;
+use plain_eval::patterns::pattern;
+use plain_eval::solution::Solution;
+use rdf_core::{Quad, Term};
+use sparql_algebra::{Expr, Operator, Plan};
+use sparql_read::read_query;
+use sparql_tree::Query;
+use std::alloc::{AllocError, AllocGlobal, Global};
+
+/// Prints the terms of a solution, with `-` for an unbound variable.
+fn line_of(alloc: Global, solution: &Solution) -> Result<String, AllocError> {
+    let mut line = String::new(alloc);
+    for cell in solution.terms() {
+        line.push(' ')?;
+        push_cell(&mut line, cell)?;
+    }
+    Ok(line)
+}
+
+/// Prints the number of solutions, and the solutions in the order of their texts.
+fn shown(alloc: Global, solutions: &[Solution]) -> Result<String, AllocError> {
+    let mut lines = Vec::new(alloc);
+    for solution in solutions {
+        lines.push(line_of(alloc, solution)?)?;
+    }
+    lines.sort()?;
+    joined(alloc, &lines)
+}
+
+fn joined(alloc: Global, lines: &[String]) -> Result<String, AllocError> {
+    let mut out = format!(in alloc; "{}:", lines.len())?;
+    let mut separator = "";
+    for line in lines {
+        out.push_str(separator)?;
+        out.push_str(line.as_str())?;
+        separator = ";";
+    }
+    Ok(out)
+}
+
+/// Prints the solutions of a tree of this width over the default graph.
+fn evaluated(
+    alloc: Global,
+    width: usize,
+    quads: &[Quad],
+    tree: &Operator,
+) -> Result<String, AllocError> {
+    let found = evaluate(alloc, width, quads, &None, tree)?;
+    shown(alloc, &found)
+}
+
+/// Prints the solutions of a plan over a document.
+fn solved(alloc: Global, document: &str, plan: &Plan) -> Result<String, AllocError> {
+    match read_piece(alloc, document.as_bytes()) {
+        Ok(piece) => evaluated(alloc, plan.names.len(), &piece.quads, &plan.tree),
+        Err(PieceFault::BadLine(_)) => String::from_str(alloc, "a malformed document"),
+        Err(PieceFault::Memory) => Err(AllocError),
+    }
+}
+
+/// The variables and rows of a table that is joined with the empty pattern below the projection.
+fn table_of(tree: &Operator) -> Option<(&[usize], &[Vec<Option<Term>>])> {
+    let Operator::Project { inner, .. } = tree else {
+        return None;
+    };
+    let Operator::Join { right, .. } = &**inner else {
+        return None;
+    };
+    match &**right {
+        Operator::Table { variables, rows } => Some((variables.as_slice(), rows.as_slice())),
+        _ => None,
+    }
+}
+
+/// Prints the solutions of the table of a plan.
+fn tabulated(alloc: Global, plan: &Plan) -> Result<String, AllocError> {
+    let Some((variables, rows)) = table_of(&plan.tree) else {
+        return String::from_str(alloc, "no table");
+    };
+    let made = table(alloc, plan.names.len(), variables, rows)?;
+    shown(alloc, &made)
+}
+
+/// The tree of a plan, after which the second variable is bound to the first one.
+fn extended(alloc: Global, plan: Plan) -> Result<Box<Operator>, AllocError> {
+    let inner = Box::new(alloc, plan.tree)?;
+    let tree = Operator::Extend {
+        variable: 1,
+        expression: Expr::Variable(0),
+        inner,
+    };
+    Ok(Box::new(alloc, tree)?)
+}
+
+/// Prints the solutions of a query after its second variable is bound to the first one.
+fn solved_again(alloc: Global, query: &Query) -> Result<String, AllocError> {
+    let plan = plan_of(alloc, query)?;
+    let width = plan.names.len();
+    let tree = extended(alloc, Box::into_inner(plan))?;
+    evaluated(alloc, width, &[], &tree)
+}
+
+fn solved_query(alloc: Global, document: &str, query: &Query) -> Result<String, AllocError> {
+    let plan = plan_of(alloc, query)?;
+    solved(alloc, document, &plan)
+}
+
+fn tabulated_query(alloc: Global, query: &Query) -> Result<String, AllocError> {
+    let plan = plan_of(alloc, query)?;
+    tabulated(alloc, &plan)
+}
+
+/// What is done with a query.
+#[derive(Clone, Copy)]
+enum Task<'a> {
+    Solve(&'a str),
+    Tabulate,
+    Extend,
+}
+
+fn done(alloc: Global, query: &Query, task: Task<'_>) -> Result<String, AllocError> {
+    match task {
+        Task::Solve(document) => solved_query(alloc, document, query),
+        Task::Tabulate => tabulated_query(alloc, query),
+        Task::Extend => solved_again(alloc, query),
+    }
+}
+
+fn read_and_done(alloc: Global, text: &str, task: Task<'_>) -> Result<String, AllocError> {
+    match read_query(alloc, text) {
+        Ok(query) => done(alloc, &query, task),
+        Err(fault) => format!(in alloc; "{fault:?}"),
+    }
+}
+
+/// Splits a case into the name of a document and what is asked of it.
+fn case_of(case: &str) -> (&str, &str) {
+    case.split_once(": ").unwrap_or(("", case))
+}
+
+/// Prints the solutions of a query over a document: `books: SELECT ..`.
+pub(crate) fn solutions(alloc: Global, case: &str) -> Result<String, AllocError> {
+    let (name, query) = case_of(case);
+    read_and_done(alloc, query, Task::Solve(document_of(name)))
+}
+
+/// Prints the solutions of the table of a query, by the operator alone.
+pub(crate) fn table_alone(alloc: Global, case: &str) -> Result<String, AllocError> {
+    read_and_done(alloc, case, Task::Tabulate)
+}
+
+/// Prints the solutions of a query after its second variable is bound to the first one.
+pub(crate) fn bound_again(alloc: Global, case: &str) -> Result<String, AllocError> {
+    read_and_done(alloc, case, Task::Extend)
+}
+
+/// The number of quads in the graph of this name. `-` is the default graph.
+fn quads_in(alloc: Global, quads: &[Quad], name: &str) -> Result<usize, AllocError> {
+    let name = read(alloc, name)?;
+    Ok(graph(alloc, quads, &name)?.len())
+}
+
+/// The number of graph names, of solutions of the empty pattern, or of quads in a graph.
+fn count(alloc: Global, quads: &[Quad], case: &str) -> Result<usize, AllocError> {
+    match case {
+        "graph names" => Ok(names(alloc, quads)?.len()),
+        "the empty pattern" => Ok(pattern(alloc, 1, 0, &[], quads)?.len()),
+        name => quads_in(alloc, quads, name),
+    }
+}
+
+fn counted(alloc: Global, quads: &[Quad], case: &str) -> Result<String, AllocError> {
+    let count = count(alloc, quads, case)?;
+    format!(in alloc; "{count}")
+}
+
+/// Prints a count of a document: `graphs: <a:g>`.
+pub(crate) fn count_of(alloc: Global, case: &str) -> Result<String, AllocError> {
+    let (name, asked) = case_of(case);
+    match read_piece(alloc, document_of(name).as_bytes()) {
+        Ok(piece) => counted(alloc, &piece.quads, asked),
+        Err(PieceFault::BadLine(_)) => String::from_str(alloc, "a malformed document"),
+        Err(PieceFault::Memory) => Err(AllocError),
+    }
+}
+
+/// Two books with a title and a price.
+const BOOKS: &str = r#"<a:book1> <a:title> "SPARQL Tutorial" .
+<a:book1> <a:price> "42"^^<http://www.w3.org/2001/XMLSchema#integer> .
+<a:book2> <a:title> "The Semantic Web" .
+<a:book2> <a:price> "23"^^<http://www.w3.org/2001/XMLSchema#integer> .
+"#;
+
+/// The document of section 8.3.3.
+const NUMBERS: &str = r#"<a:a> <a:p> "1"^^<http://www.w3.org/2001/XMLSchema#integer> .
+<a:a> <a:q> "1"^^<http://www.w3.org/2001/XMLSchema#integer> .
+<a:a> <a:q> "2"^^<http://www.w3.org/2001/XMLSchema#integer> .
+<a:b> <a:p> "3.0"^^<http://www.w3.org/2001/XMLSchema#decimal> .
+<a:b> <a:q> "4.0"^^<http://www.w3.org/2001/XMLSchema#decimal> .
+<a:b> <a:q> "5.0"^^<http://www.w3.org/2001/XMLSchema#decimal> .
+"#;
+
+/// Two paths from one node, and one from the next.
+const PATHS: &str = "<a:a> <a:p> <a:b> .
+<a:a> <a:p> <a:c> .
+<a:b> <a:p> _:x .
+";
+
+/// A default graph, a graph with an IRI as its name, and one with a blank node.
+const GRAPHS: &str = "<a:a> <a:p> <a:b> .
+<a:a> <a:p> <a:c> <a:g> .
+<a:a> <a:p> <a:d> _:g .
+_:g <a:q> <a:g> <a:g> .
+";
+
+/// The document of a name.
+fn document_of(name: &str) -> &'static str {
+    match name {
+        "books" => BOOKS,
+        "numbers" => NUMBERS,
+        "paths" => PATHS,
+        "graphs" => GRAPHS,
+        "triple" => "<a:a> <a:b> <a:c> .\n",
+        "blank" => "_:b <a:p> <a:c> .\n",
+        "empty" => "",
+        _ => "no document",
+    }
+}
+
+/// OPTIONAL, UNDEF, and a BIND that is an error.
+const OPTIONALS: &str = r#"
+# Section 6.2: a filter in OPTIONAL removes a price, and no title.
+books: SELECT ?x ?t ?p { ?x <a:title> ?t OPTIONAL { ?x <a:price> ?p FILTER(?p < 30) } } => 2: <a:book1> "SPARQL Tutorial" -; <a:book2> "The Semantic Web" "23"^^xsd:integer
+# The condition of OPTIONAL sees the solution on the left. A filter one group further in does not.
+books: SELECT ?x ?t ?p { ?x <a:price> ?p OPTIONAL { ?x <a:title> ?t FILTER(?p < 30) } }     => 2: <a:book1> - "42"^^xsd:integer; <a:book2> "The Semantic Web" "23"^^xsd:integer
+books: SELECT ?x ?t ?p { ?x <a:price> ?p OPTIONAL { { ?x <a:title> ?t FILTER(?p < 30) } } } => 2: <a:book1> - "42"^^xsd:integer; <a:book2> - "23"^^xsd:integer
+# Section 10.2.2: UNDEF is compatible with every value.
+books: SELECT ?b ?t ?p { ?b <a:title> ?t ; <a:price> ?p VALUES (?b ?t) { (UNDEF "SPARQL Tutorial") (<a:book2> UNDEF) } } => 2: <a:book1> "SPARQL Tutorial" "42"^^xsd:integer; <a:book2> "The Semantic Web" "23"^^xsd:integer
+# An error leaves the variable of BIND unbound, and a later pattern binds it. STR of a blank node is an error.
+blank: SELECT ?x ?t { ?x <a:p> _:l BIND(STR(?x) AS ?t) }                  => 1: _:b -
+blank: SELECT ?x ?t { ?x <a:p> _:l BIND(STR(?x) AS ?t) FILTER(BOUND(?t)) } => 0:
+blank: SELECT ?x ?t { ?x <a:p> _:l BIND(STR(?x) AS ?t) ?x <a:p> ?t }      => 1: _:b <a:c>
+"#;
+
+#[test]
+fn what_is_not_bound_stays_open(rt: HostRuntime) {
+    assert!(rt; are_right(&rt, rt.alloc(), Reader::Solutions, OPTIONALS));
+}
+
+/// MINUS.
+const DIFFERENCES: &str = r#"
+# Section 8.3.1: if no variable is shared, MINUS removes nothing.
+triple: SELECT ?a ?b ?c ?d ?e ?f { ?a ?b ?c MINUS { ?d ?e ?f } }          => 1: <a:a> <a:b> <a:c> - - -
+triple: SELECT ?a ?b ?c ?d ?e ?f { ?a ?b ?c MINUS { <a:a> <a:b> <a:c> } } => 1: <a:a> <a:b> <a:c> - - -
+triple: SELECT ?a ?b ?c ?d ?e ?f { ?a ?b ?c MINUS { ?a ?b ?c } }          => 0:
+# A solution on the right that leaves the shared variable unbound removes nothing, though another one binds it.
+empty: SELECT ?a ?b { VALUES (?a ?b) { (<a:a> UNDEF) (<a:b> UNDEF) } MINUS { VALUES (?a ?b) { (UNDEF "A") (<a:b> "B") } } } => 1: <a:a> -
+# Section 8.3.3: a filter in MINUS does not see the variables on the left.
+numbers: SELECT ?x ?n ?m { ?x <a:p> ?n MINUS { ?x <a:q> ?m FILTER(?n = ?m) } } => 2: <a:a> "1"^^xsd:integer -; <a:b> "3.0"^^xsd:decimal -
+"#;
+
+#[test]
+fn minus_needs_a_shared_variable(rt: HostRuntime) {
+    assert!(rt; are_right(&rt, rt.alloc(), Reader::Solutions, DIFFERENCES));
+}
+
+/// GRAPH.
+const NAMED_GRAPHS: &str = r#"
+# GRAPH with a variable is about the named graphs alone. The name is joined with what the pattern binds.
+graphs: SELECT ?g ?o { GRAPH ?g { <a:a> <a:p> ?o } }    => 2: <a:g> <a:c>; _:g <a:d>
+graphs: SELECT ?g ?s { GRAPH ?g { ?s <a:q> ?g } }       => 1: <a:g> _:g
+graphs: SELECT ?g ?o { GRAPH <a:g> { <a:a> <a:p> ?o } } => 1: - <a:c>
+# A filter and a BIND in GRAPH do not see its variable, which is joined after them.
+graphs: SELECT ?g ?o { GRAPH ?g { <a:a> <a:p> ?o FILTER(BOUND(?g)) } }  => 0:
+graphs: SELECT ?g ?o ?h { GRAPH ?g { <a:a> <a:p> ?o BIND(?g AS ?h) } } => 2: <a:g> <a:c> -; _:g <a:d> -
+# A name that no quad has is the name of no graph: not even the empty pattern has a solution there.
+graphs: SELECT ?g { GRAPH <a:g> { } }    => 1: -
+graphs: SELECT ?g { GRAPH <a:none> { } } => 0:
+graphs: SELECT ?g { GRAPH ?g { } }       => 2: <a:g>; _:g
+"#;
+
+#[test]
+fn graphs_are_named(rt: HostRuntime) {
+    assert!(rt; are_right(&rt, rt.alloc(), Reader::Solutions, NAMED_GRAPHS));
+}
+
+/// Graph names, and the quads of a graph.
+const COUNTED: &str = r#"
+graphs: graph names       => 2
+graphs: <a:g>             => 2
+graphs: -                 => 1
+graphs: the empty pattern => 1
+"#;
+
+#[test]
+fn a_dataset_has_graphs(rt: HostRuntime) {
+    assert!(rt; are_right(&rt, rt.alloc(), Reader::Count, COUNTED));
+}
+
+/// How often a solution counts, and which variable a cell of a table belongs to.
+const MULTIPLICITIES: &str = r#"
+# Section 18.3.1: a solution counts once for each term that a blank node label can stand for, DISTINCT keeps one
+# of them, and a label joins the triples of its pattern.
+paths: SELECT ?x { ?x <a:p> _:l }                => 3: <a:a>; <a:a>; <a:b>
+paths: SELECT DISTINCT ?x { ?x <a:p> _:l }       => 2: <a:a>; <a:b>
+paths: SELECT ?x { ?x <a:p> _:l . _:l <a:p> _:m } => 1: <a:a>
+# UNION keeps the repeated solutions of both sides, VALUES its repeated rows, and a projection what it repeats.
+empty: SELECT ?a { { VALUES (?a ?b) { (<a:a> "A") (<a:a> "B") } } UNION { VALUES (?a ?b) { (<a:a> "A") } } } => 3: <a:a> -; <a:a> -; <a:a> -
+empty: SELECT ?a ?b { VALUES (?a ?b) { (<a:a> "A") } VALUES () { () () } } => 2: <a:a> "A"; <a:a> "A"
+# The cells of a row belong to the listed variables in the order of the list.
+empty: SELECT ?x ?y { VALUES (?y ?x) { (<a:a> "A") (UNDEF "B") } } => 2: "A" <a:a>; "B" -
+"#;
+
+#[test]
+fn repeats_are_kept(rt: HostRuntime) {
+    assert!(rt; are_right(&rt, rt.alloc(), Reader::Solutions, MULTIPLICITIES));
+}
+
+/// The table of a query by itself.
+const CELLS: &str = r#"
+# The cells of a row belong to the listed variables in the order of the list.
+SELECT ?x ?y { VALUES (?y ?x) { (<a:a> "A") (UNDEF "B") } } => 2: "A" <a:a>; "B" -
+"#;
+
+#[test]
+fn cells_of_a_table_go_by_their_variables(rt: HostRuntime) {
+    assert!(rt; are_right(&rt, rt.alloc(), Reader::Table, CELLS));
+}
+
+/// An extension of a variable that may be bound. No text of a query has such a plan.
+const BOUND_AGAIN: &str = r#"
+# A variable that is bound keeps its term. No text of a query has such a plan.
+SELECT ?a ?b { VALUES (?a ?b) { (<a:a> "A") (<a:b> UNDEF) } } => 2: <a:a> "A"; <a:b> <a:b>
+"#;
+
+#[test]
+fn a_bound_variable_is_not_bound_again(rt: HostRuntime) {
+    assert!(rt; are_right(&rt, rt.alloc(), Reader::BoundAgain, BOUND_AGAIN));
+}

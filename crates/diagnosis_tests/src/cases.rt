@@ -1,0 +1,92 @@
+//! Tables of cases. A case is a block of lines, and an empty line is between two of them. The first line is what is
+//! diagnosed. The others are the message.
+use crate::texts::decoded_text;
+use crate::{commands, lines, queries};
+use std::alloc::{AllocError, Global};
+
+/// What is diagnosed.
+#[derive(Clone, Copy)]
+pub(crate) enum Reader {
+    /// A line with its number. `is_cut` says that it is the last of its document, without a line end.
+    Line { number: u128, is_cut: bool },
+    /// The text of a query.
+    Query,
+    /// The words of a command line. The message has each of the lines.
+    Command,
+}
+
+fn printed(alloc: Global, reader: Reader, case: &str) -> Result<String, AllocError> {
+    match reader {
+        Reader::Line { number, is_cut } => lines::message(alloc, case, number, is_cut),
+        Reader::Query => queries::message(alloc, case),
+        Reader::Command => commands::message_of(alloc, case),
+    }
+}
+
+/// Whether the text has each of the lines.
+fn has_lines(text: &str, lines: &str) -> bool {
+    for line in lines.lines() {
+        if !text.contains(line.trim()) {
+            return false;
+        }
+    }
+    true
+}
+
+/// Whether the message is the expected one, which has no line end after its last line.
+fn is_right(reader: Reader, message: &str, expected: &str) -> bool {
+    match reader {
+        Reader::Line { .. } | Reader::Query => message.strip_suffix("\n") == Some(expected),
+        Reader::Command => has_lines(message, expected),
+    }
+}
+
+/// Appends the case and its message if that is not the expected one.
+fn check(
+    alloc: Global,
+    reader: Reader,
+    case: &str,
+    expected: &str,
+    report: &mut String,
+) -> Result<(), AllocError> {
+    let message = printed(alloc, reader, case)?;
+    let expected = decoded_text(alloc, expected)?;
+    if is_right(reader, message.as_str(), expected.as_str()) {
+        return Ok(());
+    }
+    write!(report, "{case}\nexpected\n{expected}\ngot\n{message}\n")
+}
+
+/// Checks a block of a table.
+fn check_block(
+    alloc: Global,
+    reader: Reader,
+    block: &str,
+    report: &mut String,
+) -> Result<(), AllocError> {
+    match block.trim_matches('\n').split_once("\n") {
+        Some((case, expected)) => check(alloc, reader, case, expected, report),
+        None => write!(report, "{block}\nis no case\n"),
+    }
+}
+
+/// Returns the cases of a table that are wrong, each with what is expected and what is found. The text is empty if
+/// all are right.
+fn report(alloc: Global, reader: Reader, table: &str) -> Result<String, AllocError> {
+    let mut report = String::new(alloc);
+    for block in table.split("\n\n") {
+        check_block(alloc, reader, block, &mut report)?;
+    }
+    Ok(report)
+}
+
+/// Whether each case of the table is right. Prints those that are not.
+pub(crate) fn are_right<R: Print>(rt: &R, alloc: Global, reader: Reader, table: &str) -> bool {
+    match report(alloc, reader, table) {
+        Ok(report) => {
+            let _ = print!(rt; "{report}");
+            report.is_empty()
+        }
+        Err(_) => false,
+    }
+}

@@ -1,0 +1,159 @@
+//! Command lines and their messages. The wording is the library's, so most cases have only lines that the message
+//! must have.
+use crate::cases::{Reader, are_right};
+use command_help::message;
+use std::alloc::{AllocError, AllocGlobal, Global};
+
+/// The words of a line, with spaces between them.
+fn words_of(alloc: Global, line: &str) -> Result<Vec<String>, AllocError> {
+    let mut words = Vec::new(alloc);
+    for word in line.split_whitespace() {
+        words.push(String::from_str(alloc, word)?)?;
+    }
+    Ok(words)
+}
+
+/// Prints the message about the words of a line, or `no message`.
+pub(crate) fn message_of(alloc: Global, case: &str) -> Result<String, AllocError> {
+    let words = words_of(alloc, case)?;
+    match message(alloc, &words)? {
+        Some(message) => Ok(message),
+        None => String::from_str(alloc, "no message"),
+    }
+}
+
+/// Words that are a command have no message. The text of a query is no name of a file.
+const COMMANDS: &str = "
+spq check
+no message
+
+spq terms --workers 8 --piece 1
+no message
+
+spq check --workers 64 --piece 1073741824
+no message
+
+spq select --query SELECT*{}
+no message
+
+spq select --rows 1 --query data.nq --workers 1
+no message
+";
+
+#[test]
+fn commands_have_no_message(rt: HostRuntime) {
+    assert!(rt; are_right(&rt, rt.alloc(), Reader::Command, COMMANDS));
+}
+
+/// The help and the version.
+const HELP: &str = "
+spq --help
+Answers SPARQL SELECT queries over an N-Quads document, which comes on standard input.
+Usage: spq select --query TEXT [--rows N] [--workers N] [--piece BYTES] < FILE
+spq check [--workers N] [--piece BYTES] < FILE
+spq terms [--workers N] [--piece BYTES] < FILE
+Limits:
+Brackets of a query are nested 100 deep at the most.
+Exit status:
+3  the command line is none of the above, or asks for help or the version
+Examples:
+
+spq -h
+Usage: spq select --query TEXT
+Exit status:
+
+spq help
+Usage: spq select --query TEXT
+Exit status:
+
+spq check --help
+Count the quads, terms and graph names, or name the first malformed line
+Worker threads, 1 to 64 [default: 4]
+Least size of a block of input, 1 to 1073741824 [default: 65536]
+
+spq help select
+Answer a SELECT query, as SPARQL 1.1 Query Results JSON
+--query <TEXT>
+Most rows of a task, 1 to 1073741824 [default: 1024]
+
+spq --version
+spq 0.1.0
+
+spq -V
+spq 0.1.0
+";
+
+#[test]
+fn help_and_version_are_shown(rt: HostRuntime) {
+    assert!(rt; are_right(&rt, rt.alloc(), Reader::Command, HELP));
+}
+
+/// What is wrong with other words, with the usage and a similar word if there is one.
+const WRONG: &str = "
+spq
+error:
+subcommand
+Usage: spq select --query TEXT [--rows N] [--workers N] [--piece BYTES] < FILE
+
+spq chekc
+error: unrecognized subcommand 'chekc'
+check
+For more information, try '--help'.
+
+spq check --wrokers 8
+error: unexpected argument '--wrokers' found
+--workers
+For more information, try '--help'.
+
+spq select
+error: the following required arguments were not provided:
+--query <TEXT>
+For more information, try '--help'.
+
+spq check --workers 0
+error: invalid value '0' for '--workers <N>'
+
+spq check --workers 65
+error: invalid value '65' for '--workers <N>'
+
+spq terms --piece 1073741825
+error: invalid value '1073741825' for '--piece <BYTES>'
+
+spq check --workers many
+error: invalid value 'many' for '--workers <N>'
+
+spq check --query SELECT*{}
+error: unexpected argument '--query' found
+";
+
+#[test]
+fn wrong_words_are_named(rt: HostRuntime) {
+    assert!(rt; are_right(&rt, rt.alloc(), Reader::Command, WRONG));
+}
+
+/// A word that may not come and looks like the name of a file: it has a slash, or it ends as files with RDF do.
+const FILES: &str = "
+spq dump.nq
+error: unrecognized subcommand 'dump.nq'
+Usage: spq select --query TEXT [--rows N] [--workers N] [--piece BYTES] < FILE
+spq check [--workers N] [--piece BYTES] < FILE
+spq terms [--workers N] [--piece BYTES] < FILE
+For more information, try '--help'.
+hint: spq reads standard input: use spq check < dump.nq
+
+spq check data/dump
+error: unexpected argument 'data/dump' found
+hint: spq reads standard input: use spq check < data/dump
+
+spq select --query SELECT*{} dump.ttl.gz
+error: unexpected argument 'dump.ttl.gz' found
+hint: spq reads standard input: use spq check < dump.ttl.gz
+
+spq terms dump.trig
+hint: spq reads standard input: use spq check < dump.trig
+";
+
+#[test]
+fn names_of_files_have_a_hint(rt: HostRuntime) {
+    assert!(rt; are_right(&rt, rt.alloc(), Reader::Command, FILES));
+}

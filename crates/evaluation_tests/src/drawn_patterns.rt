@@ -1,0 +1,130 @@
+//! Basic graph patterns that look random, with labels in every place of a triple: the operator has the rows of the
+//! plain one. No text of a query has a label as its predicate, so these patterns are not read.
+ghost use Rattle.std.specs.Prelude.{◌≡◌, true, map, IfOk};
+ghost use Rattle.std.specs.List.{list_all};
+ghost use Rattle.algebra_model.specs.Algebra.{is_below, is_triple_below};
+ghost use Rattle.sparql_algebra.specs.AlgebraOf.{pattern_term_of, triple_pattern_of};
+
+use crate::cases::{compare, is_empty};
+use crate::drawn::document;
+use crate::operators::Draws;
+use crate::patterns::{name_of, rows_in};
+use crate::printing::told_plain;
+use crate::stores::{iri, store};
+use nquads_core::read_piece;
+use plain_eval::{graph, pattern};
+use rdf_core::{Quad, Term};
+use row_pieces::EvalFault;
+use sparql_algebra::{PatternTerm, TriplePattern};
+use std::alloc::{AllocError, AllocGlobal, Global};
+use std::random::RandomSource;
+use std::sync::Wait;
+use std::thread::Threads;
+
+/// One of two variables, one of two labels, or a term.
+fn spot(alloc: Global, draws: &mut Draws) -> Result<PatternTerm, AllocError>
+    ensures below { IfOk result (λ spot. is_below 2 2 (pattern_term_of spot) ≡ true) }
+{
+    match draws.below(7) {
+        0 => Ok(PatternTerm::Variable(0)),
+        1 => Ok(PatternTerm::Variable(1)),
+        2 => Ok(PatternTerm::Label(0)),
+        3 => Ok(PatternTerm::Label(1)),
+        4 => Ok(PatternTerm::Term(iri(alloc, "a:x")?)),
+        5 => Ok(PatternTerm::Term(iri(alloc, "a:y")?)),
+        _ => Ok(PatternTerm::Term(iri(alloc, "a:z")?)),
+    }
+}
+
+fn triple(alloc: Global, draws: &mut Draws) -> Result<TriplePattern, AllocError>
+    ensures below { IfOk result (λ t. is_triple_below 2 2 (triple_pattern_of t) ≡ true) }
+{
+    let subject = spot(alloc, draws)?;
+    let predicate = spot(alloc, draws)?;
+    let object = spot(alloc, draws)?;
+    Ok(TriplePattern {
+        subject,
+        predicate,
+        object,
+    })
+}
+
+fn plainly_over(
+    alloc: Global,
+    quads: &[Quad],
+    name: &Option<Term>,
+    triples: &[TriplePattern],
+) -> Result<String, AllocError> {
+    let active = graph(alloc, quads, name)?;
+    let solutions = pattern(alloc, 2, 2, triples, &active)?;
+    told_plain(alloc, &solutions)
+}
+
+/// Prints the solutions of the plain operator.
+fn plainly(
+    alloc: Global,
+    document: &str,
+    name: &Option<Term>,
+    triples: &[TriplePattern],
+) -> Result<String, AllocError> {
+    match read_piece(alloc, document.as_bytes()) {
+        Ok(piece) => plainly_over(alloc, &piece.quads, name, triples),
+        Err(_) => Err(AllocError),
+    }
+}
+
+/// Compares a pattern in one graph of a document.
+fn check<R: RandomSource + Threads + Wait>(
+    rt: &R,
+    alloc: Global,
+    document: &str,
+    graph: &str,
+    triples: &[TriplePattern],
+    report: &mut String,
+) -> Result<(), EvalFault>
+    requires below { list_all (is_triple_below 2 2) (map triple_pattern_of triples.now) ≡ true }
+{
+    let name = name_of(alloc, graph)?;
+    let plain = plainly(alloc, document, &name, triples)?;
+    let (dict, index) = store(rt, alloc, document)?;
+    let found = rows_in(rt, alloc, dict, &index, &name, 2, triples)?;
+    let case = format!(in alloc; "{document}{triples:?} in {graph}")?;
+    Ok(compare(report, case.as_str(), plain.as_str(), found.as_str())?)
+}
+
+/// Compares the pattern of two triples in the default graph, and in a named one if the document has its name.
+fn check_drawn<R: RandomSource + Threads + Wait>(
+    rt: &R,
+    alloc: Global,
+    draws: &mut Draws,
+    report: &mut String,
+) -> Result<(), EvalFault> {
+    let document = document(alloc, draws)?;
+    let first = triple(alloc, draws)?;
+    let second = triple(alloc, draws)?;
+    let triples = [first, second];
+    check(rt, alloc, document.as_str(), "default", &triples, report)?;
+    if document.contains("<a:x>") {
+        check(rt, alloc, document.as_str(), "a:x", &triples, report)?;
+    }
+    Ok(())
+}
+
+/// Compares 200 patterns.
+fn compare_drawn<R: RandomSource + Threads + Wait>(
+    rt: &R,
+    alloc: Global,
+) -> Result<String, EvalFault> {
+    let mut report = String::new(alloc);
+    let mut draws = Draws { state: 11 };
+    for _ in 0..200u32 {
+        check_drawn(rt, alloc, &mut draws, &mut report)?;
+    }
+    Ok(report)
+}
+
+/// Every pattern has the rows of the plain operator.
+#[test]
+fn patterns_agree_with_the_plain_one(rt: HostRuntime) {
+    assert!(rt; is_empty(&rt, compare_drawn(&rt, rt.alloc())));
+}

@@ -1,0 +1,585 @@
+//! Operators over rows, by worked examples, beside the plain operators, and with two workers that meet.
+ghost use Rattle.std.specs.Prelude.{◌≡◌, IfOk};
+ghost use Rattle.row_pieces.specs.How.{IsRunnable};
+ghost use Rattle.sparql_eval.specs.Evaluated.{AreKnown};
+
+use crate::cases::{Reader, are_right, check, is_empty};
+use crate::plans::plan_of;
+use crate::printing::{told, told_plain};
+use crate::rows::{dict_of, rows_of, solutions_of};
+use crate::stores::iri;
+use crate::ways::{in_one_piece, row_by_row};
+use dict_core::Dict;
+use piece_pool::{Gate, OpenGate};
+use plain_eval::{Condition, Solution, Value};
+use rdf_core::{Term, Text};
+use result_json::{Table, print_rows};
+use row_core::Rows;
+use row_pieces::{EvalFault, How};
+use sparql_algebra::{Expr, Plan};
+use sparql_eval::{distinct, extend, filter, join, left_join, minus, project, table, union};
+use sparql_read::read_query;
+use sparql_tree::Query;
+use std::alloc::{AllocError, AllocGlobal, Global};
+use std::hash::RandomState;
+use std::random::RandomSource;
+use std::sync::Wait;
+use std::thread::Threads;
+use test_fixtures::Meeting;
+
+#[derive(Clone, Copy)]
+enum Operator {
+    Join,
+    LeftJoin,
+    Minus,
+    Filter,
+    /// Of the second variable
+    Extend,
+    Distinct,
+    Union,
+    /// On the second variable, and one that no row has
+    Project,
+}
+
+/// The operators by their words. Those that take an expression have it after the word.
+const WORDS: [(&str, Operator); 8] = [
+    ("join", Operator::Join),
+    ("left join", Operator::LeftJoin),
+    ("minus", Operator::Minus),
+    ("filter", Operator::Filter),
+    ("extend", Operator::Extend),
+    ("distinct", Operator::Distinct),
+    ("union", Operator::Union),
+    ("project", Operator::Project),
+];
+
+/// An operator, and its rows as text.
+#[derive(Clone, Copy)]
+struct Task<'a> {
+    operator: Operator,
+    left: &'a str,
+    right: &'a str,
+}
+
+/// Why an operator is called.
+#[derive(Clone, Copy)]
+pub(crate) enum Purpose {
+    /// To print its rows and the number of terms, with two workers, row by row.
+    Answer,
+    /// To print whether two workers met, and its rows.
+    Meet,
+    /// To compare its rows with those of the plain operator, row by row and in one piece.
+    Compare,
+}
+
+pub(crate) fn state_of<R: RandomSource>(rt: &R) -> Result<RandomState, EvalFault> {
+    match RandomState::new(rt) {
+        Ok(state) => Ok(state),
+        Err(_) => Err(EvalFault::Memory),
+    }
+}
+
+/// The rows of an operator.
+fn made<R: Threads + Wait, G: Gate + Sync>(
+    rt: &R,
+    alloc: Global,
+    state: RandomState,
+    dict: Dict,
+    operator: Operator,
+    left: &Rows,
+    right: &Rows,
+    expression: &Expr,
+    how: &How,
+    gate: &G,
+) -> Result<(Rows, Dict), EvalFault>
+    requires wide { left.now.width ≡ 2 }
+    requires same_width { right.now.width ≡ 2 }
+    requires known_left { AreKnown dict left.now }
+    requires known_right { AreKnown dict right.now }
+    requires how { IsRunnable how.now }
+{
+    match operator {
+        Operator::Join => join(rt, alloc, state, dict, left, right, how, gate),
+        Operator::LeftJoin => {
+            left_join(rt, alloc, state, dict, left, right, expression, how, gate)
+        }
+        Operator::Minus => minus(rt, alloc, state, dict, left, right, how, gate),
+        Operator::Filter => filter(rt, alloc, dict, left, expression, how, gate),
+        Operator::Extend => extend(rt, alloc, state, dict, left, 1, expression, how, gate),
+        Operator::Distinct => distinct(alloc, state, dict, left),
+        Operator::Union => union(alloc, dict, left, right),
+        Operator::Project => project(alloc, dict, left, &[1, 7]),
+    }
+}
+
+/// Prints the rows of an operator over rows of the dictionary, and perhaps how many terms the dictionary has then.
+fn run<R: Threads + Wait, G: Gate + Sync>(
+    rt: &R,
+    alloc: Global,
+    state: RandomState,
+    dict: Dict,
+    task: Task<'_>,
+    expression: &Expr,
+    how: &How,
+    gate: &G,
+    is_counted: bool,
+) -> Result<String, EvalFault>
+    requires how { IsRunnable how.now }
+{
+    let left = rows_of(alloc, &dict, task.left)?;
+    let right = rows_of(alloc, &dict, task.right)?;
+    let (rows, dict) = made(
+        rt,
+        alloc,
+        state,
+        dict,
+        task.operator,
+        &left,
+        &right,
+        expression,
+        how,
+        gate,
+    )?;
+    Ok(shown(alloc, &dict, &rows, is_counted)?)
+}
+
+fn shown(alloc: Global, dict: &Dict, rows: &Rows, is_counted: bool) -> Result<String, AllocError> {
+    let text = told(alloc, dict, rows)?;
+    if is_counted {
+        format!(in alloc; "{} terms, {text}", dict.len())
+    } else {
+        Ok(text)
+    }
+}
+
+/// Prints the rows of an operator.
+fn answered<R: RandomSource + Threads + Wait, G: Gate + Sync>(
+    rt: &R,
+    alloc: Global,
+    task: Task<'_>,
+    expression: &Expr,
+    how: &How,
+    gate: &G,
+    is_counted: bool,
+) -> Result<String, EvalFault>
+    requires how { IsRunnable how.now }
+{
+    let state = state_of(rt)?;
+    let dict = dict_of(alloc, state)?;
+    run(
+        rt, alloc, state, dict, task, expression, how, gate, is_counted,
+    )
+}
+
+/// Prints whether two workers met in an operator, and its rows.
+fn met<R: RandomSource + Threads + Wait>(
+    rt: &R,
+    alloc: Global,
+    task: Task<'_>,
+    expression: &Expr,
+) -> Result<String, EvalFault> {
+    let gate = Meeting::new();
+    let text = answered(rt, alloc, task, expression, &row_by_row(), &gate, false)?;
+    let word = if gate.is_met() { "met" } else { "not met" };
+    Ok(format!(in alloc; "{word}, {text}")?)
+}
+
+/// Whether the second variable is bound.
+struct SecondIsBound {}
+
+impl Condition for SecondIsBound {
+    ghost use Rattle.std.specs.Prelude.{get_or, is_some, None};
+
+    ghost holds = { λ _ μ. is_some (get_or μ 1 None) };
+
+    fn is_true(&self, _alloc: Global, solution: &Solution) -> Result<bool, AllocError> {
+        match solution.terms().get(1) {
+            Some(cell) => Ok(cell.is_some()),
+            None => Ok(false),
+        }
+    }
+}
+
+/// The first variable.
+struct First {}
+
+impl Value for First {
+    ghost use Rattle.std.specs.Prelude.{get_or, None};
+
+    ghost gives = { λ _ μ. get_or μ 0 None };
+
+    fn value(&self, alloc: Global, solution: &Solution) -> Result<Option<Term>, AllocError> {
+        match solution.terms().get(0) {
+            Some(cell) => match cell {
+                Some(term) => Ok(Some(term.copy(alloc)?)),
+                None => Ok(None),
+            },
+            None => Ok(None),
+        }
+    }
+}
+
+/// The extension of the second variable. For a variable it is `First`, without the expression's code.
+fn plainly_extended(
+    alloc: Global,
+    expression: &Expr,
+    left: &[Solution],
+) -> Result<Vec<Solution>, AllocError> {
+    match expression {
+        Expr::Variable(0) => plain_eval::extend(alloc, 1, &First {}, left),
+        _ => plain_eval::extend(alloc, 1, expression, left),
+    }
+}
+
+/// The solutions of a plain operator. A condition is `SecondIsBound`, without the expression's code.
+fn plainly_made(
+    alloc: Global,
+    operator: Operator,
+    expression: &Expr,
+    left: &[Solution],
+    right: &[Solution],
+) -> Result<Vec<Solution>, AllocError> {
+    match operator {
+        Operator::Join => plain_eval::join(alloc, left, right),
+        Operator::LeftJoin => plain_eval::left_join(alloc, &SecondIsBound {}, left, right),
+        Operator::Minus => plain_eval::minus(alloc, left, right),
+        Operator::Filter => plain_eval::filter(alloc, &SecondIsBound {}, left),
+        Operator::Extend => plainly_extended(alloc, expression, left),
+        Operator::Distinct => plain_eval::distinct(alloc, left),
+        Operator::Union => plain_eval::union(alloc, left, right),
+        Operator::Project => plain_eval::project(alloc, &[1, 7], left),
+    }
+}
+
+fn plainly_told(
+    alloc: Global,
+    operator: Operator,
+    expression: &Expr,
+    left: &[Solution],
+    right: &[Solution],
+) -> Result<String, AllocError> {
+    let made = plainly_made(alloc, operator, expression, left, right)?;
+    told_plain(alloc, &made)
+}
+
+/// Prints the solutions of the plain operator.
+fn plainly(alloc: Global, task: Task<'_>, expression: &Expr) -> Result<String, AllocError> {
+    let left = solutions_of(alloc, task.left)?;
+    let right = solutions_of(alloc, task.right)?;
+    plainly_told(alloc, task.operator, expression, &left, &right)
+}
+
+/// Prints `same` if the operator has the rows of the plain one, row by row and in one piece.
+fn compared<R: RandomSource + Threads + Wait>(
+    rt: &R,
+    alloc: Global,
+    task: Task<'_>,
+    expression: &Expr,
+) -> Result<String, EvalFault> {
+    let plain = plainly(alloc, task, expression)?;
+    let cut = answered(rt, alloc, task, expression, &row_by_row(), &OpenGate, false)?;
+    let whole = answered(
+        rt,
+        alloc,
+        task,
+        expression,
+        &in_one_piece(),
+        &OpenGate,
+        false,
+    )?;
+    Ok(verdict(alloc, plain.as_str(), cut.as_str(), whole.as_str())?)
+}
+
+/// Prints `same`, or the three texts if they differ.
+pub(crate) fn verdict(
+    alloc: Global,
+    plain: &str,
+    cut: &str,
+    whole: &str,
+) -> Result<String, AllocError> {
+    if cut == plain && whole == plain {
+        String::from_str(alloc, "same")
+    } else {
+        format!(in alloc; "{plain}, row by row {cut}, in one piece {whole}")
+    }
+}
+
+/// The condition of a filter right below the projection.
+fn condition_of(plan: &Plan) -> Option<&Expr> {
+    match &plan.tree {
+        sparql_algebra::Operator::Project { inner, .. } => match &**inner {
+            sparql_algebra::Operator::Filter { condition, .. } => Some(condition),
+            _ => None,
+        },
+        _ => None,
+    }
+}
+
+fn called<R: RandomSource + Threads + Wait>(
+    rt: &R,
+    alloc: Global,
+    task: Task<'_>,
+    plan: &Plan,
+    purpose: Purpose,
+) -> Result<String, EvalFault> {
+    match (condition_of(plan), purpose) {
+        (Some(it), Purpose::Answer) => {
+            answered(rt, alloc, task, it, &row_by_row(), &OpenGate, true)
+        }
+        (Some(it), Purpose::Meet) => met(rt, alloc, task, it),
+        (Some(it), Purpose::Compare) => compared(rt, alloc, task, it),
+        (None, _) => Ok(String::from_str(alloc, "no expression")?),
+    }
+}
+
+fn planned<R: RandomSource + Threads + Wait>(
+    rt: &R,
+    alloc: Global,
+    task: Task<'_>,
+    query: &Query,
+    purpose: Purpose,
+) -> Result<String, EvalFault> {
+    let plan = plan_of(alloc, query)?;
+    called(rt, alloc, task, &plan, purpose)
+}
+
+/// Calls an operator with the filter of a query's text as its expression.
+fn read<R: RandomSource + Threads + Wait>(
+    rt: &R,
+    alloc: Global,
+    task: Task<'_>,
+    text: &str,
+    purpose: Purpose,
+) -> Result<String, EvalFault> {
+    match read_query(alloc, text) {
+        Ok(query) => planned(rt, alloc, task, &query, purpose),
+        Err(fault) => Ok(format!(in alloc; "{fault:?}")?),
+    }
+}
+
+/// The operator that a text begins with, and its expression.
+fn operator_of(text: &str) -> (Operator, &str) {
+    for (word, operator) in WORDS {
+        if let Some(rest) = text.strip_prefix(word) {
+            let expression = rest.trim();
+            return (
+                operator,
+                if expression.is_empty() {
+                    "true"
+                } else {
+                    expression
+                },
+            );
+        }
+    }
+    (Operator::Join, "no operator")
+}
+
+/// Prints what an operator makes of rows: `left join BOUND(?b): 0- 1- and 01`.
+pub(crate) fn operated<R: RandomSource + Threads + Wait>(
+    rt: &R,
+    alloc: Global,
+    case: &str,
+    purpose: Purpose,
+) -> Result<String, EvalFault> {
+    let (head, rows) = case.split_once(": ").unwrap_or((case, ""));
+    let (left, right) = rows.split_once(" and ").unwrap_or((rows, ""));
+    let (operator, expression) = operator_of(head);
+    let task = Task {
+        operator,
+        left,
+        right,
+    };
+    let text = format!(in alloc; "SELECT ?a ?b {{ FILTER ({expression}) }}")?;
+    read(rt, alloc, task, text.as_str(), purpose)
+}
+
+/// A union has the rows of both sides, DISTINCT one of each, and a listed variable that no row has is never bound.
+/// Three pieces compute the same term, which the dictionary lacks: it is added once.
+const ROWS: &str = r#"
+union: 01 and 01 -0   => 3 terms, 3: - <a:x>; <a:x> <a:y>; <a:x> <a:y>
+distinct: 0- 01 0-    => 3 terms, 2: <a:x> -; <a:x> <a:y>
+project: 01           => 3 terms, 1: - <a:y>
+extend true: 0- 1- -- => 4 terms, 3: - "true"^^<http://www.w3.org/2001/XMLSchema#boolean>; <a:x> "true"^^<http://www.w3.org/2001/XMLSchema#boolean>; <a:y> "true"^^<http://www.w3.org/2001/XMLSchema#boolean>
+"#;
+
+#[test]
+fn operators_go_over_rows(rt: HostRuntime) {
+    assert!(rt; are_right(&rt, rt.alloc(), Reader::Operator(Purpose::Answer), ROWS));
+}
+
+/// Two workers meet in every operator that goes over pieces.
+const MEETINGS: &str = r#"
+filter true: 0- 1-           => met, 2: <a:x> -; <a:y> -
+extend true: 0- 1-           => met, 2: <a:x> "true"^^<http://www.w3.org/2001/XMLSchema#boolean>; <a:y> "true"^^<http://www.w3.org/2001/XMLSchema#boolean>
+join: 0- 1- and --           => met, 2: <a:x> -; <a:y> -
+left join true: 0- 1- and -- => met, 2: <a:x> -; <a:y> -
+minus: 0- 1- and --          => met, 2: <a:x> -; <a:y> -
+"#;
+
+#[test]
+fn two_workers_meet(rt: HostRuntime) {
+    assert!(rt; are_right(&rt, rt.alloc(), Reader::Operator(Purpose::Meet), MEETINGS));
+}
+
+/// The cells x, UNDEF and y.
+fn cells(alloc: Global) -> Result<Vec<Option<Term>>, AllocError> {
+    let mut cells = Vec::new(alloc);
+    cells.push(Some(iri(alloc, "a:x")?))?;
+    cells.push(None)?;
+    cells.push(Some(iri(alloc, "a:y")?))?;
+    Ok(cells)
+}
+
+/// Prints the rows of a table of one row.
+pub(crate) fn tabulated<R: RandomSource>(
+    rt: &R,
+    alloc: Global,
+    _case: &str,
+) -> Result<String, EvalFault> {
+    let rows = [cells(alloc)?];
+    let dict = dict_of(alloc, state_of(rt)?)?;
+    let (rows, dict) = table(alloc, dict, 2, &[1, 0, 1], &rows)?;
+    Ok(told(alloc, &dict, &rows)?)
+}
+
+/// A cell that is UNDEF binds nothing, and of a variable that is listed twice the first place counts.
+const TABLES: &str = "
+VALUES (?b ?a ?b) { (<a:x> UNDEF <a:y>) } => 1: - <a:x>
+";
+
+#[test]
+fn a_table_lists_rows(rt: HostRuntime) {
+    assert!(rt; are_right(&rt, rt.alloc(), Reader::Table, TABLES));
+}
+
+/// Numbers that look random.
+#[derive(Drop)]
+pub(crate) struct Draws {
+    pub(crate) state: u64,
+}
+
+impl Draws {
+    ghost use Rattle.std.specs.Prelude.{◌≤◌};
+
+    pub(crate) fn below(&mut self, n: u64) -> u64
+        requires some { 1 ≤ n }
+    {
+        self.state = self
+            .state
+            .wrapping_mul(6364136223846793005)
+            .wrapping_add(1442695040888963407);
+        (self.state >> 33) % n
+    }
+
+    /// One of three terms, or none.
+    fn cell(&mut self) -> char {
+        match self.below(4) {
+            0 => '0',
+            1 => '1',
+            2 => '2',
+            _ => '-',
+        }
+    }
+
+    /// At most five rows.
+    fn rows(&mut self, alloc: Global) -> Result<String, AllocError> {
+        let mut rows = String::new(alloc);
+        for _ in 0..self.below(6) {
+            rows.push(self.cell())?;
+            rows.push(self.cell())?;
+            rows.push(' ')?;
+        }
+        Ok(rows)
+    }
+}
+
+/// The operators that are compared.
+const COMPARED: [&str; 9] = [
+    "join",
+    "left join BOUND(?b)",
+    "minus",
+    "filter BOUND(?b)",
+    "extend ?a",
+    "distinct",
+    "union",
+    "extend STR(?a)",
+    "project",
+];
+
+/// Compares each operator on two lists of rows.
+fn check_all<R: RandomSource + Threads + Wait>(
+    rt: &R,
+    alloc: Global,
+    left: &str,
+    right: &str,
+    report: &mut String,
+) -> Result<(), EvalFault> {
+    for operator in COMPARED {
+        let case = format!(in alloc; "{operator}: {left} and {right}")?;
+        let reader = Reader::Operator(Purpose::Compare);
+        check(rt, alloc, reader, case.as_str(), "same", report)?;
+    }
+    Ok(())
+}
+
+/// Compares each operator on 20 pairs of lists.
+fn compare_drawn<R: RandomSource + Threads + Wait>(
+    rt: &R,
+    alloc: Global,
+) -> Result<String, EvalFault> {
+    let mut report = String::new(alloc);
+    let mut draws = Draws { state: 1 };
+    for _ in 0..20u32 {
+        let left = draws.rows(alloc)?;
+        let right = draws.rows(alloc)?;
+        check_all(rt, alloc, left.as_str(), right.as_str(), &mut report)?;
+    }
+    Ok(report)
+}
+
+/// Each operator has the rows of the plain one, whatever the workers and the pieces.
+#[test]
+fn operators_agree_with_the_plain_ones(rt: HostRuntime) {
+    assert!(rt; is_empty(&rt, compare_drawn(&rt, rt.alloc())));
+}
+
+/// The name of one variable.
+fn one_name(alloc: Global) -> Result<Vec<Text>, AllocError> {
+    let mut names = Vec::new(alloc);
+    names.push(Text::from_string(String::from_str(alloc, "x")?))?;
+    Ok(names)
+}
+
+/// Prints whether two workers meet where two rows are printed, a row a piece, and the number of blocks: one for each
+/// row, one for what is before them and one for what is after them.
+fn met_over<R: Threads + Wait>(rt: &R, alloc: Global, dict: &Dict) -> Result<String, EvalFault> {
+    let gate = Meeting::new();
+    let rows = rows_of(alloc, dict, "0- 1-")?;
+    let names = one_name(alloc)?;
+    let table = Table {
+        names: &names,
+        listed: &[0],
+        rows: &rows,
+        dict,
+        offset: 0,
+        limit: None,
+    };
+    let blocks = print_rows(rt, alloc, &table, &row_by_row(), &gate)?;
+    let word = if gate.is_met() { "met" } else { "not met" };
+    Ok(format!(in alloc; "{word}, {} blocks", blocks.len())?)
+}
+
+/// Prints whether two workers meet where rows are printed.
+pub(crate) fn met_in_printing<R: RandomSource + Threads + Wait>(
+    rt: &R,
+    alloc: Global,
+) -> Result<String, EvalFault> {
+    let dict = dict_of(alloc, state_of(rt)?)?;
+    met_over(rt, alloc, &dict)
+}
+
+#[test]
+fn two_printers_meet(rt: HostRuntime) {
+    assert!(rt; are_right(&rt, rt.alloc(), Reader::Printing, "0- 1- => met, 4 blocks"));
+}

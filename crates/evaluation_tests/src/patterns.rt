@@ -1,0 +1,135 @@
+//! The operator of basic graph patterns by itself.
+ghost use Rattle.std.specs.Prelude.{◌≡◌, ◌<◌, true, length, map, IfOk};
+ghost use Rattle.std.specs.List.{list_all};
+ghost use Rattle.std.specs.Option.{ForSome};
+ghost use Rattle.algebra_model.specs.Algebra.{is_triple_below};
+ghost use Rattle.dict_core.specs.NumQuad.{AreBelow};
+ghost use Rattle.sparql_algebra.specs.AlgebraOf.{triple_pattern_of};
+
+use crate::cases::{Reader, are_right};
+use crate::printing::told;
+use crate::stores::{DOCUMENT, iri, store};
+use crate::ways::row_by_row;
+use dict_core::Dict;
+use piece_pool::OpenGate;
+use quad_index::Index;
+use rdf_core::Term;
+use row_pieces::EvalFault;
+use sparql_algebra::{PatternTerm, TriplePattern};
+use sparql_eval::pattern;
+use std::alloc::{AllocError, AllocGlobal, Global};
+use std::random::RandomSource;
+use std::sync::Wait;
+use std::thread::Threads;
+
+/// `?0 predicate _:0`
+fn objects_of(alloc: Global, predicate: &str) -> Result<TriplePattern, AllocError>
+    ensures below { IfOk result (λ t. is_triple_below 1 2 (triple_pattern_of t) ≡ true) }
+{
+    Ok(TriplePattern {
+        subject: PatternTerm::Variable(0),
+        predicate: PatternTerm::Term(iri(alloc, predicate)?),
+        object: PatternTerm::Label(0),
+    })
+}
+
+/// `?0 _:1 _:0`
+fn anything() -> TriplePattern
+    ensures below { is_triple_below 1 2 (triple_pattern_of result) ≡ true }
+{
+    TriplePattern {
+        subject: PatternTerm::Variable(0),
+        predicate: PatternTerm::Label(1),
+        object: PatternTerm::Label(0),
+    }
+}
+
+/// The pattern of a text: `?0 predicate _:0`, and `?0 _:1 _:0` if the text is `_:1`.
+fn pattern_of(alloc: Global, predicate: &str) -> Result<TriplePattern, AllocError>
+    ensures below { IfOk result (λ t. is_triple_below 1 2 (triple_pattern_of t) ≡ true) }
+{
+    if predicate == "_:1" {
+        Ok(anything())
+    } else {
+        objects_of(alloc, predicate)
+    }
+}
+
+/// The name of a graph by its text, None for the default graph.
+pub(crate) fn name_of(alloc: Global, text: &str) -> Result<Option<Term>, AllocError> {
+    if text == "default" {
+        Ok(None)
+    } else {
+        Ok(Some(iri(alloc, text)?))
+    }
+}
+
+/// The number of a graph's name, None for the default graph.
+fn active(dict: &Dict, graph: &Option<Term>) -> Option<u64>
+    ensures known { ForSome result (λ g. g < length dict.now) }
+{
+    match graph {
+        Some(name) => match dict.number_of(name) {
+            Some(n) => { if n < dict.len() as u64 { Some(n) } else { None } }
+            None => None,
+        },
+        None => None,
+    }
+}
+
+/// Prints the rows of a pattern with two labels in a graph, with two workers, row by row.
+pub(crate) fn rows_in<R: Threads + Wait>(
+    rt: &R,
+    alloc: Global,
+    dict: Dict,
+    index: &Index,
+    graph: &Option<Term>,
+    width: usize,
+    triples: &[TriplePattern],
+) -> Result<String, EvalFault>
+    requires below { list_all (is_triple_below width 2) (map triple_pattern_of triples.now) ≡ true }
+    requires index { AreBelow (length dict) index.now }
+{
+    let number = active(&dict, graph);
+    let (rows, dict) = pattern(
+        rt,
+        alloc,
+        dict,
+        index,
+        number,
+        width,
+        2,
+        triples,
+        &row_by_row(),
+        &OpenGate,
+    )?;
+    Ok(told(alloc, &dict, &rows)?)
+}
+
+/// Prints the rows of a pattern in a graph: `a:p in a:g`.
+pub(crate) fn solved<R: RandomSource + Threads + Wait>(
+    rt: &R,
+    alloc: Global,
+    case: &str,
+) -> Result<String, EvalFault> {
+    let (predicate, graph) = case.split_once(" in ").unwrap_or((case, ""));
+    let graph = name_of(alloc, graph)?;
+    let triples = [pattern_of(alloc, predicate)?];
+    let (dict, index) = store(rt, alloc, DOCUMENT)?;
+    rows_in(rt, alloc, dict, &index, &graph, 1, &triples)
+}
+
+/// A pattern is solved in the graph that is active. What is in another graph is no solution, and neither is a term
+/// that is nowhere. A solution counts once for each assignment of the labels.
+const PATTERNS: &str = "
+a:p in default    => 2: <a:x>; <a:y>
+a:p in a:g        => 1: <a:x>
+a:q in a:g        => 0:
+a:none in default => 0:
+_:1 in default    => 3: <a:x>; <a:x>; <a:y>
+";
+
+#[test]
+fn patterns_are_solved_in_a_graph(rt: HostRuntime) {
+    assert!(rt; are_right(&rt, rt.alloc(), Reader::Pattern, PATTERNS));
+}

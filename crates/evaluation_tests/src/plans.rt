@@ -1,0 +1,315 @@
+//! Small queries over one document, with one worker and several, in one piece and row by row.
+ghost use Rattle.std.specs.Prelude.{◌≡◌, true, length, IfOk};
+ghost use Rattle.algebra_model.specs.Algebra.{is_name_below, is_within};
+ghost use Rattle.dict_core.specs.NumQuad.{AreBelow};
+ghost use Rattle.row_pieces.specs.How.{IsRunnable};
+ghost use Rattle.sparql_algebra.specs.AlgebraOf.{algebra_of, graph_name_of};
+
+use crate::cases::{Reader, are_right};
+use crate::operators::state_of;
+use crate::printing::{told, told_plain};
+use crate::stores::{DOCUMENT, iri, store};
+use crate::ways::{COUNT, row_by_row, way};
+use dict_core::Dict;
+use nquads_core::read_piece;
+use piece_pool::OpenGate;
+use quad_index::Index;
+use rdf_core::Quad;
+use row_pieces::{EvalFault, How};
+use sparql_algebra::{GraphName, Operator, Plan, translate};
+use sparql_eval::{evaluate, graph};
+use sparql_read::read_query;
+use sparql_tree::Query;
+use std::alloc::{AllocError, AllocGlobal, Global};
+use std::random::RandomSource;
+use std::sync::Wait;
+use std::thread::Threads;
+
+/// Prints the solutions of a plan over an index.
+fn evaluated_over<R: RandomSource + Threads + Wait>(
+    rt: &R,
+    alloc: Global,
+    dict: Dict,
+    index: &Index,
+    plan: &Plan,
+    how: &How,
+) -> Result<String, EvalFault>
+    requires index { AreBelow (length dict) index.now }
+    requires how { IsRunnable how.now }
+{
+    let (rows, dict) = evaluate(rt, alloc, dict, index, plan, how, &OpenGate)?;
+    Ok(told(alloc, &dict, &rows)?)
+}
+
+/// Prints the solutions of a plan over a document.
+pub(crate) fn evaluated<R: RandomSource + Threads + Wait>(
+    rt: &R,
+    alloc: Global,
+    document: &str,
+    plan: &Plan,
+    how: &How,
+) -> Result<String, EvalFault>
+    requires how { IsRunnable how.now }
+{
+    let (dict, index) = store(rt, alloc, document)?;
+    evaluated_over(rt, alloc, dict, &index, plan, how)
+}
+
+fn plainly_over(alloc: Global, quads: &[Quad], plan: &Plan) -> Result<String, AllocError> {
+    let solutions = plain_eval::evaluate(alloc, plan.names.len(), quads, &None, &plan.tree)?;
+    told_plain(alloc, &solutions)
+}
+
+/// Prints the solutions of the plain evaluation of a plan.
+pub(crate) fn plainly(alloc: Global, document: &str, plan: &Plan) -> Result<String, AllocError> {
+    match read_piece(alloc, document.as_bytes()) {
+        Ok(piece) => plainly_over(alloc, &piece.quads, plan),
+        Err(_) => Err(AllocError),
+    }
+}
+
+/// Appends the solutions of one way if they differ from the plain ones.
+fn check_way<R: RandomSource + Threads + Wait>(
+    rt: &R,
+    alloc: Global,
+    plan: &Plan,
+    number: u8,
+    plain: &str,
+    differences: &mut String,
+) -> Result<(), EvalFault> {
+    let how = way(number);
+    let found = evaluated(rt, alloc, DOCUMENT, plan, &how)?;
+    if found.as_str() != plain {
+        write!(differences, ", {how:?}: {found}")?;
+    }
+    Ok(())
+}
+
+/// Prints the solutions of the plain evaluation, and after them those of each way that differ.
+fn everywhere<R: RandomSource + Threads + Wait>(
+    rt: &R,
+    alloc: Global,
+    plan: &Plan,
+) -> Result<String, EvalFault> {
+    let plain = plainly(alloc, DOCUMENT, plan)?;
+    let mut differences = String::new(alloc);
+    for number in 0..COUNT {
+        check_way(rt, alloc, plan, number, plain.as_str(), &mut differences)?;
+    }
+    Ok(format!(in alloc; "{plain}{differences}")?)
+}
+
+/// Prints how many terms the evaluation of a plan adds to a dictionary.
+fn growth<R: RandomSource + Threads + Wait>(
+    rt: &R,
+    alloc: Global,
+    dict: Dict,
+    index: &Index,
+    plan: &Plan,
+) -> Result<String, EvalFault>
+    requires index { AreBelow (length dict) index.now }
+{
+    let before = dict.len();
+    let (_rows, dict) = evaluate(rt, alloc, dict, index, plan, &row_by_row(), &OpenGate)?;
+    Ok(format!(in alloc; "{}", dict.len().saturating_sub(before))?)
+}
+
+fn growth_of_document<R: RandomSource + Threads + Wait>(
+    rt: &R,
+    alloc: Global,
+    plan: &Plan,
+) -> Result<String, EvalFault> {
+    let (dict, index) = store(rt, alloc, DOCUMENT)?;
+    growth(rt, alloc, dict, &index, plan)
+}
+
+/// What is printed of a query.
+#[derive(Clone, Copy)]
+enum Asked {
+    Solutions,
+    Growth,
+}
+
+/// The plan of a query, in a box: a function that owns a tree by value is slow to prove.
+pub(crate) fn plan_of(alloc: Global, query: &Query) -> Result<Box<Plan>, AllocError> {
+    Ok(Box::new(alloc, translate(alloc, query)?)?)
+}
+
+fn planned<R: RandomSource + Threads + Wait>(
+    rt: &R,
+    alloc: Global,
+    query: &Query,
+    asked: Asked,
+) -> Result<String, EvalFault> {
+    let plan = plan_of(alloc, query)?;
+    match asked {
+        Asked::Solutions => everywhere(rt, alloc, &plan),
+        Asked::Growth => growth_of_document(rt, alloc, &plan),
+    }
+}
+
+fn read<R: RandomSource + Threads + Wait>(
+    rt: &R,
+    alloc: Global,
+    text: &str,
+    asked: Asked,
+) -> Result<String, EvalFault> {
+    match read_query(alloc, text) {
+        Ok(query) => planned(rt, alloc, &query, asked),
+        Err(fault) => Ok(format!(in alloc; "{fault:?}")?),
+    }
+}
+
+/// Prints the solutions of a query by the plain evaluation, and those of each way that differ.
+pub(crate) fn solved<R: RandomSource + Threads + Wait>(
+    rt: &R,
+    alloc: Global,
+    case: &str,
+) -> Result<String, EvalFault> {
+    read(rt, alloc, case, Asked::Solutions)
+}
+
+/// Prints how many terms the evaluation of a query adds to the document's.
+pub(crate) fn added<R: RandomSource + Threads + Wait>(
+    rt: &R,
+    alloc: Global,
+    case: &str,
+) -> Result<String, EvalFault> {
+    read(rt, alloc, case, Asked::Growth)
+}
+
+/// OPTIONAL.
+const OPTIONALS: &str = r#"
+# The filter in OPTIONAL is the condition of the left join: it sees the left row, and if it fails that row is kept.
+SELECT * { ?s <a:p> ?o OPTIONAL { ?o <a:p> ?z FILTER(sameTerm(?s, <a:x>)) } } => 2: <a:x> <a:y> <a:z>; <a:y> <a:z> -
+SELECT * { ?s <a:p> ?o OPTIONAL { ?o <a:p> ?z FILTER(sameTerm(?s, <a:y>)) } } => 2: <a:x> <a:y> -; <a:y> <a:z> -
+"#;
+
+#[test]
+fn a_filter_in_optional_sees_the_left_row(rt: HostRuntime) {
+    assert!(rt; are_right(&rt, rt.alloc(), Reader::Query, OPTIONALS));
+}
+
+/// VALUES, MINUS, UNION, DISTINCT and BIND.
+const OPERATORS: &str = r#"
+# UNDEF leaves a variable unbound, and a row that leaves it unbound is compatible with every value.
+SELECT * { VALUES (?a ?b) { (<a:x> UNDEF) (UNDEF <a:z>) (UNDEF <a:y>) } VALUES (?a ?b) { (<a:x> <a:z>) } } => 2: <a:x> <a:z>; <a:x> <a:z>
+# MINUS removes what shares a variable with the right side and agrees there, and nothing if none is shared.
+SELECT * { ?s <a:p> ?o MINUS { ?x <a:q> ?y } } => 2: <a:x> <a:y> - -; <a:y> <a:z> - -
+SELECT * { ?s <a:p> ?o MINUS { ?s <a:q> ?y } } => 1: <a:y> <a:z> -
+# A union has the solutions of both sides, with repeats. DISTINCT has one of each.
+SELECT * { { ?s <a:p> ?o } UNION { ?s <a:p> ?o } }          => 4: <a:x> <a:y>; <a:x> <a:y>; <a:y> <a:z>; <a:y> <a:z>
+SELECT DISTINCT * { { ?s <a:p> ?o } UNION { ?s <a:p> ?o } } => 2: <a:x> <a:y>; <a:y> <a:z>
+# A computed term is the same term as an equal one of the document.
+SELECT * { ?s <a:q> ?v BIND(STR(?v) AS ?w) }      => 1: <a:x> "5" "5"
+SELECT * { ?s <a:q> ?v BIND(DATATYPE(?v) AS ?w) } => 1: <a:x> "5" <http://www.w3.org/2001/XMLSchema#string>
+"#;
+
+#[test]
+fn queries_have_their_solutions(rt: HostRuntime) {
+    assert!(rt; are_right(&rt, rt.alloc(), Reader::Query, OPERATORS));
+}
+
+/// GRAPH.
+const NAMED_GRAPHS: &str = r#"
+# With a variable each named graph is tried, also one whose name is a blank node. The variable is bound after the
+# inner pattern: if that binds it, the two have to agree.
+SELECT * { GRAPH ?g { ?s <a:p> ?o } }                  => 2: <a:g> <a:x> <a:y>; _:h <a:y> <a:x>
+SELECT * { GRAPH ?g { ?s ?p ?g } }                     => 1: <a:g> <a:x> <a:r>
+SELECT * { GRAPH ?g { ?s <a:p> ?o FILTER(BOUND(?g)) } } => 0:
+SELECT * { GRAPH ?g { } }                              => 2: <a:g>; _:h
+# With a name the graph of that name is active. If no graph has it there is no solution, whatever the pattern.
+SELECT * { GRAPH <a:g> { ?s <a:p> ?o } }    => 1: <a:x> <a:y>
+SELECT * { GRAPH <a:none> { ?s <a:p> ?o } } => 0:
+SELECT * { GRAPH <a:x> { ?s <a:p> ?o } }    => 0:
+SELECT * { GRAPH <a:g> { } }                => 1:
+SELECT * { GRAPH <a:none> { } }             => 0:
+"#;
+
+#[test]
+fn a_graph_is_known_by_its_name(rt: HostRuntime) {
+    assert!(rt; are_right(&rt, rt.alloc(), Reader::Query, NAMED_GRAPHS));
+}
+
+/// A computed term that the document has gets that term's number. Another one is added to the dictionary.
+const ADDED: &str = "
+SELECT * { ?s <a:q> ?v BIND(STR(?v) AS ?w) }      => 0
+SELECT * { ?s <a:q> ?v BIND(DATATYPE(?v) AS ?w) } => 1
+";
+
+#[test]
+fn a_computed_term_gets_the_number_of_an_equal_one(rt: HostRuntime) {
+    assert!(rt; are_right(&rt, rt.alloc(), Reader::Added, ADDED));
+}
+
+/// The empty pattern.
+fn empty_pattern(alloc: Global) -> Operator
+    ensures within { is_within 1 (algebra_of result) ≡ true }
+{
+    Operator::Pattern {
+        labels: 0,
+        triples: Vec::new(alloc),
+    }
+}
+
+/// The name of a text: `?g` is the first variable.
+fn graph_name(alloc: Global, text: &str) -> Result<GraphName, AllocError>
+    ensures below { IfOk result (λ name. is_name_below 1 (graph_name_of name) ≡ true) }
+{
+    if text == "?g" {
+        Ok(GraphName::Variable(0))
+    } else {
+        Ok(GraphName::Iri(iri(alloc, text)?))
+    }
+}
+
+fn graph_over<R: RandomSource + Threads + Wait>(
+    rt: &R,
+    alloc: Global,
+    dict: Dict,
+    index: &Index,
+    name: &GraphName,
+    inner: &Operator,
+) -> Result<String, EvalFault>
+    requires index { AreBelow (length dict) index.now }
+    requires name { is_name_below 1 (graph_name_of name.now) ≡ true }
+    requires within { is_within 1 (algebra_of inner.now) ≡ true }
+{
+    let state = state_of(rt)?;
+    let (rows, dict) = graph(
+        rt,
+        alloc,
+        state,
+        dict,
+        index,
+        1,
+        name,
+        inner,
+        &row_by_row(),
+        &OpenGate,
+    )?;
+    Ok(told(alloc, &dict, &rows)?)
+}
+
+/// Prints the solutions of the empty pattern in a graph of the document, or in each, by the operator alone.
+pub(crate) fn graph_alone<R: RandomSource + Threads + Wait>(
+    rt: &R,
+    alloc: Global,
+    case: &str,
+) -> Result<String, EvalFault> {
+    let name = graph_name(alloc, case)?;
+    let inner = empty_pattern(alloc);
+    let (dict, index) = store(rt, alloc, DOCUMENT)?;
+    graph_over(rt, alloc, dict, &index, &name, &inner)
+}
+
+/// The empty pattern has one solution in each named graph, and none for a name that no graph has.
+const ALONE: &str = "
+?g     => 2: <a:g>; _:h
+a:none => 0:
+";
+
+#[test]
+fn graph_stands_by_itself(rt: HostRuntime) {
+    assert!(rt; are_right(&rt, rt.alloc(), Reader::Graph, ALONE));
+}

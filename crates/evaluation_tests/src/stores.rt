@@ -1,0 +1,48 @@
+//! Documents, their dictionaries and their indexes.
+ghost use Rattle.std.specs.Prelude.{length, IfOk};
+ghost use Rattle.dict_core.specs.NumQuad.{AreBelow};
+
+use dict_core::{Dict, merge, number_piece};
+use nquads_core::read_piece;
+use quad_index::{Index, index_reads_the_quads};
+use rdf_core::{Term, Text};
+use std::alloc::{AllocError, Global};
+use std::hash::RandomState;
+use std::random::RandomSource;
+
+/// In the default graph x p y, y p z and x q "5"; x p y and x r g in the graph g; y p x in the graph
+/// of a blank node.
+pub(crate) const DOCUMENT: &str = r#"<a:x> <a:p> <a:y> .
+<a:y> <a:p> <a:z> .
+<a:x> <a:q> "5" .
+<a:x> <a:p> <a:y> <a:g> .
+<a:x> <a:r> <a:g> <a:g> .
+<a:y> <a:p> <a:x> _:h .
+"#;
+
+/// The dictionary and the index of a document.
+pub(crate) fn store<R: RandomSource>(
+    rt: &R,
+    alloc: Global,
+    document: &str,
+) -> Result<(Dict, Index), AllocError>
+    ensures below { IfOk result (λ store. AreBelow (length store.0) store.1) }
+{
+    index_reads_the_quads();
+    let Ok(state) = RandomState::new(rt) else {
+        return Err(AllocError);
+    };
+    let Ok(piece) = read_piece(alloc, document.as_bytes()) else {
+        return Err(AllocError);
+    };
+    let mut pieces = Vec::new(alloc);
+    pieces.push(number_piece(alloc, state, piece)?)?;
+    let (dict, quads) = merge(alloc, state, pieces)?;
+    let index = Index::build(alloc, quads)?;
+    Ok((dict, index))
+}
+
+/// The IRI of a text.
+pub(crate) fn iri(alloc: Global, name: &str) -> Result<Term, AllocError> {
+    Ok(Term::Iri(Text::from_string(String::from_str(alloc, name)?)))
+}
