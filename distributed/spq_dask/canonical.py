@@ -1,8 +1,8 @@
 """The canonical form of the quads of a block: each quad on a line of its own, as `spq` prints its terms.
 
-Two quads are equal exactly if their canonical lines are equal. Most lines of a dump are in this form already.
-`PLAIN` recognises them; `spq select` prints the quads of all other lines. `PLAIN` is right for well-formed lines
-only, so `spq` checks a block first.
+Two quads are equal exactly if their canonical lines are equal. Most lines of a dump are in this form already: they
+are plain, and a pattern recognises them. `spq select` prints the quads of all other lines. The pattern is right for
+lines of well-formed documents only, so `spq` checks a block first.
 """
 from __future__ import annotations
 
@@ -10,50 +10,56 @@ import json
 import re
 from typing import Any, Iterator, Optional
 
-from .program import Failed, Spq
+from .cutting import pieces
+from .program import Spq
 
 EVERY_QUAD = "SELECT ?g ?s ?p ?o { { ?s ?p ?o } UNION { GRAPH ?g { ?s ?p ?o } } }"
 XSD_STRING = "http://www.w3.org/2001/XMLSchema#string"
+PIECE = 1 << 16  # bytes of the lines that are matched at a time; larger ones are slower
 
 
-def _statement(label: bytes) -> re.Pattern[bytes]:
-    """Returns the pattern of a statement in canonical form with blank node labels of this pattern.
+def _statement(label: bytes) -> bytes:
+    """Returns the pattern of a canonical statement, with this pattern of blank node labels.
 
-    The statement has single spaces, no comment, and no escape but those that `spq` prints. The pattern captures
-    the graph name.
+    Single spaces separate the terms, the datatype xsd:string is left out, language tags are in lower case, and in
+    literals only the quote, the backslash, LF and CR are escaped. The pattern captures the graph name.
     """
-    iri = rb"<[^>\\]*>"
+    iri = rb"<[^>]*>"
     node = b"(?:" + iri + b"|_:" + label + b")"
     datatype = rb"\^\^(?!<" + re.escape(XSD_STRING.encode()) + b">)" + iri
     literal = rb'"[^"\\]*(?:\\["\\nr][^"\\]*)*"(?:@[a-z0-9-]+|' + datatype + b")?"
-    return re.compile(node + b" " + iri + b" (?:" + node + b"|" + literal + b") (?:(" + node + rb") )?\.")
+    return node + b" " + iri + b" (?:" + node + b"|" + literal + b") (?:(" + node + rb") )?\."
 
 
-# A line of a well-formed document that matches `PLAIN` is canonical. Every canonical line matches `CANONICAL`.
-PLAIN = _statement(rb"[A-Za-z0-9_-]+")
-CANONICAL = _statement(rb"[^ ]+")
+# Each line of a text, if it is not empty: either a plain line and its graph name, or another line.
+LINES = re.compile(b"^(?:(" + _statement(rb"[A-Za-z0-9_-]+") + b")|(.+))$", re.MULTILINE)
+CANONICAL = re.compile(_statement(rb"[^ ]+"))
 
 
-def canonical_quads(spq: Spq, text: bytes) -> tuple[list[bytes], list[Optional[bytes]]]:
-    """Returns the canonical lines of a well-formed text, without line feeds, and the graph name of each.
+def canonical_quads(spq: Spq, text: bytes) -> tuple[list[bytes], set[bytes]]:
+    """Returns the canonical lines of a well-formed text, without line feeds, and the names of its graphs.
 
-    The name is `None` in the default graph. A quad that the text has twice may occur twice.
+    A quad that the text has twice may occur twice.
     """
     if b"\r" in text:
         text = text.replace(b"\r\n", b"\n").replace(b"\r", b"\n")
-    lines = text.split(b"\n")
-    if not lines[-1]:
-        lines.pop()
-    matches = list(map(PLAIN.fullmatch, lines))
-    if all(matches):
-        return lines, [match[1] for match in matches if match]
-    others = [line for line, match in zip(lines, matches) if not match and line]
-    quads = [line for line, match in zip(lines, matches) if match]
-    names = [match[1] for match in matches if match]
+    quads: list[bytes] = []
+    names: set[Optional[bytes]] = set()
+    others: list[bytes] = []
+    for piece in pieces(text, PIECE):
+        found = LINES.findall(piece)
+        numbered = {line for line, _, _ in found if b"\\u" in line or b"\\U" in line}  # perhaps in an IRI
+        if numbered:
+            found = [parts for parts in found if parts[0] not in numbered]
+            others += numbered
+        plain, graphs, rest = zip(*found) if found else ((), (), ())
+        quads += filter(None, plain)
+        names.update(graphs)
+        others += filter(None, rest)
     for line, name in _printed_by_spq(spq, b"\n".join(others)):
         quads.append(line)
-        names.append(name)
-    return quads, names
+        names.add(name)
+    return quads, {name for name in names if name}
 
 
 def _printed_by_spq(spq: Spq, text: bytes) -> Iterator[tuple[bytes, Optional[bytes]]]:
@@ -72,8 +78,7 @@ def subject_of(line: bytes) -> bytes:
 def graph_of(line: bytes) -> bytes:
     """Returns the graph name of a canonical line, empty in the default graph."""
     match = CANONICAL.fullmatch(line)
-    if not match:
-        raise Failed(4, "error: worker", f"not a canonical line: {line!r}")
+    assert match, line
     return match[1] or b""
 
 

@@ -13,8 +13,10 @@ from dask.delayed import Delayed
 from . import shuffle
 from .canonical import canonical_quads
 from .cluster import Run
-from .cutting import Source, count_lines
-from .program import Spq
+from .cutting import Source, count_lines, pieces
+from .program import Malformed, Spq
+
+PIECE = 8 << 20  # bytes that one run of `spq` reads
 
 
 @dataclass(frozen=True)
@@ -71,15 +73,31 @@ def check(run: Run, sources: list[Source], spq: Spq) -> bytes:
 
 def examine(text: bytes, spq: Spq, partitions: int) -> CountedBlock:
     """Checks a block and spreads its terms, graph names and quads over the partitions."""
-    terms = b"".join(spq.outputs(["terms"], text)).splitlines()
+    lines, terms = terms_of(spq, text)
     quads, names = canonical_quads(spq, text)
     hashes = shuffle.hashes(quads)
     items = zip(
         shuffle.texts_by_partition(terms, partitions),
-        shuffle.texts_by_partition([name for name in set(names) if name], partitions),
-        (hashes[places] for places in shuffle.numbers_by_partition(hashes, partitions)),
+        shuffle.texts_by_partition(list(names), partitions),
+        (hashes[places] for places in shuffle.places_by_partition(hashes, partitions)),
     )
-    return CountedBlock(Checked(count_lines(text), len(text)), shuffle.joined(quads), hashes, list(enumerate(items)))
+    return CountedBlock(Checked(lines, len(text)), b"\n".join(quads), hashes, list(enumerate(items)))
+
+
+def terms_of(spq: Spq, text: bytes) -> tuple[int, list[bytes]]:
+    """Returns the number of lines of a block, and its terms by first appearance; some may come again.
+
+    A block is read in pieces, since `spq` needs less time for a line of a small text. Raises `Malformed` if the block
+    has a malformed line.
+    """
+    lines, found = 0, []
+    for piece in pieces(text, PIECE):
+        try:
+            found += spq.outputs(["terms"], piece)
+        except Malformed as malformed:
+            raise Malformed(lines + malformed.number) from None
+        lines += count_lines(piece)
+    return lines, b"".join(found).splitlines()
 
 
 def count(items: list[tuple[bytes, bytes, numpy.ndarray]]) -> Counts:
@@ -129,11 +147,10 @@ def terms(run: Run, sources: list[Source], spq: Spq) -> Iterator[bytes]:
 
 def list_terms(text: bytes, spq: Spq, number: int, partitions: int) -> ListedBlock:
     """Lists the terms of a block and spreads them over the partitions."""
-    found = b"".join(spq.outputs(["terms"], text))
-    lines = found.splitlines()
-    places = shuffle.numbers_by_partition(shuffle.hashes(lines), partitions)
-    items = [(number, these, [lines[place] for place in these]) for these in places]
-    return ListedBlock(Checked(count_lines(text), len(text)), found, list(enumerate(items)))
+    lines, terms = terms_of(spq, text)
+    places = shuffle.places_by_partition(shuffle.hashes(terms), partitions)
+    items = [(number, these, [terms[place] for place in these]) for these in places]
+    return ListedBlock(Checked(lines, len(text)), shuffle.ended(terms), list(enumerate(items)))
 
 
 def find_later(items: list[tuple[int, numpy.ndarray, list[bytes]]]) -> dict[int, list[int]]:

@@ -47,7 +47,9 @@ def sources(urls: list[str], blocksize: int) -> list[Source]:
 
 def count_lines(text: bytes) -> int:
     """Returns the number of lines of a text."""
-    ends = text.count(b"\n") + text.count(b"\r") - text.count(b"\r\n")
+    ends = text.count(b"\n")
+    if b"\r" in text:
+        ends += text.count(b"\r") - text.count(b"\r\n")
     return ends if not text or text.endswith((b"\n", b"\r")) else ends + 1
 
 

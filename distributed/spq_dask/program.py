@@ -1,9 +1,10 @@
 """Runs `spq` over one text on its standard input."""
 from __future__ import annotations
 
+import io
+import os
 import signal
 import subprocess
-import threading
 from dataclasses import dataclass
 from typing import Iterator
 
@@ -41,22 +42,18 @@ class Spq:
         Raises `Failed` if the program cannot be started, or ends with a status that it does not have.
         """
         command = [self.path, words[0], "--workers", str(self.threads), *words[1:]]
-        try:
-            process = subprocess.Popen(command, stdin=subprocess.PIPE, stdout=subprocess.PIPE, stderr=subprocess.DEVNULL)
-        except OSError as error:
-            raise Failed(MEMORY, "error: worker", f"{self.path} cannot be started: {error.strerror}") from None
-        with process:
-            feeder = threading.Thread(target=_feed, args=(process, text), daemon=True)
-            feeder.start()
-            assert process.stdout is not None
-            output = process.stdout.read()
-            feeder.join()
-        status = process.returncode
+        with os.fdopen(os.memfd_create("spq"), "w+b", buffering=0) as source:  # cheaper than a pipe and a thread
+            _write(source, text)
+            try:
+                ended = subprocess.run(command, stdin=source, stdout=subprocess.PIPE, stderr=subprocess.DEVNULL)
+            except OSError as error:
+                raise Failed(MEMORY, "error: worker", f"{self.path} cannot be started: {error.strerror}") from None
+        status = ended.returncode
         if status == -signal.SIGKILL:  # what the system does when memory is short
             return MEMORY, b"error: memory\n"
         if not 0 <= status <= DEVICE:
             raise Failed(MEMORY, "error: worker", f"{self.path} ended with status {status}")
-        return status, output
+        return status, ended.stdout
 
     def run_in_halves(self, words: list[str], text: bytes) -> Iterator[tuple[bytes, int, bytes]]:
         """Runs a command over a text. A text that needs too much memory is cut in two, as often as needed.
@@ -87,11 +84,9 @@ class Spq:
         return found
 
 
-def _feed(process: subprocess.Popen[bytes], text: bytes) -> None:
-    """Writes a text to the standard input of a program, which may end before it has read all of it."""
-    assert process.stdin is not None
-    try:
-        process.stdin.write(text)
-        process.stdin.close()
-    except BrokenPipeError:
-        pass
+def _write(file: io.FileIO, text: bytes) -> None:
+    """Writes a text to an empty file, and goes back to its beginning."""
+    view = memoryview(text)
+    while view:
+        view = view[file.write(view) :]
+    file.seek(0)

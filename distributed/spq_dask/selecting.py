@@ -88,15 +88,15 @@ def split_by_key(
 def split_block(text: bytes, spq: Spq, split: str, default_in_all: bool, partitions: int) -> SplitBlock:
     """Checks a block and splits its canonical quads by their keys."""
     spq.outputs(["check"], text)
-    quads, names = canonical_quads(spq, text)
-    for_all = [quad for quad, name in zip(quads, names) if name is None] if default_in_all else []
+    quads, _ = canonical_quads(spq, text)
+    for_all = []
     if default_in_all:
-        quads = [quad for quad, name in zip(quads, names) if name is not None]
-        names = [name for name in names if name is not None]
-    keys = list(map(subject_of, quads)) if split == "subject" else [name or b"" for name in names]
-    places = shuffle.numbers_by_partition(shuffle.hashes(keys), partitions)
-    items = [(number, shuffle.joined(quads[place] for place in these)) for number, these in enumerate(places)]
-    return SplitBlock(Checked(count_lines(text), len(text)), shuffle.joined(for_all), items)
+        for_all = [quad for quad in quads if not graph_of(quad)]
+        quads = [quad for quad in quads if graph_of(quad)]
+    keys = list(map(KEYS[split], quads))
+    places = shuffle.places_by_partition(shuffle.hashes(keys), partitions)
+    items = [(number, shuffle.ended([quads[place] for place in these])) for number, these in enumerate(places)]
+    return SplitBlock(Checked(count_lines(text), len(text)), shuffle.ended(for_all), items)
 
 
 def select_partition(text: bytes, for_all: bytes, spq: Spq, query: str, split: str) -> Part:
@@ -114,7 +114,7 @@ def select_partition(text: bytes, for_all: bytes, spq: Spq, query: str, split: s
         keys.setdefault(KEYS[split](line), []).append(line)
     if status != MEMORY or len(keys) < 2:
         raise Failed(status, output.decode().strip(), "a part" if status == MALFORMED else "")
-    groups = list(map(shuffle.joined, keys.values()))
+    groups = list(map(shuffle.ended, keys.values()))
     middle = len(groups) // 2
     both = (b"".join(groups[:middle]), b"".join(groups[middle:]))
     found = [select_partition(half, for_all, spq, query, split).rows for half in both]

@@ -3,7 +3,7 @@ from __future__ import annotations
 
 from operator import itemgetter
 from typing import Any, Callable, Iterable
-from zlib import adler32, crc32
+from zlib import crc32
 
 import dask.bag
 import numpy
@@ -14,30 +14,28 @@ Item = tuple[int, Any]
 
 
 def hashes(lines: list[bytes]) -> numpy.ndarray:
-    """Returns a number of 64 bits for each line. Equal lines have equal numbers, on every worker."""
-    count = len(lines)
-    high = numpy.fromiter(map(adler32, lines), numpy.uint64, count)
-    low = numpy.fromiter(map(crc32, lines), numpy.uint64, count)
-    return high << numpy.uint64(32) | low
+    """Returns a number of 32 bits for each line. Equal lines have equal numbers, on every worker."""
+    return numpy.fromiter(map(crc32, lines), numpy.uint32, len(lines))
 
 
-def numbers_by_partition(numbers: numpy.ndarray, partitions: int) -> list[numpy.ndarray]:
+def places_by_partition(numbers: numpy.ndarray, partitions: int) -> list[numpy.ndarray]:
     """Returns the places of the numbers of each partition, in rising order."""
-    partition = (numbers % numpy.uint64(partitions)).astype(numpy.int32)
+    partition = numbers % numpy.uint32(partitions)
+    if partitions <= 1 << 16:
+        partition = partition.astype(numpy.uint16)
     order = numpy.argsort(partition, kind="stable")
     return numpy.split(order, numpy.searchsorted(partition[order], range(1, partitions)))
 
 
 def texts_by_partition(lines: list[bytes], partitions: int) -> list[bytes]:
-    """Returns the lines of each partition as one text, in which each line ends with a line feed."""
-    array = numpy.empty(len(lines), dtype=object)
-    array[:] = lines
-    return [joined(array[places]) for places in numbers_by_partition(hashes(lines), partitions)]
+    """Returns the lines of each partition as one text, with line feeds between the lines."""
+    array = numpy.array([*lines, None], dtype=object)  # `None` keeps them objects
+    return [b"\n".join(array[places]) for places in places_by_partition(hashes(lines), partitions)]
 
 
-def joined(lines: Iterable[bytes]) -> bytes:
+def ended(lines: list[bytes]) -> bytes:
     """Returns the lines as one text, in which each line ends with a line feed."""
-    return b"".join(line + b"\n" for line in lines)
+    return b"\n".join([*lines, b""])
 
 
 def distinct(texts: Iterable[bytes]) -> int:
