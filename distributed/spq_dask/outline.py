@@ -16,8 +16,8 @@ LARGEST = 18446744073709551615  # LIMIT and OFFSET are capped at this number
 CONDITIONS = {
     "lines": "the query is one triple pattern, perhaps in GRAPH, with FILTER, BIND and VALUES, or a UNION of such groups; "
     "and no quad is in two blocks, unless the query has DISTINCT",
-    "subject": "every triple pattern has the same variable as subject, no GRAPH is in another, and every group, also of "
-    "UNION, OPTIONAL and MINUS, begins with such a pattern, apart from FILTER, BIND and VALUES",
+    "subject": "every triple pattern has the same variable as subject, and every group, also of UNION, OPTIONAL and MINUS, "
+    "begins with such a pattern or one GRAPH around it, apart from FILTER, BIND and VALUES",
     "graph": "every triple pattern is in a GRAPH with the same name, no GRAPH is in another, and every group outside of "
     "GRAPH, also of UNION, OPTIONAL and MINUS, begins with such a GRAPH, apart from FILTER, BIND and VALUES",
     "graph with the default graph": "every GRAPH has the same name, no GRAPH is in another, the query has one and so has "
@@ -142,8 +142,7 @@ def is_row_by_row(group: Group, in_graph: bool = False) -> bool:
 def is_keyed_by_subject(group: Group) -> bool:
     """Tells whether each row of each group binds the one variable that is the subject of all triples."""
     subjects = {element.subject for element in _elements(group) if isinstance(element, Triple)}
-    one = len(subjects) == 1 and min(subjects).startswith("?")
-    return one and not _has_graph_in_graph(group) and _begins_keyed(group, Triple)
+    return len(subjects) == 1 and min(subjects).startswith("?") and _begins_keyed(group, Triple)
 
 
 def is_keyed_by_graph(group: Group) -> bool:
@@ -156,20 +155,22 @@ def is_keyed_beside_default(group: Group) -> bool:
     return _has_one_graph_name(group) and _is_keyed_beside(group)
 
 
-def _begins_keyed(group: Group, key: type[Element]) -> bool:
-    """Tells whether this group and the groups in it begin with an element of this type; for triples, in GRAPH too."""
+def _begins_keyed(group: Group, key: type[Element], in_graph: bool = False) -> bool:
+    """Tells whether a group and the groups in it begin with an element of this type.
 
-    def binds(element: Element) -> bool:
-        if isinstance(element, key):
-            return True
-        if isinstance(element, Graph):
-            return _begins_keyed(element.group, key)
-        return isinstance(element, Union_) and all(_begins_keyed(side, key) for side in element.sides)
+    If that is a triple, one GRAPH may be around it. A GRAPH around another asks for all names of graphs.
+    """
 
-    def fits(element: Element) -> bool:
-        return binds(element) or isinstance(element, Added) and _begins_keyed(element.group, key)
+    def is_keyed(element: Element) -> bool:
+        if isinstance(element, Graph) and key is Triple:
+            return _begins_keyed(element.group, key, True)
+        if isinstance(element, Union_):
+            return all(_begins_keyed(side, key, in_graph) for side in element.sides)
+        return isinstance(element, key)
 
-    return bool(group) and binds(group[0]) and all(map(fits, group[1:]))
+    if not group or not is_keyed(group[0]) or in_graph and isinstance(group[0], Graph):
+        return False
+    return all(_begins_keyed(one.group, key, in_graph) if isinstance(one, Added) else is_keyed(one) for one in group[1:])
 
 
 def _is_keyed_beside(group: Group) -> bool:

@@ -12,6 +12,7 @@ GOOD = {
     "subject": [
         "?k e:p ?a ; a ?b , e:c , 5.?k ?x ?y", "?k e:p ?a OPTIONAL { FILTER(?a = 1) ?k e:q ?b } MINUS { ?k a ?c }",
         "GRAPH ?g { ?k e:p ?a } OPTIONAL { GRAPH ?h { $k e:q ?b } }", "{ ?k a ?b } UNION { ?k a ?c } ?k e:p 1", "VALUES ?a { 1 } ?k e:p ?a",
+        "GRAPH ?g { ?k e:p ?a GRAPH ?h { ?k e:q ?b } }",
     ],
     "graph": [
         "GRAPH ?g {}", "GRAPH e:g { ?a ?b ?c . ?c ?d ?e OPTIONAL { ?e ?f ?a } }", "GRAPH ?g { ?a ?b ?c } MINUS { GRAPH $g { ?a e:p ?x } }",
