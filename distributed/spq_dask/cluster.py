@@ -8,6 +8,7 @@ import tempfile
 import zipfile
 from typing import Any, Iterator, Optional
 
+import dask
 from dask.delayed import Delayed
 from distributed import Client, Future, LocalCluster, progress
 from distributed.scheduler import KilledWorker
@@ -18,11 +19,13 @@ from .program import DEVICE, MEMORY, Failed, Malformed
 
 @contextlib.contextmanager
 def connected(scheduler: Optional[str], processes: Optional[int]) -> Iterator[Client]:
-    """Connects to a scheduler, or starts a local one with as many worker processes, each with one thread.
+    """Connects to a scheduler, or starts one here with this number of worker processes, each with one thread.
 
+    Without an address the scheduler is the one that Dask's configuration names.
     Workers elsewhere get this package from here. Raises `Failed` if there is no scheduler at the address.
     """
-    if scheduler is None:
+    scheduler = scheduler or dask.config.get("scheduler-address", None)
+    if not scheduler:
         with LocalCluster(n_workers=processes, threads_per_worker=1) as cluster, Client(cluster) as client:
             yield client
         return

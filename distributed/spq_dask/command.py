@@ -55,12 +55,12 @@ def number(text: str) -> int:
 def parser() -> Parser:
     """Returns the parser of the command line."""
     common = Parser(add_help=False)
-    common.add_argument("--scheduler", metavar="ADDRESS", help="a Dask scheduler; without it one starts on this machine")
-    common.add_argument("--processes", type=number, help="worker processes to start without --scheduler; one a processor")
+    common.add_argument("--scheduler", metavar="ADDRESS", help="a Dask scheduler; default Dask's setting scheduler-address, or one is started here")
+    common.add_argument("--processes", type=number, help="worker processes, if a scheduler is started here; default one a processor")
     common.add_argument("--blocksize", type=size, default=size("256MiB"), help="bytes of a block; default 256MiB")
     common.add_argument("--spq", default="spq", metavar="PATH", help="the program on the workers; default spq")
     common.add_argument("--workers", type=number, default=1, help="threads of each run of spq; default 1")
-    common.add_argument("--quiet", action="store_true", help="no progress bar on standard error")
+    common.add_argument("--quiet", action="store_true", help="neither a progress bar nor the dashboard's address")
     common.add_argument(
         "files", nargs="+", metavar="FILE|URL", help="N-Quads, plain or compressed; all are parts of one document, in order"
     )
@@ -105,7 +105,8 @@ def run_words(words: list[str], out: BinaryIO, client: Optional[Client] = None) 
             write(output(given, client), out)
         else:
             with connected(given.scheduler, given.processes) as own:
-                print(f"dashboard: {own.dashboard_link}", file=sys.stderr)
+                if not given.quiet:
+                    print(f"dashboard: {own.dashboard_link}", file=sys.stderr)
                 write(output(given, own), out)
     except Failed as failed:
         if failed.reason:

@@ -2,14 +2,14 @@
 import gzip
 import os
 import random
+import re
 import subprocess
 import unittest
 import urllib.request
 
 import testing
-from testing import file, script, spq, spq_dask
+from testing import ROOT, file, script, spq, spq_dask
 
-ROOT = os.path.dirname(os.path.dirname(os.path.dirname(os.path.abspath(__file__))))
 CATALOGUE = os.path.join(ROOT, "docs", "tour", "library.nq")
 PREFIX = "PREFIX dct: <http://purl.org/dc/terms/> PREFIX lib: <http://library.example/terms#> "
 QUERIES = [
@@ -53,6 +53,18 @@ class Catalogue(unittest.TestCase):
             with self.subTest(words=words):
                 self.assertEqual((ran.returncode, ran.stdout), (status, said), ran.stderr)
                 self.assertEqual(b"100% Completed" in ran.stderr, status == 0)
+
+    def test_page(self):
+        """The commands of docs/PARTS.md that run spq-dask print what the page shows."""
+        with open(os.path.join(ROOT, "docs", "PARTS.md")) as page:
+            text = page.read().partition("```shell-session\n")[2].partition("```")[0]
+        commands = re.findall(r"^\$ (.*(?:\n> .*)*)\n((?:[^$].*\n)*)", text, re.MULTILINE)
+        self.assertGreater(len(commands), 5)
+        place = os.path.dirname(file(open(CATALOGUE, "rb").read(), "library.nq"))
+        mark = "-- next --\n"
+        lines = "exec 2>&1\n" + "".join(f"{command}\nprintf '%s' '{mark}'\n" for command, _ in commands).replace("\n> ", "\n")
+        ran = subprocess.run(["bash"], input=lines, capture_output=True, text=True, cwd=place, env=testing.environment())
+        self.assertEqual(ran.stdout.split(mark)[:-1], [shown for _, shown in commands])
 
     def test_dashboard(self):
         link = testing.CLIENT.dashboard_link.removesuffix("/status")

@@ -13,6 +13,7 @@ from distributed import Client
 from spq_dask.cluster import upload_package
 from spq_dask.command import run_words
 
+ROOT = os.path.dirname(os.path.dirname(os.path.dirname(os.path.abspath(__file__))))
 SPQ = ""
 CLIENT: Optional[Client] = None
 ADDRESS = ""
@@ -23,8 +24,18 @@ _processes: list[subprocess.Popen] = []
 def start(*words: str) -> None:
     """Starts a process of Dask in a folder from which it cannot import this package."""
     with open(os.path.join(FOLDER, "log"), "ab") as log:
-        ran = subprocess.Popen([sys.executable, "-m", *words], cwd=FOLDER, stdout=log, stderr=log)
+        ran = subprocess.Popen([sys.executable, "-m", *words], cwd=FOLDER, env=environment(), stdout=log, stderr=log)
     _processes.append(ran)
+
+
+def environment() -> dict[str, str]:
+    """Returns the environment of this process with `spq` and `spq-dask` on the PATH."""
+    place = os.path.join(FOLDER, "bin")
+    if not os.path.exists(place):
+        os.mkdir(place)
+        os.symlink(SPQ, os.path.join(place, "spq"))
+        os.symlink(os.path.join(ROOT, "distributed", "spq-dask"), os.path.join(place, "spq-dask"))
+    return dict(os.environ, PATH=place + os.pathsep + os.environ["PATH"], DASK_SCHEDULER_ADDRESS=ADDRESS)
 
 
 def start_worker() -> None:
