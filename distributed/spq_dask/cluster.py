@@ -1,0 +1,109 @@
+"""The scheduler, the progress bar, and how failures of tasks become a status and a line."""
+from __future__ import annotations
+
+import contextlib
+import os
+import sys
+import tempfile
+import zipfile
+from typing import Any, Iterator, Optional
+
+import dask
+from dask.delayed import Delayed
+from distributed import Client, Future, LocalCluster, progress
+from distributed.scheduler import KilledWorker
+
+from .cutting import Source
+from .program import DEVICE, MEMORY, Failed, Malformed
+
+
+@contextlib.contextmanager
+def connected(scheduler: Optional[str], processes: Optional[int]) -> Iterator[Client]:
+    """Connects to a scheduler, or starts one here with this number of worker processes, each with one thread.
+
+    Without an address the scheduler is the one that Dask's configuration names.
+    Workers elsewhere get this package from here. Raises `Failed` if there is no scheduler at the address.
+    """
+    scheduler = scheduler or dask.config.get("scheduler-address", None)
+    if not scheduler:
+        with LocalCluster(n_workers=processes, threads_per_worker=1) as cluster, Client(cluster) as client:
+            yield client
+        return
+    try:
+        client = Client(scheduler)
+    except (OSError, ValueError) as error:
+        raise Failed(MEMORY, "error: worker", f"no scheduler at {scheduler}: {error}") from None
+    with client:
+        upload_package(client)
+        yield client
+
+
+def upload_package(client: Client) -> None:
+    """Gives this package to the workers, also to those that join later."""
+    folder = os.path.dirname(os.path.abspath(__file__))
+    with tempfile.TemporaryDirectory() as place:
+        path = os.path.join(place, "spq_dask.zip")
+        with zipfile.ZipFile(path, "w") as archive:
+            for name in sorted(os.listdir(folder)):
+                if name.endswith(".py"):
+                    archive.write(os.path.join(folder, name), f"spq_dask/{name}")
+        client.upload_file(path)
+
+
+class Run:
+    """Runs tasks for one command, with or without a progress bar on standard error."""
+
+    def __init__(self, client: Client, quiet: bool) -> None:
+        self.client, self.quiet = client, quiet
+
+    def start(self, tasks: list[Delayed]) -> list[Delayed]:
+        """Starts tasks, and returns tasks that stand for their results, which stay on the workers."""
+        return self.client.persist(tasks)
+
+    def results(self, tasks: list[Delayed]) -> list[Any]:
+        """Runs tasks and returns their results, which are small. Raises `Failed` for the first task that fails."""
+        futures = self.client.compute(tasks)
+        self.show(futures)
+        with failures():
+            return [future.result() for future in futures]
+
+    def checked(self, sources: list[Source], tasks: list[Delayed]) -> list[Any]:
+        """Runs a task for each block, which returns a `Checked`, and returns the results.
+
+        Raises `Failed` for the first block that is malformed or fails, and for a file that was changed meanwhile.
+        """
+        futures = self.client.compute(tasks)
+        self.show(futures)
+        lines, found = 0, []
+        with failures():
+            for future in futures:
+                try:
+                    found.append(future.result())
+                except Malformed as malformed:
+                    raise Failed(1, f"error: line {lines + malformed.number}") from None
+                lines += found[-1].lines
+        sizes = iter(found)
+        for source in sources:
+            size = sum(next(sizes).size for _ in source.blocks)
+            if source.size is not None and size != source.size:
+                raise Failed(DEVICE, "error: input", f"{source.path} was changed while it was read")
+        return found
+
+    def show(self, futures: list[Future]) -> None:
+        """Waits for tasks with a progress bar, until all are done or one fails."""
+        if not self.quiet and futures:
+            with contextlib.redirect_stdout(sys.stderr):
+                progress(futures, notebook=False)
+
+
+@contextlib.contextmanager
+def failures() -> Iterator[None]:
+    """Raises `Failed` in place of what Dask and the readers of files raise."""
+    try:
+        yield
+    except Failed:
+        raise
+    except KilledWorker as error:
+        raise Failed(MEMORY, "error: worker", f"workers die of this task: {error}") from None
+    except (OSError, EOFError) as error:
+        raise Failed(DEVICE, "error: input", str(error)) from None

@@ -1,0 +1,140 @@
+"""The command line of `spq-dask`."""
+from __future__ import annotations
+
+import argparse
+import os
+import sys
+from typing import BinaryIO, Iterable, NoReturn, Optional
+
+from dask.utils import parse_bytes
+from distributed import Client
+
+from .cluster import Run, connected, failures
+from .counting import check, terms
+from .cutting import sources
+from .outline import CONDITIONS
+from .program import COMMAND_LINE, DEVICE, Failed, Spq
+from .selecting import select
+
+CONDITION_TEXT = f"""\
+A query may be split where its condition holds (docs/PARTS.md gives the reasons):
+
+  --split lines: {CONDITIONS["lines"]}.
+
+  --split subject: {CONDITIONS["subject"]}.
+
+  --split graph: {CONDITIONS["graph"]}.
+
+  --split graph --replicate-default-graph: {CONDITIONS["graph with the default graph"]}.
+"""
+
+
+class Parser(argparse.ArgumentParser):
+    """A parser that raises `Failed` in place of ending the program."""
+
+    def error(self, message: str) -> NoReturn:
+        raise Failed(COMMAND_LINE, "error: command line", message)
+
+
+def size(text: str) -> int:
+    """Reads a number of bytes, as `256MiB`."""
+    found = int(parse_bytes(text))
+    if found < 1:
+        raise ValueError
+    return found
+
+
+def number(text: str) -> int:
+    """Reads a number from 1."""
+    found = int(text)
+    if found < 1:
+        raise ValueError
+    return found
+
+
+def parser() -> Parser:
+    """Returns the parser of the command line."""
+    common = Parser(add_help=False)
+    common.add_argument("--scheduler", metavar="ADDRESS", help="a Dask scheduler; default Dask's setting scheduler-address, or one is started here")
+    common.add_argument("--processes", type=number, help="worker processes, if a scheduler is started here; default one a processor")
+    common.add_argument("--blocksize", type=size, default=size("256MiB"), help="bytes of a block; default 256MiB")
+    common.add_argument("--spq", default="spq", metavar="PATH", help="the program on the workers; default spq")
+    common.add_argument("--workers", type=number, default=1, help="threads of each run of spq; default 1")
+    common.add_argument("--quiet", action="store_true", help="neither a progress bar nor the dashboard's address")
+    common.add_argument(
+        "files", nargs="+", metavar="FILE|URL", help="N-Quads, plain or compressed; all are parts of one document, in order"
+    )
+    words = Parser(prog="spq-dask", description="Runs spq over parts of a document on the workers of a Dask scheduler.")
+    commands = words.add_subparsers(dest="command", required=True, parser_class=Parser)
+    commands.add_parser("check", parents=[common], help="count the distinct quads, terms and graph names")
+    commands.add_parser("terms", parents=[common], help="list the distinct terms")
+    selecting = commands.add_parser(
+        "select",
+        parents=[common],
+        help="answer a query",
+        epilog=CONDITION_TEXT,
+        formatter_class=argparse.RawDescriptionHelpFormatter,
+    )
+    selecting.add_argument("--query", required=True, metavar="TEXT")
+    selecting.add_argument("--split", required=True, choices=["lines", "subject", "graph"], help="what a part consists of")
+    selecting.add_argument(
+        "--replicate-default-graph", action="store_true", help="with --split graph: all parts get the default graph"
+    )
+    return words
+
+
+def output(given: argparse.Namespace, client: Client) -> Iterable[bytes]:
+    """Runs a command, and returns what it prints."""
+    run, spq = Run(client, given.quiet), Spq(given.spq, given.workers)
+    with failures():
+        found = sources(given.files, given.blocksize)
+    if given.command == "check":
+        return [check(run, found, spq)]
+    if given.command == "terms":
+        return terms(run, found, spq)
+    return select(run, found, spq, given.query, given.split, given.replicate_default_graph)
+
+
+def run_words(words: list[str], out: BinaryIO, client: Optional[Client] = None) -> int:
+    """Runs the command of the words, with a client or with one of its own. Returns the status."""
+    try:
+        given = parser().parse_args(words)
+        if given.command == "select" and given.replicate_default_graph and given.split != "graph":
+            raise Failed(COMMAND_LINE, "error: command line", "--replicate-default-graph needs --split graph")
+        if client is not None:
+            write(output(given, client), out)
+        else:
+            with connected(given.scheduler, given.processes) as own:
+                if not given.quiet:
+                    print(f"dashboard: {own.dashboard_link}", file=sys.stderr)
+                write(output(given, own), out)
+    except Failed as failed:
+        if failed.reason:
+            print(f"spq-dask: {failed.reason}", file=sys.stderr)
+        try:
+            out.write(failed.line.encode() + b"\n")
+            out.flush()
+        except OSError:
+            pass
+        return failed.status
+    return 0
+
+
+def write(texts: Iterable[bytes], out: BinaryIO) -> None:
+    """Writes texts, one after the other. Raises `Failed` if they cannot be written."""
+    for text in texts:
+        try:
+            out.write(text)
+        except OSError as error:
+            raise Failed(DEVICE, "error: output", str(error)) from None
+    try:
+        out.flush()
+    except OSError as error:
+        raise Failed(DEVICE, "error: output", str(error)) from None
+
+
+def main() -> None:
+    """Runs the program, and ends with its status."""
+    status = run_words(sys.argv[1:], sys.stdout.buffer)
+    sys.stderr.flush()
+    os._exit(status) if status == DEVICE else sys.exit(status)

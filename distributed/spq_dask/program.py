@@ -1,0 +1,92 @@
+"""Runs `spq` over one text on its standard input."""
+from __future__ import annotations
+
+import io
+import os
+import signal
+import subprocess
+from dataclasses import dataclass
+from typing import Iterator
+
+from .cutting import count_lines, halves
+
+MALFORMED, QUERY, COMMAND_LINE, MEMORY, DEVICE = 1, 2, 3, 4, 5
+
+
+class Failed(Exception):
+    """A run without a result: its status, its first line, and what else to tell the user."""
+
+    def __init__(self, status: int, line: str, reason: str = "") -> None:
+        super().__init__(status, line, reason)
+        self.status, self.line, self.reason = status, line, reason
+
+
+class Malformed(Exception):
+    """A text that is not N-Quads: the number of its first malformed line, counted from 1."""
+
+    def __init__(self, number: int) -> None:
+        super().__init__(number)
+        self.number = number
+
+
+@dataclass(frozen=True)
+class Spq:
+    """The program: its path on the workers, and the number of threads of each run."""
+
+    path: str = "spq"
+    threads: int = 1
+
+    def run(self, words: list[str], text: bytes) -> tuple[int, bytes]:
+        """Runs a command over a text. Returns the status and the standard output.
+
+        Raises `Failed` if the program cannot be started, or ends with a status that it does not have.
+        """
+        command = [self.path, words[0], "--workers", str(self.threads), *words[1:]]
+        with os.fdopen(os.memfd_create("spq"), "w+b", buffering=0) as source:  # cheaper than a pipe and a thread
+            _write(source, text)
+            try:
+                ended = subprocess.run(command, stdin=source, stdout=subprocess.PIPE, stderr=subprocess.DEVNULL)
+            except OSError as error:
+                raise Failed(MEMORY, "error: worker", f"{self.path} cannot be started: {error.strerror}") from None
+        status = ended.returncode
+        if status == -signal.SIGKILL:  # what the system does when memory is short
+            return MEMORY, b"error: memory\n"
+        if not 0 <= status <= DEVICE:
+            raise Failed(MEMORY, "error: worker", f"{self.path} ended with status {status}")
+        return status, ended.stdout
+
+    def run_in_halves(self, words: list[str], text: bytes) -> Iterator[tuple[bytes, int, bytes]]:
+        """Runs a command over a text. A text that needs too much memory is cut in two, as often as needed.
+
+        Yields each part with its status, 0 or 1, and its output. Raises `Failed` on any other status.
+        """
+        status, output = self.run(words, text)
+        both = halves(text) if status == MEMORY else None
+        if both:
+            for half in both:
+                yield from self.run_in_halves(words, half)
+        elif status in (0, MALFORMED):
+            yield text, status, output
+        else:
+            raise Failed(status, output.decode().strip())
+
+    def outputs(self, words: list[str], text: bytes) -> list[bytes]:
+        """Runs a command over a text. Returns the output, or the outputs of its parts if it was cut.
+
+        Raises `Malformed` if the text has a malformed line.
+        """
+        before, found = 0, []
+        for part, status, output in self.run_in_halves(words, text):
+            if status == MALFORMED:
+                raise Malformed(before + int(output.split()[-1]))
+            found.append(output)
+            before += count_lines(part)
+        return found
+
+
+def _write(file: io.FileIO, text: bytes) -> None:
+    """Writes a text to an empty file, and goes back to its beginning."""
+    view = memoryview(text)
+    while view:
+        view = view[file.write(view) :]
+    file.seek(0)

@@ -1,0 +1,148 @@
+"""The three commands over documents that are cut in many ways."""
+import gzip
+import os
+import random
+import re
+import subprocess
+import unittest
+import urllib.request
+
+import testing
+from testing import ROOT, file, script, spq, spq_dask
+
+CATALOGUE = os.path.join(ROOT, "docs", "tour", "library.nq")
+PREFIX = "PREFIX dct: <http://purl.org/dc/terms/> PREFIX lib: <http://library.example/terms#> "
+QUERIES = [
+    (["--split", "lines"], "SELECT ?title { ?w dct:title ?title } LIMIT 4 OFFSET 2"),
+    (["--split", "lines"], "SELECT DISTINCT ?g { GRAPH ?g { ?a ?b ?c } }"),
+    (["--split", "subject"], "SELECT ?w ?t ?p { ?w dct:title ?t OPTIONAL { ?w lib:price ?p } MINUS { ?w a lib:Map } }"),
+    (["--split", "subject"], "SELECT ?shelf ?w { GRAPH ?g { ?c lib:of ?w ; lib:shelf ?shelf } }"),
+    (["--split", "graph"], "SELECT ?g ?w ?due { GRAPH ?g { ?c lib:of ?w OPTIONAL { ?c lib:due ?due } } }"),
+    (["--split", "graph", "--replicate-default-graph"], "SELECT * { GRAPH ?g { ?c lib:of ?w OPTIONAL { ?c lib:due ?due } } ?w dct:title ?title }"),
+]
+
+
+class Catalogue(unittest.TestCase):
+    def test_check_terms_select(self):
+        with open(CATALOGUE, "rb") as source:
+            text = source.read()
+        for size in ["400", "1500", "3KiB", "256MiB"]:
+            for command in ["check", "terms"]:
+                with self.subTest(command=command, size=size):
+                    self.assertEqual(spq_dask([command, "--blocksize", size], CATALOGUE)[:2], spq([command], text))
+            for options, query in QUERIES:
+                with self.subTest(query=query, size=size):
+                    asked = ["select", "--query", PREFIX + query]
+                    self.assertEqual(spq_dask([*asked, *options, "--blocksize", size], CATALOGUE), (*spq(asked, text), ""))
+
+    def test_program(self):
+        """The program itself, with the scheduler of the tests and with one of its own."""
+        program = os.path.join(ROOT, "distributed", "spq-dask")
+        query = "SELECT * { GRAPH ?g { ?a ?b ?c } }"
+        for words, status, said in [
+            (["check", "--scheduler", testing.ADDRESS, "--blocksize", "2KiB", CATALOGUE], 0, b"ok 64 quads 74 terms 3 graphs\n"),
+            (["check", "--processes", "2", "--blocksize", "4KiB", CATALOGUE], 0, b"ok 64 quads 74 terms 3 graphs\n"),
+            (["select", "--scheduler", testing.ADDRESS, "--query", query, "--split", "graph", CATALOGUE], 0, None),
+            (["terms", "--scheduler", testing.ADDRESS, "missing.nq"], 5, b"error: input\n"),
+            (["check", "--blocksize", "many", CATALOGUE], 3, b"error: command line\n"),
+        ]:
+            ran = subprocess.run([program, words[0], "--spq", testing.SPQ, *words[1:]], capture_output=True)
+            if said is None:
+                with open(CATALOGUE, "rb") as source:
+                    said = spq(["select", "--query", query], source.read())[1]
+            with self.subTest(words=words):
+                self.assertEqual((ran.returncode, ran.stdout), (status, said), ran.stderr)
+                self.assertEqual(b"100% Completed" in ran.stderr, status == 0)
+
+    def test_page(self):
+        """The commands of docs/PARTS.md that run spq-dask print what the page shows."""
+        with open(os.path.join(ROOT, "docs", "PARTS.md")) as page:
+            text = page.read().partition("```shell-session\n")[2].partition("```")[0]
+        commands = re.findall(r"^\$ (.*(?:\n> .*)*)\n((?:[^$].*\n)*)", text, re.MULTILINE)
+        self.assertGreater(len(commands), 5)
+        place = os.path.dirname(file(open(CATALOGUE, "rb").read(), "library.nq"))
+        mark = "-- next --\n"
+        lines = "exec 2>&1\n" + "".join(f"{command}\nprintf '%s' '{mark}'\n" for command, _ in commands).replace("\n> ", "\n")
+        ran = subprocess.run(["bash"], input=lines, capture_output=True, text=True, cwd=place, env=testing.environment())
+        self.assertEqual(ran.stdout.split(mark)[:-1], [shown for _, shown in commands])
+
+    def test_dashboard(self):
+        link = testing.CLIENT.dashboard_link.removesuffix("/status")
+        with urllib.request.urlopen(link + "/health") as answer:
+            self.assertEqual(answer.read(), b"ok")
+
+
+class Forms(unittest.TestCase):
+    """Line ends, files that are compressed or empty, and several files."""
+
+    TEXT = b"".join(b"<a:s%d> <a:p> \"%d\" <a:g%d> .\n" % (k % 7, k % 11, k % 3) for k in range(60))
+
+    def same(self, text: bytes, *files: str, sizes=("90", "333", "1MiB")):
+        query = "SELECT * { GRAPH ?g { ?s ?p ?o } }"
+        for size in sizes:
+            for words, options in [(["check"], []), (["terms"], []), (["select", "--query", query], ["--split", "graph"])]:
+                with self.subTest(words=words, size=size):
+                    self.assertEqual(spq_dask([*words, *options, "--blocksize", size], *files), (*spq(words, text), ""))
+
+    def test_empty(self):
+        self.same(b"", file(b""))
+        self.same(b"", file(gzip.compress(b""), "x.nq.gz"), sizes=["1MiB"])
+
+    def test_blank_lines_and_comments(self):
+        text = b"\n# c\n\r\n \t\r# d" * 20
+        self.same(text, file(text))
+
+    def test_gzip(self):
+        self.same(self.TEXT, file(gzip.compress(self.TEXT), "x.nq.gz"))
+
+    def test_several_files(self):
+        parts = [self.TEXT[:500].rpartition(b"\n")[0] + b"\n", b"", self.TEXT[500:].partition(b"\n")[2]]
+        self.same(b"".join(parts), file(parts[0]), file(parts[1]), file(gzip.compress(parts[2]), "x.gz"))
+
+    def test_line_ends(self):
+        dice = random.Random(4)
+        text = b"".join(line[:-1] + dice.choice([b"\r", b"\r\n", b"\n", b"\n"]) for line in self.TEXT.splitlines(True))
+        self.same(text, file(text))
+        self.same(text[:-1], file(text[:-1]))
+
+    def test_no_line_feed(self):
+        text = self.TEXT.replace(b"\n", b"\r")
+        self.same(text, file(text), sizes=["90", "1MiB"])
+
+    def test_memory(self):
+        """A block that needs too much memory is cut in two."""
+        small = script('t=$(mktemp); cat > $t; if [ $(wc -c < $t) -gt 300 ]; then rm $t; echo "error: memory"; exit 4; fi\n'
+                       '"$SPQ" "$@" < $t; s=$?; rm $t; exit $s')
+        path = file(self.TEXT)
+        for words, options in [(["check"], []), (["terms"], [])]:
+            self.assertEqual(spq_dask([*words, *options, "--blocksize", "1KiB"], path, program=small)[:2], spq(words, self.TEXT))
+        for split, query in [("lines", "SELECT * { GRAPH ?g { ?s ?p ?o } } LIMIT 5"), ("subject", "SELECT * { GRAPH ?g { ?s ?p ?o } }")]:
+            words = ["select", "--query", query.replace("SELECT", "SELECT DISTINCT")]
+            asked = [*words, "--split", split, "--blocksize", "1KiB"]
+            self.assertEqual(spq_dask(asked, path, program=small)[:2], spq(words, self.TEXT))
+        bad = self.TEXT.splitlines(True)
+        bad[40] = b"x\n"
+        self.assertEqual(spq_dask(["check", "--blocksize", "1KiB"], file(b"".join(bad)), program=small)[:2], (1, b"error: line 41\n"))
+        long = file(b'<a:b> <a:b> "%s" .\n' % (b"x" * 400))
+        self.assertEqual(spq_dask(["check"], long, program=small)[:2], (4, b"error: memory\n"))
+
+
+class Malformed(unittest.TestCase):
+    def test_in_each_block(self):
+        dice = random.Random(5)
+        lines = [line[:-1] + dice.choice([b"\n", b"\n", b"\r\n", b"\r"]) for line in Forms.TEXT.splitlines(True)[:40]]
+        for place in range(0, 40, 3):
+            bad = [*lines]
+            bad[place] = b"<a:b> bad" + bad[place][-1:]
+            if place % 2:
+                bad[39] = b"x"
+            text = b"".join(bad)
+            for words, options in [(["check"], []), (["terms"], []), (["select", "--query", "SELECT * { ?s ?p ?o }"], ["--split", "subject"])]:
+                if place % 9 and words != ["check"]:
+                    continue
+                with self.subTest(place=place, words=words):
+                    self.assertEqual(spq_dask([*words, *options, "--blocksize", "100"], file(text))[:2], spq(words, text))
+
+    def test_lines_of_files_without_line_feed(self):
+        said = spq_dask(["check"], file(b"# a\r# b"), file(b"# c\n# d"), file(b"\r\nx"))
+        self.assertEqual(said[:2], (1, b"error: line 6\n"))

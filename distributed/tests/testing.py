@@ -1,0 +1,116 @@
+"""A scheduler and workers for the tests, and the two programs that the tests compare."""
+import contextlib
+import io
+import os
+import subprocess
+import sys
+import tempfile
+import time
+from typing import Iterator, Optional, Sequence
+
+from distributed import Client
+
+from spq_dask.cluster import upload_package
+from spq_dask.command import run_words
+
+ROOT = os.path.dirname(os.path.dirname(os.path.dirname(os.path.abspath(__file__))))
+SPQ = ""
+CLIENT: Optional[Client] = None
+ADDRESS = ""
+FOLDER = ""
+_processes: list[subprocess.Popen] = []
+
+
+def start(*words: str) -> None:
+    """Starts a process of Dask in a folder from which it cannot import this package."""
+    with open(os.path.join(FOLDER, "log"), "ab") as log:
+        ran = subprocess.Popen([sys.executable, "-m", *words], cwd=FOLDER, env=environment(), stdout=log, stderr=log)
+    _processes.append(ran)
+
+
+def environment() -> dict[str, str]:
+    """Returns the environment of this process with `spq` and `spq-dask` on the PATH."""
+    place = os.path.join(FOLDER, "bin")
+    if not os.path.exists(place):
+        os.mkdir(place)
+        os.symlink(SPQ, os.path.join(place, "spq"))
+        os.symlink(os.path.join(ROOT, "distributed", "spq-dask"), os.path.join(place, "spq-dask"))
+    return dict(os.environ, PATH=place + os.pathsep + os.environ["PATH"], DASK_SCHEDULER_ADDRESS=ADDRESS)
+
+
+def start_worker() -> None:
+    """Starts a worker with one thread, which is not started again if it dies."""
+    start("distributed.cli.dask_worker", ADDRESS, "--host", "127.0.0.1", "--nthreads", "1", "--no-nanny",
+          "--memory-limit", "1GiB", "--no-dashboard", "--local-directory", FOLDER)
+
+
+@contextlib.contextmanager
+def cluster() -> Iterator[None]:
+    """Runs a scheduler and three workers on the loopback interface, and a client of them."""
+    global CLIENT, ADDRESS, FOLDER
+    with tempfile.TemporaryDirectory() as FOLDER:
+        place = os.path.join(FOLDER, "scheduler.json")
+        start("distributed.cli.dask_scheduler", "--host", "127.0.0.1", "--port", "0", "--dashboard-address", "127.0.0.1:0",
+              "--scheduler-file", place)
+        try:
+            with Client(scheduler_file=place, timeout=60) as CLIENT:
+                ADDRESS = CLIENT.scheduler.address
+                for _ in range(3):
+                    start_worker()
+                CLIENT.wait_for_workers(3, timeout=60)
+                upload_package(CLIENT)
+                yield
+        finally:
+            for process in _processes:
+                process.kill()
+                process.wait()
+
+
+def workers() -> dict:
+    """Returns the process of each worker by its address."""
+    return CLIENT.run(os.getpid)
+
+
+def restore_workers() -> None:
+    """Starts workers until there are three again."""
+    for _ in range(3 - len(workers())):
+        start_worker()
+    CLIENT.wait_for_workers(3, timeout=60)
+
+
+def file(text: bytes, name: str = "document.nq") -> str:
+    """Writes a file in a new folder and returns its path."""
+    path = os.path.join(tempfile.mkdtemp(dir=FOLDER), name)
+    with open(path, "wb") as out:
+        out.write(text)
+    return path
+
+
+def script(text: str) -> str:
+    """Writes a shell script that stands in for `spq`, and returns its path."""
+    path = file(f"#!/bin/sh\nSPQ={SPQ}\n{text}\n".encode(), "stand-in")
+    os.chmod(path, 0o755)
+    return path
+
+
+def spq(words: Sequence[str], text: bytes) -> tuple[int, bytes]:
+    """Runs `spq` over a whole document."""
+    ran = subprocess.run([SPQ, *words], input=text, stdout=subprocess.PIPE)
+    return ran.returncode, ran.stdout
+
+
+def spq_dask(words: Sequence[str], *files: str, program: Optional[str] = None) -> tuple[int, bytes, str]:
+    """Runs spq-dask in this process, with the client. Returns its status, its output, and what it tells the user."""
+    out, told = io.BytesIO(), io.StringIO()
+    with contextlib.redirect_stderr(told):
+        status = run_words([words[0], "--quiet", "--spq", program or SPQ, *words[1:], *files], out, CLIENT)
+    return status, out.getvalue(), told.getvalue()
+
+
+def wait_for(condition, seconds: float = 30) -> None:
+    """Waits until a condition holds."""
+    end = time.monotonic() + seconds
+    while not condition():
+        if time.monotonic() > end:
+            raise TimeoutError
+        time.sleep(0.02)
