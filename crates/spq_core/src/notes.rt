@@ -53,12 +53,12 @@ impl Notes {
         alloc: Global,
         blocks: &[Vec<u8>],
         reads: &Reads,
-        result: &Result<Store, LoadFault>,
+        loaded: &Result<Store, LoadFault>,
     ) {
         if reads.done.load(Ordering::SeqCst) >= blocks.len() {
             self.stage = Stage::Sorting;
         }
-        if let Err(LoadFault::BadLine(number)) = result {
+        if let Err(LoadFault::BadLine(number)) = loaded {
             self.line = line_at(alloc, blocks, *number);
         }
     }

@@ -6,9 +6,9 @@ returns-in-Ok g c = record {
   run = inl (record {
     command = c.in-Ok.command;
     told = c.in-Ok.ensures.ok;
-    run = c.in-Ok-run_command.ensures.run;
-    alone = c.in-Ok-run_command.ensures.alone;
-    unread = c.in-Ok-run_command.ensures.unread;
-    answerable = c.in-Ok-run_command.ensures.answerable;
+    run = c.run_command.ensures.run;
+    alone = c.run_command.ensures.alone;
+    unread = c.run_command.ensures.unread;
+    answerable = c.run_command.ensures.answerable;
   });
 }
