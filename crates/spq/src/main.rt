@@ -3,12 +3,13 @@
 //! The document comes on standard input, and the output goes to standard output, a fault's line
 //! too. The exit status is 0, or that of the fault. All that is promised is promised by `run_words`
 //! and `finish` of `spq_core`; here they meet the words of the command line and the two devices.
+//! Then `report` of `spq_report` says on standard error why a run failed and where.
 #![tactic(auto)]
 
-use nquads_core::Device;
-use spq_core::{RunFault, finish, run_words};
+use spq_core::{Notes, Ran, RunFault, finish, run_words};
+use spq_report::{Account, Console, Input, Output, Terminals, report};
 use std::env;
-use std::io::ErrorKind;
+use std::io::{ErrorKind, IsTerminal, Stderr, Stdin, Stdout};
 use std::process::ExitCode;
 
 /// The words of the command line.
@@ -27,15 +28,60 @@ fn words_of(rt: &HostRuntime) -> Result<Vec<String>, RunFault> {
     Ok(words)
 }
 
-fn main(rt: HostRuntime) -> ExitCode {
-    let reader = Device { inner: rt.stdin() };
-    let writer = Device { inner: rt.stdout() };
-    let (done, mut writer) = match words_of(&rt) {
-        Ok(words) => {
-            let ran = run_words(&rt, rt.alloc(), &words, reader, writer);
-            (ran.done, ran.writer)
-        }
-        Err(fault) => (Err(fault), writer),
+/// Which devices are terminals.
+fn terminals_of(rt: &HostRuntime) -> Terminals {
+    Terminals {
+        input: rt.stdin().is_terminal(),
+        output: rt.stdout().is_terminal(),
+        error: rt.stderr().is_terminal(),
+    }
+}
+
+/// Ends a program whose words could not be taken.
+fn end_without_words(rt: &HostRuntime, fault: RunFault, terminals: Terminals) -> u8 {
+    let mut writer = Output::new(rt.stdout());
+    let done = Err(fault);
+    let status = finish(&done, &mut writer);
+    let account = Account {
+        words: None,
+        notes: &Notes::new(),
+        read_error: None,
+        write_error: None,
+        is_repeated: !terminals.output,
     };
-    ExitCode::from(finish(&done, &mut writer))
+    let _told = report(&mut rt.stderr(), rt.alloc(), &done, &account);
+    status
+}
+
+/// Ends a program whose words were run.
+fn end(
+    rt: &HostRuntime,
+    words: &[String],
+    ran: &mut Ran<Input<Stdin, Console<HostRuntime, Stderr>>, Output<Stdout>>,
+    terminals: Terminals,
+) -> u8 {
+    ran.reader.meter.clear();
+    let write_error = ran.writer.error;
+    let status = finish(&ran.done, &mut ran.writer);
+    let account = Account {
+        words: Some(words),
+        notes: &ran.notes,
+        read_error: ran.reader.error,
+        write_error,
+        is_repeated: !terminals.output,
+    };
+    let _told = report(&mut rt.stderr(), rt.alloc(), &ran.done, &account);
+    status
+}
+
+fn main(rt: HostRuntime) -> ExitCode {
+    let terminals = terminals_of(&rt);
+    let words = match words_of(&rt) {
+        Ok(words) => words,
+        Err(fault) => return ExitCode::from(end_without_words(&rt, fault, terminals)),
+    };
+    let reader = Input::new(rt.stdin(), Console::new(rt, rt.stderr(), terminals));
+    let writer = Output::new(rt.stdout());
+    let mut ran = run_words(&rt, rt.alloc(), &words, reader, writer);
+    ExitCode::from(end(&rt, &words, &mut ran, terminals))
 }

@@ -5,4 +5,3 @@ pub mod DocumentSteps
 pub mod ListingSteps
 pub mod ReportSteps
 pub mod OutcomeLaws
-pub mod WordSteps

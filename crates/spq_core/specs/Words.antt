@@ -5,7 +5,7 @@ use Rattle.spq_command.specs.Program.{IsCommandLine}
 use Rattle.spq_command.specs.declared.command.Command.{Command}
 use Rattle.spq_command.specs.declared.command.Command.TheVariants.{Select, Check, Terms}
 use Rattle.spq_core.specs.Output.{request_of}
-use Rattle.spq_core.specs.Run.{IsByOneWorker, IsRun}
+use Rattle.spq_core.specs.Run.{IsAnswerable, IsByOneWorker, IsRun}
 use Rattle.spq_core.specs.declared.program.RunFault.{RunFault}
 use Rattle.spq_core.specs.declared.program.RunFault.TheVariants.{Query, BadLine, WorkerRefused, Memory, Read, Write, Line}
 
@@ -34,8 +34,8 @@ IsDoneAlone (Select text reading rows) = ⊥
 IsDoneAlone (Check reading) = reading.workers ≡ 1
 IsDoneAlone (Terms reading) = reading.workers ≡ 1
 
--- The words are this command, and it was run. Where it is done by one worker and a start is refused,
--- this is the start of the thread for the query, and nothing was read.
+-- The words are this command, and it was run. If a thread could not be started, the query is valid. With
+-- one worker that was the thread of the query, and nothing was read.
 pub record IsRunOf {S K T : Type 0} (left : S → Option (List ℕ)) (read_failures : S → Option ℕ)
     (held : K → Option (List ℕ)) (write_failures : K → Option ℕ)
     (gives : K → List ℕ → Result ℕ DeviceFailed → K → Type 0) (words : List (List ℕ))
@@ -45,3 +45,4 @@ pub record IsRunOf {S K T : Type 0} (left : S → Option (List ℕ)) (read_failu
   pub run : IsRun left read_failures held write_failures gives (request_of command) reader reader' writer writer' result
   pub alone : IsDoneAlone command → result ≡ Err WorkerRefused → ⊥
   pub unread : IsByOneWorker command → result ≡ Err WorkerRefused → reader' ≡ reader
+  pub answerable : result ≡ Err WorkerRefused → IsAnswerable (request_of command)

@@ -1,11 +1,11 @@
 //! The answer of a query over a document.
-ghost use Rattle.std.specs.Prelude.{◌≡◌, ◌-◌, ◌^◌, IfOk, IfErr, Ok, length, min};
+ghost use Rattle.std.specs.Prelude.{◌≡◌, ◌-◌, ◌^◌, IfOk, IfErr, OnOk, Ok, length, min};
 ghost use Rattle.std.specs.Str.{chars};
 ghost use Rattle.piece_cuts.specs.Cuts.{AreCuts};
 ghost use Rattle.dict_core.specs.NumQuad.{quads_at};
 ghost use Rattle.row_pieces.specs.How.{IsRunnable, HasOneWorker};
 ghost use Rattle.row_pieces.specs.declared.how.EvalFault.TheVariants.{Memory};
-ghost use Rattle.sparql_tree.specs.QueryTree.{query_of};
+ghost use Rattle.sparql_tree.specs.QueryTree.{QueryTree, query_of};
 ghost use Rattle.sparql_read.specs.Refusal.{IsRead};
 ghost use Rattle.sparql_algebra.specs.AlgebraOf.{algebra_of};
 ghost use Rattle.sparql_algebra.specs.Names.{names_of, selected_names};
@@ -15,6 +15,7 @@ ghost use Rattle.spq_core.specs.Outcome.{IsOutcome, rows};
 ghost use Rattle.result_json.specs.Results.{joined_blocks, json};
 
 use crate::fault::Fault;
+use crate::notes::{Notes, Stage};
 use algebra_model::laws::{a_bag_has_one_sorted_list, a_dataset_is_a_set};
 use dataset_load::{Store, load};
 use piece_cuts::Cuts;
@@ -46,6 +47,20 @@ pub fn judged(alloc: Global, text: &str) -> Result<Query, Fault>
     }
 }
 
+/// Checks the text of a query, and drops the query. It takes no deeper stack for a longer text.
+///
+/// # Errors
+/// As `judged`.
+pub fn check_query(alloc: Global, text: &str) -> Result<(), Fault>
+    ensures query { OnOk result ((q : QueryTree) × IsRead (chars text.now) q) }
+    ensures refused { IfErr result (IsFaultOfReading text.now) }
+{
+    match judged(alloc, text) {
+        Ok(_query) => Ok(()),
+        Err(fault) => Err(fault),
+    }
+}
+
 /// Returns the JSON of a query's rows over a loaded dataset, in blocks that follow each other.
 pub fn answer_query<R: Threads + Wait + RandomSource, G: Gate + Sync>(
     rt: &R,
@@ -54,6 +69,7 @@ pub fn answer_query<R: Threads + Wait + RandomSource, G: Gate + Sync>(
     query: &Query,
     how: &How,
     gate: &G,
+    notes: &mut Notes,
 ) -> Result<Vec<Vec<u8>>, EvalFault>
     requires how { IsRunnable how.now }
     ensures answer { IfOk result (λ blocks. joined_blocks blocks.items
@@ -61,8 +77,9 @@ pub fn answer_query<R: Threads + Wait + RandomSource, G: Gate + Sync>(
         (rows (query_of query.now) (quads_at store.dict store.index))) }
     ensures one_worker { HasOneWorker how.now → IfErr result (λ fault. fault ≡ Memory) }
 {
+    notes.stage = Stage::Joining;
     let plan = translate(alloc, query)?;
-    answer_plan(rt, alloc, store, query, &plan, how, gate)
+    answer_plan(rt, alloc, store, query, &plan, how, gate, notes)
 }
 
 /// Evaluates the plan of a query over a loaded dataset, and prints its rows.
@@ -76,6 +93,7 @@ fn answer_plan<R: Threads + Wait + RandomSource, G: Gate + Sync>(
     plan: &Plan,
     how: &How,
     gate: &G,
+    notes: &mut Notes,
 ) -> Result<Vec<Vec<u8>>, EvalFault>
     requires names { plan.now.names.items ≡ names_of (query_of query.now) }
     requires tree { algebra_of plan.now.tree ≡ (translate (query_of query.now)).algebra }
@@ -89,6 +107,8 @@ fn answer_plan<R: Threads + Wait + RandomSource, G: Gate + Sync>(
     let (dict, index) = store.into_parts();
     let (rows, dict) = evaluate(rt, alloc, dict, &index, plan, how, gate)?;
     drop(index);
+    notes.is_empty = rows.len() == 0;
+    notes.stage = Stage::Printing;
     let table = Table {
         names: &plan.names,
         listed: plan.projected(),
@@ -157,7 +177,8 @@ pub fn answer<R: Threads + Wait + RandomSource, G: Gate + Sync>(
     a_bag_has_one_sorted_list();
     let query = judged(alloc, query)?;
     let store = load(rt, alloc, doc, cuts, how.workers, gate)?;
-    let blocks = answer_query(rt, alloc, store, &query, how, gate)?;
+    let mut notes = Notes::new();
+    let blocks = answer_query(rt, alloc, store, &query, how, gate, &mut notes)?;
     let bytes = joined(alloc, &blocks)?;
     Ok(bytes)
 }

@@ -30,12 +30,29 @@ mod answering;
 mod fault;
 pub mod laws;
 mod listing;
+mod notes;
 mod program;
 mod report;
 mod words;
 
 pub use answering::answer;
 pub use fault::Fault;
-pub use program::{RunFault, run};
+pub use notes::{Notes, Stage};
+pub use program::{RunFault, run, run_noted};
 pub use report::{finish, status, write_fault};
 pub use words::{Ran, run_words};
+
+/// Why a document was not loaded.
+pub use dataset_load::LoadFault;
+/// A loaded dataset: its terms, and an index of its quads.
+pub use dataset_load::Store;
+/// Loads a document that is cut into pieces.
+pub use dataset_load::load;
+/// Loads a document that is split into blocks of whole lines.
+pub use dataset_load::load_blocks;
+/// What the words of a command line say to do.
+pub use spq_command::Command;
+/// Why the words of a command line are no command.
+pub use spq_command::CommandFault;
+/// Reads the words of a command line.
+pub use spq_command::read_command;

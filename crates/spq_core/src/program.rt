@@ -13,6 +13,7 @@ ghost use Rattle.spq_core.specs.declared.program.RunFault.TheVariants.{Memory, W
 use crate::answering::{answer_query, judged};
 use crate::fault::Fault;
 use crate::listing::{counts_text, terms_text};
+use crate::notes::{Notes, Reads, Stage};
 use algebra_model::laws::{a_bag_has_one_sorted_list, a_dataset_is_a_set};
 use dataset_load::{LoadFault, Store, load_blocks, read_blocks};
 use nquads_core::{DeviceFailed, ReadFault, Sink, Source, write_all};
@@ -94,20 +95,27 @@ impl From<CommandFault> for RunFault {
 }
 
 /// Reads the rest of the reader in blocks of whole lines, and loads them as a dataset.
+///
+/// This is where a malformed line is noted: the blocks still hold it.
 fn load_document<R: Threads + Wait + RandomSource, S: Source>(
     rt: &R,
     alloc: Global,
     reading: Reading,
     reader: &mut S,
+    notes: &mut Notes,
 ) -> Result<Store, RunFault>
     ensures { IsLoading S.left S.failures (reading.workers ≡ 1) reader.old reader.new result }
 {
+    notes.stage = Stage::Reading;
     let blocks = match read_blocks(alloc, reading.piece, reader) {
         Ok(blocks) => blocks,
         Err(ReadFault::Read) => return Err(RunFault::Read),
         Err(ReadFault::Memory) => return Err(RunFault::Memory),
     };
-    match load_blocks(rt, alloc, blocks.as_slice(), reading.workers, &OpenGate) {
+    let reads = Reads::new();
+    let loaded = load_blocks(rt, alloc, blocks.as_slice(), reading.workers, &reads);
+    notes.loaded(alloc, &blocks, &reads, &loaded);
+    match loaded {
         Ok(store) => Ok(store),
         Err(LoadFault::BadLine(line)) => Err(RunFault::BadLine(line)),
         Err(LoadFault::WorkerRefused) => Err(RunFault::WorkerRefused),
@@ -124,22 +132,25 @@ fn selected<R: Threads + Wait + RandomSource, S: Source>(
     reading: Reading,
     rows: usize,
     reader: &mut S,
+    notes: &mut Notes,
 ) -> Result<Vec<Vec<u8>>, RunFault>
     ensures { IsComposing S.left S.failures (select query.now) (reading.workers ≡ 1)
         reader.old reader.new result }
 {
     a_dataset_is_a_set();
     a_bag_has_one_sorted_list();
+    let text = query;
     let query = match judged(alloc, query) {
         Ok(query) => query,
         Err(fault) => return Err(RunFault::from(fault)),
     };
-    let store = load_document(rt, alloc, reading, reader)?;
+    let store = load_document(rt, alloc, reading, reader, notes)?;
+    notes.queried(alloc, text, &store);
     let how = How {
         workers: reading.workers,
         rows: rows.max(1),
     };
-    match answer_query(rt, alloc, store, &query, &how, &OpenGate) {
+    match answer_query(rt, alloc, store, &query, &how, &OpenGate, notes) {
         Ok(blocks) => Ok(blocks),
         Err(EvalFault::WorkerRefused) => Err(RunFault::WorkerRefused),
         Err(EvalFault::Memory) => Err(RunFault::Memory),
@@ -181,11 +192,13 @@ fn checked<R: Threads + Wait + RandomSource, S: Source>(
     alloc: Global,
     reading: Reading,
     reader: &mut S,
+    notes: &mut Notes,
 ) -> Result<Vec<Vec<u8>>, RunFault>
     ensures { IsComposing S.left S.failures check (reading.workers ≡ 1)
         reader.old reader.new result }
 {
-    let store = load_document(rt, alloc, reading, reader)?;
+    let store = load_document(rt, alloc, reading, reader, notes)?;
+    notes.stage = Stage::Printing;
     counts_block(alloc, &store)
 }
 
@@ -195,11 +208,13 @@ fn listed<R: Threads + Wait + RandomSource, S: Source>(
     alloc: Global,
     reading: Reading,
     reader: &mut S,
+    notes: &mut Notes,
 ) -> Result<Vec<Vec<u8>>, RunFault>
     ensures { IsComposing S.left S.failures terms (reading.workers ≡ 1)
         reader.old reader.new result }
 {
-    let store = load_document(rt, alloc, reading, reader)?;
+    let store = load_document(rt, alloc, reading, reader, notes)?;
+    notes.stage = Stage::Printing;
     terms_block(alloc, &store)
 }
 
@@ -210,6 +225,7 @@ fn composed<R: Threads + Wait + RandomSource, S: Source>(
     alloc: Global,
     command: &Command,
     reader: &mut S,
+    notes: &mut Notes,
 ) -> Result<Vec<Vec<u8>>, RunFault>
     ensures { IsComposing S.left S.failures (request_of command.now) (IsByOneWorker command.now)
         reader.old reader.new result }
@@ -219,9 +235,9 @@ fn composed<R: Threads + Wait + RandomSource, S: Source>(
             query,
             reading,
             rows,
-        } => selected(rt, alloc, query.as_str(), *reading, *rows, reader),
-        Command::Check { reading } => checked(rt, alloc, *reading, reader),
-        Command::Terms { reading } => listed(rt, alloc, *reading, reader),
+        } => selected(rt, alloc, query.as_str(), *reading, *rows, reader, notes),
+        Command::Check { reading } => checked(rt, alloc, *reading, reader, notes),
+        Command::Terms { reading } => listed(rt, alloc, *reading, reader, notes),
     }
 }
 
@@ -294,7 +310,28 @@ pub fn run<R: Threads + Wait + RandomSource, S: Source, K: Sink>(
     ensures answerable { result ≡ Err WorkerRefused → IsAnswerable (request_of command.now) }
     ensures one_worker { IsByOneWorker command.now → result ≡ Err WorkerRefused → ⊥ }
 {
-    let blocks = composed(rt, alloc, command, reader)?;
+    let mut notes = Notes::new();
+    run_noted(rt, alloc, command, reader, writer, &mut notes)
+}
+
+/// Runs a command as [`run`] does, and notes what messages about it show.
+///
+/// # Errors
+/// As `run`.
+pub fn run_noted<R: Threads + Wait + RandomSource, S: Source, K: Sink>(
+    rt: &R,
+    alloc: Global,
+    command: &Command,
+    reader: &mut S,
+    writer: &mut K,
+    notes: &mut Notes,
+) -> Result<(), RunFault>
+    ensures run { IsRun S.left S.failures K.held K.failures K.write_gives (request_of command.now)
+        reader.old reader.new writer.old writer.new result }
+    ensures answerable { result ≡ Err WorkerRefused → IsAnswerable (request_of command.now) }
+    ensures one_worker { IsByOneWorker command.now → result ≡ Err WorkerRefused → ⊥ }
+{
+    let blocks = composed(rt, alloc, command, reader, notes)?;
     match write_blocks(writer, &blocks) {
         Ok(()) => Ok(()),
         Err(_failed) => Err(RunFault::Write),

@@ -1,12 +1,14 @@
 //! The words of a command line over a reader and a writer: the command that they are, run on a stack
 //! that is as large as its query may need.
 ghost use Rattle.std.specs.Prelude.{◌≡◌, ◌⊎◌, ◌+◌, ◌*◌, ◌-◌, ◌^◌, Err, length, map, min, string_bytes};
-ghost use Rattle.spq_core.specs.Output.{request_of};
-ghost use Rattle.spq_core.specs.Run.{IsByOneWorker, IsRun};
-ghost use Rattle.spq_core.specs.Words.{IsNotRun, IsRunOf};
+ghost use Rattle.spq_core.specs.Output.{request_of, select};
+ghost use Rattle.spq_core.specs.Run.{IsAnswerable, IsByOneWorker, IsRun};
+ghost use Rattle.spq_core.specs.Words.{IsDoneAlone, IsNotRun, IsRunOf};
 ghost use Rattle.spq_core.specs.declared.program.RunFault.TheVariants.{WorkerRefused};
 
-use crate::program::{RunFault, run};
+use crate::answering::check_query;
+use crate::notes::Notes;
+use crate::program::{RunFault, run_noted};
 use core::thread::Stack;
 use nquads_core::{Sink, Source};
 use spq_command::{Command, read_command};
@@ -34,6 +36,24 @@ pub struct Ran<S, K> {
     pub reader: S,
     /// The writer, as it was left.
     pub writer: K,
+    /// What was noted for messages to people.
+    pub notes: Notes,
+}
+
+impl<S, K> Ran<S, K> {
+    /// Nothing was run, for this reason.
+    fn not_run(fault: RunFault, reader: S, writer: K) -> Ran<S, K>
+        ensures done { result.done ≡ Err fault }
+        ensures unread { result.reader ≡ reader }
+        ensures unwritten { result.writer ≡ writer }
+    {
+        Ran {
+            done: Err(fault),
+            reader,
+            writer,
+            notes: Notes::new(),
+        }
+    }
 }
 
 /// That a thread runs this command over this reader and this writer.
@@ -73,11 +93,13 @@ fn run_here<R: Threads + Wait + RandomSource, S: Source, K: Sink>(
     ensures one_worker { IsByOneWorker command.now → result.done ≡ Err WorkerRefused → ⊥ }
 {
     let (mut left, mut held) = (reader, writer);
-    let done = run(rt, alloc, command, &mut left, &mut held);
+    let mut notes = Notes::new();
+    let done = run_noted(rt, alloc, command, &mut left, &mut held, &mut notes);
     Ran {
         done,
         reader: left,
         writer: held,
+        notes,
     }
 }
 
@@ -100,6 +122,7 @@ fn run_if_started<R: Threads + Wait + RandomSource, S: Source, K: Sink>(
             done: Err(RunFault::WorkerRefused),
             reader,
             writer,
+            notes: Notes::new(),
         };
     }
     run_here(rt, alloc, command, reader, writer)
@@ -170,17 +193,61 @@ fn run_apart<
     )
 }
 
+/// Runs a select: checks its query on the caller's thread, and then runs it on a thread of its own.
+fn run_select<
+    R: Threads + Wait + RandomSource + Sync,
+    S: Source + Send + Drop,
+    K: Sink + Send + Drop,
+>(rt: &R, alloc: Global, command: &Command, query: &str, reader: S, writer: K) -> Ran<S, K>
+    requires query { request_of command.now ≡ select query.now }
+    ensures run { IsRun S.left S.failures K.held K.failures K.write_gives
+        (request_of command.now) reader result.reader writer result.writer result.done }
+    ensures unread { IsByOneWorker command.now
+        → result.done ≡ Err WorkerRefused → result.reader ≡ reader }
+    ensures answerable { result.done ≡ Err WorkerRefused → IsAnswerable (select query.now) }
+{
+    match check_query(alloc, query) {
+        Ok(()) => run_apart(rt, alloc, command, stack_for(query), reader, writer),
+        Err(rejected) => Ran::not_run(RunFault::from(rejected), reader, writer),
+    }
+}
+
+/// Runs a command: a select on a thread of its own, any other on the caller's thread.
+fn run_command<
+    R: Threads + Wait + RandomSource + Sync,
+    S: Source + Send + Drop,
+    K: Sink + Send + Drop,
+>(rt: &R, alloc: Global, command: &Command, reader: S, writer: K) -> Ran<S, K>
+    ensures run { IsRun S.left S.failures K.held K.failures K.write_gives
+        (request_of command.now) reader result.reader writer result.writer result.done }
+    ensures alone { IsDoneAlone command.now → result.done ≡ Err WorkerRefused → ⊥ }
+    ensures unread { IsByOneWorker command.now
+        → result.done ≡ Err WorkerRefused → result.reader ≡ reader }
+    ensures answerable { result.done ≡ Err WorkerRefused → IsAnswerable (request_of command.now) }
+{
+    match command {
+        Command::Select { query, .. } => {
+            run_select(rt, alloc, command, query.as_str(), reader, writer)
+        }
+        Command::Check { .. } | Command::Terms { .. } => {
+            run_here(rt, alloc, command, reader, writer)
+        }
+    }
+}
+
 /// Does what the words of a command line say: reads the command that they are and runs it. A query
-/// gets a thread of its own, whose stack grows with its text; `check` and `terms` run on the
-/// caller's thread.
+/// is checked on the caller's thread, and then gets a thread of its own, whose stack grows with its
+/// text; `check` and `terms` run on the caller's thread.
 ///
 /// # Errors
-/// - `Line`: the words are no command. Nothing was read or written.
-/// - `WorkerRefused`: the start of a worker was refused, or that of the thread for a query, and then
-///   nothing was read or written. By one worker it is never a worker's: it never comes of a `check` or a
-///   `terms`, and where it comes of a query, nothing was read or written.
-/// - `Memory`: a growth was refused, to the words or to the command.
-/// - All else as `run` answers it, of the command that the words are.
+/// - `Line` if the words are no command. Nothing is read or written.
+/// - `Query` if the query of a `select` is rejected. No thread is started, and nothing is read or
+///   written.
+/// - `WorkerRefused` if a worker thread, or the thread of a query, could not be started. The query of a
+///   `select` is then valid. Nothing is read or written if it was the thread of a query. With one
+///   worker no other thread is started, so it cannot occur in a `check` or a `terms`.
+/// - `Memory` if an allocation fails.
+/// - All else as in [`run`](crate::run).
 ///
 /// The reader and the writer are handed back after each of them.
 pub fn run_words<
@@ -193,24 +260,8 @@ pub fn run_words<
         ⊎ IsNotRun (map string_bytes words.now) reader result.reader writer result.writer
         result.done }
 {
-    let command = match read_command(alloc, words) {
-        Ok(command) => command,
-        Err(fault) => {
-            let done = Err(RunFault::from(fault));
-            return Ran {
-                done,
-                reader,
-                writer,
-            };
-        }
-    };
-    match &command {
-        Command::Select { query, .. } => {
-            let stack = stack_for(query.as_str());
-            run_apart(rt, alloc, &command, stack, reader, writer)
-        }
-        Command::Check { .. } | Command::Terms { .. } => {
-            run_here(rt, alloc, &command, reader, writer)
-        }
+    match read_command(alloc, words) {
+        Ok(command) => run_command(rt, alloc, &command, reader, writer),
+        Err(fault) => Ran::not_run(RunFault::from(fault), reader, writer),
     }
 }

@@ -1,7 +1,7 @@
 use Rattle.std.proofs.lemmas.Result.{err_from_is_err_and}
 use Rattle.spq_core.specs.Output.{request_of}
 use Rattle.spq_core.proofs.ComposingSteps.{not_composed}
-use Rattle.spq_core.proofs.program.run.Goals as goal
+use Rattle.spq_core.proofs.program.run_noted.Goals as goal
 
 pub returns-in_err-blocks-clause-run : goal.returns-in_err-blocks-clause-run
 returns-in_err-blocks-clause-run g c =

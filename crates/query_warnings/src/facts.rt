@@ -1,0 +1,157 @@
+//! What a loaded dataset shows.
+ghost use Rattle.std.specs.Prelude.{◌≡◌, ◌<◌, ◌&&◌, [], IfOk, None, true, filter, length};
+ghost use Rattle.std.specs.List.{list_any};
+ghost use Rattle.std.specs.Str.{chars};
+ghost use Rattle.quad_index.specs.Matching.{agrees};
+ghost use Rattle.dataset_load.specs.Store.{names_in};
+ghost use Rattle.query_warnings.specs.Asked.{ComparesIn, date, date_time, double, float, is_literal_of};
+
+use crate::asked::compares;
+use dataset_load::Store;
+use dict_core::Dict;
+use rdf_core::Term;
+use rdf_core::vocabulary::{XSD_DOUBLE, XSD_FLOAT};
+use sparql_lexer::{characters_of, scan_text};
+use std::alloc::{AllocError, Global};
+
+/// `xsd:dateTime`.
+const XSD_DATE_TIME: &str = "http://www.w3.org/2001/XMLSchema#dateTime";
+
+/// `xsd:date`.
+const XSD_DATE: &str = "http://www.w3.org/2001/XMLSchema#date";
+
+/// A datatype of XML Schema whose literals are compared by SPARQL and not by spq.
+#[derive(Clone, Copy, Debug, PartialEq, Eq)]
+pub enum Datatype {
+    Double,
+    Float,
+    DateTime,
+    Date,
+}
+
+impl Datatype {
+    /// All of them.
+    pub const ALL: [Datatype; 4] = [
+        Datatype::Double,
+        Datatype::Float,
+        Datatype::DateTime,
+        Datatype::Date,
+    ];
+
+    /// Its IRI.
+    pub fn iri(self) -> &'static str {
+        match self {
+            Datatype::Double => XSD_DOUBLE,
+            Datatype::Float => XSD_FLOAT,
+            Datatype::DateTime => XSD_DATE_TIME,
+            Datatype::Date => XSD_DATE,
+        }
+    }
+
+    /// Its name, as SPARQL's prologues abbreviate it.
+    pub fn name(self) -> &'static str {
+        match self {
+            Datatype::Double => "xsd:double",
+            Datatype::Float => "xsd:float",
+            Datatype::DateTime => "xsd:dateTime",
+            Datatype::Date => "xsd:date",
+        }
+    }
+}
+
+/// What a query and its dataset show together.
+#[derive(Clone, Copy, Debug, PartialEq, Eq)]
+pub struct Facts {
+    /// The query compares, and the dataset has a literal of this datatype.
+    pub double: bool,
+    pub float: bool,
+    pub date_time: bool,
+    pub date: bool,
+    /// No quad is in the default graph, and some quad is in a named graph.
+    pub is_named_only: bool,
+}
+
+impl Facts {
+    /// Nothing that a warning tells.
+    pub const NONE: Facts = Facts {
+        double: false,
+        float: false,
+        date_time: false,
+        date: false,
+        is_named_only: false,
+    };
+
+    /// Whether the query compares, and the dataset has a literal of this datatype.
+    pub fn has(&self, datatype: Datatype) -> bool {
+        match datatype {
+            Datatype::Double => self.double,
+            Datatype::Float => self.float,
+            Datatype::DateTime => self.date_time,
+            Datatype::Date => self.date,
+        }
+    }
+}
+
+fn is_literal_of(term: &Term, datatype: &str) -> bool
+    ensures { result ≡ is_literal_of datatype.now term.now }
+{
+    match term {
+        Term::Literal { datatype: own, .. } => own.as_str() == datatype,
+        Term::Iri(_) | Term::Blank(_) => false,
+    }
+}
+
+/// Whether some term of a dictionary is a literal of this datatype.
+fn has_literal_of(dict: &Dict, datatype: &str) -> bool
+    ensures value { result ≡ list_any (is_literal_of datatype.now) dict.now }
+{
+    for n in 0..dict.len() as u64 {
+        if is_literal_of(dict.term(n), datatype) {
+            return true;
+        }
+    }
+    false
+}
+
+/// Whether no quad is in the default graph, and some quad is in a named graph.
+fn is_named_only(store: &Store) -> bool
+    ensures empty { result ≡ true
+        → filter (agrees None None None None) store.now.index ≡ [] }
+    ensures named { result ≡ true → 0 < length (names_in store.now.index) }
+{
+    store.index().scan(None, None, None, None).is_empty() && store.graphs() > 0
+}
+
+/// Returns whether the text of a query compares values: whether one of its terminals does, up to the first
+/// place where no terminal can be read.
+///
+/// # Errors
+/// Out of memory.
+pub fn text_compares(alloc: Global, text: &str) -> Result<bool, AllocError>
+    ensures value { IfOk result (ComparesIn (chars text.now)) }
+{
+    let characters = characters_of(alloc, text)?;
+    let scan = scan_text(alloc, &characters)?;
+    Ok(compares(&scan.tokens))
+}
+
+/// Returns what a query and its dataset show together. `compares` says whether the query compares values.
+pub fn facts_of(compares: bool, store: &Store) -> Facts
+    ensures double { result.double ≡ (compares && list_any (is_literal_of double) store.now.dict) }
+    ensures float { result.float ≡ (compares && list_any (is_literal_of float) store.now.dict) }
+    ensures date_time { result.date_time
+        ≡ (compares && list_any (is_literal_of date_time) store.now.dict) }
+    ensures date { result.date ≡ (compares && list_any (is_literal_of date) store.now.dict) }
+    ensures empty { result.is_named_only ≡ true
+        → filter (agrees None None None None) store.now.index ≡ [] }
+    ensures named { result.is_named_only ≡ true → 0 < length (names_in store.now.index) }
+{
+    let dict = store.dict();
+    Facts {
+        double: compares && has_literal_of(dict, XSD_DOUBLE),
+        float: compares && has_literal_of(dict, XSD_FLOAT),
+        date_time: compares && has_literal_of(dict, XSD_DATE_TIME),
+        date: compares && has_literal_of(dict, XSD_DATE),
+        is_named_only: is_named_only(store),
+    }
+}

@@ -1,0 +1,143 @@
+//! The message for each fault.
+
+use crate::account::Account;
+use command_help::message;
+use document_line::Line;
+use line_diagnosis::diagnose;
+use nquads_core::Device;
+use spq_core::{Command, RunFault, Stage, write_fault};
+use std::alloc::{AllocError, Global};
+use std::io;
+use std::io::{Error, Write};
+
+/// Writes the line of standard output again.
+pub fn repeat<W: Write>(out: &mut W, fault: &RunFault) {
+    let mut device = Device { inner: out };
+    let _tried = write_fault(fault, &mut device);
+}
+
+/// The message about a line of which all bytes are known, or the first ones.
+///
+/// A place in the first bytes is a place in the line, except at their end, where the line goes on.
+fn line_text(alloc: Global, number: u128, line: &Line) -> Result<Option<String>, AllocError> {
+    if !line.is_whole {
+        match diagnose(alloc, &line.bytes)? {
+            Some(diagnosis) if diagnosis.offset.saturating_add(4) < line.bytes.len() => {}
+            _ => return Ok(None),
+        }
+    }
+    line_diagnosis::report(alloc, number, &line.bytes, line.is_cut)
+}
+
+/// Writes the message about a malformed line.
+pub fn bad_line<W: Write>(
+    out: &mut W,
+    alloc: Global,
+    number: u128,
+    line: Option<&Line>,
+) -> io::Result<()> {
+    if let Some(line) = line {
+        if let Ok(Some(text)) = line_text(alloc, number, line) {
+            return out.write_all(text.as_bytes());
+        }
+    }
+    writeln!(out, "spq: line {number}: this is not a line of N-Quads")
+}
+
+/// The message about a rejected query.
+fn query_text(alloc: Global, account: &Account<'_>) -> Option<String> {
+    let command = account.command(alloc)?;
+    match &command {
+        Command::Select { query, .. } => {
+            query_diagnosis::report(alloc, query.as_str())
+                .ok()
+                .flatten()
+        }
+        Command::Check { .. } | Command::Terms { .. } => None,
+    }
+}
+
+/// Writes the message about a rejected query.
+pub fn rejected<W: Write>(out: &mut W, alloc: Global, account: &Account<'_>) -> io::Result<()> {
+    match query_text(alloc, account) {
+        Some(text) => out.write_all(text.as_bytes()),
+        None => out.write_all(b"spq: query: this is not a query of SPARQL as spq reads it\n"),
+    }
+}
+
+/// Writes the message about words that are no command, or the help that they ask for.
+pub fn no_command<W: Write>(
+    out: &mut W,
+    alloc: Global,
+    words: Option<&[String]>,
+) -> io::Result<()> {
+    let Some(words) = words else {
+        return out.write_all(b"spq: command line: a word is not UTF-8\n");
+    };
+    match message(alloc, words) {
+        Ok(Some(text)) => out.write_all(text.as_bytes()),
+        Ok(None) | Err(_) => out.write_all(b"spq: command line: the words are no command\n"),
+    }
+}
+
+/// Writes what a run was doing when memory ran out. This takes no memory.
+pub fn no_memory<W: Write>(out: &mut W, stage: Stage) -> io::Result<()> {
+    let doing = match stage {
+        Stage::Checking => "reading the command line",
+        Stage::Reading => "reading the document",
+        Stage::Sorting => "sorting the document",
+        Stage::Joining => "joining the rows of the query",
+        Stage::Printing => "printing the result",
+    };
+    writeln!(out, "spq: out of memory while {doing}")?;
+    out.write_all(b"hint: docs/COST.md says how much memory a document and a query take\n")
+}
+
+/// How many workers a command asks for, and whether it is a query.
+fn workers_of(command: &Command) -> (usize, bool) {
+    match command {
+        Command::Select { reading, .. } => (reading.workers, true),
+        Command::Check { reading } | Command::Terms { reading } => (reading.workers, false),
+    }
+}
+
+/// Writes which thread could not be started.
+pub fn no_worker<W: Write>(out: &mut W, alloc: Global, account: &Account<'_>) -> io::Result<()> {
+    let Some(command) = account.command(alloc) else {
+        return out.write_all(b"spq: a thread could not be started\nhint: use --workers 1\n");
+    };
+    match workers_of(&command) {
+        (1, _) => out.write_all(
+            b"spq: the thread of the query could not be started\nhint: see the limits of the system on threads and memory: ulimit -u, ulimit -v\n",
+        ),
+        (workers, _) => writeln!(
+            out,
+            "spq: a thread could not be started: {workers} workers were asked for\nhint: use --workers 1"
+        ),
+    }
+}
+
+/// The text of an error, without the number that the system gives it.
+fn error_text(alloc: Global, error: &Error) -> Result<String, AllocError> {
+    let mut text = format!(in alloc; "{error}")?;
+    if let Some(at) = text.as_str().find(" (os error ") {
+        text.truncate(at);
+    }
+    Ok(text)
+}
+
+/// Writes why a device failed.
+pub fn no_device<W: Write>(
+    out: &mut W,
+    alloc: Global,
+    what: &str,
+    error: Option<Error>,
+    otherwise: &str,
+) -> io::Result<()> {
+    if let Some(error) = error {
+        if let Ok(text) = error_text(alloc, &error) {
+            return writeln!(out, "spq: cannot {what}: {text}");
+        }
+    }
+    writeln!(out, "spq: cannot {what}: {otherwise}")
+}

@@ -1,0 +1,4 @@
+//! Messages by worked examples, over devices in memory.
+
+mod console;
+mod messages;

@@ -1,0 +1,180 @@
+//! What is written for words and a document.
+
+use crate::account::Account;
+use crate::devices::{Input, NoMeter, Output};
+use crate::reports::report;
+use spq_core::run_words;
+use std::alloc::{AllocError, Global};
+use std::random::RandomSource;
+use std::sync::Wait;
+use std::thread::Threads;
+
+/// The words of a line, which bars separate.
+fn words_of(alloc: Global, line: &str) -> Result<Vec<String>, AllocError> {
+    let mut words = Vec::new(alloc);
+    for word in line.split('|') {
+        words.push(String::from_str(alloc, word)?)?;
+    }
+    Ok(words)
+}
+
+/// What is written on standard error for words and a document.
+fn said<R: Threads + Wait + RandomSource + Sync>(
+    rt: &R,
+    alloc: Global,
+    line: &str,
+    doc: &str,
+) -> Result<String, AllocError> {
+    let words = words_of(alloc, line)?;
+    let reader = Input::new(doc.as_bytes(), NoMeter);
+    let writer = Output::new(Vec::new(alloc));
+    let ran = run_words(rt, alloc, &words, reader, writer);
+    let account = Account {
+        words: Some(&words),
+        notes: &ran.notes,
+        read_error: ran.reader.error,
+        write_error: ran.writer.error,
+        is_repeated: false,
+    };
+    let mut out: Vec<u8> = Vec::new(alloc);
+    let _written = report(&mut out, alloc, &ran.done, &account);
+    String::from_utf8_lossy(alloc, &out)
+}
+
+/// The examples of a table that say something else, with what they say.
+///
+/// An example is the words, a document and what is written, with `--` between them and `====` after each.
+fn wrong<R: Threads + Wait + RandomSource + Sync>(
+    rt: &R,
+    alloc: Global,
+    table: &str,
+) -> Result<String, AllocError> {
+    let mut out = String::new(alloc);
+    for example in table.split("====\n") {
+        if let Some((line, rest)) = example.split_once("\n--\n") {
+            if let Some((doc, expected)) = rest.split_once("--\n") {
+                let text = said(rt, alloc, line, doc)?;
+                if text.as_str() != expected {
+                    write!(out, "{line}:\n{text}\n")?;
+                }
+            }
+        }
+    }
+    Ok(out)
+}
+
+/// Failures, by the kind of fault.
+const FAILURES: &str = "spq|check
+--
+<http://e/a> <http://e/p> <http://e/b> .
+<http://e/a> \"x\" <http://e/b> .
+--
+spq: line 2, column 14: a predicate must be an IRI, found a literal
+<http://e/a> \"x\" <http://e/b> .
+             ^
+====
+spq|terms|--piece|1
+--
+<http://e/a> <http://e/p> <http://e/b> .
+
+a
+b
+--
+spq: line 3, column 1: expected a subject (an IRI or a blank node), found 'a'
+a
+^
+====
+spq|select|--query|SELECT * { ?s e:p ?o }
+--
+x
+--
+spq: query, line 1, column 15: the prefix 'e:' is not declared
+SELECT * { ?s e:p ?o }
+              ^
+hint: declare it before SELECT, as in PREFIX ex: <http://example.org/>
+====
+spq|select|--query|SELECT * { ?s }
+--
+--
+spq: query, line 1, column 15: expected a verb (an IRI, a prefixed name, a variable or 'a'), found '}'
+SELECT * { ?s }
+              ^
+====
+spq|dump.nq
+--
+--
+error: unrecognized subcommand 'dump.nq'
+
+Usage: spq select --query TEXT [--rows N] [--workers N] [--piece BYTES] < FILE
+       spq check [--workers N] [--piece BYTES] < FILE
+       spq terms [--workers N] [--piece BYTES] < FILE
+
+For more information, try '--help'.
+hint: spq reads standard input: use spq check < dump.nq
+====
+";
+
+/// Runs without a failure, and their warnings.
+const WARNINGS: &str = "spq|check
+--
+<http://e/a> <http://e/p> <http://e/b> .
+--
+====
+spq|select|--query|SELECT ?o { ?s ?p ?o FILTER(?o = 1) }
+--
+<http://e/a> <http://e/p> \"1.0\"^^<http://www.w3.org/2001/XMLSchema#double> .
+--
+spq: warning: comparisons with xsd:double are not supported, rows with such values are dropped
+====
+spq|select|--query|SELECT ?o { ?s ?p ?o }
+--
+<http://e/a> <http://e/p> \"1.0\"^^<http://www.w3.org/2001/XMLSchema#double> .
+--
+====
+spq|select|--query|SELECT ?o { ?s ?p ?o FILTER(?o IN (1)) }
+--
+<http://e/a> <http://e/p> \"x\"^^<http://www.w3.org/2001/XMLSchema#dateTime> .
+<http://e/a> <http://e/p> \"x\"^^<http://www.w3.org/2001/XMLSchema#date> .
+<http://e/a> <http://e/p> \"x\"^^<http://www.w3.org/2001/XMLSchema#float> .
+--
+spq: warning: comparisons with xsd:float are not supported, rows with such values are dropped
+spq: warning: comparisons with xsd:dateTime are not supported, rows with such values are dropped
+spq: warning: comparisons with xsd:date are not supported, rows with such values are dropped
+====
+spq|select|--query|SELECT ?o ?x ?x { ?s ?p ?o }
+--
+<http://e/a> <http://e/p> <http://e/b> .
+--
+spq: warning: ?x is selected and occurs nowhere in the pattern
+====
+spq|select|--query|SELECT ?o { ?s ?p ?o }
+--
+<http://e/a> <http://e/p> <http://e/b> <http://e/g> .
+--
+spq: warning: no rows: the default graph is empty, and the query has no GRAPH for the named graphs
+====
+spq|select|--query|SELECT ?o { GRAPH <http://e/h> { ?s ?p ?o } }
+--
+<http://e/a> <http://e/p> <http://e/b> <http://e/g> .
+--
+====
+spq|select|--query|SELECT * { } LIMIT 0
+--
+<http://e/a> <http://e/p> <http://e/b> <http://e/g> .
+--
+====
+";
+
+#[test]
+fn failures_are_explained(rt: HostRuntime) -> Result<(), AllocError> {
+    let wrong = wrong(&rt, rt.alloc(), FAILURES)?;
+    assert!(rt; wrong.is_empty(), "{wrong}");
+    Ok(())
+}
+
+#[test]
+fn lost_rows_are_told(rt: HostRuntime) -> Result<(), AllocError> {
+    let wrong = wrong(&rt, rt.alloc(), WARNINGS)?;
+    assert!(rt; wrong.is_empty(), "{wrong}");
+    Ok(())
+}
