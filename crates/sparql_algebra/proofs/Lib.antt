@@ -2,13 +2,10 @@ pub mod FoldSteps
 pub mod LogicSteps
 pub mod MemorySteps
 pub mod NameSteps
-pub mod NumberLaws
-pub mod NumberSteps
 pub mod OperandSteps
 pub mod PartSteps
 pub mod PatternSteps
 pub mod ProjectionSteps
 pub mod RepeatSteps
-pub mod SignLaws
 pub mod TreeSteps
 pub mod WithinLaws

@@ -1,22 +1,12 @@
 -- The expression that a tree of the program stands for, apart from how it lies in memory.
 use Rattle.rdf_core.specs.declared.term.Term.{Term}
 use Rattle.algebra_model.specs.Call as call
-use Rattle.algebra_model.specs.Comparison as comparison
 use Rattle.algebra_model.specs.Expression.{Expression, variable, constant, either, both, negation, comparison, member, call, bound, same_term}
-use Rattle.sparql_tree.specs.declared.expression.Comparison.{Comparison}
-use Rattle.sparql_tree.specs.declared.expression.Comparison.TheVariants.{Equal, NotEqual, Less, Greater, LessOrEqual, GreaterOrEqual}
 use Rattle.sparql_tree.specs.declared.expression.Function.{Function}
 use Rattle.sparql_tree.specs.declared.expression.Function.TheVariants.{Str, Lang, Datatype, IsIri, IsBlank, IsLiteral}
+pub use Rattle.term_values.specs.ComparisonOf.{comparison_of}
 use Rattle.sparql_algebra.specs.declared.expression.Expr.{Expr, fold-Expr}
 use Rattle.sparql_algebra.specs.declared.expression.Expr.TheOpen.{Expr-F}
-
-abbrev pub comparison_of : Comparison → comparison.Comparison
-comparison_of Equal = comparison.equal
-comparison_of NotEqual = comparison.not_equal
-comparison_of Less = comparison.less
-comparison_of Greater = comparison.greater
-comparison_of LessOrEqual = comparison.less_or_equal
-comparison_of GreaterOrEqual = comparison.greater_or_equal
 
 abbrev pub function_of : Function → call.Function
 function_of Str = call.str

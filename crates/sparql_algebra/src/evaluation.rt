@@ -10,13 +10,13 @@ ghost use Rattle.sparql_algebra.specs.MemberTruth.{member_truth};
 ghost use Rattle.sparql_algebra.specs.HeldTerm.{held_term, is_held, value_term};
 ghost use Rattle.sparql_algebra.specs.Memory.{are_lent, is_lent, is_test, takes_none};
 
-use crate::comparison::compare;
 use crate::expression::Expr;
 use crate::held::{Held, Value, boolean_value, call};
 use crate::lookup::Lookup;
 use rdf_core::Term;
 use sparql_tree::{Comparison, Function};
 use std::alloc::{AllocError, Global};
+use term_values::compare;
 
 /// Why an expression has no value.
 #[derive(Debug, Clone, Copy, PartialEq, Eq)]
@@ -89,9 +89,6 @@ fn evaluate<'a, R: Lookup>(
 ) -> Result<Option<Value<'a>>, AllocError>
     ensures value { IfOk result (λ value.
         option_map value_term value ≡ val (expression_of expr.entry.now) (R.solution row.entry.now)) }
-    ensures unbound { (v : ℕ) → expr.entry.now ≡ Expr.Variable v
-        → get_or (R.solution row.entry.now) v None ≡ None → result ≡ Ok None }
-    ensures bound { (v : ℕ) → expr.entry.now ≡ Expr.Bound v → IsOk result }
     ensures takes_none { takes_none expr.entry.now ≡ true → IsOk result }
     ensures held { is_lent expr.entry.now ≡ true → IsOkAnd result (λ value. IfSome value (λ v. is_held v ≡ true)) }
 {
@@ -100,32 +97,91 @@ fn evaluate<'a, R: Lookup>(
         Expr::Constant(term) => Ok(Some(Value::Held(Held::Lent(term)))),
         Expr::Or { left, right } => {
             let right = evaluate_truth(alloc, right, row)?;
-            Ok(boolean_value(evaluate_or(alloc, left, right, row)?))
+            evaluate_either(alloc, left, right, row)
         }
         Expr::And { left, right } => {
             let right = evaluate_truth(alloc, right, row)?;
-            Ok(boolean_value(evaluate_and(alloc, left, right, row)?))
+            evaluate_both(alloc, left, right, row)
         }
-        Expr::Not(inner) => Ok(boolean_value(negated(evaluate_truth(alloc, inner, row)?))),
+        Expr::Not(inner) => evaluate_not(alloc, inner, row),
         Expr::Compare {
             operator,
             left,
             right,
         } => {
             let left = evaluate_held(alloc, left, row)?;
-            evaluate_comparison(alloc, *operator, &left, right, row)
+            evaluate_comparison(alloc, *operator, left, right, row)
         }
         Expr::In { item, list } => {
             let item = evaluate_held(alloc, item, row)?;
-            Ok(boolean_value(evaluate_member(alloc, &item, list, row)?))
+            evaluate_in(alloc, item, list, row)
         }
         Expr::Call { function, argument } => evaluate_call(alloc, *function, argument, row),
         Expr::Bound(variable) => Ok(Some(Value::Truth(row.get(*variable).is_some()))),
         Expr::SameTerm { left, right } => {
             let left = evaluate_held(alloc, left, row)?;
-            evaluate_same_term(alloc, &left, right, row)
+            evaluate_same_term(alloc, left, right, row)
         }
     }
+}
+
+/// `left || right` as a value, where the right side is known.
+#[cycle(evaluate)]
+fn evaluate_either<'a, R: Lookup>(
+    alloc: Global,
+    left: &Expr,
+    right: Option<bool>,
+    row: &R,
+) -> Result<Option<Value<'a>>, AllocError>
+    ensures value { IfOk result (λ value. option_map value_term value ≡ boolean_result
+        (logical_or (truth_of (val (expression_of left.now) (R.solution row.now))) right)) }
+    ensures takes_none { takes_none left.now ≡ true → IsOk result }
+{
+    Ok(boolean_value(evaluate_or(alloc, left, right, row)?))
+}
+
+/// `left && right` as a value, where the right side is known.
+#[cycle(evaluate)]
+fn evaluate_both<'a, R: Lookup>(
+    alloc: Global,
+    left: &Expr,
+    right: Option<bool>,
+    row: &R,
+) -> Result<Option<Value<'a>>, AllocError>
+    ensures value { IfOk result (λ value. option_map value_term value ≡ boolean_result
+        (logical_and (truth_of (val (expression_of left.now) (R.solution row.now))) right)) }
+    ensures takes_none { takes_none left.now ≡ true → IsOk result }
+{
+    Ok(boolean_value(evaluate_and(alloc, left, right, row)?))
+}
+
+/// `!inner`.
+#[cycle(evaluate)]
+fn evaluate_not<'a, R: Lookup>(
+    alloc: Global,
+    inner: &Expr,
+    row: &R,
+) -> Result<Option<Value<'a>>, AllocError>
+    ensures value { IfOk result (λ value. option_map value_term value ≡ boolean_result
+        (logical_not (truth_of (val (expression_of inner.now) (R.solution row.now))))) }
+    ensures takes_none { takes_none inner.now ≡ true → IsOk result }
+{
+    Ok(boolean_value(negated(evaluate_truth(alloc, inner, row)?)))
+}
+
+/// `item IN (list)` as a value.
+#[cycle(evaluate)]
+fn evaluate_in<'a, R: Lookup>(
+    alloc: Global,
+    item: Option<Held>,
+    list: &[Expr],
+    row: &R,
+) -> Result<Option<Value<'a>>, AllocError>
+    ensures value { IfOk result (λ value. option_map value_term value ≡ boolean_result
+        (member_truth (option_map held_term item.entry) (map expression_of list.now) (R.solution row.now))) }
+    ensures are_lent { are_lent list.now ≡ true → IsOk result }
+{
+    Ok(boolean_value(evaluate_member(alloc, &item, list, row)?))
 }
 
 fn lent(term: Option<&Term>) -> Option<Value<'_>>
@@ -173,7 +229,6 @@ fn evaluate_truth<R: Lookup>(
     row: &R,
 ) -> Result<Option<bool>, AllocError>
     ensures truth { IfOk result (λ truth. truth ≡ truth_of (val (expression_of expr.now) (R.solution row.now))) }
-    ensures bound { (v : ℕ) → expr.now ≡ Expr.Bound v → IsOk result }
     ensures takes_none { takes_none expr.now ≡ true → IsOk result }
 {
     match evaluate(alloc, expr, row)? {
@@ -237,34 +292,34 @@ fn evaluate_and<R: Lookup>(
 fn evaluate_comparison<'a, R: Lookup>(
     alloc: Global,
     operator: Comparison,
-    left: &Option<Held>,
+    left: Option<Held>,
     right: &Expr,
     row: &R,
 ) -> Result<Option<Value<'a>>, AllocError>
     ensures value { IfOk result (λ value. option_map value_term value ≡ boolean_result
-        (with_values (option_map held_term left.now) (val (expression_of right.now) (R.solution row.now))
+        (with_values (option_map held_term left.entry) (val (expression_of right.now) (R.solution row.now))
         (compares (comparison_of operator)))) }
     ensures is_lent { is_lent right.now ≡ true → IsOk result }
 {
     let right = evaluate_held(alloc, right, row)?;
-    Ok(boolean_value(compare_values(operator, left, &right)))
+    Ok(boolean_value(compare_values(operator, &left, &right)))
 }
 
 /// Whether a value that is there and one to the right are the same term.
 #[cycle(evaluate)]
 fn evaluate_same_term<'a, R: Lookup>(
     alloc: Global,
-    left: &Option<Held>,
+    left: Option<Held>,
     right: &Expr,
     row: &R,
 ) -> Result<Option<Value<'a>>, AllocError>
     ensures value { IfOk result (λ value. option_map value_term value ≡ boolean_result
-        (with_values (option_map held_term left.now) (val (expression_of right.now) (R.solution row.now))
+        (with_values (option_map held_term left.entry) (val (expression_of right.now) (R.solution row.now))
         (λ s t. Some (term_eq s t)))) }
     ensures is_lent { is_lent right.now ≡ true → IsOk result }
 {
     let right = evaluate_held(alloc, right, row)?;
-    Ok(boolean_value(same_values(left, &right)))
+    Ok(boolean_value(same_values(&left, &right)))
 }
 
 /// The call of a function on the argument's value.

@@ -1,6 +1,7 @@
 //! The translation of a group, element by element (SPARQL 1.1 Query Language, section 18.2.2).
 ghost use Rattle.std.specs.Prelude.{◌≡◌, IfOk};
-ghost use Rattle.sparql_tree.specs.GroupTree.{element_of, group_of};
+ghost use Rattle.sparql_tree.specs.GroupTree.{element_of, group_of, optional};
+ghost use Rattle.algebra_model.specs.Algebra.{Graph, Union};
 ghost use Rattle.sparql_algebra.specs.Added.{added};
 ghost use Rattle.sparql_algebra.specs.AlgebraOf.{algebra_of, graph_name_of};
 ghost use Rattle.sparql_algebra.specs.PartOf.{part_of};
@@ -67,26 +68,34 @@ fn read_element<'a>(
             names.number(variable),
             convert_boxed(alloc, names, value)?,
         )),
-        Element::Optional(group) => {
-            let (right, condition) = read_group(alloc, names, group)?.split(alloc, names)?;
-            Ok(Addition::Optional(right, condition))
-        }
+        Element::Optional(group) => read_optional(alloc, names, group),
         Element::Minus(group) => Ok(Addition::Minus(convert_group(alloc, names, group)?)),
         Element::Group(group) => Ok(Addition::Join(convert_group(alloc, names, group)?)),
         Element::Union(left, right) => {
             let left = convert_side(alloc, names, left)?;
-            let right = convert_group(alloc, names, right)?;
-            Ok(Addition::Join(making::union(alloc, left, right)?))
+            Ok(Addition::Join(convert_union(alloc, names, right, left)?))
         }
-        Element::Graph(name, group) => {
-            let name = convert_graph_name(alloc, names, name)?;
-            let inner = convert_group(alloc, names, group)?;
-            Ok(Addition::Join(making::graph(alloc, name, inner)?))
-        }
+        Element::Graph(name, group) => Ok(Addition::Join(convert_graph(
+            alloc, names, name, group,
+        )?)),
         Element::Values(variables, rows) => Ok(Addition::Join(convert_table(
             alloc, names, variables, rows,
         )?)),
     }
+}
+
+/// What an OPTIONAL adds: its group's pattern, and the group's filters as the condition.
+#[cycle(group)]
+fn read_optional<'a>(
+    alloc: Global,
+    names: &Names,
+    group: &[Element],
+) -> Result<Addition<'a>, AllocError>
+    ensures addition { IfOk result (λ addition. (p : GroupPart) →
+        added names.now p addition ≡ add_element names.now p (optional (group_of group.now))) }
+{
+    let (right, condition) = read_group(alloc, names, group)?.split(alloc, names)?;
+    Ok(Addition::Optional(right, condition))
 }
 
 /// A side of a UNION, which is a group or a UNION itself.
@@ -99,8 +108,7 @@ fn convert_side(alloc: Global, names: &Names, side: &Element) -> Result<Box<Oper
         Element::Group(group) => convert_group(alloc, names, group),
         Element::Union(left, right) => {
             let left = convert_side(alloc, names, left)?;
-            let right = convert_group(alloc, names, right)?;
-            making::union(alloc, left, right)
+            convert_union(alloc, names, right, left)
         }
         Element::Triples(_)
         | Element::Optional(_)
@@ -110,6 +118,37 @@ fn convert_side(alloc: Global, names: &Names, side: &Element) -> Result<Box<Oper
         | Element::Bind(_, _)
         | Element::Values(_, _) => making::empty_pattern(alloc),
     }
+}
+
+/// `left UNION { right }`, where the left side is an operator already.
+#[cycle(group)]
+fn convert_union(
+    alloc: Global,
+    names: &Names,
+    right: &[Element],
+    left: Box<Operator>,
+) -> Result<Box<Operator>, AllocError>
+    ensures operator { IfOk result (λ made. algebra_of made.value
+        ≡ Union (algebra_of left.value) (translate_group names.now (group_of right.now))) }
+{
+    let right = convert_group(alloc, names, right)?;
+    making::union(alloc, left, right)
+}
+
+/// `GRAPH name { group }`.
+#[cycle(group)]
+fn convert_graph(
+    alloc: Global,
+    names: &Names,
+    name: &GraphName,
+    group: &[Element],
+) -> Result<Box<Operator>, AllocError>
+    ensures operator { IfOk result (λ made. algebra_of made.value
+        ≡ Graph (translate_graph_name names.now name.now) (translate_group names.now (group_of group.now))) }
+{
+    let name = convert_graph_name(alloc, names, name)?;
+    let inner = convert_group(alloc, names, group)?;
+    making::graph(alloc, name, inner)
 }
 
 fn convert_graph_name(

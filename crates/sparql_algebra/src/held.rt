@@ -7,17 +7,25 @@ ghost use Rattle.sparql_algebra.specs.ExpressionOf.{function_of};
 ghost use Rattle.sparql_algebra.specs.HeldTerm.{held_term, is_held, value_term};
 ghost use Rattle.sparql_algebra.specs.Memory.{is_test};
 
-use crate::comparison::truth;
 use rdf_core::vocabulary::{XSD_BOOLEAN, XSD_STRING};
 use rdf_core::{Term, Text};
 use sparql_tree::Function;
 use std::alloc::{AllocError, Global};
+use term_values::truth;
 
 /// A term that is lent, or that the holder owns.
-#[derive(Drop)]
 pub enum Held<'a> {
     Lent(&'a Term),
     Owned(Term),
+}
+
+impl<'a> Drop for Held<'a> {
+    /// Written out and not derived: a proof then meets one call at each exit that drops a value.
+    fn drop(self) {
+        match self {
+            Held::Lent(_) | Held::Owned(_) => {}
+        }
+    }
 }
 
 /// The value of an expression: a term, or the truth value that a boolean literal would show.

@@ -15,10 +15,10 @@
 //! Standard: SPARQL 1.1 Query Language, sections 17 and 18.2; XML Schema 1.1 Part 2, sections 3.3 and
 //! 3.4 (forms of numbers and booleans). The definitions are those of `algebra_model`.
 //!
-//! To read in this order: `operator`, `plan`, `expression` (the trees); `digits`, `number`, `literal`,
-//! `comparison` (terms by value); `lookup`, `held`, `evaluation` (expressions over a row); `names`,
-//! `naming` (the variables of a query and their numbers); `conversion`, `pattern`, `table`, `making`,
-//! `part`, `addition`, `group`, `translation` (a query, element by element).
+//! To read in this order: `operator`, `plan`, `expression` (the trees); `lookup`, `held`, `evaluation`
+//! (expressions over a row); `names`, `naming` (the variables of a query and their numbers);
+//! `conversion`, `pattern`, `table`, `making`, `part`, `addition`, `group`, `translation` (a query,
+//! element by element). Comparisons and effective boolean values are in `term_values`.
 //!
 //! ```text
 //! compare(Comparison::Equal, &one, &one_point_zero)   // "01"^^xsd:integer and 1.0: Some(true)
@@ -30,19 +30,15 @@
 #![tactic(auto)]
 
 mod addition;
-mod comparison;
 mod conversion;
-mod digits;
 mod evaluation;
 mod expression;
 mod group;
 mod held;
-mod literal;
 mod lookup;
 mod making;
 mod names;
 mod naming;
-mod number;
 mod operator;
 mod part;
 mod pattern;
@@ -50,11 +46,11 @@ mod plan;
 mod table;
 mod translation;
 
-pub use comparison::{compare, truth};
 pub use evaluation::{ExprFault, test, value};
 pub use expression::Expr;
 pub use lookup::Lookup;
 pub use operator::{GraphName, Operator, PatternTerm, TriplePattern};
 pub use plan::Plan;
 pub use sparql_tree::{Comparison, Function};
+pub use term_values::{compare, truth};
 pub use translation::translate;

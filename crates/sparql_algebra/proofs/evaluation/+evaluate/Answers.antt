@@ -1,10 +1,11 @@
-use Rattle.std.proofs.Common.{◌∙◌, ap, arith, sym, map, option_map}
+use Rattle.std.proofs.Common.{◌≡◌, ◌∙◌, ap, arith, sym, map, option_map}
 use Rattle.std.proofs.lemmas.Bool.{false≢true}
+use Rattle.std.proofs.lemmas.Result.{IfOk-weaker}
 use Rattle.algebra_model.specs.BooleanValue.{logical_and, logical_or}
 use Rattle.algebra_model.specs.Comparison.{compares, equal}
 use Rattle.algebra_model.specs.Expression.{boolean_result, val, with_values}
 use Rattle.sparql_algebra.specs.ExpressionOf.{expression_of}
-use Rattle.sparql_algebra.specs.HeldTerm.{held_term}
+use Rattle.sparql_algebra.specs.HeldTerm.{held_term, value_term}
 use Rattle.sparql_algebra.specs.MemberTruth.{member_truth}
 use Rattle.sparql_algebra.specs.Memory.{is_lent, takes_none}
 use Rattle.sparql_algebra.specs.declared.expression.Expr.{size-Expr}
@@ -14,16 +15,18 @@ use Rattle.sparql_algebra.proofs.MemorySteps.{and_sides, member_lent, or_sides}
 use Rattle.sparql_algebra.proofs.OperandSteps.{and_moves, or_moves, truth}
 use Rattle.sparql_algebra.proofs.evaluation.+evaluate.Goals as goal
 
-pub evaluate-returns-in_ok-evaluate_member-in-In-clause-value : goal.evaluate-returns-in_ok-evaluate_member-in-In-clause-value
-evaluate-returns-in_ok-evaluate_member-in-In-clause-value g t c =
+pub evaluate-returns-in_ok-item-in-In-clause-value : goal.evaluate-returns-in_ok-item-in-In-clause-value
+evaluate-returns-in_ok-item-in-In-clause-value g t c =
     let sol = g.R.Lookup.solution c.args.row.now in
     let item = c.in_ok-item-in-In.ensures.value ∙ ap (λ e. val (expression_of e) sol) c.deref-in-In.ensures in
     let list = c.deref-in-In-2.ensures.value in
-    let truth = c.in_ok-evaluate_member-in-In.ensures.truth
-    ∙ (λ i. member_truth (item i) (map expression_of (list i)) sol) in
     let among = member_value (expression_of c.in-In.item.value) (map expression_of c.in-In.list.items) sol in
-    c.boolean_value-in-In.ensures.value ∙ ap boolean_result truth ∙ among
-    ∙ sym (ap (λ e. val e sol) (ap expression_of c.in-In.is ∙ in_stands_for c.in-In.item c.in-In.list))
+    IfOk-weaker c.evaluate_in.result
+    (λ value. option_map value_term value ≡ boolean_result (member_truth (option_map held_term c.in_ok-item-in-In.item) (map expression_of c.deref-in-In-2.result.now) sol))
+    (λ value. option_map value_term value ≡ val (expression_of c.args.expr.now) sol)
+    (λ value h. h ∙ ap boolean_result (λ i. member_truth (item i) (map expression_of (list i)) sol) ∙ among
+    ∙ sym (ap (λ e. val e sol) (ap expression_of c.in-In.is ∙ in_stands_for c.in-In.item c.in-In.list)))
+    c.evaluate_in.ensures.value
 
 pub evaluate_member-loop-member-preserved : goal.evaluate_member-loop-member-preserved
 evaluate_member-loop-member-preserved g t c =

@@ -2,7 +2,7 @@
 use Rattle.std.specs.Prelude.{ℕ, Bool, List, ◌++◌, length}
 use Rattle.std.specs.Str.Parse.{digits_value}
 use Rattle.algebra_model.specs.Number.{Number}
-use Rattle.sparql_algebra.specs.declared.digits.Digits.{Digits}
+use Rattle.term_values.specs.declared.digits.Digits.{Digits}
 
 abbrev pub number_shown : Digits → Number
 number_shown d = record {

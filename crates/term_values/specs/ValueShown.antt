@@ -1,9 +1,9 @@
 -- The literal's value that a value of the program holds.
 use Rattle.algebra_model.specs.LiteralValue as model
 use Rattle.algebra_model.specs.LiteralValue.{number, boolean, string, other}
-use Rattle.sparql_algebra.specs.NumberShown.{number_shown}
-use Rattle.sparql_algebra.specs.declared.literal.LiteralValue.{LiteralValue}
-use Rattle.sparql_algebra.specs.declared.literal.LiteralValue.TheVariants.{Number, Boolean, String, Other}
+use Rattle.term_values.specs.NumberShown.{number_shown}
+use Rattle.term_values.specs.declared.literal.LiteralValue.{LiteralValue}
+use Rattle.term_values.specs.declared.literal.LiteralValue.TheVariants.{Number, Boolean, String, Other}
 
 abbrev pub value_shown : LiteralValue → model.LiteralValue
 value_shown (Number d) = number (number_shown d)

@@ -13,7 +13,7 @@ use Rattle.std.specs.Cmp.Lexicographic.{slice_cmp}
 use Rattle.std.specs.Ordering.{MatchOrdering, nat_cmp, ordering_then}
 use Rattle.std.specs.declared.cmp.Ordering.{Ordering}
 use Rattle.std.specs.declared.cmp.Ordering.TheVariants.{Less, Equal, Greater}
-use Rattle.sparql_algebra.specs.Digits.{without_leading_zeros, whole_order, fraction_order, size_order}
+use Rattle.term_values.specs.Digits.{without_leading_zeros, whole_order, fraction_order, size_order}
 
 abbrev V : List ℕ → ℕ
 V = digits_value 10

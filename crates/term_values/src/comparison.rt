@@ -3,8 +3,8 @@
 ghost use Rattle.std.specs.Prelude.{◌≡◌, ◌&&◌};
 ghost use Rattle.algebra_model.specs.BooleanValue.{ebv, has_characters, value_ebv};
 ghost use Rattle.algebra_model.specs.Comparison.{compares, equal_by, is_literal, terms_equal, value_cmp, value_of};
-ghost use Rattle.sparql_algebra.specs.ExpressionOf.{comparison_of};
-ghost use Rattle.sparql_algebra.specs.ValueShown.{value_shown};
+ghost use Rattle.term_values.specs.ComparisonOf.{comparison_of};
+ghost use Rattle.term_values.specs.ValueShown.{value_shown};
 
 use crate::literal::{LiteralValue, is_number_type, literal_value, value_of};
 use crate::number::{compare_numbers, is_zero};

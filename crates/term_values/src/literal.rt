@@ -5,8 +5,8 @@ ghost use Rattle.std.specs.List.{list_any};
 ghost use Rattle.std.specs.Str.{bytes_eq};
 ghost use Rattle.algebra_model.specs.Comparison.{value_of};
 ghost use Rattle.algebra_model.specs.LiteralValue.{boolean_value, is_integer_type, is_number_type, literal_value, number_or_other};
-ghost use Rattle.sparql_algebra.specs.NumberShown.{number_shown};
-ghost use Rattle.sparql_algebra.specs.ValueShown.{value_shown};
+ghost use Rattle.term_values.specs.NumberShown.{number_shown};
+ghost use Rattle.term_values.specs.ValueShown.{value_shown};
 
 use crate::digits::Digits;
 use crate::number::{decimal_digits, integer_digits};

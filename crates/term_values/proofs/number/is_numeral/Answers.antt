@@ -1,6 +1,6 @@
 use Rattle.std.proofs.Common.{◌≡◌, ◌==◌, ◌∙◌, sym, ap, false, length}
-use Rattle.sparql_algebra.proofs.NumberSteps.{whole_is_numeral, whole_is_not}
-use Rattle.sparql_algebra.proofs.number.is_numeral.Goals as goal
+use Rattle.term_values.proofs.NumberSteps.{whole_is_numeral, whole_is_not}
+use Rattle.term_values.proofs.number.is_numeral.Goals as goal
 
 pub returns-then-are_digits : goal.returns-then-are_digits
 returns-then-are_digits c =

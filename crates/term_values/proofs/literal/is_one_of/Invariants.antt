@@ -1,7 +1,7 @@
 use Rattle.std.proofs.Common.{◌≡◌, false, take}
 use Rattle.std.specs.List.{list_any}
 use Rattle.std.specs.Str.{bytes_eq}
-use Rattle.sparql_algebra.proofs.literal.is_one_of.Given as goal
+use Rattle.term_values.proofs.literal.is_one_of.Given as goal
 
 abbrev pub invariant-loop-other : goal.invariant-loop-other
 invariant-loop-other l = list_any (λ other. bytes_eq l.name other.now) (take l.other-index l.names) ≡ false

@@ -4,8 +4,8 @@ ghost use Rattle.std.specs.Prelude.{◌≡◌, ◌==◌, ◌&&◌, ◌++◌, get
 ghost use Rattle.std.specs.Char.{is_ascii_digit};
 ghost use Rattle.std.specs.List.{list_all, position_or_len};
 ghost use Rattle.algebra_model.specs.Number.{decimal_number, fraction_part, integer_number, is_dot, is_negative, is_numeral, is_zero, number_cmp, number_of_parts, unsigned, whole_part};
-ghost use Rattle.sparql_algebra.specs.Digits.{fraction_order, size_order, without_leading_zeros};
-ghost use Rattle.sparql_algebra.specs.NumberShown.{number_shown};
+ghost use Rattle.term_values.specs.Digits.{fraction_order, size_order, without_leading_zeros};
+ghost use Rattle.term_values.specs.NumberShown.{number_shown};
 
 use crate::digits::Digits;
 use std::cmp::Ordering;

@@ -8,7 +8,7 @@ use Rattle.std.specs.Ordering.{nat_cmp, ordering_then, is_ne}
 use Rattle.std.specs.declared.cmp.Ordering.{Ordering}
 use Rattle.std.specs.declared.cmp.Ordering.TheVariants.{Less, Equal, Greater}
 use Rattle.algebra_model.specs.Number.{is_numeral}
-use Rattle.sparql_algebra.specs.Digits.{fraction_order, without_leading_zeros}
+use Rattle.term_values.specs.Digits.{fraction_order, without_leading_zeros}
 
 pub fraction_step : (f g : List ℕ) (i : ℕ) → i < max (length f) (length g)
     → fraction_order (drop i f) (drop i g)

@@ -1,6 +1,6 @@
 use Rattle.std.proofs.Common.{◌∙◌, sym}
-use Rattle.sparql_algebra.proofs.SignLaws.{zero_when, not_zero_when}
-use Rattle.sparql_algebra.proofs.number.is_zero.Goals as goal
+use Rattle.term_values.proofs.SignLaws.{zero_when, not_zero_when}
+use Rattle.term_values.proofs.number.is_zero.Goals as goal
 
 pub returns-then-are_zeros : goal.returns-then-are_zeros
 returns-then-are_zeros c =

@@ -16,10 +16,10 @@ use Rattle.std.specs.declared.cmp.Ordering.{Ordering}
 use Rattle.std.specs.declared.cmp.Ordering.TheVariants.{Less, Equal, Greater}
 use mathlib.Core.Bool.{beq}
 use Rattle.algebra_model.specs.Number.{Number, is_zero, number_cmp}
-use Rattle.sparql_algebra.specs.declared.digits.Digits.{Digits}
-use Rattle.sparql_algebra.specs.Digits.{size_order}
-use Rattle.sparql_algebra.specs.NumberShown.{number_shown}
-use Rattle.sparql_algebra.proofs.NumberLaws.{Ranks, size_ranks, value_cons, zero_in_front}
+use Rattle.term_values.specs.declared.digits.Digits.{Digits}
+use Rattle.term_values.specs.Digits.{size_order}
+use Rattle.term_values.specs.NumberShown.{number_shown}
+use Rattle.term_values.proofs.NumberLaws.{Ranks, size_ranks, value_cons, zero_in_front}
 
 pub same_sign : (a b c : Bool) → beq a b ≡ true → a ≡ c → b ≡ c
 same_sign true true c h e = e

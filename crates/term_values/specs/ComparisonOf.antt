@@ -1,0 +1,12 @@
+-- The comparison that a comparison of a query's tree stands for.
+use Rattle.algebra_model.specs.Comparison as comparison
+use Rattle.sparql_tree.specs.declared.expression.Comparison.{Comparison}
+use Rattle.sparql_tree.specs.declared.expression.Comparison.TheVariants.{Equal, NotEqual, Less, Greater, LessOrEqual, GreaterOrEqual}
+
+abbrev pub comparison_of : Comparison → comparison.Comparison
+comparison_of Equal = comparison.equal
+comparison_of NotEqual = comparison.not_equal
+comparison_of Less = comparison.less
+comparison_of Greater = comparison.greater
+comparison_of LessOrEqual = comparison.less_or_equal
+comparison_of GreaterOrEqual = comparison.greater_or_equal

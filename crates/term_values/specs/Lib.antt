@@ -1,0 +1,4 @@
+pub mod ComparisonOf
+pub mod NumberShown
+pub mod ValueShown
+pub mod Digits
