@@ -5,7 +5,7 @@ use Rattle.std.specs.Prelude.{Option, List, map, filter, filter_map}
 use Rattle.std.specs.Option.{option_eq}
 use Rattle.rdf_core.specs.declared.term.Term.{Term}
 use Rattle.rdf_core.specs.QuadParts.{QuadParts}
-use Rattle.rdf_core.proofs.TermLaws.{term_eq}
+use Rattle.rdf_core.specs.Equality.{term_eq}
 use Rattle.algebra_model.specs.Bag.{without_repeats}
 use Rattle.algebra_model.specs.Bgp.{Triple}
 

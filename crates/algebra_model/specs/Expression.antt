@@ -2,7 +2,7 @@
 -- unbound variable is one, and so is an operand that is one, but for the rows of the logic tables.
 use Rattle.std.specs.Prelude.{ℕ, Bool, false, List, [], ◌∷◌, Option, Some, None, option_map, is_some, get_or}
 use Rattle.rdf_core.specs.declared.term.Term.{Term}
-use Rattle.rdf_core.proofs.TermLaws.{term_eq}
+use Rattle.rdf_core.specs.Equality.{term_eq}
 use Rattle.algebra_model.specs.Solution.{Solution}
 use Rattle.algebra_model.specs.BooleanValue.{ebv, logical_and, logical_or, logical_not}
 use Rattle.algebra_model.specs.Call.{Function, call_value, boolean_term}

@@ -3,7 +3,7 @@ use Rattle.std.specs.Prelude.{◌≡◌, ℕ, Bool, true, false, ◌+◌, ◌<�
 use Rattle.std.specs.declared.cmp.Ordering.TheVariants.{Equal}
 use Rattle.rdf_core.specs.declared.term.Term.{Term}
 use Rattle.rdf_core.specs.QuadParts.{QuadParts}
-use Rattle.rdf_core.proofs.TermLaws.{term_eq}
+use Rattle.rdf_core.specs.Equality.{term_eq}
 use Rattle.algebra_model.specs.Bag.{IsSameBag, IsSameSet, IsWithoutRepeats}
 use Rattle.algebra_model.specs.Solution.{Solution, same_solution, is_compatible}
 use Rattle.algebra_model.specs.Bgp.{Triple, TriplePattern, bgp, same_triple_by}

@@ -4,7 +4,7 @@ use Rattle.std.specs.List.{flat_map}
 use Rattle.std.specs.Option.{option_to_list}
 use Rattle.rdf_core.specs.declared.term.Term.{Term}
 use Rattle.rdf_core.specs.QuadParts.{QuadParts}
-use Rattle.rdf_core.proofs.TermLaws.{term_eq}
+use Rattle.rdf_core.specs.Equality.{term_eq}
 
 -- within a quad: subject, predicate, object, graph name; a datatype is no term of its own
 abbrev pub terms_of_quad : QuadParts → List Term

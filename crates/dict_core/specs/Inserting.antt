@@ -3,7 +3,7 @@ use Rattle.std.specs.Prelude.{ℕ, List, [], ◌∷◌}
 use Rattle.std.specs.List.{position_or_len}
 use Rattle.indexmap.specs.IndexSet.{insert_key}
 use Rattle.rdf_core.specs.declared.term.Term.{Term}
-use Rattle.rdf_core.proofs.TermLaws.{term_eq}
+use Rattle.rdf_core.specs.Equality.{term_eq}
 use Rattle.dict_core.specs.declared.seen.Seen.{Seen}
 use Rattle.dict_core.specs.declared.seen.Seen.TheVariants.{Known, New}
 

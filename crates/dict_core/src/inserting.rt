@@ -1,7 +1,7 @@
 //! Insertions into the set of terms, one after the other.
 ghost use Rattle.std.specs.Prelude.{◌≡◌, OnOk, OnErr, IfOk, slice_get, Some};
 ghost use Rattle.indexmap.specs.IndexSet.{insert_all, IsUnchanged, IsUnique};
-ghost use Rattle.rdf_core.proofs.TermLaws.{term_eq};
+ghost use Rattle.rdf_core.specs.Equality.{term_eq};
 ghost use Rattle.dict_core.specs.Inserting.{places_in, places_of};
 ghost use Rattle.dict_core.specs.Seen.{new_of};
 

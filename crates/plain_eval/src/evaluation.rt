@@ -1,6 +1,6 @@
 //! The walk over a plan's tree (SPARQL 1.1 Query Language, section 18.6).
 ghost use Rattle.std.specs.Prelude.{◌≡◌, ◌++◌, IfOk, Some, flat_map, drop, map};
-ghost use Rattle.rdf_core.proofs.TermLaws.{term_eq};
+ghost use Rattle.rdf_core.specs.Equality.{term_eq};
 ghost use Rattle.rdf_core.specs.QuadParts.{parts_of};
 ghost use Rattle.algebra_model.specs.Eval.{eval, in_graphs, named};
 ghost use Rattle.algebra_model.specs.Operators.{join};

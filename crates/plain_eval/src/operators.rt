@@ -1,7 +1,7 @@
 //! The operators, by running through all solutions or all pairs of them.
 ghost use Rattle.std.specs.Prelude.{◌≡◌, ◌∷◌, ◌++◌, ◌&&◌, ◌||◌, not, IfOk, OnOk, filter, map};
 ghost use Rattle.std.specs.List.{list_all};
-ghost use Rattle.rdf_core.proofs.TermLaws.{term_eq};
+ghost use Rattle.rdf_core.specs.Equality.{term_eq};
 ghost use Rattle.algebra_model.specs.Solution.{is_compatible, merge, same_solution};
 ghost use Rattle.algebra_model.specs.Operators.{share, merges, join, left_join, minus, extend, project, distinct, table};
 ghost use Rattle.algebra_model.specs.Solve.{alone};

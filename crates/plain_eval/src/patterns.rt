@@ -2,7 +2,7 @@
 ghost use Rattle.std.specs.Prelude.{◌≡◌, ◌&&◌, ◌∷◌, IfOk, Some, None, false, filter, flat_map, get_or, length, map, option_map, take};
 ghost use Rattle.std.specs.List.{list_all, list_any};
 ghost use Rattle.std.specs.Option.{option_eq};
-ghost use Rattle.rdf_core.proofs.TermLaws.{term_eq};
+ghost use Rattle.rdf_core.specs.Equality.{term_eq};
 ghost use Rattle.rdf_core.specs.QuadParts.{parts_of};
 ghost use Rattle.algebra_model.specs.Bgp.{bgp, every_map, image, is_in, takes_to};
 ghost use Rattle.algebra_model.specs.Dataset.{triple_of};

@@ -1,7 +1,7 @@
 //! One solution of terms.
 ghost use Rattle.std.specs.Prelude.{◌≡◌, ◌∷◌, IfOk, Some, None, false, get_or, replicate};
 ghost use Rattle.std.specs.Option.{option_eq};
-ghost use Rattle.rdf_core.proofs.TermLaws.{term_eq};
+ghost use Rattle.rdf_core.specs.Equality.{term_eq};
 ghost use Rattle.algebra_model.specs.Solution.{agree, bound_or, is_compatible, merge, same_solution};
 ghost use Rattle.algebra_model.specs.Operators.{share, bind, restrict, table_row};
 

@@ -1,7 +1,7 @@
 //! Lists of terms.
 ghost use Rattle.std.specs.Prelude.{◌≡◌, ◌∷◌, IfOk, filter, map, not};
 ghost use Rattle.std.specs.List.{list_any};
-ghost use Rattle.rdf_core.proofs.TermLaws.{term_eq};
+ghost use Rattle.rdf_core.specs.Equality.{term_eq};
 ghost use Rattle.rdf_core.specs.QuadParts.{parts_of};
 ghost use Rattle.algebra_model.specs.Bag.{without_repeats};
 ghost use Rattle.algebra_model.specs.Bgp.{occurring};

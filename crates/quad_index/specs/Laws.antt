@@ -4,7 +4,7 @@ use Rattle.std.specs.Prelude.{ℕ, Bool, ◌&&◌, List, map, nat_eq, length, Is
 use Rattle.std.specs.Option.{option_eq}
 use Rattle.rdf_core.specs.declared.term.Term.{Term}
 use Rattle.rdf_core.specs.QuadParts.{QuadParts}
-use Rattle.rdf_core.proofs.TermLaws.{term_eq}
+use Rattle.rdf_core.specs.Equality.{term_eq}
 use Rattle.algebra_model.specs.Bag.{IsSameSet, without_repeats}
 use Rattle.algebra_model.specs.Dataset.{names}
 use Rattle.dict_core.specs.declared.num_quad.NumQuad.{NumQuad}

@@ -4,7 +4,7 @@
 use Rattle.std.specs.Prelude.{ℕ, ◌+◌, ◌<◌, List, Option, map, length, nat_eq}
 use Rattle.std.specs.Option.{option_map, ForSome}
 use Rattle.rdf_core.specs.declared.term.Term.{Term}
-use Rattle.rdf_core.proofs.TermLaws.{term_eq}
+use Rattle.rdf_core.specs.Equality.{term_eq}
 use Rattle.algebra_model.specs.Bag.{IsSameBag, IsWithoutRepeats}
 use Rattle.algebra_model.specs.Solution.{Solution}
 use Rattle.algebra_model.specs.Bgp.{TriplePattern, bgp}

@@ -1,6 +1,6 @@
 //! The values of expressions over a row (SPARQL 1.1 Query Language, section 17).
 ghost use Rattle.std.specs.Prelude.{◌≡◌, ℕ, IfOk, IfSome, IsOk, IsOkAnd, None, Some, get_or, map, option_map, true};
-ghost use Rattle.rdf_core.proofs.TermLaws.{term_eq};
+ghost use Rattle.rdf_core.specs.Equality.{term_eq};
 ghost use Rattle.algebra_model.specs.BooleanValue.{logical_and, logical_not, logical_or};
 ghost use Rattle.algebra_model.specs.Call.{call_value};
 ghost use Rattle.algebra_model.specs.Comparison.{compares};

@@ -3,7 +3,7 @@ use rdf_core::Term;
 use sparql_tree::{Comparison, Function};
 
 /// An expression. Its variables are numbers of the plan's variables.
-#[derive(Drop)]
+#[derive(Debug, Drop)]
 pub enum Expr {
     Variable(usize),
     Constant(Term),

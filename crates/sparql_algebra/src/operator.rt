@@ -4,6 +4,7 @@ use rdf_core::Term;
 
 /// What stands in a place of a triple pattern: a variable of the plan, a blank label of the
 /// pattern, or a term.
+#[derive(Debug)]
 pub enum PatternTerm {
     Variable(usize),
     Label(usize),
@@ -20,7 +21,7 @@ impl Drop for PatternTerm {
 }
 
 /// A triple of a basic pattern.
-#[derive(Drop)]
+#[derive(Debug, Drop)]
 pub struct TriplePattern {
     pub subject: PatternTerm,
     pub predicate: PatternTerm,
@@ -28,6 +29,7 @@ pub struct TriplePattern {
 }
 
 /// What stands behind GRAPH: a variable, which goes over all graph names, or a name.
+#[derive(Debug)]
 pub enum GraphName {
     Variable(usize),
     Iri(Term),
@@ -43,7 +45,7 @@ impl Drop for GraphName {
 }
 
 /// An operator of the algebra over its inputs, each a variant under SPARQL's own name.
-#[derive(Drop)]
+#[derive(Debug, Drop)]
 pub enum Operator {
     /// A basic graph pattern with its number of blank labels.
     Pattern {

@@ -12,7 +12,7 @@ use rdf_core::Text;
 /// A variable is a number, and `names` has its name, without its sign, at that number. Every
 /// variable that the tree binds or lists has a name, and every blank label of a pattern is below
 /// the pattern's count of labels.
-#[derive(Drop)]
+#[derive(Debug, Drop)]
 pub struct Plan {
     pub names: Vec<Text>,
     pub tree: Operator,

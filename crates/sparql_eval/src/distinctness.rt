@@ -1,7 +1,7 @@
 //! Distinct (SPARQL 1.1 Query Language, section 18.5).
 ghost use Rattle.std.specs.Prelude.{◌≡◌, not, [], ◌∷◌, ◌++◌, nat_eq, IfErr, IfOk, OnOk, if◌then◌else◌};
 ghost use Rattle.std.specs.List.{list_any};
-ghost use Rattle.rdf_core.proofs.TermLaws.{term_eq};
+ghost use Rattle.rdf_core.specs.Equality.{term_eq};
 ghost use Rattle.algebra_model.specs.Operators.{distinct};
 ghost use Rattle.algebra_model.specs.Solution.{same_solution};
 ghost use Rattle.sparql_eval.specs.Evaluated.{AreKnown, IsEvaluated, solutions_of};

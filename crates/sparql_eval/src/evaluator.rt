@@ -2,7 +2,7 @@
 ghost use Rattle.std.specs.Prelude.{◌≡◌, ◌<◌, true, filter, length, map, option_map, IfErr, IfOk};
 ghost use Rattle.std.specs.List.{list_all};
 ghost use Rattle.std.specs.Option.{ForSome};
-ghost use Rattle.rdf_core.proofs.TermLaws.{term_eq};
+ghost use Rattle.rdf_core.specs.Equality.{term_eq};
 ghost use Rattle.algebra_model.specs.Algebra.{each_graph, is_name_below, is_triple_below, is_within};
 ghost use Rattle.algebra_model.specs.Bgp.{bgp};
 ghost use Rattle.algebra_model.specs.Dataset.{graph};

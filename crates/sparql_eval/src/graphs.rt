@@ -1,7 +1,7 @@
 //! Named graphs (SPARQL 1.1 Query Language, section 18.6, Graph).
 ghost use Rattle.std.specs.Prelude.{◌≡◌, ◌<◌, ◌++◌, ◌∷◌, [], true, false, Some, None, length, nat_eq, replicate, set, slice_get, take, ℕ, IfOk, OnErr, OnOk, MatchOption};
 ghost use Rattle.std.specs.List.{list_any};
-ghost use Rattle.rdf_core.proofs.TermLaws.{term_eq};
+ghost use Rattle.rdf_core.specs.Equality.{term_eq};
 ghost use Rattle.algebra_model.specs.Dataset.{names};
 ghost use Rattle.algebra_model.specs.Operators.{join};
 ghost use Rattle.dict_core.specs.NumQuad.{AreBelow, quads_at};

@@ -2,7 +2,7 @@
 ghost use Rattle.std.specs.Bool.{OnTrue};
 ghost use Rattle.std.specs.List.{list_all};
 ghost use Rattle.std.specs.Prelude.{◌≡◌, ◌≤◌, ◌∷◌, [], is_some, length, not, replicate, true, None, IfErr, IfOk};
-ghost use Rattle.rdf_core.proofs.TermLaws.{term_eq};
+ghost use Rattle.rdf_core.specs.Equality.{term_eq};
 ghost use Rattle.algebra_model.specs.Expression.{holds};
 ghost use Rattle.algebra_model.specs.Operators.{join, left_join, minus};
 ghost use Rattle.row_pieces.specs.How.{IsRunnable, HasOneWorker};
