@@ -9,7 +9,7 @@ use Rattle.dict_core.specs.declared.num_quad.NumQuad.{NumQuad}
 use Rattle.dict_core.specs.declared.seen_piece.SeenPiece.{SeenPiece}
 use Rattle.dict_core.specs.SeenPiece.{IsLookedUp}
 use Rattle.dict_core.specs.Numbered.{IsNumbered}
-use Rattle.dict_core.proofs.NumQuadLaws.{quad_eq}
+use Rattle.dict_core.specs.Equality.{quad_eq}
 use Rattle.quad_index.specs.declared.sort_order.SortOrder.{SortOrder}
 use Rattle.quad_index.specs.declared.sort_order.SortOrder.TheVariants.{Gspo, Gpos, Gosp}
 use Rattle.quad_index.specs.SortOrder.{order_cmp}

@@ -1,7 +1,7 @@
 //! The three lists of an index, sorted side by side.
 ghost use Rattle.std.specs.Prelude.{◌≡◌, ◌≤◌, ◌∷◌, [], length, IfOk, IfErr, IsPermutation};
 ghost use Rattle.algebra_model.specs.Bag.{without_repeats};
-ghost use Rattle.dict_core.proofs.NumQuadLaws.{quad_eq};
+ghost use Rattle.dict_core.specs.Equality.{quad_eq};
 ghost use Rattle.dataset_load.specs.Fault.{IfBadLine, IsNoRefusedWorker};
 ghost use Rattle.dataset_load.specs.Reading.{IsSortedList, order_at};
 

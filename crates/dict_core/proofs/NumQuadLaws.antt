@@ -1,12 +1,9 @@
 -- The derived equality of numbered quads decides whether they are the same.
-use Rattle.std.proofs.Common.{◌≡◌, Bool, Decides, rules}
+use Rattle.std.proofs.Common.{◌≡◌, Decides, rules}
 use Rattle.std.specs.Cmp.{IsEquivalence}
 use Rattle.dict_core.specs.declared.num_quad.NumQuad.{NumQuad}
-use Rattle.dict_core.specs.contracts.num_quad.NumQuadPartialEq.TheImpl as eqs
+pub use Rattle.dict_core.specs.Equality.{quad_eq}
 use Rattle.dict_core.specs.contracts.num_quad.NumQuadEq.TheImpl.Laws.{laws-law}
-
-abbrev pub quad_eq : NumQuad → NumQuad → Bool
-quad_eq = (eqs.ghosts).eq
 
 pub quad_decides : (a b : NumQuad) → Decides (quad_eq a b) (a ≡ b)
 quad_decides a b = Prim.search rules

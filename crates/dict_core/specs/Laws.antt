@@ -1,5 +1,5 @@
 -- What the laws of this crate say (our own).
-use Rattle.std.specs.Prelude.{◌≡◌, ℕ, List, ◌++◌, map}
+use Rattle.std.specs.Prelude.{◌≡◌, ◌↔◌, true, ℕ, List, ◌++◌, map}
 use Rattle.std.specs.List.{AllZip}
 use Rattle.rdf_core.specs.declared.term.Term.{Term}
 use Rattle.rdf_core.specs.QuadParts.{QuadParts}
@@ -7,8 +7,13 @@ use Rattle.dict_core.specs.declared.num_quad.NumQuad.{NumQuad}
 use Rattle.dict_core.specs.declared.seen.Seen.{Seen}
 use Rattle.dict_core.specs.Dict.{IsWithoutRepeats, AreNumbersOf, IsGrown}
 use Rattle.dict_core.specs.Appearances.{first_appearances}
+use Rattle.dict_core.specs.Equality.{quad_eq}
 use Rattle.dict_core.specs.Numbered.{IsNumbered, renamed}
 use Rattle.dict_core.specs.Seen.{IsSeen, IsNumberFor, new_of}
+
+-- two quads of numbers are equal by `==` exactly if they are the same
+abbrev pub EqualityIsIdentity : Type 0
+EqualityIsIdentity = (a b : NumQuad) → (quad_eq a b ≡ true) ↔ (a ≡ b)
 
 -- two lists of quads that are numbered each by itself, the second dictionary absorbed into the
 -- first and the second quads renamed, are the joined list numbered: so it is no matter in which

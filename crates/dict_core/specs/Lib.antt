@@ -1,5 +1,6 @@
 pub mod Dict
 pub mod NumQuad
+pub mod Equality
 pub mod Appearances
 pub mod Numbered
 pub mod Seen

@@ -1,5 +1,10 @@
 //! Laws of numbering, each the contract of a function that does nothing.
-ghost use Rattle.dict_core.specs.Laws.{AbsorbingKeepsTheNumbering, EarlierPlacesServe};
+ghost use Rattle.dict_core.specs.Laws.{AbsorbingKeepsTheNumbering, EarlierPlacesServe, EqualityIsIdentity};
+
+/// Two quads of numbers are equal by `==` exactly if they are the same quad.
+pub fn equality_is_identity()
+    ensures law { EqualityIsIdentity }
+{}
 
 /// Absorbing one numbered list of quads into another numbers the joined list. So pieces that stand
 /// in order may be merged in any groups.

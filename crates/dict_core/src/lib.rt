@@ -29,7 +29,7 @@ mod seen;
 mod seen_piece;
 
 pub use dict::Dict;
-pub use laws::{absorbing_keeps_the_numbering, earlier_places_serve};
+pub use laws::{absorbing_keeps_the_numbering, earlier_places_serve, equality_is_identity};
 pub use local_piece::{LocalPiece, number_piece};
 pub use merging::merge;
 pub use num_quad::NumQuad;

@@ -5,7 +5,7 @@ use Rattle.std.specs.Ordering.{is_eq}
 use Rattle.std.specs.declared.cmp.Ordering.{Ordering}
 use Rattle.algebra_model.specs.Bag.{IsWithoutRepeats}
 use Rattle.dict_core.specs.declared.num_quad.NumQuad.{NumQuad}
-use Rattle.dict_core.proofs.NumQuadLaws.{quad_eq}
+use Rattle.dict_core.specs.Equality.{quad_eq}
 use Rattle.quad_index.specs.declared.prefix.Prefix.{Prefix}
 use Rattle.quad_index.specs.declared.prefix.Prefix.TheVariants.{G, Gs, Gsp, Gspo, Gp, Gpo, Go, Gos}
 use Rattle.quad_index.specs.SortOrder.{by_g, by_gs, by_gsp, by_gspo, by_gp, by_gpo, by_gpos, by_go, by_gos, by_gosp}

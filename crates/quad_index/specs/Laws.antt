@@ -11,7 +11,7 @@ use Rattle.dict_core.specs.declared.num_quad.NumQuad.{NumQuad}
 use Rattle.dict_core.specs.Dict.{term_at}
 use Rattle.dict_core.specs.NumQuad.{quads_at, AreBelow}
 use Rattle.dict_core.specs.Numbered.{IsNumbered}
-use Rattle.dict_core.proofs.NumQuadLaws.{quad_eq}
+use Rattle.dict_core.specs.Equality.{quad_eq}
 use Rattle.quad_index.specs.Matching.{graph_names}
 
 -- two quads have the same terms

@@ -3,7 +3,7 @@ ghost use Rattle.std.specs.Prelude.{◌≡◌, length, filter, nat_eq, IfOk, IsP
 ghost use Rattle.std.specs.List.{dedup};
 ghost use Rattle.std.specs.List.Sorted.{IsStrictlyIncreasing};
 ghost use Rattle.algebra_model.specs.Bag.{IsWithoutRepeats, without_repeats};
-ghost use Rattle.dict_core.proofs.NumQuadLaws.{quad_eq};
+ghost use Rattle.dict_core.specs.Equality.{quad_eq};
 ghost use Rattle.quad_index.specs.SortOrder.{by_gspo, by_gpos, by_gosp};
 ghost use Rattle.quad_index.specs.Indexed.{wanted_by};
 ghost use Rattle.quad_index.specs.Matching.{agrees, graph_names};

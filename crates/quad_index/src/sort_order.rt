@@ -1,7 +1,7 @@
 //! The three orders, and lists sorted by them.
 ghost use Rattle.std.specs.Prelude.{IfOk, IsPermutation, IsSorted};
 ghost use Rattle.algebra_model.specs.Bag.{IsWithoutRepeats, without_repeats};
-ghost use Rattle.dict_core.proofs.NumQuadLaws.{quad_eq};
+ghost use Rattle.dict_core.specs.Equality.{quad_eq};
 ghost use Rattle.quad_index.specs.SortOrder.{order_cmp};
 
 use dict_core::NumQuad;

@@ -15,7 +15,7 @@ use Rattle.algebra_model.specs.Solve as solve
 use Rattle.dict_core.specs.declared.num_quad.NumQuad.{NumQuad}
 use Rattle.dict_core.specs.Dict.{term_at}
 use Rattle.dict_core.specs.NumQuad.{quads_at, AreBelow}
-use Rattle.dict_core.proofs.NumQuadLaws.{quad_eq}
+use Rattle.dict_core.specs.Equality.{quad_eq}
 use Rattle.row_pattern.specs.Numbered.{triples_of}
 
 -- The dictionary tells its numbers apart, and the numbers of the index, of the graph's name and of

@@ -4,7 +4,7 @@ ghost use Rattle.algebra_model.specs.Bag.{IsSameBag, IsWithoutRepeats};
 ghost use Rattle.algebra_model.specs.Bgp.{bgp, occurring};
 ghost use Rattle.algebra_model.specs.Reading.{Each, EachBound};
 ghost use Rattle.algebra_model.specs.Solve.{AreBelow};
-ghost use Rattle.dict_core.proofs.NumQuadLaws.{quad_eq};
+ghost use Rattle.dict_core.specs.Equality.{quad_eq};
 ghost use Rattle.row_pieces.specs.How.{IsRunnable, HasOneWorker};
 ghost use Rattle.row_pieces.specs.declared.how.EvalFault.TheVariants.{Memory};
 ghost use Rattle.row_pattern.specs.Numbered.{pattern_of, triple_of, triples_of};
