@@ -46,7 +46,7 @@ COMMON = {"copy", "get", "last", "len", "next", "read", "run", "term", "write", 
 # The public calls and types, by the crate that offers them and by topic.
 SECTIONS = [
     ("rdf_core", "Terms, quads and their N-Quads form", ["Term::copy", "write_term"], ["Term", "Text", "Quad"]),
-    ("nquads_core", "Reading N-Quads", ["read_line", "read_piece"], ["Piece", "LineFault", "PieceFault"]),
+    ("nquads_core", "Reading N-Quads", ["read_line", "read_piece", "split_piece", "read_term"], ["Piece", "RawStatement", "LineFault", "PieceFault"]),
     ("nquads_core", "Readers and writers", ["Source::read", "Sink::write"], ["Source", "Sink", "Device", "DeviceFailed"]),
     ("piece_board", "The claim board of the workers",
      ["Board::open", "Board::seats", "Board::draw", "Board::report", "Board::least", "Pass::skip", "Pass::last", "Pass::seen", "Pass::is_finished", "Board::close"],

@@ -1,4 +1,4 @@
-//! The statements of a text as slices of it, in one pass: no term is decoded and none is checked.
+//! The statements of a piece as slices of it. No term is decoded, and none is checked.
 
 ghost use Rattle.std.specs.Prelude.{◌≡◌, ◌<◌, ◌≤◌, ◌∷◌, ◌++◌, true, length, IfOk, IfSome, option_copied};
 ghost use Rattle.std.specs.Str.{IsUtf8};
@@ -10,10 +10,11 @@ use crate::token::is_end;
 use memchr::memchr;
 use std::alloc::{AllocError, Global};
 
-/// The slices of one statement, each with one term and no blank around it.
+/// The slices of a statement, one for each term, without the blanks around it.
 ///
-/// A slice is cut by delimiters alone, so it may denote no term (an escape that is none, an IRI without
-/// a scheme), or a term that is not allowed at its place. [`read_term`](crate::read_term) decides that.
+/// A slice ends at a space outside quotes, whatever it contains. So it may denote no term (an invalid
+/// escape, an IRI without a scheme), or a term that is not allowed at its place.
+/// [`read_term`](crate::read_term) reads the term of a slice.
 #[derive(Clone, Copy)]
 pub struct RawStatement<'a> {
     /// The subject, an IRI or a blank node label.
@@ -147,13 +148,14 @@ fn add_line<'a>(line: &'a str, statements: &mut Vec<RawStatement<'a>>) -> Result
     Ok(true)
 }
 
-/// Splits a piece of an N-Quads document into the slices of its statements, in order, repeats kept (RDF
-/// 1.1 N-Quads, grammar). A line without a statement gives none.
+/// Splits a piece of an N-Quads document into the slices of its statements, in order, with repeats (RDF
+/// 1.1 N-Quads, grammar). A line without a statement has no slices.
 ///
 /// If each slice denotes a term that is allowed at its place, the lines of the piece spell the quads of
-/// these terms, as [`read_piece`](crate::read_piece) reads them. `None` decides nothing: the piece is
-/// not UTF-8, holds a CR, has a malformed line, or is laid out otherwise than with one space after each
-/// term. Call `read_piece` then.
+/// these terms: [`read_piece`](crate::read_piece) would read the same quads.
+///
+/// `None` if the piece is not UTF-8, contains a CR, or has a line that is not a blank line, a comment, or
+/// a statement with one space after each term. Such a piece may be valid; read it with `read_piece`.
 ///
 /// # Errors
 /// `AllocError` if an allocation fails.
