@@ -34,108 +34,15 @@ use Rattle.rdf_core.proofs.EscapeLaws.{and_is, and_parts}
 use Rattle.nquads_core.proofs.TokenSteps.{iri_body_again, string_body_again}
 use Rattle.nquads_core.proofs.LineLaws.{line_sound}
 use Rattle.nquads_core.proofs.Meaning.{OneLine}
-use Rattle.nquads_core.proofs.RunLaws.{or_no, or_parts, begins_more}
+use Rattle.nquads_core.proofs.RunLaws.{or_parts}
+use Rattle.nquads_core.proofs.Followed.{label_followed, primary_followed, tag_followed}
 
 -- ---- what stands behind an object
 
 abbrev End : List ℕ
 End = 32 ∷ 46 ∷ []
 
--- ---- labels
-
-tail_char : (c : ℕ) (cs : List ℕ) → is_label_char c ≡ true → label_tail_at (c ∷ cs) ≡ (c ∷ (label_tail_at cs).0, (label_tail_at cs).1)
-unfolding label_tail_at
-tail_char c cs h = rw h refl
-
-tail_dot : (c : ℕ) (cs : List ℕ) (x : ℕ) (xs rest : List ℕ) → is_label_char c ≡ false → eqb c 46 ≡ true → label_tail_at cs ≡ (x ∷ xs, rest) → label_tail_at (c ∷ cs) ≡ (c ∷ x ∷ xs, rest)
-unfolding label_tail_at
-tail_dot c cs x xs rest h k e = rw (h, k, e) refl
-
-tail_stop : label_tail_at (32 ∷ 46 ∷ []) ≡ ([], 32 ∷ 46 ∷ [])
-unfolding label_tail_at is_label_char is_label_start is_name_start is_pn_chars_base
-tail_stop = refl
-
-pair_cons : (c : ℕ) (t : List ℕ × List ℕ) (xs rest : List ℕ) → t ≡ (xs, rest) → ◌≡◌ {A = List ℕ × List ℕ} (c ∷ t.0, t.1) (c ∷ xs, rest)
-pair_cons c t xs rest e = ap (λ (y : List ℕ × List ℕ). (c ∷ y.0, y.1)) e
-
-label_tail_again : (tail : List ℕ) → is_label_tail tail ≡ true → label_tail_at (tail ++ End) ≡ (tail, End)
-label_tail_again [] h = tail_stop
-label_tail_again (c ∷ []) h = tail_char c End h ∙ pair_cons c (label_tail_at End) [] End tail_stop
-label_tail_again (c ∷ d ∷ tail) h =
-    let p = and_parts (is_label_char c || eqb c 46) (is_label_tail (d ∷ tail)) h in
-    let ih = label_tail_again (d ∷ tail) p.1 in
-    elim (which (is_label_char c)) [
-      | inl k ↦ tail_char c (d ∷ tail ++ End) k ∙ pair_cons c (label_tail_at (d ∷ tail ++ End)) (d ∷ tail) End ih
-      | inr k ↦ tail_dot c (d ∷ tail ++ End) d tail End k (or_no (is_label_char c) (eqb c 46) p.0 k) ih
-    ]
-
-label_again : (cs : List ℕ) → is_label cs ≡ true → label_at (cs ++ End) ≡ Some (encode_utf8_all cs, End)
-unfolding label_at
-label_again [] h = absurd cc
-label_again (c ∷ tail) h =
-    let p = and_parts (is_label_start c) (is_label_tail tail) h in
-    rw (p.0, label_tail_again tail p.1) refl
-
 -- ---- tags
-
-subtags_step : (c : ℕ) (cs xs rest : List ℕ) → (is_ascii_alphanumeric c || (eqb c 45 && begins is_ascii_alphanumeric cs)) ≡ true → subtags_at cs ≡ (xs, rest) → subtags_at (c ∷ cs) ≡ (c ∷ xs, rest)
-unfolding subtags_at
-subtags_step c cs xs rest h e = rw (h, e) refl
-
-subtags_stop : subtags_at (32 ∷ 46 ∷ []) ≡ ([], 32 ∷ 46 ∷ [])
-unfolding subtags_at
-subtags_stop = refl
-
-or_mono : (a b c : Bool) → (b ≡ true → c ≡ true) → (a || b) ≡ true → (a || c) ≡ true
-or_mono true b c f h = refl
-or_mono false b c f h = f h
-
-and_mono : (a b c : Bool) → (b ≡ true → c ≡ true) → (a && b) ≡ true → (a && c) ≡ true
-and_mono true b c f h = f h
-and_mono false b c f h = h
-
-more : (c : ℕ) (front : List ℕ) → (eqb c 45 && begins is_ascii_alphanumeric front) ≡ true → (eqb c 45 && begins is_ascii_alphanumeric (front ++ End)) ≡ true
-more c front = and_mono (eqb c 45) (begins is_ascii_alphanumeric front) (begins is_ascii_alphanumeric (front ++ End)) (begins_more is_ascii_alphanumeric front End)
-
-subtags_again : (front : List ℕ) → is_subtags front ≡ true → subtags_at (front ++ End) ≡ (front, End)
-subtags_again [] h = subtags_stop
-subtags_again (c ∷ front) h =
-    let p = and_parts (is_ascii_alphanumeric c || (eqb c 45 && begins is_ascii_alphanumeric front)) (is_subtags front) h in
-    subtags_step c (front ++ End) front End
-    (or_mono (is_ascii_alphanumeric c) (eqb c 45 && begins is_ascii_alphanumeric front) (eqb c 45 && begins is_ascii_alphanumeric (front ++ End)) (more c front) p.0)
-    (subtags_again front p.1)
-
-primary_alpha : (c : ℕ) (cs xs rest : List ℕ) → is_ascii_alphabetic c ≡ true → tag_tail_at cs ≡ (xs, rest) → tag_tail_at (c ∷ cs) ≡ (c ∷ xs, rest)
-unfolding tag_tail_at
-primary_alpha c cs xs rest h e = rw (h, e) refl
-
-primary_hyphen : (c : ℕ) (cs xs rest : List ℕ) → is_ascii_alphabetic c ≡ false → (eqb c 45 && begins is_ascii_alphanumeric cs) ≡ true → subtags_at cs ≡ (xs, rest) → tag_tail_at (c ∷ cs) ≡ (c ∷ xs, rest)
-unfolding tag_tail_at
-primary_hyphen c cs xs rest h k e = rw (h, k, e) refl
-
-primary_stop : tag_tail_at (32 ∷ 46 ∷ []) ≡ ([], 32 ∷ 46 ∷ [])
-unfolding tag_tail_at
-primary_stop = refl
-
-hyphen_no_letter : (c : ℕ) → eqb c 45 ≡ true → is_ascii_alphabetic c ≡ false
-hyphen_no_letter c h = rw (eqb-true c 45 h) refl
-
-primary_again : (front : List ℕ) → is_tag_tail front ≡ true → tag_tail_at (front ++ End) ≡ (front, End)
-primary_again [] h = primary_stop
-primary_again (c ∷ front) h =
-    elim (or_parts (is_ascii_alphabetic c && is_tag_tail front) ((eqb c 45 && begins is_ascii_alphanumeric front) && is_subtags front) h) [
-      | inl k ↦ let p = and_parts (is_ascii_alphabetic c) (is_tag_tail front) k in primary_alpha c (front ++ End) front End p.0 (primary_again front p.1)
-      | inr k ↦
-          let p = and_parts (eqb c 45 && begins is_ascii_alphanumeric front) (is_subtags front) k in
-          let q = and_parts (eqb c 45) (begins is_ascii_alphanumeric front) p.0 in
-          primary_hyphen c (front ++ End) front End (hyphen_no_letter c q.0) (more c front p.0) (subtags_again front p.1)
-    ]
-
-tag_again : (cs : List ℕ) → is_tag cs ≡ true → tag_at (cs ++ End) ≡ Some (map to_ascii_lowercase cs, End)
-unfolding tag_at
-tag_again cs h =
-    let p = and_parts (begins is_ascii_alphabetic cs) (is_tag_tail cs) h in
-    rw (begins_more is_ascii_alphabetic cs End p.0, primary_again cs p.1) refl
 
 -- the lower case of a tag is a tag
 lower_alpha : (c : ℕ) → is_ascii_alphabetic (to_ascii_lowercase c) ≡ is_ascii_alphabetic c
@@ -341,7 +248,7 @@ next_dot = refl
 
 next_label : (cs : List ℕ) → is_label cs ≡ true → next (32 ∷ 95 ∷ 58 ∷ cs ++ End) ≡ Some (blank_label (encode_utf8_all cs), End)
 unfolding skip_blanks terminal_at
-next_label cs h = rw (label_again cs h) refl
+next_label cs h = rw (label_followed cs (46 ∷ []) h) refl
 
 next_iri : (cs bytes rest : List ℕ) → all_pass is_iri_char cs ≡ true → bytes ≡ encode_utf8_all cs → has_scheme bytes ≡ true → next (60 ∷ (cs ++ 62 ∷ rest)) ≡ Some (iri_ref bytes, rest)
 unfolding skip_blanks terminal_at
@@ -357,7 +264,7 @@ next_string cs rest = rw (string_again cs rest) refl
 
 next_tag : (cs : List ℕ) → is_tag cs ≡ true → next (64 ∷ cs ++ End) ≡ Some (lang_tag (map to_ascii_lowercase cs), End)
 unfolding skip_blanks terminal_at
-next_tag cs h = rw (tag_again cs h) refl
+next_tag cs h = rw (tag_followed cs (46 ∷ []) h) refl
 
 next_carets : (rest : List ℕ) → next (94 ∷ 94 ∷ rest) ≡ Some (carets, rest)
 unfolding skip_blanks terminal_at
@@ -467,7 +374,7 @@ typed_literal lex dt g i =
     ]
 
 tag_ascii : (cs : List ℕ) → is_tag_tail cs ≡ true → encode_utf8_all cs ≡ cs
-tag_ascii cs h = ap (λ (y : List ℕ × List ℕ). encode_utf8_all y.0) (sym (primary_again cs h)) ∙ primary_ascii (cs ++ End) ∙ ap (λ (y : List ℕ × List ℕ). y.0) (primary_again cs h)
+tag_ascii cs h = ap (λ (y : List ℕ × List ℕ). encode_utf8_all y.0) (sym (primary_followed cs (46 ∷ []) h)) ∙ primary_ascii (cs ++ End) ∙ ap (λ (y : List ℕ × List ℕ). y.0) (primary_followed cs (46 ∷ []) h)
 
 low_scalar : (c : ℕ) → c < 128 → scalar c ≡ true
 low_scalar c h = rw (lt-ltb c 55296 (omega arith)) refl

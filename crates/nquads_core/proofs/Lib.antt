@@ -2,10 +2,14 @@ pub mod LineEnds
 pub mod Runs
 pub mod TokenSteps
 pub mod RunLaws
+pub mod Followed
 pub mod TerminalLaws
 pub mod LineLaws
 pub mod Meaning
 pub mod PieceLaws
+pub mod SliceLaws
+pub mod SplitLaws
+pub mod TermReads
 pub mod Spelled
 pub mod Again
 pub mod TransferSteps

@@ -122,11 +122,11 @@ next_again cs k rest b =
 
 -- ---- runs of terminals
 
-abbrev Run : List ℕ → List Terminal → List ℕ → Type 0
+abbrev pub Run : List ℕ → List Terminal → List ℕ → Type 0
 Run cs [] rest = cs ≡ rest
 Run cs (k ∷ ks) rest = (mid : List ℕ) × Begins cs k mid × Run mid ks rest
 
-run_then : (cs : List ℕ) (ks : List Terminal) (rest : List ℕ) (more : List Terminal) → Run cs ks rest → Splits rest more → Splits cs (ks ++ more)
+pub run_then : (cs : List ℕ) (ks : List Terminal) (rest : List ℕ) (more : List Terminal) → Run cs ks rest → Splits rest more → Splits cs (ks ++ more)
 run_then cs [] rest more r s = subst (λ (y : List ℕ). Splits y more) (sym r) s
 run_then cs (k ∷ ks) rest more r s = (r.0, r.1, run_then r.0 ks rest more r.2 s)
 
@@ -144,7 +144,7 @@ node_subject (lang_tag tag) t e = absurd (none_some t e)
 node_subject carets t e = absurd (none_some t e)
 node_subject dot t e = absurd (none_some t e)
 
-iri_is : (k : Terminal) (text : List ℕ) → iri_of k ≡ Some text → k ≡ iri_ref text
+pub iri_is : (k : Terminal) (text : List ℕ) → iri_of k ≡ Some text → k ≡ iri_ref text
 iri_is (iri_ref other) text e = ap iri_ref (same_Some other text e)
 iri_is (blank_label label) text e = absurd (none_some text e)
 iri_is (quoted lexical) text e = absurd (none_some text e)

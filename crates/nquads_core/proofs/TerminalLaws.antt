@@ -157,31 +157,23 @@ pub record Reaches (cs : List ℕ) (k : Terminal) (behind : List ℕ) : Type 0 w
   pub short : length left ≤ length behind
   pub same : left ≡ behind → kind ≡ k
 
-reach_iri : (word bytes behind : List ℕ) → IsIriRef word bytes → Reaches (word ++ behind) (iri_ref bytes) behind
+-- an IRI and a string end where they close, whatever follows
+pub iri_stands : (word bytes behind : List ℕ) → IsIriRef word bytes → terminal_at (word ++ behind) ≡ Some (iri_ref bytes, behind)
 unfolding terminal_at iri_at
-reach_iri word bytes behind t =
+iri_stands word bytes behind t =
     let whole : word ++ behind ≡ 60 ∷ (t.body ++ 62 ∷ behind) = ap (λ (y : List ℕ). y ++ behind) t.parts ∙ ap (λ (y : List ℕ). 60 ∷ y) (append_assoc t.body (62 ∷ []) behind) in
     let read = iri_body_again t.chars t.body behind t.writes in
-    record {
-      kind = iri_ref bytes;
-      left = behind;
-      is = rw (whole, read, ← t.utf8, t.scheme) refl;
-      short = omega arith;
-      same = λ _. refl;
-    }
+    rw (whole, read, ← t.utf8, t.scheme) refl
 
-reach_quoted : (word bytes behind : List ℕ) → IsQuoted word bytes → Reaches (word ++ behind) (quoted bytes) behind
+pub string_stands : (word bytes behind : List ℕ) → IsQuoted word bytes → terminal_at (word ++ behind) ≡ Some (quoted bytes, behind)
 unfolding terminal_at string_at
-reach_quoted word bytes behind t =
+string_stands word bytes behind t =
     let whole : word ++ behind ≡ 34 ∷ (t.body ++ 34 ∷ behind) = ap (λ (y : List ℕ). y ++ behind) t.parts ∙ ap (λ (y : List ℕ). 34 ∷ y) (append_assoc t.body (34 ∷ []) behind) in
     let read = string_body_again t.chars t.body behind t.writes in
-    record {
-      kind = quoted bytes;
-      left = behind;
-      is = rw (whole, read, ← t.utf8) refl;
-      short = omega arith;
-      same = λ _. refl;
-    }
+    rw (whole, read, ← t.utf8) refl
+
+reach_whole : (cs behind : List ℕ) (k : Terminal) → terminal_at cs ≡ Some (k, behind) → Reaches cs k behind
+reach_whole cs behind k e = record { kind = k; left = behind; is = e; short = omega arith; same = λ _. refl }
 
 label_reach : (label behind bytes : List ℕ) → is_label label ≡ true → bytes ≡ encode_utf8_all label → Reaches (95 ∷ 58 ∷ label ++ behind) (blank_label bytes) behind
 unfolding terminal_at label_at
@@ -219,26 +211,23 @@ tag_reach tag behind bytes h u =
           ap lang_tag (ap (λ (y : List ℕ). map to_ascii_lowercase y) front ∙ sym u);
     }
 
-reach_sign : (word behind rest : List ℕ) (k : Terminal) → word ++ behind ≡ rest → terminal_at rest ≡ Some (k, behind) → Reaches (word ++ behind) k behind
-reach_sign word behind rest k e h = record { kind = k; left = behind; is = ap terminal_at e ∙ h; short = omega arith; same = λ _. refl }
-
-at_carets : (behind : List ℕ) → terminal_at (94 ∷ 94 ∷ behind) ≡ Some (carets, behind)
+pub at_carets : (behind : List ℕ) → terminal_at (94 ∷ 94 ∷ behind) ≡ Some (carets, behind)
 unfolding terminal_at
 at_carets behind = refl
 
-at_dot : (behind : List ℕ) → terminal_at (46 ∷ behind) ≡ Some (dot, behind)
+pub at_dot : (behind : List ℕ) → terminal_at (46 ∷ behind) ≡ Some (dot, behind)
 unfolding terminal_at
 at_dot behind = refl
 
 pub reaches : (word behind : List ℕ) (k : Terminal) → IsTerminal word k → Reaches (word ++ behind) k behind
-reaches word behind (iri_ref bytes) t = reach_iri word bytes behind t
-reaches word behind (quoted bytes) t = reach_quoted word bytes behind t
+reaches word behind (iri_ref bytes) t = reach_whole (word ++ behind) behind (iri_ref bytes) (iri_stands word bytes behind t)
+reaches word behind (quoted bytes) t = reach_whole (word ++ behind) behind (quoted bytes) (string_stands word bytes behind t)
 reaches word behind (blank_label bytes) t =
     subst (λ (y : List ℕ). Reaches (y ++ behind) (blank_label bytes) behind) (sym t.parts) (label_reach t.label behind bytes t.right t.utf8)
 reaches word behind (lang_tag bytes) t =
     subst (λ (y : List ℕ). Reaches (y ++ behind) (lang_tag bytes) behind) (sym t.parts) (tag_reach t.tag behind bytes t.right t.lower)
-reaches word behind carets t = reach_sign word behind (94 ∷ 94 ∷ behind) carets (ap (λ (y : List ℕ). y ++ behind) t) (at_carets behind)
-reaches word behind dot t = reach_sign word behind (46 ∷ behind) dot (ap (λ (y : List ℕ). y ++ behind) t) (at_dot behind)
+reaches word behind carets t = reach_whole (word ++ behind) behind carets (ap (λ (y : List ℕ). terminal_at (y ++ behind)) t ∙ at_carets behind)
+reaches word behind dot t = reach_whole (word ++ behind) behind dot (ap (λ (y : List ℕ). terminal_at (y ++ behind)) t ∙ at_dot behind)
 
 -- ---- the longest
 

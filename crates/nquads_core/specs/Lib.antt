@@ -2,8 +2,11 @@ pub mod Terminal
 pub mod Grammar
 pub mod Lines
 pub mod Pieces
+pub mod Slices
+pub mod Splitting
 pub mod Laws
 pub mod Reading
+pub mod Layout
 pub mod Views
 pub mod Device
 pub mod Transfer

@@ -1,6 +1,6 @@
 -- Reading a line from left to right: what stands at the front of a text, and the rest. None: no such thing
 -- stands there. Only private clauses cite these words; what is promised stands in Grammar.
-use Rattle.std.specs.Prelude.{◌≡◌, ℕ, Bool, true, ◌&&◌, ◌||◌, List, [], ◌∷◌, map, Option, Some, None, Result, Ok, Err, ◌==◌, if◌then◌else◌}
+use Rattle.std.specs.Prelude.{◌≡◌, ℕ, Bool, true, false, ◌&&◌, ◌||◌, List, [], ◌∷◌, map, Option, Some, None, Result, Ok, Err, ◌==◌, if◌then◌else◌}
 use Rattle.std.specs.Char.{is_ascii_alphabetic, is_ascii_alphanumeric, to_ascii_lowercase}
 use Rattle.std.specs.Str.{encode_utf8_all}
 use Rattle.nquads_core.specs.declared.fault.LineFault.{LineFault}
@@ -187,3 +187,39 @@ statement_at cs = do
 
 unfoldable pub line_at : List ℕ → Option (Option QuadParts)
 line_at cs = if is_end (skip_blanks cs) then Some None else statement_at cs
+
+-- ---- one term and nothing else
+
+abbrev pub is_over : List ℕ → Bool
+is_over [] = true
+is_over (c ∷ cs) = false
+
+abbrev pub alone : Term → List ℕ → Option Term
+alone t rest = if is_over rest then Some t else None
+
+-- what follows the quotes
+abbrev pub suffix_alone : List ℕ → Terminal × List ℕ → Option Term
+suffix_alone lexical (lang_tag tag, rest) = alone (Literal lexical rdf_lang_string (Some tag)) rest
+suffix_alone lexical (carets, rest) = do
+  d ← terminal_at rest
+  datatype ← iri_of d.0
+  alone (Literal lexical datatype None) d.1
+suffix_alone lexical (iri_ref text, rest) = None
+suffix_alone lexical (blank_label label, rest) = None
+suffix_alone lexical (quoted other, rest) = None
+suffix_alone lexical (dot, rest) = None
+
+abbrev pub literal_alone : List ℕ → List ℕ → Option Term
+literal_alone lexical rest =
+    if is_over rest then Some (Literal lexical xsd_string None) else (terminal_at rest >>= suffix_alone lexical)
+
+abbrev pub object_alone : Terminal × List ℕ → Option Term
+object_alone (iri_ref text, rest) = alone (Iri text) rest
+object_alone (blank_label label, rest) = alone (Blank label) rest
+object_alone (quoted lexical, rest) = literal_alone lexical rest
+object_alone (lang_tag tag, rest) = None
+object_alone (carets, rest) = None
+object_alone (dot, rest) = None
+
+unfoldable pub term_at : List ℕ → Option Term
+term_at cs = terminal_at cs >>= object_alone

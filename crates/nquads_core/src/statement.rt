@@ -26,7 +26,7 @@ fn node_of(token: Token) -> Option<Term>
     }
 }
 
-fn iri_of(token: Token) -> Option<Text>
+pub fn iri_of(token: Token) -> Option<Text>
     ensures { Finds (λ text. text) result (iri_of (token_view token)) }
 {
     match token {
@@ -35,13 +35,13 @@ fn iri_of(token: Token) -> Option<Text>
     }
 }
 
-fn xsd_string(alloc: Global) -> Result<Text, AllocError>
+pub fn xsd_string(alloc: Global) -> Result<Text, AllocError>
     ensures { IfOk result (λ text. text ≡ xsd_string) }
 {
     Ok(Text::from_string(String::from_str(alloc, XSD_STRING)?))
 }
 
-fn rdf_lang_string(alloc: Global) -> Result<Text, AllocError>
+pub fn rdf_lang_string(alloc: Global) -> Result<Text, AllocError>
     ensures { IfOk result (λ text. text ≡ rdf_lang_string) }
 {
     Ok(Text::from_string(String::from_str(alloc, RDF_LANG_STRING)?))

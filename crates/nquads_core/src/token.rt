@@ -228,16 +228,22 @@ fn token_from(alloc: Global, c: char, after: &str) -> Result<(Token, &str), Line
     Err(LineFault::Bad)
 }
 
-/// The next terminal, behind blanks, and what follows it.
+/// The terminal at the front, and what follows it.
 #[tactic(auto, unfolding(crate::specs::Reading::terminal_at))]
-pub fn next_token(alloc: Global, text: &str) -> Result<(Token, &str), LineFault>
-    ensures { Gives (λ x. (token_view x.0, chars x.1.now)) result (next (chars text.now)) }
+pub fn token_at(alloc: Global, text: &str) -> Result<(Token, &str), LineFault>
+    ensures { Gives (λ x. (token_view x.0, chars x.1.now)) result (terminal_at (chars text.now)) }
 {
-    let text = skip_blanks(text);
     let Some((c, after)) = first_char(text) else {
         return Err(LineFault::Bad);
     };
     token_from(alloc, c, after)
+}
+
+/// The next terminal, behind blanks, and what follows it.
+pub fn next_token(alloc: Global, text: &str) -> Result<(Token, &str), LineFault>
+    ensures { Gives (λ x. (token_view x.0, chars x.1.now)) result (next (chars text.now)) }
+{
+    token_at(alloc, skip_blanks(text))
 }
 
 /// Whether nothing is left but blanks and a comment.
