@@ -6,3 +6,4 @@ pub mod Seen
 pub mod SeenPiece
 pub mod Laws
 pub mod Inserting
+pub mod Naming
