@@ -1,5 +1,5 @@
 //! Cases of the tests: texts, and what is expected of each.
-use crate::{lexical, lines};
+use crate::{lexical, lines, slices};
 use std::alloc::{AllocError, Global};
 
 /// A text, and what its reader prints.
@@ -18,8 +18,12 @@ pub(crate) enum Reader {
     Piece,
     /// The string before `"`, and what follows it.
     Quoted,
+    /// The slices of the statements of a piece.
+    Slices,
     /// What the inside of a string stands for.
     String,
+    /// The term that a slice denotes.
+    Term,
 }
 
 fn printed(alloc: Global, reader: Reader, text: &str) -> Result<String, AllocError> {
@@ -29,7 +33,9 @@ fn printed(alloc: Global, reader: Reader, text: &str) -> Result<String, AllocErr
         Reader::Line => lines::line(alloc, text),
         Reader::Piece => lines::piece(alloc, text),
         Reader::Quoted => lexical::quoted(alloc, text),
+        Reader::Slices => slices::slices(alloc, text),
         Reader::String => lexical::string(alloc, text),
+        Reader::Term => slices::term(alloc, text),
     }
 }
 

@@ -20,7 +20,7 @@ use Rattle.rdf_core.specs.Characters.{begins}
 use Rattle.rdf_core.specs.Escapes.{IsIriPart, IsStringPart, Writes}
 use Rattle.rdf_core.specs.Lexical.{is_tag, is_tag_tail, is_subtags, has_scheme}
 use Rattle.nquads_core.specs.Terminal.{Terminal, iri_ref, blank_label, quoted, lang_tag, carets, dot, is_label, is_label_tail}
-use Rattle.nquads_core.specs.Reading.{iri_at, string_at, label_tail_at, label_at, subtags_at, tag_tail_at, tag_at, terminal_at, skip_blanks, next, literal_of, object_of, whole, statement_at, line_at}
+use Rattle.nquads_core.specs.Reading.{iri_at, string_at, terminal_at, skip_blanks, next, literal_of, object_of, whole, statement_at, line_at}
 use Rattle.rdf_core.specs.Vocabulary.{xsd_string, rdf_lang_string}
 use Rattle.nquads_core.specs.Laws.{object_line, with_object, ReadsBack}
 use Rattle.std.specs.Str.{bytes_eq}

@@ -7,6 +7,7 @@ pub mod TerminalLaws
 pub mod LineLaws
 pub mod Meaning
 pub mod PieceLaws
+pub mod CutLaws
 pub mod SliceLaws
 pub mod SplitLaws
 pub mod TermReads

@@ -5,12 +5,11 @@ use Rattle.std.specs.Str.{IsUtf8, chars}
 use Rattle.std.specs.Char.{encode_utf8}
 use Rattle.std.proofs.lemmas.Str.{chars-append}
 use Rattle.rdf_core.specs.declared.term.Term.{Term}
-use Rattle.rdf_core.specs.declared.term.Term.TheVariants.{Blank, Iri, Literal}
 use Rattle.rdf_core.specs.QuadParts.{QuadParts}
 use Rattle.rdf_core.specs.QuadFacts.{is_node, is_iri, is_graph_name}
 use Rattle.nquads_core.specs.declared.slices.RawStatement.{RawStatement}
 use Rattle.nquads_core.specs.Terminal.{Terminal, iri_ref, blank_label, quoted, lang_tag, carets, dot, IsTerminal, IsBlankLabel, IsLangTag}
-use Rattle.nquads_core.specs.Grammar.{IsEnd, Begins, Splits, Subject, iri_subject, blank_subject, Predicate, iri_predicate, Object, iri_object, blank_object, plain_object, typed_object, tagged_object, GraphLabel, no_graph, iri_graph, blank_graph, Statement, Spells}
+use Rattle.nquads_core.specs.Grammar.{IsEnd, Begins, Splits, Subject, iri_subject, blank_subject, Predicate, iri_predicate, Object, iri_object, blank_object, plain_object, typed_object, tagged_object, GraphLabel, no_graph, iri_graph, blank_graph, Spells}
 use Rattle.nquads_core.specs.Slices.{Joins, Denotes}
 use Rattle.nquads_core.specs.Splitting.{DenotesGraph, DenotesQuad}
 use Rattle.nquads_core.specs.Layout.{graph_then, IsLaidOut, IsOneLine}

@@ -1,7 +1,7 @@
 -- Lines split into slices, one after the other.
-use Rattle.std.proofs.Common.{◌≡◌, ℕ, ◌≤◌, ◌<◌, List, [], ◌∷◌, ◌++◌, length, Option, Some, None, refl, sym, ap, subst, ◌∙◌, append_assoc, append-nil}
+use Rattle.std.proofs.Common.{◌≡◌, ℕ, List, [], ◌∷◌, ◌++◌, Option, Some, None, refl, sym, ap, subst, ◌∙◌, append_assoc, append-nil}
 use Rattle.std.specs.Prelude.{option_to_list}
-use Rattle.std.specs.Str.{IsUtf8, chars}
+use Rattle.std.specs.Str.{IsUtf8}
 use Rattle.rdf_core.specs.QuadParts.{QuadParts}
 use Rattle.nquads_core.specs.declared.slices.RawStatement.{RawStatement}
 use Rattle.nquads_core.specs.Lines.{lines}

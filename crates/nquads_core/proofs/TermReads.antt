@@ -1,5 +1,5 @@
 -- The term that is read is the one that the slice denotes.
-use Rattle.std.proofs.Common.{◌≡◌, ℕ, true, List, [], ◌∷◌, Option, Some, None, refl, subst, inl, inr, IfSome, ap, sym, ◌∙◌}
+use Rattle.std.proofs.Common.{◌≡◌, ℕ, true, List, [], ◌∷◌, Some, None, refl, subst, inl, inr}
 use Rattle.std.specs.Str.{IsUtf8, chars}
 use Rattle.std.proofs.lemmas.Option.{same_Some}
 use Rattle.rdf_core.specs.declared.term.Term.{Term}

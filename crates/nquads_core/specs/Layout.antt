@@ -1,7 +1,7 @@
 -- How a line is laid out that is split into slices: a blank after each, then a dot. Only private clauses cite
 -- these words; what is promised stands in Splitting. A space is 32, a dot 46.
-use Rattle.std.specs.Prelude.{◌≡◌, ◌≢◌, ℕ, ◌<◌, List, [], ◌∷◌, ◌++◌, length, Option, Some, None, option_copied, option_to_list, slice_index}
-use Rattle.std.specs.Str.{IsUtf8, chars}
+use Rattle.std.specs.Prelude.{◌≡◌, ◌≢◌, ℕ, ◌<◌, List, ◌∷◌, ◌++◌, length, Option, Some, None, option_copied, option_to_list, slice_index}
+use Rattle.std.specs.Str.{chars}
 use Rattle.nquads_core.specs.declared.slices.RawStatement.{RawStatement}
 use Rattle.nquads_core.specs.Grammar.{IsEnd}
 
@@ -29,3 +29,7 @@ pub record Adds (line : List ℕ) (old new : List RawStatement) : Type 0 where
 -- no byte is LF or CR
 abbrev pub IsOneLine : List ℕ → Type 0
 IsOneLine line = (i : ℕ) → i < length line → (slice_index line i ≢ 10) × (slice_index line i ≢ 13)
+
+-- no byte is CR
+abbrev pub HasNoCr : List ℕ → Type 0
+HasNoCr text = (i : ℕ) → i < length text → slice_index text i ≢ 13

@@ -3,13 +3,15 @@
 //!
 //! [`read_piece`] takes whole lines of a document and gives their quads in order, or the first line
 //! that spells nothing. The crates above use its clauses `quads`, `lines` and `bad_line`.
+//! [`split_piece`] only splits the statements into slices of the document, and [`read_term`] reads the
+//! term of a slice; these two are sound, and `read_piece` reads what they do not accept.
 //!
 //! Standard: RDF 1.1 N-Quads (Recommendation of 2014), grammar, with four rules of our own: a CR that
 //! no LF follows ends a line too; an IRI has a scheme, and no escape in it names a character that
 //! could not stand there raw; a line with a byte order mark is bad; tags are kept in lower case.
 //!
 //! To read in this order: `fault`, `token` (the terminals), `statement` (the productions), `line`,
-//! `piece`, `laws`; and apart from these `device` and `transfer`.
+//! `piece`, `slices`, `raw_term`, `laws`; and apart from these `device` and `transfer`.
 //!
 //! ```text
 //! let piece = read_piece(alloc, b"<http://e/a> <http://e/p> \"x\"@en-GB.\n")?;

@@ -1,10 +1,101 @@
 //! The term that a slice denotes.
 
-ghost use Rattle.std.specs.Prelude.{IfOk, IfSome};
+ghost use Rattle.std.specs.Prelude.{◌≡◌, IfOk, IfSome};
+ghost use Rattle.std.specs.Str.{chars};
+ghost use Rattle.nquads_core.specs.Reading.{Gives, alone, is_over, suffix_alone, literal_alone, object_alone, term_at};
 ghost use Rattle.nquads_core.specs.Slices.{Denotes};
+ghost use Rattle.nquads_core.specs.Views.{token_view};
 
-use rdf_core::Term;
+use crate::fault::LineFault;
+use crate::statement::{iri_of, rdf_lang_string, xsd_string};
+use crate::token::{Token, token_at};
+use rdf_core::lexical::first_char;
+use rdf_core::{Term, Text};
 use std::alloc::{AllocError, Global};
+
+fn is_over(text: &str) -> bool
+    ensures { result ≡ is_over (chars text.now) }
+{
+    match first_char(text) {
+        Some(_) => false,
+        None => true,
+    }
+}
+
+/// The term, if nothing follows it.
+fn alone(term: Term, rest: &str) -> Result<Term, LineFault>
+    ensures { Gives (λ t. t) result (alone term (chars rest.now)) }
+{
+    if is_over(rest) {
+        Ok(term)
+    } else {
+        Err(LineFault::Bad)
+    }
+}
+
+/// The literal of a string and the terminal that follows it.
+fn suffix_alone(alloc: Global, lexical: Text, token: Token, rest: &str) -> Result<Term, LineFault>
+    ensures { Gives (λ t. t) result (suffix_alone lexical (token_view token, chars rest.now)) }
+{
+    match token {
+        Token::Carets => {
+            let (datatype, rest) = token_at(alloc, rest)?;
+            let Some(datatype) = iri_of(datatype) else {
+                return Err(LineFault::Bad);
+            };
+            let term = Term::Literal {
+                lexical,
+                datatype,
+                tag: None,
+            };
+            alone(term, rest)
+        }
+        Token::Tag(tag) => {
+            let term = Term::Literal {
+                lexical,
+                datatype: rdf_lang_string(alloc)?,
+                tag: Some(tag),
+            };
+            alone(term, rest)
+        }
+        Token::Iri(_) | Token::Blank(_) | Token::Quoted(_) | Token::Dot => Err(LineFault::Bad),
+    }
+}
+
+/// The literal of a string and what follows it.
+fn literal_alone(alloc: Global, lexical: Text, rest: &str) -> Result<Term, LineFault>
+    ensures { Gives (λ t. t) result (literal_alone lexical (chars rest.now)) }
+{
+    if is_over(rest) {
+        return Ok(Term::Literal {
+            lexical,
+            datatype: xsd_string(alloc)?,
+            tag: None,
+        });
+    }
+    let (token, rest) = token_at(alloc, rest)?;
+    suffix_alone(alloc, lexical, token, rest)
+}
+
+/// The term of the terminals of a text, the first of which is given.
+fn object_alone(alloc: Global, token: Token, rest: &str) -> Result<Term, LineFault>
+    ensures { Gives (λ t. t) result (object_alone (token_view token, chars rest.now)) }
+{
+    match token {
+        Token::Iri(text) => alone(Term::Iri(text), rest),
+        Token::Blank(label) => alone(Term::Blank(label), rest),
+        Token::Quoted(lexical) => literal_alone(alloc, lexical, rest),
+        Token::Tag(_) | Token::Carets | Token::Dot => Err(LineFault::Bad),
+    }
+}
+
+#[tactic(auto, unfolding(crate::specs::Reading::term_at))]
+fn whole_term(alloc: Global, raw: &str) -> Result<Term, LineFault>
+    ensures { Gives (λ t. t) result (term_at (chars raw.now)) }
+{
+    let (token, rest) = token_at(alloc, raw)?;
+    object_alone(alloc, token, rest)
+}
 
 /// Reads the term that a slice of a line denotes: an IRI, a blank node label, or a literal with its
 /// language tag or datatype, with no blank before, inside or after it (RDF 1.1 N-Quads, grammar).
@@ -16,5 +107,9 @@ use std::alloc::{AllocError, Global};
 pub fn read_term(alloc: Global, raw: &str) -> Result<Option<Term>, AllocError>
     ensures denotes { IfOk result (λ term. IfSome term (Denotes raw.now)) }
 {
-    Ok(None)
+    match whole_term(alloc, raw) {
+        Ok(term) => Ok(Some(term)),
+        Err(LineFault::Bad) => Ok(None),
+        Err(LineFault::Memory) => Err(AllocError),
+    }
 }

@@ -1,15 +1,20 @@
-//! The statements of a text as slices of it, in one pass: no term is decoded and none is checked.
+//! The statements of a piece as slices of it. No term is decoded, and none is checked.
 
-ghost use Rattle.std.specs.Prelude.{IfOk, IfSome};
+ghost use Rattle.std.specs.Prelude.{◌≡◌, ◌<◌, ◌≤◌, ◌∷◌, ◌++◌, true, length, IfOk, IfSome, option_copied};
+ghost use Rattle.std.specs.Str.{IsUtf8};
 ghost use Rattle.nquads_core.specs.Lines.{lines};
+ghost use Rattle.nquads_core.specs.Layout.{Adds, graph_then, HasNoCr, IsLaidOut, IsOneLine};
 ghost use Rattle.nquads_core.specs.Splitting.{AreStatements};
 
+use crate::token::is_end;
+use memchr::memchr;
 use std::alloc::{AllocError, Global};
 
-/// The slices of one statement, each with one term and no blank around it.
+/// The slices of a statement, one for each term, without the blanks around it.
 ///
-/// A slice is cut by delimiters alone, so it may denote no term (an escape that is none, an IRI without
-/// a scheme), or a term that is not allowed at its place. [`read_term`](crate::read_term) decides that.
+/// A slice ends at a space outside quotes, whatever it contains. So it may denote no term (an invalid
+/// escape, an IRI without a scheme), or a term that is not allowed at its place.
+/// [`read_term`](crate::read_term) reads the term of a slice.
 #[derive(Clone, Copy)]
 pub struct RawStatement<'a> {
     /// The subject, an IRI or a blank node label.
@@ -22,13 +27,135 @@ pub struct RawStatement<'a> {
     pub graph: Option<&'a str>,
 }
 
-/// Splits a piece of an N-Quads document into the slices of its statements, in order, repeats kept (RDF
-/// 1.1 N-Quads, grammar). A line without a statement gives none.
+/// The first line of a text without CR, without its LF, and what follows that.
+fn cut_line(text: &str) -> (&str, &str)
+    requires some { 0 < length text.now }
+    requires no_cr { HasNoCr text.now }
+    ensures lines { lines text.now ≡ result.0.now ∷ lines result.1.now }
+    ensures one_line { IsOneLine result.0.now }
+    ensures utf8 { IsUtf8 result.0.now × IsUtf8 result.1.now }
+    ensures no_cr { HasNoCr result.1.now }
+    ensures shorter { length result.1.now < length text.now }
+{
+    let bytes = text.as_bytes();
+    let Some(end) = memchr(b'\n', bytes) else {
+        return (text, "");
+    };
+    (&text[..end], &text[end + 1..])
+}
+
+/// Whether an odd number of backslashes is before this place.
+fn is_escaped(text: &[u8], at: usize) -> bool
+    requires { at ≤ length text.now }
+{
+    let mut from = at;
+    while 0 < from && text[from - 1] == b'\\' {
+        from -= 1;
+    }
+    (at - from) % 2 == 1
+}
+
+/// Where the string at the front ends, after its closing quote, and 0 if the text begins with no quote.
+fn string_end(text: &[u8]) -> Option<usize>
+    ensures { IfSome result (λ end. end ≤ length text.now) }
+{
+    if text.is_empty() || text[0] != b'"' {
+        return Some(0);
+    }
+    let mut at = 1;
+    while at < text.len() {
+        let quote = at + memchr(b'"', &text[at..])?;
+        if !is_escaped(text, quote) {
+            return Some(quote + 1);
+        }
+        at = quote + 1;
+    }
+    None
+}
+
+/// The slice up to the first space from this place on, and what follows that space.
+fn cut_at_space(text: &str, from: usize) -> Option<(&str, &str)>
+    requires { from ≤ length text.now }
+    ensures { IfSome result (λ x. text.now ≡ x.0.now ++ 32 ∷ x.1.now) }
+{
+    let end = from + memchr(b' ', &text.as_bytes()[from..])?;
+    Some((&text[..end], &text[end + 1..]))
+}
+
+/// The slice of the term at the front, which a space ends, and what follows that space. A space inside
+/// the quotes of a literal ends nothing.
+fn cut_term(text: &str) -> Option<(&str, &str)>
+    ensures { IfSome result (λ x. text.now ≡ x.0.now ++ 32 ∷ x.1.now) }
+{
+    let from = string_end(text.as_bytes())?;
+    cut_at_space(text, from)
+}
+
+/// What follows the dot at the front.
+fn after_dot(text: &str) -> Option<&str>
+    ensures { IfSome result (λ rest. text.now ≡ 46 ∷ rest.now) }
+{
+    let bytes = text.as_bytes();
+    if bytes.is_empty() || bytes[0] != b'.' {
+        return None;
+    }
+    Some(&text[1..])
+}
+
+/// The slice of the graph label, if there is one, and what follows the dot.
+fn cut_graph(text: &str) -> Option<(Option<&str>, &str)>
+    ensures { IfSome result (λ x. text.now ≡ graph_then (option_copied x.0) (46 ∷ x.1.now)) }
+{
+    if let Some(rest) = after_dot(text) {
+        return Some((None, rest));
+    }
+    let (graph, rest) = cut_term(text)?;
+    let rest = after_dot(rest)?;
+    Some((Some(graph), rest))
+}
+
+/// The slices of a line that holds a statement.
+fn split_statement(line: &str) -> Option<RawStatement<'_>>
+    ensures { IfSome result (IsLaidOut line.now) }
+{
+    let (subject, rest) = cut_term(line)?;
+    let (predicate, rest) = cut_term(rest)?;
+    let (object, rest) = cut_term(rest)?;
+    let (graph, rest) = cut_graph(rest)?;
+    if !is_end(rest) {
+        return None;
+    }
+    Some(RawStatement {
+        subject,
+        predicate,
+        object,
+        graph,
+    })
+}
+
+/// Puts the statement of a line after the others, if it has one. False if it is not split.
+fn add_line<'a>(line: &'a str, statements: &mut Vec<RawStatement<'a>>) -> Result<bool, AllocError>
+    ensures { IfOk result (λ split. split ≡ true
+        → Adds line.now statements.old.items statements.new.items) }
+{
+    if is_end(line) {
+        return Ok(true);
+    }
+    let Some(statement) = split_statement(line) else {
+        return Ok(false);
+    };
+    statements.push(statement)?;
+    Ok(true)
+}
+
+/// Splits a piece of an N-Quads document into the slices of its statements, in order, with repeats (RDF
+/// 1.1 N-Quads, grammar). A line without a statement has no slices.
 ///
 /// If each slice denotes a term that is allowed at its place, the lines of the piece spell the quads of
-/// these terms, as [`read_piece`](crate::read_piece) reads them. `None` decides nothing: the piece is
-/// not UTF-8, holds a CR, has a malformed line, or is laid out otherwise than with one space after each
-/// term. Call `read_piece` then.
+/// these terms: [`read_piece`](crate::read_piece) would read the same quads.
+///
+/// `None` if the piece is not UTF-8, contains a CR, or has a line that is not a blank line, a comment, or
+/// a statement with one space after each term. Such a piece may be valid; read it with `read_piece`.
 ///
 /// # Errors
 /// `AllocError` if an allocation fails.
@@ -36,5 +163,20 @@ pub fn split_piece(alloc: Global, bytes: &[u8]) -> Result<Option<Vec<RawStatemen
     ensures statements { IfOk result (λ split. IfSome split
         (λ statements. AreStatements (lines bytes.now) statements.items)) }
 {
-    Ok(None)
+    let Ok(text) = simdutf8::basic::from_utf8(bytes) else {
+        return Ok(None);
+    };
+    if let Some(_) = memchr(b'\r', bytes) {
+        return Ok(None);
+    }
+    let mut statements = Vec::new(alloc);
+    let mut rest = text;
+    while !rest.is_empty() {
+        let (line, after) = cut_line(rest);
+        if !add_line(line, &mut statements)? {
+            return Ok(None);
+        }
+        rest = after;
+    }
+    Ok(Some(statements))
 }
