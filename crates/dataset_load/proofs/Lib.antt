@@ -3,3 +3,4 @@ mod ReadingSteps
 mod LoadingSteps
 mod SortingSteps
 mod ReaderSteps
+mod StreamingSteps

@@ -1,13 +1,13 @@
 -- Blocks that are read one after the other.
 use Rattle.std.proofs.Common.{◌≡◌, ℕ, ◌+◌, ◌-◌, ◌<◌, ◌≤◌, List, [], ◌∷◌, ◌++◌, length, get_or, take, Option, Some, None, IfSome, Ok, Vec, Global, refl, sym, ap, ◌∙◌, subst, append_assoc, append-nil, length-append, inl, inr, ◌⊎◌, arith, rules}
-use Rattle.std.specs.List.{slice_index_or}
 use Rattle.std.proofs.lemmas.List.{take_more, take_all, map-append, get_or_append_left}
 use Rattle.std.proofs.lemmas.Grind.{flat_map-append}
 use Rattle.std.specs.Io.KnownBytes.{Consumes, IsAtEnd}
 use Rattle.nquads_core.specs.Lines.{EndsLine}
 use Rattle.piece_cuts.specs.Blocks.{BothKnown, GivesKnownBlock, IsFirstPiece, IsWhole}
 use Rattle.piece_cuts.specs.Laws.{EndsWithLineFeed, FirstPieceThenTheRest}
-use Rattle.dataset_load.specs.Lines.{AreBlocksOf, AreWholeLines, block_texts, joined}
+use Rattle.dataset_load.specs.Lines.{AreBlocksOf, AreWholeLines, EachEnds, block_texts, joined}
+use Rattle.dataset_load.specs.Streaming.{IsReadIn}
 
 pub whole_from_last : (bytes : List ℕ) → 0 < length bytes → get_or bytes (length bytes - 1) 0 ≡ 10 → EndsWithLineFeed bytes
 whole_from_last bytes some last =
@@ -26,10 +26,6 @@ last_of_whole bytes h =
     let n : length bytes ≡ length h.0 + 1 = ap length h.1 ∙ length-append h.0 (10 ∷ []) in
     let at : length bytes - 1 ≡ length h.0 = omega arith in
     (omega arith, ap (λ i. get_or bytes i 0) at ∙ ap (λ bs. get_or bs (length h.0) 0) h.1 ∙ at_seam h.0)
-
--- each of the texts ends with a line feed
-abbrev pub EachEnds : List (List ℕ) → Type 0
-EachEnds ps = (i : ℕ) → i < length ps → EndsLine (slice_index_or ps i [])
 
 pub ends_start : EachEnds []
 ends_start i low = absurd (omega arith)
@@ -63,12 +59,11 @@ whole_all ps h i low = h i (omega arith)
 pub texts_more : (old new : List (Vec ℕ Global)) (block : Vec ℕ Global) → new ≡ old ++ block ∷ [] → block_texts new ≡ block_texts old ++ block.items ∷ []
 texts_more old new block e = ap block_texts e ∙ map-append (λ (b : Vec ℕ Global). b.items) old (block ∷ [])
 
+pub pushed_length : (old new : List (Vec ℕ Global)) (block : Vec ℕ Global) → new ≡ old ++ block ∷ [] → length new ≡ length old + 1
+pushed_length old new block e = ap length e ∙ length-append old (block ∷ [])
+
 pub joined_more : (ps : List (List ℕ)) (p : List ℕ) → joined (ps ++ p ∷ []) ≡ joined ps ++ p
 joined_more ps p = flat_map-append (λ (q : List ℕ). q) ps (p ∷ []) ∙ ap (λ bs. joined ps ++ bs) (append-nil p)
-
--- what was read, what is kept and what is left are what there was
-abbrev pub IsReadIn : Option (List ℕ) → Option (List ℕ) → List ℕ → List ℕ → Type 0
-IsReadIn left left' done kept = BothKnown left left' (λ xs ys. xs ≡ done ++ (kept ++ ys))
 
 pub read_start : (a : Option (List ℕ)) (kept : List ℕ) → kept ≡ [] → IsReadIn a a [] kept
 read_start None kept e = tt

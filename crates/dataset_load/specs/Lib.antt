@@ -3,3 +3,5 @@ pub mod Store
 pub mod Loaded
 pub mod Fault
 pub mod Reading
+pub mod ReaderFault
+pub mod Streaming

@@ -23,6 +23,10 @@ joined pieces = flat_map (λ piece. piece) pieces
 abbrev pub AreWholeLines : List (List ℕ) → Type 0
 AreWholeLines pieces = (i : ℕ) → i + 1 < length pieces → EndsLine (slice_index_or pieces i [])
 
+-- each of the texts is empty or ends with a line feed
+abbrev pub EachEnds : List (List ℕ) → Type 0
+EachEnds pieces = (i : ℕ) → i < length pieces → EndsLine (slice_index_or pieces i [])
+
 -- The blocks that a text is read in: none of the empty text, and otherwise its pieces at the cuts of
 -- this size, which a text has one list of (piece_cuts, `Cuts::every`).
 abbrev pub AreBlocksOf : ℕ → List ℕ → List (List ℕ) → Type 0

@@ -1,30 +1,48 @@
 -- Pieces that are read side by side, and then taken in. Only private clauses cite these words.
-use Rattle.std.specs.Prelude.{ℕ, zero, suc, ◌==◌, List, [], ◌∷◌, IsSorted, IsPermutation, if◌then◌else◌}
+use Rattle.std.specs.Prelude.{◌≡◌, ℕ, zero, suc, ◌+◌, ◌==◌, List, [], ◌∷◌, length, IsSorted, IsPermutation, if◌then◌else◌}
+use Rattle.std.specs.List.{AllZip}
 use Rattle.rdf_core.specs.declared.term.Term.{Term}
 use Rattle.rdf_core.specs.QuadParts.{QuadParts}
 use Rattle.nquads_core.specs.Lines.{lines}
 use Rattle.nquads_core.specs.Pieces.{SpellAll, IsFirstBad}
 use Rattle.algebra_model.specs.Bag.{IsWithoutRepeats, without_repeats}
 use Rattle.dict_core.specs.declared.num_quad.NumQuad.{NumQuad}
-use Rattle.dict_core.specs.declared.seen_piece.SeenPiece.{SeenPiece}
 use Rattle.dict_core.specs.SeenPiece.{IsLookedUp}
 use Rattle.dict_core.specs.Numbered.{IsNumbered}
 use Rattle.dict_core.specs.Equality.{quad_eq}
 use Rattle.quad_index.specs.declared.sort_order.SortOrder.{SortOrder}
 use Rattle.quad_index.specs.declared.sort_order.SortOrder.TheVariants.{Gspo, Gpos, Gosp}
 use Rattle.quad_index.specs.SortOrder.{order_cmp}
+use Rattle.dataset_load.specs.declared.numbered.Numbered.{Numbered}
+use Rattle.dataset_load.specs.declared.read_piece.ReadPiece.{ReadPiece}
 
--- the lines of the bytes spell quads, and these were looked up in the dictionary
-pub record IsRead (dict : List Term) (bytes : List ℕ) (seen : SeenPiece) : Type 0 where
+-- the lines of the bytes spell quads, these were looked up in the dictionary, and the lines are
+-- counted
+pub record IsRead (dict : List Term) (bytes : List ℕ) (read : ReadPiece) : Type 0 where
   pub quads : List QuadParts
   pub spelled : SpellAll (lines bytes) quads
-  pub looked_up : IsLookedUp dict quads seen
+  pub looked_up : IsLookedUp dict quads read.seen
+  pub count : read.lines ≡ length (lines bytes)
+
+-- each piece has its quads, looked up in the dictionary
+abbrev pub AreLookedUp : List Term → List (List QuadParts) → List ReadPiece → Type 0
+AreLookedUp dict each reads = AllZip (λ quads read. IsLookedUp dict quads read.seen) each reads
+
+-- how many lines the pieces have
+abbrev pub line_total : List ReadPiece → ℕ
+line_total [] = 0
+line_total (read ∷ reads) = read.lines + line_total reads
 
 -- the lines spell quads, and these are numbered
 pub record AreNumbered (lines : List (List ℕ)) (dict : List Term) (numbers : List NumQuad) : Type 0 where
   pub quads : List QuadParts
   pub spelled : SpellAll lines quads
   pub numbered : IsNumbered quads dict numbers
+
+-- the quads of these lines are numbered, and the lines are counted
+pub record HasRead (so_far : Numbered) (ls : List (List ℕ)) : Type 0 where
+  pub numbered : AreNumbered ls so_far.dict so_far.quads.items
+  pub count : so_far.lines ≡ length ls
 
 -- the order of the i-th list of an index
 abbrev pub order_at : ℕ → SortOrder

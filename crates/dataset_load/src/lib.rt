@@ -25,13 +25,19 @@
 
 mod fault;
 mod loading;
+mod numbered;
+mod read_piece;
 mod reader;
+mod reader_fault;
 mod reading;
 mod rounds;
 mod sorting;
 mod store;
+mod streaming;
 
 pub use fault::LoadFault;
 pub use loading::{load, load_blocks};
 pub use reader::read_blocks;
+pub use reader_fault::ReaderFault;
 pub use store::Store;
+pub use streaming::load_reader;

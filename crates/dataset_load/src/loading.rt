@@ -5,8 +5,10 @@ ghost use Rattle.piece_cuts.specs.Cuts.{AreCuts};
 ghost use Rattle.dataset_load.specs.Fault.{IfBadLine, IsNoRefusedWorker};
 ghost use Rattle.dataset_load.specs.Lines.{all_lines, AreWholeLines, block_texts, joined, texts};
 ghost use Rattle.dataset_load.specs.Loaded.{IsBadLine, IsLoaded};
+ghost use Rattle.dataset_load.specs.Reading.{HasRead};
 
 use crate::fault::LoadFault;
+use crate::numbered::Numbered;
 use crate::rounds::number_pieces;
 use crate::sorting::sorted_index;
 use crate::store::Store;
@@ -93,13 +95,30 @@ fn load_pieces<R: Threads + Wait + RandomSource, G: Gate + Sync>(
     ensures one_worker { workers ≡ 1 → IfErr result IsNoRefusedWorker }
 {
     let state = hash_state(rt)?;
-    let (dict, quads) = number_pieces(rt, alloc, state, pieces, workers, gate)?;
+    let so_far = number_pieces(rt, alloc, state, pieces, workers, gate)?;
+    store_of(rt, alloc, so_far, workers)
+}
+
+/// The store of quads that are numbered.
+pub(crate) fn store_of<R: Threads + Wait>(
+    rt: &R,
+    alloc: Global,
+    so_far: Numbered,
+    workers: usize,
+) -> Result<Store, LoadFault>
+    requires workers { (1 ≤ workers) × (workers ≤ 64) }
+    requires read { (lines : _) × HasRead so_far lines }
+    ensures loaded { IfOk result (λ store. (lines : _) → HasRead so_far lines → IsLoaded lines store) }
+    ensures refused { IfErr result (IfBadLine (λ _. ⊥)) }
+    ensures one_worker { workers ≡ 1 → IfErr result IsNoRefusedWorker }
+{
+    let Numbered { dict, quads, .. } = so_far;
     let index = sorted_index(rt, alloc, quads.as_slice(), workers)?;
     Ok(Store::of_parts(dict, index))
 }
 
 /// A hash state of the runtime's choice, since strangers choose the terms.
-fn hash_state<R: RandomSource>(rt: &R) -> Result<RandomState, AllocError> {
+pub(crate) fn hash_state<R: RandomSource>(rt: &R) -> Result<RandomState, AllocError> {
     match RandomState::new(rt) {
         Ok(state) => Ok(state),
         Err(_) => Err(AllocError),
@@ -120,7 +139,7 @@ fn pieces_of<'d>(alloc: Global, doc: &'d [u8], cuts: &Cuts) -> Result<Vec<&'d [u
 }
 
 /// The bytes of the blocks, in order.
-fn lent_blocks(alloc: Global, blocks: &[Vec<u8>]) -> Result<Vec<&[u8]>, AllocError>
+pub(crate) fn lent_blocks(alloc: Global, blocks: &[Vec<u8>]) -> Result<Vec<&[u8]>, AllocError>
     ensures texts { IfOk result (λ v. texts v.items ≡ block_texts blocks.now) }
 {
     let mut pieces = Vec::new(alloc);

@@ -1,13 +1,15 @@
 //! A document that is read in blocks of whole lines.
-ghost use Rattle.std.specs.Prelude.{◌≡◌, ◌≤◌, true, IfOk, IfSome, OnErr, OnOk};
+ghost use Rattle.std.specs.Prelude.{◌≡◌, ◌≤◌, ◌^◌, [], false, length, true, IfOk, IfSome, Ok, OnErr, OnOk};
 ghost use Rattle.std.specs.Io.KnownBytes.{Consumes, IsAtEnd};
 ghost use Rattle.nquads_core.specs.Transfer.{CountsRead, IsReadInPart};
 ghost use Rattle.piece_cuts.specs.Laws.{EndsWithLineFeed};
-ghost use Rattle.dataset_load.specs.Lines.{AreBlocksOf, AreWholeLines, block_texts, joined};
+ghost use Rattle.dataset_load.specs.Lines.{AreBlocksOf, AreWholeLines, EachEnds, block_texts, joined};
+ghost use Rattle.dataset_load.specs.Streaming.{IsReadIn, TakesRest, TakesRound};
 
+use crate::rounds::{PIECES_A_ROUND, is_full};
 use nquads_core::{ReadFault, Source};
-use piece_cuts::Blocks;
 use piece_cuts::laws::first_piece_then_the_rest;
+use piece_cuts::{BlockState, Blocks};
 use std::alloc::Global;
 
 /// All bytes that a reader has left, in blocks of whole lines: the pieces of `Cuts::every` with this
@@ -53,6 +55,55 @@ pub fn read_blocks<S: Source>(
             return Ok(read);
         }
     }
+}
+
+/// Reads the blocks of a round, and returns whether the reader is at its end.
+///
+/// # Errors
+/// - `Read` if the reader fails. Bytes before that may have been taken from it.
+/// - `Memory` if an allocation fails. Bytes may have been taken from the reader.
+pub(crate) fn fill_round<S: Source>(
+    round: &mut Vec<Vec<u8>>,
+    blocks: &mut Blocks,
+    reader: &mut S,
+    workers: usize,
+) -> Result<bool, ReadFault>
+    requires empty { round.old.items ≡ [] }
+    requires workers { (1 ≤ workers) × (workers ≤ 64) }
+    requires reading { blocks.old.state ≡ BlockState.Reading }
+    ensures few { length round.new.items ≤ 2 ^ 20 }
+    ensures whole_lines { OnOk result (AreWholeLines (block_texts round.new.items)) }
+    ensures each_ends { result ≡ Ok false → EachEnds (block_texts round.new.items) }
+    ensures reading { result ≡ Ok false → blocks.new.state ≡ BlockState.Reading }
+    ensures bytes { result ≡ Ok false → TakesRound (S.left reader.old) (S.left reader.new)
+        blocks.old.kept blocks.new.kept (joined (block_texts round.new.items)) }
+    ensures at_end { result ≡ Ok true → IsAtEnd (S.left reader.new) }
+    ensures rest { result ≡ Ok true → TakesRest (S.left reader.old) (S.left reader.new)
+        blocks.old.kept (joined (block_texts round.new.items)) }
+    ensures taken { (start : _) (done : _) → IsReadIn start (S.left reader.old) done blocks.old.kept
+        → IsReadInPart start (S.left reader.new) }
+    ensures count { CountsRead (S.failures reader.old) (S.failures reader.new) result }
+{
+    let mut bytes = 0usize;
+    for len in 0..PIECES_A_ROUND {
+        if is_full(len, bytes, workers) {
+            return Ok(false);
+        }
+        let block = match blocks.next(reader) {
+            Ok(Some(block)) => block,
+            Ok(None) => return Ok(true),
+            Err(fault) => return Err(fault),
+        };
+        bytes = bytes.saturating_add(block.len());
+        let is_whole = ends_with_line_feed(block.as_slice());
+        let Ok(()) = round.push(block) else {
+            return Err(ReadFault::Memory);
+        };
+        if !is_whole {
+            return Ok(true);
+        }
+    }
+    Ok(false)
 }
 
 fn ends_with_line_feed(bytes: &[u8]) -> bool

@@ -6,8 +6,9 @@ ghost use Rattle.piece_pool.specs.Job.{IfOwn};
 ghost use Rattle.dataset_load.specs.Lines.{text_at};
 ghost use Rattle.dataset_load.specs.Reading.{IsRead};
 
-use dict_core::{Dict, SeenPiece, look_up, number_piece};
-use nquads_core::{PieceFault, read_piece};
+use crate::read_piece::ReadPiece;
+use dict_core::{Dict, look_up, number_lines};
+use nquads_core::{PieceFault, count_lines};
 use piece_pool::{Job, JobFault};
 use std::alloc::Global;
 use std::hash::RandomState;
@@ -26,7 +27,7 @@ impl<'d> Job for Round<'d> {
     ghost use Rattle.dataset_load.specs.Lines.{text_at};
     ghost use Rattle.dataset_load.specs.Reading.{IsRead, not_both};
 
-    type Out = SeenPiece;
+    type Out = ReadPiece;
 
     type Fault = u64;
 
@@ -34,7 +35,7 @@ impl<'d> Job for Round<'d> {
 
     ghost faults = { λ job i line. IsFirstBad (lines (text_at job.pieces.now i)) line };
 
-    fn run(&self, alloc: Global, i: u64) -> Result<SeenPiece, JobFault<u64>> {
+    fn run(&self, alloc: Global, i: u64) -> Result<ReadPiece, JobFault<u64>> {
         read_against(alloc, self.state, self.dict, piece_at(self.pieces, i))
     }
 
@@ -52,26 +53,26 @@ fn piece_at<'d>(pieces: &[&'d [u8]], i: u64) -> &'d [u8]
     }
 }
 
-/// Reads a piece, numbers it by itself, and looks its terms up.
+/// Numbers a piece by itself, looks its terms up, and counts its lines.
 fn read_against(
     alloc: Global,
     state: RandomState,
     dict: &Dict,
     bytes: &[u8],
-) -> Result<SeenPiece, JobFault<u64>>
+) -> Result<ReadPiece, JobFault<u64>>
     ensures read { IfOk result (IsRead dict.now bytes.now) }
     ensures bad { IfErr result (IfOwn (IsFirstBad (lines bytes.now))) }
 {
-    let piece = match read_piece(alloc, bytes) {
-        Ok(piece) => piece,
+    let local = match number_lines(alloc, state, bytes) {
+        Ok(local) => local,
         Err(PieceFault::BadLine(line)) => return Err(JobFault::Own(line)),
         Err(PieceFault::Memory) => return Err(JobFault::Memory),
     };
-    let Ok(local) = number_piece(alloc, state, piece) else {
+    let Ok(seen) = look_up(alloc, dict, local) else {
         return Err(JobFault::Memory);
     };
-    match look_up(alloc, dict, local) {
-        Ok(seen) => Ok(seen),
-        Err(_) => Err(JobFault::Memory),
-    }
+    Ok(ReadPiece {
+        seen,
+        lines: count_lines(bytes),
+    })
 }

@@ -2,23 +2,23 @@
 //!
 //! In a round each piece is read by itself and looked up in the dictionary of the rounds before,
 //! which is lent to all workers. Then one thread takes in, in order, only what is new.
-ghost use Rattle.std.specs.Prelude.{◌≡◌, ◌+◌, ◌-◌, ◌*◌, ◌<◌, ◌≤◌, ◌^◌, ◌++◌, List, length, slice_range, take, IfOk, IfErr, OnOk};
-ghost use Rattle.std.specs.List.{AllZip};
+ghost use Rattle.std.specs.Prelude.{◌≡◌, ◌+◌, ◌-◌, ◌*◌, ◌<◌, ◌≤◌, ◌^◌, ◌++◌, List, length, true, slice_range, take, IfOk, IfErr, OnOk};
 ghost use Rattle.rdf_core.specs.QuadParts.{QuadParts};
 ghost use Rattle.nquads_core.specs.Lines.{lines};
 ghost use Rattle.nquads_core.specs.Pieces.{IsFirstBad};
 ghost use Rattle.piece_pool.specs.Outcome.{IsOutcome};
 ghost use Rattle.piece_pool.specs.declared.pool.PoolFault.TheVariants.{Memory};
-ghost use Rattle.dict_core.specs.SeenPiece.{IsLookedUp};
 ghost use Rattle.dict_core.specs.Numbered.{IsNumbered, joined};
 ghost use Rattle.dataset_load.specs.Fault.{IfBadLine, IsNoRefusedWorker};
 ghost use Rattle.dataset_load.specs.Lines.{all_lines, text_at, texts};
 ghost use Rattle.dataset_load.specs.Loaded.{IsBadLine};
-ghost use Rattle.dataset_load.specs.Reading.{AreNumbered, IsRead};
+ghost use Rattle.dataset_load.specs.Reading.{AreLookedUp, HasRead, IsRead, line_total};
 
 use crate::fault::LoadFault;
+use crate::numbered::Numbered;
+use crate::read_piece::ReadPiece;
 use crate::reading::Round;
-use dict_core::{Dict, NumQuad, SeenPiece, take_in};
+use dict_core::{Dict, NumQuad, take_in};
 use nquads_core::count_lines;
 use piece_pool::{Gate, Outcome, PoolFault, run_all};
 use std::alloc::{AllocError, Global};
@@ -33,13 +33,14 @@ const PIECES_A_WORKER: usize = 16;
 const BYTES_A_ROUND: usize = 8 << 20;
 
 /// A round has at most so many pieces.
-const PIECES_A_ROUND: usize = 1 << 20;
+pub(crate) const PIECES_A_ROUND: usize = 1 << 20;
 
-/// The terms of all pieces by first appearance, and their quads by number, in order.
+/// Reads all pieces, round by round: their terms by first appearance, and their quads by number, in
+/// order.
 ///
 /// # Errors
-/// - `BadLine(n)`: the line, counted from 1 over all pieces, is the first that spells nothing.
-/// - `WorkerRefused`, `Memory`: as in a pool. The first never comes of one worker.
+/// - `BadLine(n)` if the line, counted from 1 over all pieces, is the first that is malformed.
+/// - `WorkerRefused` and `Memory` as in a pool. With one worker the first cannot occur.
 pub(crate) fn number_pieces<R: Threads + Wait, G: Gate + Sync>(
     rt: &R,
     alloc: Global,
@@ -47,30 +48,55 @@ pub(crate) fn number_pieces<R: Threads + Wait, G: Gate + Sync>(
     pieces: &[&[u8]],
     workers: usize,
     gate: &G,
-) -> Result<(Dict, Vec<NumQuad>), LoadFault>
+) -> Result<Numbered, LoadFault>
     requires workers { (1 ≤ workers) × (workers ≤ 64) }
-    ensures numbered { IfOk result
-        (λ r. AreNumbered (all_lines (texts pieces.now)) r.0 r.1.items) }
+    ensures numbered { IfOk result (λ so_far. HasRead so_far (all_lines (texts pieces.now))) }
     ensures bad_line { IfErr result (IfBadLine (IsBadLine (all_lines (texts pieces.now)))) }
     ensures one_worker { workers ≡ 1 → IfErr result IsNoRefusedWorker }
 {
-    let mut dict = Dict::new(alloc, state)?;
-    let mut quads = Vec::new(alloc);
+    let mut so_far = Numbered::new(alloc, state)?;
     let mut from = 0;
     while from < pieces.len() {
         let to = round_end(pieces, from, workers);
         let round = part(pieces, from, to);
-        let outcome = read_round(rt, alloc, state, round, &dict, workers, gate)?;
-        match outcome {
-            Outcome::All(seen) => take_in_all(alloc, &mut dict, &mut quads, seen)?,
-            Outcome::First { piece, fault } => {
-                let line = line_number(pieces, from + piece as usize, fault);
-                return Err(LoadFault::BadLine(line));
-            }
-        }
+        add_round(rt, alloc, state, &mut so_far, round, workers, gate)?;
         from = to;
     }
-    Ok((dict, quads))
+    Ok(so_far)
+}
+
+/// Reads the pieces of a round in parallel, and adds their quads to those of the rounds before.
+///
+/// # Errors
+/// As `number_pieces`, of the lines before and these.
+pub(crate) fn add_round<R: Threads + Wait, G: Gate + Sync>(
+    rt: &R,
+    alloc: Global,
+    state: RandomState,
+    so_far: &mut Numbered,
+    pieces: &[&[u8]],
+    workers: usize,
+    gate: &G,
+) -> Result<(), LoadFault>
+    requires workers { (1 ≤ workers) × (workers ≤ 64) }
+    requires pieces { length pieces.now ≤ 2 ^ 20 }
+    requires countable { so_far.old.lines ≤ 2 ^ 127 }
+    ensures numbered { OnOk result ((before : _) → HasRead so_far.old before
+        → HasRead so_far.new (before ++ all_lines (texts pieces.now))) }
+    ensures counted { OnOk result
+        (so_far.new.lines ≤ so_far.old.lines + length pieces.now * (2 ^ 64 - 1)) }
+    ensures bad_line { IfErr result (IfBadLine (λ n. (before : _) → HasRead so_far.old before
+        → IsBadLine (before ++ all_lines (texts pieces.now)) n)) }
+    ensures one_worker { workers ≡ 1 → IfErr result IsNoRefusedWorker }
+{
+    let outcome = read_round(rt, alloc, state, pieces, &so_far.dict, workers, gate)?;
+    match outcome {
+        Outcome::All(read) => Ok(take_in_round(alloc, so_far, read)?),
+        Outcome::First { piece, fault } => {
+            let line = so_far.lines + line_number(pieces, piece as usize, fault);
+            Err(LoadFault::BadLine(line))
+        }
+    }
 }
 
 /// Reads the pieces of a round against the dictionary of the rounds before.
@@ -82,7 +108,7 @@ fn read_round<R: Threads + Wait, G: Gate + Sync>(
     dict: &Dict,
     workers: usize,
     gate: &G,
-) -> Result<Outcome<SeenPiece, u64>, PoolFault>
+) -> Result<Outcome<ReadPiece, u64>, PoolFault>
     requires workers { (1 ≤ workers) × (workers ≤ 64) }
     requires pieces { length pieces.now ≤ 2 ^ 62 }
     ensures outcome { IfOk result
@@ -104,17 +130,25 @@ fn round_end(pieces: &[&[u8]], from: usize, workers: usize) -> usize
     requires workers { (1 ≤ workers) × (workers ≤ 64) }
     ensures some { from < result }
     ensures within { result ≤ length pieces.now }
-    ensures small { result ≤ from + 2 ^ 62 }
+    ensures small { result ≤ from + 2 ^ 20 }
 {
     let most = (pieces.len() - from).min(PIECES_A_ROUND);
     let mut bytes = 0usize;
     for len in 0..most {
-        if len >= PIECES_A_WORKER * workers && bytes >= BYTES_A_ROUND {
+        if is_full(len, bytes, workers) {
             return from + len;
         }
         bytes = bytes.saturating_add(pieces[from + len].len());
     }
     from + most
+}
+
+/// Whether a round of so many pieces and bytes is long enough.
+pub(crate) fn is_full(pieces: usize, bytes: usize, workers: usize) -> bool
+    requires workers { (1 ≤ workers) × (workers ≤ 64) }
+    ensures some { result ≡ true → 1 ≤ pieces }
+{
+    pieces >= PIECES_A_WORKER * workers && bytes >= BYTES_A_ROUND
 }
 
 fn part<'p, 'd>(pieces: &'p [&'d [u8]], from: usize, to: usize) -> &'p [&'d [u8]]
@@ -126,35 +160,72 @@ fn part<'p, 'd>(pieces: &'p [&'d [u8]], from: usize, to: usize) -> &'p [&'d [u8]
     &pieces[from..to]
 }
 
+/// Adds the pieces of a round to what was read before.
+fn take_in_round(
+    alloc: Global,
+    so_far: &mut Numbered,
+    pieces: Vec<ReadPiece>,
+) -> Result<(), AllocError>
+    requires pieces { length pieces.items ≤ 2 ^ 20 }
+    requires countable { so_far.old.lines ≤ 2 ^ 127 }
+    ensures numbered { OnOk result ((done : List QuadParts) (each : List (List QuadParts))
+        → IsNumbered done so_far.old.dict so_far.old.quads.items
+        → AreLookedUp so_far.old.dict each pieces.items
+        → IsNumbered (done ++ joined each) so_far.new.dict so_far.new.quads.items) }
+    ensures lines { OnOk result
+        (so_far.new.lines ≡ so_far.old.lines + line_total pieces.items) }
+    ensures counted { OnOk result
+        (so_far.new.lines ≤ so_far.old.lines + length pieces.items * (2 ^ 64 - 1)) }
+{
+    let lines = count_read(pieces.as_slice());
+    take_in_all(alloc, &mut so_far.dict, &mut so_far.quads, pieces)?;
+    so_far.lines += lines;
+    Ok(())
+}
+
 /// Takes the pieces of a round in, one after the other.
 fn take_in_all(
     alloc: Global,
     dict: &mut Dict,
     quads: &mut Vec<NumQuad>,
-    pieces: Vec<SeenPiece>,
+    pieces: Vec<ReadPiece>,
 ) -> Result<(), AllocError>
     ensures numbered { OnOk result ((done : List QuadParts) (each : List (List QuadParts))
         → IsNumbered done dict.old quads.old.items
-        → AllZip (IsLookedUp dict.old) each pieces.items
+        → AreLookedUp dict.old each pieces.items
         → IsNumbered (done ++ joined each) dict.new quads.new.items) }
 {
     for piece in pieces {
-        take_in(alloc, dict, quads, piece)?;
+        take_in(alloc, dict, quads, piece.seen)?;
     }
     Ok(())
+}
+
+/// How many lines the pieces of a round have.
+fn count_read(pieces: &[ReadPiece]) -> u128
+    ensures total { result ≡ line_total pieces.now }
+    ensures small { result ≤ length pieces.now * (2 ^ 64 - 1) }
+{
+    let mut count = 0u128;
+    for piece in pieces {
+        count += piece.lines as u128;
+    }
+    count
 }
 
 /// The number of a line over all pieces, counted from 1; `line` is its place in its piece.
 fn line_number(pieces: &[&[u8]], piece: usize, line: u64) -> u128
     requires inside { piece ≤ length pieces.now }
+    requires few { length pieces.now ≤ 2 ^ 20 }
     ensures number { result ≡ length (all_lines (texts (take piece pieces.now))) + line + 1 }
+    ensures small { result ≤ 2 ^ 85 }
 {
     count_all_lines(&pieces[..piece]) + line as u128 + 1
 }
 
 fn count_all_lines(pieces: &[&[u8]]) -> u128
     ensures count { result ≡ length (all_lines (texts pieces.now)) }
-    ensures small { result ≤ (2 ^ 64 - 1) * (2 ^ 64 - 1) }
+    ensures small { result ≤ length pieces.now * (2 ^ 64 - 1) }
 {
     let mut count = 0u128;
     for piece in pieces {

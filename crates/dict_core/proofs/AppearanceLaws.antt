@@ -1,15 +1,15 @@
 -- First appearances are what inserting into an empty list leaves.
-use Rattle.std.proofs.Common.{◌≡◌, ℕ, zero, suc, ◌+◌, ◌<◌, ◌≢◌, Bool, true, false, not, cond, ◌||◌, List, [], ◌∷◌, ◌++◌, length, filter, get_or, refl, sym, ap, ◌∙◌, subst, true≢false, if◌then◌else◌, append_assoc, arith}
+use Rattle.std.proofs.Common.{◌≡◌, ℕ, suc, ◌<◌, ◌≢◌, Bool, true, false, not, cond, ◌||◌, List, [], ◌∷◌, ◌++◌, length, filter, get_or, refl, sym, ap, ◌∙◌, if◌then◌else◌, append_assoc, arith}
 use Rattle.std.proofs.lemmas.List.{append-nil}
 use Rattle.std.proofs.lemmas.List.Folds.{list_any-append}
 use Rattle.std.proofs.lemmas.List.Elements.{filter_agree}
-use Rattle.std.specs.List.{list_any, All}
-use Rattle.indexmap.specs.IndexSet.{insert_key, insert_all}
+use Rattle.std.specs.List.{list_any}
+use Rattle.indexmap.specs.IndexSet.{insert_all}
 use Rattle.rdf_core.specs.declared.term.Term.{Term}
-use Rattle.rdf_core.proofs.TermLaws.{term_eq, term_decides, term_eq_laws}
+use Rattle.rdf_core.proofs.TermLaws.{term_eq, term_eq_laws}
 use Rattle.dict_core.specs.Dict.{IsWithoutRepeats}
 use Rattle.dict_core.specs.Appearances.{first_appearances, differs_from}
-use Rattle.dict_core.proofs.InsertLaws.{same, own, insert_all-append, insert_all-insert_all}
+use Rattle.dict_core.proofs.InsertLaws.{same, insert_all-append, insert_all-insert_all}
 
 -- one filter after another
 filter-filter : (p q : Term → Bool) (xs : List Term) → filter p (filter q xs) ≡ filter (λ x. cond (q x) (p x) false) xs

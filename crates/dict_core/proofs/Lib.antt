@@ -5,3 +5,4 @@ pub mod AppearanceLaws
 pub mod PlaceLaws
 pub mod NumberingLaws
 pub mod MergingSteps
+pub mod NamingSteps

@@ -1,5 +1,5 @@
 -- The steps of the functions that number and merge.
-use Rattle.std.proofs.Common.{◌≡◌, ◌≢◌, ℕ, zero, suc, ◌<◌, Bool, true, false, List, [], ◌∷◌, ◌++◌, length, Option, None, Some, Result, Ok, Err, Vec, Global, map, slice_get, Contains, refl, sym, ap, ◌∙◌, subst, append_assoc}
+use Rattle.std.proofs.Common.{◌≡◌, ℕ, suc, ◌<◌, Bool, true, false, List, [], ◌∷◌, ◌++◌, length, Option, None, Some, Result, Ok, Err, Vec, Global, map, slice_get, Contains, refl, sym, ap, ◌∙◌, subst, append_assoc}
 use Rattle.std.specs.List.{AllZip, list_any}
 use Rattle.std.proofs.lemmas.Map.Views.{list_any-from_Contains}
 use Rattle.indexmap.specs.IndexSet.{insert_key, insert_all}
@@ -9,7 +9,7 @@ use Rattle.rdf_core.specs.QuadParts.{QuadParts}
 use Rattle.rdf_core.proofs.TermLaws.{term_eq, term_decides, term_eq_laws}
 use Rattle.dict_core.specs.declared.num_quad.NumQuad.{NumQuad}
 use Rattle.dict_core.specs.declared.seen.Seen.{Seen}
-use Rattle.dict_core.specs.Dict.{IsWithoutRepeats, AreNumbersOf, IsGrown, term_at}
+use Rattle.dict_core.specs.Dict.{IsWithoutRepeats, AreNumbersOf, IsGrown}
 use Rattle.dict_core.specs.NumQuad.{quad_at, quads_at, IsBelow, AreBelow}
 use Rattle.dict_core.specs.Appearances.{terms_of, first_appearances}
 use Rattle.dict_core.specs.Numbered.{IsNumbered, joined, renamed}

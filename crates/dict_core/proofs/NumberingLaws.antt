@@ -1,11 +1,11 @@
 -- Numbered quads, read through a dictionary that grows.
-use Rattle.std.proofs.Common.{◌≡◌, ℕ, zero, suc, ◌+◌, ◌<◌, List, [], ◌∷◌, ◌++◌, length, Option, None, Some, map, get_or, slice_get, refl, sym, ap, ◌∙◌, subst, arith}
+use Rattle.std.proofs.Common.{◌≡◌, ℕ, zero, suc, ◌<◌, List, [], ◌∷◌, ◌++◌, length, Option, None, Some, map, get_or, slice_get, refl, sym, ap, ◌∙◌, subst, arith}
 use Rattle.std.proofs.lemmas.Option.{slice_get_within, slice_get-get_or, get_or_from_slice_get}
 use Rattle.std.proofs.lemmas.List.{map-append, append-nil}
 use Rattle.std.proofs.lemmas.List.Elements.{All-nil, All-cons, All-head, All-tail, All-append}
 use Rattle.std.proofs.lemmas.List.Concat.{flat_map-append}
-use Rattle.std.specs.Option.{option_map, option_to_list, ForSome}
-use Rattle.indexmap.specs.IndexSet.{insert_key, insert_all}
+use Rattle.std.specs.Option.{option_map, ForSome}
+use Rattle.indexmap.specs.IndexSet.{insert_all}
 use Rattle.rdf_core.specs.declared.term.Term.{Term}
 use Rattle.rdf_core.specs.declared.term.Term.TheVariants.{Blank}
 use Rattle.rdf_core.specs.QuadParts.{QuadParts}
@@ -15,7 +15,7 @@ use Rattle.dict_core.specs.Dict.{term_at, AreNumbersOf}
 use Rattle.dict_core.specs.NumQuad.{quad_at, quads_at, IsBelow, AreBelow}
 use Rattle.dict_core.specs.Appearances.{terms_of_quad, terms_of, first_appearances}
 use Rattle.dict_core.specs.Numbered.{IsNumbered, renamed}
-use Rattle.dict_core.proofs.InsertLaws.{Keeps, get-insert_key, get-insert_all}
+use Rattle.dict_core.proofs.InsertLaws.{Keeps, get-insert_all}
 use Rattle.dict_core.proofs.AppearanceLaws.{insert_all-appearances, appearances_again, appearances_front}
 
 -- a number that stands for a term

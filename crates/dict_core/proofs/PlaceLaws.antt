@@ -1,5 +1,5 @@
 -- The places that insertions answer are the numbers that the terms have.
-use Rattle.std.proofs.Common.{◌≡◌, ℕ, List, [], ◌∷◌, ◌++◌, true, Some, slice_get, refl, sym, ap, ◌∙◌, subst}
+use Rattle.std.proofs.Common.{◌≡◌, ℕ, List, [], ◌∷◌, ◌++◌, Some, slice_get, refl, sym, ap, ◌∙◌, subst}
 use Rattle.std.specs.List.{AllZip, position_or_len}
 use Rattle.indexmap.specs.IndexSet.{insert_key, insert_all}
 use Rattle.rdf_core.specs.declared.term.Term.{Term}

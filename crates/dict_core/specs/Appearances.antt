@@ -1,5 +1,5 @@
 -- The terms of a document in the order in which they first appear (our own).
-use Rattle.std.specs.Prelude.{Bool, not, List, [], ◌∷◌, ◌++◌, filter}
+use Rattle.std.specs.Prelude.{Bool, not, List, [], ◌∷◌, filter}
 use Rattle.std.specs.List.{flat_map}
 use Rattle.std.specs.Option.{option_to_list}
 use Rattle.rdf_core.specs.declared.term.Term.{Term}

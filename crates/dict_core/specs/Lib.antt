@@ -7,3 +7,4 @@ pub mod Seen
 pub mod SeenPiece
 pub mod Laws
 pub mod Inserting
+pub mod Naming

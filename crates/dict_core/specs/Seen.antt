@@ -1,8 +1,6 @@
 -- A piece's terms, looked up in a dictionary that grows afterwards (our own).
 use Rattle.std.specs.Prelude.{◌≡◌, ℕ, List, [], ◌∷◌, slice_get, Some, Contains}
-use Rattle.std.specs.List.{AllZip}
 use Rattle.rdf_core.specs.declared.term.Term.{Term}
-use Rattle.rdf_core.specs.QuadParts.{QuadParts}
 use Rattle.dict_core.specs.declared.seen.Seen.{Seen}
 use Rattle.dict_core.specs.declared.seen.Seen.TheVariants.{Known, New}
 

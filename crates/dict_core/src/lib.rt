@@ -1,10 +1,10 @@
 //! Numbers for terms: the quads of a document as quads of numbers, and the terms by number.
 //!
 //! A [`Dict`] is seen as the list of its distinct terms; a term's number is its place, from 0.
-//! [`number_piece`] numbers the quads of one piece by a dictionary of their own, and [`merge`]
-//! joins such pieces, in order: the dictionary has exactly the terms of the quads by first
-//! appearance, and the numbered quads, read through it, are the quads (the word `IsNumbered` of
-//! specs/Numbered.antt, which the loader above uses).
+//! [`number_piece`] numbers the quads of one piece by a dictionary of their own, [`number_lines`] does
+//! so from the bytes of the piece, and [`merge`] joins such pieces, in order: the dictionary has
+//! exactly the terms of the quads by first appearance, and the numbered quads, read through it, are
+//! the quads (the word `IsNumbered` of specs/Numbered.antt, which the loader above uses).
 //!
 //! For loading side by side, [`look_up`] reads a piece against a lent dictionary, and [`take_in`]
 //! adds what is new, in order; the laws of `laws` say that the outcome is the same.
@@ -12,8 +12,8 @@
 //! When two terms are the same: RDF 1.1 Concepts and Abstract Syntax, section 3. The numbers are
 //! our own.
 //!
-//! To read in this order: `dict`, `num_quad`, `local_piece`, `merging`, `seen`, `seen_piece`,
-//! `rounds`, `laws`; `inserting` is private.
+//! To read in this order: `dict`, `num_quad`, `local_piece`, `numbering`, `naming`, `merging`, `seen`,
+//! `seen_piece`, `rounds`, `laws`; `inserting` is private.
 //!
 //! Not promised: anything of the hashing but that it decides nothing of the outcome.
 #![tactic(auto)]
@@ -23,7 +23,9 @@ mod inserting;
 mod laws;
 mod local_piece;
 mod merging;
+mod naming;
 mod num_quad;
+mod numbering;
 mod rounds;
 mod seen;
 mod seen_piece;
@@ -33,6 +35,7 @@ pub use laws::{absorbing_keeps_the_numbering, earlier_places_serve, equality_is_
 pub use local_piece::{LocalPiece, number_piece};
 pub use merging::merge;
 pub use num_quad::NumQuad;
+pub use numbering::number_lines;
 pub use rounds::{look_up, take_in};
 pub use seen::Seen;
 pub use seen_piece::SeenPiece;

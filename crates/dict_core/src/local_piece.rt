@@ -106,7 +106,7 @@ fn number_quad(dict: &mut Dict, quad: Quad) -> Result<NumQuad, AllocError>
     Ok(NumQuad { g, s, p, o })
 }
 
-fn number_term(dict: &mut Dict, term: Term) -> Result<u64, AllocError>
+pub(crate) fn number_term(dict: &mut Dict, term: Term) -> Result<u64, AllocError>
     ensures terms { OnOk result (dict.new ≡ insert_key term_eq dict.old term) }
     ensures number { IfOk result (λ n. slice_get dict.new n ≡ Some term) }
 {

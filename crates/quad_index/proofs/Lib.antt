@@ -1,5 +1,6 @@
 pub mod OnceLaws
 pub mod SortOrderLaws
 pub mod RangeLaws
+pub mod PackedLaws
 pub mod IndexSteps
 pub mod ReadingLaws

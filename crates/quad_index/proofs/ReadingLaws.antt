@@ -1,6 +1,6 @@
 -- An index of numbered quads, read through their dictionary, is the set of the quads. For the layer
 -- above: it reads what a scan gives as quads of terms.
-use Rattle.std.proofs.Common.{◌≡◌, ℕ, zero, suc, ◌+◌, ◌<◌, ◌≤◌, Bool, true, false, ◌&&◌, ◌||◌, List, [], ◌∷◌, length, get_or, map, filter, filter_map, nat_eq, Option, None, Some, Contains, Decides, IsPermutation, refl, sym, ap, ◌∙◌, subst, true≢false, arith}
+use Rattle.std.proofs.Common.{◌≡◌, ℕ, zero, suc, ◌<◌, Bool, true, false, ◌&&◌, ◌||◌, List, [], ◌∷◌, length, get_or, map, filter, filter_map, nat_eq, Option, None, Some, Contains, Decides, IsPermutation, refl, sym, ap, ◌∙◌, subst, true≢false, arith}
 use Rattle.std.specs.List.{All, list_any, cons_option}
 use Rattle.std.specs.Option.{option_map, option_eq, ForSome}
 use Rattle.std.proofs.lemmas.Bool.Decides.{Decides-eqb}

@@ -1,6 +1,6 @@
 -- The orders of quads are orders, a list in one of them is in each of its beginnings, and quads that
 -- an order does not tell apart agree on its places.
-use Rattle.std.proofs.Common.{◌≡◌, ℕ, ◌<◌, Bool, true, false, cond, ◌&&◌, Option, None, Some, List, nat_eq, nat_lt, eqb-true, ltb-true, eq-eqb, Decides, IsSorted, refl, sym, ap, ◌∙◌, true≢false, unwrap_or, arith}
+use Rattle.std.proofs.Common.{◌≡◌, ℕ, ◌<◌, Bool, true, false, cond, ◌&&◌, Option, None, Some, List, nat_eq, nat_lt, eqb-true, ltb-true, IsSorted, refl, sym, ap, ◌∙◌, true≢false, unwrap_or, arith}
 use Rattle.std.specs.Option.{option_cmp, option_eq}
 use Rattle.std.specs.Ordering.{is_eq, is_lt, nat_cmp, ordering_then, eq_by_cmp}
 use Rattle.std.specs.declared.cmp.Ordering.{Ordering}

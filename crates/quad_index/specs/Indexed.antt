@@ -1,7 +1,6 @@
 -- What the lists inside an index are. Only private clauses and the index's own invariant cite it.
-use Rattle.std.specs.Prelude.{◌≡◌, ℕ, List, IsSorted, IsPermutation, nat_eq, Bool, Option, unwrap_or}
+use Rattle.std.specs.Prelude.{◌≡◌, ℕ, List, IsSorted, IsPermutation, nat_eq, Option, unwrap_or}
 use Rattle.std.specs.List.{dedup}
-use Rattle.std.specs.Ordering.{is_eq}
 use Rattle.std.specs.declared.cmp.Ordering.{Ordering}
 use Rattle.algebra_model.specs.Bag.{IsWithoutRepeats}
 use Rattle.dict_core.specs.declared.num_quad.NumQuad.{NumQuad}

@@ -2,3 +2,4 @@ pub mod SortOrder
 pub mod Matching
 pub mod Indexed
 pub mod Laws
+pub mod Packed

@@ -1,7 +1,6 @@
 -- The orders of the lists of an index (our own): by the graph name, where no name comes first, and
 -- then by the other places one after the other, as the letters of the order's name say. A shorter
 -- name compares fewer places.
-use Rattle.std.specs.Prelude.{ℕ}
 use Rattle.std.specs.Ordering.{nat_cmp, ordering_then}
 use Rattle.std.specs.Option.{option_cmp}
 use Rattle.std.specs.declared.cmp.Ordering.{Ordering}

@@ -9,13 +9,14 @@
 //!
 //! The notion of a dataset as a set of quads: RDF 1.1 Concepts, section 4. The orders are our own.
 //!
-//! To read in this order: `sort_order`, `prefix`, `range`, `index`, `laws`.
+//! To read in this order: `sort_order`, `packed`, `prefix`, `range`, `index`, `laws`.
 //!
 //! Not promised: in which order a scan gives its quads.
 #![tactic(auto)]
 
 mod index;
 mod laws;
+mod packed;
 mod prefix;
 mod range;
 mod sort_order;

@@ -4,6 +4,7 @@ ghost use Rattle.algebra_model.specs.Bag.{IsWithoutRepeats, without_repeats};
 ghost use Rattle.dict_core.specs.Equality.{quad_eq};
 ghost use Rattle.quad_index.specs.SortOrder.{order_cmp};
 
+use crate::packed::packed_list;
 use dict_core::NumQuad;
 use std::alloc::{AllocError, Global};
 
@@ -27,6 +28,23 @@ pub enum SortOrder {
 /// # Errors
 /// `AllocError`: a growth was refused. The quads, which are lent, are unchanged.
 pub fn sorted_list(
+    alloc: Global,
+    quads: &[NumQuad],
+    order: SortOrder,
+) -> Result<Vec<NumQuad>, AllocError>
+    ensures sorted { IfOk result (λ list. IsSorted (order_cmp order) list.items) }
+    ensures each_once { IfOk result
+        (λ list. IsPermutation (without_repeats quad_eq quads.now) list.items) }
+    ensures distinct { IfOk result (λ list. IsWithoutRepeats quad_eq list.items) }
+{
+    match packed_list(alloc, quads, order)? {
+        Some(list) => Ok(list),
+        None => plain_list(alloc, quads, order),
+    }
+}
+
+/// The quads in this order, each once, whatever their numbers.
+fn plain_list(
     alloc: Global,
     quads: &[NumQuad],
     order: SortOrder,

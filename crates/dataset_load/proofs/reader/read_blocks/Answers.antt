@@ -1,8 +1,8 @@
 use Rattle.std.proofs.Common.{ℕ, List, ◌++◌, true≢false, refl, ap, sym, ◌∙◌, subst}
 use Rattle.nquads_core.proofs.TransferSteps.{Stays-stays, in-part-more}
 use Rattle.piece_cuts.specs.Laws.{EndsWithLineFeed}
-use Rattle.dataset_load.specs.Lines.{AreWholeLines, block_texts, joined}
-use Rattle.dataset_load.proofs.ReaderSteps.{EachEnds, at_the_end, cut_all, cut_last, cut_step, ends_more, joined_more, read_front, read_last, read_step, texts_more, whole_but_last}
+use Rattle.dataset_load.specs.Lines.{AreWholeLines, EachEnds, block_texts, joined}
+use Rattle.dataset_load.proofs.ReaderSteps.{at_the_end, cut_all, cut_last, cut_step, ends_more, joined_more, read_front, read_last, read_step, texts_more, whole_but_last}
 use Rattle.dataset_load.proofs.reader.read_blocks.Goals as goal
 
 pub returns-then-not-is_whole-clause-whole_lines : goal.returns-then-not-is_whole-clause-whole_lines

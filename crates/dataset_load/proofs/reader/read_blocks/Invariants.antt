@@ -1,8 +1,9 @@
 use Rattle.std.proofs.Common.{◌≡◌, ◌-◌, ◌^◌, vec_len}
 use Rattle.piece_cuts.specs.declared.blocks.BlockState.TheVariants.{Reading}
 use Rattle.nquads_core.specs.Device.{Stays}
-use Rattle.dataset_load.specs.Lines.{block_texts, joined}
-use Rattle.dataset_load.proofs.ReaderSteps.{EachEnds, IsCutSo, IsReadIn}
+use Rattle.dataset_load.specs.Lines.{EachEnds, block_texts, joined}
+use Rattle.dataset_load.specs.Streaming.{IsReadIn}
+use Rattle.dataset_load.proofs.ReaderSteps.{IsCutSo}
 use Rattle.dataset_load.proofs.reader.read_blocks.Given as goal
 
 abbrev pub invariant-reading : goal.invariant-reading

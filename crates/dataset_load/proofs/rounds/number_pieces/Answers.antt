@@ -1,26 +1,26 @@
-use Rattle.std.proofs.Common.{arith}
-use Rattle.dataset_load.proofs.ReadingSteps.{none_read, round_at, bad_at}
+use Rattle.std.proofs.Common.{ℕ, List, subst, arith}
+use Rattle.dataset_load.specs.Reading.{HasRead}
+use Rattle.std.proofs.lemmas.Result.{err_from_is_err_and}
+use Rattle.dataset_load.proofs.ReadingSteps.{bad_fault, lines_to, lines_up_to_end}
 use Rattle.dataset_load.proofs.rounds.number_pieces.Goals as goal
-
-pub loop-from-init : goal.loop-from-init
-loop-from-init g c = record {
-  inside = omega arith;
-  read = none_read c.args.pieces.now c.in_ok-dict.dict c.new-quads.result.items (cc (c.in_ok-dict.ensures.empty)) c.new-quads.ensures.items;
-}
-
-pub returns-in-First-clause-bad_line : goal.returns-in-First-clause-bad_line
-returns-in-First-clause-bad_line g c =
-    let was = c.loop-from.invariant in
-    let first = rw (c.in-First.is, c.part-round.ensures.value) at c.in_ok-outcome.ensures.outcome in
-    bad_at c.args.pieces.now c.loop-from.from c.round_end-to.result c.loop-from.dict c.loop-from.quads.items c.in-First.piece c.in-First.fault c.line_number-line.result
-    (omega arith) was.inside was.read first.below first.answered first.faulted c.line_number-line.ensures.number
 
 pub loop-from-preserved : goal.loop-from-preserved
 loop-from-preserved g c =
     let was = c.loop-from.invariant in
-    let all = rw (c.in-All.is, c.part-round.ensures.value) at c.in_ok-outcome.ensures.outcome in
+    let to = lines_to c.args.pieces.now c.loop-from.from c.round_end-to.result (omega arith) in
+    let done = rw c.part-round.ensures.value at (c.in_ok-add_round.ensures.numbered _ was.read) in
     record {
       inside = c.round_end-to.ensures.within;
-      read = round_at c.args.pieces.now c.loop-from.from c.round_end-to.result c.loop-from.dict c.take_in_all.new.dict c.loop-from.quads.items c.take_in_all.new.quads.items
-          c.in-All.seen.items (omega arith) was.read all.count all.each c.in_ok-take_in_all-in-All.ensures.numbered;
+      countable = omega (arith, was.countable, c.in_ok-add_round.ensures.counted, c.part-round.ensures.len);
+      read = subst (λ (ls : List (List ℕ)). HasRead c.add_round.new.so_far ls) to done;
     }
+
+pub returns-clause-numbered : goal.returns-clause-numbered
+returns-clause-numbered g c =
+    subst (λ (ls : List (List ℕ)). HasRead c.loop-from.so_far ls) (lines_up_to_end c.args.pieces.now c.loop-from.from (omega arith)) c.loop-from.invariant.read
+
+pub returns-in_err-add_round-clause-bad_line : goal.returns-in_err-add_round-clause-bad_line
+returns-in_err-add_round-clause-bad_line g c =
+    let p = err_from_is_err_and c.from_residual-in_err-add_round.result c.from_residual-in_err-add_round.ensures.1 in
+    rw (p.1, p.2) (bad_fault c.args.pieces.now c.part-round.result.now c.loop-from.from c.round_end-to.result c.loop-from.so_far _ (omega arith) c.part-round.ensures.value
+    c.loop-from.invariant.read c.in_err-add_round.ensures.bad_line)

@@ -1,11 +1,13 @@
-use Rattle.std.proofs.Common.{◌≤◌, ◌-◌, drop, length}
-use Rattle.dataset_load.proofs.ReadingSteps.{IsReadUpTo}
+use Rattle.std.proofs.Common.{◌≤◌, ◌-◌, ◌*◌, ◌^◌, take, length}
+use Rattle.dataset_load.specs.Lines.{all_lines, texts}
+use Rattle.dataset_load.specs.Reading.{HasRead}
 use Rattle.dataset_load.proofs.rounds.number_pieces.Given as goal
 
 abbrev pub invariant-loop-from : goal.invariant-loop-from
 invariant-loop-from g l = record {
   inside : l.from ≤ length l.pieces;
-  read : IsReadUpTo l.pieces (drop l.from l.pieces) l.dict l.quads.items;
+  countable : l.so_far.lines ≤ l.from * (2 ^ 64 - 1);
+  read : HasRead l.so_far (all_lines (texts (take l.from l.pieces)));
 }
 
 abbrev pub decreases-loop-from : goal.decreases-loop-from

@@ -1,4 +1,4 @@
-use Rattle.std.proofs.Common.{◌++◌, length, sym, ap, ◌∙◌, subst}
+use Rattle.std.proofs.Common.{length, sym, ap, ◌∙◌, subst}
 use Rattle.dict_core.specs.NumQuad.{AreBelow}
 use Rattle.dict_core.proofs.MergingSteps.{merged_piece, length_zipped, appended}
 use Rattle.dict_core.proofs.merging.merge_piece.Goals as goal

@@ -1,4 +1,4 @@
-use Rattle.std.proofs.Common.{◌++◌, List, length, sym, ap, ◌∙◌, subst}
+use Rattle.std.proofs.Common.{◌++◌, length, sym, ap, ◌∙◌, subst}
 use Rattle.std.proofs.lemmas.Map.Made.{AllPairs-from_IsDistinct}
 use Rattle.rdf_core.proofs.TermLaws.{term_decides}
 use Rattle.dict_core.specs.Dict.{IsGrown}

@@ -1,4 +1,3 @@
-use Rattle.std.proofs.Common.{◌≡◌, ◌++◌, sym, ap, ◌∙◌, subst, rules, List}
 use Rattle.std.proofs.lemmas.Map.Made.{AllPairs-from_IsDistinct}
 use Rattle.rdf_core.proofs.TermLaws.{term_decides}
 use Rattle.dict_core.proofs.MergingSteps.{absorbed_keys, absorbed_numbers}

@@ -1,4 +1,4 @@
-use Rattle.std.proofs.Common.{sym, ap, ◌∙◌, subst, rules}
+use Rattle.std.proofs.Common.{rules}
 use Rattle.std.proofs.lemmas.Map.Made.{AllPairs-from_IsDistinct}
 use Rattle.rdf_core.proofs.TermLaws.{term_decides}
 use Rattle.dict_core.proofs.DictLaws.{insert_known, goes_last, lacks}

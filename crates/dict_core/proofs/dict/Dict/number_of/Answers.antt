@@ -1,4 +1,4 @@
-use Rattle.std.proofs.Common.{sym, ap, ◌∙◌, is_some, rules}
+use Rattle.std.proofs.Common.{rules}
 use Rattle.dict_core.proofs.DictLaws.{number_is, not_there}
 use Rattle.dict_core.proofs.dict.Dict.number_of.Goals as goal
 

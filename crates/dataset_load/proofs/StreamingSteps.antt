@@ -1,0 +1,226 @@
+-- Rounds of blocks that are read one after the other.
+use Rattle.std.proofs.Common.{◌≡◌, ℕ, suc, List, [], ◌∷◌, ◌++◌, Bool, true, false, Option, Some, None, Result, Ok, Vec, Global, refl, sym, ap, ◌∙◌, subst, append_assoc, append-nil, inl, inr, ◌⊎◌, arith}
+use Rattle.std.specs.Io.KnownBytes.{Consumes, IsAtEnd}
+use Rattle.nquads_core.specs.Lines.{lines, EndsLine}
+use Rattle.nquads_core.specs.Transfer.{IsReadInPart}
+use Rattle.nquads_core.proofs.LineEnds.{lines_join}
+use Rattle.nquads_core.proofs.PieceLaws.{lines_nil}
+use Rattle.nquads_core.proofs.TransferSteps.{Consumes-more, in-part-more}
+use Rattle.piece_cuts.specs.Blocks.{GivesKnownBlock}
+use Rattle.piece_cuts.specs.Laws.{EndsWithLineFeed}
+use Rattle.dataset_load.specs.declared.numbered.Numbered.{Numbered}
+use Rattle.nquads_core.specs.declared.transfer.ReadFault.{ReadFault}
+use Rattle.dataset_load.specs.declared.reader_fault.ReaderFault.{ReaderFault}
+use Rattle.dataset_load.specs.declared.fault.LoadFault.{LoadFault}
+use Rattle.dataset_load.specs.declared.fault.LoadFault.TheVariants.{BadLine, WorkerRefused, Memory}
+use Rattle.dataset_load.specs.Fault.{IfBadLine}
+use Rattle.dataset_load.specs.Lines.{AreWholeLines, EachEnds, all_lines, joined}
+use Rattle.dataset_load.specs.Loaded.{IsBadLine, IsLoaded}
+use Rattle.dataset_load.specs.Store.{StoreView}
+use Rattle.dataset_load.specs.Reading.{HasRead}
+use Rattle.dataset_load.specs.ReaderFault.{IfBadLineRead, fault_of_load}
+use Rattle.dataset_load.specs.Streaming.{IsBadLineFrom, IsBadSoFar, IsLoadedFrom, IsReadFrom, IsReadIn, IsReadUpTo, TakesRest, TakesRound}
+use Rattle.dataset_load.proofs.LineLaws.{bad_before, lines_of_pieces}
+use Rattle.dataset_load.proofs.ReaderSteps.{nothing_behind, read_front, read_start, whole_all}
+
+-- ---- the bytes of a round
+
+pub round_start : (a : Option (List ℕ)) (kept : List ℕ) → TakesRound a a kept kept []
+round_start None kept = tt
+round_start (Some xs) kept = refl
+
+pub round_step : (a b c : Option (List ℕ)) (kept0 kept kept' done done' : List ℕ) (size : ℕ) (block : Vec ℕ Global)
+    → TakesRound a b kept0 kept done → GivesKnownBlock size kept b kept' c (Ok (Some block)) → done' ≡ done ++ block.items → TakesRound a c kept0 kept' done'
+round_step None b c kept0 kept kept' done done' size block h k e = tt
+round_step (Some xs) None c kept0 kept kept' done done' size block h k e = absurd h
+round_step (Some xs) (Some ys) None kept0 kept kept' done done' size block h k e = absurd k
+round_step (Some xs) (Some ys) (Some zs) kept0 kept kept' done done' size block h k e =
+    h ∙ ap (λ bs. done ++ bs) k.1.joined ∙ sym (append_assoc done block.items (kept' ++ zs)) ∙ ap (λ bs. bs ++ (kept' ++ zs)) (sym e)
+
+-- the document ended before another block
+pub rest_none : (a b c : Option (List ℕ)) (kept0 kept kept' done : List ℕ) (size : ℕ)
+    → TakesRound a b kept0 kept done → GivesKnownBlock size kept b kept' c (Ok None) → IsAtEnd c → TakesRest a c kept0 done
+rest_none None b c kept0 kept kept' done size h k e = tt
+rest_none (Some xs) None c kept0 kept kept' done size h k e = absurd h
+rest_none (Some xs) (Some ys) None kept0 kept kept' done size h k e = absurd k
+rest_none (Some xs) (Some ys) (Some zs) kept0 kept kept' done size h k e = h ∙ ap (λ bs. done ++ bs) k ∙ ap (λ bs. done ++ bs) (sym e)
+
+-- the last block does not end with a line feed
+pub rest_last : (a b c : Option (List ℕ)) (kept0 kept kept' done done' : List ℕ) (size : ℕ) (block : Vec ℕ Global)
+    → TakesRound a b kept0 kept done → GivesKnownBlock size kept b kept' c (Ok (Some block)) → done' ≡ done ++ block.items
+    → IsAtEnd c → ¬ EndsWithLineFeed block.items → TakesRest a c kept0 done'
+rest_last None b c kept0 kept kept' done done' size block h k e end unended = tt
+rest_last (Some xs) None c kept0 kept kept' done done' size block h k e end unended = absurd h
+rest_last (Some xs) (Some ys) None kept0 kept kept' done done' size block h k e end unended = absurd k
+rest_last (Some xs) (Some ys) (Some zs) kept0 kept kept' done done' size block h k e end unended =
+    round_step (Some xs) (Some ys) (Some zs) kept0 kept kept' done done' size block h k e
+    ∙ ap (λ bs. done' ++ bs) (nothing_behind size (kept ++ ys) (kept' ++ zs) block k.1 unended) ∙ ap (λ bs. done' ++ bs) (sym end)
+
+-- behind what was read before
+pub in_round : (a b c : Option (List ℕ)) (done kept kept' bytes : List ℕ) → IsReadIn a b done kept → TakesRound b c kept kept' bytes → IsReadIn a c (done ++ bytes) kept'
+in_round None b c done kept kept' bytes h k = tt
+in_round (Some xs) None c done kept kept' bytes h k = absurd h
+in_round (Some xs) (Some ys) None done kept kept' bytes h k = absurd k
+in_round (Some xs) (Some ys) (Some zs) done kept kept' bytes h k = h ∙ ap (λ bs. done ++ bs) k ∙ sym (append_assoc done bytes (kept' ++ zs))
+
+pub in_rest : (a b c : Option (List ℕ)) (done kept bytes : List ℕ) → IsReadIn a b done kept → TakesRest b c kept bytes → Consumes a c (done ++ bytes)
+in_rest None b c done kept bytes h k = tt
+in_rest (Some xs) None c done kept bytes h k = absurd h
+in_rest (Some xs) (Some ys) None done kept bytes h k = absurd k
+in_rest (Some xs) (Some ys) (Some zs) done kept bytes h k = h ∙ ap (λ bs. done ++ bs) k ∙ sym (append_assoc done bytes zs)
+
+pub part_of_round : (b c : Option (List ℕ)) (kept kept' bytes : List ℕ) → TakesRound b c kept kept' bytes
+    → (start : Option (List ℕ)) (done : List ℕ) → IsReadIn start b done kept → IsReadInPart start c
+part_of_round b c kept kept' bytes k start done h = record {
+  taken = (done ++ bytes) ++ kept';
+  consumed = read_front start c (done ++ bytes) kept' (in_round start b c done kept kept' bytes h k);
+}
+
+pub part_of_rest : (b c : Option (List ℕ)) (kept bytes : List ℕ) → TakesRest b c kept bytes
+    → (start : Option (List ℕ)) (done : List ℕ) → IsReadIn start b done kept → IsReadInPart start c
+part_of_rest b c kept bytes k start done h = record { taken = done ++ bytes; consumed = in_rest start b c done kept bytes h k }
+
+pub part_then : (b c d : Option (List ℕ)) (kept kept' bytes : List ℕ) → TakesRound b c kept kept' bytes → IsReadInPart c d
+    → (start : Option (List ℕ)) (done : List ℕ) → IsReadIn start b done kept → IsReadInPart start d
+part_then b c d kept kept' bytes k part start done h =
+    in-part-more start c d ((done ++ bytes) ++ kept') (read_front start c (done ++ bytes) kept' (in_round start b c done kept kept' bytes h k)) part
+
+-- ---- the lines of a round
+
+pub lines_after : (done : List ℕ) (ps : List (List ℕ)) → EndsLine done → AreWholeLines ps → lines (done ++ joined ps) ≡ lines done ++ all_lines ps
+lines_after done ps whole ps_whole = lines_join done (joined ps) whole ∙ ap (λ (ls : List (List ℕ)). lines done ++ ls) (sym (lines_of_pieces ps ps_whole))
+
+ends_both : (x p : List ℕ) → EndsLine x → EndsLine p → EndsLine (x ++ p)
+ends_both x p h (inl none) = subst EndsLine (sym (ap (λ bs. x ++ bs) none ∙ append-nil x)) h
+ends_both x p h (inr some) = inr (x ++ some.0, ap (λ bs. x ++ bs) some.1 ∙ sym (append_assoc x some.0 (10 ∷ [])))
+
+pub ends_joined : (x : List ℕ) (ps : List (List ℕ)) → EndsLine x → EachEnds ps → EndsLine (x ++ joined ps)
+ends_joined x [] h each = subst EndsLine (sym (append-nil x)) h
+ends_joined x (p ∷ ps) h each =
+    subst EndsLine (append_assoc x p (joined ps))
+    (ends_joined (x ++ p) ps (ends_both x p h (each 0 (omega arith))) (λ i low. each (suc i) (omega arith)))
+
+module _ (a b c : Option (List ℕ)) (kept : List ℕ) (so_far : Numbered) (ps : List (List ℕ)) (was : IsReadUpTo a b kept so_far) where
+  pub up_to_more : (kept' : List ℕ) (now : Numbered) → TakesRound b c kept kept' (joined ps) → EachEnds ps
+      → ((before : List (List ℕ)) → HasRead so_far before → HasRead now (before ++ all_lines ps)) → IsReadUpTo a c kept' now
+  up_to_more kept' now bytes each read = record {
+    done = was.done ++ joined ps;
+    bytes = in_round a b c was.done kept kept' (joined ps) was.bytes bytes;
+    whole = ends_joined was.done ps was.whole each;
+    read = subst (λ (ls : List (List ℕ)). HasRead now ls) (sym (lines_after was.done ps was.whole (whole_all ps each))) (read (lines was.done) was.read);
+  }
+
+  pub up_to_last : (now : Numbered) → TakesRest b c kept (joined ps) → IsAtEnd c → AreWholeLines ps
+      → ((before : List (List ℕ)) → HasRead so_far before → HasRead now (before ++ all_lines ps)) → IsReadFrom a c now
+  up_to_last now bytes end whole read = record {
+    doc = was.done ++ joined ps;
+    consumed = in_rest a b c was.done kept (joined ps) was.bytes bytes;
+    at_end = end;
+    read = subst (λ (ls : List (List ℕ)). HasRead now ls) (sym (lines_after was.done ps was.whole whole)) (read (lines was.done) was.read);
+  }
+
+  bad_lines : (n : ℕ) → AreWholeLines ps → ((before : List (List ℕ)) → HasRead so_far before → IsBadLine (before ++ all_lines ps) n) → IsBadLine (lines (was.done ++ joined ps)) n
+  bad_lines n whole bad = subst (λ (ls : List (List ℕ)). IsBadLine ls n) (sym (lines_after was.done ps was.whole whole)) (bad (lines was.done) was.read)
+
+  pub bad_more : (kept' : List ℕ) (n : ℕ) → TakesRound b c kept kept' (joined ps) → EachEnds ps
+      → ((before : List (List ℕ)) → HasRead so_far before → IsBadLine (before ++ all_lines ps) n) → IsBadSoFar a c n
+  bad_more kept' n bytes each bad = record {
+    done = was.done ++ joined ps;
+    bad = bad_lines n (whole_all ps each) bad;
+    rest = inl (kept', in_round a b c was.done kept kept' (joined ps) was.bytes bytes, ends_joined was.done ps was.whole each);
+  }
+
+  pub bad_last : (n : ℕ) → TakesRest b c kept (joined ps) → IsAtEnd c → AreWholeLines ps
+      → ((before : List (List ℕ)) → HasRead so_far before → IsBadLine (before ++ all_lines ps) n) → IsBadSoFar a c n
+  bad_last n bytes end whole bad = record {
+    done = was.done ++ joined ps;
+    bad = bad_lines n whole bad;
+    rest = inr (in_rest a b c was.done kept (joined ps) was.bytes bytes, end);
+  }
+
+-- the two ends of a round
+abbrev pub RoundEnds : Option (List ℕ) → Option (List ℕ) → List ℕ → List ℕ → List (List ℕ) → Type 0
+RoundEnds b c kept kept' ps = (TakesRound b c kept kept' (joined ps) × EachEnds ps) ⊎ (TakesRest b c kept (joined ps) × IsAtEnd c)
+
+-- which of the two it is
+pub ok_no : (is_last : Bool) → ◌≡◌ {A = Result Bool ReaderFault} (Ok is_last) (Ok false) → ◌≡◌ {A = Result Bool ReadFault} (Ok is_last) (Ok false)
+ok_no is_last e = let same : is_last ≡ false = cc in ap Ok same
+
+pub ok_yes : (is_last : Bool) → ◌≡◌ {A = Result Bool ReaderFault} (Ok is_last) (Ok true) → ◌≡◌ {A = Result Bool ReadFault} (Ok is_last) (Ok true)
+ok_yes is_last e = let same : is_last ≡ true = cc in ap Ok same
+
+pub round_ends : (b c : Option (List ℕ)) (kept kept' : List ℕ) (ps : List (List ℕ)) (is_last : Bool)
+    → (◌≡◌ {A = Result Bool ReadFault} (Ok is_last) (Ok false) → EachEnds ps) → (◌≡◌ {A = Result Bool ReadFault} (Ok is_last) (Ok false) → TakesRound b c kept kept' (joined ps))
+    → (◌≡◌ {A = Result Bool ReadFault} (Ok is_last) (Ok true) → IsAtEnd c) → (◌≡◌ {A = Result Bool ReadFault} (Ok is_last) (Ok true) → TakesRest b c kept (joined ps))
+    → RoundEnds b c kept kept' ps
+round_ends b c kept kept' ps false each bytes end rest = inl (bytes refl, each refl)
+round_ends b c kept kept' ps true each bytes end rest = inr (rest refl, end refl)
+
+pub bad_round : (b c : Option (List ℕ)) (kept kept' : List ℕ) (so_far : Numbered) (ps : List (List ℕ)) (fault : LoadFault)
+    → RoundEnds b c kept kept' ps → AreWholeLines ps
+    → IfBadLine (λ n. (before : List (List ℕ)) → HasRead so_far before → IsBadLine (before ++ all_lines ps) n) fault
+    → IfBadLineRead (λ n. (start : Option (List ℕ)) → IsReadUpTo start b kept so_far → IsBadSoFar start c n) (fault_of_load fault)
+bad_round b c kept kept' so_far ps (BadLine n) (inl more) whole bad = λ start was. bad_more start b c kept so_far ps was kept' n more.0 more.1 bad
+bad_round b c kept kept' so_far ps (BadLine n) (inr last) whole bad = λ start was. bad_last start b c kept so_far ps was n last.0 last.1 whole bad
+bad_round b c kept kept' so_far ps WorkerRefused ends whole bad = tt
+bad_round b c kept kept' so_far ps Memory ends whole bad = tt
+
+pub part_round : (b c : Option (List ℕ)) (kept kept' : List ℕ) (so_far : Numbered) (ps : List (List ℕ)) → RoundEnds b c kept kept' ps
+    → (start : Option (List ℕ)) → IsReadUpTo start b kept so_far → IsReadInPart start c
+part_round b c kept kept' so_far ps (inl more) start was = part_of_round b c kept kept' (joined ps) more.0 start was.done was.bytes
+part_round b c kept kept' so_far ps (inr last) start was = part_of_rest b c kept (joined ps) last.0 start was.done was.bytes
+
+-- ---- the start and the end of the reader
+
+pub up_to_start : (a : Option (List ℕ)) (kept : List ℕ) (so_far : Numbered) → kept ≡ [] → HasRead so_far [] → IsReadUpTo a a kept so_far
+up_to_start a kept so_far none read = record {
+  done = [];
+  bytes = read_start a kept none;
+  whole = inl refl;
+  read = subst (λ (ls : List (List ℕ)). HasRead so_far ls) (sym lines_nil) read;
+}
+
+pub up_to_part : (a b : Option (List ℕ)) (kept : List ℕ) (so_far : Numbered) → IsReadUpTo a b kept so_far → IsReadInPart a b
+up_to_part a b kept so_far was = record { taken = was.done ++ kept; consumed = read_front a b was.done kept was.bytes }
+
+pub part_both : (a b c : Option (List ℕ)) → IsReadInPart a b → IsReadInPart b c → IsReadInPart a c
+part_both a b c h k = in-part-more a b c h.taken h.consumed k
+
+pub part_more : (a b c : Option (List ℕ)) (xs : List ℕ) → IsReadInPart a b → Consumes b c xs → IsReadInPart a c
+part_more a b c xs h k = record { taken = h.taken ++ xs; consumed = Consumes-more a b c h.taken xs h.consumed k }
+
+known_more : (a b c : Option (List ℕ)) (done kept rest : List ℕ) → IsReadIn a b done kept → Consumes b c rest → Consumes a c (done ++ (kept ++ rest))
+known_more None b c done kept rest h k = tt
+known_more (Some xs) None c done kept rest h k = absurd h
+known_more (Some xs) (Some ys) None done kept rest h k = absurd k
+known_more (Some xs) (Some ys) (Some zs) done kept rest h k =
+    h ∙ ap (λ bs. done ++ (kept ++ bs)) k ∙ ap (λ bs. done ++ bs) (sym (append_assoc kept rest zs)) ∙ sym (append_assoc done (kept ++ rest) zs)
+
+known_end : (a b c : Option (List ℕ)) (done rest : List ℕ) → Consumes a b done → IsAtEnd b → Consumes b c rest → IsAtEnd c → Consumes a c done
+known_end None b c done rest h e k f = tt
+known_end (Some xs) None c done rest h e k f = absurd h
+known_end (Some xs) (Some ys) None done rest h e k f = absurd k
+known_end (Some xs) (Some ys) (Some zs) done rest h e k f = h ∙ ap (λ bs. done ++ bs) (e ∙ sym f)
+
+-- after a malformed line the reader was read to its end
+pub bad_from : (a b c : Option (List ℕ)) (n : ℕ) → IsBadSoFar a b n → IsReadInPart b c → IsAtEnd c → IsBadLineFrom a c n
+bad_from a b c n was rest end = by was.rest
+  where
+    by : ((kept : List ℕ) × IsReadIn a b was.done kept × EndsLine was.done) ⊎ (Consumes a b was.done × IsAtEnd b) → IsBadLineFrom a c n
+    by (inl more) = record {
+      doc = was.done ++ (more.0 ++ rest.taken);
+      consumed = known_more a b c was.done more.0 rest.taken more.1 rest.consumed;
+      at_end = end;
+      bad = subst (λ (ls : List (List ℕ)). IsBadLine ls n) (sym (lines_join was.done (more.0 ++ rest.taken) more.2))
+          (was.bad.0, bad_before (lines was.done) (lines (more.0 ++ rest.taken)) was.bad.0 was.bad.1, was.bad.2);
+    }
+    by (inr last) = record {
+      doc = was.done;
+      consumed = known_end a b c was.done rest.taken last.0 last.1 rest.consumed end;
+      at_end = end;
+      bad = was.bad;
+    }
+
+pub loaded_from : (a b : Option (List ℕ)) (so_far : Numbered) (store : StoreView) → IsReadFrom a b so_far
+    → ((ls : List (List ℕ)) → HasRead so_far ls → IsLoaded ls store) → IsLoadedFrom a b store
+loaded_from a b so_far store was load = record { doc = was.doc; consumed = was.consumed; at_end = was.at_end; loaded = load (lines was.doc) was.read }

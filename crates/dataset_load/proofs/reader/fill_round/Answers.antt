@@ -1,0 +1,75 @@
+use Rattle.std.proofs.Common.{ℕ, List, ◌++◌, true≢false, refl, ap, sym, ◌∙◌, subst, arith}
+use Rattle.nquads_core.proofs.TransferSteps.{Stays-stays}
+use Rattle.piece_cuts.specs.Laws.{EndsWithLineFeed}
+use Rattle.dataset_load.specs.Lines.{AreWholeLines, EachEnds, block_texts, joined}
+use Rattle.dataset_load.proofs.ReaderSteps.{at_the_end, ends_more, joined_more, none_at_end, pushed_length, texts_more, whole_but_last}
+use Rattle.dataset_load.proofs.StreamingSteps.{part_of_rest, part_of_round, part_then, rest_last, rest_none, round_step}
+use Rattle.dataset_load.proofs.reader.fill_round.Goals as goal
+
+pub returns-then-is_full-clause-taken : goal.returns-then-is_full-clause-taken
+returns-then-is_full-clause-taken g c = part_of_round _ _ _ _ _ c.loop-len.invariant.bytes
+
+pub returns-clause-taken : goal.returns-clause-taken
+returns-clause-taken g c = part_of_round _ _ _ _ _ c.loop-len.invariant.bytes
+
+pub returns-in-Ok-None-clause-taken : goal.returns-in-Ok-None-clause-taken
+returns-in-Ok-None-clause-taken g c =
+    let was = c.loop-len.invariant in
+    let given = rw c.in-Ok-None.field-0-is at (c.in-Ok-None.ensures.block was.state) in
+    let last = rw c.in-Ok-None.field-0-is at (c.in-Ok-None.ensures.last was.state) in
+    part_of_rest _ _ c.args.blocks.now.kept (joined (block_texts c.loop-len.round.items))
+    (rest_none _ _ _ c.args.blocks.now.kept c.loop-len.blocks.kept c.next.new.self.kept (joined (block_texts c.loop-len.round.items)) c.loop-len.blocks.size was.bytes given (none_at_end _ last))
+
+pub returns-in-Err-clause-taken : goal.returns-in-Err-clause-taken
+returns-in-Err-clause-taken g c =
+    let was = c.loop-len.invariant in
+    part_then _ _ _ _ _ _ was.bytes (c.in-Err.ensures.taken was.state)
+
+pub returns-in_default-clause-taken : goal.returns-in_default-clause-taken
+returns-in_default-clause-taken g c =
+    let was = c.loop-len.invariant in
+    let done = joined (block_texts c.loop-len.round.items) in
+    let given = rw c.in-Ok-Some.field-0-is at (c.in-Ok-Some.ensures.block was.state) in
+    part_of_round _ _ c.args.blocks.now.kept c.next.new.self.kept (done ++ c.in-Ok-Some.block.items)
+    (round_step _ _ _ c.args.blocks.now.kept c.loop-len.blocks.kept c.next.new.self.kept done (done ++ c.in-Ok-Some.block.items) c.loop-len.blocks.size c.in-Ok-Some.block was.bytes given refl)
+
+pub returns-then-not-is_whole-clause-whole_lines : goal.returns-then-not-is_whole-clause-whole_lines
+returns-then-not-is_whole-clause-whole_lines g c =
+    let t = texts_more c.loop-len.round.items c.push.new.self.items c.in-Ok-Some.block c.in-Ok.ensures.items in
+    subst (λ (ps : List (List ℕ)). AreWholeLines ps) (sym t) (whole_but_last (block_texts c.loop-len.round.items) c.in-Ok-Some.block.items c.loop-len.invariant.ends)
+
+pub returns-then-not-is_whole-clause-rest : goal.returns-then-not-is_whole-clause-rest
+returns-then-not-is_whole-clause-rest g c = λ _.
+    let was = c.loop-len.invariant in
+    let t = texts_more c.loop-len.round.items c.push.new.self.items c.in-Ok-Some.block c.in-Ok.ensures.items in
+    let e = ap joined t ∙ joined_more (block_texts c.loop-len.round.items) c.in-Ok-Some.block.items in
+    let given = rw c.in-Ok-Some.field-0-is at (c.in-Ok-Some.ensures.block was.state) in
+    let last = rw c.in-Ok-Some.field-0-is at (c.in-Ok-Some.ensures.last was.state) in
+    let unended = λ (h : EndsWithLineFeed c.in-Ok-Some.block.items).
+    true≢false (sym (c.ends_with_line_feed-is_whole.ensures.no (subst (λ (bs : List ℕ). EndsWithLineFeed bs) (sym c.as_slice.ensures.value) h)) ∙ c.if-not-is_whole.true) in
+    rest_last _ _ _ c.args.blocks.now.kept c.loop-len.blocks.kept c.next.new.self.kept (joined (block_texts c.loop-len.round.items)) _ c.loop-len.blocks.size c.in-Ok-Some.block was.bytes given e
+    (at_the_end _ c.in-Ok-Some.block last unended) unended
+
+pub returns-then-not-is_whole-clause-taken : goal.returns-then-not-is_whole-clause-taken
+returns-then-not-is_whole-clause-taken g c =
+    let was = c.loop-len.invariant in
+    let done = joined (block_texts c.loop-len.round.items) in
+    let given = rw c.in-Ok-Some.field-0-is at (c.in-Ok-Some.ensures.block was.state) in
+    part_of_round _ _ c.args.blocks.now.kept c.next.new.self.kept (done ++ c.in-Ok-Some.block.items)
+    (round_step _ _ _ c.args.blocks.now.kept c.loop-len.blocks.kept c.next.new.self.kept done (done ++ c.in-Ok-Some.block.items) c.loop-len.blocks.size c.in-Ok-Some.block was.bytes given refl)
+
+pub loop-len-preserved : goal.loop-len-preserved
+loop-len-preserved g c =
+    let was = c.loop-len.invariant in
+    let t = texts_more c.loop-len.round.items c.push.new.self.items c.in-Ok-Some.block c.in-Ok.ensures.items in
+    let e = ap joined t ∙ joined_more (block_texts c.loop-len.round.items) c.in-Ok-Some.block.items in
+    let given = rw c.in-Ok-Some.field-0-is at (c.in-Ok-Some.ensures.block was.state) in
+    let whole = subst (λ (bs : List ℕ). EndsWithLineFeed bs) c.as_slice.ensures.value (c.ends_with_line_feed-is_whole.ensures.yes c.if-not-is_whole.false) in
+    let long = pushed_length c.loop-len.round.items c.push.new.self.items c.in-Ok-Some.block c.in-Ok.ensures.items in
+    record {
+      few = omega (arith, long, was.few);
+      state = rw c.in-Ok-Some.field-0-is at (c.in-Ok-Some.ensures.state was.state);
+      ends = subst (λ (ps : List (List ℕ)). EachEnds ps) (sym t) (ends_more (block_texts c.loop-len.round.items) c.in-Ok-Some.block.items was.ends whole);
+      bytes = round_step _ _ _ c.args.blocks.now.kept c.loop-len.blocks.kept c.next.new.self.kept (joined (block_texts c.loop-len.round.items)) _ c.loop-len.blocks.size c.in-Ok-Some.block was.bytes given e;
+      failures = Stays-stays _ _ _ was.failures (c.in-Ok-Some.ensures.count was.state);
+    }

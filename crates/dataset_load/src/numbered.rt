@@ -1,0 +1,34 @@
+//! What was read of a document so far.
+
+use dict_core::{Dict, NumQuad};
+use std::alloc::{AllocError, Global};
+use std::hash::RandomState;
+
+/// The quads of the lines that were read so far, numbered by a dictionary, and the count of these
+/// lines.
+#[derive(Drop)]
+pub(crate) struct Numbered {
+    pub(crate) dict: Dict,
+    pub(crate) quads: Vec<NumQuad>,
+    pub(crate) lines: u128,
+}
+
+impl Numbered {
+    ghost use Rattle.std.specs.Prelude.{IfOk, [], ◌≡◌};
+    ghost use Rattle.dataset_load.specs.Reading.{HasRead};
+
+    /// Nothing was read yet. Strangers choose the terms, so the hash state comes from the runtime.
+    ///
+    /// # Errors
+    /// `AllocError` if an allocation fails.
+    pub(crate) fn new(alloc: Global, state: RandomState) -> Result<Numbered, AllocError>
+        ensures none { IfOk result (λ so_far. HasRead so_far []) }
+        ensures no_lines { IfOk result (λ so_far. so_far.lines ≡ 0) }
+    {
+        Ok(Numbered {
+            dict: Dict::new(alloc, state)?,
+            quads: Vec::new(alloc),
+            lines: 0,
+        })
+    }
+}

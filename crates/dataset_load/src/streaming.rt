@@ -1,0 +1,222 @@
+//! Loading the rest of a reader, round by round, so that the document is never held as a whole.
+ghost use Rattle.std.specs.Prelude.{◌≡◌, ◌+◌, ◌*◌, ◌≤◌, ◌^◌, ◌++◌, [], false, length, true, IfErr, IfOk, Ok, OnErr, OnOk};
+ghost use Rattle.std.specs.Io.KnownBytes.{IsAtEnd};
+ghost use Rattle.nquads_core.specs.Transfer.{CountsRead, IsReadInPart};
+ghost use Rattle.dataset_load.specs.Fault.{IfBadLine, IsNoRefusedWorker};
+ghost use Rattle.dataset_load.specs.Lines.{all_lines, block_texts};
+ghost use Rattle.dataset_load.specs.Loaded.{IsBadLine};
+ghost use Rattle.dataset_load.specs.Reading.{HasRead};
+ghost use Rattle.dataset_load.specs.ReaderFault.{CountsLoading, IfBadLineRead, IsNoLackingWorker};
+ghost use Rattle.dataset_load.specs.Streaming.{IsBadLineFrom, IsBadSoFar, IsLoadedFrom, IsReadFrom, IsReadUpTo};
+
+use crate::fault::LoadFault;
+use crate::loading::{hash_state, lent_blocks, store_of};
+use crate::numbered::Numbered;
+use crate::reader::fill_round;
+use crate::reader_fault::ReaderFault;
+use crate::rounds::add_round;
+use crate::store::Store;
+use nquads_core::{ReadFault, Source};
+use piece_cuts::{BlockState, Blocks};
+use piece_pool::Gate;
+use std::alloc::Global;
+use std::hash::RandomState;
+use std::random::RandomSource;
+use std::sync::Wait;
+use std::thread::Threads;
+
+/// The rounds of a document, at the most. A round has at least 8 MiB or 2^20 lines, except the last one.
+const MOST_ROUNDS: u64 = 1 << 40;
+
+/// Loads the rest of a reader, as `load_blocks` does after `read_blocks`. Only the blocks of one round
+/// are in memory at a time.
+///
+/// # Requires
+/// `size` is 1 or more, and `workers` is 1 to 64.
+///
+/// # Errors
+/// - `BadLine(n)` if line n of what was read, counted from 1, is the first that is malformed. The reader
+///   was read to its end.
+/// - `WorkerRefused` if a worker thread could not be started. Those that were started have been joined.
+///   With one worker no thread is started, so this cannot occur.
+/// - `Memory` if an allocation fails, or if the document has more than 2^40 rounds.
+/// - `Read` if the reader fails in this call.
+///
+/// On every error, the bytes that were taken are a beginning of what the reader had left.
+pub fn load_reader<R: Threads + Wait + RandomSource, S: Source, G: Gate + Sync>(
+    rt: &R,
+    alloc: Global,
+    size: usize,
+    reader: &mut S,
+    workers: usize,
+    gate: &G,
+) -> Result<Store, ReaderFault>
+    requires some { 1 ≤ size }
+    requires workers { (1 ≤ workers) × (workers ≤ 64) }
+    ensures loaded { IfOk result (IsLoadedFrom (S.left reader.old) (S.left reader.new)) }
+    ensures bad_line { IfErr result
+        (IfBadLineRead (IsBadLineFrom (S.left reader.old) (S.left reader.new))) }
+    ensures taken { OnErr result (IsReadInPart (S.left reader.old) (S.left reader.new)) }
+    ensures count { CountsLoading (S.failures reader.old) (S.failures reader.new) result }
+    ensures one_worker { workers ≡ 1 → IfErr result IsNoLackingWorker }
+{
+    match number_reader(rt, alloc, size, reader, workers, gate) {
+        Ok(so_far) => match store_of(rt, alloc, so_far, workers) {
+            Ok(store) => Ok(store),
+            Err(fault) => Err(ReaderFault::from(fault)),
+        },
+        Err(ReaderFault::BadLine(line)) => match skip_rest(reader) {
+            Ok(()) => Err(ReaderFault::BadLine(line)),
+            Err(fault) => Err(ReaderFault::from(fault)),
+        },
+        Err(fault) => Err(fault),
+    }
+}
+
+/// Reads the lines of a reader, and numbers their quads. After a malformed line the reader may have more
+/// bytes.
+fn number_reader<R: Threads + Wait + RandomSource, S: Source, G: Gate + Sync>(
+    rt: &R,
+    alloc: Global,
+    size: usize,
+    reader: &mut S,
+    workers: usize,
+    gate: &G,
+) -> Result<Numbered, ReaderFault>
+    requires some { 1 ≤ size }
+    requires workers { (1 ≤ workers) × (workers ≤ 64) }
+    ensures read { IfOk result (IsReadFrom (S.left reader.old) (S.left reader.new)) }
+    ensures bad_line { IfErr result
+        (IfBadLineRead (IsBadSoFar (S.left reader.old) (S.left reader.new))) }
+    ensures taken { OnErr result (IsReadInPart (S.left reader.old) (S.left reader.new)) }
+    ensures count { CountsLoading (S.failures reader.old) (S.failures reader.new) result }
+    ensures one_worker { workers ≡ 1 → IfErr result IsNoLackingWorker }
+{
+    let state = hash_state(rt)?;
+    let mut so_far = Numbered::new(alloc, state)?;
+    let mut blocks = Blocks::new(alloc, size)?;
+    number_rounds(
+        rt,
+        alloc,
+        state,
+        &mut so_far,
+        &mut blocks,
+        reader,
+        workers,
+        gate,
+    )?;
+    Ok(so_far)
+}
+
+/// Reads the rounds of a reader, one after the other.
+fn number_rounds<R: Threads + Wait, S: Source, G: Gate + Sync>(
+    rt: &R,
+    alloc: Global,
+    state: RandomState,
+    so_far: &mut Numbered,
+    blocks: &mut Blocks,
+    reader: &mut S,
+    workers: usize,
+    gate: &G,
+) -> Result<(), ReaderFault>
+    requires workers { (1 ≤ workers) × (workers ≤ 64) }
+    requires reading { blocks.old.state ≡ BlockState.Reading }
+    requires none { so_far.old.lines ≡ 0 }
+    requires start { IsReadUpTo (S.left reader.old) (S.left reader.old) blocks.old.kept so_far.old }
+    ensures read { OnOk result (IsReadFrom (S.left reader.old) (S.left reader.new) so_far.new) }
+    ensures bad_line { IfErr result
+        (IfBadLineRead (IsBadSoFar (S.left reader.old) (S.left reader.new))) }
+    ensures taken { OnErr result (IsReadInPart (S.left reader.old) (S.left reader.new)) }
+    ensures count { CountsLoading (S.failures reader.old) (S.failures reader.new) result }
+    ensures one_worker { workers ≡ 1 → IfErr result IsNoLackingWorker }
+{
+    for _ in 0..MOST_ROUNDS {
+        if number_round(rt, alloc, state, so_far, blocks, reader, workers, gate)? {
+            return Ok(());
+        }
+    }
+    Err(ReaderFault::Memory)
+}
+
+/// Reads the blocks of the next round, and adds their quads to those of the rounds before. Returns whether
+/// the reader is at its end.
+fn number_round<R: Threads + Wait, S: Source, G: Gate + Sync>(
+    rt: &R,
+    alloc: Global,
+    state: RandomState,
+    so_far: &mut Numbered,
+    blocks: &mut Blocks,
+    reader: &mut S,
+    workers: usize,
+    gate: &G,
+) -> Result<bool, ReaderFault>
+    requires workers { (1 ≤ workers) × (workers ≤ 64) }
+    requires reading { blocks.old.state ≡ BlockState.Reading }
+    requires countable { so_far.old.lines ≤ 2 ^ 127 }
+    ensures reading { result ≡ Ok false → blocks.new.state ≡ BlockState.Reading }
+    ensures counted { OnOk result (so_far.new.lines ≤ so_far.old.lines + 2 ^ 84) }
+    ensures more { result ≡ Ok false → (start : _)
+        → IsReadUpTo start (S.left reader.old) blocks.old.kept so_far.old
+        → IsReadUpTo start (S.left reader.new) blocks.new.kept so_far.new }
+    ensures last { result ≡ Ok true → (start : _)
+        → IsReadUpTo start (S.left reader.old) blocks.old.kept so_far.old
+        → IsReadFrom start (S.left reader.new) so_far.new }
+    ensures bad_line { IfErr result (IfBadLineRead (λ n. (start : _)
+        → IsReadUpTo start (S.left reader.old) blocks.old.kept so_far.old
+        → IsBadSoFar start (S.left reader.new) n)) }
+    ensures taken { OnErr result ((start : _)
+        → IsReadUpTo start (S.left reader.old) blocks.old.kept so_far.old
+        → IsReadInPart start (S.left reader.new)) }
+    ensures count { CountsLoading (S.failures reader.old) (S.failures reader.new) result }
+    ensures one_worker { workers ≡ 1 → IfErr result IsNoLackingWorker }
+{
+    let mut round = Vec::new(alloc);
+    let is_last = fill_round(&mut round, blocks, reader, workers)?;
+    add_blocks(rt, alloc, state, so_far, round.as_slice(), workers, gate)?;
+    Ok(is_last)
+}
+
+/// Adds the quads of blocks to those of the rounds before.
+fn add_blocks<R: Threads + Wait, G: Gate + Sync>(
+    rt: &R,
+    alloc: Global,
+    state: RandomState,
+    so_far: &mut Numbered,
+    blocks: &[Vec<u8>],
+    workers: usize,
+    gate: &G,
+) -> Result<(), LoadFault>
+    requires workers { (1 ≤ workers) × (workers ≤ 64) }
+    requires blocks { length blocks.now ≤ 2 ^ 20 }
+    requires countable { so_far.old.lines ≤ 2 ^ 127 }
+    ensures numbered { OnOk result ((before : _) → HasRead so_far.old before
+        → HasRead so_far.new (before ++ all_lines (block_texts blocks.now))) }
+    ensures counted { OnOk result (so_far.new.lines ≤ so_far.old.lines + 2 ^ 84) }
+    ensures bad_line { IfErr result (IfBadLine (λ n. (before : _) → HasRead so_far.old before
+        → IsBadLine (before ++ all_lines (block_texts blocks.now)) n)) }
+    ensures one_worker { workers ≡ 1 → IfErr result IsNoRefusedWorker }
+{
+    let pieces = lent_blocks(alloc, blocks)?;
+    add_round(rt, alloc, state, so_far, pieces.as_slice(), workers, gate)
+}
+
+/// Reads a reader to its end, and drops what is read.
+///
+/// # Errors
+/// - `Read` if the reader fails.
+/// - `Memory` if the end does not come in 2^64 - 1 reads.
+fn skip_rest<S: Source>(reader: &mut S) -> Result<(), ReadFault>
+    ensures part { IsReadInPart (S.left reader.old) (S.left reader.new) }
+    ensures at_end { OnOk result (IsAtEnd (S.left reader.new)) }
+    ensures count { CountsRead (S.failures reader.old) (S.failures reader.new) result }
+{
+    let mut chunk = [0u8; 8192];
+    for _ in 0..u64::MAX {
+        match reader.read(&mut chunk) {
+            Ok(0) => return Ok(()),
+            Ok(_) => {}
+            Err(_) => return Err(ReadFault::Read),
+        }
+    }
+    Err(ReadFault::Memory)
+}

@@ -1,0 +1,205 @@
+-- Packed keys have the order of their quads, and give them back.
+use Rattle.std.proofs.Common.{◌≡◌, ℕ, zero, suc, ◌+◌, ◌/◌, ◌%◌, ◌^◌, ◌<◌, Bool, true, false, cond, Option, None, Some, List, [], ◌∷◌, length, get_or, map, nat_eq, nat_lt, All, IsPermutation, IsSorted, eqb-true, ltb-true, ltb-false, eq-eqb, refl, sym, ap, ◌∙◌, subst, true≢false, inl, inr, ◌⊎◌, arith, rules}
+use Rattle.std.specs.List.{dedup, dedup_from}
+use Rattle.std.specs.Ordering.{is_lt, nat_cmp, ordering_then}
+use Rattle.std.specs.Option.{option_cmp}
+use Rattle.std.specs.declared.cmp.Ordering.TheVariants.{Less, Equal, Greater}
+use Rattle.std.proofs.lemmas.Nat.{div-mul-add, mod-mul-add}
+use Rattle.std.proofs.lemmas.List.{length-map}
+use Rattle.std.proofs.lemmas.List.Elements.{All-cons, All-head, All-nil, All-tail}
+use Rattle.std.proofs.lemmas.List.Sorted.{All-permutation, IsPermutation-map}
+use Rattle.algebra_model.specs.Bag.{IsWithoutRepeats, without_repeats}
+use Rattle.dict_core.specs.declared.num_quad.NumQuad.{NumQuad}
+use Rattle.dict_core.proofs.NumQuadLaws.{quad_eq, quad_decides}
+use Rattle.quad_index.specs.declared.sort_order.SortOrder.{SortOrder}
+use Rattle.quad_index.specs.declared.sort_order.SortOrder.TheVariants.{Gspo, Gpos, Gosp}
+use Rattle.quad_index.specs.SortOrder.{order_cmp}
+use Rattle.quad_index.specs.Packed.{IsSmall, graph_key, graph_of, key_of, key_of_places, quad_of, quad_of_places, with_place}
+use Rattle.quad_index.proofs.OnceLaws.{dedup_distinct, dedup_once_of, dedup_sorted}
+use Rattle.quad_index.proofs.SortOrderLaws.{order_ties, order_total}
+
+-- ---- the order of keys
+
+cmp_less : (n m : ℕ) → n < m → nat_cmp n m ≡ Less
+cmp_less n m h = by (nat_lt n m) refl
+  where
+    by : (b : Bool) → nat_lt n m ≡ b → cond b Less (cond (nat_eq n m) Equal Greater) ≡ Less
+    by true e = refl
+    by false e = let over = ltb-false n m e in absurd (omega (arith, over))
+
+cmp_same : (n m : ℕ) → n ≡ m → nat_cmp n m ≡ Equal
+cmp_same n m h = by (nat_lt n m) refl (nat_eq n m) refl
+  where
+    by : (a : Bool) → nat_lt n m ≡ a → (b : Bool) → nat_eq n m ≡ b → cond a Less (cond b Equal Greater) ≡ Equal
+    by true e b k = let below : n < m = ltb-true n m e in absurd (omega arith)
+    by false e true k = refl
+    by false e false k = absurd (true≢false (sym (eq-eqb n m h) ∙ k))
+
+cmp_more : (n m : ℕ) → m < n → nat_cmp n m ≡ Greater
+cmp_more n m h = by (nat_lt n m) refl (nat_eq n m) refl
+  where
+    by : (a : Bool) → nat_lt n m ≡ a → (b : Bool) → nat_eq n m ≡ b → cond a Less (cond b Equal Greater) ≡ Greater
+    by true e b k = let below : n < m = ltb-true n m e in absurd (omega arith)
+    by false e true k = let level : n ≡ m = eqb-true n m k in absurd (omega arith)
+    by false e false k = refl
+
+which : (n m : ℕ) → (n < m) ⊎ ((n ≡ m) ⊎ (m < n))
+which n m = search (rules, arith)
+
+place_cmp : (x y a b : ℕ) → a < 2 ^ 32 → b < 2 ^ 32 → nat_cmp (with_place x a) (with_place y b) ≡ ordering_then (nat_cmp x y) (nat_cmp a b)
+place_cmp x y a b la lb = by (which x y) (which a b)
+  where
+    by : (x < y) ⊎ ((x ≡ y) ⊎ (y < x)) → (a < b) ⊎ ((a ≡ b) ⊎ (b < a)) → nat_cmp (with_place x a) (with_place y b) ≡ ordering_then (nat_cmp x y) (nat_cmp a b)
+    by (inl h) k = cmp_less (with_place x a) (with_place y b) (omega arith) ∙ sym (ap (λ o. ordering_then o (nat_cmp a b)) (cmp_less x y h))
+    by (inr (inr h)) k = cmp_more (with_place x a) (with_place y b) (omega arith) ∙ sym (ap (λ o. ordering_then o (nat_cmp a b)) (cmp_more x y h))
+    by (inr (inl h)) (inl k) = cmp_less (with_place x a) (with_place y b) (omega arith) ∙ sym (ap (λ o. ordering_then o (nat_cmp a b)) (cmp_same x y h) ∙ cmp_less a b k)
+    by (inr (inl h)) (inr (inl k)) = cmp_same (with_place x a) (with_place y b) (omega arith) ∙ sym (ap (λ o. ordering_then o (nat_cmp a b)) (cmp_same x y h) ∙ cmp_same a b k)
+    by (inr (inl h)) (inr (inr k)) = cmp_more (with_place x a) (with_place y b) (omega arith) ∙ sym (ap (λ o. ordering_then o (nat_cmp a b)) (cmp_same x y h) ∙ cmp_more a b k)
+
+graph_cmp : (g h : Option ℕ) → nat_cmp (graph_key g) (graph_key h) ≡ option_cmp nat_cmp g h
+graph_cmp None None = cmp_same 0 0 refl
+graph_cmp None (Some m) = cmp_less 0 (m + 1) (omega arith)
+graph_cmp (Some n) None = cmp_more (n + 1) 0 (omega arith)
+graph_cmp (Some n) (Some m) = by (which n m)
+  where
+    by : (n < m) ⊎ ((n ≡ m) ⊎ (m < n)) → nat_cmp (n + 1) (m + 1) ≡ nat_cmp n m
+    by (inl h) = cmp_less (n + 1) (m + 1) (omega arith) ∙ sym (cmp_less n m h)
+    by (inr (inl h)) = cmp_same (n + 1) (m + 1) (omega arith) ∙ sym (cmp_same n m h)
+    by (inr (inr h)) = cmp_more (n + 1) (m + 1) (omega arith) ∙ sym (cmp_more n m h)
+
+places_cmp : (g h : Option ℕ) (a b c x y z : ℕ) → a < 2 ^ 32 → b < 2 ^ 32 → c < 2 ^ 32 → x < 2 ^ 32 → y < 2 ^ 32 → z < 2 ^ 32
+    → nat_cmp (key_of_places (graph_key g) a b c) (key_of_places (graph_key h) x y z)
+    ≡ ordering_then (ordering_then (ordering_then (option_cmp nat_cmp g h) (nat_cmp a x)) (nat_cmp b y)) (nat_cmp c z)
+places_cmp g h a b c x y z la lb lc lx ly lz =
+    place_cmp (with_place (with_place (graph_key g) a) b) (with_place (with_place (graph_key h) x) y) c z lc lz
+    ∙ ap (λ o. ordering_then o (nat_cmp c z))
+    (place_cmp (with_place (graph_key g) a) (with_place (graph_key h) x) b y lb ly
+    ∙ ap (λ o. ordering_then o (nat_cmp b y))
+    (place_cmp (graph_key g) (graph_key h) a x la lx ∙ ap (λ o. ordering_then o (nat_cmp a x)) (graph_cmp g h)))
+
+pub key_cmp : (order : SortOrder) (q r : NumQuad) → IsSmall q → IsSmall r → nat_cmp (key_of order q) (key_of order r) ≡ order_cmp order q r
+key_cmp Gspo q r k l = places_cmp q.g r.g q.s q.p q.o r.s r.p r.o k.s k.p k.o l.s l.p l.o
+key_cmp Gpos q r k l = places_cmp q.g r.g q.p q.o q.s r.p r.o r.s k.p k.o k.s l.p l.o l.s
+key_cmp Gosp q r k l = places_cmp q.g r.g q.o q.s q.p r.o r.s r.p k.o k.s k.p l.o l.s l.p
+
+-- ---- the quad of a key
+
+front_is : (x a : ℕ) → a < 2 ^ 32 → with_place x a / 2 ^ 32 ≡ x
+front_is x a h = div-mul-add x (2 ^ 32) a h
+
+place_is : (x a : ℕ) → a < 2 ^ 32 → with_place x a % 2 ^ 32 ≡ a
+place_is x a h = mod-mul-add x (2 ^ 32) a h
+
+graph_is : (g : Option ℕ) → graph_of (graph_key g) ≡ g
+graph_is None = refl
+graph_is (Some n) = let e : n + 1 ≡ suc n = omega arith in ap graph_of e
+
+places_are : (order : SortOrder) (g : Option ℕ) (a b c : ℕ) → a < 2 ^ 32 → b < 2 ^ 32 → c < 2 ^ 32
+    → quad_of order (key_of_places (graph_key g) a b c) ≡ quad_of_places order g a b c
+places_are order g a b c la lb lc =
+    let ga = with_place (graph_key g) a in
+    let gab = with_place ga b in
+    let key = with_place gab c in
+    let one : key / 2 ^ 32 ≡ gab = front_is gab c lc in
+    let two : key / 2 ^ 32 / 2 ^ 32 ≡ ga = ap (λ n. n / 2 ^ 32) one ∙ front_is ga b lb in
+    let three : key / 2 ^ 32 / 2 ^ 32 / 2 ^ 32 ≡ graph_key g = ap (λ n. n / 2 ^ 32) two ∙ front_is (graph_key g) a la in
+    let at_a : key / 2 ^ 32 / 2 ^ 32 % 2 ^ 32 ≡ a = ap (λ n. n % 2 ^ 32) two ∙ place_is (graph_key g) a la in
+    let at_b : key / 2 ^ 32 % 2 ^ 32 ≡ b = ap (λ n. n % 2 ^ 32) one ∙ place_is ga b lb in
+    let at_c : key % 2 ^ 32 ≡ c = place_is gab c lc in
+    let at_g : graph_of (key / 2 ^ 32 / 2 ^ 32 / 2 ^ 32) ≡ g = ap graph_of three ∙ graph_is g in
+    λ i. quad_of_places order (at_g i) (at_a i) (at_b i) (at_c i)
+
+pub quad_is : (order : SortOrder) (q : NumQuad) → IsSmall q → quad_of order (key_of order q) ≡ q
+quad_is Gspo q k = places_are Gspo q.g q.s q.p q.o k.s k.p k.o
+quad_is Gpos q k = places_are Gpos q.g q.p q.o q.s k.p k.o k.s
+quad_is Gosp q k = places_are Gosp q.g q.o q.s q.p k.o k.s k.p
+
+-- ---- lists of keys
+
+-- the key of a small quad
+abbrev pub IsKey : SortOrder → ℕ → Type 0
+IsKey order key = IsSmall (quad_of order key) × (key_of order (quad_of order key) ≡ key)
+
+are_keys : (order : SortOrder) (quads : List NumQuad) → All IsSmall quads → All (IsKey order) (map (key_of order) quads)
+are_keys order [] h = All-nil (IsKey order)
+are_keys order (q ∷ quads) h =
+    let small = All-head IsSmall q quads h in
+    let e = quad_is order q small in
+    All-cons (IsKey order) (key_of order q) (map (key_of order) quads) (subst IsSmall (sym e) small, ap (key_of order) e)
+    (are_keys order quads (All-tail IsSmall q quads h))
+
+quads_again : (order : SortOrder) (quads : List NumQuad) → All IsSmall quads → map (quad_of order) (map (key_of order) quads) ≡ quads
+quads_again order [] h = refl
+quads_again order (q ∷ quads) h = λ i. quad_is order q (All-head IsSmall q quads h) i ∷ quads_again order quads (All-tail IsSmall q quads h) i
+
+module _ (order : SortOrder) where
+  abbrev f : ℕ → NumQuad
+  f key = quad_of order key
+
+  keyed_cmp : (k l : ℕ) → IsKey order k → IsKey order l → order_cmp order (f k) (f l) ≡ nat_cmp k l
+  keyed_cmp k l a b = sym (key_cmp order (f k) (f l) a.0 b.0) ∙ (λ i. nat_cmp (a.1 i) (b.1 i))
+
+  keyed_eq : (k l : ℕ) → IsKey order k → IsKey order l → quad_eq (f k) (f l) ≡ nat_eq k l
+  keyed_eq k l a b = by (nat_eq k l) refl (quad_eq (f k) (f l)) refl
+    where
+      by : (x : Bool) → nat_eq k l ≡ x → (y : Bool) → quad_eq (f k) (f l) ≡ y → y ≡ x
+      by true e true h = refl
+      by false e false h = refl
+      by true e false h = sym h ∙ (quad_decides (f k) (f l)).1 (ap f (eqb-true k l e))
+      by false e true h =
+          let same : k ≡ l = sym a.1 ∙ ap (key_of order) ((quad_decides (f k) (f l)).0 h) ∙ b.1 in
+          absurd (true≢false (sym (eq-eqb k l same) ∙ e))
+
+  get_mapped : (ks : List ℕ) (i : ℕ) (d : NumQuad) → i < length ks → get_or (map f ks) i d ≡ f (get_or ks i 0)
+  get_mapped [] i d low = absurd (omega arith)
+  get_mapped (k ∷ ks) zero d low = refl
+  get_mapped (k ∷ ks) (suc i) d low = get_mapped ks i d (omega arith)
+
+  sorted_mapped : (ks : List ℕ) → All (IsKey order) ks → IsSorted nat_cmp ks → IsSorted (order_cmp order) (map f ks)
+  sorted_mapped ks all h i d low high =
+      let n = length-map ks f in
+      let here : i < length ks = omega (arith, n) in
+      let next : i + 1 < length ks = omega (arith, n) in
+      ap is_lt ((λ j. order_cmp order (get_mapped ks (i + 1) d next j) (get_mapped ks i d here j))
+      ∙ keyed_cmp (get_or ks (i + 1) 0) (get_or ks i 0) (all (i + 1) 0 next) (all i 0 here))
+      ∙ h i 0 low next
+
+  dedup_from-mapped : (k : ℕ) (ks : List ℕ) → IsKey order k → All (IsKey order) ks → map f (dedup_from nat_eq k ks) ≡ dedup_from quad_eq (f k) (map f ks)
+  dedup_from-mapped k [] a all = refl
+  dedup_from-mapped k (l ∷ ks) a all =
+      let b = All-head (IsKey order) l ks all in
+      let rest = All-tail (IsKey order) l ks all in
+      by (nat_eq l k) refl (keyed_eq l k b a) (dedup_from-mapped k ks a rest) (dedup_from-mapped l ks b rest)
+    where
+      by : (x : Bool) → nat_eq l k ≡ x → quad_eq (f l) (f k) ≡ nat_eq l k
+          → map f (dedup_from nat_eq k ks) ≡ dedup_from quad_eq (f k) (map f ks) → map f (dedup_from nat_eq l ks) ≡ dedup_from quad_eq (f l) (map f ks)
+          → map f (cond x (dedup_from nat_eq k ks) (k ∷ dedup_from nat_eq l ks)) ≡ cond (quad_eq (f l) (f k)) (dedup_from quad_eq (f k) (map f ks)) (f k ∷ dedup_from quad_eq (f l) (map f ks))
+      by true e same stay go = stay ∙ ap (λ y. cond y (dedup_from quad_eq (f k) (map f ks)) (f k ∷ dedup_from quad_eq (f l) (map f ks))) (sym (same ∙ e))
+      by false e same stay go = ap (λ qs. f k ∷ qs) go ∙ ap (λ y. cond y (dedup_from quad_eq (f k) (map f ks)) (f k ∷ dedup_from quad_eq (f l) (map f ks))) (sym (same ∙ e))
+
+  dedup-mapped : (ks : List ℕ) → All (IsKey order) ks → map f (dedup nat_eq ks) ≡ dedup quad_eq (map f ks)
+  dedup-mapped [] all = refl
+  dedup-mapped (k ∷ ks) all = dedup_from-mapped k ks (All-head (IsKey order) k ks all) (All-tail (IsKey order) k ks all)
+
+  -- what comes of sorting the keys
+  pub record IsPackedList (quads list : List NumQuad) : Type 0 where
+    pub sorted : IsSorted (order_cmp order) list
+    pub each_once : IsPermutation (without_repeats quad_eq quads) list
+    pub distinct : IsWithoutRepeats quad_eq list
+
+  packed : (quads xs list : List NumQuad) → list ≡ dedup quad_eq xs → IsPermutation quads xs → IsSorted (order_cmp order) xs → IsPackedList quads list
+  packed quads xs list is moved sorted = record {
+    sorted = subst (IsSorted (order_cmp order)) (sym is) (dedup_sorted quad_eq quad_decides (order_cmp order) (order_total order) (order_ties order) xs sorted);
+    each_once = subst (IsPermutation (without_repeats quad_eq quads)) (sym is)
+        (dedup_once_of quad_eq quad_decides (order_cmp order) (order_total order) (order_ties order) quads xs moved sorted);
+    distinct = subst (IsWithoutRepeats quad_eq) (sym is) (dedup_distinct quad_eq quad_decides (order_cmp order) (order_total order) (order_ties order) xs sorted);
+  }
+
+  pub packed_list : (quads list : List NumQuad) (keys ks : List ℕ) → All IsSmall quads → keys ≡ map (key_of order) quads → IsPermutation keys ks → IsSorted nat_cmp ks
+      → list ≡ map f (dedup nat_eq ks) → IsPackedList quads list
+  packed_list quads list keys ks small keys_are moved sorted list_is =
+      let moved_keys : IsPermutation (map (key_of order) quads) ks = subst (λ l. IsPermutation l ks) keys_are moved in
+      let all : All (IsKey order) ks = All-permutation (IsKey order) (map (key_of order) quads) ks moved_keys (are_keys order quads small) in
+      packed quads (map f ks) list (list_is ∙ dedup-mapped ks all)
+      (subst (λ l. IsPermutation l (map f ks)) (quads_again order quads small) (IsPermutation-map f (map (key_of order) quads) ks moved_keys))
+      (sorted_mapped ks all sorted)
