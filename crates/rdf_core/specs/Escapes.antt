@@ -1,5 +1,5 @@
 -- How the characters of an IRI or a string may be written inside their delimiters, raw or as escapes
--- (RDF 1.1 N-Quads, grammar; SPARQL 1.1 Query Language, section 19.8). A text is a list of characters.
+-- (RDF 1.1 N-Quads, grammar; SPARQL 1.1 Query Language, sections 19.2, 19.7 and 19.8). A text is a list of characters.
 use Rattle.std.specs.Prelude.{◌≡◌, ◌≢◌, ℕ, true, ◌⊎◌, List, [], ◌∷◌, ◌++◌, length, Some}
 use Rattle.std.specs.Char.{IsScalar}
 use Rattle.std.specs.Str.{encode_utf8_all}
