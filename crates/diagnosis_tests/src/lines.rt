@@ -18,8 +18,9 @@ pub(crate) fn message(
     }
 }
 
-/// A subject is an IRI or a blank node.
-const SUBJECTS: &str = r##"
+/// What may come where: a subject is an IRI or a blank node, a predicate an IRI, an object an IRI, a blank node or a
+/// literal. A graph name or the dot follows an object, the dot a graph name, and a comment the dot.
+const PLACES: &str = r##"
 "x" <a:p> <a:o> .
 spq: line 1, column 1: a subject must be an IRI or a blank node, found a literal
 "x" <a:p> <a:o> .
@@ -58,15 +59,7 @@ spq: line 1, column 1: expected a subject (an IRI or a blank node), found '('
 (<a:s>) <a:p> <a:o> .
 ^
 hint: this looks like Turtle; N-Quads has no prefixes and no abbreviations: write each term in full
-"##;
 
-#[test]
-fn subjects_are_explained(rt: HostRuntime) {
-    assert!(rt; are_right(&rt, rt.alloc(), Reader::Line { number: 1, is_cut: false }, SUBJECTS));
-}
-
-/// A predicate is an IRI.
-const PREDICATES: &str = r##"
 <a:s> "x" <a:o> .
 spq: line 1, column 7: a predicate must be an IRI, found a literal
 <a:s> "x" <a:o> .
@@ -117,15 +110,7 @@ spq: line 1, column 6: expected a predicate (an IRI), found U+00A0
 spq: line 1, column 6: expected a predicate (an IRI), found U+000C
 <a:s>␌<a:p> <a:o> .
      ^
-"##;
 
-#[test]
-fn predicates_are_explained(rt: HostRuntime) {
-    assert!(rt; are_right(&rt, rt.alloc(), Reader::Line { number: 1, is_cut: false }, PREDICATES));
-}
-
-/// An object is an IRI, a blank node or a literal.
-const OBJECTS: &str = r##"
 <a:s> <a:p> .
 spq: line 1, column 13: missing object: expected an IRI, a blank node or a literal, found '.'
 <a:s> <a:p> .
@@ -176,15 +161,7 @@ spq: line 1, column 13: expected an object (an IRI, a blank node or a literal), 
 <a:s> <a:p> 'x' .
             ^
 hint: write a literal in double quotes
-"##;
 
-#[test]
-fn objects_are_explained(rt: HostRuntime) {
-    assert!(rt; are_right(&rt, rt.alloc(), Reader::Line { number: 1, is_cut: false }, OBJECTS));
-}
-
-/// A graph name or the dot follows an object, the dot a graph name, and a comment the dot.
-const ENDS: &str = r##"
 <a:s> <a:p> <a:o>
 spq: line 1, column 18: missing '.' at the end of the statement
 <a:s> <a:p> <a:o>
@@ -286,8 +263,18 @@ spq: line 1, column 20: text after the '.' that ends the statement: found '.'
 "##;
 
 #[test]
-fn ends_of_statements_are_explained(rt: HostRuntime) {
-    assert!(rt; are_right(&rt, rt.alloc(), Reader::Line { number: 1, is_cut: false }, ENDS));
+fn places_of_terms_are_explained(rt: HostRuntime) {
+    assert!(rt;
+        are_right(
+            &rt,
+            rt.alloc(),
+            Reader::Line {
+                number: 1,
+                is_cut: false
+            },
+            PLACES
+        )
+    );
 }
 
 /// IRIs in angle brackets, each with a scheme. The place in an escape is its first digit after which no allowed
@@ -410,10 +397,20 @@ hint: this looks like XML; spq reads N-Quads
 
 #[test]
 fn iris_are_explained(rt: HostRuntime) {
-    assert!(rt; are_right(&rt, rt.alloc(), Reader::Line { number: 1, is_cut: false }, IRIS));
+    assert!(rt;
+        are_right(
+            &rt,
+            rt.alloc(),
+            Reader::Line {
+                number: 1,
+                is_cut: false
+            },
+            IRIS
+        )
+    );
 }
 
-/// Strings, language tags and datatypes.
+/// Strings, language tags, datatypes, and blank node labels.
 const LITERALS: &str = r##"
 <a:s> <a:p> "abc
 spq: line 1, column 17: the literal is not closed: expected '"', found the end of the line
@@ -536,15 +533,7 @@ spq: line 1, column 20: expected ':' after '_', found 'U'
 <a:s> <a:p> "x"@en_US .
                    ^
 hint: a language tag has hyphens, as in @en-US
-"##;
 
-#[test]
-fn literals_are_explained(rt: HostRuntime) {
-    assert!(rt; are_right(&rt, rt.alloc(), Reader::Line { number: 1, is_cut: false }, LITERALS));
-}
-
-/// Blank node labels. A dot may be inside a label, and not at its end.
-const LABELS: &str = r##"
 _ <a:p> <a:o> .
 spq: line 1, column 2: expected ':' after '_', found a space
 _ <a:p> <a:o> .
@@ -587,11 +576,22 @@ spq: line 1, column 18: a blank node label must not end with '.'
 "##;
 
 #[test]
-fn labels_are_explained(rt: HostRuntime) {
-    assert!(rt; are_right(&rt, rt.alloc(), Reader::Line { number: 1, is_cut: false }, LABELS));
+fn literals_and_labels_are_explained(rt: HostRuntime) {
+    assert!(rt;
+        are_right(
+            &rt,
+            rt.alloc(),
+            Reader::Line {
+                number: 1,
+                is_cut: false
+            },
+            LITERALS
+        )
+    );
 }
 
-/// Lines that are not UTF-8, or that show what the file is. Their columns count bytes if they are not UTF-8.
+/// Lines that are not UTF-8, or that show what the file is, and line ends inside a line. Columns count bytes if the
+/// line is not UTF-8.
 const BYTES: &str = r##"
 <a:s> <a:p> "caf‹E9›" .
 spq: line 1, byte 17: invalid UTF-8: byte 0xE9
@@ -675,15 +675,7 @@ spq: line 1, column 1: expected a subject (an IRI or a blank node), found '['
 [ "a", 1 ]
 ^
 hint: this looks like JSON or TriG; spq reads N-Quads
-"##;
 
-#[test]
-fn bytes_are_explained(rt: HostRuntime) {
-    assert!(rt; are_right(&rt, rt.alloc(), Reader::Line { number: 1, is_cut: false }, BYTES));
-}
-
-/// Line ends inside a line.
-const BREAKS: &str = r##"
 <a:s> <a:p> "x‹0A›y" .
 spq: line 1, column 15: a line break inside a line
 <a:s> <a:p> "x␊y" .
@@ -703,26 +695,21 @@ spq: line 1, column 4: a line break inside a line
 spq: line 1, column 4: a line break inside a line
 # a␊b
    ^
-
-<a:s>‹0D›<a:p> <a:o> .
-spq: line 1, column 6: a line break inside a line
-<a:s>␍<a:p> <a:o> .
-     ^
-
-<a:s> <a:p> <a:o> .‹0D›
-spq: line 1, column 20: a line break inside a line
-<a:s> <a:p> <a:o> .␍
-                   ^
-
-<a:s> <a:p> <a:o> .‹0A›<a:s> <a:p> <a:o> .
-spq: line 1, column 20: a line break inside a line
-<a:s> <a:p> <a:o> .␊<a:s> <a:p> <a:o> .
-                   ^
 "##;
 
 #[test]
-fn line_breaks_are_explained(rt: HostRuntime) {
-    assert!(rt; are_right(&rt, rt.alloc(), Reader::Line { number: 1, is_cut: false }, BREAKS));
+fn bytes_are_explained(rt: HostRuntime) {
+    assert!(rt;
+        are_right(
+            &rt,
+            rt.alloc(),
+            Reader::Line {
+                number: 1,
+                is_cut: false
+            },
+            BYTES
+        )
+    );
 }
 
 /// The last line of a document without a line end may be truncated.
@@ -777,7 +764,17 @@ hint: this looks like Turtle; N-Quads has no prefixes and no abbreviations: writ
 
 #[test]
 fn the_last_line_may_be_truncated(rt: HostRuntime) {
-    assert!(rt; are_right(&rt, rt.alloc(), Reader::Line { number: 1, is_cut: true }, LAST));
+    assert!(rt;
+        are_right(
+            &rt,
+            rt.alloc(),
+            Reader::Line {
+                number: 1,
+                is_cut: true
+            },
+            LAST
+        )
+    );
 }
 
 /// A long line is cut to 80 columns round the place.
@@ -813,7 +810,17 @@ hint: write a line break inside a literal as \n
 
 #[test]
 fn long_lines_are_cut(rt: HostRuntime) {
-    assert!(rt; are_right(&rt, rt.alloc(), Reader::Line { number: 69, is_cut: false }, CUT));
+    assert!(rt;
+        are_right(
+            &rt,
+            rt.alloc(),
+            Reader::Line {
+                number: 69,
+                is_cut: false
+            },
+            CUT
+        )
+    );
 }
 
 /// Well-formed lines have no message.
@@ -851,5 +858,15 @@ no diagnosis
 
 #[test]
 fn well_formed_lines_have_no_message(rt: HostRuntime) {
-    assert!(rt; are_right(&rt, rt.alloc(), Reader::Line { number: 1, is_cut: false }, WELL_FORMED));
+    assert!(rt;
+        are_right(
+            &rt,
+            rt.alloc(),
+            Reader::Line {
+                number: 1,
+                is_cut: false
+            },
+            WELL_FORMED
+        )
+    );
 }

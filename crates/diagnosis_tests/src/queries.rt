@@ -112,7 +112,7 @@ fn heads_and_modifiers_are_explained(rt: HostRuntime) {
     assert!(rt; are_right(&rt, rt.alloc(), Reader::Query, HEADS));
 }
 
-/// Groups and triples. Columns count from the beginning of their line.
+/// Groups and triples, strings and escapes. Columns count from the beginning of their line.
 const GROUPS: &str = r##"
 SELECT * {
 spq: query, line 1, column 11: expected a term (an IRI, a prefixed name, a variable, a blank node or a literal), '{', '}' or a pattern (such as OPTIONAL or FILTER), found the end of the query
@@ -233,6 +233,36 @@ SELECT *‹0D›{ ?s ?p ?o }‹0D›‹09›}
 spq: query, line 3, column 2: expected LIMIT, OFFSET or the end of the query, found '}'
 ␉}
  ^
+
+SELECT * { ?s ?p "abc }
+spq: query, line 1, column 18: the string that begins here is not closed
+SELECT * { ?s ?p "abc }
+                 ^
+
+SELECT * { ?s ?p '''abc' }
+spq: query, line 1, column 20: expected a language tag, '^^', '{', '}', '.', ';', ',' or a pattern (such as OPTIONAL or FILTER), found ''abc''
+SELECT * { ?s ?p '''abc' }
+                   ^
+
+SELECT * { ?s ?p "a‹0A›b" }
+spq: query, line 1, column 18: the string that begins here is not closed
+SELECT * { ?s ?p "a
+                 ^
+
+SELECT * { ?s ?p 'C:\dir' }
+spq: query, line 1, column 18: the string that begins here has an unknown escape
+SELECT * { ?s ?p 'C:\dir' }
+                 ^
+
+SELECT * { ?s ?p "\uD800" }
+spq: query, line 1, column 18: an escape here is for no character, or for one that is not allowed in an IRI
+SELECT * { ?s ?p "\uD800" }
+                 ^
+
+SELECT * { ?s <a:\u0020> ?o }
+spq: query, line 1, column 15: an escape here is for no character, or for one that is not allowed in an IRI
+SELECT * { ?s <a:\u0020> ?o }
+              ^
 "##;
 
 #[test]
@@ -240,7 +270,7 @@ fn groups_are_explained(rt: HostRuntime) {
     assert!(rt; are_right(&rt, rt.alloc(), Reader::Query, GROUPS));
 }
 
-/// Expressions in FILTER and BIND.
+/// Expressions in FILTER and BIND, and VALUES, whose rows have one value for each variable (section 10.2).
 const EXPRESSIONS: &str = r##"
 SELECT * { FILTER(?x ?y) }
 spq: query, line 1, column 22: expected an operator (such as '=' or '&&') or ')', found '?y'
@@ -331,15 +361,7 @@ SELECT * { BIND(1 AS ?x , 2) }
 spq: query, line 1, column 25: expected ')', found ','
 SELECT * { BIND(1 AS ?x , 2) }
                         ^
-"##;
 
-#[test]
-fn expressions_are_explained(rt: HostRuntime) {
-    assert!(rt; are_right(&rt, rt.alloc(), Reader::Query, EXPRESSIONS));
-}
-
-/// VALUES, whose rows have one value for each variable (section 10.2).
-const VALUES: &str = r##"
 SELECT * { VALUES { } }
 spq: query, line 1, column 19: expected a variable or '(', found '{'
 SELECT * { VALUES { } }
@@ -397,50 +419,14 @@ SELECT * { VALUES (?x) { () } }
 "##;
 
 #[test]
-fn tables_are_explained(rt: HostRuntime) {
-    assert!(rt; are_right(&rt, rt.alloc(), Reader::Query, VALUES));
+fn expressions_and_values_are_explained(rt: HostRuntime) {
+    assert!(rt; are_right(&rt, rt.alloc(), Reader::Query, EXPRESSIONS));
 }
 
-/// Strings and escapes.
-const STRINGS: &str = r##"
-SELECT * { ?s ?p "abc }
-spq: query, line 1, column 18: the string that begins here is not closed
-SELECT * { ?s ?p "abc }
-                 ^
-
-SELECT * { ?s ?p '''abc' }
-spq: query, line 1, column 20: expected a language tag, '^^', '{', '}', '.', ';', ',' or a pattern (such as OPTIONAL or FILTER), found ''abc''
-SELECT * { ?s ?p '''abc' }
-                   ^
-
-SELECT * { ?s ?p "a‹0A›b" }
-spq: query, line 1, column 18: the string that begins here is not closed
-SELECT * { ?s ?p "a
-                 ^
-
-SELECT * { ?s ?p 'C:\dir' }
-spq: query, line 1, column 18: the string that begins here has an unknown escape
-SELECT * { ?s ?p 'C:\dir' }
-                 ^
-
-SELECT * { ?s ?p "\uD800" }
-spq: query, line 1, column 18: an escape here is for no character, or for one that is not allowed in an IRI
-SELECT * { ?s ?p "\uD800" }
-                 ^
-
-SELECT * { ?s <a:\u0020> ?o }
-spq: query, line 1, column 15: an escape here is for no character, or for one that is not allowed in an IRI
-SELECT * { ?s <a:\u0020> ?o }
-              ^
-"##;
-
-#[test]
-fn strings_are_explained(rt: HostRuntime) {
-    assert!(rt; are_right(&rt, rt.alloc(), Reader::Query, STRINGS));
-}
-
-/// Prefixes need a declaration (section 4.1.1), and IRIs a scheme.
-const NAMES: &str = r##"
+/// Prefixes need a declaration (section 4.1.1), and IRIs a scheme. BIND is to a variable that the group does not bind
+/// (sections 10.1 and 18.2.1). A blank node label is in one basic graph pattern (section 5.1.1). At most 100 brackets
+/// may be open; a line is cut to 80 columns round the place.
+const RULES: &str = r##"
 SELECT * { ?s e:p ?o }
 spq: query, line 1, column 15: the prefix 'e:' is not declared
 SELECT * { ?s e:p ?o }
@@ -476,15 +462,7 @@ spq: query, line 1, column 11: the IRI '<e>' is relative: it has no scheme
 PREFIX e: <e> SELECT * { ?s e:p ?o }
           ^
 hint: there is no BASE: write the whole IRI, as <http://example.org/name>
-"##;
 
-#[test]
-fn names_are_explained(rt: HostRuntime) {
-    assert!(rt; are_right(&rt, rt.alloc(), Reader::Query, NAMES));
-}
-
-/// BIND to a variable that the group already binds (sections 10.1 and 18.2.1).
-const SCOPES: &str = r##"
 SELECT * { ?s ?p ?o BIND(1 AS ?o) }
 spq: query, line 1, column 31: BIND to '?o', which the group already binds at line 1, column 18
 SELECT * { ?s ?p ?o BIND(1 AS ?o) }
@@ -532,15 +510,7 @@ spq: query, line 3, column 13: BIND to '?o', which the group already binds at li
   BIND(1 AS ?o)
             ^
 hint: write another variable after AS
-"##;
 
-#[test]
-fn clashes_of_variables_are_explained(rt: HostRuntime) {
-    assert!(rt; are_right(&rt, rt.alloc(), Reader::Query, SCOPES));
-}
-
-/// A blank node label in two basic graph patterns (section 5.1.1).
-const BLANK_LABELS: &str = r##"
 SELECT * { _:a ?p ?o { _:a ?q ?r } }
 spq: query, line 1, column 24: the blank node label '_:a' is in another basic graph pattern too, at line 1, column 12
 SELECT * { _:a ?p ?o { _:a ?q ?r } }
@@ -576,15 +546,7 @@ spq: query, line 3, column 11: the blank node label '_:a' is in another basic gr
   MINUS { _:a ?q ?r }
           ^
 hint: write a variable in place of the label
-"##;
 
-#[test]
-fn clashes_of_labels_are_explained(rt: HostRuntime) {
-    assert!(rt; are_right(&rt, rt.alloc(), Reader::Query, BLANK_LABELS));
-}
-
-/// At most 100 brackets may be open. A line is cut to 80 columns round the place.
-const DEPTH: &str = r##"
 SELECT * {{{{{{{{{{{{{{{{{{{{{{{{{{{{{{{{{{{{{{{{{{{{{{{{{{{{{{{{{{{{{{{{{{{{{{{{{{{{{{{{{{{{{{{{{{{{{{{{{{{{{
 spq: query, line 1, column 110: brackets are nested over 100 deep at '{'
 …{{{{{{{{{{{{{{{{{{{{{{{{{{{{{{{{{{{{{{{{{{{{{{{{{{{{{{{{{{{{{{{{{{{{{{{{{{{{{{
@@ -597,8 +559,8 @@ spq: query, line 1, column 117: brackets are nested over 100 deep at '('
 "##;
 
 #[test]
-fn depth_is_explained(rt: HostRuntime) {
-    assert!(rt; are_right(&rt, rt.alloc(), Reader::Query, DEPTH));
+fn rules_after_the_grammar_are_explained(rt: HostRuntime) {
+    assert!(rt; are_right(&rt, rt.alloc(), Reader::Query, RULES));
 }
 
 /// Features that are left out, each with a hint.
