@@ -26,8 +26,10 @@ def connected(scheduler: Optional[str], processes: Optional[int]) -> Iterator[Cl
     """
     scheduler = scheduler or dask.config.get("scheduler-address", None)
     if not scheduler:
-        with LocalCluster(n_workers=processes, threads_per_worker=1) as cluster, Client(cluster) as client:
-            yield client
+        # On one machine compression takes longer than what it saves.
+        with dask.config.set({"distributed.comm.compression": None}):
+            with LocalCluster(n_workers=processes, threads_per_worker=1) as cluster, Client(cluster) as client:
+                yield client
         return
     try:
         client = Client(scheduler)
