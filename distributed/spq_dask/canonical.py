@@ -18,22 +18,23 @@ XSD_STRING = "http://www.w3.org/2001/XMLSchema#string"
 PIECE = 1 << 16  # bytes of the lines that are matched at a time; larger ones are slower
 
 
-def _statement(label: bytes) -> bytes:
-    """Returns the pattern of a canonical statement, with this pattern of blank node labels.
+def _statement(label: bytes, tag: bytes) -> bytes:
+    """Returns the pattern of a canonical statement, with these patterns of blank node labels and language tags.
 
-    Single spaces separate the terms, the datatype xsd:string is left out, language tags are in lower case, and in
-    literals only the quote, the backslash, LF and CR are escaped. The pattern captures the graph name.
+    Single spaces separate the terms, the datatype xsd:string is left out, and in literals only the quote, the
+    backslash, LF and CR are escaped. The pattern captures the graph name.
     """
     iri = rb"<[^>]*>"
     node = b"(?:" + iri + b"|_:" + label + b")"
     datatype = rb"\^\^(?!<" + re.escape(XSD_STRING.encode()) + b">)" + iri
-    literal = rb'"[^"\\]*(?:\\["\\nr][^"\\]*)*"(?:@[a-z0-9-]+|' + datatype + b")?"
+    literal = rb'"[^"\\]*(?:\\["\\nr][^"\\]*)*"(?:@' + tag + b"|" + datatype + b")?"
     return node + b" " + iri + b" (?:" + node + b"|" + literal + b") (?:(" + node + rb") )?\."
 
 
 # Each line of a text, if it is not empty: either a plain line and its graph name, or another line.
-LINES = re.compile(b"^(?:(" + _statement(rb"[A-Za-z0-9_-]+") + b")|(.+))$", re.MULTILINE)
-CANONICAL = re.compile(_statement(rb"[^ ]+"))
+LINES = re.compile(b"^(?:(" + _statement(rb"[A-Za-z0-9_-]+", rb"[a-z0-9-]+") + b")|(.+))$", re.MULTILINE)
+CAPITALS = re.compile(_statement(rb"[A-Za-z0-9_-]+", rb"(?P<tag>[A-Za-z0-9-]+)"))
+CANONICAL = re.compile(_statement(rb"[^ ]+", rb"[a-z0-9-]+"))
 
 
 def canonical_quads(spq: Spq, text: bytes) -> tuple[list[bytes], set[bytes]]:
@@ -56,10 +57,26 @@ def canonical_quads(spq: Spq, text: bytes) -> tuple[list[bytes], set[bytes]]:
         quads += filter(None, plain)
         names.update(graphs)
         others += filter(None, rest)
-    for line, name in _printed_by_spq(spq, b"\n".join(others)):
+    for line, name in _canonical(spq, others):
         quads.append(line)
         names.add(name)
     return quads, {name for name in names if name}
+
+
+def _canonical(spq: Spq, lines: list[bytes]) -> Iterator[tuple[bytes, Optional[bytes]]]:
+    """Yields the canonical line and the graph name of each quad of well-formed lines.
+
+    Language tags are put in lower case here, since capitals in them are usual. `spq` prints all other lines.
+    """
+    rest = []
+    for line in lines:
+        match = CAPITALS.fullmatch(line)
+        if match and match["tag"] and b"\\" not in line:
+            start, end = match.span("tag")
+            yield line[:start] + line[start:end].lower() + line[end:], match[match.re.groups]
+        else:
+            rest.append(line)
+    yield from _printed_by_spq(spq, b"\n".join(rest))
 
 
 def _printed_by_spq(spq: Spq, text: bytes) -> Iterator[tuple[bytes, Optional[bytes]]]:

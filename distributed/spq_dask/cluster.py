@@ -2,6 +2,7 @@
 from __future__ import annotations
 
 import contextlib
+import logging
 import os
 import sys
 import tempfile
@@ -26,8 +27,11 @@ def connected(scheduler: Optional[str], processes: Optional[int]) -> Iterator[Cl
     """
     scheduler = scheduler or dask.config.get("scheduler-address", None)
     if not scheduler:
-        with LocalCluster(n_workers=processes, threads_per_worker=1) as cluster, Client(cluster) as client:
-            yield client
+        options = {"n_workers": processes, "threads_per_worker": 1, "silence_logs": logging.CRITICAL}
+        # On one machine compression takes longer than what it saves.
+        with dask.config.set({"distributed.comm.compression": None}):
+            with LocalCluster(**options) as cluster, Client(cluster) as client:
+                yield client
         return
     try:
         client = Client(scheduler)

@@ -57,16 +57,19 @@ def check(run: Run, sources: list[Source], spq: Spq) -> bytes:
     whose hashes occur again are compared as text.
     """
     texts = [block for source in sources for block in source.blocks]
-    blocks = run.start([delayed(examine)(text, spq, len(texts)) for text in texts])
+    blocks = [delayed(examine)(text, spq, len(texts)) for text in texts]
+    # The worker that has a block takes its items out at once; later another worker might fetch the whole block.
+    started = run.start(blocks + [delayed(attrgetter("items"))(block) for block in blocks])
+    blocks, items = started[: len(texts)], started[len(texts) :]
     run.checked(sources, [delayed(attrgetter("checked"))(block) for block in blocks])
     if not blocks:
         return b"ok 0 quads 0 terms 0 graphs\n"
-    partitions = run.start(shuffle.shuffled([delayed(attrgetter("items"))(block) for block in blocks], count))
+    partitions = run.start(shuffle.shuffled(items, count))
     totals = run.results([delayed(summary)(partition) for partition in partitions])
     terms, names, quads, repeated = (sum(column) for column in zip(*totals))
     if repeated:
-        lists = [delayed(attrgetter("repeated"))(partition) for partition in partitions]
-        again = [delayed(repeated_quads)(block, lists) for block in blocks]
+        hashes = delayed(numpy.concatenate)([delayed(attrgetter("repeated"))(partition) for partition in partitions])
+        again = [delayed(repeated_quads)(block, hashes, len(blocks)) for block in blocks]
         quads += sum(run.results(shuffle.shuffled(again, shuffle.distinct)))
     return f"ok {quads} quads {terms} terms {names} graphs\n".encode()
 
@@ -113,11 +116,11 @@ def summary(counts: Counts) -> tuple[int, int, int, int]:
     return counts.terms, counts.names, counts.single, len(counts.repeated)
 
 
-def repeated_quads(block: CountedBlock, repeated: list[numpy.ndarray]) -> list[shuffle.Item]:
+def repeated_quads(block: CountedBlock, repeated: numpy.ndarray, partitions: int) -> list[shuffle.Item]:
     """Returns the quads of a block whose hashes are repeated, by partitions."""
-    places = numpy.flatnonzero(numpy.isin(block.hashes, numpy.concatenate(repeated)))
+    places = numpy.flatnonzero(numpy.isin(block.hashes, repeated))
     quads = block.quads.split(b"\n")
-    return list(enumerate(shuffle.texts_by_partition([quads[place] for place in places], len(repeated))))
+    return list(enumerate(shuffle.texts_by_partition([quads[place] for place in places], partitions)))
 
 
 @dataclass(frozen=True)
@@ -132,11 +135,13 @@ class ListedBlock:
 def terms(run: Run, sources: list[Source], spq: Spq) -> Iterator[bytes]:
     """Yields what `spq terms` prints for the whole, block by block. Raises `Failed` if it is malformed."""
     texts = [block for source in sources for block in source.blocks]
-    blocks = run.start([delayed(list_terms)(text, spq, number, len(texts)) for number, text in enumerate(texts)])
+    blocks = [delayed(list_terms)(text, spq, number, len(texts)) for number, text in enumerate(texts)]
+    started = run.start(blocks + [delayed(attrgetter("items"))(block) for block in blocks])
+    blocks, items = started[: len(texts)], started[len(texts) :]
     run.checked(sources, [delayed(attrgetter("checked"))(block) for block in blocks])
     if not blocks:
         return
-    partitions = run.start(shuffle.shuffled([delayed(attrgetter("items"))(block) for block in blocks], find_later))
+    partitions = run.start(shuffle.shuffled(items, find_later))
     run.results([delayed(bool)(partition) for partition in partitions])
     news = [
         delayed(new_terms)(block, [delayed(methodcaller("get", number))(partition) for partition in partitions])

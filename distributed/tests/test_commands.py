@@ -42,6 +42,7 @@ class Catalogue(unittest.TestCase):
         for words, status, said in [
             (["check", "--scheduler", testing.ADDRESS, "--blocksize", "2KiB", CATALOGUE], 0, b"ok 64 quads 74 terms 3 graphs\n"),
             (["check", "--processes", "2", "--blocksize", "4KiB", CATALOGUE], 0, b"ok 64 quads 74 terms 3 graphs\n"),
+            (["check", "--processes", "1", "--quiet", file(b"\n\n\nx\n")], 1, b"error: line 4\n"),
             (["select", "--scheduler", testing.ADDRESS, "--query", query, "--split", "graph", CATALOGUE], 0, None),
             (["terms", "--scheduler", testing.ADDRESS, "missing.nq"], 5, b"error: input\n"),
             (["check", "--blocksize", "many", CATALOGUE], 3, b"error: command line\n"),
@@ -53,6 +54,9 @@ class Catalogue(unittest.TestCase):
             with self.subTest(words=words):
                 self.assertEqual((ran.returncode, ran.stdout), (status, said), ran.stderr)
                 self.assertEqual(b"100% Completed" in ran.stderr, status == 0)
+                if "--quiet" in words:
+                    self.assertEqual(ran.stderr, b"")
+                self.assertNotIn(b"Traceback", ran.stderr)
 
     def test_page(self):
         """The commands of docs/PARTS.md that run spq-dask print what the page shows."""
@@ -70,6 +74,10 @@ class Catalogue(unittest.TestCase):
         link = testing.CLIENT.dashboard_link.removesuffix("/status")
         with urllib.request.urlopen(link + "/health") as answer:
             self.assertEqual(answer.read(), b"ok")
+        with urllib.request.urlopen(link + "/info/main/workers.html") as answer:
+            page = answer.read().decode()
+        for address in testing.workers():
+            self.assertIn(address, page)
 
 
 class Forms(unittest.TestCase):
