@@ -5,14 +5,12 @@
 
 PROGRAM is the program (crates/spq/out/spq where none is given). A case is a command line, a standard input, and
 what has to come. Standard output is a pipe in most cases, so standard error first has its line again; the cases
-`at a terminal` run in a terminal. The rows of docs/DIAGNOSTICS.md are tried too: each example has to give the
-place and the reason that its row says, and each hint has an example here.
+`at a terminal` run in a terminal. (tests/tour.py runs the examples of docs/DIAGNOSTICS.md.)
 Python 3 standard library, and cc for two cases that stand in for calls of the C library.
 """
 import argparse
 import os
 import pty
-import re
 import resource
 import select
 import subprocess
@@ -173,39 +171,6 @@ def silent():
     yield Case("a query", ["select", "--query", "SELECT ?o { ?s ?p ?o }"], STATEMENT * 5, 0, None, "")
 
 
-def unmarked(cell):
-    """A cell of a table of a page: `text` as text, and a bar as it is."""
-    cell = cell.strip().replace("\\|", "|")
-    return cell[1:-1] if cell.startswith("`") and cell.endswith("`") else cell.replace("`", "").replace("\\\\", "\\")
-
-
-def tables(page):
-    """The rows of the tables of docs/DIAGNOSTICS.md, by the heading above."""
-    heading, found = "", []
-    for line in page.split("\n"):
-        if line.startswith("#"):
-            heading = line.strip("# ")
-        elif line.startswith("|") and not line.startswith("|--"):
-            found.append((heading, [unmarked(cell) for cell in re.split(r"(?<!\\)\|", line)[1:-1]]))
-    return found
-
-
-def of_the_page(page):
-    """Each row of a table of malformed lines and of rejected queries."""
-    status = ""
-    for heading, row in tables(page):
-        if heading == "Malformed lines" and len(row) == 3 and row[1].isdigit():
-            yield failed(f"page: {row[0]}", ["check"], row[0].encode() + b"\n", 1, "error: line 1", None,
-                         has=f"\nspq: line 1, column {row[1]}: {row[2]}\n")
-        if heading == "Rejected queries" and len(row) == 4 and row[2].isdigit():
-            status = row[0] or status
-            yield query(f"page: {row[1]}", row[1], status, None)
-            last = f"\nspq: query, line 1, column {row[2]}: {row[3]}\n"
-            case = query(f"page: {row[1]}", row[1], status, None)
-            case.how["has"] = last
-            yield case
-
-
 class Runner:
     def __init__(self, program, room):
         self.program, self.room = os.path.abspath(program), room
@@ -279,11 +244,6 @@ class Runner:
         return process.wait(), shown.decode(errors="replace")
 
 
-def optional(said):
-    """A message without the repeated line has to be somewhere behind it."""
-    return said
-
-
 def terminal_cases(runner):
     notice = "spq: N-Quads is read from the terminal; end it with Ctrl-D\n"
     yield "a check", runner.at_a_terminal(["check"], STATEMENT + b"\x04"), (0, notice + "ok 1 quads 3 terms 0 graphs\n")
@@ -300,12 +260,10 @@ def main():
     given = words.parse_args()
     if not os.path.exists(given.program):
         sys.exit(f"no program at {given.program}: build it first (see README)")
-    with open(os.path.join(ROOT, "docs", "DIAGNOSTICS.md")) as source:
-        page = source.read()
     count = bad = 0
     with tempfile.TemporaryDirectory() as room:
         runner = Runner(given.program, room)
-        for kind in (lines, queries, command_lines, devices, memory, warnings, silent, lambda: of_the_page(page)):
+        for kind in (lines, queries, command_lines, devices, memory, warnings, silent):
             for case in kind():
                 if given.only not in case.name:
                     continue

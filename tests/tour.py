@@ -5,17 +5,24 @@
 
 PROGRAM is the program (crates/spq/out/spq where none is given). The commands are those of the blocks
 that begin with ```console in README.md and docs: a line `$ COMMAND`, which lines `> REST` continue, and
-below it what it prints. The commands of a page run in one shell, in a folder with the files of docs/tour
-and with the program on the PATH as `spq`. They need jq, gzip, xz, zstd, pv, GNU parallel and serdi. `--write` puts what was
-printed into the pages. Python 3 standard library only.
+below it what it prints at a terminal, on standard output and on standard error. The commands of a page run in
+one shell, in a folder with the files of docs/tour and with the program on the PATH as `spq`. They need jq, gzip, xz, zstd, pv,
+GNU parallel and serdi. `--write` puts what was printed into the pages.
+
+The examples in the tables of docs/DIAGNOSTICS.md are run too: each line or query has to give the column and the
+reason that its row says. Python 3 standard library only.
 """
 import argparse
 import glob
 import os
+import pty
+import re
 import shutil
 import subprocess
 import sys
 import tempfile
+import threading
+import tty
 
 HERE = os.path.dirname(os.path.abspath(__file__))
 ROOT = os.path.dirname(HERE)
@@ -42,6 +49,71 @@ def commands(lines):
     return found
 
 
+def at_a_terminal(command, script, place, words):
+    """What a terminal shows of a command that reads this script."""
+    leader, follower = pty.openpty()
+    tty.setraw(follower)
+    process = subprocess.Popen(command, stdin=subprocess.PIPE, stdout=follower, stderr=follower, cwd=place, env=words)
+    os.close(follower)
+
+    def give():
+        process.stdin.write(script)
+        process.stdin.close()
+    giver = threading.Thread(target=give)
+    giver.start()
+    shown = b""
+    while True:
+        try:
+            part = os.read(leader, 65536)
+        except OSError:
+            break
+        if not part:
+            break
+        shown += part
+    giver.join()
+    process.wait(timeout=600)
+    os.close(leader)
+    return shown
+
+
+def cell_text(cell):
+    """The text of a cell of a table: without its backquotes, and with a bar for an escaped one."""
+    cell = cell.strip().replace("\\|", "|")
+    if cell.startswith("`") and cell.endswith("`"):
+        return cell[1:-1]
+    return cell.replace("`", "").replace("\\\\", "\\")
+
+
+def examples(page):
+    """The rows with a column in the tables of malformed lines and of rejected queries: the words, the document,
+    and what standard error has to begin with, without its first line."""
+    heading = ""
+    for line in page.split("\n"):
+        if line.startswith("#"):
+            heading = line.strip("# ")
+        if not line.startswith("|"):
+            continue
+        row = [cell_text(cell) for cell in re.split(r"(?<!\\)\|", line)[1:-1]]
+        if heading == "Malformed lines" and len(row) == 3 and row[1].isdigit():
+            yield ["check"], row[0] + "\n", f"spq: line 1, column {row[1]}: {row[2]}\n"
+        elif heading == "Rejected queries" and len(row) == 4 and row[2].isdigit():
+            yield ["select", "--query", row[1]], "", f"spq: query, line 1, column {row[2]}: {row[3]}\n"
+
+
+def wrong_examples(page, spq):
+    """How many examples of docs/DIAGNOSTICS.md say something else, which is printed."""
+    count = wrong = 0
+    for words, document, expected in examples(page):
+        ran = subprocess.run([spq, *words], input=document.encode(), capture_output=True)
+        said = ran.stderr.decode(errors="replace").split("\n", 1)[-1]
+        count += 1
+        if not said.startswith(expected):
+            wrong += 1
+            print(f"docs/DIAGNOSTICS.md: {words} {document!r}\n  says:  {said!r}\n  shown: {expected!r}")
+    print(f"docs/DIAGNOSTICS.md: {count - wrong} of {count} examples say what is shown")
+    return wrong
+
+
 def run(page, found, spq):
     """Runs the commands of a page in one shell and notes what each printed."""
     with tempfile.TemporaryDirectory() as room:
@@ -49,11 +121,13 @@ def run(page, found, spq):
         shutil.copytree(os.path.join(ROOT, "docs", "tour"), place)
         os.mkdir(os.path.join(room, "bin"))
         os.symlink(spq, os.path.join(room, "bin", "spq"))
-        script = "".join(f"echo '{MARK}'\n{command.text}\n" for command in found)
+        os.makedirs(os.path.join(room, ".parallel"))
+        open(os.path.join(room, ".parallel", "will-cite"), "w").close()
+        script = 'jq() { command jq -M "$@"; }\n'
+        script += "".join(f"echo '{MARK}'\n{command.text}\n" for command in found)
         words = dict(os.environ, PATH=os.path.join(room, "bin") + os.pathsep + os.environ["PATH"], HOME=room)
-        ran = subprocess.run(["bash"], input=script.encode(), stdout=subprocess.PIPE, stderr=subprocess.STDOUT,
-                             cwd=place, env=words, timeout=600)
-    parts = ran.stdout.decode(errors="replace").split(MARK + "\n")[1:]
+        shown = at_a_terminal(["bash"], script.encode(), place, words)
+    parts = shown.decode(errors="replace").split(MARK + "\n")[1:]
     if len(parts) != len(found):
         sys.exit(f"{page}: {len(parts)} of {len(found)} commands ran")
     for command, printed in zip(found, parts):
@@ -78,7 +152,8 @@ def main():
     given = words.parse_args()
     if not os.path.exists(given.program):
         sys.exit(f"no program at {given.program}: build it first (see README)")
-    failed = 0
+    with open(os.path.join(ROOT, "docs", "DIAGNOSTICS.md")) as source:
+        failed = wrong_examples(source.read(), os.path.abspath(given.program))
     for path in [os.path.join(ROOT, "README.md"), *sorted(glob.glob(os.path.join(ROOT, "docs", "*.md")))]:
         page = os.path.relpath(path, ROOT)
         with open(path) as source:

@@ -8,6 +8,7 @@ use std::io;
 use std::time::{Clock, Duration};
 
 /// A clock that goes on by 600 milliseconds at each look.
+#[derive(Drop)]
 struct Steps {
     looks: Cell<u64>,
 }

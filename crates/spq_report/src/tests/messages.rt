@@ -77,11 +77,11 @@ spq|terms|--piece|1
 --
 <http://e/a> <http://e/p> <http://e/b> .
 
-a
-b
+.
+x
 --
-spq: line 3, column 1: expected a subject (an IRI or a blank node), found 'a'
-a
+spq: line 3, column 1: expected a subject (an IRI or a blank node), found '.'
+.
 ^
 ====
 spq|select|--query|SELECT * { ?s e:p ?o }
