@@ -1,14 +1,18 @@
 #!/usr/bin/env python3
-"""Checks docs/API.md and docs/MUTANTS.md against the sources, and the mutants themselves.
+"""Checks API.md, CONTRACTS.md, MUTANTS.md and THEOREM.md in docs against the sources, and the mutants themselves.
 
     pages.py            compares, prints one line for each difference, and exits with 1 if there is one
-    pages.py --write    rewrites the generated parts of the two pages first
+    pages.py --write    rewrites the generated parts of the pages first
 
 It proves nothing and needs only Python 3. Besides the generated parts it checks:
 
 - each mutant can be applied: every `old:` text is in its file once;
 - the gate has at most 80 mutants;
-- the mutants and tests that docs/MUTANTS.md names exist.
+- the mutants and tests that docs/MUTANTS.md names exist;
+- docs/THEOREM.md explains each line that it quotes;
+- the calls and clauses that docs/CONTRACTS.md names exist;
+- the options, statuses and keywords of docs/USAGE.md, from which docs/spq.1 is generated;
+- docs/architecture.svg, which tests/diagram.py draws, shows every crate of the program.
 """
 import argparse
 import difflib
@@ -18,6 +22,10 @@ import re
 import sys
 
 sys.dont_write_bytecode = True
+import contracts
+import diagram
+import theorem
+import usage
 from sources import GHOST_MEMBER, ROOT, crates, mutants, sources_of
 
 MOST_IN_THE_GATE = 80
@@ -395,13 +403,38 @@ def mutants_part():
     return lines
 
 
-PARTS = {"missing": missing_part, "calls": calls_part, "counts": counts_part, "mutants": mutants_part}
-PAGES = ["docs/API.md", "docs/MUTANTS.md"]
+PARTS = {"missing": missing_part, "calls": calls_part, "counts": counts_part, "mutants": mutants_part, **theorem.PARTS}
+PAGES = ["docs/API.md", contracts.PAGE, "docs/MUTANTS.md", theorem.PAGE]
 
 
-def generated(page):
+def generated(path, page):
     """Returns the text of a page with its generated parts as the sources have them."""
+    if path == contracts.PAGE:
+        return contracts.rewritten(page, contract_of)[0]
     return PART.sub(lambda part: part[1] + "\n" + "\n".join(PARTS[part[2]]()) + part[3], page)
+
+
+def tests_calling(crate, call):
+    """Returns the tests that call a function, the one that reaches the fewest functions first."""
+    found = []
+    for tests, names in callers(crate, call).items():
+        found += [(len(functions), f"{tests}::{name}") for name, functions in tests_of(tests) if name in names]
+    return [name for _, name in sorted(found)]
+
+
+@functools.lru_cache(maxsize=None)
+def contract_of(crate, path):
+    """Returns the clauses of a public function with the definitions that each cites, its tests and its mutants, or None."""
+    if crate not in crates():
+        return None
+    for source in code_of(crate):
+        for it in source.functions:
+            if it.path == path and it.is_public:
+                clauses = {name or kind: cited(source, it, text) for kind, name, text in it.clauses if kind == "ensures"}
+                changing = [mutant for mutant in mutants() if mutant.crate == crate and any(own_helpers(crate).get(name, name) == path for name in mutant.names())]
+                changing.sort(key=lambda mutant: (not mutant.in_gate, mutant.name))
+                return clauses, tests_calling(crate, it), [f"{crate}/{mutant.name}" for mutant in changing]
+    return None
 
 
 def read(path):
@@ -411,7 +444,7 @@ def read(path):
 
 def page_faults(path):
     """Returns a line for each place where a page differs from the sources."""
-    is_now, must_be = read(path).split("\n"), generated(read(path)).split("\n")
+    is_now, must_be = read(path).split("\n"), generated(path, read(path)).split("\n")
     faults = []
     for kind, start, end, new_start, new_end in difflib.SequenceMatcher(None, is_now, must_be, autojunk=False).get_opcodes():
         if kind != "equal":
@@ -437,15 +470,27 @@ def name_faults():
     return faults + [f"docs/MUTANTS.md: there is no test {it}" for it in re.findall(r"`(\w+_tests::\w+)`", page) if it not in tests]
 
 
+def diagram_faults():
+    """Returns a line for each crate that the diagram does not show, and one if it is not drawn anew. Test crates are not shown."""
+    drawn = set(re.findall(r"\w+", diagram.svg()))
+    faults = [f"tests/diagram.py: the crate {it} is missing" for it in crates() if it not in drawn and it not in INNER - {"spq"}]
+    return faults if read(diagram.DIAGRAM) == diagram.svg() else faults + [f"{diagram.DIAGRAM}: is not what tests/diagram.py draws"]
+
+
 def main():
     words = argparse.ArgumentParser(description=__doc__.partition("\n")[0])
     words.add_argument("--write", action="store_true", help="rewrite the generated parts of the pages first")
     if words.parse_args().write:
         for path in PAGES:
-            page = generated(read(path))
+            page = generated(path, read(path))
             with open(f"{ROOT}/{path}", "w", encoding="utf-8") as file:
                 file.write(page)
-    faults = mutant_faults() + name_faults() + [it for path in PAGES for it in page_faults(path)]
+        for path, text in {usage.MAN: usage.man_page(), diagram.DIAGRAM: diagram.svg()}.items():
+            with open(f"{ROOT}/{path}", "w", encoding="utf-8") as file:
+                file.write(text)
+    faults = mutant_faults() + name_faults() + theorem.faults(PART.sub("", read(theorem.PAGE)))
+    faults += contracts.rewritten(read(contracts.PAGE), contract_of)[1] + usage.faults() + diagram_faults()
+    faults += [it for path in PAGES for it in page_faults(path)]
     for it in faults:
         print(it)
     if faults:

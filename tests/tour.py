@@ -6,7 +6,7 @@
 PROGRAM is the program (crates/spq/out/spq where none is given). The commands are those of the blocks
 that begin with ```console in README.md and docs: a line `$ COMMAND`, which lines `> REST` continue, and
 below it what it prints. The commands of a page run in one shell, in a folder with the files of docs/tour
-and with the program on the PATH as `spq`. They want jq, gzip, GNU parallel and serdi. `--write` puts what was
+and with the program on the PATH as `spq`. They need jq, gzip, xz, zstd, pv, GNU parallel and serdi. `--write` puts what was
 printed into the pages. Python 3 standard library only.
 """
 import argparse

@@ -1,0 +1,54 @@
+# Commands for contributors: `just` lists them. CONTRIBUTING.md explains them.
+
+# list the commands
+default:
+    @just --list
+
+# prove one crate, or with a second word one function of it
+check crate function='':
+    cd crates/{{crate}} && rt check {{ if function == '' { '' } else { '--only ' + function } }}
+
+# run the tests of a crate without a proof
+try crate:
+    cd crates/{{crate}} && rt try --test
+
+# prove and run the tests of a crate
+test crate:
+    cd crates/{{crate}} && rt test
+
+# format one crate
+fmt crate:
+    cd crates/{{crate}} && rt fmt
+
+# check the mutants of a crate: those of the gate, then the others
+mutants crate:
+    rt must-fail {{crate}}
+    tests/wrong_bodies.py {{crate}}
+
+# regenerate and check the pages
+pages:
+    tests/pages.py --write
+    tests/words.py
+
+# run every command and query that the pages show, with the built program
+tour program='crates/spq/out/spq':
+    tests/tour.py {{program}}
+    tests/usage.py {{program}}
+
+# the whole gate
+gate:
+    .ci/run
+
+# the tests that the gate leaves out, with the built program
+extra:
+    tests/hostile.py --size 5
+    tests/refusals.sh
+    tests/parts.py
+
+# compare loading with other programs
+bench quads='100000':
+    bench/compare.py --tables loading --quads {{quads}}
+
+# prove, build and install spq
+install folder='~/.local/bin':
+    ./install {{folder}}

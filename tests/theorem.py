@@ -1,0 +1,190 @@
+"""The quotes and lists of docs/THEOREM.md, and the check that the page explains each quoted line.
+
+A quote is generated. The explanations are rows of tables that a person writes: the first cell of a row is a line of
+a quote. A quoted line without a row, and a row whose line is in no quote, is reported.
+"""
+import functools
+import os
+import re
+
+from sources import ROOT, sources_of
+
+PAGE = "docs/THEOREM.md"
+OUTCOME = "crates/spq_core/specs/Outcome.antt"
+# The two calls of the theorem.
+CALLS = {"answer": "src/answering.rt", "run_words": "src/words.rt"}
+USE = re.compile(r"^use Rattle\.([\w.'-]+?)(?:\.\{[^}]*\}| as \w+)?$", re.M)
+ROW = re.compile(r"^\| `(.+?)` \| (.+) \|$", re.M)
+
+
+def read(path):
+    with open(f"{ROOT}/{path}", encoding="utf-8") as file:
+        return file.read()
+
+
+# The quotes.
+
+
+@functools.lru_cache(maxsize=None)
+def call(name):
+    """Returns the file and the function of a call of the theorem."""
+    source = sources_of("spq_core")[CALLS[name]]
+    return source, next(it for it in source.functions if it.path == name and it.is_public)
+
+
+def contract(name):
+    """Returns the signature and the clauses of a call, as they are in the source."""
+    source, function = call(name)
+    return source.text[function.start : function.body[0]].rstrip().split("\n")
+
+
+def quote(name):
+    source, _ = call(name)
+    return [f"From [crates/spq_core/{source.path}](../crates/spq_core/{source.path}):", "", "```rust", *contract(name), "```", ""]
+
+
+def outcome_part():
+    return [f"From [{OUTCOME}](../{OUTCOME}):", "", "```text", *read(OUTCOME).rstrip("\n").split("\n"), "```", ""]
+
+
+def logical_lines(lines, deepest):
+    """Joins each line with the lines after it that are indented by more than `deepest`. Leaves out comments and imports."""
+    found = []
+    for line in lines:
+        text = line.strip()
+        if not text or text.startswith(("--", "use ", "//")):
+            continue
+        if found and (len(line) - len(line.lstrip()) > deepest):
+            found[-1] += " " + text
+        else:
+            found.append(text)
+    return found
+
+
+def explained_lines():
+    """Returns the lines that the page has to explain."""
+    found = []
+    for name in CALLS:
+        found += logical_lines(contract(name), 4)
+    return found + logical_lines(read(OUTCOME).split("\n"), 2)
+
+
+# The definition files.
+
+
+@functools.lru_cache(maxsize=None)
+def file_of(module):
+    """Returns the definition file of a module path, or None."""
+    crate, _, rest = module.partition(".specs.")
+    parts = rest.split(".")
+    for count in range(len(parts), 0, -1):
+        path = f"crates/{crate}/specs/{'/'.join(parts[:count])}.antt"
+        if os.path.isfile(f"{ROOT}/{path}"):
+            return path
+    return None
+
+
+@functools.lru_cache(maxsize=None)
+def cited_by(path):
+    """Returns the definition files whose names a definition file imports."""
+    return sorted({file_of(it) for it in USE.findall(read(path))} - {None})
+
+
+def cited_by_call(name):
+    """Returns the definition files that the clauses of a call cite."""
+    source, function = call(name)
+    clauses = " ".join(text for _, _, text in function.clauses)
+    modules = source.definitions_at(function)
+    named = [module for it, module in modules.items() if re.search(rf"(?<![\w.'◌]){re.escape(it)}(?![\w'])", clauses)]
+    return {file_of(it) for it in named} - {None}
+
+
+def all_below(paths):
+    """Returns these definition files and all that they depend on."""
+    found, left = set(), list(paths)
+    while left:
+        path = left.pop()
+        if path not in found:
+            found.add(path)
+            left += cited_by(path)
+    return found
+
+
+@functools.lru_cache(maxsize=None)
+def height(path):
+    return 1 + max((height(it) for it in cited_by(path)), default=0)
+
+
+def count_lines(path):
+    return len(read(path).splitlines())
+
+
+def about(path):
+    """Returns the first sentence of the comment that opens a file."""
+    comment = []
+    for line in read(path).split("\n"):
+        if not line.startswith("--"):
+            break
+        comment.append(line[2:].strip())
+    sentence = re.split(r"(?<=[^.]\.)\s", " ".join(comment), maxsplit=1)[0]
+    return sentence.replace("|", "\\|")
+
+
+def crate_of(path):
+    return path.split("/")[1]
+
+
+def layers(paths):
+    """Returns the layer of each crate of some definition files. A crate is above those whose files its own files cite."""
+    below = {}
+    for path in paths:
+        below.setdefault(crate_of(path), set()).update(crate_of(it) for it in cited_by(path))
+
+    @functools.lru_cache(maxsize=None)
+    def layer(crate):
+        return 1 + max((layer(it) for it in below.get(crate, set()) - {crate} if it in below), default=0)
+
+    return {crate: layer(crate) for crate in below}
+
+
+def table_of(paths):
+    layer = layers(paths)
+    lines = ["| layer | definition file | lines | opens with |", "|---|---|---|---|"]
+    for path in sorted(paths, key=lambda it: (layer[crate_of(it)], crate_of(it), height(it), it)):
+        name = os.path.basename(path).removesuffix(".antt")
+        lines.append(f"| {layer[crate_of(path)]} | [{crate_of(path)}/{name}](../{path}) | {count_lines(path)} | {about(path)} |")
+    return lines
+
+
+def total(paths):
+    return f"{len(paths)} files, {sum(map(count_lines, paths)):,} lines."
+
+
+def answer_files_part():
+    paths = all_below(cited_by_call("answer"))
+    return [total(paths), "", *table_of(paths), ""]
+
+
+def run_files_part():
+    paths = all_below(cited_by_call("run_words")) - all_below(cited_by_call("answer"))
+    return [total(paths), "", *table_of(paths), ""]
+
+
+PARTS = {
+    "answer": lambda: quote("answer"),
+    "run_words": lambda: quote("run_words"),
+    "outcome": outcome_part,
+    "answer_files": answer_files_part,
+    "run_files": run_files_part,
+}
+
+
+def faults(hand_written):
+    """Returns a line for each quoted line that the page does not explain, and for each explanation of no quoted line.
+
+    `hand_written` is the page without its generated parts.
+    """
+    rows = [it[0] for it in ROW.findall(hand_written)]
+    lines = explained_lines()
+    found = [f"{PAGE}: no row explains the line `{it}`" for it in lines if it not in rows]
+    return found + [f"{PAGE}: the row for `{it}` explains no quoted line" for it in rows if it not in lines]

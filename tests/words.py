@@ -1,0 +1,141 @@
+#!/usr/bin/env python3
+"""Finds words of a private vocabulary in pages and comments, where a standard term or plain English belongs.
+
+    words.py                counts them by file, and exits with 1 if a file of CLEAN has one
+    words.py --list [PART]  prints path, line and word of each, in the files with PART in their path
+    words.py --words        counts them by word
+
+It reads the pages (README.md, docs, bench and other *.md), the comments and the documentation in crates/*/src, and the
+comments in crates/*/specs. It passes over code (code blocks and code spans), text in quotation marks, links, and the
+generated parts of pages. Names with an underscore are no words.
+"""
+import argparse
+import fnmatch
+import glob
+import os
+import re
+import sys
+
+ROOT = os.path.dirname(os.path.dirname(os.path.abspath(__file__)))
+# The files that have none of these words. The script fails if one appears there.
+CLEAN = [
+    "CHANGELOG.md", "CONTRIBUTING.md", "bench/*.md", "docs/COMPARISON.md", "docs/CONTRACTS.md", "docs/COST.md", "docs/DECISIONS.md", "docs/DEFINITIONS.md",
+    "docs/RECIPES.md", "docs/THEOREM.md", "docs/USAGE.md", "docs/decisions/*.md", "docs/definitions/*.md",
+]
+# Each private word, as a regular expression, and what to write.
+WORDS = [
+    (r"growths? (?:is|was|were|are) refused|refused growths?|wants? of memory|lack of memory", "an allocation fails; out of memory"),
+    (r"refus(?:e|es|ed|ing|als?)", "reject; fail; on error"),
+    (r"bad lines?|bad ones?", "malformed line"),
+    (r"spell(?:s|ed|ings?)?", "N-Quads form; the line holds a statement, or is blank or a comment"),
+    (r"answers|answered|answering", "return; evaluate to; result"),
+    (r"behind", "after; following"),
+    (r"beside", "next to; compared with; in addition to"),
+    (r"stands?|stood|standing", "is; is in; occurs; appears"),
+    (r"tells?|told|telling", "expose; report"),
+    (r"lent|lends?|lending", "borrow"),
+    (r"(?:take|takes|taken|taking|took) in(?= |\.|,|;|$)", "add; merge"),
+    (r"ask(?:s|ed|ing)? for|wants?|wanted", "require; need"),
+    (r"(?:go|goes|went|going) by", "use; is implemented with"),
+    (r"(?:hang|hangs|hung|hanging) on", "depend on"),
+    (r"never comes?|comes? of|came of", "cannot occur; result of"),
+    (r"by (?:one |all |\w+ )?workers?(?! thread)", "with one worker; in parallel"),
+    (r"judg(?:e|es|ed|ing)", "check; validate"),
+    (r"wrong bod(?:y|ies)", "mutant"),
+    (r"outcomes?", "result"),
+    (r"so many|such an?|each that", "rewrite"),
+    (r"(?:lie|lies|lay|lying) (?:in|side|behind|beside|where|there)", "is in"),
+    (r"our own|\(own\)|of our own", "a choice of this project (not fixed by the standard)"),
+    (r"of no (?:pieces?|rows?|length|width)", "empty"),
+    (r"reads? back", "round-trip"),
+    (r"dear|dearer|dearest|mends?|mended|blurs?|(?:is|be|are) felt", "cost; fix; add noise; noticeable"),
+]
+PATTERN = re.compile("|".join(rf"(?P<w{place}>(?<![\w-])(?:{word})(?![\w-]))" for place, (word, _) in enumerate(WORDS)), re.I)
+GENERATED = re.compile(r"<!-- generated: .*?<!-- end of the generated part -->", re.S)
+BLOCK, SPAN, QUOTE = re.compile(r"^```.*?^```", re.S | re.M), re.compile(r"``[^`]+``|`[^`]+`"), re.compile(r'"[^"\n]*"|“[^”]*”')
+LINK = re.compile(r"\[\w+(?:/|::)\w+\]\([^)\s]*\)|\]\([^)\s]*\)|https?://\S+")
+SOURCE_COMMENT = re.compile(r"""(?P<text>"(?:\\.|[^"\\])*"|(?:\bb|(?<![\w']))'(?:\\[^'\n]*'?|[^\\'\n])')|(?P<comment>//[^\n]*)""")
+SPEC_COMMENT = re.compile(r"(?P<text>\"(?:\\.|[^\"\\])*\")|(?P<comment>--[^\n]*)")
+
+
+def blanked(found):
+    return re.sub(r"[^\n]", " ", found[0])
+
+
+def prose_of_page(text):
+    """Returns a page with spaces in place of code, quotations, links and generated parts."""
+    for pattern in (GENERATED, BLOCK, SPAN, QUOTE, LINK):
+        text = pattern.sub(blanked, text)
+    return text
+
+
+def prose_of_source(text, pattern):
+    """Returns the comments of a source alone, each at its place, without code and quotations."""
+    made, last = [], 0
+    for found in pattern.finditer(text):
+        if found["comment"] is not None:
+            made += [re.sub(r"[^\n]", " ", text[last : found.start()]), found["comment"]]
+            last = found.end()
+    made.append(re.sub(r"[^\n]", " ", text[last:]))
+    return LINK.sub(blanked, QUOTE.sub(blanked, SPAN.sub(blanked, "".join(made))))
+
+
+def files():
+    """Returns the files to read, by path below the repository."""
+    found = ["*.md", "docs/*.md", "docs/*/*.md", "bench/*.md", "crates/*/src/**/*.rt", "crates/*/specs/**/*.antt"]
+    paths = {os.path.relpath(path, ROOT) for pattern in found for path in glob.glob(f"{ROOT}/{pattern}", recursive=True)}
+    return sorted(path for path in paths if not path.endswith("/Lib.antt"))
+
+
+def words_of(path):
+    """Returns the private words of a file, each with its line and what to write."""
+    with open(f"{ROOT}/{path}", encoding="utf-8") as file:
+        text = file.read()
+    if path.endswith(".md"):
+        prose = prose_of_page(text)
+    else:
+        prose = prose_of_source(text, SOURCE_COMMENT if path.endswith(".rt") else SPEC_COMMENT)
+    found = []
+    for it in PATTERN.finditer(prose):
+        place = int(it.lastgroup[1:])
+        found.append((prose.count("\n", 0, it.start()) + 1, it[0].lower(), WORDS[place][1]))
+    return found
+
+
+def is_clean(path):
+    return any(fnmatch.fnmatch(path, pattern) for pattern in CLEAN)
+
+
+def main():
+    words = argparse.ArgumentParser(description=__doc__.partition("\n")[0])
+    words.add_argument("--list", nargs="?", const="", metavar="PART", help="print path, line and word of each, in the files with PART in their path")
+    words.add_argument("--words", action="store_true", help="count them by word")
+    asked = words.parse_args()
+    found = {path: words_of(path) for path in files()}
+    if asked.list is not None:
+        for path, hits in found.items():
+            for line, word, instead in hits if asked.list in path else []:
+                print(f"{path}:{line}: {word} -> {instead}")
+    elif asked.words:
+        counts = {}
+        for hits in found.values():
+            for _, word, _ in hits:
+                counts[word] = counts.get(word, 0) + 1
+        for word, count in sorted(counts.items(), key=lambda it: -it[1]):
+            print(f"{count:6} {word}")
+    else:
+        for path, hits in found.items():
+            if hits:
+                print(f"{len(hits):6} {path}")
+        print(f"{sum(map(len, found.values())):6} in {sum(map(bool, found.values()))} of {len(found)} files")
+    wrong = [(path, *it) for path, hits in found.items() if is_clean(path) for it in hits]
+    if asked.list is None:
+        for path, line, word, instead in wrong:
+            print(f"{path}:{line}: {word} -> {instead}")
+    if wrong:
+        print(f"{len(wrong)} in files that must have none")
+    return 1 if wrong else 0
+
+
+if __name__ == "__main__":
+    sys.exit(main())
