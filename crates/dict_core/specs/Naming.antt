@@ -5,7 +5,7 @@ use Rattle.std.specs.List.{AllZip}
 use Rattle.indexmap.specs.IndexSet.{insert_key, insert_all}
 use Rattle.rdf_core.specs.declared.term.Term.{Term}
 use Rattle.rdf_core.specs.QuadParts.{QuadParts}
-use Rattle.rdf_core.proofs.TermLaws.{term_eq}
+use Rattle.rdf_core.specs.Equality.{term_eq}
 use Rattle.nquads_core.specs.Slices.{Denotes}
 use Rattle.nquads_core.specs.Splitting.{DenotesQuad, DenoteAll}
 use Rattle.nquads_core.specs.declared.slices.RawStatement.{RawStatement}

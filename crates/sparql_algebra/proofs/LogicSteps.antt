@@ -63,7 +63,7 @@ truth_of_result (Some false) = refl
 truth_of_result None = refl
 
 -- the value of IN
-pub member_value : (x : Expression) (es : List Expression) (μ : Solution Term)
+member_value : (x : Expression) (es : List Expression) (μ : Solution Term)
     → boolean_result (member_truth (val x μ) es μ) ≡ val (member x es) μ
 member_value x [] μ = refl
 member_value x (e ∷ es) μ =
@@ -71,6 +71,12 @@ member_value x (e ∷ es) μ =
     sym (truth_of_result (member_truth (val x μ) es μ)) ∙ ap truth_of (member_value x es μ) in
     let first = sym (truth_of_result (with_values (val x μ) (val e μ) (compares equal))) in
     ap boolean_result (λ i. logical_or (first i) (rest i))
+
+-- the value of IN, of a value and of expressions that are those of the whole
+pub in_value : (item : Option Term) (x whole : Expression) (es fs : List Expression) (μ : Solution Term)
+    → item ≡ val x μ → es ≡ fs → whole ≡ member x fs → boolean_result (member_truth item es μ) ≡ val whole μ
+in_value item x whole es fs μ p q is =
+    ap boolean_result (λ i. member_truth (p i) (q i) μ) ∙ member_value x fs μ ∙ sym (ap (λ e. val e μ) is)
 
 pub member_step : {A : Type 0} (f : A → Expression) (xs : List A) (i : ℕ) (d : A) (x : Option Term) (μ : Solution Term)
     (found equal_here all : Option Bool) → i < length xs → equal_here ≡ with_values x (val (f (get_or xs i d)) μ) (compares equal)

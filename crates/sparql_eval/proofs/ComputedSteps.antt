@@ -17,6 +17,7 @@ use Rattle.quad_index.specs.Matching.{graph_names}
 use Rattle.row_core.specs.RowList.{RowList}
 use Rattle.sparql_eval.specs.Computed.{InSomeGraph, IsComputed, IsValue, TakesOnly}
 use Rattle.sparql_eval.specs.Evaluated.{IsEvaluated, solutions_of}
+use Rattle.sparql_eval.specs.TreeSolutions.{Wanted}
 use Rattle.sparql_eval.proofs.EvaluateSteps.{active_kept, index_kept}
 use Rattle.sparql_eval.proofs.GraphSteps.{names_read}
 use Rattle.sparql_eval.proofs.TakingLaws.{takes_more, takes_none, takes_twice}
@@ -35,9 +36,6 @@ takes_two V V' W a b c f h k = takes_twice W a b c (takes_more V W a b (λ t v. 
 
 -- ---- what a tree computes, where the dictionary of the index grows
 
-abbrev pub Wanted : List Term → List NumQuad → ℕ → Option ℕ → Algebra → Term → Type 0
-Wanted terms D w g A = IsComputed w (quads_at terms D) (option_map (term_at terms) g) A
-
 module _ (terms now : List Term) (grown : IsGrown terms now) (D : List NumQuad) (below : AreBelow (length terms) D) (w : ℕ) (g : Option ℕ) (named : ForSome g (λ n. n < length terms)) where
   -- an expression computes the same terms through a dictionary that has grown
   pub wanted_kept : (A : Algebra) (later : List Term) → TakesOnly (Wanted now D w g A) now later → TakesOnly (Wanted terms D w g A) now later
@@ -46,21 +44,17 @@ module _ (terms now : List Term) (grown : IsGrown terms now) (D : List NumQuad) 
       (subst (λ Q. TakesOnly (IsComputed w Q (option_map (term_at now) g) A) now later) (index_kept terms now grown D below).1 h)
 
   -- two inputs, one after the other
-  pub takes_after_two : {E : Type 0} (A B whole joined : Algebra) → whole ≡ joined → ((t : Term) → Wanted terms D w g A t ⊎ Wanted terms D w g B t → Wanted terms D w g joined t) → (later : List Term)
-      → TakesOnly (Wanted terms D w g A) terms now → TakesOnly (Wanted now D w g B) now later → (r : Result (RowList × List Term) E) → IfOk r (λ x. x.1 ≡ later) → IfOk r (λ x. TakesOnly (Wanted terms D w g whole) terms x.1)
-  takes_after_two A B whole joined is f later h k r =
-      takes_still (Wanted terms D w g whole) terms later r
-      (subst (λ (X : Algebra). TakesOnly (Wanted terms D w g X) terms later) (sym is)
-      (takes_two (Wanted terms D w g A) (Wanted terms D w g B) (Wanted terms D w g joined) terms now later f h (wanted_kept B later k)))
+  pub takes_both : {E : Type 0} (r : Result (RowList × List Term) E) (A B whole joined : Algebra) → whole ≡ joined → ((t : Term) → Wanted terms D w g A t ⊎ Wanted terms D w g B t → Wanted terms D w g joined t)
+      → TakesOnly (Wanted terms D w g A) terms now → IfOk r (λ x. TakesOnly (Wanted now D w g B) now x.1) → IfOk r (λ x. TakesOnly (Wanted terms D w g whole) terms x.1)
+  takes_both r A B whole joined is f h k =
+      IfOk-weaker r (λ x. TakesOnly (Wanted now D w g B) now x.1) (λ x. TakesOnly (Wanted terms D w g whole) terms x.1)
+      (λ x m. subst (λ (X : Algebra). TakesOnly (Wanted terms D w g X) terms x.1) (sym is)
+      (takes_two (Wanted terms D w g A) (Wanted terms D w g B) (Wanted terms D w g joined) terms now x.1 f h (wanted_kept B x.1 m))) k
 
 module _ {E : Type 0} (terms : List Term) (D : List NumQuad) (w : ℕ) (g : Option ℕ) (r : Result (RowList × List Term) E) (whole made : Algebra) (is : whole ≡ made) where
   -- what the expression is made of computes the terms
   pub takes_as : IfOk r (λ x. TakesOnly (Wanted terms D w g made) terms x.1) → IfOk r (λ x. TakesOnly (Wanted terms D w g whole) terms x.1)
   takes_as h = subst (λ (X : Algebra). IfOk r (λ x. TakesOnly (Wanted terms D w g X) terms x.1)) (sym is) h
-
-  -- one input alone computes them
-  pub takes_after_one : (now : List Term) → TakesOnly (Wanted terms D w g made) terms now → IfOk r (λ x. x.1 ≡ now) → IfOk r (λ x. TakesOnly (Wanted terms D w g whole) terms x.1)
-  takes_after_one now h k = takes_as (takes_still (Wanted terms D w g made) terms now r h k)
 
 -- ---- Extend
 
@@ -69,15 +63,14 @@ values_wanted : (terms now : List Term) (w : ℕ) (A : List (Solution Term)) (ro
 values_wanted terms now w A rows h value t m = Contains-permutation (map value (solutions_of now rows)) (map value A) (Some t) (IsPermutation-map value (solutions_of now rows) A h.bag) m
 
 -- the terms of the input, and the values behind them
-pub takes_values : {E : Type 0} (terms : List Term) (D : List NumQuad) (w : ℕ) (g : Option ℕ) (r : Result (RowList × List Term) E) (v : ℕ) (e : Expression) (A whole : Algebra) → whole ≡ Extend v e A → (now : List Term) (rows : RowList)
+pub takes_values : {E : Type 0} (terms : List Term) (D : List NumQuad) (w : ℕ) (g : Option ℕ) (r : Result (RowList × List Term) E) (v : ℕ) (e : Expression) (A : Algebra) (now : List Term) (rows : RowList)
     → IsEvaluated terms w (eval w (quads_at terms D) (option_map (term_at terms) g) A) rows now → TakesOnly (Wanted terms D w g A) terms now
-    → IfOk r (λ x. TakesOnly (IsValue (val e) (solutions_of now rows)) now x.1) → IfOk r (λ x. TakesOnly (Wanted terms D w g whole) terms x.1)
-takes_values {E} terms D w g r v e A whole is now rows h before k =
+    → IfOk r (λ x. TakesOnly (IsValue (val e) (solutions_of now rows)) now x.1) → IfOk r (λ x. TakesOnly (Wanted terms D w g (Extend v e A)) terms x.1)
+takes_values {E} terms D w g r v e A now rows h before k =
     let S = eval w (quads_at terms D) (option_map (term_at terms) g) A in
-    takes_as terms D w g r whole (Extend v e A) is
-    (IfOk-weaker r (λ x. TakesOnly (IsValue (val e) (solutions_of now rows)) now x.1) (λ x. TakesOnly (Wanted terms D w g (Extend v e A)) terms x.1)
+    IfOk-weaker r (λ x. TakesOnly (IsValue (val e) (solutions_of now rows)) now x.1) (λ x. TakesOnly (Wanted terms D w g (Extend v e A)) terms x.1)
     (λ x m. takes_two (Wanted terms D w g A) (IsValue (val e) S) (Wanted terms D w g (Extend v e A)) terms now x.1 (λ t o. o) before
-    (takes_more (IsValue (val e) (solutions_of now rows)) (IsValue (val e) S) now x.1 (values_wanted terms now w S rows h (val e)) m)) k)
+    (takes_more (IsValue (val e) (solutions_of now rows)) (IsValue (val e) S) now x.1 (values_wanted terms now w S rows h (val e)) m)) k
 
 -- ---- Graph
 

@@ -4,7 +4,7 @@ use Rattle.std.specs.List.{list_all, All}
 use Rattle.std.specs.Option.{option_map, ForSome}
 use Rattle.std.proofs.lemmas.Bool.Decides.{Decides-ltb}
 use Rattle.std.proofs.lemmas.List.Sums.{AllPass-from_list_all}
-use Rattle.std.proofs.lemmas.List.Sorted.{IsPermutation-trans}
+use Rattle.std.proofs.lemmas.List.Sorted.{IsPermutation-refl, IsPermutation-trans}
 use Rattle.std.proofs.lemmas.Result.{IfOk-weaker}
 use Rattle.rdf_core.specs.declared.term.Term.{Term}
 use Rattle.rdf_core.proofs.TermLaws.{term_eq, term_decides}
@@ -24,7 +24,7 @@ use Rattle.sparql_algebra.specs.AlgebraOf.{algebra_of}
 use Rattle.sparql_algebra.specs.declared.operator.Operator.{Operator}
 use Rattle.sparql_eval.specs.Evaluated.{AreKnown, IsEvaluated, solutions_of}
 use Rattle.sparql_eval.specs.TreeSolutions.{tree_solutions}
-use Rattle.sparql_eval.proofs.ReadingLaws.{number_kept, rows_kept, grown_twice}
+use Rattle.sparql_eval.proofs.ReadingLaws.{grown_itself, number_kept, rows_kept, grown_twice}
 
 -- both inputs of an operator, evaluated one after the other
 pub record AreEvaluated
@@ -47,7 +47,7 @@ then_one t0 t1 t2 w w' F keeps A rows made h k = record {
   bag = IsPermutation-trans (solutions_of t2 made) (F (solutions_of t1 rows)) (F A) k.bag (keeps (solutions_of t1 rows) A h.bag);
 }
 
-pub both : (t0 t1 t2 : List Term) (w : ℕ) (A B : List (Solution Term)) (left right : RowList) → IsEvaluated t0 w A left t1 → IsEvaluated t1 w B right t2 → AreEvaluated t0 w A B left right t2
+both : (t0 t1 t2 : List Term) (w : ℕ) (A B : List (Solution Term)) (left right : RowList) → IsEvaluated t0 w A left t1 → IsEvaluated t1 w B right t2 → AreEvaluated t0 w A B left right t2
 both t0 t1 t2 w A B left right h k =
     let kept = rows_kept t1 t2 k.grown left.rows h.known in
     record {
@@ -84,27 +84,44 @@ module _ (terms terms' : List Term) (grown : IsGrown terms terms') where
   pub tree_kept : (D : List NumQuad) (w : ℕ) (g : Option ℕ) (tree : Operator) → AreBelow (length terms) D → ForSome g (λ n. n < length terms) → tree_solutions terms' D w g tree ≡ tree_solutions terms D w g tree
   tree_kept D w g tree below named = λ i. eval w ((index_kept D below).1 i) ((active_kept g named).1 i) (algebra_of tree)
 
-  pub still_evaluated : (D : List NumQuad) (w : ℕ) (g : Option ℕ) (tree : Operator) → AreBelow (length terms) D → ForSome g (λ n. n < length terms) → (made : RowList) (later : List Term)
-      → IsEvaluated terms' w (tree_solutions terms' D w g tree) made later → IsEvaluated terms' w (tree_solutions terms D w g tree) made later
-  still_evaluated D w g tree below named made later h = subst (λ A. IsEvaluated terms' w A made later) (tree_kept D w g tree below named) h
-
 -- ---- what is answered, where nothing is refused
 
-pub after_one : {E : Type 0} (t0 t1 : List Term) (w : ℕ) (r : Result (RowList × List Term) E) (F : List (Solution Term) → List (Solution Term)) → KeepsBags F → (A : List (Solution Term)) (rows : RowList)
-    → IsEvaluated t0 w A rows t1 → (whole : List (Solution Term)) → whole ≡ F A
-    → IfOk r (λ x. IsEvaluated t1 rows.width (F (solutions_of t1 rows)) x.0 x.1) → IfOk r (λ x. IsEvaluated t0 w whole x.0 x.1)
-after_one t0 t1 w r F keeps A rows h whole is k =
-    IfOk-weaker r (λ x. IsEvaluated t1 rows.width (F (solutions_of t1 rows)) x.0 x.1) (λ x. IsEvaluated t0 w whole x.0 x.1)
-    (λ x e. subst (λ (W : List (Solution Term)). IsEvaluated t0 w W x.0 x.1) (sym is)
-    (subst (λ (v : ℕ). IsEvaluated t0 v (F A) x.0 x.1) h.wide (then_one t0 t1 x.1 w rows.width F keeps A rows x.0 h e))) k
+pub as_whole : {E : Type 0} (t0 : List Term) (w : ℕ) (r : Result (RowList × List Term) E) (A whole : List (Solution Term)) → whole ≡ A → IfOk r (λ x. IsEvaluated t0 w A x.0 x.1) → IfOk r (λ x. IsEvaluated t0 w whole x.0 x.1)
+as_whole t0 w r A whole is k = subst (λ (W : List (Solution Term)). IfOk r (λ x. IsEvaluated t0 w W x.0 x.1)) (sym is) k
 
-pub after_two : {E : Type 0} (t0 t1 t2 : List Term) (w : ℕ) (r : Result (RowList × List Term) E) (F : List (Solution Term) → List (Solution Term) → List (Solution Term)) → KeepsBagsOfTwo F → (A B : List (Solution Term)) (left right : RowList)
-    → IsEvaluated t0 w A left t1 → IsEvaluated t1 w B right t2 → (whole : List (Solution Term)) → whole ≡ F A B
-    → IfOk r (λ x. IsEvaluated t2 left.width (F (solutions_of t2 left) (solutions_of t2 right)) x.0 x.1) → IfOk r (λ x. IsEvaluated t0 w whole x.0 x.1)
-after_two t0 t1 t2 w r F keeps A B left right h1 h2 whole is k =
-    let h = both t0 t1 t2 w A B left right h1 h2 in
-    IfOk-weaker r (λ x. IsEvaluated t2 left.width (F (solutions_of t2 left) (solutions_of t2 right)) x.0 x.1) (λ x. IsEvaluated t0 w whole x.0 x.1)
-    (λ x e. subst (λ (W : List (Solution Term)). IsEvaluated t0 w W x.0 x.1) (sym is) (then_two t0 t2 x.1 w left.width F keeps A B left right x.0 h h.wide_left e)) k
+pub after_one : {E : Type 0} (t0 t1 : List Term) (w : ℕ) (r : Result (RowList × List Term) E) (F : List (Solution Term) → List (Solution Term)) → KeepsBags F → (A : List (Solution Term)) (rows : RowList)
+    → IsEvaluated t0 w A rows t1
+    → IfOk r (λ x. IsEvaluated t1 rows.width (F (solutions_of t1 rows)) x.0 x.1) → IfOk r (λ x. IsEvaluated t0 w (F A) x.0 x.1)
+after_one t0 t1 w r F keeps A rows h k =
+    IfOk-weaker r (λ x. IsEvaluated t1 rows.width (F (solutions_of t1 rows)) x.0 x.1) (λ x. IsEvaluated t0 w (F A) x.0 x.1)
+    (λ x e. subst (λ (v : ℕ). IsEvaluated t0 v (F A) x.0 x.1) h.wide (then_one t0 t1 x.1 w rows.width F keeps A rows x.0 h e)) k
+
+after_two : {E : Type 0} (t0 t1 : List Term) (w : ℕ) (r : Result (RowList × List Term) E) (F : List (Solution Term) → List (Solution Term) → List (Solution Term)) → KeepsBagsOfTwo F → (A B : List (Solution Term)) (left right : RowList)
+    → AreEvaluated t0 w A B left right t1
+    → IfOk r (λ x. IsEvaluated t1 left.width (F (solutions_of t1 left) (solutions_of t1 right)) x.0 x.1) → IfOk r (λ x. IsEvaluated t0 w (F A B) x.0 x.1)
+after_two t0 t1 w r F keeps A B left right h k =
+    IfOk-weaker r (λ x. IsEvaluated t1 left.width (F (solutions_of t1 left) (solutions_of t1 right)) x.0 x.1) (λ x. IsEvaluated t0 w (F A B) x.0 x.1)
+    (λ x e. then_two t0 t1 x.1 w left.width F keeps A B left right x.0 h h.wide_left e) k
+
+-- rows are evaluated as what they stand for
+itself : (terms : List Term) (rows : RowList) → AreKnown terms rows → IsEvaluated terms rows.width (solutions_of terms rows) rows terms
+itself terms rows known = record { grown = grown_itself terms; wide = refl; known = known; bag = IsPermutation-refl (solutions_of terms rows) }
+
+-- the right input is evaluated behind rows on the left
+pub after_right : {E : Type 0} (t0 t1 : List Term) (w : ℕ) (r : Result (RowList × List Term) E) (F : List (Solution Term) → List (Solution Term) → List (Solution Term)) → KeepsBagsOfTwo F → (B : List (Solution Term)) (left right : RowList)
+    → left.width ≡ w → AreKnown t0 left → IsEvaluated t0 w B right t1
+    → IfOk r (λ x. IsEvaluated t1 left.width (F (solutions_of t1 left) (solutions_of t1 right)) x.0 x.1) → IfOk r (λ x. IsEvaluated t0 left.width (F (solutions_of t0 left) B) x.0 x.1)
+after_right t0 t1 w r F keeps B left right wide known h k =
+    after_two t0 t1 left.width r F keeps (solutions_of t0 left) B left right
+    (both t0 t0 t1 left.width (solutions_of t0 left) B left right (itself t0 left known) (subst (λ (v : ℕ). IsEvaluated t0 v B right t1) (sym wide) h)) k
+
+-- the left input is evaluated before the right one
+pub after_left : {E : Type 0} (t0 t1 : List Term) (w : ℕ) (r : Result (RowList × List Term) E) (F : List (Solution Term) → List (Solution Term) → List (Solution Term)) → KeepsBagsOfTwo F → (A B B' : List (Solution Term)) → B' ≡ B → (left : RowList)
+    → IsEvaluated t0 w A left t1
+    → IfOk r (λ x. IsEvaluated t1 left.width (F (solutions_of t1 left) B') x.0 x.1) → IfOk r (λ x. IsEvaluated t0 w (F A B) x.0 x.1)
+after_left t0 t1 w r F keeps A B B' is left h k =
+    after_one t0 t1 w r (λ X. F X B) (λ X Y p. keeps X Y B B p (IsPermutation-refl B)) A left h
+    (subst (λ (Z : List (Solution Term)). IfOk r (λ x. IsEvaluated t1 left.width (F (solutions_of t1 left) Z) x.0 x.1)) is k)
 
 -- ---- variables that have places
 

@@ -1,3 +1,4 @@
+pub mod AnswerSteps
 pub mod ReadingLaws
 pub mod TakingLaws
 mod ProjectSteps

@@ -7,6 +7,7 @@ ghost use Rattle.algebra_model.specs.Solution.{same_solution};
 ghost use Rattle.sparql_eval.specs.Evaluated.{AreKnown, IsEvaluated, solutions_of};
 ghost use Rattle.row_pieces.specs.declared.how.EvalFault.TheVariants.{Memory};
 
+use crate::answers::with_dict;
 use dict_core::Dict;
 use indexmap::IndexSet;
 use row_core::Rows;
@@ -34,16 +35,42 @@ pub fn distinct(
     ensures same_dict { IfOk result (λ r. r.1 ≡ dict) }
     ensures refused { IfErr result (λ fault. fault ≡ Memory) }
 {
+    let _distinct = dict.len();
+    let made = distinct_rows(alloc, state, rows);
+    with_dict(made, dict)
+}
+
+/// Each row once, at its first place.
+fn distinct_rows(alloc: Global, state: RandomState, rows: &Rows) -> Result<Rows, EvalFault>
+    ensures made { IfOk result (λ made. (made.width ≡ rows.now.width)
+        × (made.rows ≡ distinct nat_eq rows.now.rows)) }
+    ensures refused { IfErr result (λ fault. fault ≡ Memory) }
+{
     let mut seen = IndexSet::with_hasher(alloc, state);
+    match first_rows(alloc, &mut seen, rows) {
+        Ok(made) => Ok(made),
+        Err(_) => Err(EvalFault::Memory),
+    }
+}
+
+/// Each row that was not seen before, at its first place.
+fn first_rows<'r>(
+    alloc: Global,
+    seen: &mut IndexSet<&'r [Option<u64>], RandomState>,
+    rows: &'r Rows,
+) -> Result<Rows, AllocError>
+    requires unseen { seen.old.keys ≡ [] }
+    ensures made { IfOk result (λ made. (made.width ≡ rows.entry.now.width)
+        × (made.rows ≡ distinct nat_eq rows.entry.now.rows)) }
+{
     let mut made = Rows::new(alloc, rows.width());
     for i in 0..rows.len() {
         let row = rows.row(i);
-        if see(&mut seen, row)? {
+        if see(seen, row)? {
             made.push(row)?;
         }
     }
-    let _distinct = dict.len();
-    Ok((made, dict))
+    Ok(made)
 }
 
 /// Whether the row was not seen before; it is now.

@@ -1,13 +1,13 @@
 //! The recursion over a plan's tree: each operator over the rows of its inputs.
-ghost use Rattle.std.specs.Prelude.{◌≡◌, ◌<◌, true, filter, length, map, option_map, IfErr, IfOk};
+ghost use Rattle.std.specs.Prelude.{◌≡◌, ◌<◌, ◌++◌, true, filter, length, map, option_map, IfErr, IfOk};
 ghost use Rattle.std.specs.List.{list_all};
 ghost use Rattle.std.specs.Option.{ForSome};
 ghost use Rattle.rdf_core.specs.Equality.{term_eq};
-ghost use Rattle.algebra_model.specs.Algebra.{each_graph, is_name_below, is_triple_below, is_within};
+ghost use Rattle.algebra_model.specs.Algebra.{Distinct, Extend, Filter, Project, each_graph, is_name_below, is_triple_below, is_within};
 ghost use Rattle.algebra_model.specs.Bgp.{bgp};
 ghost use Rattle.algebra_model.specs.Dataset.{graph};
 ghost use Rattle.algebra_model.specs.Expression.{holds, val};
-ghost use Rattle.algebra_model.specs.Operators.{extend, join, left_join, minus};
+ghost use Rattle.algebra_model.specs.Operators.{distinct, extend, join, left_join, minus, project};
 ghost use Rattle.dict_core.specs.Dict.{term_at};
 ghost use Rattle.dict_core.specs.NumQuad.{AreBelow, quads_at};
 ghost use Rattle.row_pieces.specs.How.{IsRunnable, HasOneWorker};
@@ -16,12 +16,12 @@ ghost use Rattle.sparql_algebra.specs.AlgebraOf.{algebra_of, graph_name_of, trip
 ghost use Rattle.sparql_algebra.specs.ExpressionOf.{expression_of};
 ghost use Rattle.sparql_eval.specs.Computed.{InSomeGraph, IsComputed, IsValue, TakesOnly};
 ghost use Rattle.sparql_eval.specs.Evaluated.{AreKnown, IsEvaluated, solutions_of};
-ghost use Rattle.sparql_eval.specs.TreeSolutions.{graph_solutions, tree_solutions};
+ghost use Rattle.sparql_eval.specs.TreeSolutions.{Wanted, graph_solutions, tree_solutions};
 
 use crate::distinctness::distinct;
 use crate::extensions::extend;
 use crate::filters::filter;
-use crate::graphs::{add_named, graph_number, name_row};
+use crate::graphs::{add_graph, graph_number};
 use crate::joins::{join_of, left_join, minus};
 use crate::patterns::pattern;
 use crate::projections::project;
@@ -78,8 +78,7 @@ impl<'a, R: Threads + Wait, G: Gate + Sync> Evaluator<'a, R, G> {
             }
             Operator::Join { left, right } => {
                 let (left, dict) = self.solve(dict, active, left)?;
-                let (right, dict) = self.solve(dict, active, right)?;
-                self.join(dict, left, right)
+                self.solve_join(dict, active, left, right)
             }
             Operator::LeftJoin {
                 left,
@@ -87,45 +86,228 @@ impl<'a, R: Threads + Wait, G: Gate + Sync> Evaluator<'a, R, G> {
                 condition,
             } => {
                 let (left, dict) = self.solve(dict, active, left)?;
-                let (right, dict) = self.solve(dict, active, right)?;
-                self.left_join(dict, &left, &right, condition)
+                self.solve_left_join(dict, active, left, right, condition)
             }
             Operator::Union { left, right } => {
                 let (left, dict) = self.solve(dict, active, left)?;
-                let (right, dict) = self.solve(dict, active, right)?;
-                union_of(dict, left, right)
+                self.solve_union(dict, active, left, right)
             }
             Operator::Minus { left, right } => {
                 let (left, dict) = self.solve(dict, active, left)?;
-                let (right, dict) = self.solve(dict, active, right)?;
-                self.minus(dict, &left, &right)
+                self.solve_minus(dict, active, left, right)
             }
             Operator::Graph { name, inner } => self.solve_graph(dict, name, inner),
             Operator::Filter { condition, inner } => {
-                let (rows, dict) = self.solve(dict, active, inner)?;
-                self.filter(dict, &rows, condition)
+                self.solve_filter(dict, active, inner, condition)
             }
             Operator::Extend {
                 variable,
                 expression,
                 inner,
-            } => {
-                let (rows, dict) = self.solve(dict, active, inner)?;
-                self.extend(dict, &rows, *variable, expression)
-            }
+            } => self.solve_extend(dict, active, inner, *variable, expression),
             Operator::Project { variables, inner } => {
-                let (rows, dict) = self.solve(dict, active, inner)?;
-                project(self.alloc, dict, &rows, variables.as_slice())
+                self.solve_project(dict, active, inner, variables.as_slice())
             }
-            Operator::Distinct { inner } => {
-                let (rows, dict) = self.solve(dict, active, inner)?;
-                distinct(self.alloc, self.state, dict, &rows)
-            }
+            Operator::Distinct { inner } => self.solve_distinct(dict, active, inner),
             Operator::Table { variables, rows } => {
                 let variables = variables.as_slice();
                 table(self.alloc, dict, self.width, variables, rows.as_slice())
             }
         }
+    }
+
+    /// The Join of rows with the solutions of a tree.
+    #[cycle(solve)]
+    fn solve_join(
+        &self,
+        dict: Dict,
+        active: Option<u64>,
+        left: Rows,
+        right: &Operator,
+    ) -> Result<(Rows, Dict), EvalFault>
+        requires index { AreBelow (length dict) self.now.index.now }
+        requires active { ForSome active (λ g. g < length dict) }
+        requires same_width { left.width ≡ self.now.width }
+        requires known_left { AreKnown dict left }
+        requires within { is_within self.now.width (algebra_of right.now) ≡ true }
+        ensures evaluated { IfOk result (λ r. IsEvaluated dict left.width
+            (join term_eq (solutions_of dict left)
+            (tree_solutions dict self.now.index.now self.now.width active right.now)) r.0 r.1) }
+        ensures needed { IfOk result (λ r. TakesOnly (Wanted dict self.now.index.now self.now.width active
+            (algebra_of right.now)) dict r.1) }
+        ensures one_worker { HasOneWorker self.now.how.now → IfErr result (λ fault. fault ≡ Memory) }
+    {
+        let (right, dict) = self.solve(dict, active, right)?;
+        self.join(dict, left, right)
+    }
+
+    /// The LeftJoin of rows with the solutions of a tree.
+    #[cycle(solve)]
+    fn solve_left_join(
+        &self,
+        dict: Dict,
+        active: Option<u64>,
+        left: Rows,
+        right: &Operator,
+        condition: &Expr,
+    ) -> Result<(Rows, Dict), EvalFault>
+        requires index { AreBelow (length dict) self.now.index.now }
+        requires active { ForSome active (λ g. g < length dict) }
+        requires same_width { left.width ≡ self.now.width }
+        requires known_left { AreKnown dict left }
+        requires within { is_within self.now.width (algebra_of right.now) ≡ true }
+        ensures evaluated { IfOk result (λ r. IsEvaluated dict left.width
+            (left_join term_eq (holds (expression_of condition.now)) (solutions_of dict left)
+            (tree_solutions dict self.now.index.now self.now.width active right.now)) r.0 r.1) }
+        ensures needed { IfOk result (λ r. TakesOnly (Wanted dict self.now.index.now self.now.width active
+            (algebra_of right.now)) dict r.1) }
+        ensures one_worker { HasOneWorker self.now.how.now → IfErr result (λ fault. fault ≡ Memory) }
+    {
+        let (right, dict) = self.solve(dict, active, right)?;
+        self.left_join(dict, &left, &right, condition)
+    }
+
+    /// The Union of rows with the solutions of a tree.
+    #[cycle(solve)]
+    fn solve_union(
+        &self,
+        dict: Dict,
+        active: Option<u64>,
+        left: Rows,
+        right: &Operator,
+    ) -> Result<(Rows, Dict), EvalFault>
+        requires index { AreBelow (length dict) self.now.index.now }
+        requires active { ForSome active (λ g. g < length dict) }
+        requires same_width { left.width ≡ self.now.width }
+        requires known_left { AreKnown dict left }
+        requires within { is_within self.now.width (algebra_of right.now) ≡ true }
+        ensures evaluated { IfOk result (λ r. IsEvaluated dict left.width
+            (solutions_of dict left
+            ++ tree_solutions dict self.now.index.now self.now.width active right.now) r.0 r.1) }
+        ensures needed { IfOk result (λ r. TakesOnly (Wanted dict self.now.index.now self.now.width active
+            (algebra_of right.now)) dict r.1) }
+        ensures one_worker { HasOneWorker self.now.how.now → IfErr result (λ fault. fault ≡ Memory) }
+    {
+        let (right, dict) = self.solve(dict, active, right)?;
+        union_of(dict, left, right)
+    }
+
+    /// The Minus of rows and the solutions of a tree.
+    #[cycle(solve)]
+    fn solve_minus(
+        &self,
+        dict: Dict,
+        active: Option<u64>,
+        left: Rows,
+        right: &Operator,
+    ) -> Result<(Rows, Dict), EvalFault>
+        requires index { AreBelow (length dict) self.now.index.now }
+        requires active { ForSome active (λ g. g < length dict) }
+        requires same_width { left.width ≡ self.now.width }
+        requires known_left { AreKnown dict left }
+        requires within { is_within self.now.width (algebra_of right.now) ≡ true }
+        ensures evaluated { IfOk result (λ r. IsEvaluated dict left.width
+            (minus term_eq (solutions_of dict left)
+            (tree_solutions dict self.now.index.now self.now.width active right.now)) r.0 r.1) }
+        ensures needed { IfOk result (λ r. TakesOnly (Wanted dict self.now.index.now self.now.width active
+            (algebra_of right.now)) dict r.1) }
+        ensures one_worker { HasOneWorker self.now.how.now → IfErr result (λ fault. fault ≡ Memory) }
+    {
+        let (right, dict) = self.solve(dict, active, right)?;
+        self.minus(dict, &left, &right)
+    }
+
+    /// The solutions of a Filter.
+    #[cycle(solve)]
+    fn solve_filter(
+        &self,
+        dict: Dict,
+        active: Option<u64>,
+        inner: &Operator,
+        condition: &Expr,
+    ) -> Result<(Rows, Dict), EvalFault>
+        requires index { AreBelow (length dict) self.now.index.now }
+        requires active { ForSome active (λ g. g < length dict) }
+        requires within { is_within self.now.width (algebra_of inner.now) ≡ true }
+        ensures evaluated { IfOk result (λ r. IsEvaluated dict self.now.width
+            (filter (holds (expression_of condition.now))
+            (tree_solutions dict self.now.index.now self.now.width active inner.now)) r.0 r.1) }
+        ensures needed { IfOk result (λ r. TakesOnly (Wanted dict self.now.index.now self.now.width active
+            (Filter (expression_of condition.now) (algebra_of inner.now))) dict r.1) }
+        ensures one_worker { HasOneWorker self.now.how.now → IfErr result (λ fault. fault ≡ Memory) }
+    {
+        let (rows, dict) = self.solve(dict, active, inner)?;
+        self.filter(dict, &rows, condition)
+    }
+
+    /// The solutions of an Extend.
+    #[cycle(solve)]
+    fn solve_extend(
+        &self,
+        dict: Dict,
+        active: Option<u64>,
+        inner: &Operator,
+        variable: usize,
+        expression: &Expr,
+    ) -> Result<(Rows, Dict), EvalFault>
+        requires index { AreBelow (length dict) self.now.index.now }
+        requires active { ForSome active (λ g. g < length dict) }
+        requires variable { variable < self.now.width }
+        requires within { is_within self.now.width (algebra_of inner.now) ≡ true }
+        ensures evaluated { IfOk result (λ r. IsEvaluated dict self.now.width
+            (extend variable (val (expression_of expression.now))
+            (tree_solutions dict self.now.index.now self.now.width active inner.now)) r.0 r.1) }
+        ensures needed { IfOk result (λ r. TakesOnly (Wanted dict self.now.index.now self.now.width active
+            (Extend variable (expression_of expression.now) (algebra_of inner.now))) dict r.1) }
+        ensures one_worker { HasOneWorker self.now.how.now → IfErr result (λ fault. fault ≡ Memory) }
+    {
+        let (rows, dict) = self.solve(dict, active, inner)?;
+        self.extend(dict, &rows, variable, expression)
+    }
+
+    /// The solutions of a Project.
+    #[cycle(solve)]
+    fn solve_project(
+        &self,
+        dict: Dict,
+        active: Option<u64>,
+        inner: &Operator,
+        variables: &[usize],
+    ) -> Result<(Rows, Dict), EvalFault>
+        requires index { AreBelow (length dict) self.now.index.now }
+        requires active { ForSome active (λ g. g < length dict) }
+        requires within { is_within self.now.width (algebra_of inner.now) ≡ true }
+        ensures evaluated { IfOk result (λ r. IsEvaluated dict self.now.width
+            (project variables.now
+            (tree_solutions dict self.now.index.now self.now.width active inner.now)) r.0 r.1) }
+        ensures needed { IfOk result (λ r. TakesOnly (Wanted dict self.now.index.now self.now.width active
+            (Project variables.now (algebra_of inner.now))) dict r.1) }
+        ensures one_worker { HasOneWorker self.now.how.now → IfErr result (λ fault. fault ≡ Memory) }
+    {
+        let (rows, dict) = self.solve(dict, active, inner)?;
+        project(self.alloc, dict, &rows, variables)
+    }
+
+    /// The solutions of a Distinct.
+    #[cycle(solve)]
+    fn solve_distinct(
+        &self,
+        dict: Dict,
+        active: Option<u64>,
+        inner: &Operator,
+    ) -> Result<(Rows, Dict), EvalFault>
+        requires index { AreBelow (length dict) self.now.index.now }
+        requires active { ForSome active (λ g. g < length dict) }
+        requires within { is_within self.now.width (algebra_of inner.now) ≡ true }
+        ensures evaluated { IfOk result (λ r. IsEvaluated dict self.now.width
+            (distinct term_eq
+            (tree_solutions dict self.now.index.now self.now.width active inner.now)) r.0 r.1) }
+        ensures needed { IfOk result (λ r. TakesOnly (Wanted dict self.now.index.now self.now.width active
+            (Distinct (algebra_of inner.now))) dict r.1) }
+        ensures one_worker { HasOneWorker self.now.how.now → IfErr result (λ fault. fault ≡ Memory) }
+    {
+        let (rows, dict) = self.solve(dict, active, inner)?;
+        distinct(self.alloc, self.state, dict, &rows)
     }
 
     /// The solutions of a tree in a named graph, or in each of them in turn. The dictionary takes in the
@@ -187,8 +369,7 @@ impl<'a, R: Threads + Wait, G: Gate + Sync> Evaluator<'a, R, G> {
             let (rows, grown) = self.solve(dict, Some(names[i]), inner)?;
             let _still_distinct = grown.len();
             dict = grown;
-            let name = name_row(self.alloc, self.width, variable, names[i])?;
-            add_named(self.alloc, &mut made, &rows, name.as_slice())?;
+            add_graph(self.alloc, &mut made, &rows, variable, names[i])?;
         }
         Ok((made, dict))
     }

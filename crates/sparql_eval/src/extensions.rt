@@ -9,6 +9,7 @@ ghost use Rattle.sparql_eval.specs.Computed.{IsValue, TakesOnly};
 ghost use Rattle.sparql_eval.specs.Evaluated.{AreKnown, IsEvaluated, solutions_of};
 ghost use Rattle.sparql_eval.specs.Values.{bind_each};
 
+use crate::answers::with_dict;
 use crate::piece_values::number_values;
 use crate::values::values_of;
 use dict_core::Dict;
@@ -60,11 +61,39 @@ pub fn extend<R: Threads + Wait, G: Gate + Sync>(
     ensures alone { length rows.now.rows ≤ how.now.rows → IfErr result (λ fault. fault ≡ Memory) }
     ensures one_worker { HasOneWorker how.now → IfErr result (λ fault. fault ≡ Memory) }
 {
-    let pieces = values_of(rt, alloc, state, &dict, rows, expression, how, gate)?;
     let mut dict = dict;
-    let numbers = number_values(alloc, &mut dict, pieces)?;
+    let made = extended(
+        rt, alloc, state, &mut dict, rows, variable, expression, how, gate,
+    );
+    with_dict(made, dict)
+}
+
+/// The rows of an Extend.
+fn extended<R: Threads + Wait, G: Gate + Sync>(
+    rt: &R,
+    alloc: Global,
+    state: RandomState,
+    dict: &mut Dict,
+    rows: &Rows,
+    variable: usize,
+    expression: &Expr,
+    how: &How,
+    gate: &G,
+) -> Result<Rows, EvalFault>
+    requires known { AreKnown dict.old rows.now }
+    requires variable { variable < rows.now.width }
+    requires how { IsRunnable how.now }
+    ensures evaluated { IfOk result (λ made. IsEvaluated dict.old rows.now.width
+        (extend variable (val (expression_of expression.now)) (solutions_of dict.old rows.now)) made dict.new) }
+    ensures needed { OnOk result (TakesOnly
+        (IsValue (val (expression_of expression.now)) (solutions_of dict.old rows.now)) dict.old dict.new) }
+    ensures alone { length rows.now.rows ≤ how.now.rows → IfErr result (λ fault. fault ≡ Memory) }
+    ensures one_worker { HasOneWorker how.now → IfErr result (λ fault. fault ≡ Memory) }
+{
+    let pieces = values_of(rt, alloc, state, dict, rows, expression, how, gate)?;
+    let numbers = number_values(alloc, dict, pieces)?;
     let made = extend_rows(alloc, rows, variable, numbers.as_slice())?;
-    Ok((made, dict))
+    Ok(made)
 }
 
 /// The rows, in each the variable bound to its number.

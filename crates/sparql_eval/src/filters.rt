@@ -7,6 +7,7 @@ ghost use Rattle.sparql_algebra.specs.ExpressionOf.{expression_of};
 ghost use Rattle.sparql_eval.specs.Evaluated.{AreKnown, IsEvaluated, solutions_of};
 ghost use Rattle.sparql_eval.specs.Numbered.{AreKnownAt};
 
+use crate::answers::with_dict;
 use crate::reading::ReadRow;
 use dict_core::Dict;
 use piece_pool::Gate;
@@ -46,15 +47,33 @@ pub fn filter<R: Threads + Wait, G: Gate + Sync>(
     ensures alone { length rows.now.rows ≤ how.now.rows → IfErr result (λ fault. fault ≡ Memory) }
     ensures one_worker { HasOneWorker how.now → IfErr result (λ fault. fault ≡ Memory) }
 {
-    let made = {
-        let work = FilterWork {
-            dict: &dict,
-            rows,
-            condition,
-        };
-        over_pieces(rt, alloc, &work, how, gate)?
+    let made = filtered(rt, alloc, &dict, rows, condition, how, gate);
+    with_dict(made, dict)
+}
+
+/// The rows of a Filter.
+fn filtered<R: Threads + Wait, G: Gate + Sync>(
+    rt: &R,
+    alloc: Global,
+    dict: &Dict,
+    rows: &Rows,
+    condition: &Expr,
+    how: &How,
+    gate: &G,
+) -> Result<Rows, EvalFault>
+    requires known { AreKnown dict.now rows.now }
+    requires how { IsRunnable how.now }
+    ensures evaluated { IfOk result (λ made. IsEvaluated dict.now rows.now.width
+        (filter (holds (expression_of condition.now)) (solutions_of dict.now rows.now)) made dict.now) }
+    ensures alone { length rows.now.rows ≤ how.now.rows → IfErr result (λ fault. fault ≡ Memory) }
+    ensures one_worker { HasOneWorker how.now → IfErr result (λ fault. fault ≡ Memory) }
+{
+    let work = FilterWork {
+        dict,
+        rows,
+        condition,
     };
-    Ok((made, dict))
+    over_pieces(rt, alloc, &work, how, gate)
 }
 
 /// The rows, and the condition that they are to pass.

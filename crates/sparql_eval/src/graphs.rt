@@ -30,7 +30,7 @@ pub(crate) fn graph_number(dict: &Dict, index: &Index, name: &Term) -> Option<u6
 }
 
 /// The row that binds one variable.
-pub(crate) fn name_row(
+fn name_row(
     alloc: Global,
     width: usize,
     variable: usize,
@@ -48,7 +48,7 @@ pub(crate) fn name_row(
 
 /// Adds the merges of the rows with one row. A refusal leaves the rows that were there, and behind them
 /// the merges of the first of the others, as many as came in.
-pub(crate) fn add_named(
+fn add_named(
     alloc: Global,
     made: &mut Rows,
     rows: &Rows,
@@ -70,4 +70,23 @@ pub(crate) fn add_named(
         }
     }
     Ok(())
+}
+
+/// Adds the merges of a graph's rows with the variable bound to the graph's number. A refusal leaves the
+/// rows that were there, and perhaps more behind them.
+pub(crate) fn add_graph(
+    alloc: Global,
+    made: &mut Rows,
+    rows: &Rows,
+    variable: usize,
+    number: u64,
+) -> Result<(), AllocError>
+    requires same_width { rows.now.width ≡ made.old.width }
+    requires variable { variable < rows.now.width }
+    ensures added { OnOk result (made.new.rows ≡ made.old.rows ++ join nat_eq rows.now.rows
+        (set (replicate rows.now.width None) variable (Some number) ∷ [])) }
+    ensures width { OnOk result (made.new.width ≡ made.old.width) }
+{
+    let name = name_row(alloc, rows.width(), variable, number)?;
+    add_named(alloc, made, rows, name.as_slice())
 }

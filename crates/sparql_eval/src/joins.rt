@@ -10,6 +10,7 @@ ghost use Rattle.row_pieces.specs.declared.how.EvalFault.TheVariants.{Memory};
 ghost use Rattle.sparql_algebra.specs.ExpressionOf.{expression_of};
 ghost use Rattle.sparql_eval.specs.Evaluated.{AreKnown, IsEvaluated, solutions_of};
 
+use crate::answers::with_dict;
 use crate::reading::ReadRow;
 use dict_core::Dict;
 use piece_pool::Gate;
@@ -55,9 +56,32 @@ pub fn join<R: Threads + Wait, G: Gate + Sync>(
     ensures alone { length left.now.rows ≤ how.now.rows → IfErr result (λ fault. fault ≡ Memory) }
     ensures one_worker { HasOneWorker how.now → IfErr result (λ fault. fault ≡ Memory) }
 {
+    let made = joined(rt, alloc, state, &dict, left, right, how, gate);
+    with_dict(made, dict)
+}
+
+/// The rows of a Join.
+fn joined<R: Threads + Wait, G: Gate + Sync>(
+    rt: &R,
+    alloc: Global,
+    state: RandomState,
+    dict: &Dict,
+    left: &Rows,
+    right: &Rows,
+    how: &How,
+    gate: &G,
+) -> Result<Rows, EvalFault>
+    requires same_width { left.now.width ≡ right.now.width }
+    requires known_left { AreKnown dict.now left.now }
+    requires known_right { AreKnown dict.now right.now }
+    requires how { IsRunnable how.now }
+    ensures evaluated { IfOk result (λ made. IsEvaluated dict.now left.now.width
+        (join term_eq (solutions_of dict.now left.now) (solutions_of dict.now right.now)) made dict.now) }
+    ensures alone { length left.now.rows ≤ how.now.rows → IfErr result (λ fault. fault ≡ Memory) }
+    ensures one_worker { HasOneWorker how.now → IfErr result (λ fault. fault ≡ Memory) }
+{
     let _distinct = dict.len();
-    let made = row_join::join(rt, alloc, state, left, right, how, gate)?;
-    Ok((made, dict))
+    row_join::join(rt, alloc, state, left, right, how, gate)
 }
 
 /// The join of rows that nobody else needs. Where the left side is the one row that binds nothing,
@@ -140,15 +164,35 @@ pub fn left_join<R: Threads + Wait, G: Gate + Sync>(
     ensures alone { length left.now.rows ≤ how.now.rows → IfErr result (λ fault. fault ≡ Memory) }
     ensures one_worker { HasOneWorker how.now → IfErr result (λ fault. fault ≡ Memory) }
 {
+    let made = left_joined(rt, alloc, state, &dict, left, right, condition, how, gate);
+    with_dict(made, dict)
+}
+
+/// The rows of a LeftJoin.
+fn left_joined<R: Threads + Wait, G: Gate + Sync>(
+    rt: &R,
+    alloc: Global,
+    state: RandomState,
+    dict: &Dict,
+    left: &Rows,
+    right: &Rows,
+    condition: &Expr,
+    how: &How,
+    gate: &G,
+) -> Result<Rows, EvalFault>
+    requires same_width { left.now.width ≡ right.now.width }
+    requires known_left { AreKnown dict.now left.now }
+    requires known_right { AreKnown dict.now right.now }
+    requires how { IsRunnable how.now }
+    ensures evaluated { IfOk result (λ made. IsEvaluated dict.now left.now.width
+        (left_join term_eq (holds (expression_of condition.now))
+        (solutions_of dict.now left.now) (solutions_of dict.now right.now)) made dict.now) }
+    ensures alone { length left.now.rows ≤ how.now.rows → IfErr result (λ fault. fault ≡ Memory) }
+    ensures one_worker { HasOneWorker how.now → IfErr result (λ fault. fault ≡ Memory) }
+{
     let _distinct = dict.len();
-    let made = {
-        let test = Condition {
-            dict: &dict,
-            condition,
-        };
-        row_join::left_join(rt, alloc, state, left, right, &test, how, gate)?
-    };
-    Ok((made, dict))
+    let test = Condition { dict, condition };
+    row_join::left_join(rt, alloc, state, left, right, &test, how, gate)
 }
 
 /// Minus: each left row with which every right row is incompatible or shares no bound variable. The
@@ -184,9 +228,32 @@ pub fn minus<R: Threads + Wait, G: Gate + Sync>(
     ensures alone { length left.now.rows ≤ how.now.rows → IfErr result (λ fault. fault ≡ Memory) }
     ensures one_worker { HasOneWorker how.now → IfErr result (λ fault. fault ≡ Memory) }
 {
+    let made = subtracted(rt, alloc, state, &dict, left, right, how, gate);
+    with_dict(made, dict)
+}
+
+/// The rows of a Minus.
+fn subtracted<R: Threads + Wait, G: Gate + Sync>(
+    rt: &R,
+    alloc: Global,
+    state: RandomState,
+    dict: &Dict,
+    left: &Rows,
+    right: &Rows,
+    how: &How,
+    gate: &G,
+) -> Result<Rows, EvalFault>
+    requires same_width { left.now.width ≡ right.now.width }
+    requires known_left { AreKnown dict.now left.now }
+    requires known_right { AreKnown dict.now right.now }
+    requires how { IsRunnable how.now }
+    ensures evaluated { IfOk result (λ made. IsEvaluated dict.now left.now.width
+        (minus term_eq (solutions_of dict.now left.now) (solutions_of dict.now right.now)) made dict.now) }
+    ensures alone { length left.now.rows ≤ how.now.rows → IfErr result (λ fault. fault ≡ Memory) }
+    ensures one_worker { HasOneWorker how.now → IfErr result (λ fault. fault ≡ Memory) }
+{
     let _distinct = dict.len();
-    let made = row_join::minus(rt, alloc, state, left, right, how, gate)?;
-    Ok((made, dict))
+    row_join::minus(rt, alloc, state, left, right, how, gate)
 }
 
 /// The condition of a left join, and the dictionary that the rows are read through.

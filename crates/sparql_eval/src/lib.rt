@@ -13,7 +13,7 @@
 //! `algebra_model`.
 //!
 //! To read in this order: `copying`, `unions`, `projections`, `distinctness` (rows alone);
-//! `numbering`, `tables` (terms taken in); `reading`, `filters`, `piece_values`, `values`,
+//! `answers` (rows with a dictionary); `numbering`, `tables` (terms taken in); `reading`, `filters`, `piece_values`, `values`,
 //! `extensions` (expressions); `patterns`, `graphs` (the index); `joins` (two lists of rows);
 //! `evaluator`, `evaluation` (a plan).
 //!
@@ -25,6 +25,7 @@
 //! Not promised: the order of the rows, and which numbers computed terms get.
 #![tactic(auto)]
 
+mod answers;
 mod copying;
 mod distinctness;
 mod evaluation;

@@ -15,6 +15,7 @@ ghost use Rattle.sparql_algebra.specs.AlgebraOf.{pattern_term_of, triple_pattern
 ghost use Rattle.sparql_eval.specs.Constants.{ArePatternsOf, IsPatternOf, IsPatternTermOf, LacksSome, LacksTerm, LacksTriple};
 ghost use Rattle.sparql_eval.specs.Evaluated.{IsEvaluated};
 
+use crate::answers::with_dict;
 use dict_core::Dict;
 use piece_pool::Gate;
 use quad_index::Index;
@@ -60,15 +61,42 @@ pub fn pattern<R: Threads + Wait, G: Gate + Sync>(
     ensures same_dict { IfOk result (λ r. r.1 ≡ dict) }
     ensures one_worker { HasOneWorker how.now → IfErr result (λ fault. fault ≡ Memory) }
 {
+    let made = matches(
+        rt, alloc, &dict, index, active, width, labels, triples, how, gate,
+    );
+    with_dict(made, dict)
+}
+
+/// The rows of a basic graph pattern.
+fn matches<R: Threads + Wait, G: Gate + Sync>(
+    rt: &R,
+    alloc: Global,
+    dict: &Dict,
+    index: &Index,
+    active: Option<u64>,
+    width: usize,
+    labels: usize,
+    triples: &[TriplePattern],
+    how: &How,
+    gate: &G,
+) -> Result<Rows, EvalFault>
+    requires index { AreBelow (length dict.now) index.now }
+    requires active { ForSome active (λ g. g < length dict.now) }
+    requires below { list_all (is_triple_below width labels) (map triple_pattern_of triples.now) ≡ true }
+    requires how { IsRunnable how.now }
+    ensures evaluated { IfOk result (λ made. IsEvaluated dict.now width
+        (bgp term_eq width labels (map triple_pattern_of triples.now)
+        (graph (quads_at dict.now index.now) (option_map (term_at dict.now) active))) made dict.now) }
+    ensures one_worker { HasOneWorker how.now → IfErr result (λ fault. fault ≡ Memory) }
+{
     let _distinct = dict.len();
     let _once = index.quads();
     rows_read_as_solutions();
-    let Some(numbered) = number_triples(alloc, &dict, triples)? else {
-        return Ok((Rows::new(alloc, width), dict));
+    let Some(numbered) = number_triples(alloc, dict, triples)? else {
+        return Ok(Rows::new(alloc, width));
     };
     let triples = numbered.as_slice();
-    let made = row_pattern::pattern(rt, alloc, index, active, width, labels, triples, how, gate)?;
-    Ok((made, dict))
+    row_pattern::pattern(rt, alloc, index, active, width, labels, triples, how, gate)
 }
 
 /// The triple patterns at numbers, and None where the dictionary lacks one of their terms.

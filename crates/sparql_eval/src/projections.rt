@@ -5,6 +5,7 @@ ghost use Rattle.algebra_model.specs.Operators.{project, restrict};
 ghost use Rattle.sparql_eval.specs.Evaluated.{AreKnown, IsEvaluated, solutions_of};
 ghost use Rattle.row_pieces.specs.declared.how.EvalFault.TheVariants.{Memory};
 
+use crate::answers::with_dict;
 use dict_core::Dict;
 use row_core::Rows;
 use row_pieces::EvalFault;
@@ -30,6 +31,16 @@ pub fn project(
     ensures same_dict { IfOk result (λ r. r.1 ≡ dict) }
     ensures refused { IfErr result (λ fault. fault ≡ Memory) }
 {
+    let made = projected(alloc, rows, variables);
+    with_dict(made, dict)
+}
+
+/// Every row, with the listed variables alone bound.
+fn projected(alloc: Global, rows: &Rows, variables: &[usize]) -> Result<Rows, EvalFault>
+    ensures made { IfOk result (λ made. (made.width ≡ rows.now.width)
+        × (made.rows ≡ project variables.now rows.now.rows)) }
+    ensures refused { IfErr result (λ fault. fault ≡ Memory) }
+{
     let kept = kept_variables(alloc, rows.width(), variables)?;
     let mut made = Rows::new(alloc, rows.width());
     let mut cells = Vec::with_capacity(alloc, rows.width())?;
@@ -37,7 +48,7 @@ pub fn project(
         restrict_into(&mut cells, rows.row(i), kept.as_slice())?;
         made.push(cells.as_slice())?;
     }
-    Ok((made, dict))
+    Ok(made)
 }
 
 /// For each variable whether it is listed.

@@ -8,6 +8,7 @@ ghost use Rattle.sparql_eval.specs.Evaluated.{IsEvaluated};
 ghost use Rattle.sparql_eval.specs.Numbered.{IsKnownCell, IsKnownRow};
 ghost use Rattle.row_pieces.specs.declared.how.EvalFault.TheVariants.{Memory};
 
+use crate::answers::with_dict;
 use crate::numbering::number_of_term;
 use dict_core::Dict;
 use rdf_core::Term;
@@ -39,20 +40,32 @@ pub fn table(
     ensures refused { IfErr result (λ fault. fault ≡ Memory) }
 {
     let mut dict = dict;
+    let made = tabulated(alloc, &mut dict, width, variables, rows);
+    with_dict(made, dict)
+}
+
+/// The rows of a table.
+fn tabulated(
+    alloc: Global,
+    dict: &mut Dict,
+    width: usize,
+    variables: &[usize],
+    rows: &[Vec<Option<Term>>],
+) -> Result<Rows, EvalFault>
+    requires below { All (λ v. v < width) variables.now }
+    ensures evaluated { IfOk result (λ made. IsEvaluated dict.old width
+        (table width variables.now (map (λ row. row.items) rows.now)) made dict.new) }
+    ensures needed { OnOk result
+        (TakesOnly (IsCell variables.now (map (λ row. row.items) rows.now)) dict.old dict.new) }
+    ensures refused { IfErr result (λ fault. fault ≡ Memory) }
+{
     let mut made = Rows::new(alloc, width);
     let mut row = Vec::with_capacity(alloc, width)?;
     for cells in rows {
-        number_row(
-            alloc,
-            &mut dict,
-            &mut row,
-            width,
-            variables,
-            cells.as_slice(),
-        )?;
+        number_row(alloc, dict, &mut row, width, variables, cells.as_slice())?;
         made.push(row.as_slice())?;
     }
-    Ok((made, dict))
+    Ok(made)
 }
 
 /// Writes the numbers of the cells into `row`, in place of what it held.

@@ -1,5 +1,5 @@
 //! The values of an expression over pieces of rows, side by side.
-ghost use Rattle.std.specs.Prelude.{◌≡◌, ◌≤◌, ◌-◌, Some, length, take, drop, IfErr, IfOk, OnOk};
+ghost use Rattle.std.specs.Prelude.{◌≡◌, ◌≤◌, ◌-◌, [], Some, length, take, drop, IfErr, IfOk, OnOk};
 ghost use Rattle.algebra_model.specs.Expression.{val};
 ghost use Rattle.algebra_model.specs.Reading.{read_row};
 ghost use Rattle.dict_core.specs.Dict.{IsGrown, term_at};
@@ -9,7 +9,7 @@ ghost use Rattle.sparql_algebra.specs.ExpressionOf.{expression_of};
 ghost use Rattle.sparql_eval.specs.Computed.{TakesOnly};
 ghost use Rattle.sparql_eval.specs.Evaluated.{AreKnown};
 ghost use Rattle.sparql_eval.specs.Numbered.{AreKnownAt};
-ghost use Rattle.sparql_eval.specs.Values.{AreAllValues, ArePieceValues, IsValueOf};
+ghost use Rattle.sparql_eval.specs.Values.{AreAllValues, ArePieceValues, AreValues, IsValueOf};
 
 use crate::numbering::number_new;
 use crate::piece_values::{PieceValue, PieceValues};
@@ -106,15 +106,35 @@ impl<'a> ValueJob<'a> {
             (take (to - from) (drop from self.now.rows.now.rows))) }
     {
         let mut own = Dict::new(alloc, self.state)?;
+        match self.values_into(alloc, &mut own, from, to) {
+            Ok(values) => Ok(PieceValues { own, values }),
+            Err(_) => Err(AllocError),
+        }
+    }
+
+    /// The same, with a dictionary that takes in the terms of the piece's own.
+    fn values_into(
+        &self,
+        alloc: Global,
+        own: &mut Dict,
+        from: usize,
+        to: usize,
+    ) -> Result<Vec<PieceValue>, AllocError>
+        requires places { (from ≤ to) × (to ≤ length self.now.rows.now.rows) }
+        requires empty { own.old ≡ [] }
+        ensures values { IfOk result (λ values. AreValues self.now.dict.now own.new
+            (expression_of self.now.expression.now)
+            (take (to - from) (drop from self.now.rows.now.rows)) values.items) }
+    {
         let mut values = Vec::with_capacity(alloc, to - from)?;
         for i in from..to {
             let row = ReadRow {
                 dict: self.dict,
                 row: self.rows.row(i),
             };
-            values.push(value_at(alloc, &mut own, self.expression, &row)?)?;
+            values.push(value_at(alloc, own, self.expression, &row)?)?;
         }
-        Ok(PieceValues { own, values })
+        Ok(values)
     }
 }
 

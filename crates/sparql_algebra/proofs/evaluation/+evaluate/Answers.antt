@@ -10,7 +10,7 @@ use Rattle.sparql_algebra.specs.MemberTruth.{member_truth}
 use Rattle.sparql_algebra.specs.Memory.{is_lent, takes_none}
 use Rattle.sparql_algebra.specs.declared.expression.Expr.{size-Expr}
 use Rattle.sparql_algebra.proofs.FoldSteps.{and_deeper, in_stands_for, or_deeper}
-use Rattle.sparql_algebra.proofs.LogicSteps.{member_step, member_value}
+use Rattle.sparql_algebra.proofs.LogicSteps.{in_value, member_step}
 use Rattle.sparql_algebra.proofs.MemorySteps.{and_sides, member_lent, or_sides}
 use Rattle.sparql_algebra.proofs.OperandSteps.{and_moves, or_moves, truth}
 use Rattle.sparql_algebra.proofs.evaluation.+evaluate.Goals as goal
@@ -18,14 +18,14 @@ use Rattle.sparql_algebra.proofs.evaluation.+evaluate.Goals as goal
 pub evaluate-returns-in_ok-item-in-In-clause-value : goal.evaluate-returns-in_ok-item-in-In-clause-value
 evaluate-returns-in_ok-item-in-In-clause-value g t c =
     let sol = g.R.Lookup.solution c.args.row.now in
-    let item = c.in_ok-item-in-In.ensures.value ∙ ap (λ e. val (expression_of e) sol) c.deref-in-In.ensures in
-    let list = c.deref-in-In-2.ensures.value in
-    let among = member_value (expression_of c.in-In.item.value) (map expression_of c.in-In.list.items) sol in
     IfOk-weaker c.evaluate_in.result
     (λ value. option_map value_term value ≡ boolean_result (member_truth (option_map held_term c.in_ok-item-in-In.item) (map expression_of c.deref-in-In-2.result.now) sol))
     (λ value. option_map value_term value ≡ val (expression_of c.args.expr.now) sol)
-    (λ value h. h ∙ ap boolean_result (λ i. member_truth (item i) (map expression_of (list i)) sol) ∙ among
-    ∙ sym (ap (λ e. val e sol) (ap expression_of c.in-In.is ∙ in_stands_for c.in-In.item c.in-In.list)))
+    (λ value h. h ∙ in_value (option_map held_term c.in_ok-item-in-In.item) (expression_of c.in-In.item.value) (expression_of c.args.expr.now)
+    (map expression_of c.deref-in-In-2.result.now) (map expression_of c.in-In.list.items) sol
+    (c.in_ok-item-in-In.ensures.value ∙ ap (λ e. val (expression_of e) sol) c.deref-in-In.ensures)
+    (ap (map expression_of) c.deref-in-In-2.ensures.value)
+    (ap expression_of c.in-In.is ∙ in_stands_for c.in-In.item c.in-In.list))
     c.evaluate_in.ensures.value
 
 pub evaluate_member-loop-member-preserved : goal.evaluate_member-loop-member-preserved
@@ -34,7 +34,8 @@ evaluate_member-loop-member-preserved g t c =
     ∙ ap (λ v. with_values (option_map held_term c.args.item.now) v (compares equal))
     (c.in_ok-value.ensures.value ∙ ap (λ y. val (expression_of y) (g.R.Lookup.solution c.args.row.now)) c.member-item.is) in
     rw c.either-found.ensures.value (member_step expression_of c.args.list.now c.loop-member.member-index c.member-item.result
-    (option_map held_term c.args.item.now) (g.R.Lookup.solution c.args.row.now) c.loop-member.found c.compare_values-equal.result _
+    (option_map held_term c.args.item.now) (g.R.Lookup.solution c.args.row.now) c.loop-member.found c.compare_values-equal.result
+    (member_truth (option_map held_term c.args.item.now) (map expression_of c.args.list.now) (g.R.Lookup.solution c.args.row.now))
     c.loop-member-test.true e c.loop-member.invariant)
 
 pub evaluate_or-operands-preserved : goal.evaluate_or-operands-preserved

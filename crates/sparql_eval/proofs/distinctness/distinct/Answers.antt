@@ -1,32 +1,18 @@
-use Rattle.std.proofs.Common.{◌≡◌, ℕ, List, [], ◌∷◌, ◌++◌, Option, Bor, nat_eq, ap, ◌∙◌, arith, if◌then◌else◌}
+use Rattle.std.proofs.Common.{◌≡◌}
+use Rattle.std.proofs.lemmas.Result.{IfOk-weaker}
+use Rattle.rdf_core.proofs.TermLaws.{term_eq}
 use Rattle.algebra_model.specs.Operators.{distinct}
-use Rattle.sparql_eval.proofs.DistinctSteps.{distinct_turn, distinct_evaluated, chosen, other}
-use Rattle.sparql_eval.proofs.ReadingLaws.{all_taken}
+use Rattle.row_pieces.specs.declared.how.EvalFault.TheVariants.{Memory}
+use Rattle.sparql_eval.specs.Evaluated.{IsEvaluated, solutions_of}
+use Rattle.sparql_eval.proofs.DistinctSteps.{distinct_evaluated}
+use Rattle.sparql_eval.proofs.AnswerSteps.{answered, faulted}
 use Rattle.sparql_eval.proofs.distinctness.distinct.Goals as goal
-use Rattle.sparql_eval.proofs.distinctness.distinct.Goals.{then-branch+in_ok-push, else-branch}
-
-pub loop-i-preserved : goal.loop-i-preserved
-loop-i-preserved c =
-    let was = c.loop-i.invariant in
-    let row = c.row-row.result.now in
-    let made = c.loop-i.made.rows in
-    let b = c.in_ok-see.field-0 in
-    let wide : c.if-branch.made.width ≡ c.args.rows.now.width =
-    elim c.if-branch.branch [
-      | then-branch+in_ok-push w ↦ rw w.made-is (w.in_ok-push.ensures.width ∙ was.width)
-      | else-branch w ↦ rw w.made-is was.width
-    ] in
-    let put : c.if-branch.made.rows ≡ (if b then made ++ row ∷ [] else made) =
-    elim c.if-branch.branch [
-      | then-branch+in_ok-push w ↦ rw w.made-is (w.in_ok-push.ensures.added ∙ chosen (made ++ row ∷ []) made b w.if-branch.true)
-      | else-branch w ↦ rw w.made-is (other (made ++ row ∷ []) made b w.if-branch.false)
-    ] in
-    let turn = distinct_turn (λ (k : Bor (List (Option ℕ))). k.now) c.loop-i.seen.keys c.see.new.seen.keys c.row-row.result made c.if-branch.made.rows c.args.rows.now.rows c.loop-i.i b
-    was.seen was.made c.row-row.ensures.found c.in_ok-see.ensures.new c.in_ok-see.ensures.keys put in
-    record { width = wide; made = turn.0; seen = turn.1 }
 
 pub returns-clause-evaluated : goal.returns-clause-evaluated
 returns-clause-evaluated c =
-    let was = c.loop-i.invariant in
-    let whole = all_taken c.args.rows.now.rows c.loop-i.i (omega arith) in
-    distinct_evaluated c.args.dict c.len-distinct.ensures.distinct c.args.rows.now c.loop-i.made c.requires.known was.width (was.made ∙ ap (distinct nat_eq) whole)
+    answered c.distinct_rows-made.result c.with_dict.result
+    (λ m t. IsEvaluated c.args.dict c.args.rows.now.width (distinct term_eq (solutions_of c.args.dict c.args.rows.now)) m t) c.args.dict
+    c.with_dict.ensures.rows c.with_dict.ensures.same_dict (IfOk-weaker c.distinct_rows-made.result _ (λ m. IsEvaluated c.args.dict c.args.rows.now.width (distinct term_eq (solutions_of c.args.dict c.args.rows.now)) m c.args.dict) (λ m h. distinct_evaluated c.args.dict c.len-distinct.ensures.distinct c.args.rows.now m c.requires.known h.0 h.1) c.distinct_rows-made.ensures.made)
+
+pub returns-clause-refused : goal.returns-clause-refused
+returns-clause-refused c = faulted c.distinct_rows-made.result c.with_dict.result (λ fault. fault ≡ Memory) c.with_dict.ensures.fault c.distinct_rows-made.ensures.refused

@@ -1,11 +1,20 @@
+use Rattle.std.proofs.Common.{◌≡◌}
+use Rattle.std.proofs.Common.{filter}
+use Rattle.algebra_model.specs.Expression.{holds}
 use Rattle.sparql_algebra.specs.ExpressionOf.{expression_of}
-use Rattle.sparql_eval.proofs.FilterSteps.{filtered}
-use Rattle.sparql_eval.proofs.ReadingLaws.{rows_known_at}
+use Rattle.row_pieces.specs.declared.how.EvalFault.TheVariants.{Memory}
+use Rattle.sparql_eval.specs.Evaluated.{IsEvaluated, solutions_of}
+use Rattle.sparql_eval.proofs.AnswerSteps.{answered, faulted}
 use Rattle.sparql_eval.proofs.filters.filter.Goals as goal
-
-pub invariant_of-work : goal.invariant_of-work
-invariant_of-work g c = record { known = rows_known_at c.args.dict c.args.rows.now.rows c.requires.known }
 
 pub returns-clause-evaluated : goal.returns-clause-evaluated
 returns-clause-evaluated g c =
-    filtered c.args.dict (expression_of c.args.condition.now) c.args.rows.now c.in_ok-made.made c.requires.known c.in_ok-made.ensures.rows
+    answered c.filtered-made.result c.with_dict.result
+    (λ m t. IsEvaluated c.args.dict c.args.rows.now.width (filter (holds (expression_of c.args.condition.now)) (solutions_of c.args.dict c.args.rows.now)) m t) c.args.dict
+    c.with_dict.ensures.rows c.with_dict.ensures.same_dict c.filtered-made.ensures.evaluated
+
+pub returns-clause-alone : goal.returns-clause-alone
+returns-clause-alone g c = λ h. faulted c.filtered-made.result c.with_dict.result (λ fault. fault ≡ Memory) c.with_dict.ensures.fault (c.filtered-made.ensures.alone h)
+
+pub returns-clause-one_worker : goal.returns-clause-one_worker
+returns-clause-one_worker g c = λ h. faulted c.filtered-made.result c.with_dict.result (λ fault. fault ≡ Memory) c.with_dict.ensures.fault (c.filtered-made.ensures.one_worker h)

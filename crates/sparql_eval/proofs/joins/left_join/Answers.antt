@@ -1,13 +1,21 @@
+use Rattle.std.proofs.Common.{◌≡◌}
+use Rattle.rdf_core.proofs.TermLaws.{term_eq}
+use Rattle.algebra_model.specs.Expression.{holds}
+use Rattle.algebra_model.specs.Operators.{left_join}
 use Rattle.sparql_algebra.specs.ExpressionOf.{expression_of}
-use Rattle.sparql_eval.proofs.JoinSteps.{left_joined, rows_pass}
+use Rattle.row_pieces.specs.declared.how.EvalFault.TheVariants.{Memory}
+use Rattle.sparql_eval.specs.Evaluated.{IsEvaluated, solutions_of}
+use Rattle.sparql_eval.proofs.AnswerSteps.{answered, faulted}
 use Rattle.sparql_eval.proofs.joins.left_join.Goals as goal
-
-pub left_join-requires-clause-left_known : goal.left_join-requires-clause-left_known
-left_join-requires-clause-left_known g c κs within = rows_pass c.args.dict c.args.left.now.rows c.requires.known_left
-
-pub left_join-requires-clause-right_known : goal.left_join-requires-clause-right_known
-left_join-requires-clause-right_known g c κs within = rows_pass c.args.dict c.args.right.now.rows c.requires.known_right
 
 pub returns-clause-evaluated : goal.returns-clause-evaluated
 returns-clause-evaluated g c =
-    left_joined c.args.dict c.len-distinct.ensures.distinct c.args.left.now c.args.right.now c.in_ok-made.made c.requires.known_left c.requires.known_right c.in_ok-made.ensures.width (expression_of c.args.condition.now) c.in_ok-made.ensures.rows
+    answered c.left_joined-made.result c.with_dict.result
+    (λ m t. IsEvaluated c.args.dict c.args.left.now.width (left_join term_eq (holds (expression_of c.args.condition.now)) (solutions_of c.args.dict c.args.left.now) (solutions_of c.args.dict c.args.right.now)) m t) c.args.dict
+    c.with_dict.ensures.rows c.with_dict.ensures.same_dict c.left_joined-made.ensures.evaluated
+
+pub returns-clause-alone : goal.returns-clause-alone
+returns-clause-alone g c = λ h. faulted c.left_joined-made.result c.with_dict.result (λ fault. fault ≡ Memory) c.with_dict.ensures.fault (c.left_joined-made.ensures.alone h)
+
+pub returns-clause-one_worker : goal.returns-clause-one_worker
+returns-clause-one_worker g c = λ h. faulted c.left_joined-made.result c.with_dict.result (λ fault. fault ≡ Memory) c.with_dict.ensures.fault (c.left_joined-made.ensures.one_worker h)

@@ -1,6 +1,19 @@
-use Rattle.sparql_eval.proofs.JoinSteps.{subtracted}
+use Rattle.std.proofs.Common.{◌≡◌}
+use Rattle.rdf_core.proofs.TermLaws.{term_eq}
+use Rattle.algebra_model.specs.Operators.{minus}
+use Rattle.row_pieces.specs.declared.how.EvalFault.TheVariants.{Memory}
+use Rattle.sparql_eval.specs.Evaluated.{IsEvaluated, solutions_of}
+use Rattle.sparql_eval.proofs.AnswerSteps.{answered, faulted}
 use Rattle.sparql_eval.proofs.joins.minus.Goals as goal
 
 pub returns-clause-evaluated : goal.returns-clause-evaluated
 returns-clause-evaluated g c =
-    subtracted c.args.dict c.len-distinct.ensures.distinct c.args.left.now c.args.right.now c.in_ok-made.made c.requires.known_left c.requires.known_right c.in_ok-made.ensures.width c.in_ok-made.ensures.rows
+    answered c.subtracted-made.result c.with_dict.result
+    (λ m t. IsEvaluated c.args.dict c.args.left.now.width (minus term_eq (solutions_of c.args.dict c.args.left.now) (solutions_of c.args.dict c.args.right.now)) m t) c.args.dict
+    c.with_dict.ensures.rows c.with_dict.ensures.same_dict c.subtracted-made.ensures.evaluated
+
+pub returns-clause-alone : goal.returns-clause-alone
+returns-clause-alone g c = λ h. faulted c.subtracted-made.result c.with_dict.result (λ fault. fault ≡ Memory) c.with_dict.ensures.fault (c.subtracted-made.ensures.alone h)
+
+pub returns-clause-one_worker : goal.returns-clause-one_worker
+returns-clause-one_worker g c = λ h. faulted c.subtracted-made.result c.with_dict.result (λ fault. fault ≡ Memory) c.with_dict.ensures.fault (c.subtracted-made.ensures.one_worker h)

@@ -1,25 +1,17 @@
-use Rattle.std.proofs.Common.{Bool, false, List, [], ◌∷◌, ◌++◌, get_or, sym, ap, ◌∙◌, arith}
-use Rattle.algebra_model.specs.Operators.{project, restrict}
-use Rattle.sparql_eval.proofs.ProjectSteps.{project-take, project_evaluated}
-use Rattle.sparql_eval.proofs.ReadingLaws.{all_taken}
+use Rattle.std.proofs.Common.{◌≡◌}
+use Rattle.std.proofs.lemmas.Result.{IfOk-weaker}
+use Rattle.algebra_model.specs.Operators.{project}
+use Rattle.row_pieces.specs.declared.how.EvalFault.TheVariants.{Memory}
+use Rattle.sparql_eval.specs.Evaluated.{IsEvaluated, solutions_of}
+use Rattle.sparql_eval.proofs.ProjectSteps.{project_evaluated}
+use Rattle.sparql_eval.proofs.AnswerSteps.{answered, faulted}
 use Rattle.sparql_eval.proofs.projections.project.Goals as goal
-
-pub loop-i-preserved : goal.loop-i-preserved
-loop-i-preserved c =
-    let was = c.loop-i.invariant in
-    let row = c.row.result.now in
-    let kept = c.in_ok-kept.kept.items in
-    let cells = c.as_slice-in-loop-i.ensures.value ∙ c.in_ok-restrict_into.ensures.restricted
-    ∙ ap (λ (l : List Bool). restrict (λ k. get_or l k false) row) c.as_slice.ensures.value in
-    record {
-      width = c.in_ok-push.ensures.width ∙ was.width;
-      made =
-          c.in_ok-push.ensures.added ∙ (λ i. was.made i ++ cells i ∷ [])
-          ∙ sym (project-take c.args.variables.now (λ k. get_or kept k false) c.args.rows.now.width (λ k low. c.in_ok-kept.ensures.listed k (omega arith)) c.args.rows.now.rows c.loop-i.i row c.row.ensures.found c.row.ensures.wide);
-    }
 
 pub returns-clause-evaluated : goal.returns-clause-evaluated
 returns-clause-evaluated c =
-    let was = c.loop-i.invariant in
-    let whole = all_taken c.args.rows.now.rows c.loop-i.i (omega arith) in
-    project_evaluated c.args.dict c.args.variables.now c.args.rows.now c.loop-i.made c.requires.known was.width (was.made ∙ ap (project c.args.variables.now) whole)
+    answered c.projected-made.result c.with_dict.result
+    (λ m t. IsEvaluated c.args.dict c.args.rows.now.width (project c.args.variables.now (solutions_of c.args.dict c.args.rows.now)) m t) c.args.dict
+    c.with_dict.ensures.rows c.with_dict.ensures.same_dict (IfOk-weaker c.projected-made.result _ (λ m. IsEvaluated c.args.dict c.args.rows.now.width (project c.args.variables.now (solutions_of c.args.dict c.args.rows.now)) m c.args.dict) (λ m h. project_evaluated c.args.dict c.args.variables.now c.args.rows.now m c.requires.known h.0 h.1) c.projected-made.ensures.made)
+
+pub returns-clause-refused : goal.returns-clause-refused
+returns-clause-refused c = faulted c.projected-made.result c.with_dict.result (λ fault. fault ≡ Memory) c.with_dict.ensures.fault c.projected-made.ensures.refused

@@ -1,38 +1,23 @@
-use Rattle.std.proofs.Common.{ℕ, List, [], ◌∷◌, ◌++◌, length, map, take, Option, Some, Contains, sym, ap, subst, ◌∙◌, arith}
-use Rattle.rdf_core.specs.declared.term.Term.{Term}
-use Rattle.algebra_model.specs.Operators.{table, table_row}
-use Rattle.algebra_model.specs.Reading.{Each}
-use Rattle.sparql_eval.specs.Computed.{IsCell}
-use Rattle.sparql_eval.proofs.ProjectSteps.{map-take}
-use Rattle.sparql_eval.proofs.ReadingLaws.{Known, read_by, grown_twice}
-use Rattle.sparql_eval.proofs.TableSteps.{table_more, get_from, cell_of}
-use Rattle.sparql_eval.proofs.TakingLaws.{takes_twice, takes_more}
+use Rattle.std.proofs.Common.{◌≡◌}
+use Rattle.std.proofs.Common.{map}
+use Rattle.algebra_model.specs.Operators.{table}
+use Rattle.sparql_eval.specs.Computed.{IsCell, TakesOnly}
+use Rattle.sparql_eval.proofs.AnswerSteps.{on_ok_so}
+use Rattle.row_pieces.specs.declared.how.EvalFault.TheVariants.{Memory}
+use Rattle.sparql_eval.specs.Evaluated.{IsEvaluated, solutions_of}
+use Rattle.sparql_eval.proofs.AnswerSteps.{answered, faulted}
 use Rattle.sparql_eval.proofs.tables.table.Goals as goal
 
-pub loop-cells-preserved : goal.loop-cells-preserved
-loop-cells-preserved c =
-    let was = c.loop-cells.invariant in
-    let w = c.args.width in
-    let vs = c.args.variables.now in
-    let rows = c.args.rows.now in
-    let k = c.loop-cells.cells-index in
-    let item = c.cells-item.result in
-    let made = c.loop-cells.made.rows in
-    let later = c.number_row.new.dict in
-    let cells = c.as_slice.result.now in
-    let here = c.in_ok-number_row.ensures.needed in
-    let e = c.in_ok-push.ensures.added ∙ ap (λ (r : List (Option ℕ)). made ++ r ∷ []) c.as_slice-in-loop-cells.ensures.value in
-    let more = table_more c.loop-cells.dict later c.in_ok-number_row.ensures.grown w vs made (map (λ row. row.items) (take k rows)) c.number_row.new.row.items item.items
-    was.known was.made c.in_ok-number_row.ensures.known (c.in_ok-number_row.ensures.read ∙ ap (table_row w vs) c.as_slice.ensures.value) in
-    let at = get_from rows k item (omega arith) c.cells-item.is in
-    let wanted = IsCell vs (map (λ row. row.items) rows) in
-    record {
-      width = c.in_ok-push.ensures.width ∙ was.width;
-      grown = grown_twice c.args.dict c.loop-cells.dict later was.grown c.in_ok-number_row.ensures.grown;
-      known = subst (Each (Known later)) (sym e) more.0;
-      made = ap (map (read_by later)) e ∙ more.1 ∙ ap (table w vs) (sym (map-take (λ row. row.items) rows k item at));
-      needed =
-          takes_twice wanted c.args.dict c.loop-cells.dict later was.needed
-          (takes_more (λ t. Contains (take (length vs) cells) (Some t)) wanted c.loop-cells.dict later
-          (λ t h. cell_of (λ row. row.items) vs rows k item t at (subst (λ (l : List (Option Term)). Contains (take (length vs) l) (Some t)) c.as_slice.ensures.value h)) here);
-    }
+pub returns-clause-evaluated : goal.returns-clause-evaluated
+returns-clause-evaluated c =
+    answered c.tabulated-made.result c.with_dict.result
+    (λ m t. IsEvaluated c.args.dict c.args.width (table c.args.width c.args.variables.now (map (λ row. row.items) c.args.rows.now)) m t) c.tabulated-made.new.dict
+    c.with_dict.ensures.rows c.with_dict.ensures.same_dict c.tabulated-made.ensures.evaluated
+
+pub returns-clause-needed : goal.returns-clause-needed
+returns-clause-needed c =
+    answered c.tabulated-made.result c.with_dict.result (λ m t. TakesOnly (IsCell c.args.variables.now (map (λ row. row.items) c.args.rows.now)) c.args.dict t) c.tabulated-made.new.dict
+    c.with_dict.ensures.rows c.with_dict.ensures.same_dict (on_ok_so _ c.tabulated-made.result c.tabulated-made.ensures.needed)
+
+pub returns-clause-refused : goal.returns-clause-refused
+returns-clause-refused c = faulted c.tabulated-made.result c.with_dict.result (λ fault. fault ≡ Memory) c.with_dict.ensures.fault c.tabulated-made.ensures.refused

@@ -1,4 +1,4 @@
-use Rattle.std.proofs.Common.{◌≡◌, ℕ, ◌<◌, List, [], ◌∷◌, ◌++◌, true, length, map, filter, flat_map, get_or, slice_get, nat_eq, nat_lt, Option, Some, IfOk, sym, ap, subst, ◌∙◌, arith}
+use Rattle.std.proofs.Common.{◌≡◌, ℕ, ◌<◌, List, [], ◌∷◌, ◌++◌, true, length, map, filter, flat_map, get_or, slice_get, nat_eq, nat_lt, replicate, set, Option, None, Some, IfOk, sym, ap, subst, ◌∙◌, arith}
 use Rattle.std.specs.List.{list_all}
 use Rattle.std.proofs.lemmas.List.Sorted.{IsPermutation-refl}
 use Rattle.std.proofs.lemmas.Option.{slice_get-get_or}
@@ -21,12 +21,12 @@ use Rattle.sparql_algebra.specs.declared.operator.GraphName.{GraphName}
 use Rattle.sparql_algebra.specs.declared.operator.Operator.{Operator}
 use Rattle.sparql_eval.specs.Computed.{TakesOnly}
 use Rattle.sparql_eval.specs.Evaluated.{IsEvaluated}
-use Rattle.sparql_eval.specs.TreeSolutions.{graph_solutions, tree_solutions}
+use Rattle.sparql_eval.specs.TreeSolutions.{Wanted, graph_solutions, tree_solutions}
 use Rattle.sparql_eval.proofs.NamedSteps.{each_done, each_more, graph_known}
 use Rattle.sparql_eval.proofs.ReadingLaws.{Known, all_taken, grown_itself, grown_twice, read_by, rows_kept}
-use Rattle.sparql_eval.proofs.EvaluateSteps.{active_kept, after_one, after_two, all_below, index_kept, still_evaluated, tree_kept, join_keeps, left_join_keeps, union_keeps, minus_keeps, filter_keeps, extend_keeps, project_keeps, distinct_keeps}
+use Rattle.sparql_eval.proofs.EvaluateSteps.{active_kept, after_left, after_one, after_right, all_below, as_whole, index_kept, tree_kept, join_keeps, left_join_keeps, union_keeps, minus_keeps, filter_keeps, extend_keeps, project_keeps, distinct_keeps}
 use Rattle.sparql_eval.proofs.TreeSteps.{distinct_stands_for, distinct_tree, extend_stands_for, extend_tree, filter_stands_for, filter_tree, graph_stands_for, graph_tree, join_stands_for, join_tree, left_join_stands_for, left_join_tree, minus_stands_for, minus_tree, project_stands_for, project_tree, table_stands_for, table_tree, union_stands_for, union_tree}
-use Rattle.sparql_eval.proofs.ComputedSteps.{Wanted, WantedIn, takes_after_one, takes_after_two, takes_as, takes_in_each, takes_nothing, takes_values}
+use Rattle.sparql_eval.proofs.ComputedSteps.{WantedIn, takes_as, takes_both, takes_in_each, takes_nothing, takes_still, takes_values}
 use Rattle.sparql_eval.proofs.TakingLaws.{takes_none}
 use Rattle.sparql_eval.proofs.evaluator.Evaluator.+solve.Goals as goal
 
@@ -39,181 +39,286 @@ solve-returns-in-Pattern-clause-needed g t c =
 
 -- ---- Join
 
-pub solve-solve-requires-in-Join-clause-index : goal.solve-solve-requires-in-Join-clause-index
-solve-solve-requires-in-Join-clause-index g t c κs within = (index_kept c.args.dict c.in_ok-left-in-Join.dict c.in_ok-left-in-Join.ensures.evaluated.grown c.args.self.now.index.now c.requires.index).0
+pub solve-solve_join-requires-clause-index : goal.solve-solve_join-requires-clause-index
+solve-solve_join-requires-clause-index g t c κs within = (index_kept c.args.dict c.in_ok-left-in-Join.dict c.in_ok-left-in-Join.ensures.evaluated.grown c.args.self.now.index.now c.requires.index).0
 
-pub solve-solve-requires-in-Join-clause-active : goal.solve-solve-requires-in-Join-clause-active
-solve-solve-requires-in-Join-clause-active g t c κs within = (active_kept c.args.dict c.in_ok-left-in-Join.dict c.in_ok-left-in-Join.ensures.evaluated.grown c.args.active c.requires.active).0
+pub solve-solve_join-requires-clause-active : goal.solve-solve_join-requires-clause-active
+solve-solve_join-requires-clause-active g t c κs within = (active_kept c.args.dict c.in_ok-left-in-Join.dict c.in_ok-left-in-Join.ensures.evaluated.grown c.args.active c.requires.active).0
 
-pub solve-join-requires-clause-known_left : goal.solve-join-requires-clause-known_left
-solve-join-requires-clause-known_left g t c κs within = (rows_kept c.in_ok-left-in-Join.dict c.in_ok-right-in-Join.dict c.in_ok-right-in-Join.ensures.evaluated.grown c.in_ok-left-in-Join.left.rows c.in_ok-left-in-Join.ensures.evaluated.known).0
-
-pub solve-returns-in_ok-right-in-Join-clause-evaluated : goal.solve-returns-in_ok-right-in-Join-clause-evaluated
-solve-returns-in_ok-right-in-Join-clause-evaluated g t c =
+pub solve-returns-in_ok-left-in-Join-clause-evaluated : goal.solve-returns-in_ok-left-in-Join-clause-evaluated
+solve-returns-in_ok-left-in-Join-clause-evaluated g t c =
     let s = c.args.self.now in
     let S : Operator → List (Solution Term) = λ tree. tree_solutions c.args.dict s.index.now s.width c.args.active tree in
     let h = c.in_ok-left-in-Join.ensures.evaluated in
-    let k = still_evaluated c.args.dict c.in_ok-left-in-Join.dict h.grown s.index.now s.width c.args.active c.deref-in-Join.result.now c.requires.index c.requires.active c.in_ok-right-in-Join.right c.in_ok-right-in-Join.dict c.in_ok-right-in-Join.ensures.evaluated in
-    after_two c.args.dict c.in_ok-left-in-Join.dict c.in_ok-right-in-Join.dict s.width c.join.result (join term_eq) (join_keeps) (S c.deref.result.now) (S c.deref-in-Join.result.now) c.in_ok-left-in-Join.left c.in_ok-right-in-Join.right h k
-    (S c.args.tree.now) (ap S c.in-Join.is ∙ join_tree c.args.dict s.index.now s.width c.args.active c.in-Join.left c.in-Join.right ∙ (λ i. join term_eq (S ((sym c.deref.ensures) i)) (S ((sym c.deref-in-Join.ensures) i)))) c.join.ensures.evaluated
+    as_whole c.args.dict s.width c.solve_join.result (join term_eq (S c.deref.result.now) (S c.deref-in-Join.result.now)) (S c.args.tree.now)
+    (ap S c.in-Join.is ∙ join_tree c.args.dict s.index.now s.width c.args.active c.in-Join.left c.in-Join.right ∙ (λ i. join term_eq (S ((sym c.deref.ensures) i)) (S ((sym c.deref-in-Join.ensures) i))))
+    (after_left c.args.dict c.in_ok-left-in-Join.dict s.width c.solve_join.result (λ A B. join term_eq A B) (join_keeps) (S c.deref.result.now) (S c.deref-in-Join.result.now) (tree_solutions c.in_ok-left-in-Join.dict s.index.now s.width c.args.active c.deref-in-Join.result.now)
+    (tree_kept c.args.dict c.in_ok-left-in-Join.dict h.grown s.index.now s.width c.args.active c.deref-in-Join.result.now c.requires.index c.requires.active)
+    c.in_ok-left-in-Join.left h c.solve_join.ensures.evaluated)
 
-pub solve-returns-in_ok-right-in-Join-clause-needed : goal.solve-returns-in_ok-right-in-Join-clause-needed
-solve-returns-in_ok-right-in-Join-clause-needed g t c =
+pub solve-returns-in_ok-left-in-Join-clause-needed : goal.solve-returns-in_ok-left-in-Join-clause-needed
+solve-returns-in_ok-left-in-Join-clause-needed g t c =
     let s = c.args.self.now in
     let L = algebra_of c.deref.result.now in
     let R = algebra_of c.deref-in-Join.result.now in
-    takes_after_two c.args.dict c.in_ok-left-in-Join.dict c.in_ok-left-in-Join.ensures.evaluated.grown s.index.now c.requires.index s.width c.args.active c.requires.active
+    takes_both c.args.dict c.in_ok-left-in-Join.dict c.in_ok-left-in-Join.ensures.evaluated.grown s.index.now c.requires.index s.width c.args.active c.requires.active c.solve_join.result
     L R (algebra_of c.args.tree.now) (algebra.Join L R) (ap algebra_of c.in-Join.is ∙ join_stands_for c.in-Join.left c.in-Join.right ∙ (λ i. algebra.Join (algebra_of ((sym c.deref.ensures) i)) (algebra_of ((sym c.deref-in-Join.ensures) i)))) (λ x m. m)
-    c.in_ok-right-in-Join.dict c.in_ok-left-in-Join.ensures.needed c.in_ok-right-in-Join.ensures.needed c.join.result c.join.ensures.same_dict
+    c.in_ok-left-in-Join.ensures.needed c.solve_join.ensures.needed
 
 -- ---- LeftJoin
 
-pub solve-solve-requires-in-LeftJoin-2-clause-index : goal.solve-solve-requires-in-LeftJoin-2-clause-index
-solve-solve-requires-in-LeftJoin-2-clause-index g t c κs within = (index_kept c.args.dict c.in_ok-left-in-LeftJoin.dict c.in_ok-left-in-LeftJoin.ensures.evaluated.grown c.args.self.now.index.now c.requires.index).0
+pub solve-solve_left_join-requires-clause-index : goal.solve-solve_left_join-requires-clause-index
+solve-solve_left_join-requires-clause-index g t c κs within = (index_kept c.args.dict c.in_ok-left-in-LeftJoin.dict c.in_ok-left-in-LeftJoin.ensures.evaluated.grown c.args.self.now.index.now c.requires.index).0
 
-pub solve-solve-requires-in-LeftJoin-2-clause-active : goal.solve-solve-requires-in-LeftJoin-2-clause-active
-solve-solve-requires-in-LeftJoin-2-clause-active g t c κs within = (active_kept c.args.dict c.in_ok-left-in-LeftJoin.dict c.in_ok-left-in-LeftJoin.ensures.evaluated.grown c.args.active c.requires.active).0
+pub solve-solve_left_join-requires-clause-active : goal.solve-solve_left_join-requires-clause-active
+solve-solve_left_join-requires-clause-active g t c κs within = (active_kept c.args.dict c.in_ok-left-in-LeftJoin.dict c.in_ok-left-in-LeftJoin.ensures.evaluated.grown c.args.active c.requires.active).0
 
-pub solve-left_join-requires-clause-known_left : goal.solve-left_join-requires-clause-known_left
-solve-left_join-requires-clause-known_left g t c κs within = (rows_kept c.in_ok-left-in-LeftJoin.dict c.in_ok-right-in-LeftJoin.dict c.in_ok-right-in-LeftJoin.ensures.evaluated.grown c.in_ok-left-in-LeftJoin.left.rows c.in_ok-left-in-LeftJoin.ensures.evaluated.known).0
-
-pub solve-returns-in_ok-right-in-LeftJoin-clause-evaluated : goal.solve-returns-in_ok-right-in-LeftJoin-clause-evaluated
-solve-returns-in_ok-right-in-LeftJoin-clause-evaluated g t c =
+pub solve-returns-in_ok-left-in-LeftJoin-clause-evaluated : goal.solve-returns-in_ok-left-in-LeftJoin-clause-evaluated
+solve-returns-in_ok-left-in-LeftJoin-clause-evaluated g t c =
     let s = c.args.self.now in
     let S : Operator → List (Solution Term) = λ tree. tree_solutions c.args.dict s.index.now s.width c.args.active tree in
     let h = c.in_ok-left-in-LeftJoin.ensures.evaluated in
-    let k = still_evaluated c.args.dict c.in_ok-left-in-LeftJoin.dict h.grown s.index.now s.width c.args.active c.deref-in-LeftJoin-2.result.now c.requires.index c.requires.active c.in_ok-right-in-LeftJoin.right c.in_ok-right-in-LeftJoin.dict c.in_ok-right-in-LeftJoin.ensures.evaluated in
-    after_two c.args.dict c.in_ok-left-in-LeftJoin.dict c.in_ok-right-in-LeftJoin.dict s.width c.left_join.result (left_join term_eq (holds (expression_of c.in-LeftJoin.condition))) (left_join_keeps (holds (expression_of c.in-LeftJoin.condition))) (S c.deref-in-LeftJoin.result.now) (S c.deref-in-LeftJoin-2.result.now) c.in_ok-left-in-LeftJoin.left c.in_ok-right-in-LeftJoin.right h k
-    (S c.args.tree.now) (ap S c.in-LeftJoin.is ∙ left_join_tree c.args.dict s.index.now s.width c.args.active c.in-LeftJoin.left c.in-LeftJoin.right c.in-LeftJoin.condition ∙ (λ i. left_join term_eq (holds (expression_of c.in-LeftJoin.condition)) (S ((sym c.deref-in-LeftJoin.ensures) i)) (S ((sym c.deref-in-LeftJoin-2.ensures) i)))) c.left_join.ensures.evaluated
+    as_whole c.args.dict s.width c.solve_left_join.result (left_join term_eq (holds (expression_of c.in-LeftJoin.condition)) (S c.deref-in-LeftJoin.result.now) (S c.deref-in-LeftJoin-2.result.now)) (S c.args.tree.now)
+    (ap S c.in-LeftJoin.is ∙ left_join_tree c.args.dict s.index.now s.width c.args.active c.in-LeftJoin.left c.in-LeftJoin.right c.in-LeftJoin.condition ∙ (λ i. left_join term_eq (holds (expression_of c.in-LeftJoin.condition)) (S ((sym c.deref-in-LeftJoin.ensures) i)) (S ((sym c.deref-in-LeftJoin-2.ensures) i))))
+    (after_left c.args.dict c.in_ok-left-in-LeftJoin.dict s.width c.solve_left_join.result (λ A B. left_join term_eq (holds (expression_of c.in-LeftJoin.condition)) A B) (left_join_keeps (holds (expression_of c.in-LeftJoin.condition))) (S c.deref-in-LeftJoin.result.now) (S c.deref-in-LeftJoin-2.result.now) (tree_solutions c.in_ok-left-in-LeftJoin.dict s.index.now s.width c.args.active c.deref-in-LeftJoin-2.result.now)
+    (tree_kept c.args.dict c.in_ok-left-in-LeftJoin.dict h.grown s.index.now s.width c.args.active c.deref-in-LeftJoin-2.result.now c.requires.index c.requires.active)
+    c.in_ok-left-in-LeftJoin.left h c.solve_left_join.ensures.evaluated)
 
-pub solve-returns-in_ok-right-in-LeftJoin-clause-needed : goal.solve-returns-in_ok-right-in-LeftJoin-clause-needed
-solve-returns-in_ok-right-in-LeftJoin-clause-needed g t c =
+pub solve-returns-in_ok-left-in-LeftJoin-clause-needed : goal.solve-returns-in_ok-left-in-LeftJoin-clause-needed
+solve-returns-in_ok-left-in-LeftJoin-clause-needed g t c =
     let s = c.args.self.now in
     let L = algebra_of c.deref-in-LeftJoin.result.now in
     let R = algebra_of c.deref-in-LeftJoin-2.result.now in
-    takes_after_two c.args.dict c.in_ok-left-in-LeftJoin.dict c.in_ok-left-in-LeftJoin.ensures.evaluated.grown s.index.now c.requires.index s.width c.args.active c.requires.active
+    takes_both c.args.dict c.in_ok-left-in-LeftJoin.dict c.in_ok-left-in-LeftJoin.ensures.evaluated.grown s.index.now c.requires.index s.width c.args.active c.requires.active c.solve_left_join.result
     L R (algebra_of c.args.tree.now) (algebra.LeftJoin L R (expression_of c.in-LeftJoin.condition)) (ap algebra_of c.in-LeftJoin.is ∙ left_join_stands_for c.in-LeftJoin.left c.in-LeftJoin.right c.in-LeftJoin.condition ∙ (λ i. algebra.LeftJoin (algebra_of ((sym c.deref-in-LeftJoin.ensures) i)) (algebra_of ((sym c.deref-in-LeftJoin-2.ensures) i)) (expression_of c.in-LeftJoin.condition))) (λ x m. m)
-    c.in_ok-right-in-LeftJoin.dict c.in_ok-left-in-LeftJoin.ensures.needed c.in_ok-right-in-LeftJoin.ensures.needed c.left_join.result c.left_join.ensures.same_dict
+    c.in_ok-left-in-LeftJoin.ensures.needed c.solve_left_join.ensures.needed
 
 -- ---- Union
 
-pub solve-solve-requires-in-Union-2-clause-index : goal.solve-solve-requires-in-Union-2-clause-index
-solve-solve-requires-in-Union-2-clause-index g t c κs within = (index_kept c.args.dict c.in_ok-left-in-Union.dict c.in_ok-left-in-Union.ensures.evaluated.grown c.args.self.now.index.now c.requires.index).0
+pub solve-solve_union-requires-clause-index : goal.solve-solve_union-requires-clause-index
+solve-solve_union-requires-clause-index g t c κs within = (index_kept c.args.dict c.in_ok-left-in-Union.dict c.in_ok-left-in-Union.ensures.evaluated.grown c.args.self.now.index.now c.requires.index).0
 
-pub solve-solve-requires-in-Union-2-clause-active : goal.solve-solve-requires-in-Union-2-clause-active
-solve-solve-requires-in-Union-2-clause-active g t c κs within = (active_kept c.args.dict c.in_ok-left-in-Union.dict c.in_ok-left-in-Union.ensures.evaluated.grown c.args.active c.requires.active).0
+pub solve-solve_union-requires-clause-active : goal.solve-solve_union-requires-clause-active
+solve-solve_union-requires-clause-active g t c κs within = (active_kept c.args.dict c.in_ok-left-in-Union.dict c.in_ok-left-in-Union.ensures.evaluated.grown c.args.active c.requires.active).0
 
-pub solve-union_of-requires-clause-known_left : goal.solve-union_of-requires-clause-known_left
-solve-union_of-requires-clause-known_left g t c = (rows_kept c.in_ok-left-in-Union.dict c.in_ok-right-in-Union.dict c.in_ok-right-in-Union.ensures.evaluated.grown c.in_ok-left-in-Union.left.rows c.in_ok-left-in-Union.ensures.evaluated.known).0
-
-pub solve-returns-in_ok-right-in-Union-clause-evaluated : goal.solve-returns-in_ok-right-in-Union-clause-evaluated
-solve-returns-in_ok-right-in-Union-clause-evaluated g t c =
+pub solve-returns-in_ok-left-in-Union-clause-evaluated : goal.solve-returns-in_ok-left-in-Union-clause-evaluated
+solve-returns-in_ok-left-in-Union-clause-evaluated g t c =
     let s = c.args.self.now in
     let S : Operator → List (Solution Term) = λ tree. tree_solutions c.args.dict s.index.now s.width c.args.active tree in
     let h = c.in_ok-left-in-Union.ensures.evaluated in
-    let k = still_evaluated c.args.dict c.in_ok-left-in-Union.dict h.grown s.index.now s.width c.args.active c.deref-in-Union-2.result.now c.requires.index c.requires.active c.in_ok-right-in-Union.right c.in_ok-right-in-Union.dict c.in_ok-right-in-Union.ensures.evaluated in
-    after_two c.args.dict c.in_ok-left-in-Union.dict c.in_ok-right-in-Union.dict s.width c.union_of.result (λ A B. A ++ B) (union_keeps) (S c.deref-in-Union.result.now) (S c.deref-in-Union-2.result.now) c.in_ok-left-in-Union.left c.in_ok-right-in-Union.right h k
-    (S c.args.tree.now) (ap S c.in-Union.is ∙ union_tree c.args.dict s.index.now s.width c.args.active c.in-Union.left c.in-Union.right ∙ (λ i. (S ((sym c.deref-in-Union.ensures) i)) ++ (S ((sym c.deref-in-Union-2.ensures) i)))) c.union_of.ensures.evaluated
+    as_whole c.args.dict s.width c.solve_union.result ((S c.deref-in-Union.result.now) ++ (S c.deref-in-Union-2.result.now)) (S c.args.tree.now)
+    (ap S c.in-Union.is ∙ union_tree c.args.dict s.index.now s.width c.args.active c.in-Union.left c.in-Union.right ∙ (λ i. (S ((sym c.deref-in-Union.ensures) i)) ++ (S ((sym c.deref-in-Union-2.ensures) i))))
+    (after_left c.args.dict c.in_ok-left-in-Union.dict s.width c.solve_union.result (λ A B. A ++ B) (union_keeps) (S c.deref-in-Union.result.now) (S c.deref-in-Union-2.result.now) (tree_solutions c.in_ok-left-in-Union.dict s.index.now s.width c.args.active c.deref-in-Union-2.result.now)
+    (tree_kept c.args.dict c.in_ok-left-in-Union.dict h.grown s.index.now s.width c.args.active c.deref-in-Union-2.result.now c.requires.index c.requires.active)
+    c.in_ok-left-in-Union.left h c.solve_union.ensures.evaluated)
 
-pub solve-returns-in_ok-right-in-Union-clause-needed : goal.solve-returns-in_ok-right-in-Union-clause-needed
-solve-returns-in_ok-right-in-Union-clause-needed g t c =
+pub solve-returns-in_ok-left-in-Union-clause-needed : goal.solve-returns-in_ok-left-in-Union-clause-needed
+solve-returns-in_ok-left-in-Union-clause-needed g t c =
     let s = c.args.self.now in
     let L = algebra_of c.deref-in-Union.result.now in
     let R = algebra_of c.deref-in-Union-2.result.now in
-    takes_after_two c.args.dict c.in_ok-left-in-Union.dict c.in_ok-left-in-Union.ensures.evaluated.grown s.index.now c.requires.index s.width c.args.active c.requires.active
+    takes_both c.args.dict c.in_ok-left-in-Union.dict c.in_ok-left-in-Union.ensures.evaluated.grown s.index.now c.requires.index s.width c.args.active c.requires.active c.solve_union.result
     L R (algebra_of c.args.tree.now) (algebra.Union L R) (ap algebra_of c.in-Union.is ∙ union_stands_for c.in-Union.left c.in-Union.right ∙ (λ i. algebra.Union (algebra_of ((sym c.deref-in-Union.ensures) i)) (algebra_of ((sym c.deref-in-Union-2.ensures) i)))) (λ x m. m)
-    c.in_ok-right-in-Union.dict c.in_ok-left-in-Union.ensures.needed c.in_ok-right-in-Union.ensures.needed c.union_of.result c.union_of.ensures.same_dict
+    c.in_ok-left-in-Union.ensures.needed c.solve_union.ensures.needed
 
 -- ---- Minus
 
-pub solve-solve-requires-in-Minus-2-clause-index : goal.solve-solve-requires-in-Minus-2-clause-index
-solve-solve-requires-in-Minus-2-clause-index g t c κs within = (index_kept c.args.dict c.in_ok-left-in-Minus.dict c.in_ok-left-in-Minus.ensures.evaluated.grown c.args.self.now.index.now c.requires.index).0
+pub solve-solve_minus-requires-clause-index : goal.solve-solve_minus-requires-clause-index
+solve-solve_minus-requires-clause-index g t c κs within = (index_kept c.args.dict c.in_ok-left-in-Minus.dict c.in_ok-left-in-Minus.ensures.evaluated.grown c.args.self.now.index.now c.requires.index).0
 
-pub solve-solve-requires-in-Minus-2-clause-active : goal.solve-solve-requires-in-Minus-2-clause-active
-solve-solve-requires-in-Minus-2-clause-active g t c κs within = (active_kept c.args.dict c.in_ok-left-in-Minus.dict c.in_ok-left-in-Minus.ensures.evaluated.grown c.args.active c.requires.active).0
+pub solve-solve_minus-requires-clause-active : goal.solve-solve_minus-requires-clause-active
+solve-solve_minus-requires-clause-active g t c κs within = (active_kept c.args.dict c.in_ok-left-in-Minus.dict c.in_ok-left-in-Minus.ensures.evaluated.grown c.args.active c.requires.active).0
 
-pub solve-minus-requires-clause-known_left : goal.solve-minus-requires-clause-known_left
-solve-minus-requires-clause-known_left g t c κs within = (rows_kept c.in_ok-left-in-Minus.dict c.in_ok-right-in-Minus.dict c.in_ok-right-in-Minus.ensures.evaluated.grown c.in_ok-left-in-Minus.left.rows c.in_ok-left-in-Minus.ensures.evaluated.known).0
-
-pub solve-returns-in_ok-right-in-Minus-clause-evaluated : goal.solve-returns-in_ok-right-in-Minus-clause-evaluated
-solve-returns-in_ok-right-in-Minus-clause-evaluated g t c =
+pub solve-returns-in_ok-left-in-Minus-clause-evaluated : goal.solve-returns-in_ok-left-in-Minus-clause-evaluated
+solve-returns-in_ok-left-in-Minus-clause-evaluated g t c =
     let s = c.args.self.now in
     let S : Operator → List (Solution Term) = λ tree. tree_solutions c.args.dict s.index.now s.width c.args.active tree in
     let h = c.in_ok-left-in-Minus.ensures.evaluated in
-    let k = still_evaluated c.args.dict c.in_ok-left-in-Minus.dict h.grown s.index.now s.width c.args.active c.deref-in-Minus-2.result.now c.requires.index c.requires.active c.in_ok-right-in-Minus.right c.in_ok-right-in-Minus.dict c.in_ok-right-in-Minus.ensures.evaluated in
-    after_two c.args.dict c.in_ok-left-in-Minus.dict c.in_ok-right-in-Minus.dict s.width c.minus.result (minus term_eq) (minus_keeps) (S c.deref-in-Minus.result.now) (S c.deref-in-Minus-2.result.now) c.in_ok-left-in-Minus.left c.in_ok-right-in-Minus.right h k
-    (S c.args.tree.now) (ap S c.in-Minus.is ∙ minus_tree c.args.dict s.index.now s.width c.args.active c.in-Minus.left c.in-Minus.right ∙ (λ i. minus term_eq (S ((sym c.deref-in-Minus.ensures) i)) (S ((sym c.deref-in-Minus-2.ensures) i)))) c.minus.ensures.evaluated
+    as_whole c.args.dict s.width c.solve_minus.result (minus term_eq (S c.deref-in-Minus.result.now) (S c.deref-in-Minus-2.result.now)) (S c.args.tree.now)
+    (ap S c.in-Minus.is ∙ minus_tree c.args.dict s.index.now s.width c.args.active c.in-Minus.left c.in-Minus.right ∙ (λ i. minus term_eq (S ((sym c.deref-in-Minus.ensures) i)) (S ((sym c.deref-in-Minus-2.ensures) i))))
+    (after_left c.args.dict c.in_ok-left-in-Minus.dict s.width c.solve_minus.result (λ A B. minus term_eq A B) (minus_keeps) (S c.deref-in-Minus.result.now) (S c.deref-in-Minus-2.result.now) (tree_solutions c.in_ok-left-in-Minus.dict s.index.now s.width c.args.active c.deref-in-Minus-2.result.now)
+    (tree_kept c.args.dict c.in_ok-left-in-Minus.dict h.grown s.index.now s.width c.args.active c.deref-in-Minus-2.result.now c.requires.index c.requires.active)
+    c.in_ok-left-in-Minus.left h c.solve_minus.ensures.evaluated)
 
-pub solve-returns-in_ok-right-in-Minus-clause-needed : goal.solve-returns-in_ok-right-in-Minus-clause-needed
-solve-returns-in_ok-right-in-Minus-clause-needed g t c =
+pub solve-returns-in_ok-left-in-Minus-clause-needed : goal.solve-returns-in_ok-left-in-Minus-clause-needed
+solve-returns-in_ok-left-in-Minus-clause-needed g t c =
     let s = c.args.self.now in
     let L = algebra_of c.deref-in-Minus.result.now in
     let R = algebra_of c.deref-in-Minus-2.result.now in
-    takes_after_two c.args.dict c.in_ok-left-in-Minus.dict c.in_ok-left-in-Minus.ensures.evaluated.grown s.index.now c.requires.index s.width c.args.active c.requires.active
+    takes_both c.args.dict c.in_ok-left-in-Minus.dict c.in_ok-left-in-Minus.ensures.evaluated.grown s.index.now c.requires.index s.width c.args.active c.requires.active c.solve_minus.result
     L R (algebra_of c.args.tree.now) (algebra.Minus L R) (ap algebra_of c.in-Minus.is ∙ minus_stands_for c.in-Minus.left c.in-Minus.right ∙ (λ i. algebra.Minus (algebra_of ((sym c.deref-in-Minus.ensures) i)) (algebra_of ((sym c.deref-in-Minus-2.ensures) i)))) (λ x m. m)
-    c.in_ok-right-in-Minus.dict c.in_ok-left-in-Minus.ensures.needed c.in_ok-right-in-Minus.ensures.needed c.minus.result c.minus.ensures.same_dict
+    c.in_ok-left-in-Minus.ensures.needed c.solve_minus.ensures.needed
 
 -- ---- Filter
 
-pub solve-returns-in_ok-rows-in-Filter-clause-evaluated : goal.solve-returns-in_ok-rows-in-Filter-clause-evaluated
-solve-returns-in_ok-rows-in-Filter-clause-evaluated g t c =
+pub solve-returns-in-Filter-clause-evaluated : goal.solve-returns-in-Filter-clause-evaluated
+solve-returns-in-Filter-clause-evaluated g t c =
     let s = c.args.self.now in
     let S : Operator → List (Solution Term) = λ tree. tree_solutions c.args.dict s.index.now s.width c.args.active tree in
-    after_one c.args.dict c.in_ok-rows-in-Filter.dict s.width c.filter.result (filter (holds (expression_of c.in-Filter.condition))) (filter_keeps (holds (expression_of c.in-Filter.condition))) (S c.deref-in-Filter.result.now) c.in_ok-rows-in-Filter.rows c.in_ok-rows-in-Filter.ensures.evaluated
-    (S c.args.tree.now) (ap S c.in-Filter.is ∙ filter_tree c.args.dict s.index.now s.width c.args.active c.in-Filter.condition c.in-Filter.inner ∙ (λ i. filter (holds (expression_of c.in-Filter.condition)) (S ((sym c.deref-in-Filter.ensures) i)))) c.filter.ensures.evaluated
+    as_whole c.args.dict s.width c.solve_filter.result (filter (holds (expression_of c.in-Filter.condition)) (S c.deref-in-Filter.result.now)) (S c.args.tree.now)
+    (ap S c.in-Filter.is ∙ filter_tree c.args.dict s.index.now s.width c.args.active c.in-Filter.condition c.in-Filter.inner ∙ (λ i. filter (holds (expression_of c.in-Filter.condition)) (S ((sym c.deref-in-Filter.ensures) i))))
+    c.solve_filter.ensures.evaluated
 
-pub solve-returns-in_ok-rows-in-Filter-clause-needed : goal.solve-returns-in_ok-rows-in-Filter-clause-needed
-solve-returns-in_ok-rows-in-Filter-clause-needed g t c =
+pub solve-returns-in-Filter-clause-needed : goal.solve-returns-in-Filter-clause-needed
+solve-returns-in-Filter-clause-needed g t c =
     let s = c.args.self.now in
-    takes_after_one c.args.dict s.index.now s.width c.args.active c.filter.result (algebra_of c.args.tree.now) (algebra.Filter (expression_of c.in-Filter.condition) (algebra_of c.deref-in-Filter.result.now))
-    (ap algebra_of c.in-Filter.is ∙ filter_stands_for c.in-Filter.condition c.in-Filter.inner ∙ (λ i. algebra.Filter (expression_of c.in-Filter.condition) (algebra_of ((sym c.deref-in-Filter.ensures) i)))) c.in_ok-rows-in-Filter.dict c.in_ok-rows-in-Filter.ensures.needed c.filter.ensures.same_dict
+    takes_as c.args.dict s.index.now s.width c.args.active c.solve_filter.result (algebra_of c.args.tree.now) (algebra.Filter (expression_of c.in-Filter.condition) (algebra_of c.deref-in-Filter.result.now))
+    (ap algebra_of c.in-Filter.is ∙ filter_stands_for c.in-Filter.condition c.in-Filter.inner ∙ (λ i. algebra.Filter (expression_of c.in-Filter.condition) (algebra_of ((sym c.deref-in-Filter.ensures) i))))
+    c.solve_filter.ensures.needed
 
 -- ---- Extend
 
-pub solve-returns-in_ok-rows-in-Extend-clause-evaluated : goal.solve-returns-in_ok-rows-in-Extend-clause-evaluated
-solve-returns-in_ok-rows-in-Extend-clause-evaluated g t c =
+pub solve-returns-in-Extend-clause-evaluated : goal.solve-returns-in-Extend-clause-evaluated
+solve-returns-in-Extend-clause-evaluated g t c =
     let s = c.args.self.now in
     let S : Operator → List (Solution Term) = λ tree. tree_solutions c.args.dict s.index.now s.width c.args.active tree in
-    after_one c.args.dict c.in_ok-rows-in-Extend.dict s.width c.extend.result (extend c.in-Extend.variable (val (expression_of c.in-Extend.expression))) (extend_keeps c.in-Extend.variable (val (expression_of c.in-Extend.expression))) (S c.deref-in-Extend.result.now) c.in_ok-rows-in-Extend.rows c.in_ok-rows-in-Extend.ensures.evaluated
-    (S c.args.tree.now) (ap S c.in-Extend.is ∙ extend_tree c.args.dict s.index.now s.width c.args.active c.in-Extend.variable c.in-Extend.expression c.in-Extend.inner ∙ (λ i. extend c.in-Extend.variable (val (expression_of c.in-Extend.expression)) (S ((sym c.deref-in-Extend.ensures) i)))) c.extend.ensures.evaluated
+    as_whole c.args.dict s.width c.solve_extend.result (extend c.in-Extend.variable (val (expression_of c.in-Extend.expression)) (S c.deref-in-Extend.result.now)) (S c.args.tree.now)
+    (ap S c.in-Extend.is ∙ extend_tree c.args.dict s.index.now s.width c.args.active c.in-Extend.variable c.in-Extend.expression c.in-Extend.inner ∙ (λ i. extend c.in-Extend.variable (val (expression_of c.in-Extend.expression)) (S ((sym c.deref-in-Extend.ensures) i))))
+    c.solve_extend.ensures.evaluated
 
-pub solve-returns-in_ok-rows-in-Extend-clause-needed : goal.solve-returns-in_ok-rows-in-Extend-clause-needed
-solve-returns-in_ok-rows-in-Extend-clause-needed g t c =
+pub solve-returns-in-Extend-clause-needed : goal.solve-returns-in-Extend-clause-needed
+solve-returns-in-Extend-clause-needed g t c =
     let s = c.args.self.now in
-    let x = c.in-Extend in
-    takes_values c.args.dict s.index.now s.width c.args.active c.extend.result x.variable (expression_of x.expression) (algebra_of c.deref-in-Extend.result.now) (algebra_of c.args.tree.now)
-    (ap algebra_of x.is ∙ extend_stands_for x.variable x.expression x.inner ∙ (λ i. algebra.Extend x.variable (expression_of x.expression) (algebra_of ((sym c.deref-in-Extend.ensures) i))))
-    c.in_ok-rows-in-Extend.dict c.in_ok-rows-in-Extend.rows c.in_ok-rows-in-Extend.ensures.evaluated c.in_ok-rows-in-Extend.ensures.needed c.extend.ensures.needed
+    takes_as c.args.dict s.index.now s.width c.args.active c.solve_extend.result (algebra_of c.args.tree.now) (algebra.Extend c.in-Extend.variable (expression_of c.in-Extend.expression) (algebra_of c.deref-in-Extend.result.now))
+    (ap algebra_of c.in-Extend.is ∙ extend_stands_for c.in-Extend.variable c.in-Extend.expression c.in-Extend.inner ∙ (λ i. algebra.Extend c.in-Extend.variable (expression_of c.in-Extend.expression) (algebra_of ((sym c.deref-in-Extend.ensures) i))))
+    c.solve_extend.ensures.needed
 
 -- ---- Project
 
-pub solve-returns-in_ok-rows-in-Project-clause-evaluated : goal.solve-returns-in_ok-rows-in-Project-clause-evaluated
-solve-returns-in_ok-rows-in-Project-clause-evaluated g t c =
+pub solve-returns-in-Project-clause-evaluated : goal.solve-returns-in-Project-clause-evaluated
+solve-returns-in-Project-clause-evaluated g t c =
     let s = c.args.self.now in
     let S : Operator → List (Solution Term) = λ tree. tree_solutions c.args.dict s.index.now s.width c.args.active tree in
-    after_one c.args.dict c.in_ok-rows-in-Project.dict s.width c.project.result (project c.as_slice-in-Project.result.now) (project_keeps c.as_slice-in-Project.result.now) (S c.deref-in-Project.result.now) c.in_ok-rows-in-Project.rows c.in_ok-rows-in-Project.ensures.evaluated
-    (S c.args.tree.now) (ap S c.in-Project.is ∙ project_tree c.args.dict s.index.now s.width c.args.active c.in-Project.variables c.in-Project.inner ∙ (λ i. project ((sym c.as_slice-in-Project.ensures.value) i) (S ((sym c.deref-in-Project.ensures) i)))) c.project.ensures.evaluated
+    as_whole c.args.dict s.width c.solve_project.result (project c.as_slice-in-Project.result.now (S c.deref-in-Project.result.now)) (S c.args.tree.now)
+    (ap S c.in-Project.is ∙ project_tree c.args.dict s.index.now s.width c.args.active c.in-Project.variables c.in-Project.inner ∙ (λ i. project ((sym c.as_slice-in-Project.ensures.value) i) (S ((sym c.deref-in-Project.ensures) i))))
+    c.solve_project.ensures.evaluated
 
-pub solve-returns-in_ok-rows-in-Project-clause-needed : goal.solve-returns-in_ok-rows-in-Project-clause-needed
-solve-returns-in_ok-rows-in-Project-clause-needed g t c =
+pub solve-returns-in-Project-clause-needed : goal.solve-returns-in-Project-clause-needed
+solve-returns-in-Project-clause-needed g t c =
     let s = c.args.self.now in
-    takes_after_one c.args.dict s.index.now s.width c.args.active c.project.result (algebra_of c.args.tree.now) (algebra.Project c.in-Project.variables.items (algebra_of c.deref-in-Project.result.now))
-    (ap algebra_of c.in-Project.is ∙ project_stands_for c.in-Project.variables c.in-Project.inner ∙ (λ i. algebra.Project c.in-Project.variables.items (algebra_of ((sym c.deref-in-Project.ensures) i)))) c.in_ok-rows-in-Project.dict c.in_ok-rows-in-Project.ensures.needed c.project.ensures.same_dict
+    takes_as c.args.dict s.index.now s.width c.args.active c.solve_project.result (algebra_of c.args.tree.now) (algebra.Project c.as_slice-in-Project.result.now (algebra_of c.deref-in-Project.result.now))
+    (ap algebra_of c.in-Project.is ∙ project_stands_for c.in-Project.variables c.in-Project.inner ∙ (λ i. algebra.Project ((sym c.as_slice-in-Project.ensures.value) i) (algebra_of ((sym c.deref-in-Project.ensures) i))))
+    c.solve_project.ensures.needed
 
 -- ---- Distinct
 
-pub solve-returns-in_ok-rows-in-Distinct-clause-evaluated : goal.solve-returns-in_ok-rows-in-Distinct-clause-evaluated
-solve-returns-in_ok-rows-in-Distinct-clause-evaluated g t c =
+pub solve-returns-in-Distinct-clause-evaluated : goal.solve-returns-in-Distinct-clause-evaluated
+solve-returns-in-Distinct-clause-evaluated g t c =
     let s = c.args.self.now in
     let S : Operator → List (Solution Term) = λ tree. tree_solutions c.args.dict s.index.now s.width c.args.active tree in
-    after_one c.args.dict c.in_ok-rows-in-Distinct.dict s.width c.distinct.result (distinct term_eq) (distinct_keeps) (S c.deref-in-Distinct.result.now) c.in_ok-rows-in-Distinct.rows c.in_ok-rows-in-Distinct.ensures.evaluated
-    (S c.args.tree.now) (ap S c.in-Distinct.is ∙ distinct_tree c.args.dict s.index.now s.width c.args.active c.in-Distinct.inner ∙ (λ i. distinct term_eq (S ((sym c.deref-in-Distinct.ensures) i)))) c.distinct.ensures.evaluated
+    as_whole c.args.dict s.width c.solve_distinct.result (distinct term_eq (S c.deref-in-Distinct.result.now)) (S c.args.tree.now)
+    (ap S c.in-Distinct.is ∙ distinct_tree c.args.dict s.index.now s.width c.args.active c.in-Distinct.inner ∙ (λ i. distinct term_eq (S ((sym c.deref-in-Distinct.ensures) i))))
+    c.solve_distinct.ensures.evaluated
 
-pub solve-returns-in_ok-rows-in-Distinct-clause-needed : goal.solve-returns-in_ok-rows-in-Distinct-clause-needed
-solve-returns-in_ok-rows-in-Distinct-clause-needed g t c =
+pub solve-returns-in-Distinct-clause-needed : goal.solve-returns-in-Distinct-clause-needed
+solve-returns-in-Distinct-clause-needed g t c =
     let s = c.args.self.now in
-    takes_after_one c.args.dict s.index.now s.width c.args.active c.distinct.result (algebra_of c.args.tree.now) (algebra.Distinct (algebra_of c.deref-in-Distinct.result.now))
-    (ap algebra_of c.in-Distinct.is ∙ distinct_stands_for c.in-Distinct.inner ∙ (λ i. algebra.Distinct (algebra_of ((sym c.deref-in-Distinct.ensures) i)))) c.in_ok-rows-in-Distinct.dict c.in_ok-rows-in-Distinct.ensures.needed c.distinct.ensures.same_dict
+    takes_as c.args.dict s.index.now s.width c.args.active c.solve_distinct.result (algebra_of c.args.tree.now) (algebra.Distinct (algebra_of c.deref-in-Distinct.result.now))
+    (ap algebra_of c.in-Distinct.is ∙ distinct_stands_for c.in-Distinct.inner ∙ (λ i. algebra.Distinct (algebra_of ((sym c.deref-in-Distinct.ensures) i))))
+    c.solve_distinct.ensures.needed
+
+-- ---- an operator over the rows of its inputs
+
+pub solve_join-join-requires-clause-known_left : goal.solve_join-join-requires-clause-known_left
+solve_join-join-requires-clause-known_left g t c κs within = (rows_kept c.args.dict c.in_ok-right.dict c.in_ok-right.ensures.evaluated.grown c.args.left.rows c.requires.known_left).0
+
+pub solve_join-returns-clause-evaluated : goal.solve_join-returns-clause-evaluated
+solve_join-returns-clause-evaluated g t c =
+    let s = c.args.self.now in
+    let S : Operator → List (Solution Term) = λ tree. tree_solutions c.args.dict s.index.now s.width c.args.active tree in
+    after_right c.args.dict c.in_ok-right.dict s.width c.join.result (join term_eq) (join_keeps) (S c.args.right.now) c.args.left c.in_ok-right.right c.requires.same_width c.requires.known_left c.in_ok-right.ensures.evaluated c.join.ensures.evaluated
+
+pub solve_join-returns-clause-needed : goal.solve_join-returns-clause-needed
+solve_join-returns-clause-needed g t c =
+    let s = c.args.self.now in
+    takes_still (Wanted c.args.dict s.index.now s.width c.args.active (algebra_of c.args.right.now)) c.args.dict c.in_ok-right.dict c.join.result c.in_ok-right.ensures.needed c.join.ensures.same_dict
+
+pub solve_left_join-left_join-requires-clause-known_left : goal.solve_left_join-left_join-requires-clause-known_left
+solve_left_join-left_join-requires-clause-known_left g t c κs within = (rows_kept c.args.dict c.in_ok-right.dict c.in_ok-right.ensures.evaluated.grown c.args.left.rows c.requires.known_left).0
+
+pub solve_left_join-returns-clause-evaluated : goal.solve_left_join-returns-clause-evaluated
+solve_left_join-returns-clause-evaluated g t c =
+    let s = c.args.self.now in
+    let S : Operator → List (Solution Term) = λ tree. tree_solutions c.args.dict s.index.now s.width c.args.active tree in
+    after_right c.args.dict c.in_ok-right.dict s.width c.left_join.result (left_join term_eq (holds (expression_of c.args.condition.now))) (left_join_keeps (holds (expression_of c.args.condition.now))) (S c.args.right.now) c.args.left c.in_ok-right.right c.requires.same_width c.requires.known_left c.in_ok-right.ensures.evaluated c.left_join.ensures.evaluated
+
+pub solve_left_join-returns-clause-needed : goal.solve_left_join-returns-clause-needed
+solve_left_join-returns-clause-needed g t c =
+    let s = c.args.self.now in
+    takes_still (Wanted c.args.dict s.index.now s.width c.args.active (algebra_of c.args.right.now)) c.args.dict c.in_ok-right.dict c.left_join.result c.in_ok-right.ensures.needed c.left_join.ensures.same_dict
+
+pub solve_union-union_of-requires-clause-known_left : goal.solve_union-union_of-requires-clause-known_left
+solve_union-union_of-requires-clause-known_left g t c = (rows_kept c.args.dict c.in_ok-right.dict c.in_ok-right.ensures.evaluated.grown c.args.left.rows c.requires.known_left).0
+
+pub solve_union-returns-clause-evaluated : goal.solve_union-returns-clause-evaluated
+solve_union-returns-clause-evaluated g t c =
+    let s = c.args.self.now in
+    let S : Operator → List (Solution Term) = λ tree. tree_solutions c.args.dict s.index.now s.width c.args.active tree in
+    after_right c.args.dict c.in_ok-right.dict s.width c.union_of.result (λ A B. A ++ B) (union_keeps) (S c.args.right.now) c.args.left c.in_ok-right.right c.requires.same_width c.requires.known_left c.in_ok-right.ensures.evaluated c.union_of.ensures.evaluated
+
+pub solve_union-returns-clause-needed : goal.solve_union-returns-clause-needed
+solve_union-returns-clause-needed g t c =
+    let s = c.args.self.now in
+    takes_still (Wanted c.args.dict s.index.now s.width c.args.active (algebra_of c.args.right.now)) c.args.dict c.in_ok-right.dict c.union_of.result c.in_ok-right.ensures.needed c.union_of.ensures.same_dict
+
+pub solve_minus-minus-requires-clause-known_left : goal.solve_minus-minus-requires-clause-known_left
+solve_minus-minus-requires-clause-known_left g t c κs within = (rows_kept c.args.dict c.in_ok-right.dict c.in_ok-right.ensures.evaluated.grown c.args.left.rows c.requires.known_left).0
+
+pub solve_minus-returns-clause-evaluated : goal.solve_minus-returns-clause-evaluated
+solve_minus-returns-clause-evaluated g t c =
+    let s = c.args.self.now in
+    let S : Operator → List (Solution Term) = λ tree. tree_solutions c.args.dict s.index.now s.width c.args.active tree in
+    after_right c.args.dict c.in_ok-right.dict s.width c.minus.result (minus term_eq) (minus_keeps) (S c.args.right.now) c.args.left c.in_ok-right.right c.requires.same_width c.requires.known_left c.in_ok-right.ensures.evaluated c.minus.ensures.evaluated
+
+pub solve_minus-returns-clause-needed : goal.solve_minus-returns-clause-needed
+solve_minus-returns-clause-needed g t c =
+    let s = c.args.self.now in
+    takes_still (Wanted c.args.dict s.index.now s.width c.args.active (algebra_of c.args.right.now)) c.args.dict c.in_ok-right.dict c.minus.result c.in_ok-right.ensures.needed c.minus.ensures.same_dict
+
+pub solve_filter-returns-clause-evaluated : goal.solve_filter-returns-clause-evaluated
+solve_filter-returns-clause-evaluated g t c =
+    let s = c.args.self.now in
+    let S : Operator → List (Solution Term) = λ tree. tree_solutions c.args.dict s.index.now s.width c.args.active tree in
+    after_one c.args.dict c.in_ok-rows.dict s.width c.filter.result (filter (holds (expression_of c.args.condition.now))) (filter_keeps (holds (expression_of c.args.condition.now))) (S c.args.inner.now) c.in_ok-rows.rows c.in_ok-rows.ensures.evaluated c.filter.ensures.evaluated
+
+pub solve_filter-returns-clause-needed : goal.solve_filter-returns-clause-needed
+solve_filter-returns-clause-needed g t c =
+    let s = c.args.self.now in
+    takes_still (Wanted c.args.dict s.index.now s.width c.args.active (algebra_of c.args.inner.now)) c.args.dict c.in_ok-rows.dict c.filter.result c.in_ok-rows.ensures.needed c.filter.ensures.same_dict
+
+pub solve_extend-returns-clause-evaluated : goal.solve_extend-returns-clause-evaluated
+solve_extend-returns-clause-evaluated g t c =
+    let s = c.args.self.now in
+    let S : Operator → List (Solution Term) = λ tree. tree_solutions c.args.dict s.index.now s.width c.args.active tree in
+    after_one c.args.dict c.in_ok-rows.dict s.width c.extend.result (extend c.args.variable (val (expression_of c.args.expression.now))) (extend_keeps c.args.variable (val (expression_of c.args.expression.now))) (S c.args.inner.now) c.in_ok-rows.rows c.in_ok-rows.ensures.evaluated c.extend.ensures.evaluated
+
+pub solve_extend-returns-clause-needed : goal.solve_extend-returns-clause-needed
+solve_extend-returns-clause-needed g t c =
+    let s = c.args.self.now in
+    takes_values c.args.dict s.index.now s.width c.args.active c.extend.result c.args.variable (expression_of c.args.expression.now) (algebra_of c.args.inner.now)
+    c.in_ok-rows.dict c.in_ok-rows.rows c.in_ok-rows.ensures.evaluated c.in_ok-rows.ensures.needed c.extend.ensures.needed
+
+pub solve_project-returns-clause-evaluated : goal.solve_project-returns-clause-evaluated
+solve_project-returns-clause-evaluated g t c =
+    let s = c.args.self.now in
+    let S : Operator → List (Solution Term) = λ tree. tree_solutions c.args.dict s.index.now s.width c.args.active tree in
+    after_one c.args.dict c.in_ok-rows.dict s.width c.project.result (project c.args.variables.now) (project_keeps c.args.variables.now) (S c.args.inner.now) c.in_ok-rows.rows c.in_ok-rows.ensures.evaluated c.project.ensures.evaluated
+
+pub solve_project-returns-clause-needed : goal.solve_project-returns-clause-needed
+solve_project-returns-clause-needed g t c =
+    let s = c.args.self.now in
+    takes_still (Wanted c.args.dict s.index.now s.width c.args.active (algebra_of c.args.inner.now)) c.args.dict c.in_ok-rows.dict c.project.result c.in_ok-rows.ensures.needed c.project.ensures.same_dict
+
+pub solve_distinct-returns-clause-evaluated : goal.solve_distinct-returns-clause-evaluated
+solve_distinct-returns-clause-evaluated g t c =
+    let s = c.args.self.now in
+    let S : Operator → List (Solution Term) = λ tree. tree_solutions c.args.dict s.index.now s.width c.args.active tree in
+    after_one c.args.dict c.in_ok-rows.dict s.width c.distinct.result (distinct term_eq) (distinct_keeps) (S c.args.inner.now) c.in_ok-rows.rows c.in_ok-rows.ensures.evaluated c.distinct.ensures.evaluated
+
+pub solve_distinct-returns-clause-needed : goal.solve_distinct-returns-clause-needed
+solve_distinct-returns-clause-needed g t c =
+    let s = c.args.self.now in
+    takes_still (Wanted c.args.dict s.index.now s.width c.args.active (algebra_of c.args.inner.now)) c.args.dict c.in_ok-rows.dict c.distinct.result c.in_ok-rows.ensures.needed c.distinct.ensures.same_dict
 
 -- ---- Table
 
@@ -296,13 +401,12 @@ solve_each-loop-i-preserved g t c =
     let low = graph_known terms c.len-distinct.ensures.distinct s.index.now c.requires.index graphs c.graphs-names.ensures.names c.loop-i.i n at in
     let got = subst (λ (A : List (Solution Term)). IsEvaluated now s.width A c.in_ok-rows.rows later)
     (tree_kept terms now was.grown s.index.now s.width (Some n) tree c.requires.index (λ m e. let p : n ≡ m = cc in subst (λ (x : ℕ). x < length terms) p low)) h in
-    let name = c.as_slice.ensures.value ∙ c.in_ok-name.ensures.row in
-    let added = c.in_ok-add_named.ensures.added ∙ ap (λ (ν : List (Option ℕ)). c.loop-i.made.rows ++ join nat_eq c.in_ok-rows.rows.rows (ν ∷ [])) name in
+    let added = c.in_ok-add_graph.ensures.added ∙ ap (λ (v : ℕ). c.loop-i.made.rows ++ join nat_eq c.in_ok-rows.rows.rows (set (replicate v None) c.args.variable (Some n) ∷ [])) c.in_ok-rows.ensures.evaluated.wide in
     let grown = grown_twice terms now later was.grown h.grown in
     let more = each_more terms now later c.len-still_distinct.ensures.distinct was.grown h.grown grown s.width c.args.variable P
-    c.loop-i.made.rows c.add_named.new.made.rows c.in_ok-rows.rows graphs c.loop-i.i n at low was.known was.bag got added in
+    c.loop-i.made.rows c.add_graph.new.made.rows c.in_ok-rows.rows graphs c.loop-i.i n at low was.known was.bag got added in
     record {
-      width = c.in_ok-add_named.ensures.width ∙ was.width;
+      width = c.in_ok-add_graph.ensures.width ∙ was.width;
       grown = grown;
       takes = takes_in_each terms s.index.now s.width (algebra_of tree) c.len-distinct.ensures.distinct c.requires.index graphs c.graphs-names.ensures.names c.args.variable c.loop-i.i n at low now later was.grown was.takes c.in_ok-rows.ensures.needed;
       known = more.0;

@@ -4,7 +4,7 @@ use Rattle.sparql_eval.specs.declared.piece_values.PieceValue.{PieceValue}
 use Rattle.sparql_eval.specs.Values.{AreValues}
 use Rattle.sparql_eval.proofs.ReadingLaws.{grown_itself}
 use Rattle.sparql_eval.proofs.ValueSteps.{values_more}
-use Rattle.sparql_eval.proofs.values.ValueJob.values.Goals as goal
+use Rattle.sparql_eval.proofs.values.ValueJob.values_into.Goals as goal
 
 pub loop-i-preserved : goal.loop-i-preserved
 loop-i-preserved c =

@@ -4,13 +4,13 @@ use Rattle.algebra_model.specs.Reading.{Each}
 use Rattle.dict_core.specs.Dict.{IsGrown}
 use Rattle.sparql_eval.specs.Computed.{IsCell, TakesOnly}
 use Rattle.sparql_eval.proofs.ReadingLaws.{Known, read_by}
-use Rattle.sparql_eval.proofs.tables.table.Given as goal
+use Rattle.sparql_eval.proofs.tables.tabulated.Given as goal
 
 abbrev pub invariant-loop-cells : goal.invariant-loop-cells
 invariant-loop-cells l = record {
   width : l.made.width ≡ l.width;
-  grown : IsGrown l.fn.dict l.dict;
+  grown : IsGrown l.initial.dict l.dict;
   known : Each (Known l.dict) l.made.rows;
   made : map (read_by l.dict) l.made.rows ≡ table l.width l.variables (map (λ row. row.items) (take l.cells-index l.rows));
-  needed : TakesOnly (IsCell l.variables (map (λ row. row.items) l.rows)) l.fn.dict l.dict;
+  needed : TakesOnly (IsCell l.variables (map (λ row. row.items) l.rows)) l.initial.dict l.dict;
 }

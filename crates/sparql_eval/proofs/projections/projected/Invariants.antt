@@ -1,6 +1,6 @@
 use Rattle.std.proofs.Common.{◌≡◌, take}
 use Rattle.algebra_model.specs.Operators.{project}
-use Rattle.sparql_eval.proofs.projections.project.Given as goal
+use Rattle.sparql_eval.proofs.projections.projected.Given as goal
 
 abbrev pub invariant-loop-i : goal.invariant-loop-i
 invariant-loop-i l = record {

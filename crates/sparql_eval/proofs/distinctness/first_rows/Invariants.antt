@@ -1,6 +1,6 @@
 use Rattle.std.proofs.Common.{◌≡◌, nat_eq, map, take}
 use Rattle.algebra_model.specs.Operators.{distinct}
-use Rattle.sparql_eval.proofs.distinctness.distinct.Given as goal
+use Rattle.sparql_eval.proofs.distinctness.first_rows.Given as goal
 
 abbrev pub invariant-loop-i : goal.invariant-loop-i
 invariant-loop-i l = record {
