@@ -24,7 +24,7 @@ use std::thread::Threads;
 /// with none.
 ///
 /// # Requires
-/// Both sides have the same width, and `how` keeps its limits.
+/// Both sides have the same width, and `how` is within its limits.
 ///
 /// # Errors
 /// - `WorkerRefused` if a worker thread could not be started. It cannot occur with one worker, or

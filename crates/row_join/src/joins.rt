@@ -21,7 +21,7 @@ use std::thread::Threads;
 /// by variables that both sides bind, and the tasks over the left side borrow it.
 ///
 /// # Requires
-/// Both sides have the same width, and `how` keeps its limits.
+/// Both sides have the same width, and `how` is within its limits.
 ///
 /// # Errors
 /// - `WorkerRefused` if a worker thread could not be started. It cannot occur with one worker, or

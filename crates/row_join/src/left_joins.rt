@@ -44,8 +44,8 @@ pub trait RowTest {
 /// tasks over the left side borrow it.
 ///
 /// # Requires
-/// Both sides have the same width, the condition accepts the numbers of both, and `how` keeps its
-/// limits.
+/// Both sides have the same width, the condition accepts the numbers of both, and `how` is within
+/// its limits.
 ///
 /// # Errors
 /// - `WorkerRefused` if a worker thread could not be started. It cannot occur with one worker, or
