@@ -72,7 +72,7 @@ impl<'a> RowWork for Matches<'a> {
 ///
 /// # Requires
 /// The variables of the triples are below `width`, their blank node labels below `labels`, and
-/// `how` keeps its limits.
+/// `how` is within its limits.
 ///
 /// # Errors
 /// - `WorkerRefused` if a worker thread could not be started. It cannot occur with one worker.
