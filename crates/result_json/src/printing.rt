@@ -62,7 +62,7 @@ pub struct Table<'a> {
 /// the work.
 ///
 /// # Requires
-/// Each number in the rows is the place of a term in `dict`, and `how` keeps its limits.
+/// Each number in the rows is the place of a term in `dict`, and `how` is within its limits.
 ///
 /// # Errors
 /// - `WorkerRefused` if a worker thread could not be started. The started workers have been joined.

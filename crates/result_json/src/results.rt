@@ -130,7 +130,7 @@ fn enclosed(
 /// ends with a line feed.
 ///
 /// # Requires
-/// `how` keeps its limits.
+/// `how` is within its limits.
 ///
 /// # Errors
 /// - `WorkerRefused` if a worker thread could not be started. It cannot occur with one worker.

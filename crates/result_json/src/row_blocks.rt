@@ -103,7 +103,7 @@ fn block(
 /// it prints all.
 ///
 /// # Requires
-/// `how` keeps its limits.
+/// `how` is within its limits.
 ///
 /// # Errors
 /// - `WorkerRefused` if a worker thread could not be started. It cannot occur with one worker.
