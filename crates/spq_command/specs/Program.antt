@@ -1,5 +1,5 @@
--- The command line of the program, as the library of command lines describes it, and the command of
--- its matches. A choice of this project (not fixed by a standard).
+-- The command line of the program, which is a choice of this project, as the library of command
+-- lines describes it; and the command of its matches.
 use Rattle.std.specs.Prelude.{◌≡◌, ℕ, true, false, List, [], ◌∷◌, ◌++◌, Option, Some, None, codes}
 use Rattle.std.specs.Str.Parse.{digits_value, without_leading_plus}
 use Rattle.clap.specs.Words.{App, Row, Rule, Text, fault_of, first_of, new_rule, one_of, subcommand_of}
