@@ -57,7 +57,7 @@ val (call f a) μ = with_value (val a μ) (call_value f)
 val (bound v) μ = Some (boolean_term (is_some (get_or μ v None)))
 val (same_term a b) μ = boolean_result (with_values (val a μ) (val b μ) (λ s t. Some (term_eq s t)))
 
--- a solution passes a filter exactly if the effective boolean value is true
+-- a solution passes a filter exactly if the effective boolean value is true (section 18.5, Filter)
 abbrev pub is_true : Option Bool → Bool
 is_true (Some b) = b
 is_true None = false

@@ -1,6 +1,6 @@
--- Numbers of any length: a lexical form is digits, with an optional sign and dot. Its value is a
--- signed whole number over a power of ten (XML Schema 1.1 Part 2, sections 3.3.3 and 3.4.13). The
--- order of numbers is exact (SPARQL 1.1 Query Language, section 17.3).
+-- Numbers of any length (XML Schema 1.1 Part 2, sections 3.3.3 and 3.4.13), with an exact order
+-- (SPARQL 1.1 Query Language, section 17.3). A lexical form is digits with an optional sign and
+-- dot. Its value is a signed whole number over a power of ten.
 use Rattle.std.specs.Prelude.{ℕ, ◌+◌, ◌*◌, ◌^◌, Bool, false, ◌||◌, ◌==◌, ℤ, pos, neg_ℤ, List, [], ◌∷◌, ◌++◌, length, drop, Option, Some, None, if◌then◌else◌}
 use Rattle.std.specs.Char.{is_ascii_digit}
 use Rattle.std.specs.List.{list_all, position_or_len, before_first}

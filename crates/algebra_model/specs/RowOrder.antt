@@ -1,5 +1,5 @@
--- The order of rows. SPARQL leaves the order of an unsorted result open (section 15.1); this one is
--- a choice of this project (not fixed by the standard).
+-- The order of rows, which is a choice of this project (SPARQL 1.1 Query Language, section 15.1,
+-- does not fix the order of a result without ORDER BY).
 use Rattle.std.specs.Prelude.{ℕ, List, Option, None, map, get_or}
 use Rattle.std.specs.declared.cmp.Ordering.{Ordering}
 use Rattle.std.specs.Option.{option_cmp}

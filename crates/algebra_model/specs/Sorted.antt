@@ -26,11 +26,12 @@ module _ {X : Type 0} (cmp : X → X → Ordering) where
   sorted_list [] = []
   sorted_list (x ∷ xs) = place x (sorted_list xs)
 
--- LIMIT: at most this number of elements, and all of them if there is no limit
+-- LIMIT (section 15.5): at most this number of elements, and all of them if there is no limit
 abbrev pub limited : {X : Type 0} → Option ℕ → List X → List X
 limited None xs = xs
 limited (Some n) xs = take n xs
 
--- Slice: the elements from the offset on, counted from 0, at most as many as the limit
+-- Slice (section 18.5): the elements from the offset on, counted from 0, at most as many as the
+-- limit
 abbrev pub slice : {X : Type 0} → ℕ → Option ℕ → List X → List X
 slice offset limit xs = limited limit (drop offset xs)
