@@ -109,8 +109,8 @@ module _ {T : Type 0} (same : T → T → Bool) where
       either_false false = inl refl
 
   module _ (decides : (x y : T) → Decides (same x y) (x ≡ y)) where
-    -- A scan that gives each triple of the graph that agrees with the map once, and perhaps others,
-    -- extends the map to the same multiset as the whole graph.
+    -- A scan gives each triple that agrees with the map once, and perhaps others. It extends the
+    -- map to the same multiset as the whole graph.
     pub extend_by-scan : (w : ℕ) (t : TriplePattern T) (m : Solution T) (q : Triple T → Bool) → ((g : Triple T) → q g ≡ false → agrees_with same w t m g ≡ false)
         → (S G : List (Triple T)) → IsPermutation S (filter q G) → IsSameBag (filter_map (extend_by same w t m) S) (filter_map (extend_by same w t m) G)
     extend_by-scan w t m q covers S G h =

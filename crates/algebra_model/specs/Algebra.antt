@@ -28,8 +28,8 @@ pub data Algebra : Type 0 where
   -- the variables of VALUES and its rows of cells, where UNDEF is `None`
   Table : List ℕ → List (List (Option Term)) → Algebra
 
--- Every variable that the expression binds or lists is one of w variables, and every blank node
--- label of a pattern is one of its labels.
+-- The variables that the expression binds or lists are below w, and the labels of each pattern are
+-- below its count of labels.
 abbrev pub is_below : ℕ → ℕ → PatternTerm Term → Bool
 is_below w labels (variable v) = nat_lt v w
 is_below w labels (label l) = nat_lt l labels

@@ -35,8 +35,8 @@ module _ {T : Type 0} (same : T → T → Bool) where
   join A B = flat_map (λ μ. merges μ B) A
 
   -- LeftJoin, where `keeps` is whether the condition is true of a solution: the joined solutions
-  -- that it keeps, and each solution of A for which every solution of B is incompatible or gives a
-  -- merge of which the condition is not true
+  -- that it keeps, and the other solutions of A. For the latter, every solution of B is
+  -- incompatible or gives a merge of which the condition is not true.
   abbrev pub left_join :
       (Solution T → Bool) → List (Solution T) → List (Solution T) → List (Solution T)
   left_join keeps A B =

@@ -2,9 +2,9 @@
 //! laws on which an evaluator relies. `specs/` has the definitions. `src/laws.rt` has the laws, as
 //! contracts of functions without effect. `proofs/` has the lemmas that other crates use.
 //!
-//! Callers use `eval w D g algebra`, the multiset of solutions of an algebra expression over a
-//! dataset `D`, with the active graph `g` and `w` variables. Their contracts state `IsSameBag` with
-//! it, or `sorted_rows` of it if the order matters.
+//! Callers use `eval w D g algebra`. It is the multiset of solutions of an algebra expression over
+//! a dataset `D`, with the active graph `g` and `w` variables. Their contracts state `IsSameBag`
+//! with it, or `sorted_rows` of it if the order matters.
 //!
 //! Standards: SPARQL 1.1 Query Language, sections 17 and 18; RDF 1.1 Concepts, section 4. Two
 //! choices of this project are marked as such: the order of rows, and the solutions in a graph that
