@@ -10,8 +10,8 @@ use std::marker::Model;
 /// The right to draw from one board, to report to it and to look at it. A board hands out one pass
 /// for each seat, and takes all of them back when it is closed.
 ///
-/// In contracts a pass is the lists of its draws and reports, the least report that it has seen,
-/// its count of skips and the lowest number that it skipped.
+/// In contracts a pass is the lists of its draws and reports, the least report seen, the count of
+/// its skips and its lowest skip.
 #[derive(Drop)]
 pub struct Pass {
     pub(crate) seat: Seat<(), History>,
