@@ -39,8 +39,8 @@ places_below n p rows = filter (λ i. p (get_or rows i [])) (range_with_len 0 n)
 abbrev pub places_where : (Solution ℕ → Bool) → List (Solution ℕ) → List ℕ
 places_where p rows = places_below (length rows) p rows
 
--- the place of each row is in the group of its numbers if it binds all variables of the key, and
--- otherwise in the list of the others
+-- each row has its place: in the group of its numbers if it binds all variables of the key, and in
+-- the list of the others if not
 abbrev pub IsTableOf : List ℕ → List (Solution ℕ) → PlaceTable → Type 0
 IsTableOf key rows table =
     ((numbers : List ℕ) → group_of table.keyed numbers ≡ places_where (has_key key numbers) rows)
