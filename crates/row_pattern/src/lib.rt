@@ -3,8 +3,9 @@
 //!
 //! [`pattern`] returns the multiset of the pattern's solutions, as `bgp` of the algebra's model
 //! defines it. A solution comes from a map of the variables and blank node labels to numbers of the
-//! graph that makes every triple pattern a triple of the graph. It is this map without the labels.
-//! Maps that differ in labels only give equal solutions, and all of these are kept.
+//! graph. The map makes every triple pattern a triple of the graph. The solution is this map
+//! without the labels. Maps that differ in labels only give equal solutions, and all of these are
+//! kept.
 //!
 //! The contract of [`pattern`] states that the rows are that multiset, and that their numbers occur
 //! in the graph. The law [`rows_read_as_solutions`] states what the rows are when numbers are read

@@ -81,10 +81,10 @@ fn steps_of(
     Ok(steps)
 }
 
-/// Estimates how many quads a step gives for one row in which these cells are bound, and returns 0
-/// if the step has nothing to bind. A place whose variable is bound is assumed to select one quad
-/// of 65536. So triple patterns that share a variable with earlier ones come first, unless another
-/// one matches few quads.
+/// Estimates how many quads a step gives for one row in which these cells are bound. Returns 0 if
+/// the step has nothing to bind. A place whose variable is bound is assumed to select one quad of
+/// 65536. So triple patterns that share a variable with earlier ones come first, unless another one
+/// matches few quads.
 fn cost(step: &Step, row: &[Option<u64>]) -> usize {
     let mut cost = step.matches;
     let mut binds = false;
