@@ -39,8 +39,8 @@ fn a_refusal_keeps_its_name(rt: HostRuntime) {
     );
 }
 
-/// Prints the result of `n` pieces, of which those below `sound` are not faulty. It has the number of results in
-/// their places, or the least faulty piece with its fault, and how many pieces entered and left the gate.
+/// Prints the result of `n` pieces, of which those below `sound` are not faulty: the number of results in their
+/// places, or the least faulty piece with its fault. Also prints how many pieces entered and left the gate.
 fn told<R: Threads + Wait>(
     rt: &R,
     alloc: Global,
