@@ -1,5 +1,5 @@
--- What the library's walk keeps of each row if it accepts the arguments of a command whose
--- arguments are options of one value and requests for help.
+-- What the library's walk keeps of each row if it accepts the arguments of a command. Each argument
+-- of the command is an option of one value or a request for help.
 use Rattle.std.proofs.Common.{◌≡◌, ◌∙◌, ◌&&◌, ◌||◌, ◌≤◌, ◌==◌, ◌⊎◌, ℕ, Bool, zero, suc, List, [], ◌∷◌, length, Option, Some, None, inl, inr, refl, sym, subst, ap, arith, cond, true, false, true≢false, is_some, not, ◌++◌}
 use Rattle.std.proofs.lemmas.Bool.{ne_eqb}
 use Rattle.std.specs.Prelude.{⊤, find, fold, slice_get, chars}
