@@ -84,7 +84,7 @@ def is_needed(name, quads, options):
 def answer(bench, oxigraph_load):
     """Measures the queries. Returns for each query the results of the engines.
 
-    Oxigraph answers from its store, so its results include the measurement of its load. Without one it is left out.
+    Oxigraph queries its store, so its results include the measurement of its load. Without one it is left out.
     """
     answers = {}
     for title, query in QUERIES.items():

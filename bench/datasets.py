@@ -3,8 +3,8 @@
 
     datasets.py QUADS [SEED]
 
-The same arguments give the same bytes. Works, persons and places are in the default graph. The records of each lending
-branch are in a named graph; a blank node names every fifth graph.
+The same arguments give the same bytes. Works, persons and places are in the default graph. The records of each branch
+library are in a named graph; a blank node names every fifth graph.
 The dataset has plain, typed and language-tagged literals, blank nodes, escapes and non-ASCII text.
 Python 3 standard library only.
 """

@@ -61,7 +61,7 @@ def loaders(tools, path, folder):
 
 
 def engines(tools, path, folder, query):
-    """Returns the commands that answer a query over the document at `path`.
+    """Returns the commands that evaluate a query over the document at `path`.
 
     Oxigraph reads the store that its load command has filled; the others load the document first.
     """

@@ -24,7 +24,7 @@ from queries import PREFIX, QUERIES
 
 
 def answer(dataset, query, output, limit):
-    """Answers a query in a child process. Returns the seconds and the peak in MiB, or the failure."""
+    """Evaluates a query in a child process. Returns the seconds and the peak in MiB, or the failure."""
     start = time.perf_counter()
     child = os.fork()
     if child == 0:

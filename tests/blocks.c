@@ -1,6 +1,6 @@
-/* For the tests: tells how many blocks of memory the program that it is preloaded into (LD_PRELOAD) has not given
-   back when it ends. It stands in for malloc, calloc, realloc, free and the aligned ones of the C library, and
-   prints the line `N blocks are left` to standard error. */
+/* For the tests: a library to preload into a program (LD_PRELOAD). It counts the blocks of memory that the program has
+   not freed when it ends, and prints the line `N blocks are left` to standard error. It replaces malloc, calloc,
+   realloc, free and the aligned allocation functions of the C library. */
 #define _GNU_SOURCE
 #include <errno.h>
 #include <stdatomic.h>
@@ -57,7 +57,7 @@ void free(void *block) {
     __libc_free(block);
 }
 
-/* The program ends by this call. */
+/* The program calls this function when it ends. */
 void _exit(int status) {
     char line[40];
     int size = snprintf(line, sizeof line, "%ld blocks are left\n", atomic_load(&blocks));

@@ -1,14 +1,14 @@
 #!/usr/bin/env python3
-"""Deep, long and broken input for the built program: it has to answer each with its own line and status.
+"""Runs the built program on deep, long and broken input, and checks the output and the status of each run.
 
     hostile.py [PATH] [--only WORD] [--size N]
 
-PATH is the program (crates/spq/out/spq where none is given). A case is a command line, a document, and
-the line and status that must come. A program that ends by a signal, prints anything else, or runs for
-longer than two minutes has failed. The documents of `growth` are read at a size and at four times that
-size: time and memory may grow by twice that factor, but not by its square.
-`--size N` scales the large documents: N percent of their full size, so that a first try is quick.
-Python 3 standard library, and cc for two cases that stand in for calls of the C library.
+PATH is the program (default: crates/spq/out/spq). A case is a command line, a document, and the expected
+output and status. A case fails if a signal ends the program, if the program prints anything else, or if it
+runs for longer than two minutes. The documents of `growth` are read at a size and at four times that size.
+Time and memory may grow by twice that factor, but not by its square.
+`--size N` scales the large documents to N percent of their full size, so that a first run is quick.
+Needs the Python 3 standard library, and cc for two cases that replace calls of the C library.
 """
 import argparse
 import itertools
@@ -63,7 +63,7 @@ class Program:
         return path
 
     def run(self, words, document, limit=None, output=None):
-        """Runs it on a document, the parts of one or the path of a file, with stdout read or sent to a file."""
+        """Runs the program on a document, given as parts or as the path of a file. Stdout is read or goes to a file."""
         path = document if isinstance(document, str) else self.file(document)
         kept = os.path.join(self.folder, "output")
         with open(path, "rb") as source, open(output or kept, "wb") as sink:
@@ -74,7 +74,7 @@ class Program:
         return Answer(status, text, seconds, peak)
 
     def wait(self, child):
-        """The status, the processor's seconds, and the most memory that was seen, in MiB."""
+        """Returns the status, the seconds of CPU time, and the peak memory in MiB."""
         peak, end = 0.0, time.monotonic() + SECONDS
         while time.monotonic() < end:
             peak = high_water(child.pid) or peak
@@ -91,7 +91,7 @@ class Program:
 
 
 def high_water(pid):
-    """The peak of a process so far; what wait4 tells has that of this script in it, from before the exec."""
+    """Returns the peak of a process so far. The peak of wait4 includes that of this script, from before the exec."""
     try:
         with open(f"/proc/{pid}/status") as lines:
             return next((int(line.split()[1]) / 1024 for line in lines if line.startswith("VmHWM:")), None)
@@ -100,7 +100,7 @@ def high_water(pid):
 
 
 def repeated(part, count):
-    """A long document in parts of some megabytes."""
+    """Yields a long document in parts of some megabytes."""
     whole = max(1, MIB // len(part))
     for _ in range(count // whole):
         yield part * whole
@@ -121,10 +121,10 @@ SMALL = [
     ("an empty document", b"", 0, counts(0, 0, 0)),
     ("one line feed", b"\n", 0, counts(0, 0, 0)),
     ("no line feed", STATEMENT[:-1], 0, counts(1, 3, 0)),
-    ("a bad line without a line feed", STATEMENT + b"x", 1, bad_line(2)),
+    ("a malformed line without a line feed", STATEMENT + b"x", 1, bad_line(2)),
     ("a lone CR at the end", STATEMENT[:-1] + b"\r", 0, counts(1, 3, 0)),
     ("a NUL byte alone", b"\0", 1, bad_line(1)),
-    ("a NUL byte behind a statement", STATEMENT + STATEMENT[:-1] + b"\0\n", 1, bad_line(2)),
+    ("a NUL byte after a statement", STATEMENT + STATEMENT[:-1] + b"\0\n", 1, bad_line(2)),
     ("a NUL byte in an IRI", b"<http://e/\0> <http://e/p> <http://e/o> .\n", 1, bad_line(1)),
     ("a NUL byte in a literal", b'<http://e/s> <http://e/p> "\0" .\n', 0, counts(1, 3, 0)),
     ("a byte that begins no character", STATEMENT + b'<http://e/s> <http://e/p> "\xff" .\n', 1, bad_line(2)),
@@ -231,7 +231,7 @@ def many_workers_over_many_pieces(program):
 
 
 def many_workers_over_many_rows(program):
-    """A join and an OPTIONAL of ten thousand rows each, row by row: the same bytes as by one worker."""
+    """Checks that ten thousand rows of a join and an OPTIONAL, in tasks of one row, are the bytes of one worker."""
     lines = [b"<http://e/s%d> <http://e/%s> <http://e/o%d> .\n" % (n, p, n % 97) for n in range(10_000) for p in (b"p", b"q")]
     query = "SELECT ?s ?o { { ?s <http://e/p> ?o } { ?s <http://e/q> ?o } OPTIONAL { ?s <http://e/q> ?r FILTER(?r = ?o) } }"
     answers = set()
@@ -289,10 +289,10 @@ def an_input_that_fails(program):
         expect((status, text) == (5, b"error: input\n"), f"{what}: status {status} and {text[:200]!r}")
 
 
-# ---- refusals of the system
+# ---- failures of the system
 
 def little_memory(program):
-    """Under every limit on the address space the answer stands, or memory or a worker is refused."""
+    """Checks under limits on the address space that the result is right, or that the error is memory or worker."""
     lines = [b"<http://e/s%d> <http://e/p> _:b%d .\n" % (n, n) for n in range(20_000)]
     path = program.file(lines)
     answers = {
@@ -309,11 +309,11 @@ def little_memory(program):
             got = (answer.status, answer.output)
             expect(got in answers, f"{size} MiB, {workers} workers: status {got[0]} and {got[1][:200]!r}")
             seen.add(got)
-    expect(len(seen) > 1, "no limit was small enough to be felt")
+    expect(len(seen) > 1, "no limit was small enough to matter")
 
 
 def few_processes(program):
-    """No further thread may start: one worker, which is the caller, answers; of more one may be refused."""
+    """Checks a system that starts no thread: one worker, the caller, gives the result; more may fail."""
     copied = shutil.copy(program.path, os.path.join(program.folder, "program"))
     program = Program(copied, program.folder, program.percent)
 
@@ -331,35 +331,35 @@ def few_processes(program):
         got = (answer.status, answer.output)
         expect(got in answers, f"{workers} workers: status {got[0]} and {got[1][:200]!r}")
         seen.add(got)
-    expect(refused in seen, "the system refused no thread")
+    expect(refused in seen, "the system started every thread")
     answer = program.run(["select", "--query", "SELECT * {}"], [STATEMENT], limit=limit)
     got = (answer.status, answer.output)
-    expect(got == refused, f"select, on a thread of its own: status {got[0]} and {got[1][:200]!r}")
+    expect(got == refused, f"select, on another thread: status {got[0]} and {got[1][:200]!r}")
 
 
 def refuse_in_turn(program, library, words, answered, kind, refused):
-    """The first call of this kind refused, then the second, up to a run that meets none: the answer, or a refusal."""
+    """Lets the first call of this kind fail, then the second, and so on. Expects the result or an error each time."""
     for n in range(1, 2000):
         refusal = {**os.environ, "LD_PRELOAD": library, f"REFUSE_{kind}": str(n)}
         ran = subprocess.run([program.path, *words], input=STATEMENT, capture_output=True, env=refusal, timeout=SECONDS)
         got = (ran.returncode, ran.stdout)
         expect(got in [answered, *refused], f"{words[0]}, {kind} {n}: status {got[0]} and {got[1][:200]!r}")
         if b"refused" not in ran.stderr:
-            expect(got == answered, f"{words[0]}: status {got[0]} and {got[1][:200]!r}, and nothing was refused")
-            expect(n > 1, f"{words[0]}: no {kind} was refused")
+            expect(got == answered, f"{words[0]}: status {got[0]} and {got[1][:200]!r}, and no call failed")
+            expect(n > 1, f"{words[0]}: no {kind} failed")
             return
-    raise Failed(f"{words[0]}: more than 2000 refusals of {kind}")
+    raise Failed(f"{words[0]}: more than 2000 failures of {kind}")
 
 
 def stand_in(program, name):
-    """A library of tests/NAME.c that stands in for calls of the C library."""
+    """Compiles tests/NAME.c to a library that replaces calls of the C library."""
     library = os.path.join(program.folder, f"{name}.so")
     subprocess.run(["cc", "-O2", "-shared", "-fPIC", "-o", library, os.path.join(HERE, f"{name}.c")], check=True)
     return library
 
 
 def each_call_refused(program):
-    """Each growth of a run refused in turn, from its command line on, and each start of a thread."""
+    """Lets each allocation of a run fail in turn, from its command line on, and each start of a thread."""
     library = stand_in(program, "refusals")
     memory, worker = (4, b"error: memory\n"), (4, b"error: worker\n")
     terms = b"<http://e/s>\n<http://e/p>\n<http://e/o>\n"
@@ -369,7 +369,7 @@ def each_call_refused(program):
 
 
 def nothing_left_behind(program):
-    """Every block of memory is given back, of long chains too (but for one that the C library keeps of a thread)."""
+    """Checks that every block of memory is freed, also of long chains. The C library keeps one block of a thread."""
     library = stand_in(program, "blocks")
     filters = [b"||1", b"&&1", b"&&!(1)", b"||?a=1", b"||?a IN(1,?b)", b"||STR(?a)", b"||BOUND(?a)", b"||sameTerm(?a,1)"]
     groups = [b"UNION{}", b"UNION{?a?b?c}", b"{}", b"{?a?b?c}", b"OPTIONAL{?a?b?c}", b"MINUS{?a?b?c}", b"GRAPH?g{?a?b?c}"]
@@ -418,7 +418,7 @@ def one_long_literal(n):
 
 
 def expect_near_linear(name, empty, less, more):
-    """Four times the input: at most eight times the seconds and the memory, over those of an empty document."""
+    """Checks that four times the input takes at most eight times the time and memory, less those of an empty document."""
     for what, start, a, b, least in (
         ("seconds", empty.seconds, less.seconds, more.seconds, 0.2),
         ("MiB", empty.peak, less.peak, more.peak, 16),
@@ -442,7 +442,7 @@ def growth(program):
 
 
 def terms_of_one_weak_hash(program):
-    """Terms to which hashes that sum up characters by powers of 31 give one value: no slower than others."""
+    """Checks terms that have one hash if characters are summed up by powers of 31: they are no slower than others."""
     n = program.scaled(100_000)
     words = (b"".join(b"Aa" if k >> bit & 1 else b"BB" for bit in range(17)) for k in range(n))
     chosen = program.run(["check"], (b"<http://e/%s> <http://e/p> <http://e/o> .\n" % word for word in words))
@@ -459,7 +459,7 @@ NO_NAMES = b'{"head":{"vars":[]},"results":{"bindings":[{}]}}\n'
 
 
 def brackets(program):
-    """100 deep is answered; 101 deep, and as deep as a command line can be, is refused as too deep."""
+    """Checks that 100 levels are accepted, and 101 levels and the most of a command line are rejected as too deep."""
     for depth in (1, 99, 100, 101, 1000, 60_000):
         status, line = (0, NO_NAMES) if depth <= 100 else (2, b"error: query depth\n")
         for query in (
@@ -477,7 +477,7 @@ def brackets(program):
 
 
 def chain(n):
-    """Statements s0 next s1, s1 next s2, ..; each with a size, each fourth with a note."""
+    """Yields the statements s0 next s1, s1 next s2, ..; each subject has a size, every fourth one a note."""
     for k in range(n):
         yield b"<http://e/s%d> <http://e/next> <http://e/s%d> .\n" % (k, k + 1)
         yield b'<http://e/s%d> <http://e/size> "%d" .\n' % (k, k % 1000)
@@ -486,7 +486,7 @@ def chain(n):
 
 
 def growing_answers(program):
-    """What is joined by a key, and what is looked at row by row, takes time and memory near its rows."""
+    """Checks that joins by a key and row by row operators take time and memory near linear in their rows."""
     empty = program.run(["check"], [b""])
     n = program.scaled(40_000)
     for query, rows in (
@@ -511,26 +511,26 @@ def growing_answers(program):
 
 
 def many_graphs_in_turn(program):
-    """A group that is evaluated in one graph after the other."""
+    """Evaluates a group in one graph after the other."""
     graphs = program.scaled(50_000)
     parts = (b"<http://e/s> <http://e/p> <http://e/o> <http://e/g%d> .\n" % n for n in range(graphs))
     answer = program.run(["select", "--query", "SELECT ?g { GRAPH ?g { ?s ?p ?o } }"], parts)
     expect(answer.status == 0, f"status {answer.status} and {answer.output[:200]!r}")
-    expect(answer.output.count(b'{"g":{') == graphs, "not a row for each graph")
+    expect(answer.output.count(b'{"g":{') == graphs, "not one row for each graph")
 
 
 def a_graph_within_many_graphs(program):
-    """A named graph is looked for in one graph after the other."""
+    """Evaluates a named graph inside one graph after the other."""
     graphs = program.scaled(50_000)
     parts = (b"<http://e/s> <http://e/p> <http://e/o> <http://e/g%d> .\n" % n for n in range(graphs))
     query = "SELECT ?g ?s { GRAPH ?g { GRAPH <http://e/g%d> { ?s ?p ?o } } }" % (graphs - 1)
     answer = program.run(["select", "--query", query], parts)
     expect(answer.status == 0, f"status {answer.status} and {answer.output[:200]!r}")
-    expect(answer.output.count(b'{"g":{') == graphs, "not a row for each graph")
+    expect(answer.output.count(b'{"g":{') == graphs, "not one row for each graph")
 
 
 def long_lists(program):
-    """Queries of some hundred kilobytes that are long side by side, not one part behind the other."""
+    """Runs queries of some hundred kilobytes with long lists."""
     numbers = [b"%05d" % n for n in range(10_000)]
     integers = [b'{"x":{"datatype":"http://www.w3.org/2001/XMLSchema#integer","type":"literal","value":"%s"}}' % n for n in numbers]
     names = [b"v" + n for n in numbers]
@@ -551,7 +551,7 @@ def long_lists(program):
 
 
 def results(names, rows):
-    """The results in JSON, of names and rows as they are printed."""
+    """Returns the results in JSON, from names and printed rows."""
     names = b",".join(b'"%s"' % name for name in names)
     return b'{"head":{"vars":[%s]},"results":{"bindings":[%s]}}\n' % (names, b",".join(rows))
 
@@ -562,12 +562,12 @@ def a_query_before_a_bad_document(program):
     program.run(["select", "--query", "SELECT * {}"], parts).is_exactly(1, bad_line(1))
 
 
-# A word of a command line has at most so many bytes, the NUL behind it not counted.
+# The largest number of bytes of an argument, without the NUL after it.
 LONGEST_WORD = 32 * 4096 - 1
 
 
 def longest(start, part, end):
-    """The longest query of a start, of parts that are numbered, and of an end; and how many parts it has."""
+    """Returns the longest query of a start, numbered parts and an end, and the number of its parts."""
     parts, room = [], LONGEST_WORD - len(start + end)
     for number in itertools.count():
         parts.append(part.replace("%", str(number)))
@@ -584,13 +584,13 @@ TRIPLE = results([b"s", b"p", b"o"], [
 
 
 def bound_to_one(count):
-    """The results of one row, in which so many names have the value 1."""
+    """Returns the results of one row in which `count` names have the value 1."""
     names = [b"v%d" % number for number in range(count)]
     return results(names, [b"{%s}" % b",".join(b'"%s":%s' % (name, ONE) for name in sorted(names))])
 
 
-# Long, but not nested by brackets: a start, a part that comes again and again, an end, and the answer, or
-# how it hangs on the count of the parts.
+# Long queries without nested brackets: a start, a repeated part, an end, and the result, or a function from the
+# count of the parts to the result.
 CHAINS = [
     ("both", "SELECT * { FILTER(1", "&&1", ") }", NO_NAMES),
     ("either", "SELECT * { FILTER(1", "||0", ") }", NO_NAMES),
@@ -620,7 +620,7 @@ CHAINS = [
 
 
 def long_queries(program):
-    """As long as a command line can be, with 8 MiB of stack: what is meant is a tree as deep as it has parts."""
+    """Runs the longest queries of a command line, with 8 MiB of stack. Their trees are as deep as they have parts."""
     most = resource.getrlimit(resource.RLIMIT_STACK)[1]
     limit = lambda: resource.setrlimit(resource.RLIMIT_STACK, (8 * MIB, most))
     faults = []
@@ -635,7 +635,7 @@ def long_queries(program):
 
 
 def long_queries_and_little_memory(program):
-    """Under every limit on the address space a long query is answered, or memory or a worker is refused."""
+    """Checks long queries under limits on the address space: the result is right, or the error is memory or worker."""
     answers = {(0, NO_NAMES), (4, b"error: memory\n"), (4, b"error: worker\n")}
     for start, part, end in (("SELECT * { FILTER(1", "&&1", ") }"), ("SELECT * {", "OPTIONAL{}", "}")):
         query, _ = longest(start, part, end)
@@ -647,7 +647,7 @@ def long_queries_and_little_memory(program):
             got = (answer.status, answer.output)
             expect(got in answers, f"{size} MiB: status {got[0]} and {got[1][:200]!r}")
             seen.add(got)
-        expect(len(seen) > 1, "no limit was small enough to be felt")
+        expect(len(seen) > 1, "no limit was small enough to matter")
 
 
 CASES = [

@@ -1,15 +1,15 @@
 #!/usr/bin/env python3
-"""The place of the first wrong character of a line, against a regular expression of the grammar.
+"""Compares the place of the first wrong character of a line with a regular expression of the grammar.
 
     tests/line_places.py [--length N] [--program PATH]   runs the program on each line
-    tests/line_places.py [--length N] --write             prints the lines, one a line
-    tests/line_places.py [--length N] --columns FILE      compares columns ('ok': well-formed), one a line
+    tests/line_places.py [--length N] --write             prints the lines
+    tests/line_places.py [--length N] --columns FILE      compares columns, one on each line ('ok': well-formed)
 
-The lines are every text of up to N characters (by default 3) over an alphabet of 23, each after one of
-the beginnings below. A line of N-Quads is a regular language, so a regular expression written from the
-grammar of RDF 1.1 N-Quads says of each beginning of a line whether some well-formed line begins so:
-`fullmatch(.., partial=True)` of the module `regex` (Debian: python3-regex). The expected column is that
-of the first character after which none does, or one after the end of the line.
+The lines are every text of up to N characters (default: 3) over an alphabet of 23, each after one of the
+beginnings below. The lines of N-Quads are a regular language. So a regular expression of the grammar of RDF 1.1
+N-Quads decides for each beginning of a line whether some well-formed line has it. The script uses
+`fullmatch(.., partial=True)` of the module `regex` (Debian: python3-regex). The expected column is that of the
+first character after which no well-formed line continues, or one after the end of the line.
 """
 import argparse
 import itertools
@@ -32,7 +32,7 @@ LABEL_CHAR = LABEL_START + [(0x2D, 0x2D), (0xB7, 0xB7), (0x300, 0x36F), (0x203F,
 
 
 def without(ranges, excluded):
-    """The ranges without some code points."""
+    """Returns the ranges without some code points."""
     for c in excluded:
         ranges = [part for (a, b) in ranges
                   for part in ([(a, c - 1), (c + 1, b)] if a <= c <= b else [(a, b)])
@@ -48,7 +48,7 @@ def chars(ranges):
 
 
 def digits(low, high, count):
-    """The hexadecimal numbers of so many digits from one to another."""
+    """Returns an expression for the hexadecimal numbers of this many digits from one to another."""
     if count == 0:
         return ''
     unit = 16 ** (count - 1)
@@ -62,7 +62,7 @@ def digits(low, high, count):
 
 
 def escape(ranges):
-    """UCHAR, for the code points of these ranges."""
+    """Returns an expression for UCHAR, for the code points of these ranges."""
     short = '|'.join(digits(a, min(b, 0xFFFF), 4) for a, b in ranges if a <= 0xFFFF)
     long = '|'.join(digits(a, b, 8) for a, b in ranges)
     return rf'\\u(?:{short})|\\U(?:{long})'
@@ -104,7 +104,7 @@ def is_beginning(text):
 
 
 def expected(beginning, line):
-    """The column, or None for a well-formed line. The beginning is one of a well-formed line."""
+    """Returns the expected column, or None for a well-formed line. `beginning` must begin a well-formed line."""
     if LINE.fullmatch(line):
         return None
     for end in range(len(beginning) + 1, len(line) + 1):
@@ -114,7 +114,7 @@ def expected(beginning, line):
 
 
 def column_of(program, line):
-    """The column that the program prints, or None where it finds no malformed line."""
+    """Returns the column that the program prints, or None if it finds no malformed line."""
     done = subprocess.run([program, 'check'], input=line.encode() + b'\n', capture_output=True)
     if done.returncode == 0:
         return None

@@ -1,11 +1,11 @@
 #!/usr/bin/env python3
-"""Tries what docs/PARTS.md says of split documents on random ones: the answers for the parts are the answer.
+"""Checks docs/PARTS.md on random documents: the results for the parts of a document are the result for the document.
 
     parts.py [PROGRAM] [--count N] [--seed N]
 
-Each case makes a small document, cuts it in one of the page's four ways, makes a query that the page lets
-be split in that way, and compares the rows of all parts, with repeats, with the rows of the whole. It also
-compares the first bad line, and the lists of terms. Python 3 standard library only.
+Each case makes a small document, cuts it in one of the page's four ways, and makes a query that may be split in
+that way. It compares the rows of all parts, with repeats, with the rows of the whole. It also compares the first
+malformed line, and the lists of terms. Python 3 standard library only.
 """
 import argparse
 import collections
@@ -24,7 +24,7 @@ def node(dice):
 
 
 def quads(dice):
-    """Distinct statements as texts of their four places; the fourth is empty in the default graph."""
+    """Returns distinct statements as their four N-Quads forms; the fourth is empty in the default graph."""
     objects = ['"1"', '"2"', '"x"@en', '"5"^^<http://www.w3.org/2001/XMLSchema#integer>']
     made = set()
     for _ in range(dice.choice([3, 8, 20])):
@@ -39,7 +39,7 @@ def text(statements):
 
 
 def by(statements, key, dice):
-    """Parts in which all quads of one key lie together."""
+    """Returns parts in which all quads of one key are together."""
     places = collections.defaultdict(lambda: dice.randrange(3))
     parts = [[], [], []]
     for quad in statements:
@@ -67,11 +67,11 @@ class Queries:
             ["?a = ?b", "BOUND(?c)", "!BOUND(?a)", "?c < 7", "isIRI(?b) || ?a != ?c", "SAMETERM(?a, ?c)"]) + ")"
 
     def row_by_row(self):
-        """What looks at one row at a time."""
+        """Returns an element that depends on one row at a time."""
         return self.dice.choice(["", "", self.condition(), "VALUES ?a { e:a '1' UNDEF }", "BIND(STR(?a) AS ?z)"])
 
     def any_cut(self):
-        """One triple, perhaps in GRAPH, on each side of a UNION."""
+        """Returns a UNION with one triple, perhaps in GRAPH, on each side."""
         def side():
             one = self.triple(self.dice.choice(["?a", "_:k", "e:b"]))
             one = self.dice.choice([one, f"GRAPH ?g {{ {one} }}", f"GRAPH e:g {{ {one} }}"])
@@ -79,7 +79,7 @@ class Queries:
         return " UNION ".join(side() for _ in range(self.dice.randint(1, 3)))
 
     def keyed(self, subject, depth):
-        """A group of which each part begins with a triple of this subject."""
+        """Returns a group in which each part begins with a triple of this subject."""
         made = self.triple(subject)
         for _ in range(self.dice.randrange(4)):
             if depth == 0:
@@ -92,7 +92,7 @@ class Queries:
         return made
 
     def free(self, depth):
-        """Any group without GRAPH."""
+        """Returns any group without GRAPH."""
         made = ""
         for _ in range(self.dice.randrange(4)):
             inner = lambda: "{ " + self.free(depth - 1) + " }" if depth else "{ " + self.triple("?a") + " }"
@@ -102,7 +102,7 @@ class Queries:
         return made
 
     def beside_the_default(self, depth):
-        """Groups of the default graph and of GRAPH ?k."""
+        """Returns a group of the default graph and of GRAPH ?k."""
         named = "GRAPH ?k { " + self.free(1) + " }"
         front = self.triple(self.variable()) if self.dice.randrange(2) else ""
         if front and self.dice.randrange(3) == 0:
@@ -118,13 +118,13 @@ class Queries:
 
 
 def label_once(query):
-    """A label may stand in one basic pattern alone: each gets a name of its own."""
+    """Renames the labels, because a label may occur in only one basic graph pattern."""
     parts = query.split("_:l")
     return parts[0] + "".join(f"_:l{n}{part}" for n, part in enumerate(parts[1:]))
 
 
 def case(dice):
-    """A document, its parts, and a query that may be split in this way."""
+    """Returns a document, its parts, and a query that may be split in this way."""
     statements, make = quads(dice), Queries(dice)
     kind = dice.randrange(5)
     if kind == 0:
@@ -156,7 +156,7 @@ class Program:
         return ran.returncode, ran.stdout.decode()
 
     def rows(self, query, document):
-        """The rows of an answer, each as its text; None for a query that is refused."""
+        """Returns the rows of a result, each as its text, or None if the query is rejected."""
         status, said = self.run(["select", "--query", PREFIX + query], document)
         if status:
             return None
@@ -168,7 +168,7 @@ def try_case(program, dice, kinds):
     query = "SELECT * { " + label_once(group) + " }"
     whole = program.rows(query, text(statements))
     if whole is None:
-        kinds["refused"] += 1
+        kinds["rejected"] += 1
         return None
     kinds[kind] += 1
     kinds[f"{kind} with rows"] += bool(whole)
@@ -179,7 +179,7 @@ def try_case(program, dice, kinds):
 
 
 def try_lines(program, dice):
-    """The first bad line and the terms of a document that is cut behind line feeds."""
+    """Compares the first malformed line and the terms of a document that is cut after line feeds."""
     lines = [text([quad]) for quad in quads(dice)]
     lines = [line[:-1] + dice.choice(["\n", "\n", "\r\n", "\r"]) for line in lines]
     for _ in range(dice.randrange(3)):

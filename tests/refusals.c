@@ -1,11 +1,11 @@
-/* For the tests: refuses one growth, or the start of one thread, of the program that it is preloaded
-   into (LD_PRELOAD). It stands in for malloc, calloc, realloc, getentropy and pthread_create of the C
-   library. (A hash state is drawn by getentropy, and counts as a growth.)
+/* For the tests: a library to preload into a program (LD_PRELOAD). It lets one allocation, or the start of one
+   thread, fail. It replaces malloc, calloc, realloc, getentropy and pthread_create of the C library. A hash
+   state is drawn with getentropy, which counts as an allocation.
 
-   REFUSE_GROWTH=N  the Nth call of malloc, calloc, realloc and getentropy together answers NULL, or -1.
-   REFUSE_START=N   the Nth call of pthread_create answers EAGAIN.
+   REFUSE_GROWTH=N  the Nth call of malloc, calloc, realloc and getentropy together returns NULL, or -1.
+   REFUSE_START=N   the Nth call of pthread_create returns EAGAIN.
 
-   Calls count from 1. Where a call is refused, the line `refused` goes to standard error. */
+   Calls count from 1. If a call fails, the library prints the line `refused` to standard error. */
 #define _GNU_SOURCE
 #include <dlfcn.h>
 #include <errno.h>

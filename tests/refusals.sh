@@ -1,9 +1,11 @@
 #!/usr/bin/env bash
-# Refuses one growth after the other, and one start of a worker after the other, to each test of a
-# module `refusals`: the first, the second, and so on, until a run meets no refusal. These tests say
-# what a refusal leaves, and that a second try succeeds. A crate in whose tests no start is refused, and a
-# test in which no growth is, fail: then nothing was tried. So does a crate in which no refused growth is told as
-# a refused worker, as one inside a start is.
+# Runs each test of the modules `refusals` with one failure at a time. The first allocation fails, then the
+# second, and so on, until a run in which none fails; and the same with the starts of worker threads. The
+# tests check what an error leaves unchanged, and that a second try succeeds.
+#
+# A test fails if no allocation fails in it. A crate fails in two cases, in which the runs would show nothing:
+# - no start of a worker thread fails in its tests;
+# - no failed allocation is reported as a worker that could not be started, as one inside a start is.
 #
 #   tests/refusals.sh                  # every crate that has such tests
 #   tests/refusals.sh loading_tests .. # these crates
@@ -16,29 +18,29 @@ room=$(mktemp -d) || exit 1
 trap 'rm -rf "$room"' EXIT
 cc -O2 -shared -fPIC -o "$room/refusals.so" "$root/tests/refusals.c" || exit 1
 
-# Runs a test of a program with the Nth call of this kind refused. It answers 0 where the test passed.
+# Runs a test of a program in which the Nth call of this kind fails. Returns 0 if the test passes.
 run() {
     timeout 60 env "REFUSE_$3=$4" LD_PRELOAD="$room/refusals.so" "$1" "$2" > "$room/said" 2> "$room/told"
 }
 
-# Refuses the calls of one kind, one by one, and prints how many there were.
+# Lets the calls of one kind fail, one by one, and prints how many there were.
 refuse_each() {
     local n
     for ((n = 1; n <= most; n++)); do
         if ! run "$1" "$2" "$3" "$n"; then
-            printf '%s with the refusal REFUSE_%s=%s:\n' "$2" "$3" "$n"
+            printf '%s with REFUSE_%s=%s:\n' "$2" "$3" "$n"
             cat "$room/said" "$room/told"
             return 1
         fi
         if ! grep -qx refused "$room/told"; then
             if grep -q 'was refused' "$room/said"; then
-                printf '%s: a refusal is told, and nothing was refused\n' "$2"
+                printf '%s: a failure is reported, but no call failed\n' "$2"
                 return 1
             fi
-            printf '%s: %s refused, one by one, by REFUSE_%s\n' "$2" $((n - 1)) "$3"
+            printf '%s: %s calls failed, one by one, by REFUSE_%s\n' "$2" $((n - 1)) "$3"
             [ "$3" = START ] && starts=$((starts + n - 1))
             if [ "$3" = GROWTH ] && [ "$n" = 1 ]; then
-                printf '%s: no growth was refused\n' "$2"
+                printf '%s: no allocation failed\n' "$2"
                 return 1
             fi
             return 0
@@ -47,11 +49,11 @@ refuse_each() {
             inside=$((inside + 1))
         fi
         if [ "$3" = START ] && ! grep -qx 'a worker was refused' "$room/said"; then
-            printf '%s: the refused start %s is not told\n' "$2" "$n"
+            printf '%s: the failed start %s is not reported\n' "$2" "$n"
             return 1
         fi
     done
-    printf '%s: more than %s refusals\n' "$2" "$most"
+    printf '%s: more than %s failures\n' "$2" "$most"
     return 1
 }
 
@@ -66,14 +68,14 @@ try_crate() {
         refuse_each "$tests" "$name" START || return 1
     done
     if [ "$starts" = 0 ]; then
-        echo "$1: no start of a worker was refused"
+        echo "$1: no start of a worker thread failed"
         return 1
     fi
     if [ "$inside" = 0 ]; then
-        echo "$1: no growth inside a start is told as a refused worker"
+        echo "$1: no failed allocation inside a start is reported as a failed start"
         return 1
     fi
-    printf '%s: %s refused growths lie in a start, and are told as a refused worker\n' "$1" "$inside"
+    printf '%s: %s failed allocations are inside a start, and are reported as a failed start\n' "$1" "$inside"
 }
 
 if [ $# = 0 ]; then

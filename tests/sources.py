@@ -1,6 +1,6 @@
 """Reads the repository's Rattle sources by text: items, functions with their clauses, imports and mutants.
 
-It is no parser. It relies on the layout that `rt fmt` gives: each item and each function begins a line.
+It is not a parser. It relies on the layout that `rt fmt` gives: each item and each function begins a line.
 """
 import functools
 import os
@@ -78,7 +78,7 @@ class Source:
 
     @functools.lru_cache(maxsize=None)
     def functions_used(self, function):
-        """Returns the names that a body calls, or may hand on: each that an argument list or a block gives and that is no local name."""
+        """Returns the names that a body calls or may pass on as arguments. Leaves out local names."""
         text = self.code[function.start : function.end]
         local = {it[0] or it[1] for it in LOCAL.findall(text)}
         return set(CALLED.findall(self.body_of(function))) | set(HANDED_ON.findall(self.body_of(function))) - local

@@ -5,9 +5,10 @@
     words.py --list [PART]  prints path, line and word of each, in the files with PART in their path
     words.py --words        counts them by word
 
-It reads the pages (README.md, docs, bench and other *.md), the comments and the documentation in crates/*/src, and the
-comments in crates/*/specs. It passes over code (code blocks and code spans), text in quotation marks, links, and the
-generated parts of pages. Names with an underscore are no words.
+It reads the pages (README.md, docs, bench and other *.md), the comments and the documentation in crates/*/src, the
+comments in crates/*/specs and crates/*/proofs, and the comments and docstrings of the scripts in tests and bench. It
+skips code (code blocks and code spans), text in quotation marks, links, file names, and the generated parts of pages.
+A name with an underscore is not a word.
 """
 import argparse
 import fnmatch
@@ -21,6 +22,9 @@ ROOT = os.path.dirname(os.path.dirname(os.path.abspath(__file__)))
 CLEAN = [
     "CHANGELOG.md", "CONTRIBUTING.md", "bench/*.md", "docs/COMPARISON.md", "docs/CONTRACTS.md", "docs/COST.md", "docs/DECISIONS.md", "docs/DEFINITIONS.md",
     "docs/RECIPES.md", "docs/THEOREM.md", "docs/USAGE.md", "docs/decisions/*.md", "docs/definitions/*.md",
+    "crates/algebra_model/*", "crates/line_tests/*", "crates/loading_tests/*", "crates/piece_board/*", "crates/result_json/*", "crates/row_core/*",
+    "crates/row_join/*", "crates/row_pattern/*", "crates/row_tests/*", "crates/sparql_tree/*", "crates/spq_command/*",
+    "bench/*.c", "bench/*.py", "bench/*.rs", "bench/*.sh", "tests/*.c", "tests/*.py", "tests/*.sh",
 ]
 # Each private word, as a regular expression, and what to write.
 WORDS = [
@@ -53,9 +57,16 @@ WORDS = [
 PATTERN = re.compile("|".join(rf"(?P<w{place}>(?<![\w-])(?:{word})(?![\w-]))" for place, (word, _) in enumerate(WORDS)), re.I)
 GENERATED = re.compile(r"<!-- generated: .*?<!-- end of the generated part -->", re.S)
 BLOCK, SPAN, QUOTE = re.compile(r"^```.*?^```", re.S | re.M), re.compile(r"``[^`]+``|`[^`]+`"), re.compile(r'"[^"\n]*"|“[^”]*”')
-LINK = re.compile(r"\[\w+(?:/|::)\w+\]\([^)\s]*\)|\]\([^)\s]*\)|https?://\S+")
+LINK = re.compile(r"\[\w+(?:/|::)\w+\]\([^)\s]*\)|\]\([^)\s]*\)|https?://\S+|\b[\w/]+\.(?:antt|c|md|py|rs|rt|sh)\b")
 SOURCE_COMMENT = re.compile(r"""(?P<text>"(?:\\.|[^"\\])*"|(?:\bb|(?<![\w']))'(?:\\[^'\n]*'?|[^\\'\n])')|(?P<comment>//[^\n]*)""")
 SPEC_COMMENT = re.compile(r"(?P<text>\"(?:\\.|[^\"\\])*\")|(?P<comment>--[^\n]*)")
+C_COMMENT = re.compile(r"""(?P<text>"(?:\\.|[^"\\])*"|'(?:\\.|[^'\\])')|(?P<comment>//[^\n]*|/\*.*?\*/)""", re.S)
+SHELL_COMMENT = re.compile(r"(?P<text>\"(?:\\.|[^\"\\])*\"|'[^']*')|(?P<comment>(?<!\S)#[^\n]*)")
+# A docstring begins its line; strings in an expression are code.
+PYTHON_COMMENT = re.compile(
+    r'''(?P<comment>(?:(?<=\n)|\A)[ \t]*""".*?"""|#[^\n]*)|(?P<text>\'{3}.*?\'{3}|""".*?"""|"(?:\\.|[^"\\\n])*"|'(?:\\.|[^'\\\n])*')''', re.S
+)
+COMMENTS = {".rt": SOURCE_COMMENT, ".rs": SOURCE_COMMENT, ".antt": SPEC_COMMENT, ".c": C_COMMENT, ".sh": SHELL_COMMENT, ".py": PYTHON_COMMENT}
 
 
 def blanked(found):
@@ -74,7 +85,7 @@ def prose_of_source(text, pattern):
     made, last = [], 0
     for found in pattern.finditer(text):
         if found["comment"] is not None:
-            made += [re.sub(r"[^\n]", " ", text[last : found.start()]), found["comment"]]
+            made += [re.sub(r"[^\n]", " ", text[last : found.start()]), found["comment"].replace('"""', "   ")]
             last = found.end()
     made.append(re.sub(r"[^\n]", " ", text[last:]))
     return LINK.sub(blanked, QUOTE.sub(blanked, SPAN.sub(blanked, "".join(made))))
@@ -82,7 +93,8 @@ def prose_of_source(text, pattern):
 
 def files():
     """Returns the files to read, by path below the repository."""
-    found = ["*.md", "docs/*.md", "docs/*/*.md", "bench/*.md", "crates/*/src/**/*.rt", "crates/*/specs/**/*.antt"]
+    found = ["*.md", "docs/*.md", "docs/*/*.md", "bench/*.md", "crates/*/src/**/*.rt", "crates/*/specs/**/*.antt", "crates/*/proofs/**/*.antt"]
+    found += [f"{folder}/*{ending}" for folder in ("tests", "bench") for ending in (".c", ".py", ".rs", ".sh")]
     paths = {os.path.relpath(path, ROOT) for pattern in found for path in glob.glob(f"{ROOT}/{pattern}", recursive=True)}
     return sorted(path for path in paths if not path.endswith("/Lib.antt"))
 
@@ -94,7 +106,7 @@ def words_of(path):
     if path.endswith(".md"):
         prose = prose_of_page(text)
     else:
-        prose = prose_of_source(text, SOURCE_COMMENT if path.endswith(".rt") else SPEC_COMMENT)
+        prose = prose_of_source(text, COMMENTS[os.path.splitext(path)[1]])
     found = []
     for it in PATTERN.finditer(prose):
         place = int(it.lastgroup[1:])

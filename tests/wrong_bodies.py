@@ -77,7 +77,7 @@ def text_sum(crate, toolchain):
 
 
 def mutant_sums(crate, uses, sums):
-    """Returns what the mutants of the crate are remembered by."""
+    """Returns the key under which the results of the crate's mutants are remembered."""
     stands_on = [sums[it] for it in sorted(below(crate, uses))]
     found = {}
     for name in mutants_of(crate):
@@ -110,7 +110,7 @@ def lay_out(room):
 
 
 def is_proved(room, crate):
-    """Proves the crate as it is, so that each mutant costs only what it changes."""
+    """Proves the unchanged crate, so that a mutant costs only the proofs that it changes."""
     with open(f"{room}/check.log", "w", encoding="utf-8") as log:
         ran = subprocess.run(["rt", "check"], cwd=f"{room}/crates/{crate}", stdout=log, stderr=subprocess.STDOUT)
     if ran.returncode:

@@ -1,4 +1,4 @@
--- A bag by its counts, and what keeps a bag.
+-- A multiset by its counts, and the functions that preserve multisets.
 use Rattle.std.proofs.Common.{filter, filter_map, Option, None, Some, not, ◌&&◌, ◌||◌, subst, ◌≡◌, suc, ◌+◌, ◌<◌, Bool, true, false, cond, List, [], ◌∷◌, ◌++◌, Decides, IsPermutation, Contains, count_by, sum_by, flat_map, remove, refl, sym, ap, ◌∙◌, ⊎_elim, arith}
 use Rattle.std.proofs.lemmas.Bool.{cases_Bool}
 use Rattle.std.proofs.lemmas.List.Sums.{sum_by-cons, sum_by-append}
@@ -63,7 +63,7 @@ module _ {X Y : Type 0} where
   count_by-flat_map p f (x ∷ xs) =
       count_by-append p (f x) (flat_map f xs) ∙ ap (λ n. count_by p (f x) + n) (count_by-flat_map p f xs) ∙ sym (sum_by-cons (λ x. count_by p (f x)) x xs)
 
-  -- a bag of rows, each replaced by rows, is a bag
+  -- replacing each row of a multiset by rows gives a multiset
   pub IsPermutation-flat_map : (same : Y → Y → Bool) (decides : (x y : Y) → Decides (same x y) (x ≡ y)) (f : X → List Y) (xs ys : List X) → IsPermutation xs ys → IsPermutation (flat_map f xs) (flat_map f ys)
   IsPermutation-flat_map same decides f xs ys h = permutation_from_counts same decides (flat_map f xs) (flat_map f ys)
       (λ y. count_by-flat_map (same y) f xs ∙ sym (sum_by-IsPermutation (λ x. count_by (same y) (f x)) xs ys h) ∙ sym (count_by-flat_map (same y) f ys))
@@ -80,7 +80,7 @@ count_by-of_filter {X} q p (x ∷ xs) = by (p x) (count_by-of_filter q p xs) ∙
     by true i = count_by-cons q x (filter p xs) ∙ ap (λ n. cond (q x) 1 0 + n) i
     by false i = i ∙ omega arith
 
--- the element of it passes the test
+-- the element, if any, passes the test
 abbrev pub some_passes : {Y : Type 0} → (Y → Bool) → Option Y → Bool
 some_passes q None = false
 some_passes q (Some y) = q y
@@ -94,7 +94,7 @@ count_by-filter_map {X} {Y} q h (x ∷ xs) = by (h x) (count_by-filter_map q h x
     by (Some y) i = count_by-cons q y (filter_map h xs) ∙ ap (λ n. cond (q y) 1 0 + n) i
 
 module _ {X : Type 0} (same : X → X → Bool) (decides : (x y : X) → Decides (same x y) (x ≡ y)) where
-  -- a bag without the elements that do not pass
+  -- a multiset without the elements that do not pass
   pub IsPermutation-filter : (p : X → Bool) (xs ys : List X) → IsPermutation xs ys → IsPermutation (filter p xs) (filter p ys)
   IsPermutation-filter p xs ys h = permutation_from_counts same decides (filter p xs) (filter p ys)
       (λ z. count_by-of_filter (same z) p xs ∙ sym (count_by-IsPermutation (λ x. p x && same z x) xs ys h) ∙ sym (count_by-of_filter (same z) p ys))
@@ -103,7 +103,7 @@ module _ {X : Type 0} (same : X → X → Bool) (decides : (x y : X) → Decides
   IsPermutation-filter_map f xs ys h = permutation_from_counts same decides (filter_map f xs) (filter_map f ys)
       (λ z. count_by-filter_map (same z) f xs ∙ sym (count_by-IsPermutation (λ x. some_passes (same z) (f x)) xs ys h) ∙ sym (count_by-filter_map (same z) f ys))
 
--- equal lists are one bag
+-- equal lists are the same multiset
 pub same_bag : {X : Type 0} (xs ys : List X) → xs ≡ ys → IsPermutation xs ys
 same_bag xs ys e = subst (λ l. IsPermutation xs l) e (IsPermutation-refl xs)
 

@@ -1,4 +1,4 @@
--- Every map tried gives the same bag as the maps that are built triple by triple.
+-- Trying every map gives the same multiset as building the maps triple pattern by triple pattern.
 use Rattle.std.proofs.Common.{◌≡◌, ℕ, zero, suc, ◌+◌, Bool, true, false, cond, ◌&&◌, ◌||◌, List, [], ◌∷◌, get_or, take, map, filter, Option, None, Some, Decides, count_by, sum_by, if◌then◌else◌, refl, sym, ap, ◌∙◌, subst, ⊎_elim, arith, replicate, eqb-true}
 use Rattle.std.proofs.lemmas.Bool.{cases_Bool, false≢true, or_cases, and_parts}
 use Rattle.std.proofs.lemmas.List.{length-replicate}
@@ -167,7 +167,7 @@ module _ {T : Type 0} (same : T → T → Bool) (decides : (x y : T) → Decides
   and_agree true b c h = h refl
   and_agree false b c h = refl
 
-  -- The maps that are built triple by triple are the solutions of the pattern.
+  -- The maps that are built triple pattern by triple pattern are the solutions of the pattern.
   pub solve-bgp : (w l : ℕ) (P : List (TriplePattern T)) (G : List (Triple T)) → IsWithoutRepeats (same_triple_by same) G → AreBelow w (w + l) P → IsSameBag (map (take w) (solve same w P G (replicate (w + l) None))) (bgp same w l P G)
   solve-bgp w l P G once below =
       let U = occurs w P in

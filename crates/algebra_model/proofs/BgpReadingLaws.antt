@@ -1,4 +1,4 @@
--- The solutions of a pattern at numbers, read as terms, are the solutions of the pattern so read.
+-- The solutions of a pattern of numbers, read as terms, are the solutions of the pattern of terms.
 use Rattle.std.proofs.Common.{◌≡◌, ℕ, zero, suc, ◌+◌, Bool, ◌&&◌, ◌||◌, List, [], ◌∷◌, take, map, None, Some, option_map, Decides, IsPermutation, replicate, refl, sym, ap, ◌∙◌, subst}
 use Rattle.std.specs.List.{list_any}
 use Rattle.std.proofs.lemmas.List.{take-map}
@@ -64,7 +64,7 @@ module _ {A B : Type 0} (sa : A → A → Bool) (sb : B → B → Bool) (In : A 
   take-bound (suc w) (None ∷ m) h = take-bound w m h
   take-bound (suc w) (Some x ∷ m) h = (h.0, take-bound w m h.1)
 
-  -- the solutions of a pattern bind terms of the graph alone
+  -- the solutions of a pattern bind only terms of the graph
   pub bgp-bound : ((x y : A) → Decides (sa x y) (x ≡ y)) → (w l : ℕ) (P : List (TriplePattern A)) (G : List (Triple A)) → IsWithoutRepeats (same_triple_by sa) G → AreBelow w (w + l) P
       → Each (EachOfTriple In) G → Each (EachBound In) (bgp sa w l P G)
   bgp-bound da w l P G once below j =

@@ -1,4 +1,4 @@
--- Equal bags give equal bags; LeftJoin solution by solution.
+-- Equal multisets give equal multisets; LeftJoin solution by solution.
 use Rattle.std.proofs.Common.{◌≡◌, ℕ, Bool, true, false, cond, not, ◌&&◌, ◌||◌, ◌==◌, List, [], ◌∷◌, ◌++◌, filter, Option, Decides, IsPermutation, flat_map, if◌then◌else◌, refl, sym, subst}
 use Rattle.std.specs.List.{list_any, list_all}
 use Rattle.std.proofs.lemmas.List.Sorted.{IsPermutation-refl, IsPermutation-map, IsPermutation-trans, IsPermutation-append, IsPermutation-append_comm}
@@ -13,7 +13,7 @@ use Rattle.algebra_model.proofs.RepeatLaws.{without_repeats-IsPermutation}
 use Rattle.algebra_model.proofs.BgpLaws.{solution_decides}
 
 module _ {T : Type 0} (same : T → T → Bool) (decides : (x y : T) → Decides (same x y) (x ≡ y)) where
-  -- equal bags give equal bags
+  -- equal multisets give equal multisets
 
   pub filter-IsSameBag : (p : Solution T → Bool) (A A' : List (Solution T)) → IsSameBag A A' → IsSameBag (filter p A) (filter p A')
   filter-IsSameBag = IsPermutation-filter (same_solution same) (solution_decides same decides)
@@ -30,7 +30,7 @@ module _ {T : Type 0} (same : T → T → Bool) (decides : (x y : T) → Decides
   pub union-IsSameBag : (A A' B B' : List (Solution T)) → IsSameBag A A' → IsSameBag B B' → IsSameBag (A ++ B) (A' ++ B')
   union-IsSameBag A A' B B' h k = IsPermutation-append A A' B B' h k
 
-  -- a filter by a test on all of B, of which the order does not matter
+  -- a filter by a test on all of B, whose order does not matter
   filter-each : (t : Solution T → Solution T → Bool) (A A' B B' : List (Solution T)) → IsSameBag A A' → IsSameBag B B' → IsSameBag (filter (λ μ. list_all (t μ) B) A) (filter (λ μ. list_all (t μ) B') A')
   filter-each t A A' B B' h k =
       subst (λ (p : Solution T → Bool). IsSameBag (filter (λ μ. list_all (t μ) B) A) (filter p A')) (λ i μ. list_all-IsPermutation (t μ) B B' k i) (filter-IsSameBag (λ μ. list_all (t μ) B) A A' h)
@@ -47,7 +47,7 @@ module _ {T : Type 0} (same : T → T → Bool) (decides : (x y : T) → Decides
   pub distinct-IsSameBag : (A A' : List (Solution T)) → IsSameBag A A' → IsSameBag (distinct same A) (distinct same A')
   distinct-IsSameBag = without_repeats-IsPermutation (same_solution same) (solution_decides same decides)
 
-  -- row by row: the merges that pass, and the row itself where there is none
+  -- row by row: the merges that pass, or the row itself if there are none
   module _ (keeps : Solution T → Bool) (B : List (Solution T)) where
     four : {X : Type 0} (a b c d : List X) → IsPermutation ((a ++ b) ++ (c ++ d)) ((a ++ c) ++ (b ++ d))
     four a b c d =

@@ -1,4 +1,4 @@
--- What a query answers hangs on which quads the dataset has, and not on their order or repeats.
+-- The result of a query depends on which quads the dataset has, and not on their order or repeats.
 use Rattle.std.proofs.Common.{◌≡◌, ℕ, Bool, true, false, List, [], filter, filter_map, flat_map, Option, Some, IsPermutation, if◌then◌else◌, sym, ◌∙◌, subst}
 use Rattle.std.specs.Option.{option_eq}
 use Rattle.std.specs.List.{list_any}
@@ -28,7 +28,7 @@ module _ (D E : List QuadParts) (alike : AnswersAlike D E) where
   name-alike : AnswersAlike (filter_map (λ (q : QuadParts). q.g) D) (filter_map (λ (q : QuadParts). q.g) E)
   name-alike = alike-filter_map (λ (q : QuadParts). q.g) D E alike
 
-  -- the names of the graphs are one bag
+  -- the names of the graphs are the same multiset
   pub names-IsSameBag : IsSameBag (names D) (names E)
   names-IsSameBag = without_repeats-alike term_eq term_decides (filter_map (λ (q : QuadParts). q.g) D) (filter_map (λ (q : QuadParts). q.g) E) name-alike
 

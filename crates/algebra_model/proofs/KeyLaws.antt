@@ -1,4 +1,4 @@
--- Pairs of solutions with different keys are incompatible, so that a join may leave them out.
+-- Pairs of solutions with different keys are incompatible, so a join may leave them out.
 use Rattle.std.proofs.Common.{◌≡◌, ℕ, zero, suc, Bool, true, false, cond, not, ◌&&◌, ◌||◌, List, [], ◌∷◌, ◌++◌, get_or, map, filter, Option, None, Some, Decides, IsPermutation, is_some, if◌then◌else◌, refl, sym, ap, ◌∙◌, subst, ⊎_elim}
 use Rattle.std.proofs.lemmas.Bool.{cases_Bool, false≢true, and_parts}
 use Rattle.std.specs.Option.{option_eq}
@@ -14,7 +14,7 @@ use Rattle.algebra_model.specs.Keys.{is_keyed, same_key, may_meet, candidates}
 use Rattle.algebra_model.proofs.BagLaws.{IsPermutation-filter, list_all-IsPermutation, same_bag}
 use Rattle.algebra_model.proofs.BgpLaws.{solution_decides}
 
--- two filters that pass no element both, one behind the other
+-- two filters that pass no common element, concatenated
 pub filter-either : {X : Type 0} (p q : X → Bool) → ((x : X) → p x ≡ true → q x ≡ false) → (xs : List X) → IsPermutation (filter p xs ++ filter q xs) (filter (λ x. p x || q x) xs)
 filter-either p q once [] = IsPermutation-refl []
 filter-either {X} p q once (x ∷ xs) = by (p x) (q x) (once x) (filter-either p q once xs)
@@ -57,7 +57,7 @@ module _ {T : Type 0} (same : T → T → Bool) where
         both (Some x) None a b e = absurd (false≢true b)
         both (Some x) (Some y) a b e = e
 
-    -- a pair that need not be tried is incompatible
+    -- a pair that need not be compared is incompatible
     pub may_meet-covers : (μ ν : Solution T) → may_meet same vs μ ν ≡ false → is_compatible same μ ν ≡ false
     may_meet-covers μ ν e =
         ⊎_elim
@@ -70,7 +70,7 @@ module _ {T : Type 0} (same : T → T → Bool) where
         meets true false c h = refl
         meets false b c h = refl
 
-    -- of a solution with a key, the candidates are those that have to be tried
+    -- the candidates of a solution with a key are the solutions that must be compared
     pub candidates-are : (μ : Solution T) → is_keyed vs μ ≡ true → (B : List (Solution T)) → IsSameBag (candidates same vs μ B) (filter (may_meet same vs μ) B)
     candidates-are μ k B =
         subst (λ (p : Solution T → Bool). IsSameBag (candidates same vs μ B) (filter p B)) (λ i ν. test (is_keyed vs ν) (same_key same vs μ ν) i)
@@ -92,8 +92,8 @@ module _ {T : Type 0} (same : T → T → Bool) where
         each [] = refl
         each (u ∷ us) = ap (λ b. option_eq same (get_or μ u None) (get_or ν u None) && b) (each us)
 
-  -- A test covers μ where each solution that does not pass it is incompatible with μ. Those that do
-  -- not pass may then be left out.
+  -- A test covers μ if each solution that does not pass it is incompatible with μ. The solutions
+  -- that do not pass may then be left out.
   module _ (μ : Solution T) (q : Solution T → Bool) (covers : (ν : Solution T) → q ν ≡ false → is_compatible same μ ν ≡ false) where
     pub merges-of_filter : (B : List (Solution T)) → merges same μ (filter q B) ≡ merges same μ B
     merges-of_filter [] = refl
@@ -117,7 +117,7 @@ module _ {T : Type 0} (same : T → T → Bool) where
         (cases_Bool (q ν))
 
     module _ (C B : List (Solution T)) (tried : IsSameBag C (filter q B)) where
-      -- what no solution of C takes from μ, none of B does
+      -- what no solution of C removes from μ, no solution of B removes
       pub alone-tried : (keeps : Solution T → Bool) → alone same keeps C μ ≡ alone same keeps B μ
       alone-tried keeps =
           let t = λ (ν : Solution T). not (is_compatible same μ ν && keeps (merge μ ν)) in

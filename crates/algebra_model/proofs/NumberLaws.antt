@@ -1,4 +1,4 @@
--- Numbers that stand for terms, each for a term of its own.
+-- Distinct numbers that represent distinct terms.
 use Rattle.std.proofs.Common.{◌≡◌, ℕ, ◌<◌, Bool, true, List, [], ◌∷◌, Option, map, nat_eq, refl, sym, ap, ◌∙◌}
 use Rattle.std.proofs.lemmas.Bool.Decides.{Decides-eqb}
 use Rattle.std.specs.Cmp.{both_ways}
@@ -8,13 +8,13 @@ use Rattle.algebra_model.specs.Solution.{Solution}
 use Rattle.algebra_model.specs.Reading.{Each, EachBound}
 use Rattle.algebra_model.specs.Laws.{IsReading}
 
--- two numbers stand for one term exactly where they are one number
+-- two numbers represent one term exactly if they are equal
 pub reading_tells : (n : ℕ) (f : ℕ → Term) → IsReading n f → (x y : ℕ) → x < n → y < n → term_eq (f x) (f y) ≡ nat_eq x y
 reading_tells n f h x y i j = both_ways (term_eq (f x) (f y)) (nat_eq x y)
     (λ e. (Decides-eqb x y).1 (h x y i j ((term_decides (f x) (f y)).0 e)))
     (λ e. (term_decides (f x) (f y)).1 (ap f ((Decides-eqb x y).0 e)))
 
--- everything holds of each term, where nothing is asked
+-- a requirement without content is met by each term
 pub nothing_asked : (μ : Solution ℕ) → EachBound (λ _. Unit {0}) μ
 nothing_asked [] = tt
 nothing_asked (Rattle.std.proofs.Common.None ∷ μ) = nothing_asked μ

@@ -1,5 +1,5 @@
--- LeftJoin, Extend, Project, Distinct, Union and tables commute with a reading of the terms that tells
--- two of them apart exactly where they differ. (Join, Minus and Filter: ReadingLaws.)
+-- LeftJoin, Extend, Project, Distinct, Union and tables commute with a reading that maps distinct
+-- terms to distinct terms. (Join, Minus and Filter: ReadingLaws.)
 use Rattle.std.proofs.Common.{◌≡◌, ℕ, zero, suc, Bool, true, false, not, ◌&&◌, ◌==◌, List, [], ◌∷◌, ◌++◌, set, replicate, map, filter, Option, None, Some, option_map, if◌then◌else◌, refl, sym, ap, ◌∙◌}
 use Rattle.std.specs.List.{list_any}
 use Rattle.std.proofs.lemmas.List.{map-append, map-set}

@@ -1,5 +1,5 @@
--- Basic patterns solved from selected triples: the order of a pattern's triples does not change its
--- solutions, and only triples that agree with a partial map extend it.
+-- Basic graph patterns solved from selected triples. The order of a pattern's triples does not
+-- change its solutions, and only triples that agree with a partial map extend it.
 use Rattle.std.proofs.Common.{◌≡◌, ℕ, zero, suc, ◌+◌, Bool, true, false, cond, ◌&&◌, List, [], ◌∷◌, get_or, set, take, map, filter, filter_map, flat_map, Option, None, Some, Decides, IsPermutation, if◌then◌else◌, refl, sym, ap, ◌∙◌, subst, ⊎_elim, inl, inr, ◌⊎◌}
 use Rattle.std.proofs.lemmas.Bool.{cases_Bool, false≢true}
 use Rattle.std.specs.List.{list_any, cons_option}
@@ -11,7 +11,7 @@ use Rattle.algebra_model.specs.Solve.{bind_by, bind_pattern_term, then_bind, ext
 use Rattle.algebra_model.proofs.BagLaws.{list_all-IsPermutation, IsPermutation-filter_map, IsPermutation-flat_map}
 use Rattle.algebra_model.proofs.BgpLaws.{solution_decides}
 
--- of elements that h drops, a filter may drop any
+-- a filter may drop any of the elements that h drops
 pub filter_map-of_filter : {X Y : Type 0} (h : X → Option Y) (q : X → Bool) → ((x : X) → q x ≡ false → h x ≡ None) → (xs : List X) → filter_map h (filter q xs) ≡ filter_map h xs
 filter_map-of_filter h q drops [] = refl
 filter_map-of_filter {X} {Y} h q drops (x ∷ xs) =
@@ -40,7 +40,7 @@ module _ {T : Type 0} (same : T → T → Bool) where
   bind-apart w m (label l) x e = bind_by-apart (get_or m (w + l) None) m (w + l) x e
   bind-apart w m (constant c) x e = apart c x m e
 
-  -- what m binds, the other binds to the same
+  -- what m binds, the other map binds to the same term
   abbrev Keeps : Solution T → Solution T → Type 0
   Keeps m M = (k : ℕ) (a : T) → get_or m k None ≡ Some a → get_or M k None ≡ Some a
 
@@ -109,8 +109,8 @@ module _ {T : Type 0} (same : T → T → Bool) where
       either_false false = inl refl
 
   module _ (decides : (x y : T) → Decides (same x y) (x ≡ y)) where
-    -- A scan that gives each triple of the graph that agrees with the map once, and perhaps others,
-    -- extends the map to the same bag as the whole graph.
+    -- A scan gives each triple that agrees with the map once, and perhaps others. It extends the
+    -- map to the same multiset as the whole graph.
     pub extend_by-scan : (w : ℕ) (t : TriplePattern T) (m : Solution T) (q : Triple T → Bool) → ((g : Triple T) → q g ≡ false → agrees_with same w t m g ≡ false)
         → (S G : List (Triple T)) → IsPermutation S (filter q G) → IsSameBag (filter_map (extend_by same w t m) S) (filter_map (extend_by same w t m) G)
     extend_by-scan w t m q covers S G h =

@@ -1,4 +1,4 @@
--- What is done to the pieces of a list, joined, is what is done to the list.
+-- A function applied to the pieces of a list and concatenated is the function applied to the list.
 use Rattle.std.proofs.Common.{◌≡◌, Bool, List, [], ◌∷◌, ◌++◌, map, filter, flat_map, refl, ap, ◌∙◌}
 use Rattle.std.proofs.lemmas.List.{map-append}
 use Rattle.std.proofs.lemmas.List.Elements.{filter-append}

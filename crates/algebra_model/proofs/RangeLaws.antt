@@ -1,4 +1,4 @@
--- What holds of each term that the solutions bind holds after every operator.
+-- What is true of each term that the solutions bind is true after every operator.
 use Rattle.std.proofs.Common.{◌≡◌, ℕ, zero, suc, ◌<◌, Bool, true, false, cond, not, ◌||◌, ◌==◌, List, [], ◌∷◌, ◌++◌, length, get_or, set, replicate, map, filter, flat_map, Option, None, Some, Contains, if◌then◌else◌, refl, subst, arith}
 use Rattle.std.specs.List.{list_any, list_all}
 use Rattle.std.proofs.lemmas.List.Sorted.{Contains-permutation, IsPermutation-sym}
@@ -30,7 +30,7 @@ module _ {X : Type 0} (P : X → Type 0) where
   Each-contained [] h = tt
   Each-contained (x ∷ xs) h = (h x (0, omega arith, refl), Each-contained xs (λ y c. h y (suc c.0, omega (arith, c.1), c.2)))
 
-  -- of each element of a bag, in whatever order
+  -- of each element of a multiset, in any order
   pub Each-IsSameBag : (xs ys : List X) → IsSameBag xs ys → Each P xs → Each P ys
   Each-IsSameBag xs ys e h = Each-contained ys (λ x c. let d = Contains-permutation ys xs x (IsPermutation-sym xs ys e) c in Each-at xs x d.0 d.1 d.2 h)
 
@@ -43,7 +43,7 @@ module _ {X Y : Type 0} (P : X → Type 0) (Q : Y → Type 0) where
   Each-flat_map f g [] h = tt
   Each-flat_map f g (x ∷ xs) h = Each-append Q (f x) (flat_map f xs) (g x h.0) (Each-flat_map f g xs h.1)
 
--- P of the term, where there is one
+-- P of the term, if there is one
 abbrev pub OfOption : {A : Type 0} → (A → Type 0) → Option A → Type 0
 OfOption P None = Unit {0}
 OfOption P (Some x) = P x

@@ -1,4 +1,4 @@
--- The operators commute with a reading of rows that tells two numbers apart exactly where the terms differ.
+-- The operators commute with a reading of rows that maps distinct numbers to distinct terms.
 use Rattle.std.proofs.Common.{◌≡◌, ℕ, zero, suc, ◌+◌, Bool, true, false, cond, not, ◌&&◌, ◌||◌, List, [], ◌∷◌, ◌++◌, get_or, set, map, filter, Option, None, Some, flat_map, filter_map, option_map, if◌then◌else◌, refl, sym, ap, ◌∙◌, subst}
 use Rattle.std.specs.List.{list_all, cons_option}
 use Rattle.std.proofs.lemmas.List.{map-append, map-set}
@@ -47,7 +47,7 @@ module _ {A B : Type 0} (sa : A → A → Bool) (sb : B → B → Bool) (In : A 
   join-read [] R h k = refl
   join-read (μ ∷ L) R h k = (λ i. merges-read μ h.0 R k i ++ join-read L R h.1 k i) ∙ sym (map-append (read_row f) (merges sa μ R) (join sa L R))
 
-  -- of a row of L, what is asked of all rows of R
+  -- what a row of L requires of all rows of R
   pub apart-read : (μ : Solution A) → EachBound In μ → (R : List (Solution A)) → Each (EachBound In) R
       → list_all (λ ν. not (is_compatible sb (read_row f μ) ν) || not (share (read_row f μ) ν)) (map (read_row f) R) ≡ list_all (λ ν. not (is_compatible sa μ ν) || not (share μ ν)) R
   apart-read μ h [] k = refl
@@ -175,7 +175,7 @@ module _ {A B : Type 0} (sa : A → A → Bool) (sb : B → B → Bool) (In : A 
       ap (flat_map (solve sb w (map (read_triple (read_pattern_term f)) P) (map (read_triple f) G))) (extends-read w t m G h k.0 i)
       ∙ flat_map-read (solve sb w (map (read_triple (read_pattern_term f)) P) (map (read_triple f) G)) (solve sa w P G) (λ r e. solve-read w P G r k.1 i e) (filter_map (extend_by sa w t m) G) (in-extends w t m G h i)
 
-  -- what is found in a graph is of the graph
+  -- what is found in a graph is in the graph
   pub solve-bound : (w : ℕ) (P : List (TriplePattern A)) (G : List (Triple A)) (m : Solution A) → Each (EachOfTriple In) G → EachBound In m → Each (EachBound In) (solve sa w P G m)
   solve-bound w [] G m i h = (h, tt)
   solve-bound w (t ∷ P) G m i h = Each-flat_map (EachBound In) (EachBound In) (solve sa w P G) (λ r e. solve-bound w P G r i e) (filter_map (extend_by sa w t m) G) (in-extends w t m G h i)

@@ -1,4 +1,4 @@
--- Lists without repeats, and what they hold.
+-- Lists without repeats, and their elements.
 use Rattle.std.proofs.Common.{◌≡◌, Bool, true, false, cond, not, ◌||◌, List, [], ◌∷◌, map, filter, Decides, IsPermutation, count_by, refl, sym, ap, ◌∙◌, ⊎_elim}
 use Rattle.std.proofs.lemmas.Bool.{cases_Bool, false≢true, or_cases}
 use Rattle.std.specs.Cmp.{both_ways}
@@ -112,7 +112,7 @@ module _ {X : Type 0} (same : X → X → Bool) (decides : (x y : X) → Decides
   count_by-without_repeats x xs =
       count_by_one same (same x) (λ y z p q. (decides y z).1 (sym ((decides x y).0 p) ∙ (decides x z).0 q)) (without_repeats same xs) (IsWithoutRepeats-without_repeats same xs) ∙ ap (λ (b : Bool). cond b 1 0) (any-without_repeats_is x xs)
 
-  -- a bag without its repeats
+  -- a multiset without its repeats
   pub without_repeats-IsPermutation : (xs ys : List X) → IsPermutation xs ys → IsPermutation (without_repeats same xs) (without_repeats same ys)
   without_repeats-IsPermutation xs ys h = permutation_from_counts same decides (without_repeats same xs) (without_repeats same ys)
       (λ x. count_by-without_repeats x xs ∙ ap (λ (b : Bool). cond b 1 0) (list_any-IsPermutation (same x) xs ys h) ∙ sym (count_by-without_repeats x ys))

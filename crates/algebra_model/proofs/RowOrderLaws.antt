@@ -1,4 +1,4 @@
--- The orders of terms and of rows are total, and rows that tie are the same.
+-- The orders of terms and of rows are total, and rows that compare as equal are the same.
 use Rattle.std.proofs.Common.{◌≡◌, ℕ, List, [], ◌∷◌, Option, None, Some, refl, ap, subst, Ordering, Less, Equal, Greater, is_eq}
 use Rattle.std.specs.Cmp.{IsTotalOrder}
 use Rattle.std.specs.Cmp.Lexicographic.{options_total}
@@ -87,6 +87,6 @@ cells_equal (x ∷ xs) (y ∷ ys) e = let a = then_equal _ _ e in λ i. cell_equ
 pub row_cmp_total : (vs : List ℕ) → IsTotalOrder (row_cmp vs)
 row_cmp_total vs = on_total (cells vs) cells_cmp_total
 
--- solutions that tie have the same row
+-- solutions that compare as equal have the same row
 pub rows_equal : (vs : List ℕ) (μ ν : Solution Term) → row_cmp vs μ ν ≡ Equal → cells vs μ ≡ cells vs ν
 rows_equal vs μ ν e = cells_equal (cells vs μ) (cells vs ν) e

@@ -1,4 +1,4 @@
--- Lists that are one set, and what does not tell them apart: the solutions of a basic pattern.
+-- Lists that are the same set, and what is equal for both: the solutions of a basic graph pattern.
 use Rattle.std.proofs.Common.{◌≡◌, ℕ, zero, suc, ◌+◌, ◌<◌, Bool, true, false, cond, ◌&&◌, ◌||◌, List, [], ◌∷◌, length, get_or, take, map, filter, filter_map, Option, None, Some, Decides, IsPermutation, Contains, refl, sym, ap, ◌∙◌, ⊎_elim, arith}
 use Rattle.std.proofs.lemmas.Bool.{or_cases, false≢true}
 use Rattle.std.specs.Cmp.{both_ways}
@@ -12,7 +12,7 @@ use Rattle.algebra_model.proofs.BagLaws.{permutation_from_counts, some_passes}
 use Rattle.algebra_model.proofs.RepeatLaws.{any-map, any-without_repeats_is, count_by-without_repeats, IsWithoutRepeats-without_repeats}
 use Rattle.algebra_model.proofs.BgpLaws.{in_maps, choices, count_by-every_map, count_by-filter, solution_decides}
 
--- a test has the same answer on both lists
+-- a test has the same result on both lists
 abbrev pub AnswersAlike : {X : Type 0} → List X → List X → Type 0
 AnswersAlike {X} xs ys = (p : X → Bool) → list_any p xs ≡ list_any p ys
 
@@ -80,7 +80,7 @@ pub alike-occurring : {T : Type 0} (G H : List (Triple T)) → AnswersAlike G H 
 alike-occurring G H h p = any-of_occurring p G ∙ h (λ g. p g.s || (p g.p || p g.o)) ∙ sym (any-of_occurring p H)
 
 module _ {X : Type 0} (same : X → X → Bool) (decides : (x y : X) → Decides (same x y) (x ≡ y)) where
-  -- without their repeats, lists that are one set are one bag
+  -- lists that are the same set are the same multiset without their repeats
   pub without_repeats-alike : (xs ys : List X) → AnswersAlike xs ys → IsSameBag (without_repeats same xs) (without_repeats same ys)
   without_repeats-alike xs ys h = permutation_from_counts same decides (without_repeats same xs) (without_repeats same ys)
       (λ x. count_by-without_repeats same decides x xs ∙ ap (λ (b : Bool). cond b 1 0) (h (same x)) ∙ sym (count_by-without_repeats same decides x ys))
@@ -108,7 +108,7 @@ module _ {T : Type 0} (same : T → T → Bool) (decides : (x y : T) → Decides
   is_in-same w [] G H h M = refl
   is_in-same w (t ∷ P) G H h M = λ i. h (takes_to same w M t) i && is_in-same w P G H h M i
 
-  -- the solutions hang on which triples are in the graph, and on nothing else
+  -- the solutions depend on which triples are in the graph, and on nothing else
   pub bgp-alike : (w l : ℕ) (P : List (TriplePattern T)) (G H : List (Triple T)) → AnswersAlike G H → IsSameBag (bgp same w l P G) (bgp same w l P H)
   bgp-alike w l P G H h =
       let once = IsWithoutRepeats-without_repeats same in

@@ -1,4 +1,5 @@
--- A pattern solved triple by triple under a partial map, and how often it gives each map.
+-- A pattern solved triple pattern by triple pattern under a partial map, and how often it gives
+-- each map.
 use Rattle.std.proofs.Common.{◌≡◌, ℕ, zero, suc, ◌+◌, ◌<◌, Bool, true, false, cond, ◌&&◌, ◌||◌, List, [], ◌∷◌, length, get_or, Option, None, Some, Decides, count_by, sum_by, flat_map, filter_map, if◌then◌else◌, refl, sym, ap, ◌∙◌, subst, ⊎_elim, arith, length-set}
 use Rattle.std.proofs.lemmas.Bool.{cases_Bool, false≢true, and_parts}
 use Rattle.std.proofs.lemmas.List.Sums.{sum_by-cons}
@@ -11,7 +12,7 @@ use Rattle.algebra_model.specs.Solve.{bind_by, bind_slot, bind_pattern_term, the
 use Rattle.algebra_model.proofs.BagLaws.{count_by-cons, count_by-append, count_by-yes, count_by-no}
 use Rattle.algebra_model.proofs.TestLaws.{and_swap, and_false, and_itself, or_assoc, at, at-eqb, option_decides}
 
--- of elements that differ, one at most passes a test which tells one from all others
+-- of distinct elements, at most one passes a test that passes only one element
 pub count_by_one : {X : Type 0} (eq : X → X → Bool) (p : X → Bool) → ((x y : X) → p x ≡ true → p y ≡ true → eq x y ≡ true) → (xs : List X) → IsWithoutRepeats eq xs → count_by p xs ≡ cond (list_any p xs) 1 0
 count_by_one eq p one [] h = refl
 count_by_one {X} eq p one (x ∷ xs) h =
@@ -33,7 +34,7 @@ count_by_one {X} eq p one (x ∷ xs) h =
         (cases_Bool (p y))
 
 module _ {T : Type 0} (same : T → T → Bool) where
-  -- M extends m, only at places that U has
+  -- M extends m, and only at places that U has
   abbrev pub fits_at : Option T → Bool → Option T → Bool
   fits_at None true z = true
   fits_at None false z = option_eq same z None
@@ -108,7 +109,7 @@ module _ {T : Type 0} (same : T → T → Bool) where
         fits-slot (w + l) m M x U h ∙ ap (λ (V : ℕ → Bool). option_eq same (get_or M (w + l) None) (Some x) && fits m V M) (λ i j. at-eqb (w + l) j i || U j)
     fits-bind_pattern_term w m M (constant c) x U h = elim (same c x) as (λ b. fits_some (if b then Some m else None) U M ≡ (b && fits m U M)) [ true ↦ refl | false ↦ refl ]
 
-    -- how long the map in it is
+    -- the length of the map in it
     abbrev pub IsLong : ℕ → Option (Solution T) → Type 0
     IsLong n None = Unit {0}
     IsLong n (Some m) = length m ≡ n
@@ -216,7 +217,8 @@ module _ {T : Type 0} (same : T → T → Bool) where
     rows_of_one true false p eq one G h = sum_by_each (λ g. cond (p g && false) 1 0) (λ _. 0) (λ g. ap (λ (b : Bool). cond b 1 0) (and_false (p g))) G ∙ zeros G ∙ ap (λ (b : Bool). cond b 1 0) (sym (and_false (list_any p G && true)))
     rows_of_one false B p eq one G h = zeros G ∙ ap (λ (b : Bool). cond (b && B) 1 0) (sym (and_false (list_any p G)))
 
-    -- each map is given once, if it extends m to what occurs in the pattern and takes the pattern into the graph
+    -- each map is given once, if it extends m to terms that occur in the pattern and takes the
+    -- pattern into the graph
     pub count_by-solve : (w n : ℕ) (P : List (TriplePattern T)) (G : List (Triple T)) → IsWithoutRepeats (same_triple_by same) G → AreBelow w n P → (m M : Solution T) → length m ≡ n
         → count_by (same_solution same M) (solve same w P G m) ≡ cond (is_in same w P G M && fits m (occurs w P) M) 1 0
     count_by-solve w n [] G once b m M h = count_by-cons (same_solution same M) m [] ∙ add_zero (cond (same_solution same M m) 1 0) ∙ ap (λ (b : Bool). cond b 1 0) (sym (fits-nothing m M))

@@ -1,4 +1,4 @@
--- What is sorted by a total order is one list.
+-- Sorting by a total order has one result.
 use Rattle.std.proofs.Common.{◌≡◌, ℕ, suc, ◌+◌, ◌<◌, Bool, true, false, cond, List, [], ◌∷◌, length, get_or, Decides, IsPermutation, IsSortedBy, count_by, refl, sym, ap, ◌∙◌, subst, ⊎_elim, arith, if◌then◌else◌, Ordering, Less, Equal, Greater, is_eq, is_lt, is_gt}
 use Rattle.std.specs.Ordering.{ordering_reverse}
 use Rattle.std.specs.Cmp.{IsTotalOrder}
@@ -122,11 +122,11 @@ module _ {X : Type 0} (R : X → X → Ordering) (o : IsTotalOrder R) (one : (x 
       later : (k : ℕ) (d : X) → k + 1 < length xs → is_lt (R (get_or xs (k + 1) d) (get_or xs k d)) ≡ false
       later k d b = let e : suc k + 1 ≡ suc (k + 1) = omega arith in subst (λ (n : ℕ). is_lt (R (get_or (x ∷ xs) n d) (get_or xs k d)) ≡ false) e (h (suc k) d (omega arith) (omega arith))
 
-  -- a bag that rises is the sorted list
+  -- a multiset in ascending order is the sorted list
   pub sorted_is : (xs ys : List X) → IsPermutation xs ys → IsRising R ys → ys ≡ sorted_list R xs
   sorted_is xs ys p h =
       rises_once ys (sorted_list R xs) h (sorted_rises xs) (λ z. count_by-IsPermutation (λ v. is_eq (R z v)) xs ys p ∙ sym (count_by-IsPermutation (λ v. is_eq (R z v)) xs (sorted_list R xs) (sorted_permutation xs)))
 
-  -- equal bags are sorted to one list
+  -- equal multisets are sorted to one list
   pub sorted_of_bag : (xs ys : List X) → IsPermutation xs ys → sorted_list R xs ≡ sorted_list R ys
   sorted_of_bag xs ys p = sym (sorted_is xs (sorted_list R ys) (IsPermutation-trans xs ys (sorted_list R ys) p (sorted_permutation ys)) (sorted_rises ys))

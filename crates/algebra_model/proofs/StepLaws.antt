@@ -1,5 +1,5 @@
--- A step of an evaluation at numbers: rows of numbers that read as the bags of the operands give rows
--- that read as the bag of the operator.
+-- A step of an evaluation on numbers: if the rows of the operands read as multisets of terms, the
+-- rows of the result read as the multiset of the operator.
 use Rattle.std.proofs.Common.{◌≡◌, ℕ, ◌+◌, Bool, List, [], ◌∷◌, ◌++◌, map, filter, flat_map, set, replicate, Option, None, Some, option_map, Decides, sym, ap, ◌∙◌, subst}
 use Rattle.std.proofs.lemmas.List.{map-append, map-set}
 use Rattle.std.proofs.lemmas.List.Sorted.{IsPermutation-refl, IsPermutation-trans, IsPermutation-map}
@@ -18,12 +18,12 @@ use Rattle.algebra_model.proofs.ReadingLaws.{join-read, minus-read, filter-read}
 use Rattle.algebra_model.proofs.OperatorReadingLaws.{left_join-read, extend-read, project-read, distinct-read, table-read, unbound-read}
 use Rattle.algebra_model.proofs.BgpReadingLaws.{bgp-read}
 
--- the rows, read, are the bag
+-- the rows, read as terms, are the multiset
 abbrev pub ReadAs : {A B : Type 0} → (A → B) → List (Solution A) → List (Solution B) → Type 0
 ReadAs f J E = IsSameBag (map (read_row f) J) E
 
 module _ {A B : Type 0} (sa : A → A → Bool) (sb : B → B → Bool) (In : A → Type 0) (f : A → B) (one : (x y : A) → In x → In y → sb (f x) (f y) ≡ sa x y) (db : (x y : B) → Decides (sb x y) (x ≡ y)) where
-  -- what the rows are, what that reads as, and what that is as a bag
+  -- what the rows are, what they read as, and which multiset that is
   step : (J K : List (Solution A)) (E F : List (Solution B)) → IsSameBag J K → E ≡ map (read_row f) K → IsSameBag E F → ReadAs f J F
   step J K E F h e k = IsPermutation-trans (map (read_row f) J) E F (subst (λ l. IsSameBag (map (read_row f) J) l) (sym e) (IsPermutation-map (read_row f) J K h)) k
 
@@ -78,7 +78,7 @@ module _ {A B : Type 0} (sa : A → A → Bool) (sb : B → B → Bool) (In : A 
   named-bound : (w v : ℕ) (n : A) → In n → Each (EachBound In) (named w v n)
   named-bound w v n i = (set-bound In (replicate w None) v (Some n) i (unbound-bound In w), tt)
 
-  -- GRAPH under a variable: `rows n` are the solutions over the graph that the number n names
+  -- GRAPH under a variable: `rows n` are the solutions over the graph whose name is the number n
   pub each_graph-step : (w v : ℕ) (rows : A → List (Solution A)) (Q : B → List (Solution B)) (N : List A)
       → Each In N → Each (λ n. Each (EachBound In) (rows n)) N → Each (λ n. ReadAs f (rows n) (Q (f n))) N
       → ReadAs f (flat_map (λ n. join sa (rows n) (named w v n)) N) (flat_map (λ i. join sb (Q i) (named w v i)) (map f N))
@@ -89,7 +89,7 @@ module _ {A B : Type 0} (sa : A → A → Bool) (sb : B → B → Bool) (In : A 
       subst (λ l. IsSameBag l (join sb (Q (f n)) (named w v (f n)) ++ flat_map (λ i. join sb (Q i) (named w v i)) (map f N))) (sym (map-append (read_row f) (join sa (rows n) (named w v n)) (flat_map (λ n. join sa (rows n) (named w v n)) N)))
       (bags.union-IsSameBag sb db (map (read_row f) (join sa (rows n) (named w v n))) (join sb (Q (f n)) (named w v (f n))) (map (read_row f) (flat_map (λ n. join sa (rows n) (named w v n)) N)) (flat_map (λ i. join sb (Q i) (named w v i)) (map f N)) here (each_graph-step w v rows Q N i.1 j.1 h.1))
 
-  -- the names may stand in any order
+  -- the names may be in any order
   pub graphs-step : (w v : ℕ) (rows : A → List (Solution A)) (Q : B → List (Solution B)) (N : List A) (M : List B) → IsSameBag (map f N) M
       → Each In N → Each (λ n. Each (EachBound In) (rows n)) N → Each (λ n. ReadAs f (rows n) (Q (f n))) N
       → (J : List (Solution A)) → IsSameBag J (flat_map (λ n. join sa (rows n) (named w v n)) N) → ReadAs f J (flat_map (λ i. join sb (Q i) (named w v i)) M)

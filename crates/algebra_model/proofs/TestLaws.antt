@@ -25,7 +25,7 @@ pub or_assoc : (a b c : Bool) → (a || (b || c)) ≡ ((a || b) || c)
 or_assoc true b c = refl
 or_assoc false b c = refl
 
--- k and j are one number, by recursion
+-- k and j are equal, by recursion
 abbrev pub at : ℕ → ℕ → Bool
 at zero zero = true
 at zero (suc j) = false

@@ -1,5 +1,5 @@
--- What a plan's variables below the count of its names give a pattern, and patterns with a term that
--- the graph does not have.
+-- Patterns whose variables are below the count of names, and patterns with a term that the graph
+-- does not have.
 use Rattle.std.proofs.Common.{◌≡◌, ℕ, ◌+◌, ◌<◌, nat_lt, Bool, true, false, ◌&&◌, ◌||◌, not, List, [], ◌∷◌, map, filter, take, Option, None, Some, Decides, flat_map, refl, sym, ap, ◌∙◌, ⊎_elim, arith}
 use Rattle.std.specs.List.{list_any, list_all}
 use Rattle.std.specs.Option.{option_eq}
@@ -25,7 +25,7 @@ are_below w l (t ∷ P) e =
     let d = and_parts (is_below w l t.s) (is_below w l t.p) b.0 in
     ((below w l t.s d.0, below w l t.p d.1, below w l t.o b.1), are_below w l P a.1)
 
--- places are the same, whatever the constants are
+-- the places are the same for all constants
 module _ {A B : Type 0} (f : A → B) (w n : ℕ) where
   unread : (t : PatternTerm A) → IsBelow w n (read_pattern_term f t) → IsBelow w n t
   unread (variable v) h = h
@@ -37,7 +37,7 @@ module _ {A B : Type 0} (f : A → B) (w n : ℕ) where
   are_below-unread (t ∷ P) h = ((unread t.s h.0.0, unread t.p h.0.1, unread t.o h.0.2), are_below-unread P h.1)
 
 module _ {T : Type 0} (same : T → T → Bool) where
-  -- the term stands here
+  -- this position has the term
   abbrev pub is_the_term : T → PatternTerm T → Bool
   is_the_term c (variable v) = false
   is_the_term c (label l) = false
@@ -74,7 +74,7 @@ module _ {T : Type 0} (same : T → T → Bool) where
   bgp-nowhere w l P G p h e = ap (map (take w)) (filter-none (is_in same w P G) (is_in-nowhere w P G p h e) (every_map (occurs w P) (terms same G) (w + l)))
 
   module _ (decides : (x y : T) → Decides (same x y) (x ≡ y)) where
-    -- the term is not the one to which the map takes what stands here
+    -- the term is not the one to which the map takes this position
     apart : (w : ℕ) (c : T) (n : PatternTerm T) (x : T) (μ : Solution T) → is_the_term c n ≡ true → same c x ≡ false → option_eq same (image w μ n) (Some x) ≡ false
     apart w c (variable v) x μ a e = absurd (false≢true a)
     apart w c (label l) x μ a e = absurd (false≢true a)

@@ -1,18 +1,18 @@
--- Algebra expressions (SPARQL 1.1 Query Language, section 18.2): what a plan stands for. Variables
--- are numbered over the whole query, blank labels within their pattern.
+-- Algebra expressions (SPARQL 1.1 Query Language, section 18.2). Variables are numbered over the
+-- whole query, and blank node labels within their pattern.
 use Rattle.std.specs.Prelude.{ℕ, Bool, true, ◌&&◌, nat_lt, List, Option}
 use Rattle.std.specs.List.{list_all}
 use Rattle.rdf_core.specs.declared.term.Term.{Term}
 use Rattle.algebra_model.specs.Bgp.{TriplePattern, PatternTerm, variable, label, constant}
 use Rattle.algebra_model.specs.Expression.{Expression}
 
--- what stands behind GRAPH: a variable, which goes over all named graphs, or a name
+-- the name after GRAPH: a variable, which ranges over all named graphs, or an IRI
 pub data GraphName : Type 0 where
   each_graph : ℕ → GraphName
   one_graph : Term → GraphName
 
 pub data Algebra : Type 0 where
-  -- a basic graph pattern, with the count of its blank labels
+  -- a basic graph pattern, with the count of its blank node labels
   Pattern : ℕ → List (TriplePattern Term) → Algebra
   Join : Algebra → Algebra → Algebra
   -- left, right and condition
@@ -28,8 +28,8 @@ pub data Algebra : Type 0 where
   -- the variables of VALUES and its rows of cells, where UNDEF is `None`
   Table : List ℕ → List (List (Option Term)) → Algebra
 
--- Every variable that the expression binds or lists is one of w variables, and every blank label of
--- a pattern one of its labels.
+-- The variables that the expression binds or lists are below w, and the labels of each pattern are
+-- below its count of labels.
 abbrev pub is_below : ℕ → ℕ → PatternTerm Term → Bool
 is_below w labels (variable v) = nat_lt v w
 is_below w labels (label l) = nat_lt l labels

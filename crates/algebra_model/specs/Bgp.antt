@@ -1,5 +1,5 @@
 -- Basic graph patterns (SPARQL 1.1 Query Language, section 18.3): every map from the variables and
--- the blank labels of the pattern to terms of the graph is tried.
+-- the blank node labels of the pattern to terms of the graph is tried.
 use Rattle.std.specs.Prelude.{ℕ, zero, suc, ◌+◌, Bool, false, ◌&&◌, ◌||◌, ◌==◌, List, [], ◌∷◌, Option, None, Some, map, filter, take, flat_map, get_or, if◌then◌else◌}
 use Rattle.std.specs.List.{list_any, list_all}
 use Rattle.std.specs.Option.{option_eq}
@@ -15,7 +15,7 @@ pub record Triple (A : Type 0) : Type 0 where
 abbrev pub same_triple_by : {A : Type 0} → (A → A → Bool) → Triple A → Triple A → Bool
 same_triple_by same g h = same g.s h.s && same g.p h.p && same g.o h.o
 
--- what stands in a triple pattern: a variable or a blank label by its number, or a term
+-- one position of a triple pattern: a variable or a blank node label by its number, or a term
 pub data PatternTerm (T : Type 0) : Type 0 where
   variable : ℕ → PatternTerm T
   label : ℕ → PatternTerm T
@@ -24,9 +24,9 @@ pub data PatternTerm (T : Type 0) : Type 0 where
 abbrev pub TriplePattern : Type 0 → Type 0
 TriplePattern T = Triple (PatternTerm T)
 
--- A map of a pattern has first the w variables and behind them the blank labels.
+-- A map of a pattern has the w variables first, and then the blank node labels.
 module _ {T : Type 0} (w : ℕ) where
-  -- what stands here is the variable or label that has place k in a map
+  -- this position has the variable or label of place k in a map
   abbrev pub is_at : PatternTerm T → ℕ → Bool
   is_at (variable v) k = v == k
   is_at (label l) k = (w + l) == k
@@ -39,21 +39,21 @@ module _ {T : Type 0} (w : ℕ) where
   abbrev pub occurs : List (TriplePattern T) → ℕ → Bool
   occurs P k = list_any (λ t. mentions t k) P
 
-  -- the term to which a map takes what stands in a pattern
+  -- the term to which a map takes one position of a pattern
   abbrev pub image : Solution T → PatternTerm T → Option T
   image μ (variable v) = get_or μ v None
   image μ (label l) = get_or μ (w + l) None
   image μ (constant t) = Some t
 
--- Every map of n places: where `uses` says so the place is taken to some term of the list, in every
--- way, and elsewhere to none.
+-- Every map of n places. A place for which `uses` is true is mapped to each term of the list, and
+-- any other place to none.
 abbrev pub every_map : {T : Type 0} → (ℕ → Bool) → List T → ℕ → List (Solution T)
 every_map uses ts zero = [] ∷ []
 every_map uses ts (suc n) =
     flat_map (λ x. map (λ μ. x ∷ μ) (every_map (λ k. uses (suc k)) ts n))
     (if uses 0 then map Some ts else (None ∷ []))
 
--- what stands in the triples of the graph, with repeats
+-- the terms in the triples of the graph, with repeats
 abbrev pub occurring : {T : Type 0} → List (Triple T) → List T
 occurring G = flat_map (λ g. g.s ∷ g.p ∷ g.o ∷ []) G
 
@@ -73,8 +73,9 @@ module _ {T : Type 0} (same : T → T → Bool) where
   abbrev pub is_in : ℕ → List (TriplePattern T) → List (Triple T) → Solution T → Bool
   is_in w P G μ = list_all (λ t. list_any (takes_to w μ t) G) P
 
-  -- The solutions of the pattern P with w variables and l blank labels over the graph G: every map
-  -- that makes P a part of G, without its labels. Maps that differ in labels alone give repeats,
-  -- and these are kept. The empty pattern has the one solution that binds nothing.
+  -- The solutions of the pattern P with w variables and l blank node labels over the graph G: every
+  -- map that makes P a subgraph of G, without its labels. Maps that differ in labels only give
+  -- equal solutions, and all of these are kept. The empty pattern has the one solution that binds
+  -- nothing.
   abbrev pub bgp : ℕ → ℕ → List (TriplePattern T) → List (Triple T) → List (Solution T)
   bgp w l P G = map (take w) (filter (is_in w P G) (every_map (occurs w P) (terms G) (w + l)))

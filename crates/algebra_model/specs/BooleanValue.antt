@@ -12,7 +12,8 @@ abbrev pub has_characters : List ℕ → Bool
 has_characters [] = false
 has_characters (c ∷ cs) = true
 
--- an ill-formed boolean or number is false; all else, xsd:float and xsd:double too, is an error
+-- the effective boolean value (section 17.2.2): an ill-typed boolean or number is false; every
+-- remaining value is an error, also one of xsd:float or xsd:double
 abbrev pub value_ebv : LiteralValue → List ℕ → Option Bool
 value_ebv (boolean b) datatype = Some b
 value_ebv (string form) datatype = Some (has_characters form)

@@ -23,8 +23,8 @@ value_of (Iri text) = other
 value_of (Literal form datatype None) = literal_value form datatype
 value_of (Literal form datatype (Some tag)) = other
 
--- two numbers, two strings (by code points, which their bytes in UTF-8 keep in order) and two
--- booleans (false before true) have an order
+-- two numbers, two strings (by code points, whose order is that of their UTF-8 bytes) and two
+-- booleans (false before true) have an order (section 17.3)
 abbrev pub value_cmp : LiteralValue → LiteralValue → Option Ordering
 value_cmp (number x) (number y) = Some (number_cmp x y)
 value_cmp (string x) (string y) = Some (slice_cmp nat_cmp x y)
@@ -36,8 +36,8 @@ is_literal (Blank label) = false
 is_literal (Iri text) = false
 is_literal (Literal form datatype tag) = true
 
--- two terms that have no order by value: the same term is equal to itself, two literals that are
--- not the same may or may not be equal, and any other two terms are not
+-- two terms without an order by value (section 17.4.1.7, RDFterm-equal): a term is equal to itself,
+-- the comparison of two different literals is an error, and any other two terms are different
 abbrev pub terms_equal : Term → Term → Option Bool
 terms_equal a b =
     if term_eq a b then Some true else if is_literal a && is_literal b then None else Some false

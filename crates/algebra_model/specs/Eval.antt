@@ -17,9 +17,9 @@ abbrev pub named : {T : Type 0} → ℕ → ℕ → T → List (Solution T)
 named w v i = set (replicate w None) v (Some i) ∷ []
 
 module _ (w : ℕ) (D : List QuadParts) where
-  -- P gives the solutions with a graph active. Under a variable they are taken over each named
-  -- graph, and only then joined with the graph's name. Under a name that no graph has there are
-  -- none.
+  -- The solutions of P in the graphs of the name (section 18.6, evaluation of Graph). Under a
+  -- variable, P is evaluated in each named graph, and its solutions are joined with the graph's
+  -- name. A name without a graph has no solutions, which is a choice of this project.
   abbrev pub in_graphs : GraphName → (Option Term → List (Solution Term)) → List (Solution Term)
   in_graphs (each_graph v) P = flat_map (λ i. join term_eq (P (Some i)) (named w v i)) (names D)
   in_graphs (one_graph i) P = if list_any (term_eq i) (names D) then P (Some i) else []

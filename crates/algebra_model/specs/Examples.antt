@@ -1,4 +1,4 @@
--- Worked examples: small datasets, algebra expressions and the rows that they answer.
+-- Worked examples: small datasets, algebra expressions and the rows of their results.
 use Rattle.std.specs.Prelude.{◌≡◌, ℕ, List, [], ◌∷◌, Option, None, Some, true, codes}
 use Rattle.rdf_core.specs.Vocabulary.{xsd_string}
 use Rattle.rdf_core.specs.declared.term.Term.{Term}
@@ -39,7 +39,7 @@ states_in g s p o = record { s = s; p = p; o = o; g = Some g }
 abbrev matches : PatternTerm Term → PatternTerm Term → PatternTerm Term → TriplePattern Term
 matches s p o = record { s = s; p = p; o = o }
 
--- the rows of the listed variables that the expression answers over the default graph
+-- the rows of the listed variables in the result of the expression over the default graph
 abbrev answers : ℕ → List QuadParts → List ℕ → Algebra → List (List (Option Term))
 answers w D vs A = sorted_rows vs (eval w D None A)
 
@@ -47,21 +47,21 @@ answers w D vs A = sorted_rows vs (eval w D None A)
 abbrev two_objects : List QuadParts
 two_objects = states a p b ∷ states a p c ∷ []
 
--- ?s p _:x has its one solution twice, once for each term that _:x can stand for.
+-- ?s p _:x has its one solution twice, once for each term of _:x.
 abbrev pub LabelsCount : Type 0
 LabelsCount =
     answers 1 two_objects (0 ∷ [])
     (Project (0 ∷ []) (Pattern 1 (matches (variable 0) (constant p) (label 0) ∷ [])))
     ≡ (Some a ∷ []) ∷ (Some a ∷ []) ∷ []
 
--- The same, DISTINCT.
+-- The same with DISTINCT.
 abbrev pub DistinctTakesOne : Type 0
 DistinctTakesOne =
     answers 1 two_objects (0 ∷ [])
     (Distinct (Project (0 ∷ []) (Pattern 1 (matches (variable 0) (constant p) (label 0) ∷ []))))
     ≡ (Some a ∷ []) ∷ []
 
--- ?s p ?o MINUS { a p ?w }: no variable is shared, and nothing is taken away.
+-- ?s p ?o MINUS { a p ?w }: no variable is shared, and nothing is removed.
 abbrev pub MinusNeedsSharing : Type 0
 MinusNeedsSharing =
     answers 3 two_objects (0 ∷ [])
@@ -75,7 +75,7 @@ with_a_gap =
     states a p b ∷ states c p b ∷ states a q (text (codes "1"))
     ∷ states b q (text (codes "1")) ∷ states b q (text (codes "2")) ∷ []
 
--- ?s p b OPTIONAL { ?s q ?y } { b q ?y }: where ?y is unbound, it meets every value.
+-- ?s p b OPTIONAL { ?s q ?y } { b q ?y }: an unbound ?y is compatible with every value.
 abbrev pub UnboundMeetsAll : Type 0
 UnboundMeetsAll =
     answers 2 with_a_gap (1 ∷ [])
@@ -91,7 +91,8 @@ UnboundMeetsAll =
 abbrev three_graphs : List QuadParts
 three_graphs = states a p b ∷ states_in q a p c ∷ states_in (Blank (codes "g")) a p c ∷ []
 
--- GRAPH ?g { ?s ?p ?o }: the named graphs, blank names too, and not the default graph.
+-- GRAPH ?g { ?s ?p ?o }: the named graphs, also those named by blank nodes, and not the default
+-- graph.
 abbrev pub GraphsAreNamed : Type 0
 GraphsAreNamed =
     answers 4 three_graphs (0 ∷ [])

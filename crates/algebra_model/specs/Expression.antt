@@ -1,5 +1,6 @@
--- Expressions and their values (SPARQL 1.1 Query Language, section 17). `None` is an error: an
--- unbound variable is one, and so is an operand that is one, but for the rows of the logic tables.
+-- Expressions and their values (SPARQL 1.1 Query Language, section 17). `None` is an error. An
+-- unbound variable is an error, and so is an operation on an error, except as the tables of section
+-- 17.2 say.
 use Rattle.std.specs.Prelude.{ℕ, Bool, false, List, [], ◌∷◌, Option, Some, None, option_map, is_some, get_or}
 use Rattle.rdf_core.specs.declared.term.Term.{Term}
 use Rattle.rdf_core.specs.Equality.{term_eq}
@@ -23,12 +24,13 @@ pub data Expression : Type 0 where
   bound : ℕ → Expression
   same_term : Expression → Expression → Expression
 
--- x IN (e1, .., en): x = e1 or .. or x = en, and false for the empty list whatever x is
+-- x IN (e1, .., en) is x = e1 or .. or x = en, and false for the empty list, whatever x is (section
+-- 17.4.1.9)
 abbrev pub member : Expression → List Expression → Expression
 member x [] = constant (boolean_term false)
 member x (e ∷ es) = either (comparison equal x e) (member x es)
 
--- what a test of one term, or of two, gives of operands that may be errors
+-- the value of a test of one term, or of two, whose operands may be errors
 abbrev pub with_value : {X : Type 0} → Option Term → (Term → Option X) → Option X
 with_value None f = None
 with_value (Some t) f = f t
@@ -55,7 +57,7 @@ val (call f a) μ = with_value (val a μ) (call_value f)
 val (bound v) μ = Some (boolean_term (is_some (get_or μ v None)))
 val (same_term a b) μ = boolean_result (with_values (val a μ) (val b μ) (λ s t. Some (term_eq s t)))
 
--- a row passes a filter exactly where the effective boolean value is true
+-- a solution passes a filter exactly if the effective boolean value is true (section 18.5, Filter)
 abbrev pub is_true : Option Bool → Bool
 is_true (Some b) = b
 is_true None = false

@@ -1,5 +1,5 @@
--- Keys of solutions, by which a join leaves out pairs that are incompatible. Only proofs, laws and
--- private clauses cite these words; the definitions of the algebra do not.
+-- Keys of solutions, by which a join leaves out incompatible pairs. Only proofs, laws and private
+-- clauses use these definitions; the definitions of the algebra do not.
 use Rattle.std.specs.Prelude.{ℕ, Bool, ◌&&◌, ◌||◌, not, List, None, get_or, is_some, filter, ◌++◌}
 use Rattle.std.specs.List.{list_all}
 use Rattle.std.specs.Option.{option_eq}
@@ -14,11 +14,11 @@ module _ {T : Type 0} (same : T → T → Bool) (vs : List ℕ) where
   abbrev pub same_key : Solution T → Solution T → Bool
   same_key μ ν = list_all (λ v. option_eq same (get_or μ v None) (get_or ν v None)) vs
 
-  -- the pair has to be tried: a key variable is unbound on some side, or the keys are the same
+  -- the pair must be compared: a key variable is unbound on some side, or the keys are the same
   abbrev pub may_meet : Solution T → Solution T → Bool
   may_meet μ ν = not (is_keyed vs μ) || (not (is_keyed vs ν) || same_key μ ν)
 
-  -- those of B that have the key of μ, and behind them those with an unbound key variable
+  -- the solutions of B that have the key of μ, and then those with an unbound key variable
   abbrev pub candidates : Solution T → List (Solution T) → List (Solution T)
   candidates μ B =
       filter (λ ν. is_keyed vs ν && same_key μ ν) B ++ filter (λ ν. not (is_keyed vs ν)) B

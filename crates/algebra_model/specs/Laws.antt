@@ -1,4 +1,5 @@
--- What the laws of the algebra say. Each is the contract of a function of the module `laws`.
+-- The statements of the laws of the algebra. Each is the contract of a function of the module
+-- `laws`.
 use Rattle.std.specs.Prelude.{◌≡◌, ℕ, Bool, true, false, ◌+◌, ◌<◌, ◌↔◌, List, ◌++◌, Option, None, map, filter, filter_map, flat_map, take, replicate, count_by, option_map, nat_eq, IsPermutation}
 use Rattle.std.specs.declared.cmp.Ordering.TheVariants.{Equal}
 use Rattle.rdf_core.specs.declared.term.Term.{Term}
@@ -21,13 +22,14 @@ use Rattle.algebra_model.specs.Pieces.{joined}
 abbrev pub Row : Type 0
 Row = Solution Term
 
--- A list is a bag by how often it has each solution.
+-- A multiset is determined by how often it has each solution.
 abbrev pub BagIsItsCounts : Type 0
 BagIsItsCounts = (A B : List Row)
     → IsSameBag A B
     ↔ ((μ : Row) → count_by (same_solution term_eq μ) A ≡ count_by (same_solution term_eq μ) B)
 
--- The maps that are built triple by triple are the maps that are found by trying all.
+-- The maps that are built triple pattern by triple pattern are the maps that are found by trying
+-- all.
 abbrev pub BuiltIsTried : Type 0
 BuiltIsTried = (w l : ℕ) (P : List (TriplePattern Term)) (G : List (Triple Term))
     → IsWithoutRepeats (same_triple_by term_eq) G
@@ -35,25 +37,25 @@ BuiltIsTried = (w l : ℕ) (P : List (TriplePattern Term)) (G : List (Triple Ter
     → IsSameBag (map (take w) (solve term_eq w P G (replicate (w + l) None)))
     (bgp term_eq w l P G)
 
--- The triples of a pattern may be taken in any order.
+-- The triple patterns of a pattern may be matched in any order.
 abbrev pub PatternHasNoOrder : Type 0
 PatternHasNoOrder = (w l : ℕ) (P Q : List (TriplePattern Term))
     → IsPermutation P Q
     → (G : List (Triple Term)) → bgp term_eq w l P G ≡ bgp term_eq w l Q G
 
--- A map may be extended over the triples alone that agree with it.
+-- A map may be extended over only the triples that agree with it.
 abbrev pub ScanIsEnough : Type 0
 ScanIsEnough = (w : ℕ) (t : TriplePattern Term) (m : Row) (S G : List (Triple Term))
     → IsPermutation S (filter (agrees_with term_eq w t m) G)
     → IsSameBag (filter_map (extend_by term_eq w t m) S) (filter_map (extend_by term_eq w t m) G)
 
--- A dataset is a set: only which quads it has counts.
+-- A dataset is a set: only its quads matter, not their order or repeats.
 abbrev pub DatasetIsSet : Type 0
 DatasetIsSet = (w : ℕ) (D E : List QuadParts)
     → IsSameSet D E
     → (g : Option Term) (A : Algebra) → IsSameBag (eval w D g A) (eval w E g A)
 
--- Every operator makes equal bags of equal bags.
+-- Every operator makes equal multisets of equal multisets.
 abbrev pub KeepsBags : (List Row → List Row) → Type 0
 KeepsBags F = (A A' : List Row) → IsSameBag A A' → IsSameBag (F A) (F A')
 
@@ -88,7 +90,7 @@ DistinctKeepsBags = KeepsBags (distinct term_eq)
 abbrev pub TableKeepsBags : Type 0
 TableKeepsBags = (w : ℕ) (vs : List ℕ) → KeepsBags (table w vs)
 
--- Numbers below n are read as terms, each as a term of its own.
+-- Numbers below n are read as terms, and distinct numbers as distinct terms.
 abbrev pub IsReading : ℕ → (ℕ → Term) → Type 0
 IsReading n f = (x y : ℕ) → x < n → y < n → f x ≡ f y → x ≡ y
 
@@ -99,7 +101,7 @@ AreInRange n A = Each (EachBound (λ x. x < n)) A
 abbrev pub read : (ℕ → Term) → List (Solution ℕ) → List Row
 read f A = map (read_row f) A
 
--- An operator at numbers, read as terms, is the operator of the bags so read.
+-- An operator on numbers, read as terms, is the operator on the multisets that are read.
 abbrev pub PatternIsRead : Type 0
 PatternIsRead = (n : ℕ) (f : ℕ → Term)
     → IsReading n f
@@ -144,7 +146,8 @@ abbrev pub FilterIsRead : Type 0
 FilterIsRead = (f : ℕ → Term) (keeps : Row → Bool) (A : List (Solution ℕ))
     → IsSameBag (read f (filter (λ μ. keeps (read_row f μ)) A)) (filter keeps (read f A))
 
--- `number` gives, for each solution of A, the number of its value, and none where it has no value
+-- `number` gives the number of the value of each solution of A, and None for a solution without a
+-- value
 abbrev pub ExtendIsRead : Type 0
 ExtendIsRead = (f : ℕ → Term) (number : Solution ℕ → Option ℕ) (value : Row → Option Term)
     → (v : ℕ) (A : List (Solution ℕ))
@@ -166,17 +169,18 @@ abbrev pub TableIsRead : Type 0
 TableIsRead = (f : ℕ → Term) (w : ℕ) (vs : List ℕ) (rows : List (List (Option ℕ)))
     → IsSameBag (read f (table w vs rows)) (table w vs (read f rows))
 
--- LeftJoin may be taken solution by solution.
+-- LeftJoin may be evaluated solution by solution.
 abbrev pub LeftJoinGoesByRow : Type 0
 LeftJoinGoesByRow = (keeps : Row → Bool) (A B : List Row)
     → IsSameBag (flat_map (left_row term_eq keeps B) A) (left_join term_eq keeps A B)
 
--- What is done to the pieces of a list, joined, is what is done to the list.
+-- A function of solutions, applied to the pieces of a list and concatenated, is the function
+-- applied to the list.
 abbrev pub PiecesJoin : Type 0
 PiecesJoin = (f : Row → List Row) (pieces : List (List Row))
     → flat_map f (joined pieces) ≡ joined (map (flat_map f) pieces)
 
--- Solutions that both bind all key variables, but not to the same terms, are incompatible.
+-- Solutions that bind all key variables, but not to the same terms, are incompatible.
 abbrev pub KeysApart : Type 0
 KeysApart = (vs : List ℕ) (μ ν : Row)
     → is_keyed vs μ ≡ true
@@ -184,32 +188,32 @@ KeysApart = (vs : List ℕ) (μ ν : Row)
     → same_key term_eq vs μ ν ≡ false
     → is_compatible term_eq μ ν ≡ false
 
--- Of a solution with a key, only the solutions that have the same key, or an unbound key variable,
--- have to be tried.
+-- For a solution with a key, only the solutions that have the same key, or an unbound key variable,
+-- must be compared.
 abbrev pub CandidatesSuffice : Type 0
 CandidatesSuffice = (vs : List ℕ) (μ : Row) (B : List Row)
     → is_keyed vs μ ≡ true
     → IsSameBag (merges term_eq μ (candidates term_eq vs μ B)) (merges term_eq μ B)
 
--- Solutions that tie in the order of rows have the same row.
+-- Solutions that are equal in the order of rows have the same row.
 abbrev pub TiesAreEqual : Type 0
 TiesAreEqual = (vs : List ℕ) (μ ν : Row) → row_cmp vs μ ν ≡ Equal → cells vs μ ≡ cells vs ν
 
--- The sorted rows are the rows, and rise.
+-- The sorted rows are the rows, in ascending order.
 abbrev pub SortedIsBag : Type 0
 SortedIsBag = (vs : List ℕ) (A : List Row) → IsSameBag (map (cells vs) A) (sorted_rows vs A)
 
 abbrev pub SortedIsRising : Type 0
 SortedIsRising = (vs : List ℕ) (A : List Row) → IsRising cells_cmp (sorted_rows vs A)
 
--- No other list of rows is the same bag and rises.
+-- No other list of rows is the same multiset in ascending order.
 abbrev pub SortedIsUnique : Type 0
 SortedIsUnique = (vs : List ℕ) (A : List Row) (rows : List (List (Option Term)))
     → IsSameBag (map (cells vs) A) rows
     → IsRising cells_cmp rows
     → rows ≡ sorted_rows vs A
 
--- Equal bags have one list of sorted rows.
+-- Equal multisets have one list of sorted rows.
 abbrev pub BagHasOneList : Type 0
 BagHasOneList = (vs : List ℕ) (A B : List Row)
     → IsSameBag A B → sorted_rows vs A ≡ sorted_rows vs B

@@ -1,4 +1,4 @@
--- What a literal without a tag stands for, by its datatype and lexical form (SPARQL 1.1 Query
+-- The value of a literal without a language tag, by its datatype and lexical form (SPARQL 1.1 Query
 -- Language, sections 17.1 and 17.2; XML Schema Part 2, sections 3.2 to 3.4).
 use Rattle.std.specs.Prelude.{ℕ, Bool, true, false, List, [], ◌∷◌, ◌||◌, Option, Some, None, if◌then◌else◌, codes}
 use Rattle.std.specs.List.{list_any}
@@ -10,7 +10,7 @@ pub data LiteralValue : Type 0 where
   number : Number → LiteralValue
   boolean : Bool → LiteralValue
   string : List ℕ → LiteralValue
-  -- all else, ill-formed numbers and booleans too
+  -- any other value, also that of an ill-typed number or boolean
   other : LiteralValue
 
 -- xsd:integer and the types derived from it

@@ -1,6 +1,6 @@
--- Numbers of any length: a form is digits, perhaps with a sign and a dot, and stands for a whole
--- number with a sign over a power of ten (XML Schema 1.1 Part 2, sections 3.3.3 and 3.4.13). The
--- order of numbers is exact (SPARQL 1.1 Query Language, section 17.3).
+-- Numbers of any length (XML Schema 1.1 Part 2, sections 3.3.3 and 3.4.13), with an exact order
+-- (SPARQL 1.1 Query Language, section 17.3). A lexical form is digits with an optional sign and
+-- dot. Its value is a signed whole number over a power of ten.
 use Rattle.std.specs.Prelude.{ℕ, ◌+◌, ◌*◌, ◌^◌, Bool, false, ◌||◌, ◌==◌, ℤ, pos, neg_ℤ, List, [], ◌∷◌, ◌++◌, length, drop, Option, Some, None, if◌then◌else◌}
 use Rattle.std.specs.Char.{is_ascii_digit}
 use Rattle.std.specs.List.{list_all, position_or_len, before_first}
@@ -17,7 +17,7 @@ minus = 45
 abbrev pub dot : ℕ
 dot = 46
 
--- all the digits as one whole number, and how many of them stand behind the dot
+-- all the digits as one whole number, and how many of them follow the dot
 pub record Number : Type 0 where
   pub negative : Bool
   pub digits : ℕ
@@ -37,7 +37,7 @@ abbrev pub is_numeral : List ℕ → Bool
 is_numeral [] = false
 is_numeral (c ∷ cs) = list_all is_ascii_digit (c ∷ cs)
 
--- what stands before the first dot, and behind it
+-- what precedes the first dot, and what follows it
 abbrev pub is_dot : ℕ → Bool
 is_dot c = c == dot
 
@@ -47,7 +47,7 @@ whole_part text = before_first is_dot text
 abbrev pub fraction_part : List ℕ → List ℕ
 fraction_part text = drop (position_or_len is_dot text + 1) text
 
--- the number whose sign, whole digits and fraction digits these are, where there is a digit and
+-- the number with this sign, these whole digits and these fraction digits, if there is a digit and
 -- nothing but digits
 abbrev pub number_of_parts : Bool → List ℕ → List ℕ → Option Number
 number_of_parts negative whole fraction =
@@ -71,10 +71,11 @@ decimal_number form =
 abbrev pub is_zero : Number → Bool
 is_zero x = x.digits == 0
 
--- the number times ten to the power of its places and n more
+-- the number times ten to the power of its places plus n
 abbrev pub raised : Number → ℕ → ℤ
 raised x n = if x.negative then neg_ℤ (pos (x.digits * 10 ^ n)) else pos (x.digits * 10 ^ n)
 
--- a over 10^k is below b over 10^m where a*10^m is below b*10^k, and equal where neither is below
+-- a over 10^k is less than b over 10^m if a*10^m is less than b*10^k, and they are equal if neither
+-- is less
 abbrev pub number_cmp : Number → Number → Ordering
 number_cmp x y = int_cmp (raised x y.places) (raised y x.places)

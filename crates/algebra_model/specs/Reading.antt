@@ -1,21 +1,21 @@
--- Solutions, patterns and triples of one type of terms, read as those of another. Words for laws
--- and proofs; the definitions of the algebra do not cite them.
+-- Solutions, patterns and triples of one type of terms, read as those of another. Only laws and
+-- proofs use these definitions; the definitions of the algebra do not.
 use Rattle.std.specs.Prelude.{List, [], ◌∷◌, None, Some, map, option_map}
 use Rattle.algebra_model.specs.Solution.{Solution}
 use Rattle.algebra_model.specs.Bgp.{Triple, PatternTerm, TriplePattern, variable, label, constant}
 
--- P of each element
+-- P is true of each element
 abbrev pub Each : {X : Type 0} → (X → Type 0) → List X → Type 0
 Each P [] = Unit {0}
 Each P (x ∷ xs) = P x × Each P xs
 
--- P of each term that the solution binds
+-- P is true of each term that the solution binds
 abbrev pub EachBound : {A : Type 0} → (A → Type 0) → Solution A → Type 0
 EachBound P [] = Unit {0}
 EachBound P (None ∷ μ) = EachBound P μ
 EachBound P (Some x ∷ μ) = P x × EachBound P μ
 
--- P of each term that stands in the triple pattern
+-- P is true of each term in the triple pattern
 abbrev pub EachConstant : {A : Type 0} → (A → Type 0) → PatternTerm A → Type 0
 EachConstant P (variable v) = Unit {0}
 EachConstant P (label l) = Unit {0}
@@ -27,7 +27,7 @@ EachOfTriple P g = P g.s × P g.p × P g.o
 abbrev pub EachOfPattern : {A : Type 0} → (A → Type 0) → TriplePattern A → Type 0
 EachOfPattern P t = EachOfTriple (EachConstant P) t
 
--- the solution with f of each term
+-- the solution with f applied to each term
 abbrev pub read_row : {A B : Type 0} → (A → B) → Solution A → Solution B
 read_row f μ = map (option_map f) μ
 

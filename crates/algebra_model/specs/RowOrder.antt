@@ -1,4 +1,5 @@
--- The order of rows. (Our own: SPARQL leaves the order of an unsorted result open.)
+-- The order of rows, which is a choice of this project (SPARQL 1.1 Query Language, section 15.1,
+-- does not fix the order of a result without ORDER BY).
 use Rattle.std.specs.Prelude.{ℕ, List, Option, None, map, get_or}
 use Rattle.std.specs.declared.cmp.Ordering.{Ordering}
 use Rattle.std.specs.Option.{option_cmp}
@@ -20,6 +21,6 @@ cells_cmp = slice_cmp (option_cmp term_cmp)
 abbrev pub row_cmp : List ℕ → Solution Term → Solution Term → Ordering
 row_cmp vs μ ν = cells_cmp (cells vs μ) (cells vs ν)
 
--- the rows of a bag of solutions, in their order
+-- the rows of a multiset of solutions, in ascending order
 abbrev pub sorted_rows : List ℕ → List (Solution Term) → List (List (Option Term))
 sorted_rows vs A = sorted_list cells_cmp (map (cells vs) A)

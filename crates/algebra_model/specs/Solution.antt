@@ -1,28 +1,28 @@
 -- Solutions (SPARQL 1.1 Query Language, section 18.1.8, solution mappings). T is the type of terms,
--- and `same` tells whether two of them are one term.
+-- and `same` is their equality.
 use Rattle.std.specs.Prelude.{Bool, true, ◌&&◌, List, [], ◌∷◌, Option, None, Some}
 use Rattle.std.specs.Cmp.Lexicographic.{pointwise}
 use Rattle.std.specs.Option.{option_eq}
 
--- A solution is a partial map from variables to terms. Variables are numbered, and the term of each
--- stands at its number: `None` where the map does not bind the variable. All solutions of one plan
--- have one width, the count of its variables.
+-- A solution is a partial map from variables to terms. Variables are numbers, and the term of a
+-- variable is at its number, or `None` if the map does not bind it. All solutions of one plan have
+-- the same width, the count of its variables.
 abbrev pub Solution : Type 0 → Type 0
 Solution T = List (Option T)
 
--- the first where it is bound, and else the second
+-- the first if it is bound, and the second otherwise
 abbrev pub bound_or : {T : Type 0} → Option T → Option T → Option T
 bound_or None y = y
 bound_or (Some x) y = Some x
 
--- the union of two solutions, which is used only where they are compatible
+-- the union of two solutions, used only if they are compatible
 abbrev pub merge : {T : Type 0} → Solution T → Solution T → Solution T
 merge [] ν = ν
 merge (x ∷ μ) [] = x ∷ μ
 merge (x ∷ μ) (y ∷ ν) = bound_or x y ∷ merge μ ν
 
 module _ {T : Type 0} (same : T → T → Bool) where
-  -- not bound on both sides to two terms
+  -- not bound to two different terms
   abbrev pub agree : Option T → Option T → Bool
   agree None y = true
   agree (Some x) None = true

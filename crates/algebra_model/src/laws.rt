@@ -1,12 +1,12 @@
-//! Laws of the algebra: each is the contract of a function that does nothing.
+//! Laws of the algebra. A law is the contract of a function without effect.
 ghost use Rattle.algebra_model.specs.Laws.{BagIsItsCounts, BuiltIsTried, PatternHasNoOrder, ScanIsEnough, DatasetIsSet, JoinKeepsBags, LeftJoinKeepsBags, MinusKeepsBags, UnionKeepsBags, FilterKeepsBags, ExtendKeepsBags, ProjectKeepsBags, DistinctKeepsBags, TableKeepsBags, JoinIsRead, LeftJoinIsRead, MinusIsRead, UnionIsRead, FilterIsRead, ExtendIsRead, ProjectIsRead, DistinctIsRead, TableIsRead, PatternIsRead, LeftJoinGoesByRow, KeysApart, CandidatesSuffice, PiecesJoin, TiesAreEqual, SortedIsBag, SortedIsRising, SortedIsUnique, BagHasOneList};
 
-/// Two lists are one bag exactly where each solution is counted equally in both.
+/// Proves that two lists are the same multiset exactly if each solution is counted equally in both.
 pub fn a_bag_is_its_counts()
     ensures counts { BagIsItsCounts }
 {}
 
-/// Every operator makes equal bags of equal bags, in each of its arguments.
+/// Proves that every operator makes equal multisets of equal multisets, in each of its arguments.
 pub fn equal_bags_give_equal_bags()
     ensures join { JoinKeepsBags }
     ensures left_join { LeftJoinKeepsBags }
@@ -19,26 +19,27 @@ pub fn equal_bags_give_equal_bags()
     ensures table { TableKeepsBags }
 {}
 
-/// The solutions of a basic pattern are found by building maps triple by triple, in place of trying
-/// every map; the order of the pattern's triples does not matter; and a map is extended by the
-/// triples alone that agree with it, each once.
+/// Proves that the solutions of a basic graph pattern are found by extending maps, one triple
+/// pattern after another, instead of trying every map. The order of the triple patterns does not
+/// matter. It is enough to extend a map by the triples that agree with it, each once.
 pub fn a_pattern_is_solved_by_scans()
     ensures built { BuiltIsTried }
     ensures order { PatternHasNoOrder }
     ensures scan { ScanIsEnough }
 {}
 
-/// An answer hangs on which quads a dataset has, and not on their order or their repeats, whatever
-/// the algebra expression.
+/// Proves that the result of any algebra expression depends on which quads a dataset has, and not
+/// on their order or repeats.
 pub fn a_dataset_is_a_set()
     ensures answers { DatasetIsSet }
 {}
 
-/// Where numbers stand for terms, each for a term of its own, every operator may be done at the
-/// numbers: read as terms, its result is the operator's at the terms.
+/// Proves that operators commute with a reading of numbers as terms, if distinct numbers represent
+/// distinct terms. The result of an operator on numbers, read as terms, is the result of the
+/// operator on the terms.
 ///
-/// Union, Filter, Extend, Project and a table compare no terms, and so different numbers may stand
-/// for one term. Extend needs the number of a value only for the solutions that it is given.
+/// Union, Filter, Extend, Project and a table compare no terms, so distinct numbers may represent
+/// one term. Extend needs the number of a value only for the solutions that it is given.
 pub fn numbers_stand_for_terms()
     ensures pattern { PatternIsRead }
     ensures join { JoinIsRead }
@@ -52,21 +53,22 @@ pub fn numbers_stand_for_terms()
     ensures table { TableIsRead }
 {}
 
-/// LeftJoin may be taken solution by solution, and any operator that goes solution by solution may
-/// be done on the pieces of a list.
+/// Proves that LeftJoin may be evaluated solution by solution. An operator that works solution by
+/// solution may be evaluated on the pieces of a list.
 pub fn solutions_may_be_taken_apart()
     ensures left_join { LeftJoinGoesByRow }
     ensures pieces { PiecesJoin }
 {}
 
-/// A join may leave out the pairs that bind all key variables, but to different terms. So a solution
-/// that binds them all need only be tried with those of its key and those that leave one open.
+/// Proves that a join may leave out the pairs that bind all key variables to different terms. So a
+/// solution that binds all of them is compared only with the solutions of its key and those that
+/// leave a key variable unbound.
 pub fn different_keys_are_incompatible()
     ensures apart { KeysApart }
     ensures candidates { CandidatesSuffice }
 {}
 
-/// A bag of solutions has exactly one list of sorted rows.
+/// Proves that a multiset of solutions has exactly one list of sorted rows.
 pub fn a_bag_has_one_sorted_list()
     ensures ties { TiesAreEqual }
     ensures bag { SortedIsBag }

@@ -1,24 +1,27 @@
-//! The model of the SPARQL algebra: what a query means, as definitions with no code, and the laws
-//! that an evaluator stands on. `specs/` has the definitions, `src/laws.rt` the laws as contracts of
-//! functions that do nothing, `proofs/` the lemmas that crates above cite.
+//! The model of the SPARQL algebra. It defines what a query means, without code, and states the
+//! laws on which an evaluator relies. `specs/` has the definitions. `src/laws.rt` has the laws, as
+//! contracts of functions without effect. `proofs/` has the lemmas that other crates use.
 //!
-//! The crates above use `eval w D g algebra`: the bag of solutions of an algebra expression over a
-//! dataset `D`, with the graph `g` active and `w` variables. Their contracts say `IsSameBag` of it,
-//! and `sorted_rows` of it where an order counts.
+//! Callers use `eval w D g algebra`. It is the multiset of solutions of an algebra expression over
+//! a dataset `D`, with the active graph `g` and `w` variables. Their contracts state `IsSameBag`
+//! with it, or `sorted_rows` of it if the order matters.
 //!
-//! Source: SPARQL 1.1 Query Language, sections 17 and 18; RDF 1.1 Concepts, section 4. What these
-//! leave open is ours, and says so: the order of rows, and a graph that no statement names.
+//! Standards: SPARQL 1.1 Query Language, sections 17 and 18; RDF 1.1 Concepts, section 4. Two
+//! choices of this project are marked as such: the order of rows, and the solutions in a graph that
+//! no statement names.
 //!
-//! Reading order: `Solution`, `Bag`, `Bgp` (basic patterns by trying every map), `Operators`,
+//! Reading order: `Solution`, `Bag`, `Bgp` (basic graph patterns by trying every map), `Operators`,
 //! `Dataset`; `Number`, `LiteralValue`, `BooleanValue`, `Comparison`, `Call`, `Expression`;
-//! `Algebra`, `Eval`; `Sorted`, `RowOrder`. `Solve`, `Keys`, `Pieces` and `Reading` are words for
-//! laws and proofs, and no definition of the algebra cites them.
+//! `Algebra`, `Eval`; `Sorted`, `RowOrder`. Only laws and proofs use `Solve`, `Keys`, `Pieces` and
+//! `Reading`. No definition of the algebra depends on them.
 //!
 //! Example: over the triples a p b and a p c, the pattern `?s p _:x` has the solution `?s = a`
-//! twice, once for each term that its blank label can stand for.
+//! twice, once for each term of its blank node label. The prover checks the worked examples of
+//! `src/examples.rt`. The tests of the evaluators are in the crates algebra_tests (plain_eval) and
+//! evaluation_tests (sparql_eval).
 //!
-//! Not here: the translation of a query to an algebra expression (`sparql_algebra`), evaluation
-//! (`sparql_eval`), and any promise about time or memory.
+//! Not part of this crate: the translation of a query to an algebra expression (`sparql_algebra`),
+//! evaluation (`sparql_eval`), and any guarantee of time or memory.
 #![tactic(auto)]
 
 pub mod examples;

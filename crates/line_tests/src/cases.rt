@@ -8,7 +8,7 @@ pub(crate) type Case = (&'static str, &'static str);
 /// What is printed of a text.
 #[derive(Clone, Copy)]
 pub(crate) enum Reader {
-    /// What the inside of an IRI stands for.
+    /// The value of the inside of an IRI.
     Iri,
     /// The IRI before `>`, and what follows it.
     IriRef,
@@ -20,7 +20,7 @@ pub(crate) enum Reader {
     Quoted,
     /// The slices of the statements of a piece.
     Slices,
-    /// What the inside of a string stands for.
+    /// The value of the inside of a string.
     String,
     /// The term that a slice denotes.
     Term,
@@ -39,7 +39,7 @@ fn printed(alloc: Global, reader: Reader, text: &str) -> Result<String, AllocErr
     }
 }
 
-/// Whether the two are equal. Prints the case and both if they are not.
+/// Returns whether the two are equal. Prints the case and both if they are not.
 fn is_same<R: Print>(rt: &R, case: &str, expected: &str, found: &str) -> bool {
     if found == expected {
         return true;
@@ -48,7 +48,7 @@ fn is_same<R: Print>(rt: &R, case: &str, expected: &str, found: &str) -> bool {
     false
 }
 
-/// Whether the reader prints of the text what is expected.
+/// Returns whether the reader prints of the text what is expected.
 fn holds<R: Print>(rt: &R, alloc: Global, reader: Reader, (text, expected): Case) -> bool {
     let Ok(found) = printed(alloc, reader, text) else {
         return false;
@@ -56,7 +56,7 @@ fn holds<R: Print>(rt: &R, alloc: Global, reader: Reader, (text, expected): Case
     is_same(rt, text, expected, found.as_str())
 }
 
-/// Whether each case holds. Prints the first that does not.
+/// Returns whether each case holds. Prints the first that does not.
 pub(crate) fn all_hold<R: Print>(rt: &R, alloc: Global, reader: Reader, cases: &[Case]) -> bool {
     for case in cases {
         if !holds(rt, alloc, reader, *case) {

@@ -58,7 +58,7 @@ fn characters_are_of_their_classes(rt: HostRuntime) {
     assert!(rt; is_joining('\u{B7}') && is_joining('\u{2040}') && !is_joining('-'));
 }
 
-/// Letters, and the character that each stands for after a backslash.
+/// Letters, and the character that each escapes after a backslash.
 const ESCAPES: &[(char, Option<char>)] = &[
     ('t', Some('\t')),
     ('b', Some('\u{8}')),
@@ -90,13 +90,13 @@ fn escapes_have_their_letters_and_digits(rt: HostRuntime) {
     }
 }
 
-/// Prints the characters that the inside of a string stands for.
+/// Prints the value of the inside of a string.
 pub(crate) fn string(alloc: Global, text: &str) -> Result<String, AllocError> {
     let value = unescape_string(alloc, text)?;
     format!(in alloc; "{value:?}")
 }
 
-/// Prints the characters that the inside of an IRI stands for.
+/// Prints the value of the inside of an IRI.
 pub(crate) fn iri(alloc: Global, text: &str) -> Result<String, AllocError> {
     let value = unescape_iri(alloc, text)?;
     format!(in alloc; "{value:?}")

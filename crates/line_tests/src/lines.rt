@@ -78,7 +78,7 @@ const LINES: &[Case] = &[
     ),
     ("<a:s> <a:p> <a:o> <a:g> .", "<a:s> <a:p> <a:o> <a:g> "),
     ("\t<a:s>\t<a:p> <a:o>_:g.", "<a:s> <a:p> <a:o> _:g "),
-    // blanks between the parts of a literal
+    // whitespace between the parts of a literal
     ("<a:s> <a:p> \"x\" @en .", "<a:s> <a:p> \"x\"@en "),
     ("<a:s> <a:p> \"x\"^^ <a:d> .", "<a:s> <a:p> \"x\"^^<a:d> "),
     ("<a:s> <a:p> \"x\" ^^<a:d> .", "<a:s> <a:p> \"x\"^^<a:d> "),
@@ -86,13 +86,13 @@ const LINES: &[Case] = &[
     ("<a:s> <a:p> _:b._:c .", "<a:s> <a:p> _:b._:c "),
     ("_:: <a:p> _:a: .", "_:: <a:p> _:a: "),
     ("_:0 <a:p> _:b..c.", "_:0 <a:p> _:b..c "),
-    // a comment may touch the dot; these characters may stand in a literal
+    // a comment may touch the dot; a literal may have these characters
     ("<a:s> <a:p> <a:o> .#<a:c> .", "<a:s> <a:p> <a:o> "),
     (
         "<a:s> <a:p> \"\u{85}\u{2028}\0\t\" .",
         "<a:s> <a:p> \"\u{85}\u{2028}\0\t\" ",
     ),
-    // the byte order mark is a character like others, but at the start
+    // the byte order mark is a character like others, except at the start
     (
         "<a:\u{feff}> <a:p> _:\u{feff} . # \u{feff}",
         "<a:\u{feff}> <a:p> _:\u{feff} ",
@@ -135,7 +135,7 @@ const MALFORMED: &[Case] = &[
     ("<a:s> <a:p> \"\\x\" .", "malformed"),
 ];
 
-/// Whether a line that is not UTF-8 is malformed.
+/// Returns whether a line that is not UTF-8 is malformed.
 fn is_malformed(alloc: Global, line: &[u8]) -> bool {
     matches!(read_line(alloc, line), Err(LineFault::Bad))
 }

@@ -48,7 +48,7 @@ fn term(alloc: Global, parts: Parts) -> Result<Term, AllocError> {
     }
 }
 
-/// Whether a copy of a text is equal to it, and is given back as it is.
+/// Returns whether a copy of a text is equal to it, and is returned unchanged.
 fn is_copied(alloc: Global, characters: &str) -> Result<bool, AllocError> {
     let made = text(alloc, characters)?;
     let copied = made.copy(alloc)?;
@@ -56,14 +56,14 @@ fn is_copied(alloc: Global, characters: &str) -> Result<bool, AllocError> {
     Ok(is_equal && copied.into_string().as_str() == characters)
 }
 
-/// Whether the first text is less than the second one.
+/// Returns whether the first text is less than the second one.
 fn is_less(alloc: Global, first: &str, second: &str) -> Result<bool, AllocError> {
     let first = text(alloc, first)?;
     let second = text(alloc, second)?;
     Ok(first.cmp(&second) == Ordering::Less && first.partial_cmp(&second) == Some(Ordering::Less))
 }
 
-/// Whether a text prints as it is.
+/// Returns whether a text prints unchanged.
 fn is_printed(alloc: Global, characters: &str) -> Result<bool, AllocError> {
     let made = text(alloc, characters)?;
     let printed = format!(in alloc; "{made}")?;
@@ -92,7 +92,7 @@ const FORMS: &[(Parts, &str)] = &[
     ),
 ];
 
-/// Whether the term has this N-Quads form.
+/// Returns whether the term has this N-Quads form.
 fn is_written(alloc: Global, parts: Parts, form: &str) -> Result<bool, AllocError> {
     let term = term(alloc, parts)?;
     let mut out = Vec::new(alloc);
@@ -137,7 +137,7 @@ fn order(alloc: Global, first: Parts, second: Parts) -> Result<Ordering, AllocEr
     Ok(first.cmp(&second))
 }
 
-/// Whether each of these terms is less than the next one.
+/// Returns whether each of these terms is less than the next one.
 fn is_ascending(alloc: Global, terms: &[Parts]) -> bool {
     for i in 1..terms.len() {
         let Ok(Ordering::Less) = order(alloc, terms[i - 1], terms[i]) else {
@@ -147,7 +147,7 @@ fn is_ascending(alloc: Global, terms: &[Parts]) -> bool {
     true
 }
 
-/// Whether a copy of the first term is the same, and the second one is another.
+/// Returns whether a copy of the first term is equal to it, and the second one is not.
 fn is_same_only_as_copy(alloc: Global, first: Parts, second: Parts) -> Result<bool, AllocError> {
     let first = term(alloc, first)?;
     let second = term(alloc, second)?;
@@ -175,7 +175,7 @@ fn graph_name(alloc: Global, parts: Option<Parts>) -> Result<Option<Term>, Alloc
     }
 }
 
-/// Makes a quad, if the terms may be in these places.
+/// Makes a quad, if the terms may be in these positions.
 fn quad(
     alloc: Global,
     [s, p, o]: [Parts; 3],
@@ -188,7 +188,7 @@ fn quad(
     Ok(Quad::of(s, p, o, g))
 }
 
-/// Whether the terms make a quad, which is equal to its copy.
+/// Returns whether the terms make a quad, which is equal to its copy.
 fn is_quad(alloc: Global, parts: [Parts; 3], g: Option<Parts>) -> Result<bool, AllocError> {
     let Some(quad) = quad(alloc, parts, g)? else {
         return Ok(false);
@@ -197,7 +197,7 @@ fn is_quad(alloc: Global, parts: [Parts; 3], g: Option<Parts>) -> Result<bool, A
     Ok(copy == quad)
 }
 
-/// Whether a term is a node, and whether it is an IRI.
+/// Returns whether a term is a node, and whether it is an IRI.
 fn kinds(alloc: Global, parts: Parts) -> Result<(bool, bool), AllocError> {
     let term = term(alloc, parts)?;
     Ok((is_node(&term), is_iri(&term)))

@@ -1,4 +1,4 @@
-//! Transfers over devices in memory that take few bytes a call and fail when they are told to.
+//! Transfers over devices in memory that transfer few bytes with each call and fail at a given byte.
 ghost use Rattle.std.specs.Prelude.{◌<◌};
 
 use nquads_core::{
@@ -6,7 +6,7 @@ use nquads_core::{
 };
 use std::alloc::Global;
 
-/// Gives `chunk` bytes a call at most, and fails once `until` bytes were read.
+/// A source that gives at most `chunk` bytes with each call, and fails after `until` bytes.
 #[derive(Drop)]
 struct SliceSource<'a> {
     rest: &'a [u8],
@@ -41,7 +41,7 @@ impl<'a> Source for SliceSource<'a> {
     }
 }
 
-/// Takes `chunk` bytes a call at most, and fails once it took `until` bytes.
+/// A sink that accepts at most `chunk` bytes with each call, and fails after `until` bytes.
 #[derive(Drop)]
 struct VecSink {
     bytes: Vec<u8>,
@@ -58,7 +58,7 @@ impl Sink for VecSink {
 
     ghost failures = { λ s. Some s.failed };
 
-    // It takes a byte of each text that is not empty.
+    // It accepts at least one byte of each text that is not empty.
     ghost write_gives = { λ s bs r t. 0 < length bs → IfOk r (λ n. 0 < n) };
 
     fn write(&mut self, bytes: &[u8]) -> Result<usize, DeviceFailed> {

@@ -1,7 +1,7 @@
 //! How a case that fails is printed.
 use std::alloc::AllocError;
 
-/// Whether a case gives what is expected. Prints the case and both if it does not.
+/// Returns whether a case gives what is expected. Prints the case and both if it does not.
 pub(crate) fn holds<R: Print>(
     rt: &R,
     case: &str,

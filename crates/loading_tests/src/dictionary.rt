@@ -82,7 +82,7 @@ pub(crate) fn dict_of(
     Ok(dict)
 }
 
-/// Whether the dictionary has exactly these terms, in this order, by each of its look-ups.
+/// Returns whether the dictionary has exactly these terms, in this order, by each of its look-ups.
 pub(crate) fn has(dict: &Dict, terms: &[Term]) -> bool {
     if dict.len() != terms.len() {
         return false;
@@ -165,7 +165,7 @@ fn added(alloc: Global, state: RandomState, names: &[&str]) -> Result<String, Al
     Ok(out)
 }
 
-/// Whether the dictionary has no number for the term.
+/// Returns whether the dictionary has no number for the term.
 fn is_absent(dict: &Dict, term: Result<Term, AllocError>) -> bool {
     match term {
         Ok(term) => dict.number_of(&term).is_none(),
@@ -173,7 +173,7 @@ fn is_absent(dict: &Dict, term: Result<Term, AllocError>) -> bool {
     }
 }
 
-/// Whether the dictionary of a, b, c has no number for `<g>` and for `_:a`.
+/// Returns whether the dictionary of a, b, c has no number for `<g>` and for `_:a`.
 fn are_absent(alloc: Global, state: RandomState) -> bool {
     match dict_of(alloc, state, &[A, B, C]) {
         Ok(dict) => is_absent(&dict, iri(alloc, G)) && is_absent(&dict, blank(alloc, A)),
@@ -185,7 +185,7 @@ fn are_absent(alloc: Global, state: RandomState) -> bool {
 const ADDED: &str = "Some(0) Some(1) Some(0) Some(2) Some(1) \
                      Some(0) Iri(http://e/a); Some(1) Iri(http://e/b); Some(2) Iri(http://e/c); ";
 
-/// A term that is there keeps its number, a new one goes last, and one that is not there has none.
+/// A known term keeps its number, a new one is last, and an unknown one has no number.
 #[test]
 fn terms_keep_their_numbers(rt: HostRuntime) {
     let alloc = rt.alloc();
@@ -202,7 +202,7 @@ fn terms_keep_their_numbers(rt: HostRuntime) {
     assert!(rt; are_absent(alloc, state));
 }
 
-/// Prints what the pieces of the texts are merged into.
+/// Prints the merge of the pieces of the texts.
 fn merged(alloc: Global, state: RandomState, texts: &[&str]) -> Result<String, AllocError> {
     let Some(pieces) = pieces(alloc, state, texts) else {
         return Err(AllocError);
@@ -211,7 +211,7 @@ fn merged(alloc: Global, state: RandomState, texts: &[&str]) -> Result<String, A
     printed(alloc, &dict, quads.as_slice())
 }
 
-/// What the first, the second and the third piece are merged into.
+/// The merge of the first, the second and the third piece.
 const MERGED: &str = "Some(0) Iri(http://e/a); Some(1) Iri(http://e/p); Some(2) Iri(http://e/b); \
                       Some(3) Iri(http://e/q); Some(4) Blank(x); Some(5) Iri(http://e/g); \
                       Some(0) Some(1) Some(2) None Some(2) Some(1) Some(0) None Some(0) Some(3) Some(4) Some(5) ";

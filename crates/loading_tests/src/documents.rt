@@ -1,4 +1,4 @@
-//! Documents by example: what is loaded of each, however it is cut and with any number of workers.
+//! Documents by example: what is loaded of each, with any cuts and any number of workers.
 ghost use Rattle.std.specs.Prelude.{◌≤◌};
 
 use crate::cases::holds;
@@ -20,7 +20,7 @@ pub(crate) const GRAPHS: &[u8] =
 pub(crate) const BAD: &[u8] =
     b"<http://e/a> <http://e/p> <http://e/b> .\r\n# c\n<http://e/a> <http://e/p> .\nx\n";
 
-/// No blanks, escapes, and a language tag in capitals.
+/// No whitespace, escapes, and a language tag in capitals.
 pub(crate) const TWO_LINES: &[u8] =
     b"<http://e/a><http://e/p>_:b.\n_:b <http://e/q> \"\\u00e9\\n\"@EN .\n";
 
@@ -66,7 +66,7 @@ fn loaded_blocks<R: Threads + Wait + RandomSource>(
     load_blocks(rt, alloc, blocks.as_slice(), 2, &OpenGate)
 }
 
-/// The counts of quads, terms and graph names.
+/// Returns the counts of quads, terms and graph names.
 pub(crate) fn counts(loaded: Result<Store, LoadFault>) -> Counts {
     let store = loaded?;
     Ok((store.quads(), store.terms(), store.graphs()))
@@ -87,7 +87,7 @@ const DOCUMENTS: &[(&str, &[u8], &str)] = &[
     ("the empty document", b"", "Ok((0, 0, 0))"),
 ];
 
-/// Whether each document is loaded as it should be.
+/// Returns whether each document is loaded as expected.
 fn are_right<R: Threads + Wait + RandomSource + Print>(
     rt: &R,
     alloc: Global,
@@ -136,7 +136,7 @@ fn blocks_load_as_the_document(rt: HostRuntime) {
     }
 }
 
-/// Whether the store of the two graphs has its terms, quads and graphs, also in its parts.
+/// Returns whether the store of the two graphs has its terms, quads and graphs, also in its parts.
 fn has_parts(store: Store) -> bool {
     if store.dict().len() != 7 || store.index().quads() != 3 {
         return false;

@@ -39,7 +39,7 @@ pub(crate) const QUADS: [NumQuad; 4] = [
     },
 ];
 
-/// The same index, its lists sorted one by one, as three jobs may do in parallel.
+/// Builds the same index. Its lists are sorted one by one, as three jobs may do in parallel.
 pub(crate) fn side_by_side(alloc: Global, quads: &[NumQuad]) -> Result<Index, AllocError> {
     let gspo = sorted_list(alloc, quads, SortOrder::Gspo)?;
     let gpos = sorted_list(alloc, quads, SortOrder::Gpos)?;
@@ -52,7 +52,7 @@ fn built(alloc: Global) -> Result<Index, AllocError> {
     Index::build(alloc, Vec::from_slice(alloc, &QUADS)?)
 }
 
-/// Whether the index has three quads, one graph name, and one quad with predicate 1 and object 3.
+/// Returns whether the index has three quads, one graph name, and one quad with predicate 1 and object 3.
 fn counts_once(index: &Index) -> bool {
     index.quads() == 3
         && index.graphs() == [5].as_slice()
@@ -71,10 +71,11 @@ fn an_index_counts_each_quad_once(rt: HostRuntime) {
     index_names_the_graphs();
 }
 
-/// A name, what is given of graph, subject, predicate and object, and the number of quads.
+/// A name, the given graph, subject, predicate and object, and the number of quads.
 type Scan = (&'static str, [Option<u64>; 4], usize);
 
-/// All eight combinations of given places, in the default graph, in a named graph and in a graph that no quad names.
+/// All eight combinations of given positions, in the default graph, in a named graph and in a graph that no quad
+/// names.
 const SCANS: &[Scan] = &[
     ("s p", [None, Some(0), Some(1), None], 2),
     ("o", [None, None, None, Some(2)], 1),
@@ -104,7 +105,7 @@ fn scans_give_what_agrees(rt: HostRuntime) {
     assert!(rt; index.scan(Some(5), Some(0), None, None) == [quad(Some(5), 0, 1, 2)].as_slice());
 }
 
-/// Each order by itself: no graph comes first, then the places of the name.
+/// Each order alone: no graph comes first, then the positions of the name.
 #[test]
 fn lists_stand_in_their_orders(rt: HostRuntime) {
     let alloc = rt.alloc();

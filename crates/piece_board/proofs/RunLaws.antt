@@ -1,4 +1,4 @@
--- What always holds of a board, after every run.
+-- The invariant of a board, after every run.
 use Rattle.std.proofs.Common.{true, false, cond, ltb, ◌≡◌, ◌≢◌, ⊎_elim, ℕ, zero, suc, ◌+◌, ◌<◌, min, List, [], ◌∷◌, set, refl, sym, ap, subst, inl, arith}
 use Rattle.std.specs.Prelude.{replicate}
 use Rattle.std.proofs.lemmas.List.Folds.{sum_by-replicate}

@@ -1,4 +1,4 @@
--- Each event keeps what always holds of a board.
+-- Each event preserves the invariant of a board.
 use Rattle.std.proofs.Common.{◌≡◌, ◌≢◌, ◌⊎◌, ⊎_elim, ℕ, ◌+◌, ◌<◌, ◌≤◌, min, cond, List, set, refl, sym, ap, subst, inl, inr, arith}
 use Rattle.std.proofs.lemmas.Bool.{lt-ltb, le-ltb}
 use mathlib.Core.Logic.{dite}
@@ -17,7 +17,7 @@ pub each_set : (P : History → Type 0) (histories : List History) (s : ℕ) (w 
     → (j : ℕ) (u : History) → get_elem? (set histories s w) j ≡ some u → P u
 each_set P histories s w others mine j u e = ⊎_elim (λ (t : (j ≡ s) × (w ≡ u)). subst P t.1 mine) (λ (t : (j ≢ s) × (get_elem? histories j ≡ some u)). others j u t.1) (at_set histories s j w u e)
 
--- what holds of a history holds where the numbers have with_history on
+-- the claims of a history are true if the numbers have grown
 pub grown : (n next least : ℕ) (histories : List History) (next' least' : ℕ) (histories' : List History) (u : History) → next ≤ next' → least' ≤ least → ((x : ℕ) → reported x histories ≤ reported x histories')
     → HistoryClaims n next least histories u → HistoryClaims n next' least' histories' u
 grown n next least histories next' least' histories' u up down more h = record {
@@ -139,6 +139,6 @@ module _ (n k next least : ℕ) (histories : List History) (h : CountedClaims n 
         };
   }
 
-  -- what a history knows of itself
+  -- the claims of a history about itself
   pub own_draws : (x : ℕ) → times x r.draws ≤ once_below x n
   own_draws x = let a = at_le (λ (u : History). times x u.draws) histories s r at in let b = h.once x in omega arith

@@ -1,4 +1,4 @@
--- Each step of the board's table keeps its rule.
+-- Each step of the board's table preserves its rule.
 use Rattle.std.proofs.Common.{true, false, ◌≡◌, ◌≢◌, ◌⊎◌, ⊎_elim, ℕ, zero, suc, ◌+◌, ◌%◌, ◌<◌, ◌≤◌, ◌^◌, min, ltb, cond, List, [], ◌∷◌, ◌++◌, get_or, set, refl, sym, ◌∙◌, subst, inl, inr, arith, length-set, get_or-set_same, get_or-set_other}
 use Rattle.std.specs.Prelude.{sum_by}
 use Rattle.std.proofs.lemmas.List.Sums.{sum_by-cons, sum_by_push}
@@ -187,7 +187,7 @@ module _ (size : Size) where
         };
       }
 
-  -- what the seat that stands for all seats knows at the end
+  -- what the seat that represents all seats knows at the end
   pub record EndClaims (next least : ℕ) (v : History) : Type 0 where
     pub once : (x : ℕ) → times x v.draws ≡ once_below x (min next size.pieces)
     pub ended : 0 < v.finished → size.pieces < next

@@ -1,4 +1,5 @@
--- What a contract sees of a board, and what all its passes have done together when it is closed.
+-- A board and its closing as contracts describe them. A choice of this project (not fixed by a
+-- standard).
 use Rattle.std.specs.Prelude.{◌≡◌, ℕ, ◌<◌, ◌≤◌, List, All, IfSome, sum_by}
 use Rattle.atomic_table.specs.Seated.{TableId}
 use Rattle.piece_board.specs.Counts.{times, once_below}
@@ -26,10 +27,10 @@ finished_of ps = sum_by (λ p. p.history.finished) ps
 abbrev pub skips_of : List PassView → ℕ
 skips_of ps = sum_by (λ p. p.skips) ps
 
--- How many numbers were drawn and skipped, and the least report, of all passes together: the
--- numbers below `drawn` were drawn, each once, and no other; these are all where a pass is finished;
--- `least` is the least report, or the count of pieces, and lies at or below what each pass has seen
--- and below whatever was skipped.
+-- How many numbers were drawn and skipped, and the least report, of all passes together. The
+-- numbers below `drawn` were drawn, each once, and no other. They are all numbers if a pass is
+-- finished. `least` is the least report, or the count of pieces. It is at most what each pass has
+-- seen, and below every skipped number.
 pub record IsClosed (b : BoardView) (ps : List PassView) (drawn skipped least : ℕ) : Type 0 where
   pub drawn_once : (x : ℕ) → drawn_by x ps ≡ once_below x drawn
   pub drawn_within : drawn ≤ b.pieces

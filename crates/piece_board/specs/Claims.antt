@@ -1,6 +1,6 @@
--- What holds of a claim board between any two events, seat by seat (own). A seat whose pass was
--- taken into another when the board was closed stands for no seat: its history is empty, and
--- nothing is claimed of what it saw.
+-- The invariant of a claim board between any two events, seat by seat. A choice of this project
+-- (not fixed by a standard). When the board is closed, the passes are joined into one. A joined
+-- seat represents no seat: its history is empty, and nothing is claimed of what it saw.
 use Rattle.std.specs.Prelude.{◌≡◌, ◌≢◌, ◌⊎◌, ℕ, ◌+◌, ◌<◌, ◌≤◌, ◌^◌, min, List, sum_by}
 use mathlib.Core.Option.{some}
 use lib.ListN.{get_elem?}
@@ -27,7 +27,7 @@ IsReported histories x =
     (s : ℕ) × (h : History) × IsSeat histories s h × (0 < times x h.reports)
 
 pub record Claims (n k next least : ℕ) (histories : List History) : Type 0 where
-  -- each number below next and n was drawn by one seat, once, and no other number by any
+  -- each number below next and n was drawn once, by one seat, and no other number was drawn
   pub drawn_once : (x : ℕ) → x < min next n → IsDrawnOnce histories x
   pub no_other :
       (x : ℕ) → min next n ≤ x → (s : ℕ) (h : History) → IsSeat histories s h
@@ -38,10 +38,10 @@ pub record Claims (n k next least : ℕ) (histories : List History) : Type 0 whe
   pub next_bound : next ≤ n + finished histories
   pub finished_bound : finished histories ≤ k
   pub no_wrap : next < 2 ^ 64
-  -- least is n or a report, and at or below each report
+  -- least is n or a report, and at most each report
   pub least_is : (least ≡ n) ⊎ IsReported histories least
   pub lowest : (x : ℕ) → IsReported histories x → least ≤ x
-  -- what a seat has seen is n or a report, and least is at or below it
+  -- what a seat has seen is n or a report, and least is at most that
   pub seen_is :
       (s : ℕ) (h : History) → IsSeat histories s h → 0 < h.seats
       → (h.seen ≡ n) ⊎ IsReported histories h.seen

@@ -1,8 +1,8 @@
--- How often a number stands in a list. All claims of the board are told by counts: 'each number
--- below m once' is one equation, `times x xs ≡ once_below x m` for every x.
+-- How often a number occurs in a list. All claims of the board are equations on counts: 'each
+-- number below m once' is `times x xs ≡ once_below x m` for every x.
 use Rattle.std.specs.Prelude.{ℕ, ◌-◌, ◌==◌, List, min, count_by}
 
--- how often x stands in the list
+-- how often x occurs in the list
 abbrev pub times : ℕ → List ℕ → ℕ
 times x xs = count_by (λ y. y == x) xs
 

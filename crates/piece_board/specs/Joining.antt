@@ -1,4 +1,4 @@
--- Private: the word of the loop in `close` that takes seats together. No public clause cites it.
+-- The invariant of the loop in `close` that joins seats. Only private clauses use this definition.
 use Rattle.std.specs.Prelude.{◌≡◌, ℕ, ◌+◌, ◌<◌, ◌≤◌, List, All, IfSome, length}
 use Rattle.piece_board.specs.declared.history.History.{History}
 use Rattle.piece_board.specs.Counts.{times}

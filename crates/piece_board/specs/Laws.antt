@@ -7,21 +7,22 @@ use Rattle.piece_board.specs.Protocol.{BoardState, Event, opening, run, IsRun}
 use Rattle.piece_board.specs.Claims.{IsSeat, Claims}
 use Rattle.piece_board.specs.Rule.{KeepsRule}
 
--- each history stands for one seat
+-- each history represents one seat
 abbrev pub AreSingle : List History → Type 0
 AreSingle histories = (s : ℕ) (h : History) → IsSeat histories s h → h.seats ≡ 1
 
--- the claims hold of a state of a board of n pieces with k seats
+-- the claims are true of a state of a board of n pieces with k seats
 abbrev pub ClaimsHold : ℕ → ℕ → BoardState → Type 0
 ClaimsHold n k b = Claims n k b.next b.least b.histories × AreSingle b.histories
 
--- of every run: any pieces up to 2^62, any seats up to 64, any list of admitted events
+-- every run: any number of pieces up to 2^62, any number of seats up to 64, any list of admitted
+-- events
 abbrev pub RunsKeepClaims : Type 0
 RunsKeepClaims =
     (n k : ℕ) (events : List Event) → n ≤ 2 ^ 62 → k ≤ 64 → IsRun (opening n k) events
     → ClaimsHold n k (run (opening n k) events)
 
--- of every state of the table between any two steps of running threads
+-- every state of the table between any two steps of running threads
 abbrev pub RuleIsClaims : Type 0
 RuleIsClaims =
     (size : Size) (s : State (Unit {0}) History) → KeepsRule size s

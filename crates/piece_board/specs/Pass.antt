@@ -1,5 +1,6 @@
--- What a contract sees of a pass: the history of its seat, the number that it drew last and has
--- neither reported nor skipped, and its skips, which no word of the board shows.
+-- A pass as contracts describe it: the history of its seat, its last draw if that is neither
+-- reported nor skipped, and its skips, which no word of the board shows. A choice of this project
+-- (not fixed by a standard).
 use Rattle.std.specs.Prelude.{◌≡◌, ℕ, ◌+◌, ◌<◌, ◌≤◌, ◌^◌, Option, Some, None, length, ltb, IfSome, cond}
 use Rattle.atomic_table.specs.Seated.{TableId}
 use Rattle.piece_board.specs.declared.history.History.{History}
@@ -14,7 +15,7 @@ pub record PassView : Type 0 where
   pub skips : ℕ
   pub lowest_skip : Option ℕ
 
--- a pass as it was handed out, to a board of n pieces
+-- a pass as it is handed out, to a board of n pieces
 abbrev pub unused : TableId → ℕ → PassView
 unused id n = record {
   board = id;
@@ -45,7 +46,7 @@ after_reporting p i = with_history p (with_report i p.history) None
 abbrev pub after_looking : PassView → ℕ → PassView
 after_looking p i = with_history p (with_seen i p.history) p.last
 
--- the lower of a number that may be absent and i
+-- the lower of i and a number that may be absent
 abbrev pub lower : Option ℕ → ℕ → ℕ
 lower None i = i
 lower (Some j) i = cond (ltb j i) j i
@@ -64,9 +65,9 @@ abbrev pub count_of : Option ℕ → ℕ
 count_of None = 0
 count_of (Some i) = 1
 
--- What a pass always keeps: each draw is below the count of pieces and stands once; the last draw
--- is neither reported nor that of a finished pass; what it skipped lies above what it has seen; and
--- it has no more skips, its last draw counted, than draws.
+-- The invariant of a pass. Each draw is below the count of pieces and occurs once. The last draw is
+-- neither reported nor that of a finished pass. What it skipped is above what it has seen. Its
+-- skips and its last draw are at most as many as its draws.
 pub record PassFacts (p : PassView) : Type 0 where
   pub single : p.history.seats ≡ 1
   pub pieces_fit : p.history.pieces ≤ 2 ^ 62

@@ -1,6 +1,7 @@
--- The claim board as plain data (own): the number to be drawn next, the least number that was
--- reported, and for each seat the history of what it did and saw. A run is a list of events, each
--- of them one exchange on one of the two numbers; each changes the history of one seat and no other.
+-- The claim board as plain data: the next number to draw, the least reported number, and for each
+-- seat the history of what it did and saw. A run is a list of events. An event is one exchange on
+-- one of the two numbers, and changes the history of one seat only. A choice of this project (not
+-- fixed by a standard).
 use Rattle.std.specs.Prelude.{◌≡◌, ℕ, zero, suc, ◌+◌, ltb, min, cond, List, [], ◌∷◌, ◌++◌, replicate}
 use mathlib.Core.Option.{some}
 use lib.ListN.{get_elem?}
@@ -55,7 +56,8 @@ with_seen i h = record {
   finished = h.finished;
 }
 
--- after a draw that found the number i: a number below the count of pieces is drawn, any other ends
+-- after a draw that found the number i: a number below the count of pieces is drawn, and any other
+-- ends the seat
 abbrev pub after_draw : ℕ → History → History
 after_draw i h = cond (ltb i h.pieces) (with_draw i h) (with_end h)
 
@@ -83,7 +85,8 @@ change (suc s) f (h ∷ hs) = h ∷ change s f hs
 abbrev pub IsLast : ℕ → List ℕ → Type 0
 IsLast i xs = (before : List ℕ) × (xs ≡ before ++ i ∷ [])
 
--- Who is not finished may draw, and may report the last of its draws, once. Any seat may look.
+-- A seat that is not finished may draw, and may report the last of its draws, once. Any seat may
+-- look.
 abbrev pub Admits : BoardState → Event → Type 0
 Admits b (draw s) = (h : History) × (get_elem? b.histories s ≡ some h) × (h.finished ≡ 0)
 Admits b (report s i) =
@@ -112,7 +115,7 @@ abbrev pub run : BoardState → List Event → BoardState
 run b [] = b
 run b (e ∷ es) = run (after b e) es
 
--- each event is admitted where it comes
+-- each event is admitted in its state
 abbrev pub IsRun : BoardState → List Event → Type 0
 IsRun b [] = Unit {0}
 IsRun b (e ∷ es) = Admits b e × IsRun (after b e) es

@@ -1,6 +1,6 @@
--- The rule of the board's table: the claims once more, as equations on counts, which each step
--- keeps; what each step tells its caller; and how seats are dealt and taken together. That the rule
--- is the claims seat by seat is the law `the_rule_is_the_claims`.
+-- The rule of the board's table: the claims as equations on counts, which each step preserves, what
+-- each step returns, and how seats are split and joined. The law `the_rule_is_the_claims` states
+-- that the rule is the claims seat by seat. A choice of this project (not fixed by a standard).
 use Rattle.std.specs.Prelude.{◌≡◌, ◌⊎◌, ℕ, ◌-◌, ◌+◌, ◌<◌, ◌≤◌, ◌^◌, min, List, [], ◌++◌, length, slice_index, sum_by}
 use mathlib.Core.Option.{some}
 use lib.ListN.{get_elem?}
@@ -21,7 +21,7 @@ reported x histories = sum_by (λ h. times x h.reports) histories
 abbrev pub seats : List History → ℕ
 seats histories = sum_by (λ h. h.seats) histories
 
--- what holds of one history; one that stands for no seat has nothing
+-- the claims of one history; one that represents no seat has nothing
 pub record HistoryClaims (n next least : ℕ) (histories : List History) (h : History) : Type 0 where
   pub pieces : 0 < h.seats → h.pieces ≡ n
   pub ended : 0 < h.finished → n < next
@@ -31,7 +31,7 @@ pub record HistoryClaims (n next least : ℕ) (histories : List History) (h : Hi
   pub seen_above : 0 < h.seats → least ≤ h.seen
   pub spent : (x : ℕ) → h.seats ≡ 0 → times x h.draws ≡ 0
 
--- what holds of a board of n pieces with k seats
+-- the claims of a board of n pieces with k seats
 pub record CountedClaims (n k next least : ℕ) (histories : List History) : Type 0 where
   pub once : (x : ℕ) → drawn x histories ≡ once_below x (min next n)
   pub bounded : next ≤ n + finished histories
@@ -43,7 +43,7 @@ pub record CountedClaims (n k next least : ℕ) (histories : List History) : Typ
       (s : ℕ) (h : History) → get_elem? histories s ≡ some h
       → HistoryClaims n next least histories h
 
--- the rule: word 0 is the number to be drawn next, word 1 the least report, a view is a history
+-- the rule: word 0 is the next number to draw, word 1 the least report, and a view is a history
 pub record KeepsRule (size : Size) (s : State (Unit {0}) History) : Type 0 where
   pub words : length s.words ≡ 2
   pub pieces_fit : size.pieces ≤ 2 ^ 62
@@ -51,7 +51,7 @@ pub record KeepsRule (size : Size) (s : State (Unit {0}) History) : Type 0 where
   pub kept :
       CountedClaims size.pieces size.seats (slice_index s.words 0) (slice_index s.words 1) s.views
 
--- each draw is below the number of pieces, and stands there once
+-- each draw is below the number of pieces, and occurs once
 abbrev pub DrawsOnce : History → Type 0
 DrawsOnce h = (x : ℕ) → times x h.draws ≤ once_below x h.pieces
 
@@ -70,7 +70,7 @@ IsLook step me found after =
     (after ≡ (with_seen found me.0, me.1)) × (found ≤ me.0.seen) × (found ≤ me.0.pieces)
     × ((x : ℕ) → 0 < times x me.0.reports → found ≤ x)
 
--- what a seat keeps when it deals one seat, and what that one gets
+-- what a seat keeps when one seat is split off, and what the new seat gets
 abbrev pub kept_back : History → History
 kept_back h = record {
   pieces = h.pieces;
@@ -91,7 +91,7 @@ dealt h = record {
   finished = 0;
 }
 
--- two seats as one: the second one's lists go behind the first one's
+-- two seats as one: the lists of the second follow those of the first
 abbrev pub together : History → History → History
 together v w = record {
   pieces = v.pieces;

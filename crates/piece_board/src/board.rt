@@ -14,11 +14,11 @@ use atomic_table::{Seat, Shared, Table};
 use std::alloc::{AllocError, Global};
 use std::marker::Model;
 
-/// The number to be drawn next and the least number that was reported, shared by the threads that
-/// hold its passes.
+/// The next number to draw and the least reported number, shared by the threads that hold its
+/// passes.
 ///
-/// All that a pass does through it is one exchange on one of the two words, made by the caller's
-/// own thread: nobody waits for anybody.
+/// Each step of a pass is one atomic exchange on one of the two words, made by the caller's thread.
+/// No thread waits for another.
 #[derive(Drop)]
 pub struct Board {
     table: Table<(), History, Size, Rule, Global>,
@@ -46,7 +46,7 @@ impl Model for Board {
 /// Why a board was not opened.
 #[derive(Clone, Copy, Debug, PartialEq, Eq)]
 pub enum BoardFault {
-    /// A growth was refused.
+    /// Out of memory.
     Memory,
 }
 
@@ -61,25 +61,25 @@ impl From<AllocError> for BoardFault {
     }
 }
 
-/// What a board was used for.
+/// The totals of a closed board.
 #[derive(Clone, Copy, Debug, PartialEq, Eq)]
 pub struct Closed {
-    /// How many numbers were drawn: they are 0 up to this one, each drawn once.
+    /// How many numbers were drawn: they are the numbers from 0 up to this one, each drawn once.
     pub drawn: u64,
     /// How many of them were skipped.
     pub skipped: u64,
-    /// The least report, or the number of pieces where there was none.
+    /// The least reported number, or the number of pieces if there is none.
     pub least: u64,
 }
 
 impl Board {
-    /// Opens a board of `n` numbers, and hands out a pass for each seat.
+    /// Opens a board of `n` numbers, and returns it with one pass for each seat.
     ///
     /// # Requires
     /// `n` is at most 2^62, and `seats` is 1 to 64.
     ///
     /// # Errors
-    /// `Memory`: a growth was refused. Nothing is left.
+    /// `Memory` if an allocation fails. Everything allocated before is freed.
     pub fn open(alloc: Global, n: u64, seats: usize) -> Result<(Board, Vec<Pass>), BoardFault>
         requires pieces { n ≤ 2 ^ 62 }
         requires seats { (1 ≤ seats) × (seats ≤ 64) }
@@ -102,14 +102,14 @@ impl Board {
         Ok((board, passes))
     }
 
-    /// How many numbers the board was opened with.
+    /// Returns how many numbers the board was opened with.
     pub fn pieces(&self) -> u64
         ensures pieces { result ≡ self.now.pieces }
     {
         self.pieces
     }
 
-    /// How many passes the board handed out: at least one.
+    /// Returns how many passes the board handed out. It is at least one.
     pub fn seats(&self) -> usize
         ensures count { result ≡ self.now.seats }
         ensures some { 1 ≤ self.now.seats }
@@ -117,11 +117,11 @@ impl Board {
         self.seats
     }
 
-    /// Draws the next number of the board for this pass: one fetch_add, and no waiting.
+    /// Draws the next number of the board for this pass, with one fetch_add and no waiting.
     ///
-    /// Over the whole board the numbers are 0, 1, .. and each goes to one pass (`close` says so of
-    /// all together). None: all are drawn, and this pass is finished, has no last draw and draws no
-    /// more.
+    /// Over the whole board the numbers are 0, 1, .. and each goes to one pass; `close` states this
+    /// of all passes together. Returns None if all numbers are drawn. The pass is then finished: it
+    /// has no last draw and draws no more.
     ///
     /// # Requires
     /// The pass is of this board, and not finished.
@@ -135,7 +135,7 @@ impl Board {
         ensures last { pass.new.last ≡ result }
         ensures unfinished { OnSome result (pass.new.history.finished ≡ 0) }
 
-        // What the event did, and what holds of all draws of this pass.
+        // What the event does, and what is true of all draws of this pass.
         ensures event { pass.new ≡ after_drawing pass.old result }
         ensures once { DrawsOnce pass.new.history }
         ensures room { length pass.new.history.draws ≤ self.now.pieces }
@@ -151,12 +151,13 @@ impl Board {
         }
     }
 
-    /// Reports the number that this pass drew last: one fetch_min, and no waiting.
+    /// Reports the number that this pass drew last, with one fetch_min and no waiting.
     ///
     /// Afterwards the pass has no last draw, so no number is reported twice.
     ///
     /// # Requires
-    /// The pass is of this board, and `i` is the number that it drew last and has not reported or left out.
+    /// The pass is of this board, and `i` is the number that it drew last and has not reported or
+    /// skipped.
     pub fn report(&self, pass: &mut Pass, i: u64)
         requires of_board { IsPassOf self.now pass.old }
         requires last { pass.old.last ≡ Some i }
@@ -168,10 +169,12 @@ impl Board {
         pass.last = None;
     }
 
-    /// The least number reported so far, or the number of pieces: one load, and no waiting.
+    /// Returns the least number reported so far, or the number of pieces if there is none. It takes
+    /// one load and no waiting.
     ///
-    /// It never lies above what this pass saw before or reported. Of what others report nothing is
-    /// promised but what `close` says: a report that is under way may not be seen yet.
+    /// The result is at most what this pass saw before or reported. A report of another pass that
+    /// is under way may be missing. `close` states what is guaranteed of the reports of other
+    /// passes.
     ///
     /// # Requires
     /// The pass is of this board.
@@ -184,7 +187,7 @@ impl Board {
         ensures within { result ≤ self.now.pieces }
         ensures own { (x : ℕ) → 0 < times x pass.old.history.reports → result ≤ x }
 
-        // What the event did: the last draw stays, and so does whether the pass is finished.
+        // What the event does: the last draw is unchanged, and so is whether the pass is finished.
         ensures last { pass.new.last ≡ pass.old.last }
         ensures finished { pass.new.history.finished ≡ pass.old.history.finished }
         ensures seen { pass.new.history.seen ≡ result }
@@ -195,9 +198,10 @@ impl Board {
         found
     }
 
-    /// Closes the board, and says what all its passes did together.
+    /// Closes the board, and reports what all its passes did together.
     ///
-    /// As many passes of this board as it has seats are all of them, since no pass can be copied.
+    /// A pass cannot be copied, so as many passes of this board as it has seats are all of its
+    /// passes.
     ///
     /// # Requires
     /// The passes are of this board, as many as it has seats.
@@ -228,7 +232,7 @@ impl Board {
     }
 }
 
-/// A pass for each seat.
+/// Makes a pass for each seat.
 fn deal(
     alloc: Global,
     shared: &Shared<(), History, Size, Rule>,
@@ -251,7 +255,7 @@ fn deal(
     Ok(passes)
 }
 
-/// Takes the seats of the passes into one, and adds up their skips.
+/// Joins the seats of the passes into one, and adds up their skips.
 fn join_all(
     shared: &Shared<(), History, Size, Rule>,
     mut seat: Seat<(), History>,

@@ -8,10 +8,10 @@ use atomic_table::Seat;
 use std::marker::Model;
 
 /// The right to draw from one board, to report to it and to look at it. A board hands out one pass
-/// a seat, and takes all of them back when it is closed.
+/// for each seat, and takes all of them back when it is closed.
 ///
-/// A contract sees a pass as the lists of its draws and reports, its seen value, its count of skips
-/// and the lowest number that it skipped.
+/// In contracts a pass is the lists of its draws and reports, the least report seen, the count of
+/// its skips and its lowest skip.
 #[derive(Drop)]
 pub struct Pass {
     pub(crate) seat: Seat<(), History>,
@@ -62,23 +62,23 @@ impl Pass {
         }
     }
 
-    /// The number that was drawn last, if it was neither reported nor skipped and the pass is not
-    /// finished.
+    /// Returns the number that was drawn last, if it was neither reported nor skipped and the pass
+    /// is not finished.
     pub fn last(&self) -> Option<u64>
         ensures last { result ≡ self.now.last }
     {
         self.last
     }
 
-    /// The least report of the board when this pass last looked; the number of pieces where there
-    /// was none, or it has not looked.
+    /// Returns the least report of the board when this pass last looked. Returns the number of
+    /// pieces if there was none, or if the pass has not looked.
     pub fn seen(&self) -> u64
         ensures seen { result ≡ self.now.history.seen }
     {
         self.seen
     }
 
-    /// Whether a draw found nothing left. A finished pass draws and reports no more.
+    /// Returns whether a draw found nothing left. A finished pass draws and reports no more.
     pub fn is_finished(&self) -> bool
         ensures finished { MatchBool result (0 < self.now.history.finished)
             (self.now.history.finished ≡ 0) }
@@ -86,8 +86,8 @@ impl Pass {
         self.finished
     }
 
-    /// Leaves out the number that was drawn last, which lies above a report that this pass has
-    /// seen. It is no step on the board: the pass alone counts it.
+    /// Skips the number that was drawn last, which is above a report that this pass has seen. It is
+    /// not a step on the board: only the pass counts it.
     ///
     /// # Requires
     /// `i` is the last draw of this pass, and above the least report that it has seen.

@@ -1,5 +1,5 @@
-//! The rule of the board's table, and the steps that keep it. Word 0 is the number to be drawn
-//! next, word 1 the least reported number; the table has no slots.
+//! The rule of the board's table, and the steps that preserve it. Word 0 is the next number to
+//! draw, and word 1 the least reported number. The table has no slots.
 use crate::history::History;
 use atomic_table::{Join, Play, Split, TableRule};
 
@@ -12,7 +12,7 @@ pub struct Size {
     pub seats: u64,
 }
 
-/// What holds of words and histories between any two steps of any threads.
+/// The invariant of words and histories between any two steps of any threads.
 pub struct Rule;
 
 impl TableRule<(), History, Size> for Rule {
@@ -51,7 +51,7 @@ impl Play<(), History> for Looks {
     ghost then = { IsLook };
 }
 
-/// One seat is dealt from a seat that stands for several.
+/// One seat is split off a seat that represents several.
 pub struct Deals;
 
 impl Split<History> for Deals {
@@ -62,7 +62,7 @@ impl Split<History> for Deals {
     ghost right = { dealt };
 }
 
-/// One seat is taken into another.
+/// One seat is joined to another.
 pub struct Gathers;
 
 impl Join<History> for Gathers {

@@ -1,4 +1,4 @@
--- Rows that lie row behind row in one list.
+-- Consecutive rows in one list.
 use Rattle.std.proofs.Common.{◌≡◌, ℕ, zero, suc, ◌<◌, List, [], ◌∷◌, ◌++◌, length, get_or, take, drop, map, flat_map, slice_get, Option, None, Some, option_map, refl, sym, ap, ◌∙◌, arith}
 use Rattle.std.proofs.lemmas.List.{map-append, take-map, take_at, drop_at, length-map}
 use Rattle.std.proofs.lemmas.Option.{slice_get-get_or, slice_get_past}
@@ -27,7 +27,7 @@ pub Each-rows_in : {X : Type 0} (P : X → Type 0) (k n : ℕ) (xs : List X) →
 Each-rows_in P k zero xs h = tt
 Each-rows_in P k (suc n) xs h = (Each-take P k xs h, Each-rows_in P k n (drop k xs) (Each-drop P k xs h))
 
--- what is read row behind row is read row by row
+-- mapping the cells of consecutive rows maps each row
 pub map-rows_in : {A B X : Type 0} (g : A → B) (k : ℕ) (f : X → List B) → ((x : X) → length (f x) ≡ k) → (xs : List X) (flat : List A) → map g flat ≡ flat_map f xs → map (map g) (rows_in k k (length xs) flat) ≡ map f xs
 map-rows_in g k f wide [] flat e = refl
 map-rows_in g k f wide (x ∷ xs) flat e =

@@ -18,7 +18,7 @@ numbered-push k [] x = let e : k ≡ k + 0 = omega arith in λ j. (x, e j) ∷ [
 numbered-push k (y ∷ xs) x =
     let e : suc k + length xs ≡ k + suc (length xs) = omega arith in ap (λ r. (y, k) ∷ r) (numbered-push (suc k) xs x ∙ ap (λ n. numbered (suc k) xs ++ (x, n) ∷ []) e)
 
--- one variable more
+-- with one more variable
 pub numbered-names : (names : List (List ℕ)) (listed : List ℕ) (i d : ℕ) → i < length listed
     → numbered 0 (listed_names names (take (i + 1) listed)) ≡ numbered 0 (listed_names names (take i listed)) ++ (get_or names (get_or listed i d) [], i) ∷ []
 numbered-names names listed i d l =
@@ -33,7 +33,7 @@ column_cmp_total = then_total (on_total (λ (c : Column). c.0) nat_list_cmp_tota
 columns_equal : (x y : Column) → column_cmp x y ≡ Equal → x ≡ y
 columns_equal x y e = let a = then_equal _ _ e in λ i. (exact_bytes x.0 y.0 a.0 i, ranked x.1 y.1 Equal (sym a.1) i)
 
--- how columns are compared in code
+-- the comparison of columns in the code
 abbrev pub lent_cmp : Bor (List ℕ) × ℕ → Bor (List ℕ) × ℕ → Ordering
 lent_cmp x y = ordering_then (bytes_cmp x.0.now y.0.now) (nat_cmp x.1 y.1)
 

@@ -1,4 +1,4 @@
--- The parts of the results, one behind the other.
+-- The parts of the results, concatenated.
 use Rattle.std.proofs.Common.{◌≡◌, ℕ, List, ◌++◌, map, codes, Option, ap, ◌∙◌, append_assoc}
 use Rattle.rdf_core.specs.declared.term.Term.{Term}
 use Rattle.result_json.specs.Results.{json, columns, row_text, separated, string_text}

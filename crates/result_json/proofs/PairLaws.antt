@@ -1,4 +1,4 @@
--- One row of two ranks more: read, and put in its place.
+-- One more row of two ranks: read, and written in its place.
 use Rattle.std.proofs.Common.{◌≡◌, ℕ, zero, suc, ◌+◌, ◌*◌, ◌/◌, ◌%◌, ◌^◌, ◌<◌, List, [], ◌∷◌, ◌++◌, length, get_or, set, take, map, IsPermutation, refl, sym, ap, ◌∙◌, subst, arith, add-one}
 use Rattle.std.proofs.lemmas.List.{take_more, map-append, length-map}
 use Rattle.std.proofs.lemmas.List.Sorted.{IsPermutation-map, length_permutation}
@@ -6,7 +6,7 @@ use Rattle.row_core.specs.RowList.{rows_in}
 use Rattle.row_core.proofs.RowSteps.{length-rows_in}
 use Rattle.result_json.specs.Pairs.{pair_in}
 
--- where a row of two begins
+-- where a row of two ranks begins
 abbrev twice : ℕ → ℕ
 twice zero = zero
 twice (suc n) = suc (suc (twice n))
@@ -48,7 +48,7 @@ put_more n cells keys l m h =
     ∙ put n (key / 2 ^ 32) (key % 2 ^ 32) cells (omega arith) ∙ ap (λ (rs : List (List ℕ)). rs ++ pair_in key ∷ []) h
     ∙ sym (map-append pair_in (take n keys) (key ∷ [])) ∙ ap (map pair_in) (sym (take_more keys n 0 m))
 
--- numbers of rows, sorted: as many, and their rows are the same in another order
+-- sorted numbers of rows: they are as many, and their rows are a permutation
 module _ (n : ℕ) (cells keys sorted : List ℕ) (keyed : map pair_in keys ≡ rows_in 2 2 n cells) (p : IsPermutation keys sorted) where
   pub sorted_count : length sorted ≡ n
   sorted_count = length_permutation keys sorted p ∙ sym (length-map keys pair_in) ∙ ap length keyed ∙ length-rows_in 2 2 n cells

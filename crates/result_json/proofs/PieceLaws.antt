@@ -1,4 +1,4 @@
--- The texts of rows by pieces, one piece behind the other, are the texts of all rows.
+-- The texts of the pieces of rows, concatenated, are the texts of all rows.
 use Rattle.std.proofs.Common.{◌≡◌, ℕ, zero, suc, ◌*◌, ◌<◌, ◌≤◌, ◌==◌, Bool, true, false, not, List, [], ◌∷◌, ◌++◌, Vec, Global, length, take, drop, map, flat_map, refl, sym, ap, ◌∙◌, subst, arith}
 use Rattle.std.specs.Int.{div_ceil}
 use Rattle.std.specs.List.{slice_index_or}
@@ -23,13 +23,13 @@ no_texts : (later : Bool) → comma_texts later [] ≡ []
 no_texts true = refl
 no_texts false = refl
 
--- a front that is empty only where nothing stands behind it
+-- a first part that is empty only if nothing follows it
 in_two : (later : Bool) (xs ys : List (List ℕ)) → (length xs ≤ 0 → ys ≡ []) → comma_texts later (xs ++ ys) ≡ comma_texts later xs ++ comma_texts true ys
 in_two true xs ys h = flat_map-append (λ y. 44 ∷ y) xs ys
 in_two false [] ys h = ap separated (h (omega arith)) ∙ sym (ap (flat_map (λ (y : List ℕ). 44 ∷ y)) (h (omega arith)))
 in_two false (x ∷ xs) ys h = comma_texts-append false (x ∷ xs) ys (omega arith)
 
--- whether a comma stands before the first row of a piece, where `later` says it of the first piece
+-- whether a comma precedes the first row of a piece; `later` says it of the first piece
 abbrev pub comma_at : Bool → ℕ → Bool
 comma_at later zero = later
 comma_at later (suc i) = true
@@ -73,7 +73,7 @@ module _ (terms : List Term) (columns : List (Vec ℕ Global × ℕ)) (size : �
       λ e. ap texts (none behind (omega (arith, e, texts-length front, length-take size rows, l))) in
       (λ i. first i ++ rest i) ∙ sym (in_two later (texts front) (texts behind) nothing) ∙ ap (comma_texts later) (sym (texts-append front behind) ∙ ap texts (take-append-drop size rows))
 
-  -- so many pieces hold all rows
+  -- this number of pieces holds all rows
   pub pieces-joined : (count number : ℕ) (blocks : List (Vec ℕ Global)) (rows : List RankedRow) → 0 < size → count ≡ length rows → number ≡ div_ceil count size → length blocks ≡ number
       → ((i : ℕ) (d : Vec ℕ Global) → i < number → (slice_index_or blocks i d).items ≡ piece_text terms columns rows size i)
       → joined_blocks blocks ≡ separated (texts rows)

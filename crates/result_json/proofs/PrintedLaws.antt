@@ -1,4 +1,4 @@
--- What the JSON library prints for a string is what the results format wants.
+-- What the JSON library prints for a string is what the results format requires.
 use Rattle.std.proofs.Common.{◌≡◌, ◌∙◌, ℕ, ◌/◌, ◌%◌, ◌<◌, ◌≤◌, Bool, true, false, not, cond, ◌||◌, ◌&&◌, ◌==◌, nat_lt, nat_le, lit<, arith, List, [], ◌∷◌, ◌++◌, flat_map, codes, refl, sym, ap, append_assoc, subst, if◌then◌else◌}
 use Rattle.std.specs.Char.{digit_char}
 use Rattle.std.specs.List.{list_all}
@@ -56,7 +56,7 @@ plain_byte b h =
     let not_below : nat_lt b 32 ≡ false = le-ltb b 32 high in
     λ i. wanted b (not-true (b == 34) first.1 i) (not-true (b == 92) tests.1 i) (low 8 (lit< tt) i) (low 12 (lit< tt) i) (low 10 (lit< tt) i) (low 13 (lit< tt) i) (low 9 (lit< tt) i) (not_below i)
 
--- a text of such bytes stands in a string as it is
+-- a text of such bytes is unchanged in a string
 pub plain_bytes : (s : List ℕ) → list_all is_plain s ≡ true → flat_map string_byte s ≡ s
 plain_bytes [] h = refl
 plain_bytes (b ∷ s) h =

@@ -37,7 +37,7 @@ greater_is x y h = by (nat_cmp x y) refl
     by Greater e = refl
 
 module _ (terms : List Term) (up : IsSorted term_cmp terms) where
-  -- the term at a place behind the last of x is greater
+  -- the term at a place after the last of x is greater
   rises : (i j : ℕ) (x y : Term) → i < j → slice_get terms i ≡ Some x → slice_get terms j ≡ Some y → ((k : ℕ) → slice_get terms k ≡ slice_get terms i → k ≤ i) → term_cmp x y ≡ Less
   rises i j x y l e f last = by (term_cmp x y) refl
     where
@@ -89,7 +89,7 @@ module _ (terms : List Term) (up : IsSorted term_cmp terms) where
   Each-get P (x ∷ xs) zero d l h = h.0
   Each-get P (x ∷ xs) (suc i) d l h = Each-get P xs i d (omega arith) h.1
 
-  -- rows of ranks in their order are the rows of terms in theirs
+  -- sorted rows of ranks are sorted rows of terms
   pub sorted_by_ranks : (rows sorted : List (List ℕ)) → Each (Each (IsRank terms)) rows → IsPermutation rows sorted → IsSorted (slice_cmp nat_cmp) sorted → map (ranked_row terms) sorted ≡ sorted_list cells_cmp (map (ranked_row terms) rows)
   sorted_by_ranks rows sorted h p s =
       sorted_is cells_cmp cells_cmp_total cells_equal (map (ranked_row terms) rows) (map (ranked_row terms) sorted) (IsPermutation-map (ranked_row terms) rows sorted p)

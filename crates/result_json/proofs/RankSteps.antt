@@ -1,4 +1,4 @@
--- The table of ranks, and what its ranks stand for.
+-- The table of ranks, and the meaning of its ranks.
 use Rattle.std.proofs.Common.{◌≡◌, ◌≢◌, ◌⊎◌, ◌++◌, take, Bool, not, ℕ, zero, suc, ◌+◌, ◌<◌, ◌≤◌, true, false, List, [], ◌∷◌, length, get_or, map, set, slice_get, Option, None, Some, option_map, Bor, Contains, IsSorted, IsSortedBy, IsPermutation, All, refl, sym, ap, ◌∙◌, subst, arith, ⊎_elim, Ordering, Less, Equal, Greater, is_lt, nat_cmp}
 use Rattle.std.specs.Ordering.{ordering_then}
 use Rattle.std.proofs.lemmas.Bool.{cases_eq, cases_lt, false≢true}
@@ -14,7 +14,7 @@ use Rattle.dict_core.specs.Dict.{IsWithoutRepeats}
 use Rattle.result_json.proofs.SliceLaws.{Each-from_all}
 use Rattle.result_json.specs.Ranks.{ranked_cell, Entry, terms_of, numbers_of, HasRank, IsCovered, IsEntry, IsMarked, IsRank, IsRankTable}
 
--- ---- one entry more in the table
+-- ---- one more entry in the table
 
 pub table_step : (numbers table : List ℕ) (i : ℕ) → i < length numbers → get_or numbers i 0 < length table → ((j : ℕ) → j < i → HasRank i numbers table j)
     → (j : ℕ) → j < i + 1 → HasRank (i + 1) numbers (set table (get_or numbers i 0) (i + 1)) j
@@ -38,14 +38,14 @@ table_step numbers table i inside below h j l = ⊎_elim same other (cases_eq (g
         by : (j ≡ i) ⊎ (j ≢ i) → j < i
         by d = ⊎_elim (λ (e : j ≡ i). absurd (ne (ap (λ k. get_or numbers k 0) e))) (λ (e : j ≢ i). omega arith) d
 
--- ---- the terms of the sorted entries rise
+-- ---- the terms of the sorted entries are ascending
 
 then_less : (a b : Ordering) → is_lt (ordering_then a b) ≡ false → is_lt a ≡ false
 then_less Less b e = e
 then_less Equal b e = refl
 then_less Greater b e = refl
 
--- C is the order by which terms are compared in code
+-- C is the comparison of terms in the code
 module _ (C : Term → Term → Ordering) (is : (x y : Term) → C x y ≡ term_cmp x y) where
   abbrev pub is_entry_less : Entry → Entry → Rattle.std.proofs.Common.Bool
   is_entry_less x y = is_lt (ordering_then (C x.0.now y.0.now) (nat_cmp x.1 y.1))
@@ -60,7 +60,7 @@ module _ (C : Term → Term → Ordering) (is : (x y : Term) → C x y ≡ term_
       let eb : get_or (terms_of (e ∷ es)) k d ≡ y.0.now = get_or-map (λ (t : Entry). t.0.now) (e ∷ es) k e d (omega arith) in
       (λ i. is_lt (term_cmp (ea i) (eb i))) ∙ ap is_lt (sym (is x.0.now y.0.now)) ∙ then_less (C x.0.now y.0.now) (nat_cmp x.1 y.1) (s k e (omega arith) (omega arith))
 
--- ---- what the ranks stand for
+-- ---- the meaning of the ranks
 
 same_number : (dict : List Term) → IsWithoutRepeats dict → (a b : ℕ) (t : Term) → slice_get dict a ≡ Some t → slice_get dict b ≡ Some t → a ≡ b
 same_number dict once a b t e f =
@@ -144,7 +144,7 @@ module _ (dict : List Term) (once : IsWithoutRepeats dict) (entries : List Entry
   ranks_are [] h = tt
   ranks_are (c ∷ codes) h = (rank_is c h.0, ranks_are codes h.1)
 
--- ---- the terms that are noted
+-- ---- the terms that are marked
 
 pub entries_below : (dict : List Term) (entries : List Entry) → All (IsEntry dict) entries → All (λ e. e.1 < length dict) entries
 entries_below dict entries h = All-weaker (IsEntry dict) (λ e. e.1 < length dict) (λ e p. slice_get_within dict e.1 e.0.now p) entries h
@@ -160,7 +160,7 @@ contains_last ns n = (length ns, omega (arith, length-append ns (n ∷ [])), get
 contains_front : (ns : List ℕ) (m n : ℕ) → Contains ns n → Contains (ns ++ m ∷ []) n
 contains_front ns m n c = (c.0, omega (arith, c.1, length-append ns (m ∷ [])), get_or_append_left ns (m ∷ []) n c.0 c.1 ∙ c.2)
 
--- one code more is marked
+-- one more code is marked
 pub marked_more : (marks : List Bool) (codes : List ℕ) (i d : ℕ) → i < length codes → All (IsMarked marks) (take i codes) → All (IsMarked (set marks (get_or codes i d) true)) (take (i + 1) codes)
 marked_more marks codes i d l h = All-more (IsMarked after) codes i d l (All-weaker (IsMarked marks) (IsMarked after) kept (take i codes) h) here
   where

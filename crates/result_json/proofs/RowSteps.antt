@@ -1,4 +1,4 @@
--- Rows that are compared by their first two ranks first.
+-- Rows are compared by their first two ranks first.
 use Rattle.std.proofs.Common.{◌≡◌, ℕ, suc, ◌+◌, ◌<◌, List, [], ◌∷◌, ◌++◌, length, get_or, take, drop, IsSorted, append_assoc, refl, sym, ap, ◌∙◌, arith, Ordering, Less, Equal, Greater, is_lt, nat_cmp}
 use Rattle.std.specs.Cmp.{ranked}
 use Rattle.std.specs.Cmp.Lexicographic.{slice_cmp}
@@ -46,7 +46,7 @@ second (x ∷ xs) (y ∷ ys) = by (nat_cmp x y)
     by Equal = first xs ys
     by Greater = refl
 
--- how rows are compared in code
+-- the comparison of rows in the code
 abbrev pub row_cmp : RankedRow → RankedRow → Ordering
 row_cmp x y = ordering_then (nat_cmp x.first y.first) (ordering_then (nat_cmp x.second y.second) (slice_cmp nat_cmp x.ranks.now y.ranks.now))
 
@@ -63,7 +63,7 @@ sorted_ranks (r ∷ rs) s k d a b =
     let eb : get_or (ranks_of (r ∷ rs)) k d ≡ y.ranks.now = get_or-map (λ (t : RankedRow). t.ranks.now) (r ∷ rs) k r d (omega arith) in
     (λ i. is_lt (slice_cmp nat_cmp (ea i) (eb i))) ∙ ap is_lt (sym (row_cmp_is x y)) ∙ s k r (omega arith) (omega arith)
 
--- one row more is split off
+-- one more row is split off
 pub split_more : (w n : ℕ) (rest behind : List ℕ) (made made' : List RankedRow) (r : RankedRow) (rows : List (List ℕ)) (k : ℕ) → k ≡ suc n → made' ≡ made ++ r ∷ [] → r.ranks.now ≡ take w rest → behind ≡ drop w rest → ranks_of made ++ rows_in w w k rest ≡ rows
     → ranks_of made' ++ rows_in w w n behind ≡ rows
 split_more w n rest behind made made' r rows k count items row back e =

@@ -23,7 +23,7 @@ pub is_cons-member : (prefix : List ℕ) (o : Option Term) → is_cons (begun_me
 is_cons-member prefix None = refl
 is_cons-member prefix (Some t) = refl
 
--- one column more
+-- with one more column
 pub row_more : (terms : List Term) (ranks : List ℕ) (columns : List (Vec ℕ Global × ℕ)) (i : ℕ) (column : Vec ℕ Global × ℕ) (rank : ℕ) (before out out' : List ℕ) (later later' : Bool)
     → i < length columns → column ≡ get_or columns i column → rank ≡ get_or ranks column.1 0
     → out' ≡ out ++ comma_texts later (begun_member column.0.items (ranked_cell terms rank)) → later' ≡ (later || is_some (ranked_cell terms rank))
@@ -67,7 +67,7 @@ pub rows_are : (terms : List Term) (cs : List Column) (rows : List (List ℕ)) �
 rows_are terms cs [] = refl
 rows_are terms cs (r ∷ rows) = λ i. row_is terms cs r i ∷ rows_are terms cs rows i
 
--- one text more
+-- with one more text
 pub separated-take : {X : Type 0} (f : X → List ℕ) (xs : List X) (i : ℕ) (d : X) → i < length xs
     → separated (map f (take (i + 1) xs)) ≡ separated (map f (take i xs)) ++ comma_texts (is_cons (take i xs)) (f (get_or xs i d) ∷ [])
 separated-take {X} f xs i d l =

@@ -1,4 +1,4 @@
--- A part of a list, and one row more.
+-- A part of a list, and one more row.
 use Rattle.std.proofs.Common.{◌≡◌, ℕ, zero, suc, ◌+◌, ◌<◌, ◌≤◌, List, [], ◌∷◌, ◌++◌, length, get_or, set, take, drop, map, flat_map, All, slice_get, Option, None, Some, refl, ap, ◌∙◌, subst, arith, add-one, append-nil}
 use Rattle.std.proofs.lemmas.List.{map-append, take-map, take_all, drop_all}
 use Rattle.std.proofs.lemmas.List.Concat.{flat_map-append}
@@ -31,7 +31,7 @@ pub Each-from_all : {X : Type 0} (P : X → Type 0) (xs : List X) → All P xs �
 Each-from_all P [] h = tt
 Each-from_all P (x ∷ xs) h = (All-head P x xs h, Each-from_all P xs (All-tail P x xs h))
 
--- the front of a list mapped, and the rest as it was
+-- a list with its first elements mapped and the others unchanged
 abbrev pub upto : {X : Type 0} → (X → X) → ℕ → List X → List X
 upto f i xs = map f (take i xs) ++ drop i xs
 
@@ -45,7 +45,7 @@ upto-suc f i [] d l = absurd (omega arith)
 upto-suc f zero (x ∷ xs) d l = refl
 upto-suc f (suc i) (x ∷ xs) d l = ap (λ r. f x ∷ r) (upto-suc f i xs d (omega arith))
 
--- one element more is mapped in its place
+-- one more element is mapped in its place
 pub upto-more : {X : Type 0} (f : X → X) (i : ℕ) (xs ys : List X) (d : X) → i < length xs → ys ≡ upto f i xs → set ys i (f (get_or ys i d)) ≡ upto f (i + 1) xs
 upto-more f i xs ys d l e = rw add-one (ap (λ r. set r i (f (get_or r i d))) e ∙ ap (λ x. set (upto f i xs) i (f x)) (upto-at f i xs d) ∙ upto-suc f i xs d l)
 

@@ -1,4 +1,4 @@
--- The text of a term is put together round its texts.
+-- The text of a term is made around its texts.
 use Rattle.std.proofs.Common.{◌≡◌, ◌++◌, ◌∙◌, ℕ, List, codes, Result, Ok, Err, OnOk, Option, None, Some, Bool, ap, sym, append_assoc, if◌then◌else◌}
 use Rattle.std.specs.Str.{bytes_eq}
 use Rattle.rdf_core.specs.Vocabulary.{xsd_string}
@@ -10,11 +10,11 @@ on_ok : {X E A B : Type 0} (r : Result X E) → (A → B) → OnOk r A → OnOk 
 on_ok (Ok v) f h = f h
 on_ok (Err e) f h = h
 
--- all but the bracket behind a term of one text stands, behind what stood before
+-- a term of one text without its closing bracket is appended
 pub one_text : {X E : Type 0} (r : Result X E) (before now frame text : List ℕ) (t : Term) → term_text t ≡ frame ++ (text ++ codes "}") → OnOk r (now ≡ before ++ (frame ++ text)) → OnOk r (now ++ codes "}" ≡ before ++ term_text t)
 one_text r before now frame text t is = on_ok r (λ e. ap (λ x. x ++ codes "}") e ∙ append_assoc before (frame ++ text) (codes "}") ∙ ap (λ x. before ++ x) (append_assoc frame text (codes "}") ∙ sym is))
 
--- the same of a term of two texts
+-- the same for a term of two texts
 pub two_texts : {X E : Type 0} (r : Result X E) (before one now frame text frame' text' : List ℕ) (t : Term) → term_text t ≡ frame ++ (text ++ (frame' ++ (text' ++ codes "}"))) → one ≡ before ++ (frame ++ text)
     → OnOk r (now ≡ one ++ (frame' ++ text')) → OnOk r (now ++ codes "}" ≡ before ++ term_text t)
 two_texts r before one now frame text frame' text' t is e = on_ok r (λ f. ap (λ x. x ++ codes "}") (f ∙ ap (λ x. x ++ (frame' ++ text')) e) ∙ append_assoc (before ++ (frame ++ text)) (frame' ++ text') (codes "}")

@@ -1,4 +1,4 @@
--- One text more is printed.
+-- One more text is printed.
 use Rattle.std.proofs.Common.{◌≡◌, ◌≢◌, ℕ, ◌+◌, ◌-◌, ◌<◌, ◌≤◌, List, ◌++◌, length, get_or, set, take, drop, inl, inr, sym, ap, ◌∙◌, subst, arith, ⊎_elim}
 use Rattle.std.specs.List.{slice_range}
 use Rattle.std.proofs.lemmas.Bool.{cases_eq, cases_lt}
@@ -9,7 +9,7 @@ use Rattle.dict_core.specs.Dict.{term_at}
 use Rattle.result_json.specs.Results.{term_text}
 use Rattle.result_json.specs.Texts.{Span, ArePrinted, IsSpanOf}
 
--- a part of a buffer stays as it grows
+-- a part of a buffer is unchanged as the buffer grows
 part_stays : (xs ys : List ℕ) (a b : ℕ) → a < b → b ≤ length xs → slice_range (xs ++ ys) a b ≡ slice_range xs a b
 part_stays xs ys a b l h =
     ap (take (b - a)) (drop-append-le a xs ys (omega arith)) ∙ take-append-le (b - a) (drop a xs) ys (rw (length-drop a xs) (omega arith))

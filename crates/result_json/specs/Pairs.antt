@@ -1,4 +1,4 @@
--- Two ranks in one number. Private clauses alone cite this word.
+-- Two ranks in one number. Only private clauses use this definition.
 use Rattle.std.specs.Prelude.{ℕ, List, [], ◌∷◌, ◌/◌, ◌%◌, ◌^◌}
 
 -- the two ranks that a number holds, the first in its upper half

@@ -1,4 +1,4 @@
--- What sorted rows show. Private clauses alone cite this word.
+-- The ranks of sorted rows. Only private clauses use this definition.
 use Rattle.std.specs.Prelude.{ℕ, List, map}
 use Rattle.result_json.specs.declared.ranked_row.RankedRow.{RankedRow}
 

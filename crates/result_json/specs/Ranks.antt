@@ -1,12 +1,13 @@
--- Cells of rows as numbers: by the numbers of their terms, and by the ranks of these. Private
--- clauses alone cite these words.
+-- Cells of rows as numbers: first the numbers of their terms, then the ranks of the terms. Only
+-- private clauses use these definitions.
 use Rattle.std.specs.Prelude.{◌≡◌, ℕ, zero, suc, Bool, true, ◌<◌, ◌≤◌, List, length, map, get_or, slice_get, Option, None, Some, Contains}
 use Rattle.std.specs.Borrow.{Bor}
 use Rattle.rdf_core.specs.declared.term.Term.{Term}
 use Rattle.algebra_model.specs.RowOrder.{cells}
 use Rattle.algebra_model.specs.Solution.{Solution}
 
--- the code of a cell over so many terms: the number of its term, and the count where it is unbound
+-- the code of a cell over a number of terms: the number of its term, or the count of the terms if
+-- it is unbound
 abbrev pub code_of : ℕ → Option ℕ → ℕ
 code_of count None = count
 code_of count (Some n) = n
@@ -15,7 +16,7 @@ code_of count (Some n) = n
 abbrev pub codes_of : ℕ → List ℕ → Solution ℕ → List ℕ
 codes_of count listed μ = map (code_of count) (cells listed μ)
 
--- the cell of a rank: unbound at 0, and else the term at the place before
+-- the cell of a rank: unbound for 0, and otherwise the term at the rank minus one
 abbrev pub ranked_cell : List Term → ℕ → Option Term
 ranked_cell terms zero = None
 ranked_cell terms (suc i) = slice_get terms i
@@ -23,12 +24,12 @@ ranked_cell terms (suc i) = slice_get terms i
 abbrev pub ranked_row : List Term → List ℕ → List (Option Term)
 ranked_row terms ranks = map (ranked_cell terms) ranks
 
--- the rank is 0, or a term's: its last place plus one
+-- the rank is 0, or it is the last place of a term plus one
 abbrev pub IsRank : List Term → ℕ → Type 0
 IsRank terms zero = Unit {0}
 IsRank terms (suc i) = (i < length terms) × ((j : ℕ) → slice_get terms j ≡ slice_get terms i → j ≤ i)
 
--- a lent term and its number
+-- a borrowed term and its number
 abbrev pub Entry : Type 0
 Entry = Bor Term × ℕ
 
@@ -38,20 +39,19 @@ terms_of entries = map (λ e. e.0.now) entries
 abbrev pub numbers_of : List Entry → List ℕ
 numbers_of entries = map (λ e. e.1) entries
 
--- the term is the one that its number stands for
+-- the term has this number
 abbrev pub IsEntry : List Term → Entry → Type 0
 IsEntry dict e = slice_get dict e.1 ≡ Some e.0.now
 
--- the number's place is marked, where it has one
+-- the number's place is marked, if it has one
 abbrev pub IsMarked : List Bool → ℕ → Type 0
 IsMarked marks n = get_or marks n true ≡ true
 
--- the number is listed, where it stands for a term at all
+-- the number is listed, if it is the number of a term
 abbrev pub IsCovered : ℕ → List ℕ → ℕ → Type 0
 IsCovered count numbers n = n < count → Contains numbers n
 
--- of the first n places the table has for the number at place j the last place where it stands, plus
--- one
+-- for the number at place j, the table has its last place among the first n places, plus one
 abbrev pub HasRank : ℕ → List ℕ → List ℕ → ℕ → Type 0
 HasRank n numbers table j = (i : ℕ)
     × (get_or table (get_or numbers j 0) 0 ≡ suc i)

@@ -1,6 +1,7 @@
--- The answer of a SELECT query as JSON (SPARQL 1.1 Query Results JSON Format, sections 3.1 and 3.2;
--- strings as RFC 8259, section 7, with the shortest escapes), byte by byte. No blanks are written but
--- the line feed at the end. (That members stand in byte order of their names is our own.)
+-- The result of a SELECT query as JSON, byte by byte (SPARQL 1.1 Query Results JSON Format,
+-- sections 3.1 and 3.2). Strings are those of RFC 8259, section 7, with the shortest escapes. The
+-- only whitespace is the line feed at the end. The byte order of the members is a choice of this
+-- project (not fixed by the standard).
 use Rattle.std.specs.Prelude.{ℕ, suc, List, [], ◌∷◌, ◌++◌, ◌/◌, ◌%◌, ◌==◌, nat_lt, Option, None, Some, map, flat_map, get_or, Vec, codes, if◌then◌else◌}
 use Rattle.std.specs.Char.{digit_char}
 use Rattle.std.specs.Ordering.{nat_cmp, ordering_then}
@@ -13,7 +14,8 @@ use Rattle.rdf_core.specs.declared.term.Term.{Term}
 use Rattle.rdf_core.specs.declared.term.Term.TheVariants.{Blank, Iri, Literal}
 use Rattle.algebra_model.specs.Sorted.{sorted_list}
 
--- One byte of a string. A byte below 32 with no short form is written by its two hexadecimal digits.
+-- One byte of a string. A byte below 32 without a short form is written by its two hexadecimal
+-- digits.
 unfoldable pub string_byte : ℕ → List ℕ
 string_byte b =
     if b == 34 then codes "\\\"" else if b == 92 then codes "\\\\"
@@ -26,7 +28,7 @@ string_byte b =
 abbrev pub string_text : List ℕ → List ℕ
 string_text text = codes "\"" ++ (flat_map string_byte text ++ codes "\"")
 
--- a literal without a tag
+-- a literal without a language tag (section 3.2.2)
 abbrev pub plain_text : List ℕ → List ℕ → List ℕ
 plain_text lexical datatype =
     if bytes_eq datatype xsd_string
@@ -61,7 +63,7 @@ column_cmp a b = ordering_then (bytes_cmp a.0 b.0) (nat_cmp a.1 b.1)
 unfoldable pub columns : List (List ℕ) → List Column
 columns vars = sorted_list column_cmp (numbered 0 vars)
 
--- the member of a column, where the row binds its variable
+-- the member of a column, if the row binds its variable
 abbrev pub member_text : List ℕ → Option Term → List (List ℕ)
 member_text name None = []
 member_text name (Some t) = (string_text name ++ 58 ∷ term_text t) ∷ []
@@ -73,17 +75,17 @@ members row columns = flat_map (λ c. member_text c.0 (get_or row c.1 None)) col
 abbrev pub row_text : List Column → List (Option Term) → List ℕ
 row_text columns row = codes "{" ++ (separated (members row columns) ++ codes "}")
 
--- the whole answer: the variables without their signs, and the rows
+-- the whole document: the names of the variables, and the rows
 unfoldable pub json : List (List ℕ) → List (List (Option Term)) → List ℕ
 json vars rows =
     codes "{\"head\":{\"vars\":[" ++ (separated (map string_text vars)
     ++ (codes "]},\"results\":{\"bindings\":[" ++ (separated (map (row_text (columns vars)) rows) ++ codes "]}}\n")))
 
--- blocks of bytes, one behind the other
+-- concatenated blocks of bytes
 abbrev pub joined_blocks : List (Vec ℕ Global) → List ℕ
 joined_blocks blocks = flat_map (λ block. block.items) blocks
 
--- the names of listed variables, each variable's at its number; a number without a name has the
--- empty one
+-- the names of the listed variables, where `names` has each variable's name at its number; a number
+-- without a name has the empty name
 abbrev pub listed_names : List (List ℕ) → List ℕ → List (List ℕ)
 listed_names names vs = map (λ v. get_or names v []) vs

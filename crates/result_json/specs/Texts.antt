@@ -1,5 +1,5 @@
--- Texts of terms, each printed once, and how rows are put together of them. Private clauses alone cite
--- these words.
+-- Texts of terms, each printed once, and the texts of rows that consist of them. Only private
+-- clauses use these definitions.
 use Rattle.std.specs.Prelude.{◌≡◌, ◌⊎◌, ℕ, ◌<◌, ◌≤◌, ◌==◌, nat_le, Bool, true, false, not, ◌&&◌, List, [], ◌∷◌, ◌++◌, length, flat_map, slice_range, get_or, map, Option, None, Some, Vec, codes}
 use Rattle.std.specs.Borrow.{Bor}
 use Rattle.std.specs.declared.alloc.Global.{Global}
@@ -11,15 +11,16 @@ use Rattle.result_json.specs.RankedRows.{ranks_of}
 use Rattle.result_json.specs.Ranks.{ranked_cell}
 use Rattle.result_json.specs.Results.{Column, separated, string_text, term_text}
 
--- the byte stands for itself in a JSON string: no control character, no quote and no backslash
+-- the byte needs no escape in a JSON string: it is not a control character, quotation mark or
+-- backslash (RFC 8259, section 7)
 abbrev pub is_plain : ℕ → Bool
 is_plain b = nat_le 32 b && not (b == 34) && not (b == 92)
 
--- where a text begins and ends in a buffer
+-- the beginning and the end of a text in a buffer
 abbrev pub Span : Type 0
 Span = ℕ × ℕ
 
--- the term is not printed yet, or its text lies in the buffer where the span says
+-- the term is not printed yet, or the span of the buffer is its text
 abbrev pub IsSpanOf : List ℕ → Term → Span → Type 0
 IsSpanOf printed term span = (span.1 ≤ span.0)
     ⊎ ((span.1 ≤ length printed) × (slice_range printed span.0 span.1 ≡ term_text term))
@@ -28,11 +29,12 @@ abbrev pub ArePrinted : List Term → List ℕ → List Span → Type 0
 ArePrinted terms printed spans = (length spans ≡ length terms)
     × ((i : ℕ) → i < length terms → IsSpanOf printed (term_at terms i) (get_or spans i (0, 0)))
 
--- a column of the code: a name that is lent, and a place
+-- a column of the code: a borrowed name, and a place
 abbrev pub column_of : Bor (List ℕ) × ℕ → Column
 column_of c = (c.0.now, c.1)
 
--- the beginning of a column's members, the name as a string and a colon, with the column's place
+-- the beginning of a column's members, which is the name as a string and a colon, with the column's
+-- place
 abbrev pub begun : Column → Column
 begun c = (string_text c.0 ++ 58 ∷ [], c.1)
 
@@ -50,7 +52,7 @@ begun_members terms ranks columns = flat_map (λ c. begun_member c.0 (ranked_cel
 abbrev pub begun_row : List Term → List Column → List ℕ → List ℕ
 begun_row terms columns ranks = codes "{" ++ (separated (begun_members terms ranks columns) ++ codes "}")
 
--- texts with a comma before each, or before each but the first
+-- texts with a comma before each, or before each except the first
 abbrev pub comma_texts : Bool → List (List ℕ) → List ℕ
 comma_texts true xs = flat_map (λ y. 44 ∷ y) xs
 comma_texts false xs = separated xs
@@ -59,17 +61,18 @@ comma_texts false xs = separated xs
 abbrev pub row_texts : List Term → List (Vec ℕ Global × ℕ) → List RankedRow → List (List ℕ)
 row_texts terms columns rows = map (begun_row terms (map begun_column columns)) (ranks_of rows)
 
--- piece i of rows, `size` rows a piece, with a comma before each row but the first of all
+-- piece i of rows, with `size` rows for each piece, and a comma before each row except the first of
+-- all
 abbrev pub piece_text : List Term → List (Vec ℕ Global × ℕ) → List RankedRow → ℕ → ℕ → List ℕ
 piece_text terms columns rows size i = comma_texts (not (i == 0)) (row_texts terms columns (piece_of size i rows))
 
--- what stands before the rows of an answer
+-- what precedes the rows of a result
 abbrev pub head_text : List (List ℕ) → List ℕ
 head_text vars = codes "{\"head\":{\"vars\":[" ++ (separated (map string_text vars) ++ codes "]},\"results\":{\"bindings\":[")
 
 -- ---- texts that are looked up ahead
 
--- the text is empty, or that of the rank's term
+-- the text is empty, or it is that of the rank's term
 abbrev pub IsAhead : List Term → ℕ → List ℕ → Type 0
 IsAhead terms rank text = (text ≡ [])
     ⊎ ((t : Term) × (ranked_cell terms rank ≡ Some t) × (text ≡ term_text t))

@@ -1,5 +1,5 @@
-//! The texts of rows, looked up ahead of their copying, column by column: what is looked up for one row
-//! waits for no other's, so the loads of many rows go on at once.
+//! Looks up the texts of several rows before they are copied, column by column. The loads of
+//! different rows do not depend on each other, so the processor can overlap them.
 ghost use Rattle.std.specs.Prelude.{◌≡◌, [], get_or, IfOk};
 ghost use Rattle.result_json.specs.RankedRows.{ranks_of};
 ghost use Rattle.result_json.specs.Texts.{all_texts, lent_texts, places_of, AreAhead, IsAhead, IsColumnAhead};
@@ -8,7 +8,8 @@ use crate::ranked_row::RankedRow;
 use crate::term_texts::TermTexts;
 use std::alloc::{AllocError, Global};
 
-/// The text of a rank's term, empty where the rank is no term's and while the term is not printed.
+/// Returns the text of a rank's term. It is empty if the rank has no term or the term is not
+/// printed yet.
 fn text_ahead<'a>(texts: &'a TermTexts<'_>, rank: u64) -> &'a [u8]
     ensures ahead { IsAhead texts.now rank result.now }
 {
@@ -18,13 +19,13 @@ fn text_ahead<'a>(texts: &'a TermTexts<'_>, rank: u64) -> &'a [u8]
     }
 }
 
-/// Whether a text is empty or begins as an object does.
+/// Returns whether a text is empty or begins with `{`.
 fn is_object(text: &[u8]) -> bool {
     text.is_empty() || text[0] == b'{'
 }
 
-/// The texts of the cells at a place of the rows. A text is empty where the cell is unbound or its term
-/// not printed, and none stands there at all where one is no object's.
+/// Looks up the texts of the cells at one place of the rows. A text is empty if the cell is unbound
+/// or its term is not printed. The list is empty if some text is not that of an object.
 fn look_up<'a>(
     alloc: Global,
     place: usize,
@@ -38,17 +39,19 @@ fn look_up<'a>(
     for row in rows {
         ahead.push(text_ahead(texts, row.rank(place)))?;
     }
-    // Reading the first byte of each text brings them all near before they are copied. It is `{`.
+    // Reading the first byte of each text, `{`, loads all texts into the cache before they are
+    // copied.
     if !ahead.iter().all(|text| is_object(text)) {
         ahead.clear();
     }
     Ok(ahead)
 }
 
-/// The texts of the rows for each column, as far as they are printed.
+/// Looks up the texts of the rows for each column. The texts of terms that are not printed yet are
+/// empty.
 ///
 /// # Errors
-/// `AllocError`: a growth was refused.
+/// `AllocError` if an allocation fails.
 pub(crate) fn looked_up<'a>(
     alloc: Global,
     columns: &[(Vec<u8>, usize)],
@@ -65,7 +68,7 @@ pub(crate) fn looked_up<'a>(
     Ok(ahead)
 }
 
-/// The text of a column for a row, empty where none was looked up.
+/// Returns the text of a column for a row, or an empty text if none was looked up.
 pub(crate) fn text_at<'a>(ahead: &[Vec<&'a [u8]>], column: usize, row: usize) -> &'a [u8]
     ensures value { result.now ≡ get_or (get_or (all_texts ahead.now) column []) row [] }
 {

@@ -6,7 +6,7 @@ use dict_core::Dict;
 use row_core::Rows;
 use std::alloc::{AllocError, Global};
 
-/// The number at a variable's place, and None where the row has no such place.
+/// Returns the number of a variable in a row, or None if the row has no such place.
 fn number_at(row: &[Option<u64>], variable: usize) -> Option<u64>
     ensures value { result ≡ get_or row.now variable None }
 {
@@ -17,7 +17,7 @@ fn number_at(row: &[Option<u64>], variable: usize) -> Option<u64>
     }
 }
 
-/// The code of a cell over `count` terms: `count` where it is unbound.
+/// Returns the code of a cell over `count` terms. The code of an unbound cell is `count`.
 fn code(cell: Option<u64>, count: u64) -> u64
     ensures value { result ≡ code_of count cell }
 {
@@ -43,11 +43,11 @@ fn put_codes(
     Ok(())
 }
 
-/// The codes of the listed variables, row behind row: the number of the variable's term, and the
-/// length of the dictionary where the row leaves it unbound.
+/// Returns the codes of the listed variables, row after row. A code is the number of the variable's
+/// term, or the length of the dictionary if the row leaves the variable unbound.
 ///
 /// # Errors
-/// `AllocError`: a growth was refused.
+/// `AllocError` if an allocation fails.
 pub(crate) fn listed_codes(
     alloc: Global,
     listed: &[usize],

@@ -7,7 +7,7 @@ use crate::values::put_string;
 use rdf_core::Text;
 use std::alloc::{AllocError, Global};
 
-/// The name of a variable, and the empty text where it has none.
+/// Returns the name of a variable, or the empty text if it has none.
 pub(crate) fn name_of(names: &[Text], variable: usize) -> &str
     ensures value { result.now ≡ get_or names.now variable [] }
 {
@@ -18,7 +18,7 @@ pub(crate) fn name_of(names: &[Text], variable: usize) -> &str
     }
 }
 
-/// The columns in the order of the list: the name of each variable, and its place in a row.
+/// Returns the columns in the order of the list: the name of each variable, and its place in a row.
 fn numbered<'a>(
     alloc: Global,
     names: &'a [Text],
@@ -34,7 +34,7 @@ fn numbered<'a>(
     Ok(columns)
 }
 
-/// The columns in byte order of their names.
+/// Returns the columns in byte order of their names.
 fn columns_of<'a>(
     alloc: Global,
     names: &'a [Text],
@@ -48,7 +48,7 @@ fn columns_of<'a>(
     Ok(columns)
 }
 
-/// The beginning of a member: the name as a string, and a colon.
+/// Prints the beginning of a member: the name as a string, and a colon.
 fn member_start(alloc: Global, name: &str) -> Result<Vec<u8>, AllocError>
     ensures text { IfOk result (λ text. text.items ≡ string_text name.now ++ 58 ∷ []) }
 {
@@ -58,10 +58,11 @@ fn member_start(alloc: Global, name: &str) -> Result<Vec<u8>, AllocError>
     Ok(text)
 }
 
-/// The columns in byte order of their names, each with the beginning of its members and its place.
+/// Returns the columns in byte order of their names. Each has the printed beginning of its members,
+/// and its place.
 ///
 /// # Errors
-/// `AllocError`: a growth was refused.
+/// `AllocError` if an allocation fails.
 pub(crate) fn begun_columns(
     alloc: Global,
     names: &[Text],

@@ -1,8 +1,8 @@
-//! Rows of two ranks in their order, before rows of any width are sorted.
+//! Sorts rows of two ranks before rows of any width are sorted.
 //!
-//! Answers of two columns are common. Two ranks below 2^32 fit into one number, and numbers are sorted
-//! faster than rows. Nothing is promised here but that the rows stay: the sort of rows behind settles
-//! their order, and finds these sorted.
+//! Results of two columns are common. Two ranks below 2^32 fit into one number, and numbers are
+//! sorted faster than rows. The contract promises only that the rows are a permutation. The sort of
+//! rows that follows determines their order, and finds these already sorted.
 ghost use Rattle.std.specs.Prelude.{◌≡◌, ◌≤◌, ◌*◌, ◌∷◌, [], length, map, IfOk, IfSome, IsPermutation, OnErr, OnOk};
 ghost use Rattle.row_core.specs.RowList.{rows_in};
 ghost use Rattle.result_json.specs.Pairs.{pair_in};
@@ -12,7 +12,8 @@ use std::alloc::{AllocError, Global};
 /// A rank below this fits into half of a number.
 const HALF: u64 = 1 << 32;
 
-/// The number that holds two ranks, the first in its upper half, and None where one is too large.
+/// Returns the number that holds two ranks, the first in its upper half, or None if one is too
+/// large.
 fn key_of(first: u64, second: u64) -> Option<u64>
     ensures pair { IfSome result (λ key. pair_in key ≡ first ∷ second ∷ []) }
 {
@@ -23,7 +24,7 @@ fn key_of(first: u64, second: u64) -> Option<u64>
     }
 }
 
-/// So many rows of two ranks, each as one number, and None where a rank is too large.
+/// Returns `count` rows of two ranks, each as one number, or None if a rank is too large.
 fn pair_keys(alloc: Global, ranks: &[u64], count: usize) -> Result<Option<Vec<u64>>, AllocError>
     requires within { 2 * count ≤ length ranks.now }
     ensures rows { IfOk result
@@ -39,7 +40,7 @@ fn pair_keys(alloc: Global, ranks: &[u64], count: usize) -> Result<Option<Vec<u6
     Ok(Some(keys))
 }
 
-/// Puts the two ranks of each number in the places of a row.
+/// Replaces each row by the two ranks of its number.
 fn put_pairs(ranks: &mut [u64], keys: &[u64])
     requires within { 2 * length keys.now ≤ length ranks.old }
     ensures rows { rows_in 2 2 (length keys.now) ranks.new ≡ map pair_in keys.now }
@@ -50,12 +51,12 @@ fn put_pairs(ranks: &mut [u64], keys: &[u64])
     }
 }
 
-/// Moves so many rows of two ranks into their order, where every rank is below 2^32. Promised is only
-/// that the rows stay. Those of another width or of larger ranks, and a count of more rows than there
-/// are, change nothing.
+/// Sorts `count` rows of two ranks if every rank is below 2^32. The contract promises only a
+/// permutation of the rows. Rows of another width or with larger ranks are unchanged, and so are
+/// all rows if `count` exceeds their number.
 ///
 /// # Errors
-/// `AllocError`: a growth was refused. The ranks are as they were.
+/// `AllocError` if an allocation fails. The ranks are unchanged.
 pub(crate) fn order_pairs(
     alloc: Global,
     ranks: &mut [u64],

@@ -23,8 +23,8 @@ use std::alloc::Global;
 use std::sync::Wait;
 use std::thread::Threads;
 
-/// The elements from the offset on, and at most as many as the limit (SPARQL 1.1 Query Language,
-/// section 18.5, Slice).
+/// Returns the elements from the offset on, at most as many as the limit (SPARQL 1.1 Query
+/// Language, section 18.5, Slice).
 fn kept<T>(rows: &[T], offset: u64, limit: Option<u64>) -> &[T]
     ensures value { result.now ≡ slice offset limit rows.now }
 {
@@ -35,38 +35,39 @@ fn kept<T>(rows: &[T], offset: u64, limit: Option<u64>) -> &[T]
     }
 }
 
-/// What is printed: rows of numbers, and what a query lists and keeps of them.
+/// The input of the printer: rows of numbers, the projected variables, and the slice to keep.
 #[derive(Clone, Copy)]
 pub struct Table<'a> {
     /// Each variable's name at its number.
     pub names: &'a [Text],
-    /// The numbers of the variables in the order of the results. One that the rows have no place for is
-    /// bound in none.
+    /// The numbers of the projected variables, in the order of the results. A variable without a
+    /// place in the rows is unbound in all of them.
     pub listed: &'a [usize],
     /// The rows, each with the number of a term at the place of each variable that it binds.
     pub rows: &'a Rows,
     /// The term of each number in the rows.
     pub dict: &'a Dict,
-    /// So many of the first rows are left out (SPARQL 1.1 Query Language, section 15.4).
+    /// The number of first rows to leave out (SPARQL 1.1 Query Language, section 15.4).
     pub offset: u64,
-    /// At most so many rows stand (SPARQL 1.1 Query Language, section 15.5).
+    /// The largest number of rows to print (SPARQL 1.1 Query Language, section 15.5).
     pub limit: Option<u64>,
 }
 
-/// The answer of a query as JSON (SPARQL 1.1 Query Results JSON Format), in blocks that lie one behind
-/// the other: the names of the listed variables, and the rows in the order of their terms, cut to what
-/// OFFSET and LIMIT keep. It ends with a line feed.
+/// Prints the result of a query as JSON (SPARQL 1.1 Query Results JSON Format), in blocks to be
+/// concatenated. It has the names of the projected variables, and the rows in the order of their
+/// terms, cut to what OFFSET and LIMIT keep. It ends with a line feed.
 ///
-/// Workers put the rows together, piece by piece as `how` says, each piece in a block of its own, with
-/// the gate's calls round it; neither changes the bytes. One worker is the caller itself.
+/// Workers print the rows in pieces, as `how` says, each piece into its own block. They call the
+/// gate before and after each piece. Neither changes the bytes. With one worker the caller does all
+/// the work.
 ///
 /// # Requires
-/// Each number in the rows is the place of a term in `dict`, and `how` keeps its limits.
+/// Each number in the rows is the place of a term in `dict`, and `how` is within its limits.
 ///
 /// # Errors
-/// - `WorkerRefused`: the start of a worker was refused. Those that were started have been joined. It
-///   never comes of one worker.
-/// - `Memory`: a growth was refused.
+/// - `WorkerRefused` if a worker thread could not be started. The started workers have been joined.
+///   It cannot occur with one worker.
+/// - `Memory` if an allocation fails.
 pub fn print_rows<R: Threads + Wait, G: Gate + Sync>(
     rt: &R,
     alloc: Global,

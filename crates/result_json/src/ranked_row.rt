@@ -1,8 +1,8 @@
 //! A row of ranks.
 ghost use Rattle.std.specs.Prelude.{◌≡◌, get_or};
 
-/// The ranks of a row's cells, lent. The first two stand beside them, so that most rows are compared
-/// and printed without a look into the buffer.
+/// The borrowed ranks of a row's cells. The first two are copied into this value, so that most rows
+/// are compared and printed without a look into the buffer.
 #[derive(Clone, Copy, PartialEq, Eq, PartialOrd, Ord)]
 pub(crate) struct RankedRow<'a> {
     first: u64,
@@ -12,14 +12,14 @@ pub(crate) struct RankedRow<'a> {
     ghost second_is: { second ≡ get_or ranks.now 1 0 },
 }
 
-/// The rank at a place of a row, and 0 behind its end.
+/// Returns the rank at a place of a row, or 0 past its end.
 fn rank_at(ranks: &[u64], place: usize) -> u64
     ensures value { result ≡ get_or ranks.now place 0 }
 {
     if place < ranks.len() { ranks[place] } else { 0 }
 }
 
-/// A row of these ranks.
+/// Makes a row of these ranks.
 pub(crate) fn ranked_row(ranks: &[u64]) -> RankedRow<'_>
     ensures ranks { result.ranks.now ≡ ranks.now }
 {
@@ -31,7 +31,7 @@ pub(crate) fn ranked_row(ranks: &[u64]) -> RankedRow<'_>
 }
 
 impl<'a> RankedRow<'a> {
-    /// The rank at a place of the row, and 0 behind its end.
+    /// Returns the rank at a place of the row, or 0 past its end.
     pub(crate) fn rank(&self, place: usize) -> u64
         ensures value { result ≡ get_or self.now.ranks.now place 0 }
     {

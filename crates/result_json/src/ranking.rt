@@ -8,7 +8,7 @@ use dict_core::Dict;
 use rdf_core::Term;
 use std::alloc::{AllocError, Global};
 
-/// Marks the place of a code. One past the end marks nothing.
+/// Marks the place of a code. A code past the end marks nothing.
 fn mark(marks: &mut [bool], code: u64)
     ensures marks { marks.new ≡ slice_set marks.old code true }
 {
@@ -17,7 +17,7 @@ fn mark(marks: &mut [bool], code: u64)
     }
 }
 
-/// Marks for so many numbers, whether a code is one.
+/// Returns, for each number below `count`, whether it is a code.
 fn marked(alloc: Global, codes: &[u64], count: usize) -> Result<Vec<bool>, AllocError>
     ensures wide { IfOk result (λ marks. length marks.items ≡ count) }
     ensures marked { IfOk result (λ marks. All (IsMarked marks.items) codes.now) }
@@ -29,8 +29,8 @@ fn marked(alloc: Global, codes: &[u64], count: usize) -> Result<Vec<bool>, Alloc
     Ok(marks)
 }
 
-/// The terms that the codes stand for, each with its number, in the order of the dictionary. A code past
-/// the dictionary stands for none.
+/// Returns the terms of the codes, each with its number, in the order of the dictionary. A code
+/// past the dictionary has no term.
 fn distinct_terms<'a>(
     alloc: Global,
     codes: &[u64],
@@ -50,7 +50,8 @@ fn distinct_terms<'a>(
     Ok(made)
 }
 
-/// The kind of a term, as a number that rises, and its first text: what comparisons look at first.
+/// Returns the kind of a term, as a number in the order of kinds, and its first text. Comparisons
+/// use them first.
 fn kind_and_text(term: &Term) -> (u8, &str)
     ensures kind { result.0 < 3 }
 {
@@ -61,7 +62,7 @@ fn kind_and_text(term: &Term) -> (u8, &str)
     }
 }
 
-/// The bytes that both texts begin with.
+/// Returns the bytes that both texts begin with.
 fn shared_beginning<'a>(left: &'a [u8], right: &[u8]) -> &'a [u8] {
     if right.starts_with(left) {
         return left;
@@ -75,7 +76,8 @@ fn shared_beginning<'a>(left: &'a [u8], right: &[u8]) -> &'a [u8] {
     &left[..count]
 }
 
-/// How many bytes the first texts of all terms of a kind begin with in common, for each kind.
+/// Returns, for each kind of term, the length of the prefix that the first texts of all its terms
+/// share.
 fn shared_lengths(order: &[(&Term, u64)]) -> [usize; 3] {
     let mut shared: [Option<&[u8]>; 3] = [None; 3];
     for (term, _number) in order {
@@ -87,8 +89,8 @@ fn shared_lengths(order: &[(&Term, u64)]) -> [usize; 3] {
     shared.map(|beginning| beginning.unwrap_or(b"").len())
 }
 
-/// The eight bytes of a text behind so many, as a number that rises with them. Zeros stand for those
-/// behind its end.
+/// Returns the eight bytes of a text after `start`, as a big-endian number. Missing bytes are
+/// zeros.
 fn bytes_behind(text: &[u8], start: usize) -> u64 {
     let rest = &text[text.len().min(start)..];
     let count = rest.len().min(8);
@@ -97,8 +99,8 @@ fn bytes_behind(text: &[u8], start: usize) -> u64 {
     u64::from_be_bytes(bytes)
 }
 
-/// What terms are first put in order by: the kind, the eight bytes behind what the texts of the kind
-/// have in common, and the first text.
+/// Returns the key by which terms are first sorted. It is the kind, the eight bytes after the
+/// shared prefix of the kind, and the first text.
 fn first_key<'a>(term: &'a Term, shared: &[usize; 3]) -> (u8, u64, &'a str) {
     let (kind, text) = kind_and_text(term);
     (
@@ -108,7 +110,7 @@ fn first_key<'a>(term: &'a Term, shared: &[usize; 3]) -> (u8, u64, &'a str) {
     )
 }
 
-/// For each number its last place in the order plus one, and 0 where it has none.
+/// Returns, for each number, its last place in the order plus one, or 0 if it has none.
 fn rank_table(alloc: Global, order: &[(&Term, u64)], count: usize) -> Result<Vec<u64>, AllocError>
     requires below { All (λ e. e.1 < count) order.now }
     ensures wide { IfOk result (λ table. length table.items ≡ count) }
@@ -121,7 +123,7 @@ fn rank_table(alloc: Global, order: &[(&Term, u64)], count: usize) -> Result<Vec
     Ok(table)
 }
 
-/// The rank of a code: 0 where the table has none.
+/// Returns the rank of a code, or 0 if the table has none.
 fn rank_of(table: &[u64], code: u64) -> u64
     ensures value { result ≡ get_or table.now code 0 }
 {
@@ -132,7 +134,7 @@ fn rank_of(table: &[u64], code: u64) -> u64
     }
 }
 
-/// Puts the rank of each code in its place.
+/// Replaces each code by its rank.
 fn put_ranks(codes: &mut [u64], table: &[u64])
     ensures ranks { codes.new ≡ map (λ c. get_or table.now c 0) codes.old }
 {
@@ -141,11 +143,11 @@ fn put_ranks(codes: &mut [u64], table: &[u64])
     }
 }
 
-/// Puts the rank of its term in the place of each code, and 0 where it stands for none. Answers the
-/// terms, rising, each with its number: a rank is the place of the term plus one.
+/// Replaces each code by the rank of its term, or by 0 if it has no term. Returns the terms in
+/// ascending order, each with its number. A rank is the place of the term plus one.
 ///
 /// # Errors
-/// `AllocError`: a growth was refused. The codes are as they were.
+/// `AllocError` if an allocation fails. The codes are unchanged.
 pub(crate) fn rank<'a>(
     alloc: Global,
     codes: &mut [u64],
@@ -158,9 +160,9 @@ pub(crate) fn rank<'a>(
     ensures rising { IfOk result (λ order. IsSorted term_cmp (terms_of order.items)) }
 {
     let mut order = distinct_terms(alloc, codes, dict)?;
-    // Comparisons look first at the kind of a term and at its first text, so these are taken out once
-    // and sorted, with the bytes that mostly decide beside them. The sort behind settles the order, and
-    // moves only terms that have both in common.
+    // Most comparisons are decided by the kind of a term, its first text and the bytes after the
+    // shared prefix. So these are extracted once and sorted. The sort that follows determines the
+    // order, and moves only terms whose kind and first text are equal.
     let shared = shared_lengths(&order);
     order.sort_by_cached_key(|entry| first_key(entry.0, &shared))?;
     order.sort()?;

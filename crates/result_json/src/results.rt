@@ -1,5 +1,5 @@
-//! The answer of a query as JSON (SPARQL 1.1 Query Results JSON Format), in blocks that lie one behind
-//! the other: what stands before the rows, the rows piece by piece, and what stands behind them.
+//! The result of a query as JSON (SPARQL 1.1 Query Results JSON Format), in blocks to be
+//! concatenated: the head, the rows piece by piece, and the tail.
 ghost use Rattle.std.specs.Prelude.{◌≡◌, ◌++◌, codes, length, map, IfErr, IfOk, OnOk};
 ghost use Rattle.row_pieces.specs.How.{HasOneWorker, IsRunnable};
 ghost use Rattle.row_pieces.specs.declared.how.EvalFault.TheVariants.{Memory};
@@ -68,7 +68,7 @@ fn print_texts(
     Ok(())
 }
 
-/// Appends the names of the listed variables, with commas between them.
+/// Appends the names of the projected variables, with commas between them.
 fn put_names(
     alloc: Global,
     out: &mut Vec<u8>,
@@ -88,7 +88,7 @@ fn put_names(
     Ok(())
 }
 
-/// What stands before the rows: the names of the listed variables.
+/// Prints what precedes the rows: the names of the projected variables.
 fn head(alloc: Global, names: &[Text], listed: &[usize]) -> Result<Vec<u8>, AllocError>
     ensures text { IfOk result (λ head. head.items ≡ head_text (listed_names names.now listed.now)) }
 {
@@ -99,7 +99,7 @@ fn head(alloc: Global, names: &[Text], listed: &[usize]) -> Result<Vec<u8>, Allo
     Ok(out)
 }
 
-/// What stands behind the rows.
+/// Prints what follows the rows.
 fn tail(alloc: Global) -> Result<Vec<u8>, AllocError>
     ensures text { IfOk result (λ tail. tail.items ≡ codes "]}}\n") }
 {
@@ -108,7 +108,7 @@ fn tail(alloc: Global) -> Result<Vec<u8>, AllocError>
     Ok(out)
 }
 
-/// Blocks with one before them and one behind.
+/// Returns blocks with one more before and one more after them.
 fn enclosed(
     alloc: Global,
     head: Vec<u8>,
@@ -125,15 +125,16 @@ fn enclosed(
     Ok(made)
 }
 
-/// The answer of a query as JSON: the names of the listed variables, and the rows in order, each with
-/// a rank a variable (SPARQL 1.1 Query Results JSON Format). It ends with a line feed.
+/// Prints the result of a query as JSON (SPARQL 1.1 Query Results JSON Format): the names of the
+/// projected variables, and the rows in order. Each row has one rank for each variable. The text
+/// ends with a line feed.
 ///
 /// # Requires
-/// `how` keeps its limits.
+/// `how` is within its limits.
 ///
 /// # Errors
-/// - `WorkerRefused`: the start of a worker was refused. It never comes of one worker.
-/// - `Memory`: a growth was refused.
+/// - `WorkerRefused` if a worker thread could not be started. It cannot occur with one worker.
+/// - `Memory` if an allocation fails.
 pub(crate) fn to_json<R: Threads + Wait, G: Gate + Sync>(
     rt: &R,
     alloc: Global,

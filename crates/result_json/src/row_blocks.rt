@@ -1,6 +1,6 @@
-//! Rows as JSON in blocks, a piece of the rows each, which workers put together.
+//! Rows as JSON in blocks, one for each piece of the rows. Workers print the blocks in parallel.
 //!
-//! Each block is memory of its own, so workers also share what it takes to get new memory.
+//! Each worker allocates the blocks that it prints, so the workers share the cost of new memory.
 ghost use Rattle.std.specs.Prelude.{◌≡◌, IfErr, IfOk};
 ghost use Rattle.row_pieces.specs.How.{HasOneWorker, IsRunnable};
 ghost use Rattle.row_pieces.specs.Pieces.{piece_of};
@@ -17,7 +17,7 @@ use std::alloc::{AllocError, Global};
 use std::sync::Wait;
 use std::thread::Threads;
 
-/// The rows of an answer by pieces of `size` rows.
+/// The rows of a result in pieces of `size` rows.
 #[derive(Drop)]
 struct RowPieces<'a, 't> {
     columns: &'a [(Vec<u8>, usize)],
@@ -49,7 +49,7 @@ impl<'a, 't> Job for RowPieces<'a, 't> {
     ghost exclusive = { λ job i out fault _ absurd. absurd };
 }
 
-/// The elements of a piece, `size` elements a piece.
+/// Returns the elements of a piece of `size` elements.
 fn piece<T>(elements: &[T], size: usize, number: u64) -> &[T]
     ensures value { result.now ≡ piece_of size number elements.now }
 {
@@ -59,7 +59,8 @@ fn piece<T>(elements: &[T], size: usize, number: u64) -> &[T]
     &elements[from..to]
 }
 
-/// The room that a row takes at most, with a comma before it and one behind each member.
+/// Returns the largest number of bytes that a row takes, with a comma before the row and after each
+/// member.
 fn row_room(columns: &[(Vec<u8>, usize)], texts: &TermTexts<'_>, row: &RankedRow<'_>) -> usize {
     let mut room = 3usize;
     for (prefix, place) in columns {
@@ -71,7 +72,8 @@ fn row_room(columns: &[(Vec<u8>, usize)], texts: &TermTexts<'_>, row: &RankedRow
     room
 }
 
-/// The room that rows take at most, where their terms are printed: a block of it grows no more.
+/// Returns the largest number of bytes that rows take, if their terms are printed. A block of this
+/// capacity is never reallocated.
 fn room_of(columns: &[(Vec<u8>, usize)], texts: &TermTexts<'_>, rows: &[RankedRow<'_>]) -> usize {
     let mut room = 0usize;
     for row in rows {
@@ -80,7 +82,7 @@ fn room_of(columns: &[(Vec<u8>, usize)], texts: &TermTexts<'_>, rows: &[RankedRo
     room
 }
 
-/// Rows in a block of their own, with a comma before each, or before each but the first.
+/// Prints rows into a block, with a comma before each, or before each except the first.
 fn block(
     alloc: Global,
     columns: &[(Vec<u8>, usize)],
@@ -96,15 +98,16 @@ fn block(
     Ok(out)
 }
 
-/// The rows with commas between them, in blocks of a piece each, cut as `how` says. Workers put the
-/// blocks together, and one worker's part, or one piece alone, the caller.
+/// Prints the rows with commas between them, into one block for each piece. The pieces are cut as
+/// `how` says, and workers print them. The caller prints a single piece itself, and with one worker
+/// it prints all.
 ///
 /// # Requires
-/// `how` keeps its limits.
+/// `how` is within its limits.
 ///
 /// # Errors
-/// - `WorkerRefused`: the start of a worker was refused. It never comes of one worker.
-/// - `Memory`: a growth was refused.
+/// - `WorkerRefused` if a worker thread could not be started. It cannot occur with one worker.
+/// - `Memory` if an allocation fails.
 pub(crate) fn row_blocks<R: Threads + Wait, G: Gate + Sync>(
     rt: &R,
     alloc: Global,

@@ -1,4 +1,4 @@
-//! Rows of ranks in their order.
+//! The order of rows of ranks.
 ghost use Rattle.std.specs.Prelude.{◌≡◌, drop, take, IfOk, IsPermutation, IsSorted};
 ghost use Rattle.std.specs.Cmp.Lexicographic.{slice_cmp};
 ghost use Rattle.std.specs.Ordering.{nat_cmp};
@@ -8,21 +8,21 @@ ghost use Rattle.result_json.specs.RankedRows.{ranks_of};
 use crate::ranked_row::{RankedRow, ranked_row};
 use std::alloc::{AllocError, Global};
 
-/// The first row of a width.
+/// Returns the first row of a width.
 fn first_row(ranks: &[u64], width: usize) -> &[u64]
     ensures value { result.now ≡ take width ranks.now }
 {
     &ranks[..ranks.len().min(width)]
 }
 
-/// What stands behind the first row of a width.
+/// Returns the ranks after the first row of a width.
 fn later_rows(ranks: &[u64], width: usize) -> &[u64]
     ensures value { result.now ≡ drop width ranks.now }
 {
     &ranks[ranks.len().min(width)..]
 }
 
-/// So many rows of a width that lie row behind row.
+/// Splits a list of ranks into `count` consecutive rows of a width.
 fn split_rows(
     alloc: Global,
     ranks: &[u64],
@@ -41,10 +41,10 @@ fn split_rows(
     Ok(made)
 }
 
-/// The rows in the order of their ranks, cell by cell.
+/// Returns the rows in the order of their ranks, cell by cell.
 ///
 /// # Errors
-/// `AllocError`: a growth was refused.
+/// `AllocError` if an allocation fails.
 pub(crate) fn sorted_rows(
     alloc: Global,
     ranks: &[u64],

@@ -1,7 +1,8 @@
-//! Rows as JSON, put together by appends.
+//! Rows as JSON, made by appends.
 //!
-//! A row is made of the beginnings of its members, each made once a column, and of the texts of terms,
-//! each made once a term. Rows go out group by group: the texts of a group's rows are looked up first.
+//! A row consists of the beginnings of its members, each printed once for a column, and of the
+//! texts of terms, each printed once. Rows are printed in groups: the texts of all rows of a group
+//! are looked up first.
 ghost use Rattle.std.specs.Prelude.{◌≡◌, ◌++◌, ◌||◌, drop, is_some, map, IfOk, OnOk};
 ghost use Rattle.result_json.specs.Ranks.{ranked_cell};
 ghost use Rattle.result_json.specs.Texts.{all_texts, begun_column, begun_member, begun_row, comma_texts, places_of, row_texts, IsAhead, IsRowAhead};
@@ -11,12 +12,12 @@ use crate::ranked_row::RankedRow;
 use crate::term_texts::TermTexts;
 use std::alloc::{AllocError, Global};
 
-/// So many rows have their texts looked up at once: enough that their loads overlap, and few enough
-/// that what was loaded is still near when it is copied.
+/// The number of rows whose texts are looked up at once. It is large enough for the loads to
+/// overlap, and small enough for the loaded bytes to be in the cache when they are copied.
 const GROUP: usize = 32;
 
-/// Appends the member of a cell, where it is bound, and a comma before it where a member stands
-/// before. Answers whether a member stands there now. The text of its term is asked for only here.
+/// Appends the member of a cell if it is bound, with a comma if another member precedes it. Returns
+/// whether the row now has a member. It looks up the text of the cell's term itself.
 fn put_cell(
     alloc: Global,
     out: &mut Vec<u8>,
@@ -41,9 +42,9 @@ fn put_cell(
     Ok(true)
 }
 
-/// Appends the member of a cell, where it is bound, and a comma before it where a member stands
-/// before. Answers whether a member stands there now. Where the text that was looked up for it is empty,
-/// its own is asked for.
+/// Appends the member of a cell if it is bound, with a comma if another member precedes it. Returns
+/// whether the row now has a member. If the text looked up for the cell is empty, the term's own
+/// text is used.
 fn put_member(
     alloc: Global,
     out: &mut Vec<u8>,
@@ -70,7 +71,7 @@ fn put_member(
     Ok(true)
 }
 
-/// Appends the object of a row, which is the row of this number of those whose texts were looked up.
+/// Appends the object of a row. `number` is its place among the rows whose texts were looked up.
 fn put_row(
     alloc: Global,
     out: &mut Vec<u8>,
@@ -95,15 +96,15 @@ fn put_row(
     Ok(())
 }
 
-/// What stands behind so many elements.
+/// Returns the elements after the first `count`.
 fn behind<T>(elements: &[T], count: usize) -> &[T]
     ensures value { result.now ≡ drop count elements.now }
 {
     &elements[elements.len().min(count)..]
 }
 
-/// Appends some rows, with a comma before each, or before each but the first. The texts of them all are
-/// looked up before one is copied.
+/// Appends a group of rows, with a comma before each, or before each except the first. The texts of
+/// all of them are looked up before one is copied.
 fn put_group(
     alloc: Global,
     out: &mut Vec<u8>,
@@ -127,10 +128,10 @@ fn put_group(
     Ok(())
 }
 
-/// Appends rows, with a comma before each, or before each but the first, group by group.
+/// Appends rows, with a comma before each, or before each except the first, group by group.
 ///
 /// # Errors
-/// `AllocError`: a growth was refused. Some rows may stand behind what stood before.
+/// `AllocError` if an allocation fails. Some rows may have been appended then.
 pub(crate) fn put_rows(
     alloc: Global,
     out: &mut Vec<u8>,

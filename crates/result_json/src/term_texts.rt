@@ -9,17 +9,18 @@ use rdf_core::Term;
 use std::alloc::{AllocError, Global};
 use std::marker::Model;
 
-/// Terms, with the texts of those that were printed already, all in one buffer. A contract sees the
-/// list of the terms.
+/// Terms, with the texts of those that are printed already, all in one buffer. In contracts this
+/// type is the list of the terms.
 #[derive(Drop)]
 pub(crate) struct TermTexts<'a> {
     terms: &'a [(&'a Term, u64)],
     /// The texts, in the order in which they were printed.
     printed: Vec<u8>,
-    /// Where a text is printed before it joins the others, so that none of these is touched when a
-    /// growth is refused halfway.
+    /// The buffer in which a text is printed before it is appended to the others. They are
+    /// unchanged if an allocation fails halfway.
     latest: Vec<u8>,
-    /// Where each term's text begins and ends: at one place while it is not printed.
+    /// The beginning and the end of each term's text. They are equal if the term is not printed
+    /// yet.
     spans: Vec<(usize, usize)>,
 }
 
@@ -37,10 +38,10 @@ impl<'a> Model for TermTexts<'a> {
 }
 
 impl<'a> TermTexts<'a> {
-    /// The terms, none printed yet.
+    /// Creates the table of the terms. None is printed yet.
     ///
     /// # Errors
-    /// `AllocError`: a growth was refused.
+    /// `AllocError` if an allocation fails.
     pub(crate) fn new(
         alloc: Global,
         terms: &'a [(&'a Term, u64)],
@@ -58,18 +59,18 @@ impl<'a> TermTexts<'a> {
         })
     }
 
-    /// The number of terms.
+    /// Returns the number of terms.
     pub(crate) fn len(&self) -> usize
         ensures value { result ≡ length self.now }
     {
         self.terms.len()
     }
 
-    /// The places of the terms that are shown, each behind the number of its term and in the order of
-    /// these numbers: terms that are gone through so are read as they lie in memory.
+    /// Returns the places of the shown terms, each after the number of its term, in ascending order
+    /// of these numbers. In this order the terms are read sequentially from memory.
     ///
     /// # Errors
-    /// `AllocError`: a growth was refused.
+    /// `AllocError` if an allocation fails.
     pub(crate) fn shown_places(
         &self,
         alloc: Global,
@@ -88,7 +89,7 @@ impl<'a> TermTexts<'a> {
         Ok(places)
     }
 
-    /// The place of a rank's term, and None where the rank is no term's.
+    /// Returns the place of a rank's term, or None if the rank has no term.
     pub(crate) fn place(&self, rank: u64) -> Option<usize>
         ensures place { MatchOption result (ranked_cell self.now rank ≡ None)
             (λ i. (i < length self.now) × (ranked_cell self.now rank ≡ Some (term_at self.now i))) }
@@ -100,10 +101,10 @@ impl<'a> TermTexts<'a> {
         }
     }
 
-    /// Prints the term at a place, if it was not printed yet.
+    /// Prints the term at a place, if it is not printed yet.
     ///
     /// # Errors
-    /// `AllocError`: a growth was refused.
+    /// `AllocError` if an allocation fails.
     pub(crate) fn print(&mut self, alloc: Global, place: usize) -> Result<(), AllocError>
         requires inside { place < length self.old }
         ensures same { self.new ≡ self.old }
@@ -121,7 +122,7 @@ impl<'a> TermTexts<'a> {
         Ok(())
     }
 
-    /// The text of the term at a place, empty while it is not printed.
+    /// Returns the text of the term at a place. It is empty if the term is not printed yet.
     pub(crate) fn printed(&self, place: usize) -> &[u8]
         requires inside { place < length self.now }
         ensures text { (result.now ≡ []) ⊎ (result.now ≡ term_text (term_at self.now place)) }
@@ -134,10 +135,10 @@ impl<'a> TermTexts<'a> {
         }
     }
 
-    /// Appends the text of the term at a place. One that was not printed yet is printed for this once.
+    /// Appends the text of the term at a place. A term that is not printed yet is printed directly.
     ///
     /// # Errors
-    /// `AllocError`: a growth was refused.
+    /// `AllocError` if an allocation fails.
     pub(crate) fn put(
         &self,
         alloc: Global,

@@ -1,5 +1,5 @@
-//! Terms and texts as JSON: a text that needs no escape is copied, each other is printed by the JSON
-//! library, and the object of a term is put together round its texts.
+//! Terms and texts as JSON. A text that needs no escape is copied, and the JSON library prints the
+//! others. The object of a term is made around its texts.
 ghost use Rattle.std.specs.Prelude.{◌≡◌, ◌++◌, codes, false, IfOk, OnOk};
 ghost use Rattle.std.specs.List.{list_all};
 ghost use Rattle.serde_json.specs.Data.{string};
@@ -13,14 +13,14 @@ use rdf_core::{Term, Text};
 use serde_json::Value;
 use std::alloc::{AllocError, Global};
 
-/// The value of a text.
+/// Returns a text as a JSON value.
 fn string_value(alloc: Global, text: &str) -> Result<Value, AllocError>
     ensures { IfOk result (λ v. view v ≡ string text.now) }
 {
     Ok(Value::String(String::from_str(alloc, text)?))
 }
 
-/// What the library prints for a value that has no float.
+/// Returns what the library prints for a value without floats.
 fn printed(alloc: Global, value: &Value) -> Result<Vec<u8>, AllocError>
     requires { has_float (view value.now) ≡ false }
     ensures { IfOk result (λ text. text.items ≡ compact_text (view value.now)) }
@@ -28,32 +28,32 @@ fn printed(alloc: Global, value: &Value) -> Result<Vec<u8>, AllocError>
     value.to_vec(alloc)
 }
 
-/// A text as the library prints it, a JSON string.
+/// Returns a text as the library prints it, as a JSON string.
 fn printed_string(alloc: Global, text: &str) -> Result<Vec<u8>, AllocError>
     ensures { IfOk result (λ printed. printed.items ≡ string_text text.now) }
 {
     printed(alloc, &string_value(alloc, text)?)
 }
 
-/// Whether a byte stands for itself in a JSON string: it is no control character, no quote and no
-/// backslash (RFC 8259, section 7).
+/// Returns whether a byte needs no escape in a JSON string: it is not a control character,
+/// quotation mark or backslash (RFC 8259, section 7).
 fn is_plain(byte: u8) -> bool
     ensures value { result ≡ is_plain byte }
 {
     byte >= 32 && byte != b'"' && byte != b'\\'
 }
 
-/// Whether each byte of a text stands for itself in a JSON string.
+/// Returns whether no byte of a text needs an escape in a JSON string.
 fn is_plain_text(text: &str) -> bool
     ensures value { result ≡ list_all is_plain text.now }
 {
     text.as_bytes().iter().all(|byte| is_plain(*byte))
 }
 
-/// Appends a text as a JSON string. The library prints those that need an escape.
+/// Appends a text as a JSON string. The library prints the texts that need an escape.
 ///
 /// # Errors
-/// `AllocError`: a growth was refused. A part of the string may stand behind what stood before.
+/// `AllocError` if an allocation fails. A part of the string may have been appended then.
 pub(crate) fn put_string(alloc: Global, out: &mut Vec<u8>, text: &str) -> Result<(), AllocError>
     ensures text { OnOk result (out.new.items ≡ out.old.items ++ string_text text.now) }
 {
@@ -66,7 +66,7 @@ pub(crate) fn put_string(alloc: Global, out: &mut Vec<u8>, text: &str) -> Result
     Ok(())
 }
 
-/// Appends what stands before a text, and the text as a JSON string.
+/// Appends the bytes of `before`, and a text as a JSON string.
 fn put_text(alloc: Global, out: &mut Vec<u8>, before: &[u8], text: &Text) -> Result<(), AllocError>
     ensures { OnOk result (out.new.items ≡ out.old.items ++ (before.now ++ string_text text.now)) }
 {
@@ -74,7 +74,7 @@ fn put_text(alloc: Global, out: &mut Vec<u8>, before: &[u8], text: &Text) -> Res
     put_string(alloc, out, text.as_str())
 }
 
-/// Appends the object of a term, but for the bracket that ends it.
+/// Appends the object of a term without its closing bracket.
 fn put_open_object(alloc: Global, out: &mut Vec<u8>, term: &Term) -> Result<(), AllocError>
     ensures { OnOk result (out.new.items ++ codes "}" ≡ out.old.items ++ term_text term.now) }
 {
@@ -105,7 +105,7 @@ fn put_open_object(alloc: Global, out: &mut Vec<u8>, term: &Term) -> Result<(), 
 /// Appends a term as JSON.
 ///
 /// # Errors
-/// `AllocError`: a growth was refused. A part of the text may stand behind what stood before.
+/// `AllocError` if an allocation fails. A part of the text may have been appended then.
 pub(crate) fn put_term(alloc: Global, out: &mut Vec<u8>, term: &Term) -> Result<(), AllocError>
     ensures text { OnOk result (out.new.items ≡ out.old.items ++ term_text term.now) }
 {

@@ -1,4 +1,4 @@
--- Rows that lie in one list of cells.
+-- Rows in one list of cells.
 use Rattle.std.proofs.Common.{◌≡◌, ℕ, zero, suc, ◌+◌, ◌*◌, ◌<◌, ◌≤◌, List, [], ◌∷◌, ◌++◌, length, take, drop, slice_get, Option, None, Some, refl, sym, ap, ◌∙◌, arith, subst, All}
 use Rattle.std.proofs.Math.Nat.{suc-mul, zero-mul, mul-le-mul_right}
 use Rattle.std.proofs.lemmas.List.{take_all, length-take, length-drop, take-append-le, drop-append-le, drop-drop}
@@ -40,7 +40,7 @@ module _ {X : Type 0} (w s : ℕ) where
       ∙ ap (λ (r : List X). Some (take w r)) (drop-drop (i * s) s cells)
       ∙ ap (λ k. Some (take w (drop k cells))) (omega arith)
 
-  -- each row is as long as it is to be
+  -- each row has the given length
   pub wide-rows_in : (n : ℕ) (cells : List X) → n * s ≤ length cells → w ≤ s → All (λ row. length row ≡ w) (rows_in w s n cells)
   wide-rows_in zero cells h l k d low = absurd (omega arith)
   wide-rows_in (suc n) cells h l zero d low =
@@ -52,7 +52,7 @@ module _ {X : Type 0} (w s : ℕ) where
       let ld = length-drop s cells in
       wide-rows_in n (drop s cells) (omega arith) l k d (omega arith)
 
--- a row lies inside the cells
+-- a row is within the cells
 pub row-inside : (w s n i k : ℕ) → i < n → w ≤ s → k ≡ n * s → i * s + w ≤ k
 row-inside w s n i k h l e =
     let m : suc i * s ≤ n * s = mul-le-mul_right s (omega arith) in
@@ -90,7 +90,7 @@ module _ (w n : ℕ) (cells : List (Option ℕ)) (v : RowList) (is : record { wi
       let l : w ≤ stride w = omega arith in
       subst (λ (r : RowList). All (λ row. length row ≡ r.width) r.rows) is (wide-rows_in w (stride w) n cells (omega arith) l)
 
-  -- one row more
+  -- appending one row
   pub rows-pushed : (row all : List (Option ℕ)) → length row ≡ v.width → length cells ≡ n * stride w
       → all ≡ cells ++ padded row → rows_in w (stride w) (n + 1) all ≡ v.rows ++ row ∷ []
   rows-pushed row all e k h =
@@ -100,7 +100,7 @@ module _ (w n : ℕ) (cells : List (Option ℕ)) (v : RowList) (is : record { wi
       ∙ ap (λ (r : List (Option ℕ)). rows_in w (stride w) n cells ++ r ∷ []) (take-padded w row (e ∙ sym width-shown))
       ∙ ap (λ (r : RowList). r.rows ++ row ∷ []) is
 
-  -- the rows of other cells behind
+  -- appending the rows of other cells
   pub rows-appended : (w' m : ℕ) (others all : List (Option ℕ)) (u : RowList)
       → record { width = w'; rows = rows_in w' (stride w') m others } ≡ u → u.width ≡ v.width
       → length cells ≡ n * stride w → all ≡ cells ++ others

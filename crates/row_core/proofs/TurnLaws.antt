@@ -1,4 +1,4 @@
--- One row, or one place of two rows, more: what each turn of a loop over rows adds.
+-- What one iteration of a loop adds: one row, or one variable of two rows.
 use Rattle.std.proofs.Common.{◌≡◌, ℕ, zero, suc, ◌+◌, ◌<◌, ◌≤◌, Bool, true, false, cond, ◌&&◌, ◌||◌, List, [], ◌∷◌, ◌++◌, length, get_or, take, drop, map, filter, slice_get, Option, None, Some, is_some, nat_eq, refl, sym, ap, ◌∙◌, arith, add-one, append-nil}
 use Rattle.std.specs.List.{list_all}
 use Rattle.std.proofs.lemmas.List.{map-append, drop_more, drop_all}
@@ -79,7 +79,7 @@ all-take {X} p xs i x e = ap (list_all p) (take_more_get xs i x e) ∙ by (take 
     by [] = true_right (p x)
     by (y ∷ ys) = ap (λ b. p y && b) (by ys) ∙ sym (and_assoc (p y) (list_all p ys) (p x))
 
--- the merges of a row that pass, one row of the other side more
+-- the merges of a row that pass, with one more row of the other side
 pub passing-take : (keeps : Solution ℕ → Bool) (μ ν : Solution ℕ) (R : List (Solution ℕ)) (i : ℕ) → slice_get R i ≡ Some ν → filter keeps (merges nat_eq μ (take (i + 1) R)) ≡ filter keeps (merges nat_eq μ (take i R)) ++ cond (is_compatible nat_eq μ ν && keeps (merge μ ν)) (merge μ ν ∷ []) []
 passing-take keeps μ ν R i e =
     ap (filter keeps) (merges-take μ ν R i e) ∙ filter-append keeps (merges nat_eq μ (take i R)) (cond (is_compatible nat_eq μ ν) (merge μ ν ∷ []) []) ∙ ap (λ r. filter keeps (merges nat_eq μ (take i R)) ++ r) (by (is_compatible nat_eq μ ν) (keeps (merge μ ν)) refl)

@@ -1,18 +1,19 @@
 //! Rows of numbers: the solutions that the evaluator works on.
 //!
-//! [`Rows`] is a list of rows of one width, each with the number of every variable's term, or None
-//! where the row leaves the variable unbound. A contract sees the width and the list of the rows,
-//! so a row is a `Solution ℕ` of the algebra's model. All cells lie in one buffer, row behind row.
-//! `is_compatible`, `shares` and `merge_into` are the model's words on two rows.
+//! [`Rows`] is a list of rows of one width. A row holds the number of each variable's term, or None
+//! if it leaves the variable unbound. In contracts `Rows` is its width and the list of its rows,
+//! and a row is a `Solution ℕ` of the algebra's model. `is_compatible`, `shares` and `merge_into`
+//! compute the model's definitions of the same names.
 //!
-//! What the crate above uses: `push` adds exactly the given row, `append` exactly the other rows,
-//! `row` lends exactly the row at a place, and a refused growth leaves the rows as they were.
+//! Callers rely on these clauses: `push` adds exactly the given row, `append` adds exactly the
+//! other rows, and `row` returns exactly the row at a place. If an allocation fails, the rows are
+//! unchanged.
 //!
 //! Standard: SPARQL 1.1 Query Language, section 18.3 (compatible mappings, merge).
 //!
-//! To read in this order: `rows`, `merging`.
+//! Reading order: `rows`, `merging`. Tests: `merging` of the crate row_tests.
 //!
-//! Not promised: how much memory a row takes.
+//! Not guaranteed: how much memory a row takes.
 #![tactic(auto)]
 
 mod merging;

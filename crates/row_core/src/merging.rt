@@ -1,4 +1,4 @@
-//! Two rows side by side: whether they agree, what they share, and their merge.
+//! Operations on two rows: compatibility, shared variables, and the merge.
 ghost use Rattle.std.specs.Prelude.{◌≡◌, nat_eq, length, OnOk, OnErr, ◌++◌, ◌∷◌, []};
 ghost use Rattle.algebra_model.specs.Solution.{agree, bound_or, is_compatible, merge};
 ghost use Rattle.algebra_model.specs.Operators.{share};
@@ -6,7 +6,7 @@ ghost use Rattle.algebra_model.specs.Operators.{share};
 use crate::rows::Rows;
 use std::alloc::{AllocError, Global};
 
-/// Whether the two cells do not bind a variable to two terms.
+/// Returns whether two cells are equal or at least one of them is unbound.
 fn agrees(x: Option<u64>, y: Option<u64>) -> bool
     ensures value { result ≡ agree nat_eq x y }
 {
@@ -16,7 +16,7 @@ fn agrees(x: Option<u64>, y: Option<u64>) -> bool
     }
 }
 
-/// The first where it is bound, and else the second.
+/// Returns the first cell if it is bound, and the second one otherwise.
 fn first_bound(x: Option<u64>, y: Option<u64>) -> Option<u64>
     ensures value { result ≡ bound_or x y }
 {
@@ -26,8 +26,8 @@ fn first_bound(x: Option<u64>, y: Option<u64>) -> Option<u64>
     }
 }
 
-/// Whether two rows agree on every variable that both bind (SPARQL 1.1 Query Language, section
-/// 18.3, compatible mappings).
+/// Returns whether two rows agree on every variable that both bind (SPARQL 1.1 Query Language,
+/// section 18.3, compatible mappings).
 ///
 /// # Requires
 /// Both rows have the same width.
@@ -43,7 +43,7 @@ pub fn is_compatible(a: &[Option<u64>], b: &[Option<u64>]) -> bool
     true
 }
 
-/// Whether some variable is bound in both rows.
+/// Returns whether some variable is bound in both rows.
 ///
 /// # Requires
 /// Both rows have the same width.
@@ -59,14 +59,14 @@ pub fn shares(a: &[Option<u64>], b: &[Option<u64>]) -> bool
     false
 }
 
-/// Writes the merge of two rows (their union, SPARQL 1.1 Query Language, section 18.3) into `row`,
-/// in place of what it held.
+/// Replaces the contents of `row` with the merge of two rows (their union, SPARQL 1.1 Query
+/// Language, section 18.3).
 ///
 /// # Requires
 /// Both rows have the same width.
 ///
 /// # Errors
-/// `AllocError`: a growth was refused. What `row` then holds is left open.
+/// `AllocError` if an allocation fails. The contents of `row` are then unspecified.
 pub fn merge_into(
     row: &mut Vec<Option<u64>>,
     a: &[Option<u64>],

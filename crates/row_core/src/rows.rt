@@ -1,14 +1,15 @@
-//! Lists of rows of optional numbers, each row of one width.
+//! Lists of rows of optional numbers. All rows of a list have the same width.
 ghost use Rattle.row_core.specs.RowList.{stride, padded};
 ghost use Rattle.std.specs.Prelude.{◌≡◌, ◌+◌, ◌<◌, ◌≤◌, take, drop, [], ◌∷◌, ◌++◌, length, Some, None, slice_get, get_or, All, OnOk, OnErr};
 
 use std::alloc::{AllocError, Global};
 use std::marker::Model;
 
-/// A list of rows, each with one place a variable: the number of the variable's term, or None where
-/// the row leaves the variable unbound.
+/// A list of rows with one cell for each variable. A cell is the number of the variable's term, or
+/// None if the row leaves the variable unbound.
 ///
-/// A contract sees the width and the list of the rows. All cells lie in one buffer, row behind row.
+/// In contracts this type is its width and the list of its rows. One buffer holds the cells of all
+/// rows, one row after another.
 #[derive(Drop)]
 pub struct Rows {
     width: usize,
@@ -27,14 +28,15 @@ impl Model for Rows {
     ghost invariant = { λ r. length r.cells.items ≡ r.count * stride r.width };
 }
 
-/// How many cells one row takes: one at least, so that the cells count the rows of no width too.
+/// Returns the number of cells that one row takes. It is at least one, so that rows without
+/// variables are counted too.
 fn stride(width: usize) -> usize
     ensures value { result ≡ stride width }
 {
     width.max(1)
 }
 
-/// Adds the cells of a row, and one more where it has none.
+/// Appends the cells of a row, or one empty cell if the row has none.
 fn add_cells(cells: &mut Vec<Option<u64>>, row: &[Option<u64>]) -> Result<(), AllocError>
     ensures added { OnOk result (cells.new.items ≡ cells.old.items ++ padded row.now) }
     ensures refused { OnErr result (cells.new.items ≡ cells.old.items) }
@@ -46,7 +48,7 @@ fn add_cells(cells: &mut Vec<Option<u64>>, row: &[Option<u64>]) -> Result<(), Al
     cells.extend_from_slice(row)
 }
 
-/// The cells of one row.
+/// Returns the cells of one row.
 fn part(cells: &[Option<u64>], start: usize, width: usize) -> &[Option<u64>]
     requires inside { start + width ≤ length cells.now }
     ensures value { result.now ≡ take width (drop start cells.now) }
@@ -55,7 +57,7 @@ fn part(cells: &[Option<u64>], start: usize, width: usize) -> &[Option<u64>]
 }
 
 impl Rows {
-    /// No row yet; takes no memory.
+    /// Creates an empty list. Allocates nothing.
     pub fn new(alloc: Global, width: usize) -> Rows
         ensures empty { result ≡ record { width = width; rows = [] } }
     {
@@ -66,7 +68,7 @@ impl Rows {
         }
     }
 
-    /// The number of variables, which is the length of each row.
+    /// Returns the number of variables, which is the length of each row.
     pub fn width(&self) -> usize
         ensures value { result ≡ self.now.width }
         ensures wide { All (λ row. length row ≡ self.now.width) self.now.rows }
@@ -74,14 +76,14 @@ impl Rows {
         self.width
     }
 
-    /// The number of rows.
+    /// Returns the number of rows.
     pub fn len(&self) -> usize
         ensures value { result ≡ length self.now.rows }
     {
         self.count
     }
 
-    /// One row, lent.
+    /// Returns a row as a borrowed slice.
     ///
     /// # Requires
     /// `i` is below `len`.
@@ -93,13 +95,13 @@ impl Rows {
         part(&self.cells, i * stride(self.width), self.width)
     }
 
-    /// Adds a row behind the others.
+    /// Appends a row.
     ///
     /// # Requires
     /// The row is as long as `width`.
     ///
     /// # Errors
-    /// `AllocError`: a growth was refused. The rows are as they were.
+    /// `AllocError` if an allocation fails. The rows are unchanged.
     pub fn push(&mut self, row: &[Option<u64>]) -> Result<(), AllocError>
         requires wide { length row.now ≡ self.old.width }
         ensures added { OnOk result (self.new.rows ≡ self.old.rows ++ row.now ∷ []) }
@@ -111,7 +113,7 @@ impl Rows {
         Ok(())
     }
 
-    /// The number at a variable's place in a row.
+    /// Returns the number that a row binds a variable to, or None.
     ///
     /// # Requires
     /// `row` is below `len`, and `variable` below `width`.
@@ -123,13 +125,13 @@ impl Rows {
         self.row(row)[variable]
     }
 
-    /// Adds the rows of another list of this width behind the others.
+    /// Appends the rows of another list.
     ///
     /// # Requires
-    /// The others have the same width.
+    /// The other list has the same width.
     ///
     /// # Errors
-    /// `AllocError`: a growth was refused. The rows are as they were, and the others are dropped.
+    /// `AllocError` if an allocation fails. The rows are unchanged, and the other list is dropped.
     pub fn append(&mut self, others: Rows) -> Result<(), AllocError>
         requires same_width { others.width ≡ self.old.width }
         ensures added { OnOk result (self.new.rows ≡ self.old.rows ++ others.rows) }

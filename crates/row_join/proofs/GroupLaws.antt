@@ -1,4 +1,4 @@
--- Groups under their keys: what one group is, and what adding a place changes.
+-- Groups under their keys: the contents of one group, and what adding a place changes.
 use Rattle.std.proofs.Common.{◌≡◌, ℕ, suc, ◌+◌, ◌<◌, ◌≤◌, Bool, true, false, not, cond, ◌||◌, List, [], ◌∷◌, ◌++◌, length, map, set, get_or, nat_eq, nat_lt, Some, None, if◌then◌else◌, refl, sym, ap, subst, ◌∙◌, true≢false, arith}
 use Rattle.std.specs.List.{list_any, position_or_len}
 use Rattle.std.specs.Cmp.Lexicographic.{pointwise}
@@ -25,7 +25,7 @@ group_in-at (k ∷ keys) (g ∷ groups) n h = by (same_numbers n k) (group_in-at
     by true e = refl
     by false e = let s : suc (place_of n keys) ≡ 1 + place_of n keys = omega arith in e ∙ ap (λ k. get_or (g ∷ groups) k []) s
 
--- what a look-up tells of the place
+-- what a look-up returns about the place
 pub some_place : (b : Bool) (p i : ℕ) → cond b (Some p) None ≡ Some i → i ≡ p
 some_place true p i e = cc
 some_place false p i e = cc
@@ -34,7 +34,7 @@ pub no_place : (b : Bool) (p : ℕ) → cond b (Some p) None ≡ None → b ≡ 
 no_place true p e = cc
 no_place false p e = refl
 
--- equal numbers have equal answers
+-- equal numbers have equal results
 congruent : (n k found : List ℕ) → same_numbers n k ≡ true → same_numbers found k ≡ same_numbers found n
 congruent n k found e =
     nat_list_eq_equiv.symm found k ∙ sym (nat_list_eq_equiv.congr n k found e) ∙ nat_list_eq_equiv.symm n found
@@ -47,7 +47,7 @@ other n k found e f = by (same_numbers found n) refl
     by false g = refl
 
 module _ (n : List ℕ) (place : ℕ) (found : List ℕ) where
-  -- a place more under numbers that are there
+  -- adding a place under numbers that are a key
   pub added_to : (keys groups : List (List ℕ)) → length keys ≡ length groups → list_any (same_numbers n) keys ≡ true
       → group_in keys (set groups (place_of n keys) (get_or groups (place_of n keys) [] ++ place ∷ [])) found
       ≡ group_in keys groups found ++ place_if (same_numbers found n) place
@@ -77,7 +77,7 @@ module _ (n : List ℕ) (place : ℕ) (found : List ℕ) where
           subst (λ (j : ℕ). group_in (k ∷ keys) (set (g ∷ groups) j (get_or (g ∷ groups) j [] ++ place ∷ [])) found ≡ group_in (k ∷ keys) (g ∷ groups) found ++ place_if (same_numbers found n) place) s
           (there_is (same_numbers found k) (set groups (place_of n keys) (get_or groups (place_of n keys) [] ++ place ∷ [])) (other n k found e) (rest t))
 
-  -- the first place under numbers that are new
+  -- adding the first place under new numbers
   pub added_new : (keys groups : List (List ℕ)) → length keys ≡ length groups → list_any (same_numbers n) keys ≡ false
       → group_in (keys ++ n ∷ []) (set (groups ++ [] ∷ []) (place_of n keys) (get_or (groups ++ [] ∷ []) (place_of n keys) [] ++ place ∷ [])) found
       ≡ group_in keys groups found ++ place_if (same_numbers found n) place
@@ -106,7 +106,7 @@ module _ (n : List ℕ) (place : ℕ) (found : List ℕ) where
           subst (λ (j : ℕ). group_in (k ∷ keys ++ n ∷ []) (set (g ∷ groups ++ [] ∷ []) j (get_or (g ∷ groups ++ [] ∷ []) j [] ++ place ∷ [])) found ≡ group_in (k ∷ keys) (g ∷ groups) found ++ place_if (same_numbers found n) place) s
           (there_is (same_numbers found k) (group_in (keys ++ n ∷ []) (set (groups ++ [] ∷ []) (place_of n keys) (get_or (groups ++ [] ∷ []) (place_of n keys) [] ++ place ∷ [])) found) (other n k found e) (rest t))
 
--- keys as they are stored, f of each is its numbers
+-- stored keys: f of each is its numbers
 module _ {V : Type 0} (f : V → List ℕ) where
   pub place_of-map : (n : List ℕ) (vs : List V) → position_or_len (λ v. same_numbers n (f v)) vs ≡ place_of n (map f vs)
   place_of-map n [] = refl

@@ -1,4 +1,5 @@
--- A fact about every number in rows, by a test and by recursion: for callers that know the one and owe the other.
+-- A fact about every number in rows, as a test and by recursion. Callers have one form and need the
+-- other.
 use Rattle.std.proofs.Common.{◌≡◌, ℕ, ◌<◌, Bool, true, ◌&&◌, List, [], ◌∷◌, Some, None, nat_lt, refl, ap, ◌∙◌, arith}
 use Rattle.std.proofs.lemmas.Bool.{and_parts}
 use Rattle.std.proofs.lemmas.Bool.Decides.{nat_tests}
@@ -32,7 +33,7 @@ module _ (P : ℕ → Type 0) (p : ℕ → Bool) where
       let parts = and_parts (passes p μ) (all_pass p rows) h in
       (EachBound-from_passes f μ parts.0, Each-from_all_pass f rows parts.1)
 
--- at numbers below a bound, as those that stand for a term of a dictionary
+-- numbers below a bound, such as those that number a term of a dictionary
 below_true : (k n : ℕ) → n < k → nat_lt n k ≡ true
 below_true k n h = grind (arith, nat_tests)
 

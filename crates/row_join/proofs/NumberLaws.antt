@@ -1,4 +1,4 @@
--- Every number in joined rows stands in a row of either side.
+-- Every number in joined rows occurs in a row of either side.
 use Rattle.std.proofs.Common.{◌≡◌, ℕ, Bool, true, false, not, cond, ◌&&◌, ◌||◌, List, [], ◌∷◌, ◌++◌, map, filter, nat_eq, Option, Some, None, refl, ap, ◌∙◌}
 use Rattle.std.specs.List.{list_all}
 use Rattle.std.proofs.lemmas.Bool.{and_parts}
@@ -60,7 +60,7 @@ module _ (p : ℕ → Bool) where
   pub minus_pass : (A B : List (Solution ℕ)) → all_pass p A ≡ true → all_pass p (minus nat_eq A B) ≡ true
   minus_pass A B h = all_pass-filter (λ μ. list_all (λ ν. not (is_compatible nat_eq μ ν) || not (share μ ν)) B) A h
 
-  -- of one bag
+  -- the rows of one multiset
   pub bag_pass : (rows A : List (Solution ℕ)) → IsSameBag rows A → all_pass p A ≡ true → all_pass p rows ≡ true
   bag_pass rows A h k = list_all-IsPermutation (passes p) rows A h ∙ k
 

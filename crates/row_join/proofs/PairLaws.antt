@@ -1,4 +1,4 @@
--- What one left row gives, place by place and as a bag; and numbers.
+-- What one left row gives, place by place and as a multiset, and its numbers.
 use Rattle.std.proofs.Common.{◌≡◌, ℕ, ◌+◌, ◌<◌, Bool, true, false, not, cond, ◌&&◌, ◌||◌, List, [], ◌∷◌, ◌++◌, length, map, filter, flat_map, take, get_or, nat_eq, if◌then◌else◌, refl, sym, ap, subst, ◌∙◌, append_assoc}
 use Rattle.std.proofs.lemmas.List.{map-append, map_more}
 use Rattle.std.proofs.lemmas.List.Elements.{filter-append}
@@ -14,7 +14,7 @@ use Rattle.std.proofs.lemmas.Bool.Decides.{Decides-eqb}
 use Rattle.row_join.specs.Pairing.{is_apart, row_if}
 use Rattle.row_join.specs.Places.{rows_at}
 
--- one place more
+-- with one more place
 pub rows_at-more : (rows : List (Solution ℕ)) (places : List ℕ) (i : ℕ) → i < length places
     → rows_at rows (take (i + 1) places) ≡ rows_at rows (take i places) ++ get_or rows (get_or places i 0) [] ∷ []
 rows_at-more rows places i h = map_more (λ (k : ℕ). get_or rows k []) places i 0 h
@@ -35,7 +35,7 @@ merges-append μ rows more =
     ap (map (merge μ)) (filter-append (is_compatible nat_eq μ) rows more)
     ∙ map-append (merge μ) (filter (is_compatible nat_eq μ) rows) (filter (is_compatible nat_eq μ) more)
 
--- the left rows that pass a test, each by itself
+-- the left rows that pass a test, each as a list
 pub rows_if : (p : Solution ℕ → Bool) (A : List (Solution ℕ)) → flat_map (λ μ. row_if (p μ) μ) A ≡ filter p A
 rows_if p [] = refl
 rows_if p (μ ∷ A) = by (p μ) (rows_if p A)
@@ -47,7 +47,7 @@ rows_if p (μ ∷ A) = by (p μ) (rows_if p A)
 behind : (old : List (Solution ℕ)) (a b : List (Solution ℕ)) → IsSameBag a b → IsSameBag (old ++ a) (old ++ b)
 behind old a b h = IsPermutation-append old old a b (IsPermutation-refl old) h
 
--- what is tried with a left row is enough
+-- the candidates for a left row are sufficient
 module _ (key : List ℕ) (μ : Solution ℕ) (rows : List (Solution ℕ)) (first second : List ℕ)
     (tried : IsSameBag (rows_at rows (first ++ second)) (filter (may_meet nat_eq key μ) rows)) where
   two : rows_at rows (first ++ second) ≡ rows_at rows first ++ rows_at rows second

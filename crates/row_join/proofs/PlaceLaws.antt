@@ -15,7 +15,7 @@ use Rattle.algebra_model.proofs.BagLaws.{same_bag}
 use Rattle.algebra_model.proofs.KeyLaws.{candidates-are, same_key-cells}
 use Rattle.row_join.specs.Places.{group_of, has_key, places_below, places_where, rows_at, place_if, IsTableOf, PlaceTable}
 
--- one number more
+-- with one more number
 pub range_more : (n a : ℕ) → range_with_len a (suc n) ≡ range_with_len a n ++ (a + n) ∷ []
 range_more zero a = let e : a ≡ a + 0 = omega arith in ap (λ (k : ℕ). k ∷ []) e
 range_more (suc n) a =
@@ -35,13 +35,13 @@ filter_one p n = by (p n)
     by true = refl
     by false = refl
 
--- one row more
+-- with one more row
 pub places_more : (p : Solution ℕ → Bool) (rows : List (Solution ℕ)) (n : ℕ) → places_below (n + 1) p rows ≡ places_below n p rows ++ place_if (p (get_or rows n [])) n
 places_more p rows n =
     let q = λ (i : ℕ). p (get_or rows i []) in
     ap (filter q) (range_next n) ∙ filter-append q (range_with_len 0 n) (n ∷ []) ∙ ap (λ (l : List ℕ). filter q (range_with_len 0 n) ++ l) (filter_one q n)
 
--- all places lie inside
+-- all places are in range
 range_below : (n a : ℕ) → All (λ i. i < a + n) (range_with_len a n)
 range_below zero a k d low = absurd (omega arith)
 range_below (suc n) a zero d low = omega arith
@@ -117,7 +117,7 @@ has_key-unkeyed key μ e numbers = by (has_key key numbers μ) refl
     by true h = absurd (false≢true (sym e ∙ has_key-keyed key numbers μ h))
     by false h = refl
 
--- a row with these numbers has the key of each other numbers exactly where those are the same
+-- a row with these numbers has the key of other numbers exactly if both are the same
 numbers_compared : (found numbers : List ℕ) → pointwise (option_eq nat_eq) (map Some found) (map Some numbers) ≡ pointwise nat_eq found numbers
 numbers_compared [] [] = refl
 numbers_compared [] (n ∷ numbers) = refl
@@ -128,7 +128,7 @@ pub has_key-numbers : (key numbers : List ℕ) (μ : Solution ℕ) → map Some 
 has_key-numbers key numbers μ e found =
     ap (λ (l : List (Option ℕ)). pointwise (option_eq nat_eq) (map Some found) l) (sym e) ∙ numbers_compared found numbers
 
--- what a left row with a key is tried with
+-- the candidates for a left row with a key
 module _ (key : List ℕ) (μ : Solution ℕ) (numbers : List ℕ) (is : map Some numbers ≡ cells key μ) (keyed : is_keyed key μ ≡ true) where
   same_test : (ν : Solution ℕ) → has_key key numbers ν ≡ (is_keyed key ν && same_key nat_eq key μ ν)
   same_test ν = by (is_keyed key ν) refl
@@ -152,7 +152,7 @@ module _ (key : List ℕ) (μ : Solution ℕ) (numbers : List ℕ) (is : map Som
           ∙ (λ j. rows_at_places (has_key key numbers) rows j ++ rows_at_places (λ ν. not (is_keyed key ν)) rows j)
           ∙ ap (λ (p : Solution ℕ → Bool). filter p rows ++ filter (λ ν. not (is_keyed key ν)) rows) (λ j ν. same_test ν j)
 
--- a left row without a key is tried with all
+-- for a left row without a key all rows are candidates
 pub unkeyed_tried : (key : List ℕ) (μ : Solution ℕ) → is_keyed key μ ≡ false → (rows : List (Solution ℕ))
     → IsSameBag (rows_at rows (range_with_len 0 (length rows) ++ [])) (filter (may_meet nat_eq key μ) rows)
 unkeyed_tried key μ e rows =
@@ -166,7 +166,7 @@ unkeyed_tried key μ e rows =
     all_pass [] = refl
     all_pass (x ∷ xs) = λ j. cond (passes x j) (x ∷ all_pass xs j) (all_pass xs j)
 
--- the turn of one row: its place is added where it passes
+-- the iteration of one row: its place is added if it passes
 pub places-turn : (p : Solution ℕ → Bool) (rows : List (Solution ℕ)) (n : ℕ) (row : Solution ℕ) → slice_get rows n ≡ Some row → (b : Bool) → p row ≡ b
     → (was now : List ℕ) → was ≡ places_below n p rows → now ≡ was ++ place_if b n → now ≡ places_below (n + 1) p rows
 places-turn p rows n row at b e was now h k =

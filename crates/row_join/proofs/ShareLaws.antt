@@ -1,4 +1,5 @@
--- What a left row shares with the right rows, told by one row that binds what some of them binds.
+-- Whether a left row shares a variable with the right rows, decided by one row that binds what some
+-- of them binds.
 use Rattle.std.proofs.Common.{◌≡◌, ℕ, zero, suc, ◌<◌, Bool, true, false, not, ◌&&◌, ◌||◌, List, [], ◌∷◌, length, get_or, nat_eq, is_some, Some, None, refl, sym, ap, ◌∙◌, true≢false, arith}
 use Rattle.algebra_model.specs.Solution.{Solution, is_compatible}
 use Rattle.algebra_model.specs.Operators.{share}
@@ -13,7 +14,7 @@ same_truth true b f g = sym (f refl)
 same_truth false true f g = g refl
 same_truth false false f g = refl
 
--- two rows share where both bind a variable
+-- two rows share a variable if both bind it
 share_from : (μ ν : Solution ℕ) (v : ℕ) → is_some (get_or μ v None) ≡ true → is_some (get_or ν v None) ≡ true → share μ ν ≡ true
 share_from [] ν v a b = absurd (true≢false (sym a))
 share_from (x ∷ μ) [] v a b = absurd (true≢false (sym b))
@@ -58,7 +59,7 @@ module _ (μ : Solution ℕ) where
           let (v, low, a, b) = rest r in
           (v, low, a, or_right (is_some (get_or ν v None)) (binds rows v) b)
 
-  -- a row that binds what some of the rows binds stands for them all
+  -- a row that binds what some of the rows binds represents them all
   pub shared_with : (bound : Solution ℕ) (rows : List (Solution ℕ)) → ((v : ℕ) → v < length μ → is_some (get_or bound v None) ≡ binds rows v) → share μ bound ≡ shares_some rows μ
   shared_with bound rows h = same_truth (share μ bound) (shares_some rows μ) there back
     where
@@ -72,7 +73,7 @@ module _ (μ : Solution ℕ) where
           let (v, low, a, b) = some_shared_at rows e in
           share_from μ bound v a (h v low ∙ b)
 
-  -- rows with which μ shares no bound variable take nothing away
+  -- rows with which μ shares no bound variable remove nothing
   pub unshared_apart : (rows : List (Solution ℕ)) → shares_some rows μ ≡ false → is_apart rows μ ≡ true
   unshared_apart [] h = refl
   unshared_apart (ν ∷ rows) h = by (share μ ν) refl h (unshared_apart rows)

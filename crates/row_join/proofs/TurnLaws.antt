@@ -1,4 +1,4 @@
--- One turn of each loop: one right row more, or one left row more.
+-- One iteration of each loop: one more right row, or one more left row.
 use Rattle.std.proofs.Common.{◌≡◌, ℕ, zero, suc, ◌+◌, ◌-◌, ◌<◌, ◌≤◌, Bool, true, false, not, cond, ◌&&◌, ◌||◌, List, [], ◌∷◌, ◌++◌, length, map, filter, flat_map, take, drop, get_or, slice_get, nat_eq, Some, if◌then◌else◌, refl, sym, ap, subst, ◌∙◌, arith, append_assoc}
 use Rattle.std.specs.List.{list_all}
 use Rattle.std.proofs.lemmas.Bool.{and_parts}
@@ -20,7 +20,7 @@ use Rattle.row_join.specs.Places.{rows_at}
 use Rattle.row_join.proofs.NumberLaws.{passes-merge}
 use Rattle.row_join.proofs.PairLaws.{rows_at-more, merges-more}
 
--- the right row of this turn, ν, stands at the place that the list of places has at i
+-- ν, the right row of this iteration, is at the place that is item i of the list of places
 module _ (rows : List (Solution ℕ)) (places : List ℕ) (i : ℕ) (μ ν : Solution ℕ) (low : i < length places) (at : slice_get rows (get_or places i 0) ≡ Some ν) where
   is_row : get_or rows (get_or places i 0) [] ≡ ν
   is_row = get_or_from_slice_get rows (get_or places i 0) ν [] at
@@ -38,7 +38,7 @@ module _ (rows : List (Solution ℕ)) (places : List ℕ) (i : ℕ) (μ ν : Sol
       ∙ ap (λ (l : List (Solution ℕ)). old ++ l) (sym (merges-more μ ν (rows_at rows (take i places)) b e))
       ∙ ap (λ (l : List (Solution ℕ)). old ++ merges nat_eq μ l) (sym rows_more)
 
-  -- a right row that takes the left row away
+  -- a right row that removes the left row
   differs : Solution ℕ → Bool
   differs = λ ξ. not (is_compatible nat_eq μ ξ) || not (share μ ξ)
 
@@ -57,7 +57,7 @@ module _ (rows : List (Solution ℕ)) (places : List ℕ) (i : ℕ) (μ ν : Sol
       ∙ list_all_at (λ (p : ℕ). not (is_compatible nat_eq μ (get_or rows p [])) || not (share μ (get_or rows p []))) places i 0 low
       (ap (λ (x : Solution ℕ). not (is_compatible nat_eq μ x) || not (share μ x)) is_row ∙ (λ j. not ((sym e ∙ h) j) || not ((sym f ∙ k) j))))
 
-  -- what the condition keeps of this turn's merge
+  -- what the condition keeps of this iteration's merge
   pub kept-turn : (keeps : Solution ℕ → Bool) (old made made' : List (Solution ℕ)) (b k : Bool) → b ≡ is_compatible nat_eq μ ν
       → (b ≡ true → k ≡ keeps (merge μ ν))
       → made ≡ old ++ filter keeps (merges nat_eq μ (rows_at rows (take i places)))
@@ -112,7 +112,7 @@ pub merged_passes : (p : ℕ → Bool) (rows : List (Solution ℕ)) (i : ℕ) (�
     → row ≡ merged → merged ≡ merge μ ν → passes p row ≡ true
 merged_passes p rows i μ ν row merged h k at e f = ap (passes p) (e ∙ f) ∙ passes-merge p μ ν h (row_passes p rows i ν k at)
 
--- one left row more
+-- one more left row
 module _ (gives : Solution ℕ → List (Solution ℕ)) (left : List (Solution ℕ)) where
   pub left-turn : (from i : ℕ) (μ : Solution ℕ) (made made' : List (Solution ℕ)) → from ≤ i → i < length left → slice_get left i ≡ Some μ
       → IsSameBag made (flat_map gives (take (i - from) (drop from left)))
@@ -133,7 +133,7 @@ module _ (gives : Solution ℕ → List (Solution ℕ)) (left : List (Solution �
       (IsPermutation-trans made' (made ++ gives μ) (flat_map gives (take (i - from) (drop from left)) ++ gives μ) k
       (IsPermutation-append made (flat_map gives (take (i - from) (drop from left))) (gives μ) (gives μ) h (IsPermutation-refl (gives μ))))
 
-  -- all of a piece
+  -- all rows of a piece
   pub left-piece : (from i to : ℕ) (made : List (Solution ℕ)) → i ≡ to → IsSameBag made (flat_map gives (take (i - from) (drop from left)))
       → IsSameBag made (joined (take (to - from) (drop from (map gives left))))
   left-piece from i to made e h =

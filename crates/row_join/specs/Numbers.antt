@@ -1,4 +1,4 @@
--- What is true of every number in rows (our own).
+-- A test of every number in rows. A choice of this project (not fixed by the standard).
 use Rattle.std.specs.Prelude.{ℕ, Bool, true, List, Option, None, Some}
 use Rattle.std.specs.List.{list_all}
 use Rattle.algebra_model.specs.Solution.{Solution}
@@ -11,6 +11,6 @@ cell_passes p (Some n) = p n
 abbrev pub passes : (ℕ → Bool) → Solution ℕ → Bool
 passes p μ = list_all (cell_passes p) μ
 
--- each number in the rows does
+-- each number in the rows passes the test
 abbrev pub all_pass : (ℕ → Bool) → List (Solution ℕ) → Bool
 all_pass p rows = list_all (passes p) rows

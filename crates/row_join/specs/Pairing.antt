@@ -1,4 +1,5 @@
--- What one row of the left side gives with the right side. Only private clauses cite these words.
+-- What one row of the left side gives with the right side (SPARQL 1.1 Query Language, section
+-- 18.5). Only private clauses use these definitions.
 use Rattle.std.specs.Prelude.{ℕ, Bool, not, ◌||◌, List, [], ◌∷◌, None, get_or, is_some, nat_eq, if◌then◌else◌}
 use Rattle.std.specs.List.{list_all, list_any}
 use Rattle.algebra_model.specs.Solution.{Solution, is_compatible}
@@ -16,6 +17,6 @@ shares_some rows μ = list_any (share μ) rows
 abbrev pub is_apart : List (Solution ℕ) → Solution ℕ → Bool
 is_apart rows μ = list_all (λ ν. not (is_compatible nat_eq μ ν) || not (share μ ν)) rows
 
--- μ where it passes, and else nothing
+-- the list of μ if it passes, and the empty list otherwise
 abbrev pub row_if : Bool → Solution ℕ → List (Solution ℕ)
 row_if b μ = if b then μ ∷ [] else []

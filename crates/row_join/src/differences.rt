@@ -18,17 +18,18 @@ use std::hash::RandomState;
 use std::sync::Wait;
 use std::thread::Threads;
 
-/// Minus: the left rows for which each right row is incompatible or shares no bound variable. The
-/// right side is hashed by variables that both sides bind, and lent to the pieces of the left side. A
-/// left row that shares no bound variable with any right row is tried with none.
+/// Computes Minus: the left rows for which each right row is incompatible or shares no bound
+/// variable. The right side is hashed by variables that both sides bind, and the tasks over the
+/// left side borrow it. A left row that shares no bound variable with any right row is compared
+/// with none.
 ///
 /// # Requires
-/// Both sides have the same width, and `how` keeps its limits.
+/// Both sides have the same width, and `how` is within its limits.
 ///
 /// # Errors
-/// - `WorkerRefused`: the start of a worker was refused. It never comes of one worker, nor where
-///   one piece holds all left rows.
-/// - `Memory`: a growth was refused.
+/// - `WorkerRefused` if a worker thread could not be started. It cannot occur with one worker, or
+///   if one piece holds all left rows.
+/// - `Memory` if an allocation fails.
 pub fn minus<R: Threads + Wait, G: Gate + Sync>(
     rt: &R,
     alloc: Global,
@@ -52,7 +53,7 @@ pub fn minus<R: Threads + Wait, G: Gate + Sync>(
     Ok(rows)
 }
 
-/// A left row gives itself, where no right row takes it away.
+/// Keeps a left row unless a right row removes it.
 struct Remainder {}
 
 impl Pairing for Remainder {
@@ -78,11 +79,11 @@ impl Pairing for Remainder {
     }
 }
 
-/// Whether no right row takes the left row away. None does, and none is tried, where it shares no bound
-/// variable with any of them.
+/// Returns whether no right row removes the left row. A left row that shares no bound variable with
+/// any right row is kept without a comparison.
 ///
 /// # Errors
-/// `AllocError`: a growth was refused.
+/// `AllocError` if an allocation fails.
 fn stays(row: &[Option<u64>], right: &RightSide, numbers: &mut Vec<u64>) -> Result<bool, AllocError>
     requires wide { length row.now ≡ right.now.rows.now.width }
     ensures value { IfOk result (λ answer. answer ≡ is_apart right.now.rows.now.rows row.now) }
@@ -94,8 +95,8 @@ fn stays(row: &[Option<u64>], right: &RightSide, numbers: &mut Vec<u64>) -> Resu
     Ok(is_apart(row, right.rows, tried.first) && is_apart(row, right.rows, tried.second))
 }
 
-/// Whether each of the rows at these places is incompatible with the row, or shares no variable
-/// with it that both bind.
+/// Returns whether each of the rows at these places is incompatible with the row, or shares no
+/// bound variable with it.
 fn is_apart(row: &[Option<u64>], right: &Rows, places: &[usize]) -> bool
     requires row_wide { length row.now ≡ right.now.width }
     requires inside { All (λ i. i < length right.now.rows) places.now }

@@ -1,4 +1,4 @@
-//! Places by their numbers: what a hashed table holds.
+//! Groups of places under keys of numbers: the contents of a hash table.
 ghost use Rattle.std.specs.Prelude.{◌≡◌, ◌<◌, ◌++◌, ◌∷◌, [], ℕ, List, OnOk, length, map, set, get_or};
 ghost use Rattle.std.specs.Cmp.Lexicographic.{pointwise};
 ghost use Rattle.std.specs.Prelude.{nat_eq};
@@ -9,7 +9,7 @@ use std::alloc::{AllocError, Global};
 use std::hash::RandomState;
 use std::marker::Model;
 
-/// Lists of places, each under its numbers.
+/// Lists of places, each under its key.
 #[derive(Drop)]
 pub(crate) struct Groups {
     keys: IndexSet<Vec<u64>, RandomState>,
@@ -27,7 +27,7 @@ impl Model for Groups {
     ghost invariant = { λ g. length g.keys.keys ≡ length g.groups.items };
 }
 
-/// Adds a place behind those of one group.
+/// Appends a place to one group.
 fn push_at(groups: &mut Vec<Vec<usize>>, at: usize, place: usize) -> Result<(), AllocError>
     requires within { at < length groups.old.items }
     ensures added { OnOk result (map (λ l. l.items) groups.new.items
@@ -40,7 +40,7 @@ fn push_at(groups: &mut Vec<Vec<usize>>, at: usize, place: usize) -> Result<(), 
 }
 
 impl Groups {
-    /// No place yet; takes no memory.
+    /// Creates a table without places. Allocates nothing.
     pub(crate) fn new(alloc: Global, state: RandomState) -> Groups
         ensures empty { (numbers : List ℕ) → group_of result numbers ≡ [] }
     {
@@ -50,7 +50,7 @@ impl Groups {
         }
     }
 
-    /// The places under these numbers, in the order in which they were added.
+    /// Returns the places under a key, in the order in which they were added.
     pub(crate) fn places(&self, numbers: &Vec<u64>) -> &[usize]
         ensures value { result.now ≡ group_of self.now numbers.now.items }
     {
@@ -60,10 +60,10 @@ impl Groups {
         }
     }
 
-    /// Adds a place under these numbers.
+    /// Adds a place under a key.
     ///
     /// # Errors
-    /// `AllocError`: a growth was refused.
+    /// `AllocError` if an allocation fails.
     pub(crate) fn add(
         &mut self,
         alloc: Global,

@@ -17,16 +17,16 @@ use std::hash::RandomState;
 use std::sync::Wait;
 use std::thread::Threads;
 
-/// Join: the merge of each compatible pair, once for each pair. The right side is hashed by
-/// variables that both sides bind, and lent to the pieces of the left side.
+/// Computes Join: the merge of each compatible pair, once for each pair. The right side is hashed
+/// by variables that both sides bind, and the tasks over the left side borrow it.
 ///
 /// # Requires
-/// Both sides have the same width, and `how` keeps its limits.
+/// Both sides have the same width, and `how` is within its limits.
 ///
 /// # Errors
-/// - `WorkerRefused`: the start of a worker was refused. It never comes of one worker, nor where
-///   one piece holds all left rows.
-/// - `Memory`: a growth was refused.
+/// - `WorkerRefused` if a worker thread could not be started. It cannot occur with one worker, or
+///   if one piece holds all left rows.
+/// - `Memory` if an allocation fails.
 pub fn join<R: Threads + Wait, G: Gate + Sync>(
     rt: &R,
     alloc: Global,
@@ -50,7 +50,7 @@ pub fn join<R: Threads + Wait, G: Gate + Sync>(
     Ok(rows)
 }
 
-/// A left row gives its merges.
+/// Pairs a left row with the right side: its merges.
 struct Merges {}
 
 impl Pairing for Merges {
@@ -76,7 +76,7 @@ impl Pairing for Merges {
     }
 }
 
-/// Adds the merges of a row with those at these places that are compatible with it.
+/// Adds the merges of a row with those right rows at these places that are compatible with it.
 fn add_merges(
     row: &[Option<u64>],
     right: &Rows,

@@ -1,17 +1,18 @@
-//! Which variables make the key of two lists of rows.
+//! The choice of the variables that make the join key of two lists of rows.
 ghost use Rattle.std.specs.Prelude.{◌≡◌, ◌<◌, All, IfOk, get_or, is_none, length, filter, None};
 ghost use Rattle.row_join.specs.Pairing.{binds};
 
 use row_core::Rows;
 use std::alloc::{AllocError, Global};
 
-/// How many pairs the open rows of a key's variable may cost, for each row of both sides. So the time
-/// stays linear, and a variable that one row in thousands leaves unbound is still in the key. Sixteen is
-/// a guess at how many pairs are tried in the time in which one row is put under its key: a pair is a
-/// walk over two short rows, and a key takes a list, a hash and a place in a table.
+/// The number of pairs that the open rows of a key variable may add, for each row of both sides. A
+/// row is open if it leaves the variable unbound. The limit keeps the time linear, and a variable
+/// that one row in thousands leaves unbound still is in the key. Sixteen estimates how many pairs
+/// are compared in the time that one row takes to enter the table. A pair costs a walk over two
+/// short rows; an entry costs a list, a hash and a place in a table.
 const PAIRS_A_ROW: usize = 16;
 
-/// Whether some row binds the variable.
+/// Returns whether some row binds the variable.
 pub(crate) fn is_ever_bound(rows: &Rows, variable: usize) -> bool
     requires below { variable < rows.now.width }
     ensures value { result ≡ binds rows.now.rows variable }
@@ -24,7 +25,7 @@ pub(crate) fn is_ever_bound(rows: &Rows, variable: usize) -> bool
     false
 }
 
-/// How many rows leave the variable unbound.
+/// Returns the number of rows that leave the variable unbound.
 fn open_rows(rows: &Rows, variable: usize) -> usize
     requires below { variable < rows.now.width }
     ensures count { result ≡ length (filter (λ μ. is_none (get_or μ variable None)) rows.now.rows) }
@@ -38,8 +39,8 @@ fn open_rows(rows: &Rows, variable: usize) -> usize
     open
 }
 
-/// How many pairs have to be tried, with the variable in the key, because a row leaves it unbound:
-/// such a row is tried with all rows of the other side.
+/// Returns the number of pairs that are compared without a key if the variable is in the key. A row
+/// that leaves it unbound is compared with all rows of the other side.
 fn open_pairs(left: &Rows, right: &Rows, variable: usize) -> usize
     requires same_width { left.now.width ≡ right.now.width }
     requires below { variable < left.now.width }
@@ -49,9 +50,9 @@ fn open_pairs(left: &Rows, right: &Rows, variable: usize) -> usize
     of_left.saturating_add(of_right)
 }
 
-/// The variables that make the key: of those that some row of each side binds, the ones that no row or
-/// few rows leave unbound, so that few pairs are tried for want of a key; where there are none of these,
-/// all that some row of each side binds; and no variable where the sides share none.
+/// Returns the variables of the join key. Candidates are the variables that some row of each side
+/// binds. The key has the candidates that add few pairs; if there are none, it has all candidates.
+/// It is empty if the sides share no variable.
 pub(crate) fn key_of(alloc: Global, left: &Rows, right: &Rows) -> Result<Vec<usize>, AllocError>
     requires same_width { left.now.width ≡ right.now.width }
     ensures below { IfOk result (λ key. All (λ v. v < left.now.width) key.items) }

@@ -1,4 +1,4 @@
-//! The rows of a list by the numbers that they bind some variables to.
+//! An index of rows by the numbers that they bind some variables to.
 ghost use Rattle.std.specs.Prelude.{◌≡◌, ◌<◌, ℕ, IfOk, IsTrue, All, length, map, Some};
 ghost use Rattle.algebra_model.specs.Keys.{is_keyed};
 ghost use Rattle.algebra_model.specs.RowOrder.{cells};
@@ -10,10 +10,10 @@ use std::alloc::{AllocError, Global};
 use std::hash::RandomState;
 use std::marker::Model;
 
-/// The places of rows by a key, which is a list of variables: the places of those that bind all of
-/// its variables under the numbers that they bind them to, and apart the places of the others.
+/// The places of rows by a key, which is a list of variables. A row that binds all of them is in
+/// the group of its numbers. The places of the other rows are in a list of their own.
 ///
-/// No unbound variable is ever compared as if it were a number. The look-up is hashed.
+/// An unbound variable is never compared as if it were a number. The groups are in a hash table.
 #[derive(Drop)]
 pub struct Keyed {
     groups: Groups,
@@ -29,14 +29,15 @@ impl Model for Keyed {
 }
 
 impl Keyed {
-    /// The places of the rows by the values of the key's variables; an empty key puts all rows
-    /// under no numbers. Strangers choose the rows, so the hash state comes from the runtime.
+    /// Builds the index of the rows by the values of the key's variables. An empty key puts all
+    /// rows into one group. The input chooses the rows, so the runtime supplies a random hash
+    /// state.
     ///
     /// # Requires
     /// Each variable of the key is below the width of the rows.
     ///
     /// # Errors
-    /// `AllocError`: a growth was refused.
+    /// `AllocError` if an allocation fails.
     pub fn build(
         alloc: Global,
         state: RandomState,
@@ -59,15 +60,15 @@ impl Keyed {
         Ok(Keyed { groups, apart })
     }
 
-    /// The places of the rows that bind the key's variables to these numbers, in their order,
-    /// rising. There are none where there are not as many numbers as key variables.
+    /// Returns the places of the rows that bind the key's variables to these numbers, in ascending
+    /// order. The slice is empty if the count of numbers differs from that of the key's variables.
     pub fn places(&self, numbers: &Vec<u64>) -> &[usize]
         ensures value { result.now ≡ group_of self.now.keyed numbers.now.items }
     {
         self.groups.places(numbers)
     }
 
-    /// The places of the rows that leave a variable of the key unbound, rising.
+    /// Returns the places of the rows that leave a variable of the key unbound, in ascending order.
     pub fn apart(&self) -> &[usize]
         ensures value { result.now ≡ self.now.apart }
     {
@@ -75,11 +76,12 @@ impl Keyed {
     }
 }
 
-/// Reads the numbers that a row binds the key's variables to, in place of those that `numbers` held,
-/// and answers whether it binds them all; where it does not, what `numbers` then holds is left open.
+/// Replaces the contents of `numbers` with the numbers that a row binds the key's variables to, and
+/// returns whether the row binds them all. If it does not, the contents of `numbers` are
+/// unspecified.
 ///
 /// # Errors
-/// `AllocError`: a growth was refused. What `numbers` then holds is left open.
+/// `AllocError` if an allocation fails. The contents of `numbers` are then unspecified.
 pub(crate) fn read_key(
     row: &[Option<u64>],
     key: &[usize],

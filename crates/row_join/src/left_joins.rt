@@ -24,32 +24,33 @@ pub trait RowTest {
     ghost use Rattle.algebra_model.specs.Solution.{Solution};
     ghost use Rattle.row_join.specs.Numbers.{passes};
 
-    /// The numbers that the test knows, as those that stand for a term.
+    /// The numbers that the test accepts in rows, such as those that number a term.
     ghost knows: { Self → ℕ → Bool };
 
-    /// Whether the condition is true of the row; an error is not true.
+    /// Whether the condition is true of the row. An error counts as not true.
     ghost keeps: { Self → Solution ℕ → Bool };
 
-    /// Whether the condition is true of a row of numbers that the test knows.
+    /// Returns whether the condition is true of a row whose numbers the test accepts.
     ///
     /// # Errors
-    /// `AllocError`: a growth was refused.
+    /// `AllocError` if an allocation fails.
     fn keeps(&self, alloc: Global, row: &[Option<u64>]) -> Result<bool, AllocError>
         requires known { passes (knows self.now) row.now ≡ true }
         ensures value { IfOk result (λ answer. answer ≡ keeps self.now row.now) };
 }
 
-/// LeftJoin: the merges of compatible pairs of which the condition is true, and each left row that
-/// has none. The right side is hashed by variables that both sides bind, and lent to the pieces of
-/// the left side.
+/// Computes LeftJoin: the merges of compatible pairs for which the condition is true, and each left
+/// row that has no such merge. The right side is hashed by variables that both sides bind, and the
+/// tasks over the left side borrow it.
 ///
 /// # Requires
-/// Both sides have the same width, the condition knows the numbers of both, and `how` keeps its limits.
+/// Both sides have the same width, the condition accepts the numbers of both, and `how` is within
+/// its limits.
 ///
 /// # Errors
-/// - `WorkerRefused`: the start of a worker was refused. It never comes of one worker, nor where
-///   one piece holds all left rows.
-/// - `Memory`: a growth was refused.
+/// - `WorkerRefused` if a worker thread could not be started. It cannot occur with one worker, or
+///   if one piece holds all left rows.
+/// - `Memory` if an allocation fails.
 pub fn left_join<R: Threads + Wait, T: RowTest + Sync, G: Gate + Sync>(
     rt: &R,
     alloc: Global,
@@ -77,7 +78,8 @@ pub fn left_join<R: Threads + Wait, T: RowTest + Sync, G: Gate + Sync>(
     Ok(rows)
 }
 
-/// A left row gives its merges of which the condition is true, or itself where there is none.
+/// Pairs a left row with the right side: its merges for which the condition is true, or the row
+/// itself if there are none.
 #[derive(Drop)]
 struct MergesOrItself<'t, T> {
     test: &'t T,
@@ -118,8 +120,8 @@ impl<'t, T: RowTest> Pairing for MergesOrItself<'t, T> {
     }
 }
 
-/// Adds the merges of a row with those at these places of which the condition is true, and answers
-/// whether there are none.
+/// Adds the merges of a row with the right rows at these places for which the condition is true.
+/// Returns whether there are none.
 fn add_kept<T: RowTest>(
     alloc: Global,
     test: &T,

@@ -1,4 +1,4 @@
-//! The left side of a join, run row by row over pieces.
+//! The loop over the left rows of a join, in pieces.
 ghost use Rattle.std.specs.Prelude.{◌≡◌, ◌≤◌, ◌++◌, ℕ, Bool, true, List, OnOk, IfErr, IfOk, length, flat_map};
 ghost use Rattle.algebra_model.specs.Bag.{IsSameBag};
 ghost use Rattle.algebra_model.specs.Solution.{Solution};
@@ -14,7 +14,7 @@ use std::alloc::{AllocError, Global};
 use std::sync::Wait;
 use std::thread::Threads;
 
-/// Lists that are filled anew for each left row, so that no row takes memory of its own.
+/// Lists that are reused for each left row, so that a row needs no allocations for them.
 #[derive(Drop)]
 pub(crate) struct Buffers {
     pub(crate) numbers: Vec<u64>,
@@ -23,13 +23,13 @@ pub(crate) struct Buffers {
 
 /// What one left row gives with the right rows.
 pub(crate) trait Pairing {
-    /// The numbers that may stand in the rows.
+    /// The numbers that may occur in the rows.
     ghost knows: { Self → ℕ → Bool };
 
     /// The rows that a left row gives with the right rows.
     ghost gives: { Self → List (Solution ℕ) → Solution ℕ → List (Solution ℕ) };
 
-    /// Adds what the left row gives behind the rows of `made`.
+    /// Appends to `made` what the left row gives.
     fn add(
         &self,
         alloc: Global,
@@ -86,12 +86,13 @@ impl<'w, 'r, P: Pairing> RowWork for LeftRows<'w, 'r, P> {
     }
 }
 
-/// What all left rows give with the right side, cut into pieces as `how` says.
+/// Returns what all left rows give with the right side. The left rows are cut into pieces as `how`
+/// says.
 ///
 /// # Errors
-/// - `WorkerRefused`: the start of a worker was refused. It never comes of one worker, nor where
-///   one piece holds all left rows.
-/// - `Memory`: a growth was refused.
+/// - `WorkerRefused` if a worker thread could not be started. It cannot occur with one worker, or
+///   if one piece holds all left rows.
+/// - `Memory` if an allocation fails.
 pub(crate) fn pair_rows<R: Threads + Wait, P: Pairing + Sync, G: Gate + Sync>(
     rt: &R,
     alloc: Global,

@@ -1,31 +1,36 @@
-//! Join, LeftJoin and Minus over rows of numbers, hashed by a key and run over pieces of the left rows.
+//! Join, LeftJoin and Minus over rows of numbers. The right side is hashed by a key, and the left
+//! rows are split into pieces.
 //!
-//! Two lists of rows of one width go in, with a hash state, the count of workers and the rows a piece;
-//! the rows of the operator come out, as a bag.
+//! Each call takes two lists of rows of one width, a hash state, the number of workers and the rows
+//! of a piece. It returns the rows of the operator, as a multiset.
 //!
-//! What the crate above uses: the rows of [`join`], [`left_join`] and [`minus`] are the bag that the
-//! model's operator gives of the two lists (clause `rows`), they have the width of the left rows
-//! (`width`), and what is true of every number in the given rows is true of every number in theirs
-//! (`numbers`). The condition of a left join is a [`RowTest`]. [`Keyed`] tells the places of the rows
-//! that bind some variables to given numbers, and of those that leave one of them unbound.
+//! Callers rely on three clauses of [`join`], [`left_join`] and [`minus`]:
 //!
-//! Where some variable is bound in all rows of both sides but a few, the time is linear in the rows that
-//! go in, the pairs with one key and the rows that come out. A join or left join of sides that share no
-//! variable is a cross product; in a minus, no pair of such sides is looked at.
+//! - `rows`: the rows are the multiset that the model's operator gives for the two lists.
+//! - `width`: they have the width of the left rows.
+//! - `numbers`: what is true of every number in the given rows is true of every number in the
+//!   result.
+//!
+//! A [`RowTest`] is the condition of a left join. [`Keyed`] finds the places of the rows that bind
+//! some variables to given numbers, and of those that leave one of them unbound.
+//!
+//! If almost all rows of both sides bind a common variable, the time is linear. It is relative to
+//! the number of given rows, of pairs with equal keys, and of rows in the result. A join or left
+//! join of sides that share no variable is a cross product. Minus compares no pair of such sides.
 //!
 //! Standard: SPARQL 1.1 Query Language, section 18.5.
 //!
-//! To read in this order: `keyed` (over `groups`, the hashed table), `key_choice` (which variables make
-//! the key), `right_side` (the keyed rows, and what a left row is tried with), `left_rows` (the loop over
-//! the left rows, in pieces), `joins`, `left_joins`, `differences`.
+//! Reading order: `keyed` (over `groups`, the hash table), `key_choice` (the variables of the key),
+//! `right_side` (the keyed rows, and the candidates for a left row), `left_rows` (the loop over the
+//! left rows, in pieces), `joins`, `left_joins`, `differences`.
 //!
 //! ```text
 //! join((?s: 1), (?s: 2) ; (?s: 1, ?o: 7), (?o: 9))
 //!     = (?s: 1, ?o: 7), (?s: 1, ?o: 9), (?s: 2, ?o: 9)
 //! ```
-//! The test `unbound_meets_everything` of row_tests runs one like it.
+//! The tests are `joins` of the crate row_tests; `unbound_meets_everything` runs a similar example.
 //!
-//! Not promised: the order of the rows, which variables make the key, how much memory is taken.
+//! Not guaranteed: the order of the rows, which variables make the key, how much memory is taken.
 #![tactic(auto)]
 
 mod differences;

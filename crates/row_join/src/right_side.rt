@@ -1,4 +1,4 @@
-//! The right side of a join: rows that are keyed once, and lent to all pieces of the left side.
+//! The right side of a join: rows that are indexed once. All pieces of the left side borrow it.
 ghost use Rattle.std.specs.Prelude.{◌≡◌, ◌<◌, ◌++◌, ℕ, All, IfOk, None, filter, get_or, is_some, length, nat_eq};
 ghost use Rattle.std.specs.List.{range_with_len};
 ghost use Rattle.algebra_model.specs.Bag.{IsSameBag};
@@ -12,8 +12,8 @@ use row_core::{Rows, shares};
 use std::alloc::{AllocError, Global};
 use std::hash::RandomState;
 
-/// The rows of the right side, their places by a key, all their places, and a row that binds what some
-/// of them binds.
+/// The rows of the right side, their places by a key, all their places, and the variables that some
+/// row binds.
 #[derive(Drop)]
 pub(crate) struct RightSide<'r> {
     pub(crate) rows: &'r Rows,
@@ -29,14 +29,14 @@ pub(crate) struct RightSide<'r> {
         → is_some (get_or bound.items v None) ≡ binds rows.now.rows v },
 }
 
-/// The places of right rows that a left row is tried with, in two lists.
+/// The places of the right rows that are candidates for a left row, in two lists.
 #[derive(Drop)]
 pub(crate) struct Tried<'k> {
     pub(crate) first: &'k [usize],
     pub(crate) second: &'k [usize],
 }
 
-/// The places of so many rows.
+/// Returns the places of `count` rows.
 fn places_of(alloc: Global, count: usize) -> Result<Vec<usize>, AllocError>
     ensures places { IfOk result (λ places. places.items ≡ range_with_len 0 count) }
 {
@@ -47,7 +47,7 @@ fn places_of(alloc: Global, count: usize) -> Result<Vec<usize>, AllocError>
     Ok(places)
 }
 
-/// A row that binds the variables that some of the rows binds, each to 0.
+/// Returns a row that binds each variable that some of the rows binds, to 0.
 fn bound_by_some(alloc: Global, rows: &Rows) -> Result<Vec<Option<u64>>, AllocError>
     ensures wide { IfOk result (λ row. length row.items ≡ rows.now.width) }
     ensures bound { IfOk result (λ row. (v : ℕ) → v < rows.now.width
@@ -61,10 +61,10 @@ fn bound_by_some(alloc: Global, rows: &Rows) -> Result<Vec<Option<u64>>, AllocEr
 }
 
 impl<'r> RightSide<'r> {
-    /// The rows by the values of variables that both sides bind.
+    /// Indexes the rows by the values of variables that both sides bind.
     ///
     /// # Errors
-    /// `AllocError`: a growth was refused.
+    /// `AllocError` if an allocation fails.
     pub(crate) fn build(
         alloc: Global,
         state: RandomState,
@@ -87,7 +87,7 @@ impl<'r> RightSide<'r> {
         })
     }
 
-    /// Whether the left row shares a bound variable with some right row.
+    /// Returns whether the left row shares a bound variable with some right row.
     pub(crate) fn shares(&self, row: &[Option<u64>]) -> bool
         requires wide { length row.now ≡ self.now.rows.now.width }
         ensures value { result ≡ shares_some self.now.rows.now.rows row.now }
@@ -95,12 +95,12 @@ impl<'r> RightSide<'r> {
         shares(row, &self.bound)
     }
 
-    /// The right rows that a left row is tried with: where it binds all variables of the key, those
-    /// with its numbers and those that have no key, and else all. Each other row is incompatible
-    /// with it.
+    /// Returns the places of the right rows that are candidates for a left row. If the left row
+    /// binds all variables of the key, these are the rows with its numbers and the rows without a
+    /// key. Otherwise they are all rows. Each other row is incompatible with the left row.
     ///
     /// # Errors
-    /// `AllocError`: a growth was refused.
+    /// `AllocError` if an allocation fails.
     pub(crate) fn tried(
         &self,
         row: &[Option<u64>],

@@ -48,7 +48,7 @@ module _ (dict : List Term) (apart : IsReading (length dict) (term_at dict)) whe
       by true e = ap (λ l. read_triple (term_at dict) (triple_of q) ∷ l) e
       by false e = e
 
-  -- their numbers stand for terms
+  -- their numbers are numbers of terms
   pub triples-below : (g : Option ℕ) (index : List NumQuad) → AreBelow (length dict) index → Each (EachOfTriple (λ n. n < length dict)) (triples_of g index)
   triples-below g [] h = tt
   triples-below g (q ∷ index) h =

@@ -1,4 +1,4 @@
--- The quads that a scan gives, as triples, and the triples of a graph, of which none stands twice.
+-- The quads that a scan gives, as triples, and the triples of a graph, which are distinct.
 use Rattle.std.proofs.Common.{◌≡◌, ℕ, suc, Bool, true, false, cond, ◌&&◌, ◌||◌, List, [], ◌∷◌, map, filter, filter_map, Option, None, Some, nat_eq, IsPermutation, Contains, refl, sym, ap, ◌∙◌, subst, ⊎_elim, arith}
 use Rattle.std.specs.List.{list_any}
 use Rattle.std.proofs.lemmas.Bool.{cases_Bool, false≢true, and_parts}
@@ -62,7 +62,7 @@ has-agrees t m g =
     (λ i. (at-agree (image 0 m (place_term t.subject)) g.s i && at-agree (image 0 m (place_term t.predicate)) g.p i) && at-agree (image 0 m (place_term t.object)) g.o i)
     ∙ and-right (is_at (image 0 m (place_term t.subject)) g.s) (is_at (image 0 m (place_term t.predicate)) g.p) (is_at (image 0 m (place_term t.object)) g.o)
 
--- a scan with what a row binds gives all that extends the row
+-- a scan with what a row binds gives everything that extends the row
 pub scan-extends : (g : Option ℕ) (quads result : List NumQuad) (t : Step) (m : Solution ℕ) (s p o : Option ℕ)
     → s ≡ image 0 m (place_term t.subject) → p ≡ image 0 m (place_term t.predicate) → o ≡ image 0 m (place_term t.object)
     → IsPermutation (filter (agrees g s p o) quads) result
@@ -74,7 +74,7 @@ scan-extends g quads result t m s p o es ep eo h =
     extend_by-scan nat_eq Decides-eqb 0 (step_pattern t) m (has s p o) (λ x e. test x ∙ e) (map triple_of result) (triples_of g quads)
     (subst (λ (l : List (Triple ℕ)). IsPermutation (map triple_of result) l) (triples-scan g s p o quads) back)
 
--- no triple of a graph stands twice
+-- no triple of a graph occurs twice
 
 same-quad : (g : Option ℕ) (q x : NumQuad) → is_of g q ≡ true → is_of g x ≡ true → same_triple_by nat_eq (triple_of q) (triple_of x) ≡ true → quad_eq q x ≡ true
 same-quad g q x a b e =

@@ -1,4 +1,4 @@
--- What the turns of a search add up to.
+-- The sum of the iterations of a search.
 use Rattle.std.proofs.Common.{◌≡◌, ℕ, zero, suc, ◌+◌, ◌<◌, List, [], ◌∷◌, ◌++◌, length, get_or, set, take, drop, map, flat_map, filter_map, replicate, Option, None, Some, nat_eq, IsPermutation, Contains, refl, sym, ap, ◌∙◌, subst, append-nil, append_assoc}
 use Rattle.std.proofs.lemmas.Bool.Decides.{Decides-eqb}
 use Rattle.std.proofs.lemmas.List.{map-append, map_more, take-map, drop-map, set-get_or}
@@ -69,7 +69,7 @@ module _ (w : ℕ) (G : List (Triple ℕ)) (t : Step) (rest : List Step) (m : So
   pub over-none : (g : Triple ℕ) → extend_by nat_eq 0 (step_pattern t) m g ≡ None → solutions_over w G t rest m (g ∷ []) ≡ []
   over-none g e = ap (λ (o : Option (Solution ℕ)). map (take w) (flat_map (solve nat_eq 0 (map step_pattern rest) G) (cons_option o []))) e
 
-  -- the triples that a scan gives serve for all
+  -- the triples that a scan gives suffice
   pub over-scan : (S : List (Triple ℕ)) → IsSameBag (filter_map (extend_by nat_eq 0 (step_pattern t) m) S) (filter_map (extend_by nat_eq 0 (step_pattern t) m) G)
       → IsSameBag (solutions_over w G t rest m S) (solutions_from w G (t ∷ rest) m)
   over-scan S h =
@@ -77,7 +77,7 @@ module _ (w : ℕ) (G : List (Triple ℕ)) (t : Step) (rest : List Step) (m : So
       let F = solve nat_eq 0 (map step_pattern rest) G in
       IsPermutation-map (take w) (flat_map F (filter_map E S)) (flat_map F (filter_map E G)) (IsPermutation-flat_map (same_solution nat_eq) (solution_decides nat_eq Decides-eqb) F (filter_map E S) (filter_map E G) h)
 
--- rows are added to rows, in whatever order
+-- rows are added to rows, in any order
 pub added : {X : Type 0} (first found more A B C : List X) → IsSameBag found (first ++ A) → IsSameBag more (found ++ B) → C ≡ A ++ B → IsSameBag more (first ++ C)
 added first found more A B C h k e =
     subst (λ l. IsPermutation more (first ++ l)) (sym e)
@@ -92,7 +92,7 @@ added-none first A e = subst (λ l. IsPermutation first l) (sym (ap (λ l. first
 pub added-is : {X : Type 0} (first more A : List X) → more ≡ first ++ A → IsSameBag more (first ++ A)
 added-is first more A e = subst (λ l. IsPermutation more l) e (IsPermutation-refl more)
 
--- one quad more
+-- with one more quad
 pub quad-turn : (w : ℕ) (G : List (Triple ℕ)) (t : Step) (rest : List Step) (m n : Solution ℕ) (quads : List NumQuad) (i : ℕ) (d : NumQuad) (first found more : List (Solution ℕ)) → i < length quads → n ≡ m
     → IsSameBag found (first ++ solutions_over w G t rest m (map triple_of (take i quads))) → IsSameBag more (found ++ solutions_over w G t rest n (triple_of (get_or quads i d) ∷ []))
     → IsSameBag more (first ++ solutions_over w G t rest m (map triple_of (take (i + 1) quads)))
@@ -133,7 +133,7 @@ module _ (w : ℕ) (G : List (Triple ℕ)) (t : Step) (rest : List Step) (cells 
       (subst (λ (l : List (Solution ℕ)). IsSameBag rows l) (over-joined w G t rest (replicate cells None) quads) h)
       (over-scan w G t rest (replicate cells None) (map triple_of quads) (subst E b same))
 
--- a place gets back what it held
+-- a place is restored
 
 set-set : {X : Type 0} (m : List X) (k : ℕ) (x y : X) → set (set m k x) k y ≡ set m k y
 set-set [] k x y = refl

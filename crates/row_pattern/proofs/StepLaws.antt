@@ -1,5 +1,5 @@
--- The steps of a pattern have its solutions: labels may be numbered as variables, and the triples
--- may be taken in any order.
+-- The steps of a pattern have its solutions: labels may be numbered as variables, and the triple
+-- patterns may be matched in any order.
 use Rattle.std.proofs.Common.{◌≡◌, ℕ, ◌+◌, ◌≤◌, ◌&&◌, ◌||◌, List, [], ◌∷◌, take, map, filter, filter_map, flat_map, replicate, Option, None, Some, nat_eq, IsPermutation, refl, sym, ap, ◌∙◌, subst, arith}
 use Rattle.std.specs.List.{list_any}
 use Rattle.std.specs.Option.{option_eq}
@@ -67,7 +67,7 @@ pub are_below-more : (w n m : ℕ) (P : List (TriplePattern ℕ)) → n ≤ m �
 are_below-more w n m [] e h = tt
 are_below-more w n m (t ∷ P) e h = ((below-more w n m t.s e h.0.0, below-more w n m t.p e h.0.1, below-more w n m t.o e h.0.2), are_below-more w n m P e h.1)
 
--- where no label stands, the count of variables does not matter
+-- without labels, the number of variables does not matter
 
 bind-width : (w : ℕ) (m : Solution ℕ) (a : Place) (x : ℕ) → bind_pattern_term nat_eq w m (place_term a) x ≡ bind_pattern_term nat_eq 0 m (place_term a) x
 bind-width w m (Cell k) x = refl

@@ -1,6 +1,6 @@
--- What the law of this crate says: the rows of a pattern at numbers, read through a dictionary, are
--- the pattern's solutions over the graph of the dataset that the index stands for (SPARQL 1.1 Query
--- Language, section 18.3; RDF 1.1 Concepts, section 4).
+-- The law of this crate: the rows of a pattern of numbers, read through a dictionary, are the
+-- solutions of the pattern of terms. They are solutions over the graph of the dataset that the
+-- index represents (SPARQL 1.1 Query Language, section 18.3; RDF 1.1 Concepts, section 4).
 use Rattle.std.specs.Prelude.{ℕ, ◌+◌, ◌<◌, List, Option, map, length, nat_eq}
 use Rattle.std.specs.Option.{option_map, ForSome}
 use Rattle.rdf_core.specs.declared.term.Term.{Term}
@@ -18,8 +18,8 @@ use Rattle.dict_core.specs.NumQuad.{quads_at, AreBelow}
 use Rattle.dict_core.specs.Equality.{quad_eq}
 use Rattle.row_pattern.specs.Numbered.{triples_of}
 
--- The dictionary tells its numbers apart, and the numbers of the index, of the graph's name and of
--- the pattern's terms stand for terms of it.
+-- The terms of the dictionary are distinct. The numbers of the index, of the graph name and of the
+-- pattern's terms are numbers of its terms.
 abbrev pub RowsReadAsSolutions : Type 0
 RowsReadAsSolutions =
     (dict : List Term) (index : List NumQuad) (g : Option ℕ)

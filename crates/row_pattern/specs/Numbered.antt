@@ -1,5 +1,5 @@
--- Triples and triple patterns of numbers as the algebra has them (SPARQL 1.1 Query Language, section
--- 18.1.5; RDF 1.1 Concepts, section 4).
+-- Triples and triple patterns of numbers, as the algebra defines them (SPARQL 1.1 Query Language,
+-- section 18.1.5; RDF 1.1 Concepts, section 4).
 use Rattle.std.specs.Prelude.{ℕ, Bool, Option, List, map, filter, nat_eq}
 use Rattle.std.specs.Option.{option_eq}
 use Rattle.dict_core.specs.declared.num_quad.NumQuad.{NumQuad}
@@ -13,7 +13,7 @@ pattern_term_of (Variable v) = variable v
 pattern_term_of (Label l) = label l
 pattern_term_of (Term n) = constant n
 
--- the triple pattern that the numbers stand for
+-- the triple pattern of the algebra for a triple pattern of the code
 abbrev pub pattern_of : NumberedTriple → TriplePattern ℕ
 pattern_of t = record {
   s = pattern_term_of t.subject;
@@ -24,7 +24,7 @@ pattern_of t = record {
 abbrev pub triple_of : NumQuad → Triple ℕ
 triple_of q = record { s = q.s; p = q.p; o = q.o }
 
--- the quad is of the graph g, or of the default graph where g is None
+-- the quad is in the graph g, or in the default graph if g is None
 abbrev pub is_of : Option ℕ → NumQuad → Bool
 is_of g q = option_eq nat_eq q.g g
 

@@ -1,5 +1,5 @@
--- The places of a row that stand for a pattern's variables and labels. Only private clauses cite
--- these words.
+-- The places of a row for a pattern's variables and labels. Only private clauses use these
+-- definitions.
 use Rattle.std.specs.Prelude.{ℕ, Option, set}
 use Rattle.algebra_model.specs.Solution.{Solution}
 use Rattle.algebra_model.specs.Bgp.{PatternTerm, variable, constant}

@@ -1,4 +1,4 @@
--- What a search puts back. Only private clauses cite this word.
+-- What a search restores. Only private clauses use this definition.
 use Rattle.std.specs.Prelude.{ℕ}
 use Rattle.algebra_model.specs.Solution.{Solution}
 use Rattle.row_pattern.specs.declared.steps.Step.{Step}

@@ -1,4 +1,5 @@
--- The steps in which a pattern is solved. Only private clauses cite these words.
+-- The steps in which a pattern is solved (SPARQL 1.1 Query Language, section 18.3). Only private
+-- clauses use these definitions.
 use Rattle.std.specs.Prelude.{ℕ, ◌+◌, List, map, take, flat_map, filter_map, nat_eq}
 use Rattle.algebra_model.specs.Solution.{Solution}
 use Rattle.algebra_model.specs.Bgp.{Triple, PatternTerm, TriplePattern, variable, label, constant}
@@ -22,7 +23,7 @@ placed_pattern w t = record { s = placed w t.s; p = placed w t.p; o = placed w t
 abbrev pub solutions_from : ℕ → List (Triple ℕ) → List Step → Solution ℕ → List (Solution ℕ)
 solutions_from w G steps m = map (take w) (solve nat_eq 0 (map step_pattern steps) G m)
 
--- those that take the first step to one of the triples S
+-- the solutions that take the first step to one of the triples S
 abbrev pub solutions_over :
     ℕ → List (Triple ℕ) → Step → List Step → Solution ℕ → List (Triple ℕ) → List (Solution ℕ)
 solutions_over w G step rest m S =

@@ -1,10 +1,10 @@
-//! The law of patterns at numbers, the contract of a function that does nothing: for the layer
-//! above, which reads numbers as terms.
+//! The law that relates patterns of numbers to patterns of terms, as the contract of a function
+//! without effect. The evaluator, which reads numbers as terms, uses it.
 ghost use Rattle.row_pattern.specs.Laws.{RowsReadAsSolutions};
 
-/// Rows that are the solutions of a pattern at numbers over one graph of an index, read through the
-/// dictionary, are its solutions at terms over that graph of the dataset, and each of their numbers
-/// stands for a term.
+/// States that the solutions of a pattern of numbers, read through the dictionary, are the
+/// solutions of the pattern of terms. The index represents the dataset, and both patterns are
+/// matched in the same graph. Each number in the solutions is the number of a term.
 pub fn rows_read_as_solutions()
     ensures law { RowsReadAsSolutions }
 {}

@@ -1,27 +1,32 @@
-//! Basic graph patterns over an index: triple patterns of numbers and one graph go in, rows of
-//! numbers come out.
+//! Basic graph patterns over an index. The input is triple patterns of numbers and one graph; the
+//! output is rows of numbers.
 //!
-//! [`pattern`] gives the bag of the pattern's solutions: each map of its variables and blank labels
-//! to numbers of the graph that makes every triple pattern a triple of the graph, without the labels.
-//! Maps that differ in labels alone give repeats, and these are kept. That is the definition `bgp` of
-//! the algebra's model, which tries every map; the contract of [`pattern`] says that the rows are that
-//! bag, and that their numbers occur in the graph. The law [`rows_read_as_solutions`] says what the rows
-//! are when numbers are read as terms.
+//! [`pattern`] returns the multiset of the pattern's solutions, as `bgp` of the algebra's model
+//! defines it. A solution comes from a map of the variables and blank node labels to numbers of the
+//! graph. The map makes every triple pattern a triple of the graph. The solution is this map
+//! without the labels. Maps that differ in labels only give equal solutions, and all of these are
+//! kept.
 //!
-//! Here the triple patterns are taken in an order that keeps the rows few. The quads that match the
-//! first are cut into pieces for a pool of workers; from each of them a search goes on, triple by
-//! triple and depth first, over one row that is bound and put back, by scans of the index with what
-//! the row binds.
+//! The contract of [`pattern`] states that the rows are that multiset, and that their numbers occur
+//! in the graph. The law [`rows_read_as_solutions`] states what the rows are when numbers are read
+//! as terms.
+//!
+//! The triple patterns are put into an order that keeps the number of intermediate rows small. The
+//! quads that match the first pattern are cut into pieces for a pool of workers. From each of these
+//! quads a depth-first search extends one row, pattern by pattern. It scans the index with the
+//! numbers that the row binds, and restores the row afterwards.
 //!
 //! Standard: SPARQL 1.1 Query Language, section 18.3 (basic graph patterns).
 //!
-//! To read in this order: `numbered` (triple patterns), `cells` (one place of a row), `steps` (the
-//! order), `search` (depth first), `matching` (pieces, and the whole), `laws`.
+//! Reading order: `numbered` (triple patterns), `cells` (one place of a row), `steps` (the order),
+//! `search` (depth first), `matching` (pieces, and the whole), `laws`.
 //!
-//! Example: over the triples 1 2 3 and 1 2 4, the pattern of a variable, 2 and a blank label has the
-//! row 1 twice (`a_label_repeats_a_solution` of row_tests).
+//! Example: over the triples 1 2 3 and 1 2 4, the pattern of a variable, 2 and a blank node label
+//! has the row 1 twice. The test `a_label_repeats_a_solution` runs it. The tests are `patterns` of
+//! the crate row_tests.
 //!
-//! Not promised: the order of the rows, and that the order of the triples is the best one.
+//! Not guaranteed: the order of the rows, and that the order of the triple patterns is the best
+//! one.
 #![tactic(auto)]
 
 mod cells;

@@ -22,8 +22,8 @@ use std::alloc::{AllocError, Global};
 use std::sync::Wait;
 use std::thread::Threads;
 
-/// The quads that match the first step, each of which gives the solutions that extend it over the
-/// rest.
+/// The quads that match the first step. Each gives the solutions that extend it over the other
+/// steps.
 #[derive(Drop)]
 struct Matches<'a> {
     search: Search<'a>,
@@ -65,18 +65,18 @@ impl<'a> RowWork for Matches<'a> {
     }
 }
 
-/// The solutions of a basic graph pattern (SPARQL 1.1 Query Language, section 18.3) over one graph of
-/// an index, None for the default graph: rows of the pattern's variables, in which a solution stands
-/// once for each way to assign its blank labels. The empty pattern has the one row that binds
-/// nothing.
+/// Returns the solutions of a basic graph pattern (SPARQL 1.1 Query Language, section 18.3) in one
+/// graph of an index. None is the default graph. The rows are solutions of the pattern's variables,
+/// and a solution occurs once for each assignment of its blank node labels. The empty pattern has
+/// one row, which binds nothing.
 ///
 /// # Requires
-/// The variables of the triples are below `width`, their blank labels below `labels`, and `how` keeps its
-/// limits.
+/// The variables of the triples are below `width`, their blank node labels below `labels`, and
+/// `how` is within its limits.
 ///
 /// # Errors
-/// - `WorkerRefused`: the start of a worker was refused. It never comes of one worker.
-/// - `Memory`: a growth was refused.
+/// - `WorkerRefused` if a worker thread could not be started. It cannot occur with one worker.
+/// - `Memory` if an allocation fails.
 pub fn pattern<R: Threads + Wait, G: Gate + Sync>(
     rt: &R,
     alloc: Global,
@@ -121,7 +121,7 @@ pub fn pattern<R: Threads + Wait, G: Gate + Sync>(
     }
 }
 
-/// The one solution of no step.
+/// Returns the one solution of the empty pattern.
 fn empty_pattern(alloc: Global, search: &Search<'_>, cells: usize) -> Result<Rows, AllocError>
     requires wide { search.now.width ≤ cells }
     ensures width { IfOk result (λ found. found.width ≡ search.now.width) }
@@ -135,7 +135,8 @@ fn empty_pattern(alloc: Global, search: &Search<'_>, cells: usize) -> Result<Row
     Ok(found)
 }
 
-/// No quad stands twice in an index: what a solution's count rests on. Nothing runs.
+/// Proves that no quad occurs twice in an index, on which the count of a solution depends. It runs
+/// no code.
 #[inline(always)]
 fn quads_stand_once(index: &Index)
     ensures distinct { IsWithoutRepeats quad_eq index.now }

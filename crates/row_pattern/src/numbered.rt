@@ -1,24 +1,24 @@
 //! Triple patterns of numbers.
 
-/// What stands in a triple pattern: a variable or a blank label by its number, or the number of a
-/// term.
+/// One position of a triple pattern: the number of a variable, of a blank node label or of a term.
 #[derive(Clone, Copy, Debug, PartialEq, Eq)]
 pub enum PatternNumber {
     /// A variable of the query.
     Variable(usize),
-    /// A blank label of the pattern: bound as a variable is, but not part of a solution.
+    /// A blank node label of the pattern. It is bound like a variable, but it is not part of a
+    /// solution.
     Label(usize),
     /// The number of a term.
     Term(u64),
 }
 
-/// A triple pattern at numbers (SPARQL 1.1 Query Language, section 18.1.5).
+/// A triple pattern of numbers (SPARQL 1.1 Query Language, section 18.1.5).
 #[derive(Clone, Copy, Debug, PartialEq, Eq)]
 pub struct NumberedTriple {
-    /// What stands at the subject.
+    /// The subject.
     pub subject: PatternNumber,
-    /// What stands at the predicate.
+    /// The predicate.
     pub predicate: PatternNumber,
-    /// What stands at the object.
+    /// The object.
     pub object: PatternNumber,
 }

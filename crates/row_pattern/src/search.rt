@@ -1,4 +1,5 @@
-//! The search for the solutions of a pattern: triple by triple, depth first, over one row.
+//! The depth-first search for the solutions of a pattern, one triple pattern after another, over
+//! one row.
 ghost use Rattle.std.specs.Prelude.{◌≡◌, ◌≤◌, ◌++◌, ◌∷◌, [], nat_eq, length, map, filter_map, OnOk};
 ghost use Rattle.std.specs.Bool.{OnTrue, OnFalse};
 ghost use Rattle.algebra_model.specs.Bag.{IsSameBag};
@@ -14,7 +15,7 @@ use quad_index::Index;
 use row_core::Rows;
 use std::alloc::AllocError;
 
-/// What the places of a step held before they were bound to a quad, and whether each then had the
+/// What the places of a step held before they were bound to a quad, and whether each then has the
 /// quad's number.
 #[derive(Clone, Copy, Debug)]
 pub(crate) struct StepBinding {
@@ -43,7 +44,7 @@ fn bind_step(row: &mut [Option<u64>], step: &Step, quad: &NumQuad) -> StepBindin
     }
 }
 
-/// Puts back what the places of a step held.
+/// Restores what the places of a step held.
 fn unbind_step(row: &mut [Option<u64>], step: &Step, held: StepBinding)
     ensures value { row.new ≡ put_back step.now held row.old }
 {
@@ -52,7 +53,7 @@ fn unbind_step(row: &mut [Option<u64>], step: &Step, held: StepBinding)
     put(row, step.subject, held.subject);
 }
 
-/// A search in one graph of an index, for solutions of so many variables.
+/// A search in one graph of an index, for solutions of `width` variables.
 #[derive(Clone, Copy)]
 pub(crate) struct Search<'a> {
     pub index: &'a Index,
@@ -61,7 +62,7 @@ pub(crate) struct Search<'a> {
 }
 
 impl<'a> Search<'a> {
-    /// The quads that may extend a row by a step: those that agree with what it binds.
+    /// Returns the quads that may extend a row by a step: those that agree with what the row binds.
     pub fn matches(&self, row: &[Option<u64>], step: &Step) -> &'a [NumQuad]
         ensures same { IsSameBag
             (filter_map (extend_by nat_eq 0 (step_pattern step.now) row.now) (map triple_of result.now))
@@ -79,7 +80,8 @@ impl<'a> Search<'a> {
     /// Adds the solutions that extend the row over the steps.
     ///
     /// # Errors
-    /// `AllocError`: a growth was refused. What then was found and is bound is left open.
+    /// `AllocError` if an allocation fails. The solutions found so far and the bindings of the row
+    /// are then unspecified.
     #[cycle(search)]
     pub fn add_solutions(
         &self,
@@ -104,7 +106,8 @@ impl<'a> Search<'a> {
         }
     }
 
-    /// Adds the solutions that extend the row by a step to one of the quads, and over the rest.
+    /// Adds the solutions that extend the row by a step to one of the quads, and over the other
+    /// steps.
     #[cycle(search)]
     pub fn add_matches(
         &self,
@@ -128,7 +131,7 @@ impl<'a> Search<'a> {
         Ok(())
     }
 
-    /// Adds the solutions that extend the row by a step to the quad, and over the rest.
+    /// Adds the solutions that extend the row by a step to the quad, and over the other steps.
     #[cycle(search)]
     fn add_match(
         &self,

@@ -1,5 +1,5 @@
-//! The steps in which a pattern is solved: its triples with labels as further variables, the most
-//! selective first.
+//! The steps of a search: the triple patterns of a pattern with labels as further variables, the
+//! most selective one first.
 ghost use Rattle.std.specs.Prelude.{◌≡◌, ◌+◌, ◌<◌, ◌≤◌, ◌^◌, length, map, IfOk, IsPermutation, replicate, None};
 ghost use Rattle.algebra_model.specs.Solve.{IsBelow, IsTripleBelow, AreBelow};
 ghost use Rattle.row_pattern.specs.Numbered.{pattern_term_of, pattern_of};
@@ -11,20 +11,21 @@ use crate::numbered::{NumberedTriple, PatternNumber};
 use quad_index::Index;
 use std::alloc::{AllocError, Global};
 
-/// How many steps are compared for the next one, so that a long pattern is put in order in linear time.
+/// The number of steps that are compared to choose the next one. The limit keeps the time linear
+/// for a long pattern.
 const COMPARED: usize = 256;
 
-/// A triple pattern whose labels have their places in a row behind the variables.
+/// A triple pattern. In a row, the places of its labels follow those of the variables.
 #[derive(Clone, Copy, Debug)]
 pub(crate) struct Step {
     pub subject: Place,
     pub predicate: Place,
     pub object: Place,
-    /// How many quads of the graph have the numbers that the pattern gives.
+    /// The number of quads of the graph that have the numbers of the pattern.
     pub matches: usize,
 }
 
-/// Where a row has what stands in a pattern.
+/// Returns where a row has the value of one position of a pattern.
 fn place_of(width: usize, number: PatternNumber) -> Place
     requires below { IsBelow width (2 ^ 64) (pattern_term_of number) }
     ensures place { place_term result ≡ placed width (pattern_term_of number) }
@@ -36,7 +37,7 @@ fn place_of(width: usize, number: PatternNumber) -> Place
     }
 }
 
-/// The step of a triple pattern.
+/// Returns the step of a triple pattern.
 fn step_of(index: &Index, graph: Option<u64>, width: usize, triple: &NumberedTriple) -> Step
     requires below { IsTripleBelow width (2 ^ 64) (pattern_of triple.now) }
     ensures step { step_pattern result ≡ placed_pattern width (pattern_of triple.now) }
@@ -61,7 +62,7 @@ fn step_of(index: &Index, graph: Option<u64>, width: usize, triple: &NumberedTri
     }
 }
 
-/// The steps of a pattern, in its own order.
+/// Returns the steps of a pattern, in the order of its triple patterns.
 fn steps_of(
     alloc: Global,
     index: &Index,
@@ -80,9 +81,10 @@ fn steps_of(
     Ok(steps)
 }
 
-/// How many quads a step is guessed to give for one row in which these cells are bound, and 0 where
-/// it leaves nothing to bind. A place whose variable is bound is taken to leave one quad of 65536:
-/// so triples that share a variable with those before them come first, unless another has few quads.
+/// Estimates how many quads a step gives for one row in which these cells are bound. Returns 0 if
+/// the step has nothing to bind. A place whose variable is bound is assumed to select one quad of
+/// 65536. So triple patterns that share a variable with earlier ones come first, unless another one
+/// matches few quads.
 fn cost(step: &Step, row: &[Option<u64>]) -> usize {
     let mut cost = step.matches;
     let mut binds = false;
@@ -96,7 +98,8 @@ fn cost(step: &Step, row: &[Option<u64>]) -> usize {
     if binds { cost.saturating_add(1) } else { 0 }
 }
 
-/// The first of the next steps from a place on that cost least, and among these match fewest quads.
+/// Returns the place of a step of least cost among the next steps from `from` on. Of equal costs,
+/// the step that matches fewest quads is taken.
 fn least(steps: &[Step], from: usize, row: &[Option<u64>]) -> usize
     requires inside { from < length steps.now }
     ensures inside { result < length steps.now }
@@ -115,7 +118,7 @@ fn least(steps: &[Step], from: usize, row: &[Option<u64>]) -> usize
     least
 }
 
-/// A row of so many cells, nothing bound.
+/// Returns a row of `cells` unbound cells.
 pub(crate) fn unbound(alloc: Global, cells: usize) -> Result<Vec<Option<u64>>, AllocError>
     ensures row { IfOk result (λ row. row.items ≡ replicate cells None) }
 {
@@ -124,8 +127,8 @@ pub(crate) fn unbound(alloc: Global, cells: usize) -> Result<Vec<Option<u64>>, A
     Ok(row)
 }
 
-/// The steps of a pattern, each time one of those next that are guessed to cost least once the
-/// steps before it have bound their variables.
+/// Returns the steps of a pattern in the order of the search. Each step is, of those compared, the
+/// one of least estimated cost after the steps before it have bound their variables.
 pub(crate) fn ordered_steps(
     alloc: Global,
     index: &Index,
@@ -149,7 +152,7 @@ pub(crate) fn ordered_steps(
     Ok(steps)
 }
 
-/// Binds the cells of a step, to no matter what.
+/// Marks the cells of a step as bound.
 fn mark(row: &mut [Option<u64>], step: Step) {
     let _ = bind(row, step.subject, 0);
     let _ = bind(row, step.predicate, 0);

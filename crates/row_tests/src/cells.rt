@@ -10,7 +10,7 @@ fn cell(character: char) -> Option<u64> {
     character.to_digit(10).map(u64::from)
 }
 
-/// The rows of a text.
+/// Reads the rows of a text.
 pub(crate) fn pairs(alloc: Global, text: &str) -> Result<Vec<Pair>, AllocError> {
     let mut pairs = Vec::new(alloc);
     let mut first = None;
@@ -24,7 +24,7 @@ pub(crate) fn pairs(alloc: Global, text: &str) -> Result<Vec<Pair>, AllocError> 
     Ok(pairs)
 }
 
-/// How often a row is among the rows.
+/// Returns how often a row is among the rows.
 fn count(rows: &Rows, row: [Option<u64>; 2]) -> usize {
     let mut count: usize = 0;
     for i in 0..rows.len() {
@@ -37,7 +37,7 @@ fn count(rows: &Rows, row: [Option<u64>; 2]) -> usize {
 
 const CELLS: &str = "-0123456789";
 
-/// The number of rows, and the rows of such cells in ascending order.
+/// Prints the number of rows, and the rows of such cells in ascending order.
 pub(crate) fn shown(alloc: Global, rows: &Rows) -> Result<String, AllocError> {
     let mut text = format!(in alloc; "{}:", rows.len())?;
     for a in CELLS.chars() {

@@ -13,7 +13,7 @@ use std::random::RandomSource;
 use std::sync::Wait;
 use std::thread::Threads;
 
-/// The rows of a text.
+/// Reads the rows of a text.
 fn rows_of(alloc: Global, text: &str) -> Result<Rows, AllocError>
     ensures width { IfOk result (λ rows. rows.width ≡ 2) }
 {
@@ -24,7 +24,7 @@ fn rows_of(alloc: Global, text: &str) -> Result<Rows, AllocError>
     Ok(rows)
 }
 
-/// Whether the second variable is bound.
+/// The test whether the second variable is bound.
 #[derive(Drop)]
 struct SecondIsBound {}
 
@@ -50,7 +50,7 @@ enum Operator {
     Minus,
 }
 
-/// The rows of an operator. A left join keeps the joined rows whose second variable is bound.
+/// Returns the rows of an operator. A left join keeps the joined rows whose second variable is bound.
 fn operated<R: Threads + Wait>(
     rt: &R,
     alloc: Global,
@@ -81,7 +81,7 @@ fn operated<R: Threads + Wait>(
     }
 }
 
-/// The rows of an operator as text.
+/// Prints the rows of an operator.
 fn told<R: RandomSource + Threads + Wait>(
     rt: &R,
     alloc: Global,
@@ -101,8 +101,8 @@ fn told<R: RandomSource + Threads + Wait>(
     Ok(shown(alloc, &rows)?)
 }
 
-/// Whether an operator gives these rows, with one worker in one piece and with two in pieces of one row. What it
-/// gives otherwise is printed.
+/// Returns whether an operator gives these rows. It runs with one worker in one piece, and with two workers in
+/// pieces of one row. Prints the rows if they differ.
 fn gives<R: RandomSource + Threads + Wait + Print>(
     rt: &R,
     alloc: Global,
@@ -128,7 +128,7 @@ fn gives<R: RandomSource + Threads + Wait + Print>(
     Ok(true)
 }
 
-/// The name of a case, the left rows, the right rows, and the rows that are expected.
+/// The name of a case, the left rows, the right rows, and the expected rows.
 const JOINS: [[&str; 4]; 3] = [
     [
         "an unbound cell joins with every value",
@@ -193,7 +193,7 @@ fn minus_keeps_what_shares_nothing(rt: HostRuntime) -> Result<(), EvalFault> {
     Ok(())
 }
 
-/// Appends places, each after a blank, and a bar.
+/// Appends places, each after a space, and a bar.
 fn append(text: &mut String, places: &[usize]) -> Result<(), AllocError> {
     for place in places {
         text.push(' ')?;
@@ -213,7 +213,7 @@ fn append_places(
     append(text, keyed.places(&key))
 }
 
-/// The places under the keys 0 and 1 of the first variable, and the places without a key.
+/// Prints the places under the keys 0 and 1 of the first variable, and the places without a key.
 fn places<R: RandomSource>(rt: &R, alloc: Global, rows: &Rows) -> Result<String, AllocError>
     requires width { rows.now.width ≡ 2 }
 {

@@ -68,7 +68,7 @@ fn term(alloc: Global, sample: Sample) -> Result<Term, AllocError> {
     }
 }
 
-/// The dictionary of the terms.
+/// Builds the dictionary of the terms.
 fn dict_of<R: RandomSource>(rt: &R, alloc: Global) -> Result<Dict, AllocError> {
     let Ok(state) = RandomState::new(rt) else {
         return Err(AllocError);
@@ -82,7 +82,7 @@ fn dict_of<R: RandomSource>(rt: &R, alloc: Global) -> Result<Dict, AllocError> {
     Ok(dict)
 }
 
-/// The cell, or unbound if no term has its number.
+/// Returns the cell, or None if no term has its number.
 fn known(cell: Option<u64>, count: u64) -> Option<u64>
     ensures known { EachBound (λ n. n < count) (result ∷ []) }
 {
@@ -92,7 +92,7 @@ fn known(cell: Option<u64>, count: u64) -> Option<u64>
     }
 }
 
-/// Rows of two variables.
+/// Makes rows of two variables.
 fn rows_of(alloc: Global, dict: &Dict, cells: &[Pair]) -> Result<Rows, AllocError>
     ensures known { IfOk result
         (λ rows. Each (EachBound (λ n. n < length dict.now)) rows.rows) }
@@ -105,7 +105,7 @@ fn rows_of(alloc: Global, dict: &Dict, cells: &[Pair]) -> Result<Rows, AllocErro
     Ok(rows)
 }
 
-/// The text of blocks of bytes, with `'` for `"`.
+/// Joins blocks of bytes to a text, with `'` for `"`.
 fn joined(alloc: Global, blocks: &[Vec<u8>]) -> Result<String, AllocError> {
     let mut text = String::new(alloc);
     for block in blocks {
@@ -116,7 +116,7 @@ fn joined(alloc: Global, blocks: &[Vec<u8>]) -> Result<String, AllocError> {
     Ok(text)
 }
 
-/// What of the rows is printed.
+/// The variables and the slice of the rows to print.
 #[derive(Clone, Copy, Debug)]
 struct Selection {
     listed: &'static [usize],
@@ -125,12 +125,12 @@ struct Selection {
     limit: Option<u64>,
 }
 
-/// The names of the variables: `b`, `a` and one that no row has.
+/// Returns the names of the variables: `b`, `a` and one that no row has.
 fn variables(alloc: Global) -> Result<Vec<Text>, AllocError> {
     Ok(vec![in alloc; text(alloc, "b")?, text(alloc, "a")?, text(alloc, "é\"")?]?)
 }
 
-/// The document of rows with the variables `b`, `a` and one that no row has.
+/// Prints the document of rows with the variables `b`, `a` and one that no row has.
 fn document<R: Threads + Wait>(
     rt: &R,
     alloc: Global,
@@ -155,7 +155,7 @@ fn document<R: Threads + Wait>(
     Ok(joined(alloc, &blocks)?)
 }
 
-/// The document of a selection, with `workers` workers and pieces of `rows` rows.
+/// Prints the document of a selection, with `workers` workers and pieces of `rows` rows.
 fn printed<R: RandomSource + Threads + Wait>(
     rt: &R,
     alloc: Global,
@@ -171,7 +171,8 @@ fn printed<R: RandomSource + Threads + Wait>(
     document(rt, alloc, &dict, &all, selection, &How { workers, rows })
 }
 
-/// Whether a document of two workers, with a row a piece, has these variables and bindings. It is printed if not.
+/// Returns whether a document has these variables and bindings, with two workers and pieces of one row. Prints it if
+/// not.
 fn is_printed<R: RandomSource + Threads + Wait + Print>(
     rt: &R,
     alloc: Global,
@@ -189,25 +190,25 @@ fn is_printed<R: RandomSource + Threads + Wait + Print>(
     Ok(given == expected)
 }
 
-/// Listed variables and rows, with the variables and bindings of their documents.
+/// Projected variables and rows, with the variables and bindings of their documents.
 const DOCUMENTS: [(&[usize], &str, &str, &str); 4] = [
-    // Unbound, then blank nodes, IRIs and literals by their bytes; each kind of literal in its form, a repeated row
-    // twice, and control characters by the shortest escapes.
+    // Unbound comes first, then blank nodes, IRIs and literals by their bytes. Each kind of literal has its form. A
+    // repeated row occurs twice, and control characters have the shortest escapes.
     (
         &[0],
         "0- 1- 2- 3- 4- 5- -5 4-",
         "'b'",
         "{},{'b':{'type':'bnode','value':'b'}},{'b':{'type':'uri','value':'http://e/a'}},{'b':{'type':'uri','value':'http://e/a'}},{'b':{'type':'literal','value':'\\t\\u0001\\\\'}},{'b':{'datatype':'http://www.w3.org/2001/XMLSchema#integer','type':'literal','value':'1'}},{'b':{'type':'literal','value':'x'}},{'b':{'type':'literal','value':'é\\n','xml:lang':'en'}}",
     ),
-    // The head keeps the order of the list. Members are in byte order of their names, and those of unbound cells are
-    // left out. A variable for which the rows have no place is bound in none.
+    // The head keeps the order of the list. Members are in byte order of their names, without those of unbound
+    // cells. A variable without a place in the rows is unbound in all of them.
     (
         &[0, 1, 2],
         "05 -4 0-",
         "'b','a','é\\''",
         "{'a':{'type':'uri','value':'http://e/a'}},{'b':{'type':'literal','value':'x'}},{'a':{'type':'bnode','value':'b'},'b':{'type':'literal','value':'x'}}",
     ),
-    // Rows of two cells rise by the first and then by the second, unbound first, and a repeated row is there twice.
+    // Rows of two cells are ordered by the first and then by the second, unbound first. A repeated row occurs twice.
     // Literals with one lexical form are ordered by their datatypes.
     (
         &[0, 1],
@@ -215,7 +216,7 @@ const DOCUMENTS: [(&[usize], &str, &str, &str); 4] = [
         "'b','a'",
         "{'a':{'type':'literal','value':'x'}},{'a':{'type':'bnode','value':'b'},'b':{'type':'literal','value':'x','xml:lang':'en'}},{'b':{'datatype':'http://www.w3.org/2001/XMLSchema#integer','type':'literal','value':'x'}},{'b':{'type':'literal','value':'x'}},{'a':{'type':'bnode','value':'b'},'b':{'type':'literal','value':'x'}},{'a':{'type':'uri','value':'http://e/a'},'b':{'type':'literal','value':'x'}},{'a':{'type':'uri','value':'http://e/a'},'b':{'type':'literal','value':'x'}}",
     ),
-    // Without a variable the one row is there.
+    // Without a variable the result has the one row.
     (&[], "0-", "", "{}"),
 ];
 
@@ -277,12 +278,12 @@ fn offset_and_limit_cut_the_sorted_rows(rt: HostRuntime) -> Result<(), EvalFault
     Ok(())
 }
 
-/// Seventy rows, the row `i` of the cells `i` modulo 9 and modulo 7.
+/// Seventy rows, in which row `i` has the cells `i` modulo 9 and `i` modulo 7.
 const SEVENTY: &str =
     "00 11 22 33 44 55 66 70 81 02 13 24 35 46 50 61 72 83 04 15 26 30 41 52 63 74 85 06 10 21 32 43 54 65 76 80 01 12 23 34 45 56 60 71 82 03 14 25 36 40 51 62 73 84 05 16 20 31 42 53 64 75 86 00 11 22 33 44 55 66";
 
-/// Seventy rows, so that more than one group of a piece is put together, have the same bytes with every number of
-/// workers and pieces of every size.
+/// Seventy rows, which are more than one group of a piece, have the same bytes with every number of workers and
+/// pieces of every size.
 #[test]
 fn workers_and_pieces_change_no_byte(rt: HostRuntime) -> Result<(), EvalFault> {
     let selection = Selection {

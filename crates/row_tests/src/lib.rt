@@ -1,7 +1,7 @@
-//! Tests of rows of numbers: `merging` of row_core, `pieces` of row_pieces, `patterns` of row_pattern, `joins`
-//! of row_join, and `json` of result_json. `cells` has rows as text.
+//! Tests of rows of numbers: `merging` of row_core, `pieces` of row_pieces, `patterns` of row_pattern, `joins` of
+//! row_join, and `json` of result_json. `cells` prints rows as text.
 //!
-//! They are in a crate of their own, so that a check of the tests proves nothing a second time.
+//! The tests are in a crate of their own, so that a check of the tests proves no library a second time.
 #![tactic(auto)]
 
 #[cfg(test)]

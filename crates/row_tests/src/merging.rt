@@ -12,7 +12,7 @@ fn symbol(cell: Option<u64>) -> char {
     }
 }
 
-/// The width, and for each row its cells and after `=` the same cells one by one.
+/// Prints the width, and for each row its cells and after `=` the same cells one by one.
 fn told(alloc: Global, rows: &Rows) -> Result<String, AllocError> {
     let mut text = format!(in alloc; "{}:", rows.width())?;
     for i in 0..rows.len() {
@@ -28,7 +28,7 @@ fn told(alloc: Global, rows: &Rows) -> Result<String, AllocError> {
     Ok(text)
 }
 
-/// Two rows of two variables.
+/// Makes two rows of two variables.
 fn two_rows(alloc: Global) -> Result<Rows, AllocError>
     ensures width { IfOk result (λ rows. rows.width ≡ 2) }
 {
@@ -38,7 +38,7 @@ fn two_rows(alloc: Global) -> Result<Rows, AllocError>
     Ok(rows)
 }
 
-/// A row, and two more that are appended.
+/// Makes a row, and appends two more.
 fn appended(alloc: Global) -> Result<Rows, AllocError> {
     let mut rows = Rows::new(alloc, 2);
     rows.push(&[Some(1), None])?;
@@ -46,7 +46,7 @@ fn appended(alloc: Global) -> Result<Rows, AllocError> {
     Ok(rows)
 }
 
-/// Two rows of no width.
+/// Makes two rows without variables.
 fn empty_rows(alloc: Global) -> Result<Rows, AllocError> {
     let mut rows = Rows::new(alloc, 0);
     rows.push(&[])?;

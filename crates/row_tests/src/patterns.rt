@@ -1,4 +1,4 @@
-//! Worked examples by direct calls. What is expected is worked out by hand from the standard.
+//! Worked examples by direct calls. The expected rows are derived by hand from the standard.
 ghost use Rattle.std.specs.Prelude.{◌≡◌, ◌+◌, map};
 ghost use Rattle.algebra_model.specs.Solve.{AreBelow};
 ghost use Rattle.row_pattern.specs.Numbered.{pattern_of};
@@ -14,7 +14,7 @@ use std::alloc::Global;
 use std::sync::Wait;
 use std::thread::Threads;
 
-/// A quad of the default graph.
+/// Makes a quad of the default graph.
 fn quad(s: u64, p: u64, o: u64) -> NumQuad {
     NumQuad { g: None, s, p, o }
 }
@@ -29,8 +29,8 @@ fn triple(s: PatternNumber, p: PatternNumber, o: PatternNumber) -> NumberedTripl
     }
 }
 
-/// The rows of a pattern of `width` variables and two labels over one graph of an index of these
-/// quads, by two workers, a piece for each quad that matches the first triple.
+/// Returns the rows of a pattern over one graph of an index of these quads. The pattern has `width` variables and
+/// two labels. Two workers run it, with one piece for each quad that matches the first triple pattern.
 fn solve<R: Threads + Wait>(
     rt: &R,
     alloc: Global,
@@ -49,8 +49,7 @@ fn solve<R: Threads + Wait>(
     pattern(rt, alloc, &index, graph, width, 2, triples, &how, &OpenGate)
 }
 
-/// `?0 2 _:0` over 1 2 3 and 1 2 4: the blank label has two assignments, so the solution stands
-/// twice.
+/// `?0 2 _:0` over 1 2 3 and 1 2 4: the blank node label has two assignments, so the solution occurs twice.
 #[test]
 fn a_label_repeats_a_solution(rt: HostRuntime) {
     let quads = [quad(1, 2, 3), quad(1, 2, 4), quad(1, 5, 4)];
@@ -62,7 +61,7 @@ fn a_label_repeats_a_solution(rt: HostRuntime) {
     rows_read_as_solutions();
 }
 
-/// The empty pattern has the row that binds nothing, in a graph that nothing names too.
+/// The empty pattern has the row that binds nothing, also in a graph that nothing names.
 #[test]
 fn the_empty_pattern_has_one_row(rt: HostRuntime) {
     for graph in [None, Some(9)] {
@@ -83,7 +82,7 @@ fn a_variable_stands_twice(rt: HostRuntime) {
     assert!(rt; rows.row(0) == [Some(1)].as_slice());
 }
 
-/// A number that no quad of the graph has gives no rows, alone and beside a triple that matches.
+/// A number that no quad of the graph has gives no rows, alone and next to a triple pattern that matches.
 #[test]
 fn a_number_is_not_there(rt: HostRuntime) {
     let quads = [quad(1, 2, 3)];
@@ -109,7 +108,7 @@ fn two_triples_are_joined(rt: HostRuntime) {
     assert!(rt; rows.row(0) == [Some(1), Some(3), Some(6)].as_slice());
 }
 
-/// Two triples without a common variable: each solution of the one with each of the other.
+/// Two triple patterns without a common variable: each solution of the one with each of the other.
 #[test]
 fn triples_apart_are_multiplied(rt: HostRuntime) {
     let quads = [quad(1, 2, 3), quad(4, 2, 3), quad(5, 6, 7), quad(8, 6, 7)];

@@ -1,5 +1,5 @@
-//! The number of elements of a piece, the names of faults, and jobs of no piece, of one and of more. The tests of
-//! the operators run `over_pieces`.
+//! The number of elements of a piece, the names of faults, and jobs of zero, one and more pieces. The tests of the
+//! operators run `over_pieces`.
 ghost use Rattle.std.specs.Prelude.{◌≤◌, ◌^◌};
 
 use piece_pool::{Outcome, PoolFault, run_all};
@@ -39,8 +39,8 @@ fn a_refusal_keeps_its_name(rt: HostRuntime) {
     );
 }
 
-/// The outcome of `n` pieces, of which those below `sound` are not faulty: the number of results that are in their
-/// places, or the least faulty piece with its fault; and how many pieces entered and left the gate.
+/// Prints the result of `n` pieces, of which those below `sound` are not faulty: the number of results in their
+/// places, or the least faulty piece with its fault. Also prints how many pieces entered and left the gate.
 fn told<R: Threads + Wait>(
     rt: &R,
     alloc: Global,
@@ -65,7 +65,7 @@ fn told<R: Threads + Wait>(
     )
 }
 
-/// How many results are in their places.
+/// Returns how many results are in their places.
 fn in_place(outs: &[u64]) -> u64 {
     let mut count = 0u64;
     for (i, out) in outs.iter().enumerate() {
@@ -76,8 +76,8 @@ fn in_place(outs: &[u64]) -> u64 {
     count
 }
 
-/// No piece, one piece, which the caller runs, and more, with two workers, and with one, which is the caller. A
-/// single faulty piece is named, and has left the gate.
+/// Runs zero pieces, one piece, which the caller runs, and more pieces, with two workers and with one, which is the
+/// caller. A single faulty piece is named, and has left the gate.
 #[test]
 fn each_piece_is_answered_in_its_place(rt: HostRuntime) -> Result<(), AllocError> {
     for (n, sound, expected) in [

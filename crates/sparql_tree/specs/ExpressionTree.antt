@@ -1,5 +1,5 @@
--- The tree of an expression, apart from how it lies in memory (SPARQL 1.1 Query Language, section
--- 19.8, from Expression on).
+-- The tree of an expression, without its representation in memory (SPARQL 1.1 Query Language,
+-- section 19.8, from [110] `Expression` on).
 use Rattle.std.specs.Prelude.{ℕ, List, [], ◌∷◌, map}
 use Rattle.rdf_core.specs.declared.term.Term.{Term}
 use Rattle.sparql_tree.specs.declared.expression.Comparison.{Comparison}
@@ -22,17 +22,17 @@ mutual
     variable : List ℕ → ExpressionTree
     constant : Term → ExpressionTree
 
-  -- a list of expressions: the last one stands outermost
+  -- a list of expressions: the last one is outermost
   pub data Expressions : Type 0 where
     none : Expressions
     then : Expressions → ExpressionTree → Expressions
 
--- a list of expressions behind others
+-- a list of expressions appended to others
 abbrev pub onto : Expressions → List ExpressionTree → Expressions
 onto es [] = es
 onto es (x ∷ xs) = onto (then es x) xs
 
--- one node, with each expression inside it already seen
+-- one node whose inner expressions are translated already
 abbrev pub expression_step : Expression-F ExpressionTree → ExpressionTree
 expression_step (Expression-F.Or a b) = either a.value b.value
 expression_step (Expression-F.And a b) = both a.value b.value

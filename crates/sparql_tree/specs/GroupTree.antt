@@ -1,5 +1,5 @@
--- The tree of a group of patterns, apart from how it lies in memory (SPARQL 1.1 Query Language,
--- section 19.8, GroupGraphPattern).
+-- The tree of a group of patterns, without its representation in memory (SPARQL 1.1 Query Language,
+-- section 19.8, [53] `GroupGraphPattern`).
 use Rattle.std.specs.Prelude.{ℕ, List, [], ◌∷◌, map, Option}
 use Rattle.rdf_core.specs.declared.term.Term.{Term}
 use Rattle.sparql_tree.specs.declared.group.Triple.{Triple}
@@ -24,17 +24,17 @@ mutual
     -- names of variables, and rows of cells, where None is UNDEF
     values : List (List ℕ) → List (List (Option Term)) → ElementTree
 
-  -- the elements of a group, in the order of the text: the last one stands outermost
+  -- the elements of a group, in the order of the text: the last one is outermost
   pub data GroupTree : Type 0 where
     none : GroupTree
     then : GroupTree → ElementTree → GroupTree
 
--- a list of elements behind others
+-- a list of elements appended to others
 abbrev pub onto : GroupTree → List ElementTree → GroupTree
 onto es [] = es
 onto es (x ∷ xs) = onto (then es x) xs
 
--- one node, with each element inside it already seen
+-- one node whose inner elements are translated already
 abbrev pub element_step : Element-F ElementTree → ElementTree
 element_step (Element-F.Triples ts) = triples ts.items
 element_step (Element-F.Group es) = group (onto none es.items)

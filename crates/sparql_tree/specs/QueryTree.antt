@@ -1,5 +1,5 @@
--- The tree of a query, apart from how it lies in memory (SPARQL 1.1 Query Language, section 19.8,
--- SelectQuery).
+-- The tree of a query, without its representation in memory (SPARQL 1.1 Query Language, section
+-- 19.8, [7] `SelectQuery`).
 use Rattle.std.specs.Prelude.{ℕ, List, Bool, Option, Some, None}
 use Rattle.sparql_tree.specs.declared.query.Query.{Query}
 use Rattle.sparql_tree.specs.declared.query.Selection.{Selection}
@@ -8,12 +8,12 @@ use Rattle.sparql_tree.specs.GroupTree.{GroupTree, group_of}
 
 pub record QueryTree : Type 0 where
   pub distinct : Bool
-  -- the names of the selected variables; None is `*`
+  -- the names of the projected variables; None is `*`
   pub selection : Option (List (List ℕ))
   pub group : GroupTree
   pub limit : Option ℕ
   pub offset : Option ℕ
-  -- the variables of the text at each place where one stands, in the order of the text
+  -- the name of each variable occurrence, in the order of the text
   pub mentioned : List (List ℕ)
 
 abbrev pub selection_of : Selection → Option (List (List ℕ))

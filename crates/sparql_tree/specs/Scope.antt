@@ -1,5 +1,5 @@
--- The variables that stand in a group, and those of them that are in scope (SPARQL 1.1 Query Language,
--- section 18.2.1, variable scope). A name is a list of bytes, without its sign.
+-- The variables of a group, and those of them that are in scope (SPARQL 1.1 Query Language, section
+-- 18.2.1, variable scope). A name is a list of bytes, without `?` or `$`.
 use Rattle.std.specs.Prelude.{ℕ, Bool, false, List, [], ◌∷◌, ◌++◌, flat_map, cond}
 use Rattle.sparql_tree.specs.declared.group.GraphName.{GraphName}
 use Rattle.sparql_tree.specs.declared.group.GraphName.TheVariants as graph
@@ -23,9 +23,9 @@ abbrev pub graph_names : GraphName → List Name
 graph_names (graph.Variable x) = x ∷ []
 graph_names (graph.Iri t) = []
 
--- The variables that a group binds: those of basic patterns, GRAPH's variable, those of both sides
--- of UNION and OPTIONAL, those of VALUES and BIND's variable, and not those that stand only in FILTER;
--- where `all` is set, also those of MINUS's right side.
+-- The variables that a group binds: those of basic graph patterns, of GRAPH, of both sides of UNION
+-- and OPTIONAL, of VALUES and of BIND. Variables that occur only in FILTER are not among them. If
+-- `all` is true, the variables of MINUS's right side are among them.
 module _ (all : Bool) where
   abbrev mutual
     pub element_names : ElementTree → List Name
@@ -43,6 +43,6 @@ module _ (all : Bool) where
     group_names none = []
     group_names (then g e) = group_names g ++ element_names e
 
--- in scope is what a group binds outside MINUS's right sides
+-- the variables in scope are those that a group binds outside MINUS's right sides
 abbrev pub group_scope : GroupTree → List Name
 group_scope = group_names false

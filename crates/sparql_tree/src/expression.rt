@@ -1,8 +1,8 @@
-//! The tree of an expression (SPARQL 1.1 Query Language, section 19.8, from Expression on).
+//! The tree of an expression (SPARQL 1.1 Query Language, section 19.8, from [110] `Expression` on).
 
 use rdf_core::{Term, Text};
 
-/// The operators that compare two values.
+/// The operators that compare two values ([114] `RelationalExpression`).
 #[derive(Clone, Copy, Debug, PartialEq, Eq)]
 pub enum Comparison {
     Equal,
@@ -13,7 +13,7 @@ pub enum Comparison {
     GreaterOrEqual,
 }
 
-/// The functions of one argument.
+/// The functions of one argument ([121] `BuiltInCall`).
 #[derive(Clone, Copy, Debug, PartialEq, Eq)]
 pub enum Function {
     Str,
@@ -24,33 +24,35 @@ pub enum Function {
     IsLiteral,
 }
 
-/// An expression. `x NOT IN (..)` stands as `Not` of `In`, which is what it means.
+/// An expression ([110] `Expression`). `x NOT IN (..)` is represented as `Not` of `In`, which has
+/// the same meaning.
 #[derive(Debug)]
 pub enum Expression {
-    /// `left || right`
+    /// `left || right` ([111] `ConditionalOrExpression`)
     Or(Box<Expression>, Box<Expression>),
-    /// `left && right`
+    /// `left && right` ([112] `ConditionalAndExpression`)
     And(Box<Expression>, Box<Expression>),
-    /// `!inner`
+    /// `!inner` ([118] `UnaryExpression`)
     Not(Box<Expression>),
-    /// `left = right` and its like
+    /// `left = right` and the other comparisons ([114] `RelationalExpression`)
     Compare(Comparison, Box<Expression>, Box<Expression>),
-    /// `value IN (..)`, of the members in their order
+    /// `value IN (..)`, with the members in their order ([114] `RelationalExpression`)
     In(Box<Expression>, Vec<Expression>),
-    /// `STR(inner)` and its like
+    /// `STR(inner)` and the other functions of one argument ([121] `BuiltInCall`)
     Call(Function, Box<Expression>),
-    /// `BOUND(?name)`, by the name without its sign
+    /// `BOUND(?name)`, by the name without `?` or `$`
     Bound(Text),
     /// `sameTerm(left, right)`
     SameTerm(Box<Expression>, Box<Expression>),
-    /// `?name`, by the name without its sign
+    /// `?name`, by the name without `?` or `$` ([108] `Var`)
     Variable(Text),
     /// An IRI or a literal
     Constant(Term),
 }
 
 impl Drop for Expression {
-    /// Goes down the left sides of `||` and `&&` in a loop: a long chain takes no deeper stack.
+    /// Drops the left operands of `||` and `&&` in a loop, so that a long chain needs no deep
+    /// stack.
     fn drop(mut self) {
         loop {
             match self {

@@ -1,20 +1,21 @@
-//! The tree of a group of patterns (SPARQL 1.1 Query Language, section 19.8, GroupGraphPattern).
+//! The tree of a group of patterns (SPARQL 1.1 Query Language, section 19.8, [53]
+//! `GroupGraphPattern`).
 
 use crate::expression::Expression;
 use rdf_core::{Term, Text};
 
-/// What stands at a place of a triple pattern.
+/// One position of a triple pattern ([106] `VarOrTerm`).
 #[derive(Debug, Drop)]
 pub enum PatternTerm {
-    /// `?name` or `$name`, by the name without its sign
+    /// `?name` or `$name`, by the name without its first character
     Variable(Text),
-    /// `_:label`, by the label without `_:`, or `[]`, by a label that is written nowhere
+    /// `_:label`, by the label without `_:`, or `[]`, by a label that occurs nowhere in the text
     Blank(Text),
     /// An IRI or a literal
     Term(Term),
 }
 
-/// A triple pattern. Its predicate is a variable or an IRI wherever a reader makes it.
+/// A triple pattern. In the trees that `sparql_read` makes, its predicate is a variable or an IRI.
 #[derive(Debug, Drop)]
 pub struct Triple {
     pub subject: PatternTerm,
@@ -22,10 +23,10 @@ pub struct Triple {
     pub object: PatternTerm,
 }
 
-/// What stands behind GRAPH.
+/// The name after GRAPH ([107] `VarOrIri`).
 #[derive(Debug, Drop)]
 pub enum GraphName {
-    /// By the name without its sign
+    /// By the name without `?` or `$`
     Variable(Text),
     /// By its text
     Iri(Text),
@@ -34,28 +35,31 @@ pub enum GraphName {
 /// An element of a group. A group is the list of its elements, in the order of the text.
 #[derive(Debug)]
 pub enum Element {
-    /// A run of triples that no other element interrupts, with `;` and `,` written out
+    /// A sequence of triple patterns without another element between them ([55] `TriplesBlock`),
+    /// with `;` and `,` expanded
     Triples(Vec<Triple>),
-    /// `{ .. }`
+    /// `{ .. }` ([53] `GroupGraphPattern`)
     Group(Vec<Element>),
-    /// `left UNION { .. }`, where the left side is a group or a union itself
+    /// `left UNION { .. }`, where the left side is a group or a union ([67]
+    /// `GroupOrUnionGraphPattern`)
     Union(Box<Element>, Vec<Element>),
-    /// `OPTIONAL { .. }`
+    /// `OPTIONAL { .. }` ([57] `OptionalGraphPattern`)
     Optional(Vec<Element>),
-    /// `MINUS { .. }`
+    /// `MINUS { .. }` ([66] `MinusGraphPattern`)
     Minus(Vec<Element>),
-    /// `GRAPH name { .. }`
+    /// `GRAPH name { .. }` ([58] `GraphGraphPattern`)
     Graph(GraphName, Vec<Element>),
-    /// `FILTER (..)`, or a call without the parentheses
+    /// `FILTER (..)`, or a call without parentheses around it ([68] `Filter`)
     Filter(Expression),
-    /// `BIND (.. AS ?name)`
+    /// `BIND (.. AS ?name)` ([60] `Bind`)
     Bind(Expression, Text),
-    /// `VALUES (?name ..) { (..) .. }`: the names, and rows of as many cells; None is UNDEF
+    /// `VALUES (?name ..) { (..) .. }` ([61] `InlineData`): the names, and rows with one cell for
+    /// each name; None is UNDEF
     Values(Vec<Text>, Vec<Vec<Option<Term>>>),
 }
 
 impl Drop for Element {
-    /// Goes down the left sides of UNION in a loop: a long chain takes no deeper stack.
+    /// Drops the left sides of UNION in a loop, so that a long chain needs no deep stack.
     fn drop(mut self) {
         loop {
             match self {

@@ -1,20 +1,21 @@
-//! The tree of a SPARQL query: what `sparql_read` answers and `sparql_algebra` translates.
+//! The tree of a SPARQL query. `sparql_read` makes it, and `sparql_algebra` translates it.
 //!
-//! A [`Query`] holds what stands in the text of one SELECT query, in SPARQL's own terms: its group
-//! with the elements in their order, its expressions, its modifiers. Prefixed names are expanded,
-//! strings are decoded, and `a`, numbers and booleans are written out as terms. Nothing is said of
-//! what a query means: that is the algebra's part.
+//! A [`Query`] holds the parts of one SELECT query in SPARQL's terms: its group with the elements
+//! in their order, its expressions, and its solution modifiers. Prefixed names are expanded,
+//! strings are decoded, and `a`, numbers and booleans are terms. The tree has no semantics; the
+//! algebra defines what a query means.
 //!
-//! Every type is open, and clauses see it as a plain model: an [`Expression`] through
-//! `expression_of` and an [`Element`] through `element_of`, which forget boxes and vectors
-//! (specs/ExpressionTree.antt, specs/GroupTree.antt); a [`Query`] through `query_of`
-//! (specs/QueryTree.antt). A [`Triple`] and a [`PatternTerm`] are their own model.
+//! All fields are public. Contracts use plain models of the types, without boxes and vectors:
+//! `expression_of` an [`Expression`] (specs/ExpressionTree.antt), `element_of` an [`Element`]
+//! (specs/GroupTree.antt) and `query_of` a [`Query`] (specs/QueryTree.antt). A [`Triple`] and a
+//! [`PatternTerm`] are their own models.
 //!
-//! Standard: SPARQL 1.1 Query Language, section 19.8 (grammar), for the forms that are kept.
+//! Standard: SPARQL 1.1 Query Language, section 19.8 (grammar).
 //!
-//! To read in this order: `expression`, `group`, `query`.
+//! Reading order: `expression`, `group`, `query`. The crate has no tests of its own; those of
+//! query_tests and algebra_tests use its trees.
 //!
-//! Not promised: that a tree made by hand can be written as a text. A reader's trees can.
+//! Not guaranteed: that a tree made by hand has a text. The trees of `sparql_read` have one.
 #![tactic(auto)]
 
 mod expression;

@@ -1,28 +1,28 @@
-//! The tree of a query (SPARQL 1.1 Query Language, section 19.8, SelectQuery).
+//! The tree of a query (SPARQL 1.1 Query Language, section 19.8, [7] `SelectQuery`).
 
 use crate::group::Element;
 use rdf_core::Text;
 
-/// What a query selects.
+/// The projection of a query ([9] `SelectClause`).
 #[derive(Debug, Drop)]
 pub enum Selection {
     /// `*`: the variables that are in scope
     All,
-    /// The listed variables by their names, in their order; one may stand twice
+    /// The listed variables by their names, in their order; a name may occur twice
     Variables(Vec<Text>),
 }
 
-/// A SELECT query as it stands in its text.
+/// A SELECT query as its text has it ([7] `SelectQuery`).
 #[derive(Debug, Drop)]
 pub struct Query {
     pub distinct: bool,
     pub selection: Selection,
-    /// The elements of the query's own group.
+    /// The elements of the query's outermost group.
     pub group: Vec<Element>,
-    /// A number over 18446744073709551615 in the text stands as that.
+    /// A number over 18446744073709551615 in the text is stored as 18446744073709551615.
     pub limit: Option<u64>,
     pub offset: Option<u64>,
-    /// The name of every variable of the text at each place where it stands, in the order of the
-    /// text: in SELECT, FILTER, MINUS, VALUES and BIND too.
+    /// The name of each variable occurrence, in the order of the text: also of those in SELECT,
+    /// FILTER, MINUS, VALUES and BIND.
     pub mentioned: Vec<Text>,
 }

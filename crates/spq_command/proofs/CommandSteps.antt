@@ -1,4 +1,4 @@
--- The subcommand that was met, and the command that it is.
+-- The subcommand in the arguments, and its command.
 use Rattle.std.proofs.Common.{◌≡◌, ◌∙◌, ℕ, List, [], ◌∷◌, Option, Some, None, inl, inr, refl, sym, subst, ap, ap₂, arith, codes, option_map, slice_index, Box, box_value, true}
 use Rattle.clap.specs.Words.{App, HasMatchesOf, Row, Text, fault_of, is_simple, is_simple_and_free, subcommand_of, subcommand_rows_of}
 use Rattle.clap.specs.Words.{subcommand_name_of}
@@ -91,7 +91,7 @@ pub refused_kinds : (kinds : Kinds) (e : Error) → HasKind kinds e → (kind_of
 refused_kinds [] e h other is = elim h [ inl memory ↦ other memory | inr among ↦ among ]
 refused_kinds (k ∷ ks) e h other is = absurd cc
 
--- ---- the library's answer, of a command line that is the program's
+-- ---- the library's result for a command line of the program
 
 pub line_meets : (a : App) (words : List Text) (m : ArgMatches) (command : Command) → a ≡ program
     → (is_simple_and_free a ≡ true → fault_of a words ≡ []) → HasMatchesOf a words m

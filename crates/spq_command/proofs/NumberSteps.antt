@@ -1,4 +1,4 @@
--- The number of an option, by what its text reads as.
+-- The number of an option, as its text is parsed.
 use Rattle.std.proofs.Common.{◌≡◌, ◌<◌, ◌^◌, ℕ, ◌≤◌, Option, Some, None, Err, refl, sym, subst}
 use Rattle.std.specs.Str.Parse.{IsNumeral, ParsesUnsigned, digits_value, without_leading_plus}
 use Rattle.clap.specs.Words.{Text}

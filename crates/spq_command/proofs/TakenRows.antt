@@ -1,5 +1,5 @@
--- What the library's walk keeps of each row, where it takes the words of a command whose arguments
--- are options of one value and requests for help.
+-- What the library's walk keeps of each row if it accepts the arguments of a command. Each argument
+-- of the command is an option of one value or a request for help.
 use Rattle.std.proofs.Common.{◌≡◌, ◌∙◌, ◌&&◌, ◌||◌, ◌≤◌, ◌==◌, ◌⊎◌, ℕ, Bool, zero, suc, List, [], ◌∷◌, length, Option, Some, None, inl, inr, refl, sym, subst, ap, arith, cond, true, false, true≢false, is_some, not, ◌++◌}
 use Rattle.std.proofs.lemmas.Bool.{ne_eqb}
 use Rattle.std.specs.Prelude.{⊤, find, fold, slice_get, chars}
@@ -42,7 +42,7 @@ pub record IsPlainRule (c : List Rule) (a : Rule) : Type 0 where
 abbrev pub ArePlain : List Rule → Type 0
 ArePlain c = (p : Rule → Bool) (a : Rule) → find p c ≡ Some a → IsPlainRule c a
 
--- a row of an argument of the command, with one value that its parser takes
+-- a row of an argument of the command, with one value that its parser accepts
 pub record IsFine (c : List Rule) (r : Row) : Type 0 where
   pub rule : Rule
   pub text : Text
@@ -319,7 +319,7 @@ no_defaults [] rows h = refl
 no_defaults (a ∷ rest) rows h =
     ap (λ rs. fold with_default rs rest) (no_default rows a h.0) ∙ no_defaults rest rows h.1
 
--- a level of a parse that takes its words: each step of it passes
+-- a level of a parse that accepts its arguments: each step of it passes
 pub level_passes : (s : Shape) (names : Names) (words : List Text) (has : Bool) (below : Kinds)
     → level_fault s names nothing_held words has below ≡ []
     → (walk_fault s names (walk_from nothing_held) words ≡ []) × (below ≡ [])
@@ -333,7 +333,7 @@ level_passes s names words has below none =
     let e = or_none (defaults_fault (settled s.rules end).rows s.rules) _ d.1 in
     (a.0, b.0, d.0, e.1)
 
--- and its rows are fine
+-- and its rows are well-formed
 pub level_fine : (s : Shape) (names : Names) (words : List Text) (has : Bool) (below : Kinds)
     → s.args_override_self ≡ false → ArePlain s.rules → HaveNoDefaults s.rules
     → level_fault s names nothing_held words has below ≡ []

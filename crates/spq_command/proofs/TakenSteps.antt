@@ -1,4 +1,4 @@
--- Words that the library takes have a command.
+-- Arguments that the library accepts have a command.
 use Rattle.std.proofs.Common.{◌≡◌, ◌≢◌, ◌∙◌, ◌&&◌, ◌||◌, ◌≤◌, ℕ, Bool, List, [], ◌∷◌, Option, Some, None, inl, inr, refl, sym, subst, ap, ap₂, arith, codes, cond, true, false, true≢false, is_some, not, option_map}
 use Rattle.std.proofs.lemmas.Slice.Eq.{bytes_eq-Decides}
 use Rattle.std.specs.Prelude.{⊤, find, fold, option_and_then, slice_get, unwrap_or}
@@ -27,7 +27,7 @@ use Rattle.spq_command.specs.declared.command.Command.TheVariants.{Select, Check
 use Rattle.spq_command.specs.declared.command.Reading.{Reading}
 use Rattle.spq_command.proofs.TakenRows.{one, AreFine, ArePlain, HaveNoDefaults, IsFine, IsPlainRule, level_fine, level_passes, or_none, some_kind}
 
--- ---- the subcommand that the walk stops at is not `help`
+-- ---- the subcommand at which the walk stops is not `help`
 
 abbrev IsNoHelp : Text → Type 0
 IsNoHelp name = bytes_eq name (codes "help") ≡ false
@@ -121,7 +121,8 @@ checks_pass false true d h = absurd cc
 checks_pass false false true h = absurd cc
 checks_pass false false false h = (refl, refl)
 
--- a level that wants a subcommand and takes its words: it has met one, which takes its own, and is not `help`
+-- a level that requires a subcommand and accepts its arguments has a subcommand, which accepts its
+-- own and is not `help`
 level_stops : (s : Shape) (names : Names) (words : List Text) (has : Bool) (below : Kinds)
     → s.disable_help_subcommand ≡ false → s.subcommand_required ≡ true → level_fault s names nothing_held words has below ≡ []
     → StopsAtNoHelp (stop_after s.rules names words) × (below ≡ []) × (has ≡ true)
@@ -204,7 +205,7 @@ text_taken c id rows all given = go (find (λ r. bytes_eq r.id id) rows) (find_r
         let fine = (h r refl).0 in
         (fine.text, ap (λ (vs : List Text). slice_get vs 0) fine.values)
 
--- a command that tells how a document is read
+-- a command with the options for how a document is read
 pub record IsReadingShape (s : Shape) : Type 0 where
   pub single : s.args_override_self ≡ false
   pub rules : ArePlain s.rules
@@ -327,7 +328,7 @@ no_help_entered name other answers =
     alone true e = refl
     alone false e = absurd (true≢false (sym e))
 
--- each subcommand but `help` has a command where it takes the words after it
+-- each subcommand except `help` has a command if it accepts the arguments after it
 each_taken : (name : Text) (words : List Text) → IsNoHelp name → Each (λ s. answers_to name (label_of s) ≡ true → Taken s words) subs
 each_taken name words other = (
   (λ _. select_taken (shape_at 0) words refl select_shape refl (λ rows. refl)),
@@ -351,7 +352,7 @@ entered_taken (Some p) other none has =
     go None h e some = absurd (true≢false (sym some))
     go (Some s) h e some = h s refl e
 
--- words that the library takes have a command
+-- arguments that the library accepts have a command
 pub taken_has_command : (words : List Text) → fault_of program words ≡ []
     → (command : Command) × IsCommandMet (subcommand_of program words) command
 taken_has_command words none =
@@ -361,7 +362,7 @@ taken_has_command words none =
     let level = level_stops top names rest (is_some (entered (built program) stop)) (entered_fault (built program) stop) refl refl none in
     entered_taken stop level.0 level.1 level.2
 
--- so words that are no command are not taken
+-- so the library does not accept arguments that are not a command
 pub not_taken : (words : List Text) → ((command : Command) → IsCommandLine words command → ⊥) → fault_of program words ≢ []
 not_taken words no_command none =
     let found = taken_has_command words none in

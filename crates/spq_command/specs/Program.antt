@@ -1,5 +1,5 @@
--- The command lines of the program, as a command of the library of command lines, and the command
--- that its matches are.
+-- The command line of the program, which is a choice of this project, as the library of command
+-- lines describes it; and the command of its matches.
 use Rattle.std.specs.Prelude.{◌≡◌, ℕ, true, false, List, [], ◌∷◌, ◌++◌, Option, Some, None, codes}
 use Rattle.std.specs.Str.Parse.{digits_value, without_leading_plus}
 use Rattle.clap.specs.Words.{App, Row, Rule, Text, fault_of, first_of, new_rule, one_of, subcommand_of}
@@ -43,7 +43,7 @@ select_options = reading_options ++ query_option ∷ rows_option ∷ []
 abbrev pub with_options : Text → List Rule → App
 with_options name rules = record { top = record (new_shape name) { rules = rules }; subs = [] }
 
--- the program, which wants one of its subcommands
+-- the program, which requires one of its subcommands
 abbrev pub program : App
 program = record {
   top = record (new_shape (codes "spq")) { is_leaf = false; subcommand_required = true };
@@ -54,8 +54,8 @@ program = record {
 
 -- ---- the command of the matches
 
--- the number that an option has: its default where it is not given, and else what its text spells
--- in decimal digits, a plus before them or not, from 1 to `most`
+-- the number of an option: its default if it is not given, and otherwise the decimal number of its
+-- text, with or without a plus sign, from 1 to `most`
 abbrev pub IsNumber : ℕ → ℕ → Option Text → ℕ → Type 0
 IsNumber default most None n = n ≡ default
 IsNumber default most (Some text) n =
@@ -73,19 +73,19 @@ pub record HasSelect (found : List Row) (query : Text) (reading : Reading) (rows
   pub how : HasReading found reading
   pub size : HasNumber (codes "rows") 1024 1073741824 found rows
 
--- the name of the subcommand, and what its rows have
+-- the name of the subcommand, and the values of its rows
 abbrev pub IsCommandOf : Text × List Row → Command → Type 0
 IsCommandOf found (Select query reading rows) =
     (found.0 ≡ codes "select") × HasSelect found.1 query reading rows
 IsCommandOf found (Check reading) = (found.0 ≡ codes "check") × HasReading found.1 reading
 IsCommandOf found (Terms reading) = (found.0 ≡ codes "terms") × HasReading found.1 reading
 
--- the subcommand that was met is this command
+-- the subcommand in the arguments is this command
 abbrev pub IsCommandMet : Option (Text × List Row) → Command → Type 0
 IsCommandMet None command = ⊥
 IsCommandMet (Some found) command = IsCommandOf found command
 
--- the library takes the words, and the command is that of their matches
+-- the library accepts the arguments, and the command is that of their matches
 pub record IsCommandLine (words : List Text) (command : Command) : Type 0 where
   pub taken : fault_of program words ≡ []
   pub matches : IsCommandMet (subcommand_of program words) command

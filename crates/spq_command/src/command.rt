@@ -6,9 +6,9 @@ use rdf_core::Text;
 /// How a document is read. No output depends on it.
 #[derive(Clone, Copy, Debug, Drop)]
 pub struct Reading {
-    /// How many workers read it: 1 to 64.
+    /// The number of workers: 1 to 64.
     pub workers: usize,
-    /// How many bytes a block of it has at least: 1 to 1,073,741,824.
+    /// The smallest size of a block, in bytes: 1 to 1,073,741,824.
     pub piece: usize,
     ghost workers_some: { 1 ≤ workers },
     ghost workers_most: { workers ≤ 64 },
@@ -16,19 +16,19 @@ pub struct Reading {
     ghost piece_most: { piece ≤ 1073741824 },
 }
 
-/// What the program is told to do.
+/// What the program does.
 #[derive(Debug, Drop)]
 pub enum Command {
-    /// Print the answer of a query.
+    /// Print the result of a query.
     Select {
         /// The text of the query.
         query: Text,
         /// How the document is read.
         reading: Reading,
-        /// How many rows a piece of the evaluation has at the most.
+        /// The largest number of rows of a task of the evaluation.
         rows: usize,
     },
-    /// Print how many quads, terms and graphs the document has.
+    /// Print the numbers of quads, terms and graphs of the document.
     Check {
         /// How the document is read.
         reading: Reading,

@@ -13,28 +13,28 @@ use rdf_core::Text;
 use std::alloc::{AllocError, Global};
 use thiserror::Error;
 
-/// How many workers there are at the most, and where the line tells no number.
+/// The largest number of workers. `WORKERS` is the default.
 const MOST_WORKERS: u64 = 64;
 
 const WORKERS: u64 = 4;
 
-/// How many bytes a block has at least: at the most, and where the line tells no number.
+/// The largest value of `--piece`, the smallest size of a block in bytes. `BYTES` is the default.
 const MOST_BYTES: u64 = 1 << 30;
 
 const BYTES: u64 = 65536;
 
-/// How many rows a piece of an evaluation has: at the most, and where the line tells no number.
+/// The largest number of rows of a task. `ROWS` is the default.
 const MOST_ROWS: u64 = 1 << 30;
 
 const ROWS: u64 = 1024;
 
-/// Why a command line is no command.
+/// Why a command line is not a command.
 #[derive(Clone, Copy, Debug, Drop, Error, PartialEq, Eq)]
 pub enum CommandFault {
-    /// It is none of the program's, or asks for help.
+    /// It is not a command line of the program, or it requests help.
     #[error("the command line is none of the program's")]
     Line,
-    /// A growth was refused.
+    /// Out of memory.
     #[error("a growth was refused")]
     Memory,
 }
@@ -47,7 +47,7 @@ impl From<AllocError> for CommandFault {
     }
 }
 
-/// An argument that takes a number from 1 to `most`.
+/// Makes an argument whose value is a number from 1 to `most`.
 fn number<'a>(alloc: Global, name: &'a str, most: u64) -> Arg<'a>
     ensures rule { rule_of result ≡ number_option name.entry.now most }
     ensures local { result.global ≡ false }
@@ -57,7 +57,7 @@ fn number<'a>(alloc: Global, name: &'a str, most: u64) -> Arg<'a>
         .value_parser(ValueParser::Unsigned(1, most))
 }
 
-/// A subcommand with the arguments that tell how a document is read.
+/// Makes a subcommand with the arguments for how a document is read.
 fn reading_line<'a>(alloc: Global, name: &'a str) -> Result<Line<'a>, AllocError>
     ensures app { IfOk result (λ line. app_of line ≡ with_options name.entry.now reading_options) }
     ensures local { IfOk result (λ line. (fields_of line).has_globals ≡ false) }
@@ -67,7 +67,7 @@ fn reading_line<'a>(alloc: Global, name: &'a str) -> Result<Line<'a>, AllocError
         .arg(number(alloc, "piece", MOST_BYTES))
 }
 
-/// The subcommand that answers a query.
+/// Makes the subcommand `select`.
 fn select_line<'a>(alloc: Global) -> Result<Line<'a>, AllocError>
     ensures app { IfOk result (λ line. app_of line ≡ with_options (codes "select") select_options) }
     ensures local { IfOk result (λ line. (fields_of line).has_globals ≡ false) }
@@ -78,7 +78,7 @@ fn select_line<'a>(alloc: Global) -> Result<Line<'a>, AllocError>
         .arg(number(alloc, "rows", MOST_ROWS))
 }
 
-/// The command lines of the program.
+/// Makes the command line of the program.
 fn program_line<'a>(alloc: Global) -> Result<Line<'a>, AllocError>
     ensures app { IfOk result (λ line. app_of line ≡ program) }
 {
@@ -89,7 +89,7 @@ fn program_line<'a>(alloc: Global) -> Result<Line<'a>, AllocError>
         .subcommand(reading_line(alloc, "terms")?)
 }
 
-/// The number of an argument, or its default where it is not given.
+/// Returns the number of an argument, or its default if it is not given.
 fn number_of(
     found: &ArgMatches<'_>,
     name: &str,
@@ -114,7 +114,7 @@ fn number_of(
     }
 }
 
-/// How the document is to be read.
+/// Returns how the document is read.
 fn reading_of(found: &ArgMatches<'_>) -> Result<Reading, CommandFault>
     ensures ok { IfOk result (HasReading (rows_of (found_of found.now))) }
     ensures line { IfErr result (λ _.
@@ -125,7 +125,7 @@ fn reading_of(found: &ArgMatches<'_>) -> Result<Reading, CommandFault>
     Ok(Reading { workers, piece })
 }
 
-/// The query of a `select`, and how it is to be answered.
+/// Returns the query of a `select`, and how it is evaluated.
 fn select_of(alloc: Global, found: &ArgMatches<'_>) -> Result<Command, CommandFault>
     ensures ok { IfOk result (IsCommandOf (codes "select", rows_of (found_of found.now))) }
     ensures line { IfErr result (λ fault. fault ≡ CommandFault.Line → (query : _) (reading : _)
@@ -144,7 +144,7 @@ fn select_of(alloc: Global, found: &ArgMatches<'_>) -> Result<Command, CommandFa
     })
 }
 
-/// The command of a line that was taken.
+/// Returns the command of a valid command line.
 fn command_of(alloc: Global, matches: &ArgMatches<'_>) -> Result<Command, CommandFault>
     ensures ok { IfOk result (IsCommandMet (subcommand_rows_of matches.now)) }
     ensures line { IfErr result (λ fault. fault ≡ CommandFault.Line
@@ -165,14 +165,15 @@ fn command_of(alloc: Global, matches: &ArgMatches<'_>) -> Result<Command, Comman
     }
 }
 
-/// The command that the words of a command line are; the program's name comes first.
+/// Parses the arguments of a command line, of which the first is the program's name.
 ///
-/// A number that is not given is 4 workers, 65,536 bytes or 1,024 rows.
+/// The defaults are 4 workers, 65,536 bytes and 1,024 rows.
 ///
 /// # Errors
-/// - `Line`: the words are no command, or ask for help; a number is none, or not within its limits.
-///   The library of command lines refuses such words itself, for another cause than memory.
-/// - `Memory`: a growth was refused. It says nothing of the words.
+/// - `Line` if the arguments are not a command, or request help, or if a number is malformed or out
+///   of range. The library of command lines rejects these arguments itself, for a cause other than
+///   memory.
+/// - `Memory` if an allocation fails.
 pub fn read_command(alloc: Global, words: &[String]) -> Result<Command, CommandFault>
     ensures ok { IfOk result (IsCommandLine (map string_bytes words.now)) }
     ensures line { IfErr result (λ fault. fault ≡ CommandFault.Line

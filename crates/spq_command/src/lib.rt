@@ -1,16 +1,18 @@
-//! The command line of spq: words go in; a [`Command`] comes out, or the reason why there is none.
+//! The command line of spq. It turns arguments into a [`Command`], or into the reason why they are
+//! none.
 //!
-//! What the crates above use: a [`Command`] as a value whose type keeps the limits of workers and blocks
-//! ([`Reading`]), and [`read_command`]: the command that the words are (`IsCommandLine` of
-//! specs/Program.antt), and `Line` exactly where they are none, which is where the library of command
-//! lines refuses them (`fault_of`).
+//! Callers rely on two facts. The type of a [`Command`] keeps the limits of workers and blocks
+//! ([`Reading`]). [`read_command`] returns the command of the arguments (`IsCommandLine` of
+//! specs/Program.antt), and `Line` exactly if they are not a command. The library of command lines
+//! rejects exactly these arguments (`fault_of`).
 //!
-//! To read in this order: `command` (commands), `command_line` (words).
+//! Reading order: `command` (commands), `command_line` (arguments).
 //!
-//! Example: the words `spq`, `check`, `--workers`, `8` are a check by 8 workers, in pieces of 65,536
-//! bytes; the test `command_lines_are_read` of program_tests runs such examples.
+//! Example: the arguments `spq`, `check`, `--workers`, `8` are a check with 8 workers, in blocks of
+//! 65,536 bytes. The tests are in the crate program_tests; `command_lines_are_read` runs such
+//! examples.
 //!
-//! Not promised: that memory suffices, and what the library of command lines says to a user.
+//! Not guaranteed: that memory suffices, and the messages of the library of command lines.
 #![tactic(auto)]
 
 mod command;

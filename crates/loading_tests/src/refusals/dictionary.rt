@@ -1,8 +1,8 @@
-//! What a failed allocation leaves of a dictionary, whichever allocation it is.
+//! What is left of a dictionary after a failed allocation, for each of its allocations.
 //!
-//! With ample memory none fails here. tests/refusals.sh runs each of these tests with the first allocation failing,
-//! then with the second, and so on, until a run in which none fails. At most one allocation fails in a run, so a
-//! second try has to succeed. A test ends early if the failing allocation is one of its own.
+//! With ample memory none fails here. `tests/refusals.sh` runs each of these tests with the first allocation
+//! failing, then with the second, and so on, until a run in which none fails. At most one allocation fails in a run,
+//! so a second try must succeed. A test ends early if the failing allocation is one of the test itself.
 
 use crate::dictionary::{
     A, B, C, FIRST, G, P, Q, SECOND, THIRD, dict_of, first_round, has, iri, looked_up, pieces, quad,
@@ -20,8 +20,8 @@ fn iris(alloc: Global, names: &[&str]) -> Result<Vec<Term>, AllocError> {
     Ok(terms)
 }
 
-/// Returns the number of a copy of the term, at the second try if the first one fails. Returns `None` if that fails
-/// too, or if the first one returns another term or changes the dictionary.
+/// Returns the number of a copy of the term, at the second try if the first one fails. Returns `None` if the second
+/// one fails too, or if the first one returns another term or changes the dictionary.
 fn intern_twice(dict: &mut Dict, earlier: &[Term], term: &Term, copy: Term) -> Option<u64> {
     match dict.intern(copy) {
         Ok(number) => Some(number),
@@ -34,7 +34,7 @@ fn intern_twice(dict: &mut Dict, earlier: &[Term], term: &Term, copy: Term) -> O
     }
 }
 
-/// Whether each term has its place as its number.
+/// Returns whether each term has its place as its number.
 fn are_interned(alloc: Global, dict: &mut Dict, terms: &[Term]) -> bool {
     for (n, term) in terms.iter().enumerate() {
         let Ok(copy) = term.copy(alloc) else {
@@ -75,8 +75,8 @@ fn dicts(alloc: Global, state: RandomState) -> Result<(Dict, Dict, Dict), AllocE
     Ok((dict, other, again))
 }
 
-/// Returns the numbers of the other dictionary, at the second try if the first one fails. Returns `None` if that
-/// fails too, or if the first one changes the dictionary.
+/// Returns the numbers of the other dictionary, at the second try if the first one fails. Returns `None` if the
+/// second one fails too, or if the first one changes the dictionary.
 fn absorb_twice(dict: &mut Dict, before: &[Term], other: Dict, again: Dict) -> Option<Vec<u64>> {
     if let Ok(numbers) = dict.absorb(other) {
         return Some(numbers);
@@ -101,7 +101,7 @@ fn is_absorbed(alloc: Global, state: RandomState) -> bool {
     numbers.as_slice() == [1, 2, 3, 4, 5].as_slice() && has(&dict, terms.as_slice())
 }
 
-/// On error `absorb` leaves the dictionary unchanged, whatever of the other one is new.
+/// On error `absorb` leaves the dictionary unchanged, for any new terms of the other one.
 #[test]
 fn a_refused_absorption_changes_nothing(rt: HostRuntime) {
     let Ok(state) = RandomState::new(&rt) else {

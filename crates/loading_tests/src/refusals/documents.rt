@@ -1,8 +1,8 @@
-//! What a failed allocation leaves of a load, or a worker thread that could not be started, whichever it is.
+//! What is left of a load after a failed allocation or a worker thread that could not be started, for each of them.
 //!
-//! With ample memory nothing fails here. tests/refusals.sh runs each of these tests with the first allocation
-//! failing, then with the second, and so on, until a run in which none fails; and the same with the starts of worker
-//! threads. At most one of them fails in a run, so a second try has to succeed.
+//! With ample memory nothing fails here. `tests/refusals.sh` runs each of these tests with the first allocation
+//! failing, then with the second, and so on, until a run in which none fails. It does the same with the starts of
+//! worker threads. At most one of them fails in a run, so a second try must succeed.
 ghost use Rattle.std.specs.Prelude.{◌≤◌};
 
 use crate::documents::{BAD, Counts, GRAPHS, NUMBERED, REPEATED, TAGGED, TWO_LINES, TYPED, counts};
@@ -78,7 +78,7 @@ fn by_blocks<R: Threads + Wait + RandomSource>(
     }
 }
 
-/// Whether an allocation or the start of a worker thread failed. This is printed, for the script to see.
+/// Returns whether an allocation or the start of a worker thread failed. Prints it, for the script to see.
 fn is_refused<R: Print>(rt: &R, counts: &Counts) -> bool {
     let what = match counts {
         Err(LoadFault::Memory) => "memory",
@@ -89,8 +89,8 @@ fn is_refused<R: Print>(rt: &R, counts: &Counts) -> bool {
     true
 }
 
-/// Whether the document, loaded line by line, has these counts, at the second try if an allocation or a start fails;
-/// and after each of these loads, each piece that entered the gate has left it.
+/// Returns whether the document, loaded line by line, has these counts, at the second try if an allocation or a
+/// start fails. After each of these loads, each piece that entered the gate must have left it.
 fn lines_come_to<R: Threads + Wait + RandomSource + Print>(
     rt: &R,
     alloc: Global,
@@ -111,7 +111,7 @@ fn lines_come_to<R: Threads + Wait + RandomSource + Print>(
     given == want && gate.is_balanced()
 }
 
-/// The same of the document in blocks.
+/// Does the same with the document in blocks.
 fn blocks_come_to<R: Threads + Wait + RandomSource + Print>(
     rt: &R,
     alloc: Global,
@@ -132,7 +132,7 @@ fn blocks_come_to<R: Threads + Wait + RandomSource + Print>(
     given == want && gate.is_balanced()
 }
 
-/// Both, with one worker and with two.
+/// Does both, with one worker and with two.
 fn comes_to<R: Threads + Wait + RandomSource + Print>(
     rt: &R,
     alloc: Global,
@@ -150,7 +150,7 @@ fn comes_to<R: Threads + Wait + RandomSource + Print>(
     true
 }
 
-/// A valid document is never rejected, and its counts are never other ones.
+/// A valid document is never rejected, and its counts are always the same.
 #[test]
 fn a_good_document_is_loaded_or_memory_is_refused(rt: HostRuntime) {
     let alloc = rt.alloc();
@@ -181,7 +181,7 @@ fn a_tag_is_loaded_or_memory_is_refused(rt: HostRuntime) {
     assert!(rt; comes_to(&rt, rt.alloc(), TAGGED, Ok((1, 3, 0))));
 }
 
-/// A document with a malformed line is never accepted, and the first such line is never another one.
+/// A document with a malformed line is never accepted, and the first malformed line is always the same.
 #[test]
 fn a_bad_document_is_refused_or_memory_is(rt: HostRuntime) {
     assert!(rt; comes_to(&rt, rt.alloc(), BAD, Err(LoadFault::BadLine(3))));

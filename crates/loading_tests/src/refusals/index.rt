@@ -1,15 +1,15 @@
-//! What a failed allocation leaves of an index, whichever allocation it is.
+//! What is left of an index after a failed allocation, for each of its allocations.
 //!
-//! With ample memory none fails here. tests/refusals.sh runs each of these tests with the first allocation failing,
-//! then with the second, and so on, until a run in which none fails. At most one allocation fails in a run, so a
-//! second try has to succeed.
+//! With ample memory none fails here. `tests/refusals.sh` runs each of these tests with the first allocation
+//! failing, then with the second, and so on, until a run in which none fails. At most one allocation fails in a run,
+//! so a second try must succeed.
 
 use crate::index::{QUADS, quad, side_by_side};
 use dict_core::NumQuad;
 use quad_index::{Index, SortOrder, sorted_list};
 use std::alloc::Global;
 
-/// Whether the index is that of the four quads.
+/// Returns whether the index is that of the four quads.
 fn is_right(index: &Index) -> bool {
     index.quads() == 3
         && index.graphs() == [5].as_slice()
@@ -22,7 +22,7 @@ fn copied(alloc: Global) -> Option<Vec<NumQuad>> {
     Vec::from_slice(alloc, &QUADS).ok()
 }
 
-/// Builds an index, at the second try of another equal list.
+/// Builds an index, at the second try from another equal list.
 fn build_twice(alloc: Global, quads: Vec<NumQuad>, again: Vec<NumQuad>) -> Option<Index> {
     match Index::build(alloc, quads) {
         Ok(index) => Some(index),

@@ -6,7 +6,7 @@ use Rattle.row_pattern.proofs.StepLaws.{are_below-more}
 use Rattle.row_pattern.proofs.SearchLaws.{all-rows, rows-solve, numbers-known}
 use Rattle.row_pattern.proofs.matching.pattern.Goals as goal
 
--- a row that was had is short enough for width and labels to be added
+-- an existing row is short enough to add width and labels
 pub ordered_steps-requires : goal.ordered_steps-requires
 ordered_steps-requires g c =
     let long = ap length c.in_ok-row.ensures.row ∙ length-replicate c.saturating_add-cells.result None in
