@@ -52,7 +52,7 @@ def canonical_quads(spq: Spq, text: bytes) -> Iterator[tuple[list[bytes], set[by
         plain, graphs, rest = zip(*found)
         if _numeric_escapes(piece) != _numeric_escapes(b"\n".join(rest)):  # then one is in an IRI of a plain line
             numbered = [parts for parts in found if _numeric_escapes(parts[0])]
-            plain, graphs, rest = zip(*[parts for parts in found if parts not in numbered], (b"", b"", b""))
+            plain, graphs, rest = zip(*[parts for parts in found if not _numeric_escapes(parts[0])], (b"", b"", b""))
             others += [line for line, _, _ in numbered]
         others += filter(None, rest)
         yield list(filter(None, plain)), {*graphs} - {b""}
