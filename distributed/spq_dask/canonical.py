@@ -37,30 +37,32 @@ CAPITALS = re.compile(_statement(rb"[A-Za-z0-9_-]+", rb"(?P<tag>[A-Za-z0-9-]+)")
 CANONICAL = re.compile(_statement(rb"[^ ]+", rb"[a-z0-9-]+"))
 
 
-def canonical_quads(spq: Spq, text: bytes) -> tuple[list[bytes], set[bytes]]:
-    """Returns the canonical lines of a well-formed text, without line feeds, and the names of its graphs.
+def canonical_quads(spq: Spq, text: bytes) -> Iterator[tuple[list[bytes], set[bytes]]]:
+    """Yields canonical lines of a well-formed text, without line feeds, and the names of their graphs.
 
-    A quad that the text has twice may occur twice.
+    They come many at a time, and all together are the quads of the text. A quad that the text has twice may come twice.
     """
     if b"\r" in text:
         text = text.replace(b"\r\n", b"\n").replace(b"\r", b"\n")
-    quads: list[bytes] = []
-    names: set[Optional[bytes]] = set()
     others: list[bytes] = []
     for piece in pieces(text, PIECE):
         found = LINES.findall(piece)
-        numbered = {line for line, _, _ in found if b"\\u" in line or b"\\U" in line}  # perhaps in an IRI
-        if numbered:
-            found = [parts for parts in found if parts[0] not in numbered]
-            others += numbered
-        plain, graphs, rest = zip(*found) if found else ((), (), ())
-        quads += filter(None, plain)
-        names.update(graphs)
+        if not found:
+            continue
+        plain, graphs, rest = zip(*found)
+        if _numeric_escapes(piece) != _numeric_escapes(b"\n".join(rest)):  # then one is in an IRI of a plain line
+            numbered = [parts for parts in found if _numeric_escapes(parts[0])]
+            plain, graphs, rest = zip(*[parts for parts in found if not _numeric_escapes(parts[0])], (b"", b"", b""))
+            others += [line for line, _, _ in numbered]
         others += filter(None, rest)
-    for line, name in _canonical(spq, others):
-        quads.append(line)
-        names.add(name)
-    return quads, {name for name in names if name}
+        yield list(filter(None, plain)), {*graphs} - {b""}
+    quads = list(_canonical(spq, others))
+    yield [line for line, _ in quads], {name for _, name in quads if name}
+
+
+def _numeric_escapes(text: bytes) -> int:
+    """Returns the number of escapes by number in a text, and of what looks like one."""
+    return text.count(b"\\u") + text.count(b"\\U")
 
 
 def _canonical(spq: Spq, lines: list[bytes]) -> Iterator[tuple[bytes, Optional[bytes]]]:

@@ -77,14 +77,18 @@ def check(run: Run, sources: list[Source], spq: Spq) -> bytes:
 def examine(text: bytes, spq: Spq, partitions: int) -> CountedBlock:
     """Checks a block and spreads its terms, graph names and quads over the partitions."""
     lines, terms = terms_of(spq, text)
-    quads, names = canonical_quads(spq, text)
-    hashes = shuffle.hashes(quads)
+    quads, numbers, names = [], [], set()
+    for found, graphs in canonical_quads(spq, text):
+        quads.append(b"\n".join(found))
+        numbers.append(shuffle.hashes(found))
+        names |= graphs
+    hashes = numpy.concatenate(numbers)
     items = zip(
         shuffle.texts_by_partition(terms, partitions),
         shuffle.texts_by_partition(list(names), partitions),
         (hashes[places] for places in shuffle.places_by_partition(hashes, partitions)),
     )
-    return CountedBlock(Checked(lines, len(text)), b"\n".join(quads), hashes, list(enumerate(items)))
+    return CountedBlock(Checked(lines, len(text)), b"\n".join(filter(None, quads)), hashes, list(enumerate(items)))
 
 
 def terms_of(spq: Spq, text: bytes) -> tuple[int, list[bytes]]:

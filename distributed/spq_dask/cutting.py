@@ -8,6 +8,7 @@ from __future__ import annotations
 from dataclasses import dataclass
 from typing import Iterator, Optional
 
+import numpy
 from dask.bytes import read_bytes
 from dask.delayed import Delayed
 from fsspec.core import get_fs_token_paths
@@ -47,7 +48,7 @@ def sources(urls: list[str], blocksize: int) -> list[Source]:
 
 def count_lines(text: bytes) -> int:
     """Returns the number of lines of a text."""
-    ends = text.count(b"\n")
+    ends = int(numpy.count_nonzero(numpy.frombuffer(text, numpy.uint8) == ord("\n")))
     if b"\r" in text:
         ends += text.count(b"\r") - text.count(b"\r\n")
     return ends if not text or text.endswith((b"\n", b"\r")) else ends + 1

@@ -88,7 +88,7 @@ def split_by_key(
 def split_block(text: bytes, spq: Spq, split: str, default_in_all: bool, partitions: int) -> SplitBlock:
     """Checks a block and splits its canonical quads by their keys."""
     spq.outputs(["check"], text)
-    quads, _ = canonical_quads(spq, text)
+    quads = [line for lines, _ in canonical_quads(spq, text) for line in lines]
     for_all = []
     if default_in_all:
         for_all = [quad for quad in quads if not graph_of(quad)]

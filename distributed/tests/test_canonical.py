@@ -10,13 +10,19 @@ from spq_dask.cutting import count_lines, halves, pieces
 from spq_dask.program import Spq
 
 
+def quads_of(text: bytes) -> tuple[list[bytes], set[bytes]]:
+    """Returns the canonical lines of a text and the names of its graphs."""
+    found = list(canonical_quads(Spq(testing.SPQ), text))
+    return [line for lines, _ in found for line in lines], set().union(*[names for _, names in found])
+
+
 class Canonical(unittest.TestCase):
     def test_are_one_for_each_quad(self):
         for seed in range(150):
             dice = random.Random(f"canonical:{seed}")
             statements = documents.more_terms(dice, parts.quads(dice))
             text = documents.document(dice, statements, True, ["\n", "\n", "\r\n", "\r"])
-            quads, names = canonical_quads(Spq(testing.SPQ), text)
+            quads, names = quads_of(text)
             with self.subTest(text=text):
                 said = b"ok %d quads %d terms %d graphs\n"
                 terms = testing.spq(["terms"], text)[1].splitlines()
@@ -27,7 +33,7 @@ class Canonical(unittest.TestCase):
                 again = b"\n".join(quads)
                 self.assertEqual(sorted(testing.spq(["terms"], again)[1].splitlines()), sorted(terms))
                 for quad in quads:
-                    self.assertEqual(canonical_quads(Spq(testing.SPQ), quad)[0], [quad])
+                    self.assertEqual(quads_of(quad)[0], [quad])
 
     def test_plain_lines_are_canonical(self):
         plain = 0
@@ -51,7 +57,7 @@ class Canonical(unittest.TestCase):
             b"<a:s> <a:p> <a:o>_:g .", b"<a:s> <a:p> _:o_:g .", b"<a:s> <a:p> <a:\\u006f> .", b'<a:s> <a:p> "x"@EN .',
             b'<a:s> <a:p> "x"^^<http://www.w3.org/2001/XMLSchema#string> <a:g> .', b"<a:s> <a:p> _:b.c .",
         ]:
-            [quad], names = canonical_quads(Spq(testing.SPQ), line)
+            [quad], names = quads_of(line)
             with self.subTest(line=line):
                 self.assertEqual(testing.spq(["terms"], line), testing.spq(["terms"], quad))
                 self.assertEqual(testing.spq(["check"], line), testing.spq(["check"], quad))
