@@ -1,11 +1,11 @@
 //! The graphs of a dataset (RDF 1.1 Concepts, section 4; SPARQL 1.1 Query Language, section 13.1).
-ghost use Rattle.std.specs.Prelude.{◌≡◌, IfOk, filter_map, map};
+ghost use Rattle.std.specs.Prelude.{◌≡◌, ◌∷◌, IfOk, filter_map, map};
 ghost use Rattle.rdf_core.specs.QuadParts.{parts_of};
 ghost use Rattle.algebra_model.specs.Dataset.{graph, names, triple_of};
 
 use crate::lists::with_first;
 use crate::solution::same_cell;
-use crate::terms::each_once;
+use crate::terms::{each_once, with_copy};
 use rdf_core::{Quad, Term};
 use std::alloc::{AllocError, Global};
 
@@ -22,12 +22,20 @@ pub fn graph(alloc: Global, quads: &[Quad], name: &Option<Term>) -> Result<Vec<Q
         Some((quad, rest)) => {
             let found = graph(alloc, rest, name)?;
             if same_cell(&quad.g, name) {
-                with_first(quad.copy(alloc)?, found)
+                with_quad(alloc, quad, found)
             } else {
                 Ok(found)
             }
         }
     }
+}
+
+/// The quads with a copy of one more in front.
+fn with_quad(alloc: Global, quad: &Quad, rest: Vec<Quad>) -> Result<Vec<Quad>, AllocError>
+    ensures quads { IfOk result (λ list.
+        map parts_of list.items ≡ parts_of quad.now ∷ map parts_of rest.items) }
+{
+    with_first(quad.copy(alloc)?, rest)
 }
 
 /// The names of the graphs, each once.
@@ -50,7 +58,7 @@ fn graph_names(alloc: Global, quads: &[Quad]) -> Result<Vec<Term>, AllocError>
         Some((quad, rest)) => {
             let found = graph_names(alloc, rest)?;
             match &quad.g {
-                Some(name) => with_first(name.copy(alloc)?, found),
+                Some(name) => with_copy(alloc, name, found),
                 None => Ok(found),
             }
         }

@@ -23,6 +23,17 @@ fn copy(alloc: Global, solution: &Solution) -> Result<Solution, AllocError>
     Ok(Solution::of(copy_cells(alloc, solution.terms())?))
 }
 
+/// The solutions with a copy of one more in front.
+fn with_copy(
+    alloc: Global,
+    solution: &Solution,
+    rest: Vec<Solution>,
+) -> Result<Vec<Solution>, AllocError>
+    ensures value { IfOk result (λ list. list.items ≡ solution.now ∷ rest.items) }
+{
+    with_first(copy(alloc, solution)?, rest)
+}
+
 /// The merges of one solution with those that are compatible with it.
 fn merges(
     alloc: Global,
@@ -83,7 +94,7 @@ pub fn filter<C: Condition>(
         Some((solution, rest)) => {
             let kept = filter(alloc, condition, rest)?;
             if condition.is_true(alloc, solution)? {
-                with_first(copy(alloc, solution)?, kept)
+                with_copy(alloc, solution, kept)
             } else {
                 Ok(kept)
             }
@@ -123,7 +134,7 @@ pub fn minus(
         Some((solution, rest)) => {
             let kept = minus(alloc, rest, right)?;
             if is_apart(solution, right) {
-                with_first(copy(alloc, solution)?, kept)
+                with_copy(alloc, solution, kept)
             } else {
                 Ok(kept)
             }
@@ -170,7 +181,7 @@ fn alone_ones<C: Condition>(
         Some((solution, rest)) => {
             let kept = alone_ones(alloc, condition, rest, right)?;
             if is_alone(alloc, condition, solution, right)? {
-                with_first(copy(alloc, solution)?, kept)
+                with_copy(alloc, solution, kept)
             } else {
                 Ok(kept)
             }
@@ -262,7 +273,7 @@ pub fn union(
         None => copies(alloc, right),
         Some((solution, rest)) => {
             let all = union(alloc, rest, right)?;
-            with_first(copy(alloc, solution)?, all)
+            with_copy(alloc, solution, all)
         }
     }
 }
@@ -275,7 +286,7 @@ fn copies(alloc: Global, solutions: &[Solution]) -> Result<Vec<Solution>, AllocE
         None => Ok(Vec::new(alloc)),
         Some((solution, rest)) => {
             let copied = copies(alloc, rest)?;
-            with_first(copy(alloc, solution)?, copied)
+            with_copy(alloc, solution, copied)
         }
     }
 }
@@ -296,7 +307,7 @@ fn others(
             if same_cells(solution.terms(), other.terms()) {
                 Ok(kept)
             } else {
-                with_first(copy(alloc, other)?, kept)
+                with_copy(alloc, other, kept)
             }
         }
     }
@@ -313,7 +324,7 @@ pub fn distinct(alloc: Global, solutions: &[Solution]) -> Result<Vec<Solution>, 
         None => Ok(Vec::new(alloc)),
         Some((solution, rest)) => {
             let kept = distinct(alloc, rest)?;
-            with_first(copy(alloc, solution)?, others(alloc, solution, &kept)?)
+            with_copy(alloc, solution, others(alloc, solution, &kept)?)
         }
     }
 }

@@ -75,12 +75,19 @@ fn with_each(alloc: Global, terms: &[Term], maps: &[Solution]) -> Result<Vec<Sol
     match terms.split_first() {
         None => Ok(Vec::new(alloc)),
         Some((term, rest)) => {
-            let mut made = with_cell(alloc, &Some(term.copy(alloc)?), maps)?;
+            let mut made = with_term(alloc, term, maps)?;
             let mut more = with_each(alloc, rest, maps)?;
             made.append(&mut more)?;
             Ok(made)
         }
     }
+}
+
+/// The maps with the term in front.
+fn with_term(alloc: Global, term: &Term, maps: &[Solution]) -> Result<Vec<Solution>, AllocError>
+    ensures value { IfOk result (λ made. made.items ≡ map (λ μ. Some term.now ∷ μ) maps.now) }
+{
+    with_cell(alloc, &Some(term.copy(alloc)?), maps)
 }
 
 /// The maps with the cell in front.

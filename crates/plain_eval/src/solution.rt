@@ -51,6 +51,17 @@ pub(crate) fn copy_cell(alloc: Global, cell: &Option<Term>) -> Result<Option<Ter
     }
 }
 
+/// The cells with a copy of one more in front.
+fn with_copy(
+    alloc: Global,
+    cell: &Option<Term>,
+    rest: Vec<Option<Term>>,
+) -> Result<Vec<Option<Term>>, AllocError>
+    ensures value { IfOk result (λ list. list.items ≡ cell.now ∷ rest.items) }
+{
+    with_first(copy_cell(alloc, cell)?, rest)
+}
+
 /// Equal cells.
 pub(crate) fn copy_cells(
     alloc: Global,
@@ -62,7 +73,7 @@ pub(crate) fn copy_cells(
         None => Ok(Vec::new(alloc)),
         Some((x, rest)) => {
             let copied = copy_cells(alloc, rest)?;
-            with_first(copy_cell(alloc, x)?, copied)
+            with_copy(alloc, x, copied)
         }
     }
 }
@@ -197,7 +208,7 @@ pub(crate) fn bound_cells(
         Some((x, rest)) => {
             if variable > 0 {
                 let bound = bound_cells(alloc, variable - 1, term, rest)?;
-                return with_first(copy_cell(alloc, x)?, bound);
+                return with_copy(alloc, x, bound);
             }
             let rest = copy_cells(alloc, rest)?;
             match x {
@@ -251,7 +262,7 @@ pub(crate) fn restricted_cells(
             Some((&is_kept, kept)) => {
                 let restricted = restricted_cells(alloc, kept, cells)?;
                 if is_kept {
-                    with_first(copy_cell(alloc, x)?, restricted)
+                    with_copy(alloc, x, restricted)
                 } else {
                     with_first(None, restricted)
                 }

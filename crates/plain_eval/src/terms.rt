@@ -11,6 +11,17 @@ use crate::lists::with_first;
 use rdf_core::{Quad, Term};
 use std::alloc::{AllocError, Global};
 
+/// The terms with a copy of one more in front.
+pub(crate) fn with_copy(
+    alloc: Global,
+    term: &Term,
+    rest: Vec<Term>,
+) -> Result<Vec<Term>, AllocError>
+    ensures value { IfOk result (λ list. list.items ≡ term.now ∷ rest.items) }
+{
+    with_first(term.copy(alloc)?, rest)
+}
+
 /// Whether the term stands in the list.
 pub(crate) fn is_among(term: &Term, terms: &[Term]) -> bool
     ensures value { result ≡ list_any (term_eq term.now) terms.now }
@@ -32,7 +43,7 @@ fn different(alloc: Global, term: &Term, terms: &[Term]) -> Result<Vec<Term>, Al
             if term == other {
                 Ok(kept)
             } else {
-                with_first(other.copy(alloc)?, kept)
+                with_copy(alloc, other, kept)
             }
         }
     }
@@ -46,7 +57,7 @@ pub(crate) fn each_once(alloc: Global, terms: &[Term]) -> Result<Vec<Term>, Allo
         None => Ok(Vec::new(alloc)),
         Some((term, rest)) => {
             let kept = each_once(alloc, rest)?;
-            with_first(term.copy(alloc)?, different(alloc, term, &kept)?)
+            with_copy(alloc, term, different(alloc, term, &kept)?)
         }
     }
 }
@@ -60,9 +71,9 @@ pub(crate) fn occurring(alloc: Global, quads: &[Quad]) -> Result<Vec<Term>, Allo
         None => Ok(Vec::new(alloc)),
         Some((quad, rest)) => {
             let terms = occurring(alloc, rest)?;
-            let terms = with_first(quad.o.copy(alloc)?, terms)?;
-            let terms = with_first(quad.p.copy(alloc)?, terms)?;
-            with_first(quad.s.copy(alloc)?, terms)
+            let terms = with_copy(alloc, &quad.o, terms)?;
+            let terms = with_copy(alloc, &quad.p, terms)?;
+            with_copy(alloc, &quad.s, terms)
         }
     }
 }

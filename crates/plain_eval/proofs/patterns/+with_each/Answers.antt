@@ -5,8 +5,7 @@ use Rattle.plain_eval.proofs.patterns.+with_each.Goals as goal
 pub returns-in_ok-append-in-Some : goal.returns-in_ok-append-in-Some
 returns-in_ok-append-in-Some t c =
     let maps = c.args.maps.now in
-    let first = c.in_ok-made-in-Some.ensures.value
-    ∙ ap (λ (x : Term). map (λ (μ : List (Option Term)). Some x ∷ μ) maps) c.in_ok-copy-in-Some.ensures.equal in
+    let first = c.in_ok-made-in-Some.ensures.value in
     let more = c.in_ok-more-in-Some.ensures.value in
     record {
       value = c.in_ok-append-in-Some.ensures.items ∙ (λ i. first i ++ more i)
