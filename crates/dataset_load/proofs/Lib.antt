@@ -4,3 +4,4 @@ mod LoadingSteps
 mod SortingSteps
 mod ReaderSteps
 mod StreamingSteps
+pub mod LineSteps

@@ -5,3 +5,4 @@ pub mod Fault
 pub mod Reading
 pub mod ReaderFault
 pub mod Streaming
+pub mod Found

@@ -24,6 +24,8 @@
 #![tactic(auto)]
 
 mod fault;
+mod finding;
+mod load_notes;
 mod loading;
 mod numbered;
 mod read_piece;
@@ -36,6 +38,8 @@ mod store;
 mod streaming;
 
 pub use fault::LoadFault;
+pub use finding::{Line, line_at};
+pub use load_notes::LoadNotes;
 pub use loading::{load, load_blocks};
 pub use reader::read_blocks;
 pub use reader_fault::ReaderFault;

@@ -10,6 +10,7 @@ ghost use Rattle.dataset_load.specs.ReaderFault.{CountsLoading, IfBadLineRead, I
 ghost use Rattle.dataset_load.specs.Streaming.{IsBadLineFrom, IsBadSoFar, IsLoadedFrom, IsReadFrom, IsReadUpTo};
 
 use crate::fault::LoadFault;
+use crate::load_notes::{LoadNotes, Rounds};
 use crate::loading::{hash_state, lent_blocks, store_of};
 use crate::numbered::Numbered;
 use crate::reader::fill_round;
@@ -29,7 +30,7 @@ use std::thread::Threads;
 const MOST_ROUNDS: u64 = 1 << 40;
 
 /// Loads the rest of a reader, as `load_blocks` does after `read_blocks`. Only the blocks of one round
-/// are in memory at a time.
+/// are in memory at a time. `notes` gets what a message about a failure shows.
 ///
 /// # Requires
 /// `size` is 1 or more, and `workers` is 1 to 64.
@@ -50,6 +51,7 @@ pub fn load_reader<R: Threads + Wait + RandomSource, S: Source, G: Gate + Sync>(
     reader: &mut S,
     workers: usize,
     gate: &G,
+    notes: &mut LoadNotes,
 ) -> Result<Store, ReaderFault>
     requires some { 1 ≤ size }
     requires workers { (1 ≤ workers) × (workers ≤ 64) }
@@ -60,7 +62,7 @@ pub fn load_reader<R: Threads + Wait + RandomSource, S: Source, G: Gate + Sync>(
     ensures count { CountsLoading (S.failures reader.old) (S.failures reader.new) result }
     ensures one_worker { workers ≡ 1 → IfErr result IsNoLackingWorker }
 {
-    match number_reader(rt, alloc, size, reader, workers, gate) {
+    match number_reader(rt, alloc, size, reader, workers, gate, notes) {
         Ok(so_far) => match store_of(rt, alloc, so_far, workers) {
             Ok(store) => Ok(store),
             Err(fault) => Err(ReaderFault::from(fault)),
@@ -82,6 +84,7 @@ fn number_reader<R: Threads + Wait + RandomSource, S: Source, G: Gate + Sync>(
     reader: &mut S,
     workers: usize,
     gate: &G,
+    notes: &mut LoadNotes,
 ) -> Result<Numbered, ReaderFault>
     requires some { 1 ≤ size }
     requires workers { (1 ≤ workers) × (workers ≤ 64) }
@@ -95,7 +98,8 @@ fn number_reader<R: Threads + Wait + RandomSource, S: Source, G: Gate + Sync>(
     let state = hash_state(rt)?;
     let mut so_far = Numbered::new(alloc, state)?;
     let mut blocks = Blocks::new(alloc, size)?;
-    number_rounds(
+    let mut rounds = Rounds::new(gate);
+    let done = number_rounds(
         rt,
         alloc,
         state,
@@ -103,8 +107,12 @@ fn number_reader<R: Threads + Wait + RandomSource, S: Source, G: Gate + Sync>(
         &mut blocks,
         reader,
         workers,
-        gate,
-    )?;
+        &mut rounds,
+    );
+    let Rounds { line, .. } = rounds;
+    notes.line = line;
+    done?;
+    notes.is_read = true;
     Ok(so_far)
 }
 
@@ -117,7 +125,7 @@ fn number_rounds<R: Threads + Wait, S: Source, G: Gate + Sync>(
     blocks: &mut Blocks,
     reader: &mut S,
     workers: usize,
-    gate: &G,
+    rounds: &mut Rounds<'_, G>,
 ) -> Result<(), ReaderFault>
     requires workers { (1 ≤ workers) × (workers ≤ 64) }
     requires reading { blocks.old.state ≡ BlockState.Reading }
@@ -131,7 +139,7 @@ fn number_rounds<R: Threads + Wait, S: Source, G: Gate + Sync>(
     ensures one_worker { workers ≡ 1 → IfErr result IsNoLackingWorker }
 {
     for _ in 0..MOST_ROUNDS {
-        if number_round(rt, alloc, state, so_far, blocks, reader, workers, gate)? {
+        if number_round(rt, alloc, state, so_far, blocks, reader, workers, rounds)? {
             return Ok(());
         }
     }
@@ -148,7 +156,7 @@ fn number_round<R: Threads + Wait, S: Source, G: Gate + Sync>(
     blocks: &mut Blocks,
     reader: &mut S,
     workers: usize,
-    gate: &G,
+    rounds: &mut Rounds<'_, G>,
 ) -> Result<bool, ReaderFault>
     requires workers { (1 ≤ workers) × (workers ≤ 64) }
     requires reading { blocks.old.state ≡ BlockState.Reading }
@@ -172,7 +180,7 @@ fn number_round<R: Threads + Wait, S: Source, G: Gate + Sync>(
 {
     let mut round = Vec::new(alloc);
     let is_last = fill_round(&mut round, blocks, reader, workers)?;
-    add_blocks(rt, alloc, state, so_far, round.as_slice(), workers, gate)?;
+    add_blocks(rt, alloc, state, so_far, round.as_slice(), workers, rounds)?;
     Ok(is_last)
 }
 
@@ -184,7 +192,7 @@ fn add_blocks<R: Threads + Wait, G: Gate + Sync>(
     so_far: &mut Numbered,
     blocks: &[Vec<u8>],
     workers: usize,
-    gate: &G,
+    rounds: &mut Rounds<'_, G>,
 ) -> Result<(), LoadFault>
     requires workers { (1 ≤ workers) × (workers ≤ 64) }
     requires blocks { length blocks.now ≤ 2 ^ 20 }
@@ -197,7 +205,18 @@ fn add_blocks<R: Threads + Wait, G: Gate + Sync>(
     ensures one_worker { workers ≡ 1 → IfErr result IsNoRefusedWorker }
 {
     let pieces = lent_blocks(alloc, blocks)?;
-    add_round(rt, alloc, state, so_far, pieces.as_slice(), workers, gate)
+    let before = so_far.lines;
+    let added = add_round(
+        rt,
+        alloc,
+        state,
+        so_far,
+        pieces.as_slice(),
+        workers,
+        rounds.gate,
+    );
+    rounds.add(alloc, blocks, before, &added);
+    added
 }
 
 /// Reads a reader to its end, and drops what is read.

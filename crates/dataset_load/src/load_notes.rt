@@ -1,0 +1,57 @@
+//! What loading notes for messages to people, besides what it returns. No clause and no result depends on it.
+
+use crate::fault::LoadFault;
+use crate::finding::{Line, line_at};
+use std::alloc::Global;
+
+/// What loading notes for a message about a failure.
+#[derive(Debug, Drop)]
+pub struct LoadNotes {
+    /// The malformed line whose number is returned, if there was memory for it.
+    pub line: Option<Line>,
+    /// Whether all lines were read, so that only sorting was left.
+    pub is_read: bool,
+}
+
+impl LoadNotes {
+    /// Returns notes with nothing in them.
+    pub fn new() -> LoadNotes {
+        LoadNotes {
+            line: None,
+            is_read: false,
+        }
+    }
+}
+
+/// The rounds of a reader: the gate of all pieces, the number of pieces so far, and the malformed line.
+#[derive(Drop)]
+pub(crate) struct Rounds<'g, G> {
+    pub(crate) gate: &'g G,
+    pub(crate) pieces: u64,
+    pub(crate) line: Option<Line>,
+}
+
+impl<'g, G> Rounds<'g, G> {
+    pub(crate) fn new(gate: &'g G) -> Rounds<'g, G> {
+        Rounds {
+            gate,
+            pieces: 0,
+            line: None,
+        }
+    }
+
+    /// Notes that a round with these blocks is read, or the line in it that is malformed. `before` is the number
+    /// of lines before the round.
+    pub(crate) fn add(
+        &mut self,
+        alloc: Global,
+        blocks: &[Vec<u8>],
+        before: u128,
+        added: &Result<(), LoadFault>,
+    ) {
+        self.pieces = self.pieces.saturating_add(blocks.len() as u64);
+        if let Err(LoadFault::BadLine(number)) = added {
+            self.line = line_at(alloc, blocks, number.saturating_sub(before));
+        }
+    }
+}
