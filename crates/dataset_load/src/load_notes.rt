@@ -2,6 +2,7 @@
 
 use crate::fault::LoadFault;
 use crate::finding::{Line, line_at};
+use piece_pool::OffsetGate;
 use std::alloc::Global;
 
 /// What loading notes for a message about a failure.
@@ -37,6 +38,14 @@ impl<'g, G> Rounds<'g, G> {
             gate,
             pieces: 0,
             line: None,
+        }
+    }
+
+    /// Returns the gate of the next round's pieces.
+    pub(crate) fn offset_gate(&self) -> OffsetGate<'g, G> {
+        OffsetGate {
+            gate: self.gate,
+            first: self.pieces,
         }
     }
 

@@ -20,7 +20,7 @@ use crate::read_piece::ReadPiece;
 use crate::reading::Round;
 use dict_core::{Dict, NumQuad, take_in};
 use nquads_core::count_lines;
-use piece_pool::{Gate, Outcome, PoolFault, run_all};
+use piece_pool::{Gate, OffsetGate, Outcome, PoolFault, run_all};
 use std::alloc::{AllocError, Global};
 use std::hash::RandomState;
 use std::sync::Wait;
@@ -59,7 +59,11 @@ pub(crate) fn number_pieces<R: Threads + Wait, G: Gate + Sync>(
     while from < pieces.len() {
         let to = round_end(pieces, from, workers);
         let round = part(pieces, from, to);
-        add_round(rt, alloc, state, &mut so_far, round, workers, gate)?;
+        let gate = OffsetGate {
+            gate,
+            first: from as u64,
+        };
+        add_round(rt, alloc, state, &mut so_far, round, workers, &gate)?;
         from = to;
     }
     Ok(so_far)

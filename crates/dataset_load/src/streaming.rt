@@ -206,15 +206,8 @@ fn add_blocks<R: Threads + Wait, G: Gate + Sync>(
 {
     let pieces = lent_blocks(alloc, blocks)?;
     let before = so_far.lines;
-    let added = add_round(
-        rt,
-        alloc,
-        state,
-        so_far,
-        pieces.as_slice(),
-        workers,
-        rounds.gate,
-    );
+    let gate = rounds.offset_gate();
+    let added = add_round(rt, alloc, state, so_far, pieces.as_slice(), workers, &gate);
     rounds.add(alloc, blocks, before, &added);
     added
 }

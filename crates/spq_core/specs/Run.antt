@@ -8,7 +8,7 @@ use Rattle.nquads_core.specs.Transfer.{IsReadInPart, WroteBeginning}
 use Rattle.nquads_core.specs.declared.device.DeviceFailed.{DeviceFailed}
 use Rattle.nquads_core.specs.Lines.{lines}
 use Rattle.dataset_load.specs.Store.{StoreView}
-use Rattle.dataset_load.specs.Loaded.{IsLoaded}
+pub use Rattle.dataset_load.specs.Streaming.{IsBadLineFrom, IsLoadedFrom}
 use Rattle.spq_command.specs.declared.command.Command.{Command}
 use Rattle.spq_command.specs.declared.command.Command.TheVariants.{Select, Check, Terms}
 use Rattle.spq_command.specs.declared.command_line.CommandFault.{CommandFault}
@@ -72,20 +72,6 @@ abbrev pub IsAnswerable : Request → Type 0
 IsAnswerable (select text) = (q : QueryTree) × IsRead (chars text) q
 IsAnswerable check = ⊤
 IsAnswerable terms = ⊤
-
--- The reader was read to its end, and this is the dataset of what was read.
-pub record IsLoadedFrom (left left' : Option (List ℕ)) (store : StoreView) : Type 0 where
-  pub doc : List ℕ
-  pub consumed : Consumes left left' doc
-  pub at_end : IsAtEnd left'
-  pub loaded : IsLoaded (lines doc) store
-
--- The reader was read to its end, and this line of what was read is the first bad one.
-pub record IsBadLineFrom (left left' : Option (List ℕ)) (line : ℕ) : Type 0 where
-  pub doc : List ℕ
-  pub consumed : Consumes left left' doc
-  pub at_end : IsAtEnd left'
-  pub bad : IsBadLine doc line
 
 -- The device is as a write left it that was given some bytes of the text and took none of them.
 -- The bytes before them are `front`, and the bytes after them are `back`.

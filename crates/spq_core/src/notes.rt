@@ -1,11 +1,8 @@
 //! What a run notes for messages to people, besides what it returns. No clause and no output depends on it.
 
-use dataset_load::{LoadFault, Store};
-use document_line::{Line, line_at};
-use piece_pool::Gate;
+use dataset_load::{Line, LoadNotes, Store};
 use query_warnings::{Facts, facts_of, text_compares};
 use std::alloc::Global;
-use std::sync::atomic::{AtomicUsize, Ordering};
 
 /// What a run is doing.
 #[derive(Clone, Copy, Debug, PartialEq, Eq)]
@@ -46,21 +43,13 @@ impl Notes {
         }
     }
 
-    /// Notes what became of a document that was read into these blocks: the line that is malformed, or that all
-    /// its lines are read.
-    pub(crate) fn loaded(
-        &mut self,
-        alloc: Global,
-        blocks: &[Vec<u8>],
-        reads: &Reads,
-        loaded: &Result<Store, LoadFault>,
-    ) {
-        if reads.done.load(Ordering::SeqCst) >= blocks.len() {
+    /// Notes what loading the document noted.
+    pub(crate) fn loaded(&mut self, loading: LoadNotes) {
+        let LoadNotes { line, is_read } = loading;
+        if is_read {
             self.stage = Stage::Sorting;
         }
-        if let Err(LoadFault::BadLine(number)) = loaded {
-            self.line = line_at(alloc, blocks, *number);
-        }
+        self.line = line;
     }
 
     /// Notes what a query and its dataset show together. Without memory for the terminals of the query, none of
@@ -68,27 +57,5 @@ impl Notes {
     pub(crate) fn queried(&mut self, alloc: Global, text: &str, store: &Store) {
         let compares = text_compares(alloc, text).unwrap_or(false);
         self.facts = facts_of(compares, store);
-    }
-}
-
-/// Counts the blocks whose lines were read.
-#[derive(Drop)]
-pub(crate) struct Reads {
-    done: AtomicUsize,
-}
-
-impl Reads {
-    pub(crate) fn new() -> Reads {
-        Reads {
-            done: AtomicUsize::new(0),
-        }
-    }
-}
-
-impl Gate for Reads {
-    fn enter(&self, _i: u64) {}
-
-    fn leave(&self, _i: u64) {
-        self.done.fetch_add(1, Ordering::SeqCst);
     }
 }

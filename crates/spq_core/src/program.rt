@@ -13,10 +13,10 @@ ghost use Rattle.spq_core.specs.declared.program.RunFault.TheVariants.{Memory, W
 use crate::answering::{answer_query, judged};
 use crate::fault::Fault;
 use crate::listing::{counts_text, terms_text};
-use crate::notes::{Notes, Reads, Stage};
+use crate::notes::{Notes, Stage};
 use algebra_model::laws::{a_bag_has_one_sorted_list, a_dataset_is_a_set};
-use dataset_load::{LoadFault, Store, load_blocks, read_blocks};
-use nquads_core::{DeviceFailed, ReadFault, Sink, Source, write_all};
+use dataset_load::{LoadNotes, ReaderFault, Store, load_reader};
+use nquads_core::{DeviceFailed, Sink, Source, write_all};
 use piece_pool::OpenGate;
 use row_pieces::{EvalFault, How};
 use sparql_read::QueryFault;
@@ -94,9 +94,7 @@ impl From<CommandFault> for RunFault {
     }
 }
 
-/// Reads the rest of the reader in blocks of whole lines, and loads them as a dataset.
-///
-/// This is where a malformed line is noted: the blocks still hold it.
+/// Loads the rest of the reader as a dataset.
 fn load_document<R: Threads + Wait + RandomSource, S: Source>(
     rt: &R,
     alloc: Global,
@@ -107,19 +105,24 @@ fn load_document<R: Threads + Wait + RandomSource, S: Source>(
     ensures { IsLoading S.left S.failures (reading.workers ≡ 1) reader.old reader.new result }
 {
     notes.stage = Stage::Reading;
-    let blocks = match read_blocks(alloc, reading.piece, reader) {
-        Ok(blocks) => blocks,
-        Err(ReadFault::Read) => return Err(RunFault::Read),
-        Err(ReadFault::Memory) => return Err(RunFault::Memory),
-    };
-    let reads = Reads::new();
-    let loaded = load_blocks(rt, alloc, blocks.as_slice(), reading.workers, &reads);
-    notes.loaded(alloc, &blocks, &reads, &loaded);
+    let workers = reading.workers;
+    let mut loading = LoadNotes::new();
+    let loaded = load_reader(
+        rt,
+        alloc,
+        reading.piece,
+        reader,
+        workers,
+        &OpenGate,
+        &mut loading,
+    );
+    notes.loaded(loading);
     match loaded {
         Ok(store) => Ok(store),
-        Err(LoadFault::BadLine(line)) => Err(RunFault::BadLine(line)),
-        Err(LoadFault::WorkerRefused) => Err(RunFault::WorkerRefused),
-        Err(LoadFault::Memory) => Err(RunFault::Memory),
+        Err(ReaderFault::BadLine(line)) => Err(RunFault::BadLine(line)),
+        Err(ReaderFault::WorkerRefused) => Err(RunFault::WorkerRefused),
+        Err(ReaderFault::Memory) => Err(RunFault::Memory),
+        Err(ReaderFault::Read) => Err(RunFault::Read),
     }
 }
 

@@ -2,7 +2,7 @@
 
 use crate::account::Account;
 use command_help::message;
-use document_line::Line;
+use dataset_load::Line;
 use line_diagnosis::diagnose;
 use nquads_core::Device;
 use spq_core::{Command, RunFault, Stage, write_fault};
