@@ -8,8 +8,8 @@
 //! [`Input`] and [`Output`] are the devices of a run. They keep the first error of the system, whose text the
 //! message shows, and an `Input` tells a [`Meter`] what it reads.
 //!
-//! To read in this order: `devices`, `console` (what a terminal shows while a document is read), `account` (what a message is made of), `failures` (a message for each
-//! fault), `warnings`, `reports`. The tests of this crate run tables of messages.
+//! To read in this order: `devices`, `console` (what a terminal shows while a document is read), `account` (what a
+//! message is made of), `failures` (a message for each fault), `warnings`, `reports`. The tests in report_tests run tables of messages.
 //!
 //! Not promised: that standard error takes the message.
 #![tactic(auto)]
@@ -19,8 +19,6 @@ mod console;
 mod devices;
 mod failures;
 mod reports;
-#[cfg(test)]
-mod tests;
 mod warnings;
 
 pub use account::Account;

@@ -1,9 +1,7 @@
 //! What is written for words and a document.
 
-use crate::account::Account;
-use crate::devices::{Input, NoMeter, Output};
-use crate::reports::report;
 use spq_core::run_words;
+use spq_report::{Account, Input, NoMeter, Output, report};
 use std::alloc::{AllocError, Global};
 use std::random::RandomSource;
 use std::sync::Wait;

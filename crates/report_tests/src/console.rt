@@ -1,7 +1,6 @@
 //! What a terminal shows while a document is read.
 
-use crate::console::{Console, Terminals};
-use crate::devices::Meter;
+use spq_report::{Console, Meter, Terminals};
 use std::alloc::Global;
 use std::cell::Cell;
 use std::io;

@@ -1,4 +1,0 @@
-//! Messages by worked examples, over devices in memory.
-
-mod console;
-mod messages;
