@@ -12,6 +12,7 @@ use Rattle.std.proofs.lemmas.Bool.Decides.{nat_tests}
 use Rattle.std.proofs.lemmas.Str.{encode_ascii, encodes-append, chars-encodes, inside_one, NoCharPasses-byte}
 use Rattle.rdf_core.specs.declared.term.Term.{Term}
 use Rattle.rdf_core.specs.QuadParts.{QuadParts}
+use Rattle.rdf_core.specs.QuadFacts.{is_graph_name, is_iri, is_node}
 use Rattle.rdf_core.specs.declared.term.Term.TheVariants.{Blank, Iri, Literal}
 use Rattle.rdf_core.specs.Spelling.{spelling, suffix, escaped}
 use Rattle.rdf_core.specs.declared.lexical.escapes.Inside.TheVariants.{Iri}
@@ -20,9 +21,10 @@ use Rattle.rdf_core.specs.Characters.{begins}
 use Rattle.rdf_core.specs.Escapes.{IsIriPart, IsStringPart, Writes}
 use Rattle.rdf_core.specs.Lexical.{is_tag, is_tag_tail, is_subtags, has_scheme}
 use Rattle.nquads_core.specs.Terminal.{Terminal, iri_ref, blank_label, quoted, lang_tag, carets, dot, is_label, is_label_tail}
-use Rattle.nquads_core.specs.Reading.{iri_at, string_at, terminal_at, skip_blanks, next, literal_of, object_of, whole, statement_at, line_at}
+use Rattle.nquads_core.specs.Reading.{iri_at, string_at, terminal_at, skip_blanks, next, node_of, literal_of, object_of, graph_of, whole, is_end, statement_at, line_at}
+use Rattle.nquads_core.specs.Grammar.{Spells, Subject, iri_subject, blank_subject, Predicate, iri_predicate, GraphLabel, no_graph, iri_graph, blank_graph}
 use Rattle.rdf_core.specs.Vocabulary.{xsd_string, rdf_lang_string}
-use Rattle.nquads_core.specs.Laws.{object_line, with_object, ReadsBack}
+use Rattle.nquads_core.specs.Laws.{IsSpelled, LinesReadBack, QuadsReadBack, ReadsBack, line_end, quad_line}
 use Rattle.std.specs.Str.{bytes_eq}
 use Rattle.std.proofs.lemmas.Slice.Eq.{bytes_eq-Decides}
 use lib.Utf8.{scalar}
@@ -30,7 +32,7 @@ use Rattle.nquads_core.proofs.Spelled.{GoodText, GoodIri, GoodLabel, GoodTag, Go
 use Rattle.rdf_core.proofs.EscapeSteps.{eqb_no}
 use Rattle.nquads_core.proofs.Runs.{ascii_cons, primary_ascii, alnum_ascii, alpha_ascii}
 use Rattle.rdf_core.proofs.EscapeSteps.{which}
-use Rattle.rdf_core.proofs.EscapeLaws.{and_is, and_parts}
+use Rattle.rdf_core.proofs.EscapeLaws.{and_is, and_parts, none_some}
 use Rattle.nquads_core.proofs.TokenSteps.{iri_body_again, string_body_again}
 use Rattle.nquads_core.proofs.LineLaws.{line_sound}
 use Rattle.nquads_core.proofs.Meaning.{OneLine}
@@ -246,25 +248,26 @@ next_dot : next (32 ∷ 46 ∷ []) ≡ Some (dot, [])
 unfolding skip_blanks terminal_at
 next_dot = refl
 
-next_label : (cs : List ℕ) → is_label cs ≡ true → next (32 ∷ 95 ∷ 58 ∷ cs ++ End) ≡ Some (blank_label (encode_utf8_all cs), End)
+next_label : (cs R : List ℕ) → is_label cs ≡ true → next (95 ∷ 58 ∷ cs ++ 32 ∷ R) ≡ Some (blank_label (encode_utf8_all cs), 32 ∷ R)
 unfolding skip_blanks terminal_at
-next_label cs h = rw (label_followed cs (46 ∷ []) h) refl
+next_label cs R h = rw (label_followed cs R h) refl
+
+-- a blank before a terminal is skipped
+next_blank : (cs : List ℕ) → next (32 ∷ cs) ≡ next cs
+unfolding skip_blanks
+next_blank cs = refl
 
 next_iri : (cs bytes rest : List ℕ) → all_pass is_iri_char cs ≡ true → bytes ≡ encode_utf8_all cs → has_scheme bytes ≡ true → next (60 ∷ (cs ++ 62 ∷ rest)) ≡ Some (iri_ref bytes, rest)
 unfolding skip_blanks terminal_at
 next_iri cs bytes rest h u s = rw (iri_again cs bytes rest h u s) refl
 
-next_blank_iri : (cs bytes rest : List ℕ) → all_pass is_iri_char cs ≡ true → bytes ≡ encode_utf8_all cs → has_scheme bytes ≡ true → next (32 ∷ 60 ∷ (cs ++ 62 ∷ rest)) ≡ Some (iri_ref bytes, rest)
-unfolding skip_blanks terminal_at
-next_blank_iri cs bytes rest h u s = rw (iri_again cs bytes rest h u s) refl
-
-next_string : (cs rest : List ℕ) → next (32 ∷ 34 ∷ (flat_map escaped cs ++ 34 ∷ rest)) ≡ Some (quoted (encode_utf8_all cs), rest)
+next_string : (cs rest : List ℕ) → next (34 ∷ (flat_map escaped cs ++ 34 ∷ rest)) ≡ Some (quoted (encode_utf8_all cs), rest)
 unfolding skip_blanks terminal_at
 next_string cs rest = rw (string_again cs rest) refl
 
-next_tag : (cs : List ℕ) → is_tag cs ≡ true → next (64 ∷ cs ++ End) ≡ Some (lang_tag (map to_ascii_lowercase cs), End)
+next_tag : (cs R : List ℕ) → is_tag cs ≡ true → next (64 ∷ cs ++ 32 ∷ R) ≡ Some (lang_tag (map to_ascii_lowercase cs), 32 ∷ R)
 unfolding skip_blanks terminal_at
-next_tag cs h = rw (tag_followed cs (46 ∷ []) h) refl
+next_tag cs R h = rw (tag_followed cs R h) refl
 
 next_carets : (rest : List ℕ) → next (94 ∷ 94 ∷ rest) ≡ Some (carets, rest)
 unfolding skip_blanks terminal_at
@@ -273,48 +276,75 @@ next_carets rest = refl
 enc_cons : (c : ℕ) (cs : List ℕ) → c < 128 → encode_utf8_all (c ∷ cs) ≡ c ∷ encode_utf8_all cs
 enc_cons c cs h = rw (encode_ascii c h) refl
 
+-- a term as its serialization has it: the characters, which hold no line end
 record Written (t : Term) : Type 0 where
   S : List ℕ
   scalars : all_scalars S ≡ true
   utf8 : spelling t ≡ encode_utf8_all S
   plain : NonePass is_line_end S
+
+-- what follows a term in a line: a blank, and then a terminal that continues no literal
+record Follows (R : List ℕ) (w : Terminal × List ℕ) : Type 0 where
+  reads : next (32 ∷ R) ≡ Some w
+  ends : (lexical : List ℕ) → literal_of lexical w ≡ Some (Literal lexical xsd_string None, w)
+
+-- such characters are read as the term, and then what follows
+record IsRead (t : Term) (S R : List ℕ) (w : Terminal × List ℕ) : Type 0 where
   k : Terminal
   r : List ℕ
-  w : Terminal × List ℕ
-  first : next (32 ∷ (S ++ End)) ≡ Some (k, r)
-  second : next r ≡ Some w
-  object : object_of k w ≡ Some (t, (dot, []))
+  v : Terminal × List ℕ
+  first : next (S ++ 32 ∷ R) ≡ Some (k, r)
+  second : next r ≡ Some v
+  object : object_of k v ≡ Some (t, w)
 
-written_label : (label : List ℕ) → GoodLabel label → Written (Blank label)
-written_label label g = record {
-  S = 95 ∷ 58 ∷ g.chars;
-  scalars = g.scalars;
-  utf8 = sym (enc_cons 95 (58 ∷ g.chars) (lit< tt) ∙ ap (λ (y : List ℕ). 95 ∷ y) (enc_cons 58 g.chars (lit< tt) ∙ ap (λ (y : List ℕ). 58 ∷ y) (sym g.utf8)));
-  plain = (refl, (refl, label_none g.chars g.right));
+record IsWritten (t : Term) : Type 0 where
+  form : Written t
+  read : (R : List ℕ) (w : Terminal × List ℕ) → Follows R w → IsRead t form.S R w
+
+-- a term that is no literal is one terminal
+record IsNode (t : Term) : Type 0 where
+  form : Written t
+  k : Terminal
+  node : node_of k ≡ Some t
+  one : (v : Terminal × List ℕ) → object_of k v ≡ Some (t, v)
+  read : (R : List ℕ) → next (form.S ++ 32 ∷ R) ≡ Some (k, 32 ∷ R)
+
+node_written : (t : Term) → IsNode t → IsWritten t
+node_written t n = record {
+  form = n.form;
+  read = λ R w f. record { k = n.k; r = 32 ∷ R; v = w; first = n.read R; second = f.reads; object = n.one w };
+}
+
+label_node : (label : List ℕ) → GoodLabel label → IsNode (Blank label)
+label_node label g = record {
+  form = record {
+    S = 95 ∷ 58 ∷ g.chars;
+    scalars = g.scalars;
+    utf8 = sym (enc_cons 95 (58 ∷ g.chars) (lit< tt) ∙ ap (λ (y : List ℕ). 95 ∷ y) (enc_cons 58 g.chars (lit< tt) ∙ ap (λ (y : List ℕ). 58 ∷ y) (sym g.utf8)));
+    plain = (refl, (refl, label_none g.chars g.right));
+  };
   k = blank_label label;
-  r = End;
-  w = (dot, []);
-  first = next_label g.chars g.right ∙ ap (λ (y : List ℕ). Some (blank_label y, End)) (sym g.utf8);
-  second = next_dot;
-  object = refl;
+  node = refl;
+  one = λ v. refl;
+  read = λ R. next_label g.chars R g.right ∙ ap (λ (y : List ℕ). Some (blank_label y, 32 ∷ R)) (sym g.utf8);
 }
 
 iri_utf8 : (cs bytes : List ℕ) → bytes ≡ encode_utf8_all cs → 60 ∷ (bytes ++ 62 ∷ []) ≡ encode_utf8_all (60 ∷ (cs ++ 62 ∷ []))
 iri_utf8 cs bytes u =
     sym (enc_cons 60 (cs ++ 62 ∷ []) (lit< tt) ∙ ap (λ (y : List ℕ). 60 ∷ y) (encodes-append cs (62 ∷ []) ∙ ap (λ (y : List ℕ). encode_utf8_all cs ++ y) (enc_cons 62 [] (lit< tt)) ∙ ap (λ (y : List ℕ). y ++ 62 ∷ []) (sym u)))
 
-written_iri : (text : List ℕ) → GoodIri text → Written (Iri text)
-written_iri text g = record {
-  S = 60 ∷ (g.chars ++ 62 ∷ []);
-  scalars = sc_join g.chars (62 ∷ []) g.scalars refl;
-  utf8 = iri_utf8 g.chars text g.utf8;
-  plain = (refl, none_join g.chars (62 ∷ []) (iri_none g.chars g.right) (refl, tt));
+iri_node : (text : List ℕ) → GoodIri text → IsNode (Iri text)
+iri_node text g = record {
+  form = record {
+    S = 60 ∷ (g.chars ++ 62 ∷ []);
+    scalars = sc_join g.chars (62 ∷ []) g.scalars refl;
+    utf8 = iri_utf8 g.chars text g.utf8;
+    plain = (refl, none_join g.chars (62 ∷ []) (iri_none g.chars g.right) (refl, tt));
+  };
   k = iri_ref text;
-  r = End;
-  w = (dot, []);
-  first = ap (λ (y : List ℕ). next (32 ∷ 60 ∷ y)) (append_assoc g.chars (62 ∷ []) End) ∙ next_blank_iri g.chars text End g.right g.utf8 g.scheme;
-  second = next_dot;
-  object = refl;
+  node = refl;
+  one = λ v. refl;
+  read = λ R. ap (λ (y : List ℕ). next (60 ∷ y)) (append_assoc g.chars (62 ∷ []) (32 ∷ R)) ∙ next_iri g.chars text (32 ∷ R) g.right g.utf8 g.scheme;
 }
 
 escaped_scalars : (c : ℕ) → scalar c ≡ true → all_scalars (escaped c) ≡ true
@@ -343,34 +373,52 @@ lit_utf8 lex cs B suf u v =
     (encodes-append (flat_map escaped cs) (34 ∷ suf) ∙ ap (λ (y : List ℕ). encode_utf8_all (flat_map escaped cs) ++ y) (enc_cons 34 suf (lit< tt) ∙ ap (λ (y : List ℕ). 34 ∷ y) (sym v))
     ∙ ap (λ (y : List ℕ). y ++ 34 ∷ B) (sym (lexical_utf8 cs) ∙ ap (λ (y : List ℕ). flat_map escaped y) (sym u))))
 
-written_literal : (lex dt : List ℕ) (tag : Option (List ℕ)) → GoodText lex → (suf : List ℕ) → suffix dt tag ≡ encode_utf8_all suf → all_scalars suf ≡ true → NonePass is_line_end suf → (w : Terminal × List ℕ) → next (suf ++ End) ≡ Some w → literal_of lex w ≡ Some (Literal lex dt tag, (dot, [])) → Written (Literal lex dt tag)
-written_literal lex dt tag g suf v sc np w e o = record {
-  S = 34 ∷ (flat_map escaped g.chars ++ 34 ∷ suf);
-  scalars = sc_join (flat_map escaped g.chars) (34 ∷ suf) (lexical_scalars g.chars g.scalars) sc;
-  utf8 = lit_utf8 lex g.chars (suffix dt tag) suf g.utf8 v;
-  plain = (refl, none_join (flat_map escaped g.chars) (34 ∷ suf) (lexical_none g.chars) (refl, np));
-  k = quoted lex;
-  r = suf ++ End;
-  w = w;
-  first = ap (λ (y : List ℕ). next (32 ∷ 34 ∷ y)) (append_assoc (flat_map escaped g.chars) (34 ∷ suf) End) ∙ next_string g.chars (suf ++ End) ∙ ap (λ (y : List ℕ). Some (quoted y, suf ++ End)) (sym g.utf8);
-  second = e;
-  object = o;
+-- what follows a closing quote: a tag, a datatype or nothing, and then what follows the literal
+record IsSuffix (lex dt : List ℕ) (tag : Option (List ℕ)) (suf R : List ℕ) (w : Terminal × List ℕ) : Type 0 where
+  v : Terminal × List ℕ
+  reads : next (suf ++ 32 ∷ R) ≡ Some v
+  literal : literal_of lex v ≡ Some (Literal lex dt tag, w)
+
+written_literal : (lex dt : List ℕ) (tag : Option (List ℕ)) → GoodText lex → (suf : List ℕ) → suffix dt tag ≡ encode_utf8_all suf → all_scalars suf ≡ true → NonePass is_line_end suf
+    → ((R : List ℕ) (w : Terminal × List ℕ) → Follows R w → IsSuffix lex dt tag suf R w) → IsWritten (Literal lex dt tag)
+written_literal lex dt tag g suf u sc np e = record {
+  form = record {
+    S = 34 ∷ (flat_map escaped g.chars ++ 34 ∷ suf);
+    scalars = sc_join (flat_map escaped g.chars) (34 ∷ suf) (lexical_scalars g.chars g.scalars) sc;
+    utf8 = lit_utf8 lex g.chars (suffix dt tag) suf g.utf8 u;
+    plain = (refl, none_join (flat_map escaped g.chars) (34 ∷ suf) (lexical_none g.chars) (refl, np));
+  };
+  read = λ R w f. let x = e R w f in record {
+    k = quoted lex;
+    r = suf ++ 32 ∷ R;
+    v = x.v;
+    first = ap (λ (y : List ℕ). next (34 ∷ y)) (append_assoc (flat_map escaped g.chars) (34 ∷ suf) (32 ∷ R)) ∙ next_string g.chars (suf ++ 32 ∷ R) ∙ ap (λ (y : List ℕ). Some (quoted y, suf ++ 32 ∷ R)) (sym g.utf8);
+    second = x.reads;
+    object = x.literal;
+  };
 }
 
-plain_literal : (lex : List ℕ) → GoodText lex → Written (Literal lex xsd_string None)
-plain_literal lex g = written_literal lex xsd_string None g [] refl refl tt (dot, []) next_dot refl
+plain_literal : (lex : List ℕ) → GoodText lex → IsWritten (Literal lex xsd_string None)
+plain_literal lex g = written_literal lex xsd_string None g [] refl refl tt (λ R w f. record { v = w; reads = f.reads; literal = f.ends lex })
 
-typed_literal : (lex dt : List ℕ) → GoodText lex → GoodIri dt → Written (Literal lex dt None)
+typed_suffix : (lex dt : List ℕ) (i : GoodIri dt) (R : List ℕ) (w : Terminal × List ℕ) → Follows R w → IsSuffix lex dt None (94 ∷ 94 ∷ 60 ∷ (i.chars ++ 62 ∷ [])) R w
+typed_suffix lex dt i R w f =
+    let iri = ap (λ (y : List ℕ). next (60 ∷ y)) (append_assoc i.chars (62 ∷ []) (32 ∷ R)) ∙ next_iri i.chars dt (32 ∷ R) i.right i.utf8 i.scheme in
+    record {
+      v = (carets, 60 ∷ (i.chars ++ 62 ∷ []) ++ 32 ∷ R);
+      reads = next_carets (60 ∷ (i.chars ++ 62 ∷ []) ++ 32 ∷ R);
+      literal = rw iri (rw f.reads refl);
+    }
+
+typed_literal : (lex dt : List ℕ) → GoodText lex → GoodIri dt → IsWritten (Literal lex dt None)
 typed_literal lex dt g i =
     elim (which (bytes_eq dt xsd_string)) [
-      | inl h ↦ subst (λ (y : List ℕ). Written (Literal lex y None)) (sym ((bytes_eq-Decides dt xsd_string).0 h)) (plain_literal lex g)
+      | inl h ↦ subst (λ (y : List ℕ). IsWritten (Literal lex y None)) (sym ((bytes_eq-Decides dt xsd_string).0 h)) (plain_literal lex g)
       | inr h ↦
-          let tail = 60 ∷ (i.chars ++ 62 ∷ []) in
-          let iri = ap (λ (y : List ℕ). next (60 ∷ y)) (append_assoc i.chars (62 ∷ []) End) ∙ next_iri i.chars dt End i.right i.utf8 i.scheme in
           let enc = enc_cons 94 (94 ∷ 60 ∷ (i.chars ++ 62 ∷ [])) (lit< tt) ∙ ap (λ (y : List ℕ). 94 ∷ y) (enc_cons 94 (60 ∷ (i.chars ++ 62 ∷ [])) (lit< tt) ∙ ap (λ (y : List ℕ). 94 ∷ y) (sym (iri_utf8 i.chars dt i.utf8))) in
           written_literal lex dt None g (94 ∷ 94 ∷ 60 ∷ (i.chars ++ 62 ∷ [])) (rw h (sym enc)) (sc_join i.chars (62 ∷ []) i.scalars refl)
           (refl, (refl, (refl, none_join i.chars (62 ∷ []) (iri_none i.chars i.right) (refl, tt))))
-          (carets, 60 ∷ (i.chars ++ 62 ∷ []) ++ End) (next_carets (60 ∷ (i.chars ++ 62 ∷ []) ++ End)) (rw iri (rw next_dot refl))
+          (typed_suffix lex dt i)
     ]
 
 tag_ascii : (cs : List ℕ) → is_tag_tail cs ≡ true → encode_utf8_all cs ≡ cs
@@ -396,47 +444,114 @@ tag_scalars (c ∷ cs) h =
           and_is (scalar c) (all_scalars cs) (rw (eqb-true c 45 q.0) refl) (subtags_scalars cs p.1)
     ]
 
-tagged_literal : (lex tag : List ℕ) → GoodText lex → GoodTag tag → Written (Literal lex rdf_lang_string (Some tag))
+tagged_literal : (lex tag : List ℕ) → GoodText lex → GoodTag tag → IsWritten (Literal lex rdf_lang_string (Some tag))
 tagged_literal lex tag g t =
     let T = map to_ascii_lowercase t.tag in
     let right : is_tag (map to_ascii_lowercase t.tag) ≡ true = lower_tag t.tag t.right in
     let p = and_parts (begins is_ascii_alphabetic T) (is_tag_tail T) right in
-    let read = next_tag T right ∙ ap (λ (y : List ℕ). Some (lang_tag y, End)) (lower_twice t.tag ∙ sym t.lower) in
     written_literal lex rdf_lang_string (Some tag) g (64 ∷ T) (sym (enc_cons 64 T (lit< tt) ∙ ap (λ (y : List ℕ). 64 ∷ y) (tag_ascii T p.1 ∙ sym t.lower))) (tag_scalars T p.1) (refl, primary_none T p.1)
-    (lang_tag tag, End) read (rw next_dot refl)
+    (λ R w f. record {
+      v = (lang_tag tag, 32 ∷ R);
+      reads = next_tag T R right ∙ ap (λ (y : List ℕ). Some (lang_tag y, 32 ∷ R)) (lower_twice t.tag ∙ sym t.lower);
+      literal = rw f.reads refl;
+    })
 
-written : (t : Term) → GoodTerm t → Written t
-written (Blank label) g = written_label label g
-written (Iri text) g = written_iri text g
+written : (t : Term) → GoodTerm t → IsWritten t
+written (Blank label) g = node_written (Blank label) (label_node label g)
+written (Iri text) g = node_written (Iri text) (iri_node text g)
 written (Literal lex dt None) g =
-    elim g.1 [ inl e ↦ subst (λ (y : List ℕ). Written (Literal lex y None)) (sym e) (plain_literal lex g.0) | inr i ↦ typed_literal lex dt g.0 i ]
-written (Literal lex dt (Some tag)) g = subst (λ (y : List ℕ). Written (Literal lex y (Some tag))) (sym g.1) (tagged_literal lex tag g.0 g.2)
+    elim g.1 [ inl e ↦ subst (λ (y : List ℕ). IsWritten (Literal lex y None)) (sym e) (plain_literal lex g.0) | inr i ↦ typed_literal lex dt g.0 i ]
+written (Literal lex dt (Some tag)) g = subst (λ (y : List ℕ). IsWritten (Literal lex y (Some tag))) (sym g.1) (tagged_literal lex tag g.0 g.2)
+
+good_node : (t : Term) → is_node t ≡ true → GoodTerm t → IsNode t
+good_node (Blank label) h g = label_node label g
+good_node (Iri text) h g = iri_node text g
+good_node (Literal lex dt tag) h g = absurd cc
 
 -- ---- the line
 
-front_a : (rest : List ℕ) → next (60 ∷ 97 ∷ 58 ∷ 62 ∷ rest) ≡ Some (iri_ref (97 ∷ 58 ∷ []), rest)
-front_a rest = next_iri (97 ∷ 58 ∷ []) (97 ∷ 58 ∷ []) rest refl (sym (enc_cons 97 (58 ∷ []) (lit< tt) ∙ ap (λ (y : List ℕ). 97 ∷ y) (enc_cons 58 [] (lit< tt)))) refl
+-- the characters of terms with a blank behind each
+blank_utf8 : (S bytes : List ℕ) (t : Term) (h : Written t) → bytes ≡ encode_utf8_all S → spelling t ++ 32 ∷ bytes ≡ encode_utf8_all (h.S ++ 32 ∷ S)
+blank_utf8 S bytes t h e =
+    sym (encodes-append h.S (32 ∷ S) ∙ ap (λ (y : List ℕ). encode_utf8_all h.S ++ y) (enc_cons 32 S (lit< tt) ∙ ap (λ (y : List ℕ). 32 ∷ y) (sym e)) ∙ ap (λ (y : List ℕ). y ++ 32 ∷ bytes) (sym h.utf8))
 
-front_b : (rest : List ℕ) → next (32 ∷ 60 ∷ 97 ∷ 58 ∷ 62 ∷ rest) ≡ Some (iri_ref (97 ∷ 58 ∷ []), rest)
-front_b rest = next_blank_iri (97 ∷ 58 ∷ []) (97 ∷ 58 ∷ []) rest refl (sym (enc_cons 97 (58 ∷ []) (lit< tt) ∙ ap (λ (y : List ℕ). 97 ∷ y) (enc_cons 58 [] (lit< tt)))) refl
+blank_scalars : (S : List ℕ) (t : Term) (h : Written t) → all_scalars S ≡ true → all_scalars (h.S ++ 32 ∷ S) ≡ true
+blank_scalars S t h e = sc_join h.S (32 ∷ S) h.scalars e
+
+blank_none : (S : List ℕ) (t : Term) (h : Written t) → NonePass is_line_end S → NonePass is_line_end (h.S ++ 32 ∷ S)
+blank_none S t h n = none_join h.S (32 ∷ S) h.plain (refl, n)
+
+-- the end of a line: a graph name or none, and the dot
+record IsLineEnd (g : Option Term) : Type 0 where
+  S : List ℕ
+  scalars : all_scalars S ≡ true
+  utf8 : line_end g ≡ encode_utf8_all S
+  plain : NonePass is_line_end S
+  w : Terminal × List ℕ
+  follows : Follows S w
+  graph : graph_of w ≡ Some (g, [])
+
+dot_end : IsLineEnd None
+dot_end = record {
+  S = 46 ∷ [];
+  scalars = refl;
+  utf8 = sym (enc_cons 46 [] (lit< tt));
+  plain = (refl, tt);
+  w = (dot, []);
+  follows = record { reads = next_dot; ends = λ lexical. refl };
+  graph = refl;
+}
+
+graph_end : (t : Term) → is_node t ≡ true → GoodTerm t → IsLineEnd (Some t)
+unfolding label_node iri_node
+graph_end (Blank label) h g = let n = label_node label g in record {
+  S = n.form.S ++ 32 ∷ 46 ∷ [];
+  scalars = blank_scalars (46 ∷ []) (Blank label) n.form refl;
+  utf8 = blank_utf8 (46 ∷ []) (46 ∷ []) (Blank label) n.form (sym (enc_cons 46 [] (lit< tt)));
+  plain = blank_none (46 ∷ []) (Blank label) n.form (refl, tt);
+  w = (blank_label label, 32 ∷ 46 ∷ []);
+  follows = record { reads = next_blank (n.form.S ++ 32 ∷ 46 ∷ []) ∙ n.read (46 ∷ []); ends = λ lexical. refl };
+  graph = rw next_dot refl;
+}
+graph_end (Iri text) h g = let n = iri_node text g in record {
+  S = n.form.S ++ 32 ∷ 46 ∷ [];
+  scalars = blank_scalars (46 ∷ []) (Iri text) n.form refl;
+  utf8 = blank_utf8 (46 ∷ []) (46 ∷ []) (Iri text) n.form (sym (enc_cons 46 [] (lit< tt)));
+  plain = blank_none (46 ∷ []) (Iri text) n.form (refl, tt);
+  w = (iri_ref text, 32 ∷ 46 ∷ []);
+  follows = record { reads = next_blank (n.form.S ++ 32 ∷ 46 ∷ []) ∙ n.read (46 ∷ []); ends = λ lexical. refl };
+  graph = rw next_dot refl;
+}
+graph_end (Literal lex dt tag) h g = absurd cc
+
+line_end_of : (g : Option Term) → is_graph_name g ≡ true → ((t : Term) → g ≡ Some t → GoodTerm t) → IsLineEnd g
+line_end_of None h good = dot_end
+line_end_of (Some t) h good = graph_end t h (good t refl)
 
 whole_nil : (q : QuadParts) → whole q [] ≡ Some (Some q)
 unfolding skip_blanks
 whole_nil q = refl
 
-statement_with : (t : Term) (h : Written t) → statement_at (60 ∷ 97 ∷ 58 ∷ 62 ∷ 32 ∷ 60 ∷ 97 ∷ 58 ∷ 62 ∷ 32 ∷ (h.S ++ End)) ≡ Some (Some (with_object t))
+statement_reads : (cs R R' r : List ℕ) (k o : Terminal) (text : List ℕ) (s t : Term) (g : Option Term) (v w : Terminal × List ℕ)
+    → next cs ≡ Some (k, R) → node_of k ≡ Some s → next R ≡ Some (iri_ref text, R') → next R' ≡ Some (o, r) → next r ≡ Some v → object_of o v ≡ Some (t, w) → graph_of w ≡ Some (g, [])
+    → statement_at cs ≡ Some (Some (record { s = s; p = Iri text; o = t; g = g }))
 unfolding statement_at
-statement_with t h =
-    rw (front_a (32 ∷ 60 ∷ 97 ∷ 58 ∷ 62 ∷ 32 ∷ (h.S ++ End))) (rw (front_b (32 ∷ (h.S ++ End))) (rw (h.first) (rw (h.second) (rw (h.object) (whole_nil (with_object t))))))
+statement_reads cs R R' r k o text s t g v w a b c d e f h =
+    rw a (rw b (rw c (rw d (rw e (rw f (rw h (whole_nil (record { s = s; p = Iri text; o = t; g = g }))))))))
 
-line_with : (t : Term) (h : Written t) → line_at (60 ∷ 97 ∷ 58 ∷ 62 ∷ 32 ∷ 60 ∷ 97 ∷ 58 ∷ 62 ∷ 32 ∷ (h.S ++ End)) ≡ Some (Some (with_object t))
-unfolding line_at skip_blanks
-line_with t h = statement_with t h
+-- where a terminal begins, no comment does
+no_end_at : (cs : List ℕ) (x : Terminal × List ℕ) → terminal_at cs ≡ Some x → is_end cs ≡ false
+unfolding terminal_at
+no_end_at [] x e = absurd cc
+no_end_at (c ∷ cs) x e =
+    elim (which (eqb c 35)) [
+      | inl h ↦ absurd (none_some x (subst (λ (y : ℕ). terminal_at (y ∷ cs) ≡ Some x) (eqb-true c 35 h) e))
+      | inr h ↦ h
+    ]
 
-line_utf8 : (t : Term) (h : Written t) → encode_utf8_all (60 ∷ 97 ∷ 58 ∷ 62 ∷ 32 ∷ 60 ∷ 97 ∷ 58 ∷ 62 ∷ 32 ∷ (h.S ++ End)) ≡ object_line t
-line_utf8 t h =
-    rw (encode_ascii 60 (lit< tt), encode_ascii 97 (lit< tt), encode_ascii 58 (lit< tt), encode_ascii 62 (lit< tt), encode_ascii 32 (lit< tt), encodes-append h.S End, ← h.utf8)
-    (ap (λ (y : List ℕ). 60 ∷ 97 ∷ 58 ∷ 62 ∷ 32 ∷ 60 ∷ 97 ∷ 58 ∷ 62 ∷ 32 ∷ (spelling t ++ y)) (enc_cons 32 (46 ∷ []) (lit< tt) ∙ ap (λ (y : List ℕ). 32 ∷ y) (enc_cons 46 [] (lit< tt))))
+line_starts : (cs : List ℕ) (x : Terminal × List ℕ) → next cs ≡ Some x → line_at cs ≡ statement_at cs
+unfolding line_at
+line_starts cs x e = rw (no_end_at (skip_blanks cs) x e) refl
 
 -- a byte that ends a line would be a character that does
 one_line_of : (line cs : List ℕ) → encode_utf8_all cs ≡ line → NonePass is_line_end cs → OneLine line
@@ -445,18 +560,74 @@ one_line_of line cs e n = λ i l. (
   λ k. false_true (sym (NoCharPasses-byte is_line_end line i (cs, e, n) l (omega (arith, k))) ∙ ap is_line_end k),
 )
 
-pub reads_back : ReadsBack
-reads_back line q t s o =
-    let h = written t (term_good line q t s o) in
-    let cs : List ℕ = 60 ∷ 97 ∷ 58 ∷ 62 ∷ 32 ∷ 60 ∷ 97 ∷ 58 ∷ 62 ∷ 32 ∷ (h.S ++ End) in
-    let sc : all_scalars cs ≡ true = sc_join h.S End h.scalars refl in
-    let e = line_utf8 t h in
-    let read : line_at (chars (object_line t)) ≡ Some (Some (with_object t)) = ap (λ (y : List ℕ). line_at (chars y)) (sym e) ∙ ap line_at (chars-encodes cs sc) ∙ line_with t h in
-    let r = line_sound (chars (object_line t)) (Some (with_object t)) read in
+line_spelled : (s : Term) (text : List ℕ) (o : Term) (g : Option Term) → IsNode s → GoodIri text → IsWritten o → IsLineEnd g
+    → Spells (quad_line (record { s = s; p = Iri text; o = o; g = g })) (Some (record { s = s; p = Iri text; o = o; g = g }))
+unfolding iri_node
+line_spelled s text o g a good c d =
+    let q : QuadParts = record { s = s; p = Iri text; o = o; g = g } in
+    let b = iri_node text good in
+    let S2 : List ℕ = c.form.S ++ 32 ∷ d.S in
+    let S1 : List ℕ = b.form.S ++ 32 ∷ S2 in
+    let S0 : List ℕ = a.form.S ++ 32 ∷ S1 in
+    let bytes2 : List ℕ = spelling o ++ 32 ∷ line_end g in
+    let bytes1 : List ℕ = spelling (Iri text) ++ 32 ∷ bytes2 in
+    let e : encode_utf8_all S0 ≡ quad_line q = sym (blank_utf8 S1 bytes1 s a.form (blank_utf8 S2 bytes2 (Iri text) b.form (blank_utf8 d.S (line_end g) o c.form d.utf8))) in
+    let sc : all_scalars S0 ≡ true = blank_scalars S1 s a.form (blank_scalars S2 (Iri text) b.form (blank_scalars d.S o c.form d.scalars)) in
+    let n = blank_none S1 s a.form (blank_none S2 (Iri text) b.form (blank_none d.S o c.form d.plain)) in
+    let x = c.read d.S d.w d.follows in
+    let statement = statement_reads S0 (32 ∷ S1) (32 ∷ S2) x.r a.k x.k text s o g x.v d.w (a.read S1) a.node (next_blank S1 ∙ b.read S2) (next_blank S2 ∙ x.first) x.second x.object d.graph in
+    let read : line_at (chars (quad_line q)) ≡ Some (Some q) =
+    ap (λ (y : List ℕ). line_at (chars y)) (sym e) ∙ ap line_at (chars-encodes S0 sc) ∙ line_starts S0 (a.k, 32 ∷ S1) (a.read S1) ∙ statement in
+    let r = line_sound (chars (quad_line q)) (Some q) read in
     record {
-      utf8 = (cs, (sc, e));
-      one_line = one_line_of (object_line t) cs e (refl, (refl, (refl, (refl, (refl, (refl, (refl, (refl, (refl, (refl, none_join h.S End h.plain (refl, (refl, tt))))))))))));
+      utf8 = (S0, (sc, e));
+      one_line = one_line_of (quad_line q) S0 e n;
       terminals = r.terminals;
       splits = r.splits;
       derives = r.derives;
     }
+
+-- a term that occurs in a quad that some line spells
+good_of : (t : Term) → IsSpelled t → GoodTerm t
+good_of t h = term_good h.0 h.1 t h.2 h.3
+
+predicate_spelled : (s p o : Term) (g : Option Term) → IsNode s → is_iri p ≡ true → GoodTerm p → IsWritten o → IsLineEnd g
+    → Spells (quad_line (record { s = s; p = p; o = o; g = g })) (Some (record { s = s; p = p; o = o; g = g }))
+predicate_spelled s (Iri text) o g a i good c d = line_spelled s text o g a good c d
+predicate_spelled s (Blank label) o g a i good c d = absurd cc
+predicate_spelled s (Literal lex dt tag) o g a i good c d = absurd cc
+
+pub quads_read_back : QuadsReadBack
+quads_read_back q h =
+    predicate_spelled q.s q.p q.o q.g (good_node q.s h.is_subject (good_of q.s h.subject)) h.is_predicate (good_of q.p h.predicate) (written q.o (good_of q.o h.object))
+    (line_end_of q.g h.is_graph (λ t e. good_of t (h.graph t e)))
+
+subject_node : {ks : List Terminal} {t : Term} → Subject ks t → is_node t ≡ true
+subject_node iri_subject = refl
+subject_node blank_subject = refl
+
+predicate_iri : {ks : List Terminal} {t : Term} → Predicate ks t → is_iri t ≡ true
+predicate_iri iri_predicate = refl
+
+graph_label : {ks : List Terminal} {g : Option Term} → GraphLabel ks g → is_graph_name g ≡ true
+graph_label no_graph = refl
+graph_label iri_graph = refl
+graph_label blank_graph = refl
+
+pub lines_read_back : LinesReadBack
+lines_read_back line q h = quads_read_back q (record {
+  subject = (line, q, h, inl refl);
+  predicate = (line, q, h, inr (inl refl));
+  object = (line, q, h, inr (inr (inl refl)));
+  graph = λ t e. (line, q, h, inr (inr (inr e)));
+  is_subject = subject_node h.derives.subject;
+  is_predicate = predicate_iri h.derives.predicate;
+  is_graph = graph_label h.derives.graph;
+})
+
+a_iri : GoodIri (97 ∷ 58 ∷ [])
+a_iri = record { chars = 97 ∷ 58 ∷ []; scalars = refl; utf8 = sym (enc_cons 97 (58 ∷ []) (lit< tt) ∙ ap (λ (y : List ℕ). 97 ∷ y) (enc_cons 58 [] (lit< tt))); right = refl; scheme = refl }
+
+pub reads_back : ReadsBack
+reads_back line q t s o =
+    line_spelled (Iri (97 ∷ 58 ∷ [])) (97 ∷ 58 ∷ []) t None (iri_node (97 ∷ 58 ∷ []) a_iri) a_iri (written t (term_good line q t s o)) dot_end

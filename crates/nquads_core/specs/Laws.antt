@@ -1,6 +1,7 @@
 -- What the laws on lines and documents say (our own).
-use Rattle.std.specs.Prelude.{◌≡◌, ◌⊎◌, ℕ, List, ◌++◌, Option, Some, None, codes}
+use Rattle.std.specs.Prelude.{◌≡◌, ◌⊎◌, ℕ, true, List, ◌++◌, Option, Some, None, codes}
 use Rattle.rdf_core.specs.declared.term.Term.{Term}
+use Rattle.rdf_core.specs.QuadFacts.{is_graph_name, is_iri, is_node}
 use Rattle.rdf_core.specs.QuadParts.{QuadParts}
 use Rattle.rdf_core.specs.declared.term.Term.TheVariants.{Iri}
 use Rattle.rdf_core.specs.Spelling.{spelling}
@@ -29,3 +30,34 @@ with_object t = record { s = Iri (codes "a:"); p = Iri (codes "a:"); o = t; g = 
 -- a term that some line spells is read back from its spelling
 abbrev pub ReadsBack : Type 0
 ReadsBack = (line : List ℕ) (q : QuadParts) (t : Term) → Spells line (Some q) → Occurs t q → Spells (object_line t) (Some (with_object t))
+
+-- some line spells a quad in which the term occurs
+abbrev pub IsSpelled : Term → Type 0
+IsSpelled t = (line : List ℕ) × (q : QuadParts) × Spells line (Some q) × Occurs t q
+
+-- some line spells each of the four terms, and each may be in its place
+pub record IsSpellable (q : QuadParts) : Type 0 where
+  pub subject : IsSpelled q.s
+  pub predicate : IsSpelled q.p
+  pub object : IsSpelled q.o
+  pub graph : (t : Term) → q.g ≡ Some t → IsSpelled t
+  pub is_subject : is_node q.s ≡ true
+  pub is_predicate : is_iri q.p ≡ true
+  pub is_graph : is_graph_name q.g ≡ true
+
+-- the graph name, if there is one, and the dot
+abbrev pub line_end : Option Term → List ℕ
+line_end None = codes "."
+line_end (Some t) = spelling t ++ codes " ."
+
+-- the terms of the quad in their N-Quads form, with a space after each, and the dot
+abbrev pub quad_line : QuadParts → List ℕ
+quad_line q = spelling q.s ++ (codes " " ++ (spelling q.p ++ (codes " " ++ (spelling q.o ++ (codes " " ++ line_end q.g)))))
+
+-- a quad round-trips through this line
+abbrev pub QuadsReadBack : Type 0
+QuadsReadBack = (q : QuadParts) → IsSpellable q → Spells (quad_line q) (Some q)
+
+-- so does the quad of every line
+abbrev pub LinesReadBack : Type 0
+LinesReadBack = (line : List ℕ) (q : QuadParts) → Spells line (Some q) → Spells (quad_line q) (Some q)

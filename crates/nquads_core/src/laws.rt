@@ -1,7 +1,7 @@
 //! Laws on lines and documents: statements about the definitions alone, each the contract of a
 //! function that does nothing.
 
-ghost use Rattle.nquads_core.specs.Laws.{OneMeaning, LinesJoin, ReadsBack};
+ghost use Rattle.nquads_core.specs.Laws.{LinesJoin, LinesReadBack, OneMeaning, QuadsReadBack, ReadsBack};
 
 /// A line spells at most one thing.
 pub fn one_meaning()
@@ -17,4 +17,12 @@ pub fn lines_join()
 /// A term of a quad that some line spells is read back from its spelling, as the object of a line.
 pub fn reads_back()
     ensures law { ReadsBack }
+{}
+
+/// A quad round-trips through its N-Quads form: its terms as `write_term` writes them, with a space after each, and
+/// a dot. This holds for every subject, predicate, object and graph name that lines can spell, and so for the quad
+/// of every line.
+pub fn quads_read_back()
+    ensures quads { QuadsReadBack }
+    ensures lines { LinesReadBack }
 {}
