@@ -9,8 +9,13 @@
 //!
 //! Standards: RDF 1.1 N-Quads, grammar; RDF 1.1 Concepts and Abstract Syntax, section 4.
 //!
-//! To read in this order: `fault`, `store`, `reading` (one piece), `rounds` (all pieces), `sorting`
-//! (the lists of the index), `loading`, `reader` (blocks of a reader).
+//! [`load_reader`] loads the rest of a reader: it is [`read_blocks`] followed by [`load_blocks`], but only
+//! the blocks of one round are in memory at a time (`IsLoadedFrom`, `IsBadLineFrom` in
+//! specs/Streaming.antt).
+//!
+//! To read in this order: `fault`, `store`, `read_piece` and `reading` (one piece), `numbered` and
+//! `rounds` (all pieces), `sorting` (the lists of the index), `loading`, `reader` (blocks of a reader),
+//! `reader_fault`, `streaming`.
 //!
 //! ```text
 //! let cuts = Cuts::every(alloc, doc, 65536)?;
