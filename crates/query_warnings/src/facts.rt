@@ -10,9 +10,12 @@ use crate::asked::compares;
 use dataset_load::Store;
 use dict_core::Dict;
 use rdf_core::Term;
-use rdf_core::vocabulary::{XSD_DOUBLE, XSD_FLOAT};
+use rdf_core::vocabulary::XSD_DOUBLE;
 use sparql_lexer::{characters_of, scan_text};
 use std::alloc::{AllocError, Global};
+
+/// `xsd:float`.
+const XSD_FLOAT: &str = "http://www.w3.org/2001/XMLSchema#float";
 
 /// `xsd:dateTime`.
 const XSD_DATE_TIME: &str = "http://www.w3.org/2001/XMLSchema#dateTime";
