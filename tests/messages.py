@@ -42,7 +42,7 @@ class Case:
 
 def failed(name, words, given, status, line, said, **how):
     """A run that ends with this line on standard output, which standard error has again."""
-    return Case(name, words, given, status, line + "\n", line + "\n" + said, **how)
+    return Case(name, words, given, status, line + "\n", None if said is None else line + "\n" + said, **how)
 
 
 def query(name, text, line, said):
@@ -61,9 +61,9 @@ def lines():
         "             ^\n")
     for piece in ("1", "7", "65536"):
         yield failed(
-            f"a malformed line in blocks of {piece}", ["terms", "--piece", piece], STATEMENT * 500 + b"\r\n\rx y\n", 1,
+            f"a malformed line in blocks of {piece}", ["terms", "--piece", piece], STATEMENT * 500 + b"\r\n\r. y\nz", 1,
             "error: line 503",
-            "spq: line 503, column 1: expected a subject (an IRI or a blank node), found 'x'\nx y\n^\n")
+            "spq: line 503, column 1: expected a subject (an IRI or a blank node), found '.'\n. y\n^\n")
     yield failed(
         "a document that is cut off", ["check"], STATEMENT + b"<http://e/a> <http://e/p> <http://e/b", 1, "error: line 2",
         "spq: line 2, column 38: the IRI is not closed: expected '>', found the end of the line\n"
@@ -77,7 +77,8 @@ def lines():
     yield failed(
         "a long line with an early mistake", ["check"], b"<http://e/a> x" + long + b"\n", 1, "error: line 1",
         "spq: line 1, column 14: expected a predicate (an IRI), found 'x'\n"
-        "<http://e/a> x<http://e/a> <http://e/p> \"" + "a" * 38 + "\u2026\n             ^\n")
+        "<http://e/a> x<http://e/a> <http://e/p> \"" + "a" * 38 + "\u2026\n             ^\n"
+        "hint: this looks like Turtle; N-Quads has no prefixes and no abbreviations: write each term in full\n")
     yield failed(
         "a long line with a late mistake", ["check"], long + b"\n", 1, "error: line 1",
         "spq: line 1: this is not a line of N-Quads\n")
@@ -205,7 +206,7 @@ class Runner:
             if how.get("output") == "none":
                 os.close(1)
         ran = subprocess.run([self.program, *case.words], stdin=self.source(case), stdout=output, stderr=subprocess.PIPE,
-                             env=words, preexec_fn=before, timeout=120)
+                             env=words, preexec_fn=before, timeout=20)
         return ran.returncode, ran.stdout or b"", ran.stderr.replace(b"refused\n", b"", 1) if "start" in how else ran.stderr
 
     def wrong(self, case):
@@ -233,7 +234,7 @@ class Runner:
         os.close(follower)
         os.write(leader, typed)
         shown = b""
-        while select.select([leader], [], [], 60)[0]:
+        while select.select([leader], [], [], 10)[0]:
             try:
                 part = os.read(leader, 65536)
             except OSError:
@@ -241,14 +242,20 @@ class Runner:
             if not part:
                 break
             shown += part
-        return process.wait(), shown.decode(errors="replace")
+        try:
+            status = process.wait(timeout=10)
+        except subprocess.TimeoutExpired:
+            process.kill()
+            status = process.wait()
+        os.close(leader)
+        return status, shown.decode(errors="replace")
 
 
 def terminal_cases(runner):
     notice = "spq: N-Quads is read from the terminal; end it with Ctrl-D\n"
-    yield "a check", runner.at_a_terminal(["check"], STATEMENT + b"\x04"), (0, notice + "ok 1 quads 3 terms 0 graphs\n")
-    yield "a malformed line", runner.at_a_terminal(["check"], b"x\n\x04"), (
-        1, notice + "error: line 1\nspq: line 1, column 1: expected a subject (an IRI or a blank node), found 'x'\nx\n^\n")
+    yield "a check", runner.at_a_terminal(["check"], STATEMENT + b"\x04\x04"), (0, notice + "ok 1 quads 3 terms 0 graphs\n")
+    yield "a malformed line", runner.at_a_terminal(["check"], b".\n\x04\x04"), (
+        1, notice + "error: line 1\nspq: line 1, column 1: expected a subject (an IRI or a blank node), found '.'\n.\n^\n")
     yield "a rejected query", runner.at_a_terminal(["select", "--query", "SELECT"], b""), (
         2, "error: query syntax\nspq: query, line 1, column 7: ")
 
@@ -271,7 +278,7 @@ def main():
                 wrong = runner.wrong(case)
                 if wrong:
                     bad += 1
-                    print(f"{case.name}: {wrong}")
+                    print(f"{case.name}: {wrong}", flush=True)
         for name, (status, shown), (wanted, begins) in terminal_cases(runner):
             if given.only not in name:
                 continue
