@@ -6,7 +6,7 @@
 PROGRAM is the program (crates/spq/out/spq where none is given). A case is a command line, a standard input, and
 what has to come. Standard output is a pipe in most cases, so standard error first has its line again; the cases
 `at a terminal` run in a terminal. (tests/tour.py runs the examples of docs/DIAGNOSTICS.md.)
-Python 3 standard library, and cc for two cases that stand in for calls of the C library.
+Python 3 standard library, and cc for two cases that replace calls of the C library.
 """
 import argparse
 import os
@@ -33,7 +33,7 @@ For more information, try '--help'.
 
 
 class Case:
-    """A run: its words, its standard input, and what has to come of it."""
+    """A run: its words, its standard input, and the expected result."""
 
     def __init__(self, name, words, given, status, printed, said, **how):
         self.name, self.words, self.given = name, words, given
@@ -123,7 +123,7 @@ def devices():
 
 
 def memory():
-    """Memory and threads that are refused."""
+    """Allocations and threads that fail."""
     line = "error: memory"
     cost = "hint: docs/COST.md says how much memory a document and a query take\n"
     many = b"".join(b"<http://e/%d> <http://e/p> \"%d\" .\n" % (n, n) for n in range(200000))
