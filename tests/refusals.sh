@@ -9,8 +9,10 @@
 #
 #   tests/refusals.sh                  # every crate that has such tests
 #   tests/refusals.sh loading_tests .. # these crates
+#   tests/refusals.sh --built ..       # the test programs as `rt ci` built them
 #
-# The tests are proved and built first (rt test). Then each run takes some milliseconds.
+# Without --built the tests are proved and built first (rt test). Each run takes some milliseconds, all of them one to
+# three minutes.
 root=$(cd "$(dirname "$0")/.." && pwd) || exit 1
 most=5000
 wrong=0
@@ -59,7 +61,12 @@ refuse_each() {
 
 try_crate() {
     local tests=$root/crates/$1/out/$1_tests name names
-    (cd "$root/crates/$1" && rt test > "$room/log" 2>&1) || { tail "$room/log"; return 1; }
+    if [ "$built" = no ]; then
+        (cd "$root/crates/$1" && rt test > "$room/log" 2>&1) || { tail "$room/log"; return 1; }
+    elif [ ! -x "$tests" ]; then
+        echo "$1: there is no test program $tests; run rt ci first"
+        return 1
+    fi
     names=$("$tests" --list | sed -n 's/^\(refusals::.*\): test$/\1/p')
     starts=0
     inside=0
@@ -78,6 +85,11 @@ try_crate() {
     printf '%s: %s failed allocations are inside a start, and are reported as a failed start\n' "$1" "$inside"
 }
 
+built=no
+if [ "${1-}" = --built ]; then
+    built=yes
+    shift
+fi
 if [ $# = 0 ]; then
     set -- $(cd "$root/crates" && ls -d */src/refusals.rt | cut -d / -f 1)
 fi
