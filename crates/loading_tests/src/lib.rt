@@ -1,4 +1,4 @@
-//! Tests of loading: `dictionary` of dict_core, `index` of quad_index, `documents` of dataset_load, and `refusals`
+//! Tests of loading: `dictionary` of dict_core, `index` of quad_index, `documents` and `readers` of dataset_load, and `refusals`
 //! (what a failed allocation, or a worker thread that could not be started, leaves of each).
 //!
 //! The tests are in a crate of their own, so that a check of the tests proves no library a second time. A test calls
@@ -13,5 +13,7 @@ mod dictionary;
 mod documents;
 #[cfg(test)]
 mod index;
+#[cfg(test)]
+mod readers;
 #[cfg(test)]
 mod refusals;
