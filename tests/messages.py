@@ -253,8 +253,8 @@ class Runner:
 
 def terminal_cases(runner):
     notice = "spq: N-Quads is read from the terminal; end it with Ctrl-D\n"
-    yield "a check", runner.at_a_terminal(["check"], STATEMENT + b"\x04\x04"), (0, notice + "ok 1 quads 3 terms 0 graphs\n")
-    yield "a malformed line", runner.at_a_terminal(["check"], b".\n\x04\x04"), (
+    yield "a check", runner.at_a_terminal(["check"], STATEMENT + b"\x04"), (0, notice + "ok 1 quads 3 terms 0 graphs\n")
+    yield "a malformed line", runner.at_a_terminal(["check"], b".\n\x04"), (
         1, notice + "error: line 1\nspq: line 1, column 1: expected a subject (an IRI or a blank node), found '.'\n.\n^\n")
     yield "a rejected query", runner.at_a_terminal(["select", "--query", "SELECT"], b""), (
         2, "error: query syntax\nspq: query, line 1, column 7: ")

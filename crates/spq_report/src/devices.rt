@@ -23,13 +23,16 @@ impl Meter for NoMeter {
     fn gave(&mut self, _bytes: &[u8]) {}
 }
 
-/// A reader of std as a source. It keeps the first error of the reader, and tells a meter what it reads.
+/// A reader of std as a source. It keeps the first error of the reader, and tells a meter what it reads. After the end
+/// was read it reads no more: at a terminal each further read would wait for another end.
 #[derive(Drop)]
 pub struct Input<T, M> {
     pub inner: T,
     pub meter: M,
     /// The first error of a read.
     pub error: Option<Error>,
+    /// Whether the end was read.
+    pub is_over: bool,
 }
 
 impl<T, M> Input<T, M> {
@@ -43,22 +46,28 @@ impl<T, M> Input<T, M> {
             inner,
             meter,
             error: None,
+            is_over: false,
         }
     }
 }
 
 impl<T: Read, M: Meter> Source for Input<T, M> {
     ghost use Rattle.std.specs.Prelude.{None};
+    ghost use Rattle.spq_report.specs.Devices.{left_of};
 
-    ghost left = { λ d. T.remaining d.inner };
+    ghost left = { λ d. left_of d.is_over (T.remaining d.inner) };
 
     ghost failures = { λ _. None };
 
     fn read(&mut self, buf: &mut [u8]) -> Result<usize, DeviceFailed> {
+        if self.is_over {
+            return Ok(0);
+        }
         self.meter.begins();
         match self.inner.read(buf) {
             Ok(count) => {
                 self.meter.gave(&buf[..count]);
+                self.is_over = count == 0 && !buf.is_empty();
                 Ok(count)
             }
             Err(error) => {
