@@ -383,7 +383,8 @@ def nothing_left_behind(program):
         with open(program.file(document), "rb") as source:
             preloaded = {**os.environ, "LD_PRELOAD": library}
             ran = subprocess.run([program.path, *words], stdin=source, capture_output=True, env=preloaded, timeout=SECONDS)
-        left = int(ran.stderr.split()[0])
+        # (the count comes last, after the messages of the program)
+        left = int(ran.stderr.splitlines()[-1].split()[0])
         expect(left <= (words[0] == "select"), f"{words[0]} {words[-1][:60]!r}: {left} blocks are left")
 
 
