@@ -1,4 +1,4 @@
--- What an expression of the program stands for, variant by variant, and how deep it is.
+-- The meaning of an expression of the program, variant by variant, and its depth.
 use Rattle.std.proofs.Common.{◌≡◌, ◌≤◌, List, map, sym, ◌∙◌, ap, arith, Box, Vec, Global}
 use Rattle.algebra_model.specs.Expression.{Expression, both, either, member}
 use Rattle.sparql_algebra.specs.ExpressionOf.{expression_of, expression_step}

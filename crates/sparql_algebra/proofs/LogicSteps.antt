@@ -1,4 +1,4 @@
--- Steps of the logic with errors, and of membership.
+-- Steps of the logic with errors, and of IN.
 use Rattle.std.proofs.Common.{◌≡◌, ℕ, suc, ◌+◌, ◌<◌, length, get_or, map, drop, drop-cons, add-one, Bool, true, false, List, [], ◌∷◌, Option, Some, None, option_map, refl, sym, ◌∙◌, ap}
 use Rattle.rdf_core.specs.declared.term.Term.{Term}
 use Rattle.algebra_model.specs.Solution.{Solution}
@@ -72,7 +72,7 @@ member_value x (e ∷ es) μ =
     let first = sym (truth_of_result (with_values (val x μ) (val e μ) (compares equal))) in
     ap boolean_result (λ i. logical_or (first i) (rest i))
 
--- the value of IN, of a value and of expressions that are those of the whole
+-- the value of IN, from the value of the item and a list with the same members
 pub in_value : (item : Option Term) (x whole : Expression) (es fs : List Expression) (μ : Solution Term)
     → item ≡ val x μ → es ≡ fs → whole ≡ member x fs → boolean_result (member_truth item es μ) ≡ val whole μ
 in_value item x whole es fs μ p q is =

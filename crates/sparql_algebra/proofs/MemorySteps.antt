@@ -1,4 +1,5 @@
--- The sides of an expression that takes no memory take none, and each member of a list that is lent is.
+-- The sides of an expression that allocates nothing allocate nothing, and if a list is borrowed,
+-- each of its members is.
 use Rattle.std.proofs.Common.{◌≡◌, ℕ, zero, suc, ◌<◌, length, get_or, true, List, [], ◌∷◌, sym, ◌∙◌, ap, arith, Box, Global}
 use Rattle.std.proofs.lemmas.Bool.{and_parts}
 use Rattle.sparql_algebra.specs.Memory.{Need, are_lent, is_lent, need, need_step, takes_none}

@@ -1,4 +1,4 @@
--- The names of a tree, one element after the other.
+-- The names of a tree, element by element.
 use Rattle.std.proofs.lemmas.Grind.{flat_map-append}
 use Rattle.std.proofs.lemmas.List.{take-append-drop}
 use Rattle.std.proofs.lemmas.List.Sums.{prefix_len-le-length}
@@ -35,12 +35,12 @@ flat_map-map f g (x ∷ xs) = ap (λ l. f (g x) ++ l) (flat_map-map f g xs)
 pub names_of_group : (all : Bool) (es : List Element) → group_names all (group_of es) ≡ flat_map (λ e. element_names all (element_of e)) es
 names_of_group all es = onto_names all none (map element_of es) ∙ flat_map-map (element_names all) element_of es
 
--- a fact that holds holds where there is an error
+-- a fact that is true is also true on error
 pub at_refusal : {T E P : Type 0} (r : Result T E) → P → OnErr r P
 at_refusal (Ok x) p = tt
 at_refusal (Err e) p = p
 
--- a part of the first names is a part of all
+-- a part of the first names is a part of all names
 pub noted_first : (xs ys old new : List Name) → IsNotedInPart old xs new → IsNotedInPart old (xs ++ ys) new
 noted_first xs ys old new p = (length (take p.0 xs), p.1 ∙ ap (insert_all bytes_eq old) (sym part))
   where
@@ -49,7 +49,7 @@ noted_first xs ys old new p = (length (take p.0 xs), p.1 ∙ ap (insert_all byte
         ∙ ap (take (length (take p.0 xs))) (append_assoc (take p.0 xs) (drop p.0 xs) ys)
         ∙ take-append_seam (take p.0 xs) (drop p.0 xs ++ ys)
 
--- a part of the further names, behind the whole of the first, is a part of all
+-- a part of the later names, after all of the first ones, is a part of all names
 pub noted_behind : (xs ys old names new : List Name) → names ≡ insert_all bytes_eq old xs → IsNotedInPart names ys new → IsNotedInPart old (xs ++ ys) new
 noted_behind xs ys old names new e p = (
   length xs + p.0,
@@ -58,7 +58,7 @@ noted_behind xs ys old names new e p = (
       ∙ ap (insert_all bytes_eq old) (sym (take-append-add xs ys p.0)),
 )
 
--- a part of the names of one element, behind those of the elements before it, is a part of all
+-- a part of the names of one element, after those of the elements before it, is a part of all names
 pub noted_within : {A : Type 0} (f : A → List Name) (xs : List A) (i : ℕ) (x : A) (old names new : List Name) → i < length xs
     → names ≡ insert_all bytes_eq old (flat_map f (take i xs))
     → x ≡ get_or xs i x
@@ -75,12 +75,12 @@ noted_within {A} f xs i x old names new lt e is p =
         ∙ sym (flat_map-append f (take i xs) (drop i xs))
         ∙ ap (flat_map f) (take-append-drop i xs)
 
--- what an element that holds a table stands for
+-- the element of a table
 pub values_stands_for : (xs : Vec Name Global) (rows : Vec (Vec (Option Term) Global) Global)
     → element_of (variants.Values xs rows) ≡ values xs.items (map (λ row. row.items) rows.items)
 values_stands_for xs rows = ap element_of (sym (variants.rolls-Values xs rows)) ∙ fold-roll-Element ElementTree element_step (Element-F.Values xs rows)
 
--- a name that is not found has the count of names for its number
+-- the number of a name that is not found is the number of names
 pub placed_none : {X : Type 0} (p : X → Bool) (xs : List X) → None ≡ position p xs → length xs ≡ position_or_len p xs
 placed_none p xs h = by (nat_lt (position_or_len p xs) (length xs)) refl h (prefix_len-le-length (λ x. not (p x)) xs)
   where
@@ -88,7 +88,7 @@ placed_none p xs h = by (nat_lt (position_or_len p xs) (length xs)) refl h (pref
     by true e n le = absurd (true≢false (subst (λ o. is_some o ≡ false) n refl))
     by false e n le = grind arith
 
--- three lists of names are noted, one behind the other
+-- three lists of names are added, one after another
 pub three_noted : (xs ys zs n₀ n₁ n₂ n₃ : List Name) → n₀ ≡ [] → n₁ ≡ insert_all bytes_eq n₀ xs → n₂ ≡ insert_all bytes_eq n₁ ys → n₃ ≡ insert_all bytes_eq n₂ zs
     → n₃ ≡ without_repeats bytes_eq (xs ++ (ys ++ zs))
 three_noted xs ys zs n₀ n₁ n₂ n₃ e₀ e₁ e₂ e₃ =

@@ -1,4 +1,4 @@
--- An operand of `||` or `&&` moves from what is left of a chain to what is found.
+-- An operand of `||` or `&&` moves from the rest of a chain to the result.
 use Rattle.std.proofs.Common.{◌≡◌, Bool, Option, sym, ◌∙◌, ap, Box, Global}
 use Rattle.rdf_core.specs.declared.term.Term.{Term}
 use Rattle.algebra_model.specs.Solution.{Solution}

@@ -1,4 +1,4 @@
--- A group that is read one element after the other.
+-- A group that is read element by element.
 use Rattle.std.proofs.Common.{◌≡◌, ℕ, zero, suc, ◌+◌, ◌<◌, List, [], ◌∷◌, ◌++◌, length, get_or, map, drop, drop-cons, add-one, append_assoc, Option, Some, None, refl, sym, ap, ◌∙◌}
 use Rattle.sparql_tree.specs.ExpressionTree as tree
 use Rattle.sparql_tree.specs.ExpressionTree.{ExpressionTree, Expressions}

@@ -12,7 +12,7 @@ use Rattle.sparql_algebra.specs.Names.{Name, is_name_among, names_of, number_of}
 use Rattle.sparql_algebra.specs.Translation.{distinct_where, projection, translate, translate_group}
 use Rattle.sparql_algebra.proofs.RepeatSteps.{inserted_once}
 
--- a name is in scope where it was noted
+-- a name is in scope exactly if it was added
 noted_is_among : (x : Name) (xs : List Name) → is_name_among x (insert_all bytes_eq [] xs) ≡ is_name_among x xs
 noted_is_among x xs = ap (is_name_among x) (inserted_once bytes_eq bytes_eq-Decides xs) ∙ any-without_repeats_is bytes_eq bytes_eq-Decides x xs
 

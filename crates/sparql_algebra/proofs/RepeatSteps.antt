@@ -1,4 +1,4 @@
--- Inserting one after the other into an empty list leaves the list without its repeats.
+-- Inserting the elements of a list into an empty list gives the list without its repeats.
 use Rattle.std.proofs.Common.{◌≡◌, Bool, true, false, not, cond, ◌||◌, List, [], ◌∷◌, ◌++◌, filter, Decides, refl, sym, ap, ◌∙◌, if◌then◌else◌, append_assoc, true≢false}
 use Rattle.std.proofs.lemmas.List.{append-nil}
 use Rattle.std.proofs.lemmas.List.Folds.{list_any-append}
@@ -37,7 +37,7 @@ module _ {X : Type 0} (same : X → X → Bool) (decides : (x y : X) → Decides
       by true false e f = absurd (true≢false (sym ((decides y x).1 (sym ((decides x y).0 e))) ∙ f))
       by false true e f = absurd (true≢false (sym ((decides x y).1 (sym ((decides y x).0 f))) ∙ e))
 
-  -- of elements that are there already, none is kept twice
+  -- of elements that are in the list already, none is added again
   agree_there : (ks : List X) (t u : X) → list_any (same t) ks ≡ true → cond (differs_from t u) (absent_in ks u) false ≡ absent_in ks u
   agree_there ks t u h = by (same t u) refl
     where

@@ -1,4 +1,4 @@
--- What the elements that hold groups stand for, and expressions that hold lists.
+-- The meaning of elements that hold groups, and of expressions that hold lists.
 use Rattle.std.proofs.Common.{◌≡◌, ℕ, List, map, sym, ◌∙◌, ap, Box, Vec, Global}
 use Rattle.sparql_tree.specs.ExpressionTree as expression
 use Rattle.sparql_tree.specs.ExpressionTree.{ExpressionTree, expression_of, expressions_of, expression_step}

@@ -1,5 +1,5 @@
--- A translated query binds and lists only variables that have a name, and its patterns only their
--- own labels.
+-- A translated query binds and lists only variables that have a name, and its patterns have only
+-- their own labels.
 use Rattle.std.proofs.Common.{◌≡◌, ℕ, zero, suc, ◌+◌, ◌<◌, ◌≤◌, Bool, true, false, not, cond, ◌&&◌, ◌||◌, nat_lt, List, [], ◌∷◌, ◌++◌, length, map, flat_map, filter, Option, Some, None, refl, sym, ap, ◌∙◌, subst, arith, true≢false, append_assoc, if◌then◌else◌}
 use Rattle.std.specs.List.{list_any, list_all, position_or_len}
 use Rattle.std.specs.Str.{bytes_eq}
@@ -36,7 +36,7 @@ right : (a b : Bool) → (a && b) ≡ true → b ≡ true
 right true b h = h
 right false b h = absurd (true≢false (sym h))
 
--- what is found has a place
+-- an element that is found has a place
 found_below : {X : Type 0} (p : X → Bool) (xs : List X) → list_any p xs ≡ true → position_or_len p xs < length xs
 found_below p [] h = absurd (true≢false (sym h))
 found_below {X} p (x ∷ xs) h = by (p x) h (found_below p xs)
@@ -154,7 +154,7 @@ module _ (names : List Name) where
   graph_within (graph.Variable x) h = number_below names x (first_of_one names x h)
   graph_within (graph.Iri t) h = refl
 
-  -- what is read of a group stays within the names
+  -- the part of a group that is read uses only the names
   record IsPartWithin (p : Part) : Type 0 where
     before : is_within (length names) p.before ≡ true
     triples : are_among names (flat_map triple_names p.triples) ≡ true
@@ -241,7 +241,7 @@ module _ (names : List Name) where
     side_within (element.bind e x) h = refl
     side_within (element.values xs rows) h = refl
 
--- the names of a query are those that stand in its parts
+-- the names of a query are those of its parts
 abbrev all_names : QueryTree → List Name
 all_names q = q.mentioned ++ (listed_names q.selection ++ group_names true q.group)
 

@@ -1,5 +1,5 @@
--- A group with one more element, of which the program has read what it adds. Only private clauses
--- cite this word.
+-- A group with one more element; the program has translated what the element adds. Only private
+-- clauses use this definition.
 use Rattle.std.specs.Prelude.{List, [], ◌++◌}
 use Rattle.algebra_model.specs.Algebra as algebra
 use Rattle.sparql_algebra.specs.AlgebraOf.{algebra_of}

@@ -1,4 +1,4 @@
--- The algebra expression that a plan's tree stands for, apart from how it lies in memory.
+-- The algebra expression that the tree of a plan represents, without its layout in memory.
 use Rattle.std.specs.Prelude.{ℕ, List, [], map}
 use Rattle.rdf_core.specs.declared.term.Term.{Term}
 use Rattle.algebra_model.specs.Algebra as algebra
@@ -29,7 +29,7 @@ abbrev pub graph_name_of : GraphName → algebra.GraphName
 graph_name_of (name.Variable v) = each_graph v
 graph_name_of (name.Iri t) = one_graph t
 
--- one level, where each operator below stands for what it stands for
+-- one level of the tree, with each input replaced by its algebra expression
 abbrev pub algebra_step : Operator-F Algebra → Algebra
 algebra_step (Operator-F.Pattern labels P) = algebra.Pattern labels (map triple_pattern_of P.items)
 algebra_step (Operator-F.Join A B) = algebra.Join A.value B.value

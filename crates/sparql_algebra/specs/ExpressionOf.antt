@@ -1,4 +1,4 @@
--- The expression that a tree of the program stands for, apart from how it lies in memory.
+-- The expression that a tree of the program represents, without its layout in memory.
 use Rattle.rdf_core.specs.declared.term.Term.{Term}
 use Rattle.algebra_model.specs.Call as call
 use Rattle.algebra_model.specs.Expression.{Expression, variable, constant, either, both, negation, comparison, member, call, bound, same_term}
@@ -16,7 +16,7 @@ function_of IsIri = call.is_iri
 function_of IsBlank = call.is_blank
 function_of IsLiteral = call.is_literal
 
--- one level, where each expression below stands for what it stands for
+-- one level of the tree, with each operand replaced by its expression
 abbrev pub expression_step : Expr-F Expression → Expression
 expression_step (Expr-F.Variable v) = variable v
 expression_step (Expr-F.Constant t) = constant t

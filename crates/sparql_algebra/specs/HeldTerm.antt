@@ -1,4 +1,4 @@
--- The term that a value on the way stands for, and whether it is there as a term.
+-- The term that an intermediate value represents, and whether it is held as a term.
 use Rattle.std.specs.Prelude.{Bool, true, false}
 use Rattle.rdf_core.specs.declared.term.Term.{Term}
 use Rattle.algebra_model.specs.Call.{boolean_term}

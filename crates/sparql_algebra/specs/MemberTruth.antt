@@ -1,5 +1,5 @@
--- Whether a value is among the values of a list of expressions, with errors: what IN comes to. Only
--- private clauses cite this word.
+-- Whether a value is among the values of a list of expressions, with errors: the result of IN. Only
+-- private clauses use this definition.
 use Rattle.std.specs.Prelude.{List, [], ◌∷◌, Option, Some, Bool, false}
 use Rattle.rdf_core.specs.declared.term.Term.{Term}
 use Rattle.algebra_model.specs.Solution.{Solution}

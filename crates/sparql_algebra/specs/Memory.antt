@@ -1,13 +1,13 @@
--- Where the evaluation of an expression takes no memory: where no term has to be made on the way. A
--- variable's and a constant's term is lent; STR, LANG and DATATYPE make the term that they answer, and
--- a truth value that is compared, or given to a function, becomes a literal.
+-- The expressions whose evaluation allocates nothing, because it makes no term. The terms of
+-- variables and constants are borrowed. STR, LANG and DATATYPE make the term that they return. A
+-- truth value becomes a literal if it is compared or is the argument of a function.
 use Rattle.std.specs.Prelude.{Bool, true, false, ◌&&◌, List, [], ◌∷◌, map}
 use Rattle.algebra_model.specs.Call.{Function, str, lang, datatype, is_iri, is_blank, is_literal}
 use Rattle.sparql_algebra.specs.ExpressionOf.{function_of}
 use Rattle.sparql_algebra.specs.declared.expression.Expr.{Expr, fold-Expr}
 use Rattle.sparql_algebra.specs.declared.expression.Expr.TheOpen.{Expr-F}
 
--- isIRI, isBlank and isLiteral answer a truth value
+-- isIRI, isBlank and isLiteral return a truth value
 abbrev pub is_test : Function → Bool
 is_test str = false
 is_test lang = false
@@ -16,7 +16,8 @@ is_test is_iri = true
 is_test is_blank = true
 is_test is_literal = true
 
--- of an expression: whether it is a variable or a constant, and whether it takes no memory
+-- of an expression: whether it is a variable or a constant, and whether its evaluation allocates
+-- nothing
 pub record Need : Type 0 where
   pub is_lent : Bool
   pub takes_none : Bool
@@ -31,7 +32,7 @@ abbrev pub all_lent : List Need → Bool
 all_lent [] = true
 all_lent (n ∷ ns) = n.is_lent && all_lent ns
 
--- one level, where each expression below stands for what it needs
+-- one level of the tree, with each operand replaced by its needs
 abbrev pub need_step : Expr-F Need → Need
 need_step (Expr-F.Variable v) = lent
 need_step (Expr-F.Constant t) = lent

@@ -1,5 +1,5 @@
 -- The variables of a query and their numbers (SPARQL 1.1 Query Language, section 18.2.1, variable
--- scope). A name is a list of bytes, without its sign.
+-- scope). A name is a list of bytes, without `?` or `$`.
 use Rattle.std.specs.Prelude.{◌≡◌, ℕ, Bool, true, List, [], ◌++◌, take, Option, Some, None}
 use Rattle.std.specs.Prelude as list
 use Rattle.std.specs.List.{list_any, position_or_len}
@@ -13,11 +13,11 @@ use Rattle.algebra_model.specs.Bag.{without_repeats}
 abbrev pub is_name_among : Name → List Name → Bool
 is_name_among x xs = list_any (bytes_eq x) xs
 
--- a variable's number is the place of its name; one that has no place is never bound
+-- the number of a variable is the place of its name; a variable without a place is never bound
 abbrev pub number_of : List Name → Name → ℕ
 number_of names x = position_or_len (bytes_eq x) names
 
--- a first part of a list of names is noted behind the old ones, and nothing else
+-- some of the first names of a list are added after the old ones, and no other name
 abbrev pub IsNotedInPart : List Name → List Name → List Name → Type 0
 IsNotedInPart old xs new = (k : ℕ) × (new ≡ insert_all bytes_eq old (take k xs))
 
@@ -25,8 +25,8 @@ abbrev pub listed_names : Option (List Name) → List Name
 listed_names None = []
 listed_names (Some xs) = xs
 
--- Variables are numbered by the first place in the text where each stands at all. (A tree that no
--- reader made may bind or list a name that its text does not mention: it comes behind.)
+-- Variables are numbered in the order of their first occurrence in the text. A tree that no parser
+-- made may bind or list names that its text does not mention; these follow.
 abbrev pub names_of : QueryTree → List Name
 names_of q = without_repeats bytes_eq (q.mentioned ++ (listed_names q.selection ++ group_names true q.group))
 
@@ -34,7 +34,7 @@ abbrev pub selected_by : Option (List Name) → List Name → List Name → List
 selected_by None scope names = list.filter (λ x. is_name_among x scope) names
 selected_by (Some xs) scope names = without_repeats bytes_eq xs
 
--- `*` lists the variables in scope in the order of their numbers; a variable that is listed twice
--- counts at its first place
+-- `*` lists the variables in scope in the order of their numbers; if a variable is listed twice,
+-- its first place is used
 abbrev pub selected_names : QueryTree → List Name
 selected_names q = selected_by q.selection (group_scope q.group) (names_of q)

@@ -1,5 +1,5 @@
--- The part of a group that the program holds on the way, apart from how it lies in memory. Only
--- private clauses cite this word.
+-- The part of a group that the program holds while it translates the group, without its layout in
+-- memory. Only private clauses use this definition.
 use Rattle.std.specs.Prelude.{map, option_map}
 use Rattle.sparql_algebra.specs.AlgebraOf.{algebra_of}
 use Rattle.sparql_algebra.specs.ExpressionOf.{expression_of}

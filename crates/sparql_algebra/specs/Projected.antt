@@ -1,4 +1,5 @@
--- The variables that a query lists: those of the Project on top, or below a Distinct on top.
+-- The variables that a query projects: those of the Project at the root, or directly below a
+-- Distinct at the root.
 use Rattle.std.specs.Prelude.{ℕ, List, []}
 use Rattle.algebra_model.specs.Algebra.{Algebra, Pattern, Join, LeftJoin, Union, Minus, Graph, Filter, Extend, Project, Distinct, Table}
 

@@ -1,5 +1,5 @@
 -- The plan of a query (SPARQL 1.1 Query Language, section 18.2): the translation of expressions,
--- basic patterns, groups and the whole.
+-- basic graph patterns, groups and queries.
 use Rattle.std.specs.Prelude.{ℕ, zero, suc, ◌+◌, Bool, true, false, List, [], ◌∷◌, ◌++◌, length, Option, Some, None, map, flat_map, if◌then◌else◌}
 use Rattle.std.specs.Str.{bytes_eq}
 use Rattle.rdf_core.specs.declared.term.Term.{Term}
@@ -23,8 +23,8 @@ use Rattle.algebra_model.specs.Expression.{Expression, variable, constant, eithe
 use Rattle.sparql_algebra.specs.ExpressionOf.{comparison_of, function_of}
 use Rattle.sparql_algebra.specs.Names.{Name, number_of, names_of, selected_names}
 
--- A group as far as it is read: what stands before the basic pattern that is open, that pattern's
--- triples, and the filters, joined by `&&`.
+-- The first elements of a group: the algebra expression before the open basic graph pattern, the
+-- triples of that pattern, and the filters, combined with `&&`.
 pub record Part : Type 0 where
   pub before : Algebra
   pub triples : List Triple
@@ -46,11 +46,12 @@ abbrev pub filtered : Option Expression → Algebra → Algebra
 filtered None A = A
 filtered (Some e) A = algebra.Filter e A
 
--- an element that ends the basic pattern makes A of what stands before
+-- an element that ends the basic graph pattern, and after which the expression is A
 abbrev pub behind : Part → Algebra → Part
 behind p A = record { before = A; triples = []; filters = p.filters }
 
--- The blank labels of a basic pattern are numbered by their first places.
+-- The blank node labels of a basic graph pattern are numbered in the order of their first
+-- occurrence.
 abbrev pub blank_names : PatternTerm → List Name
 blank_names (place.Variable x) = []
 blank_names (place.Blank l) = l ∷ []
@@ -62,7 +63,7 @@ triple_blanks t = blank_names t.subject ++ (blank_names t.predicate ++ blank_nam
 abbrev pub labels_of : List Triple → List Name
 labels_of ts = without_repeats bytes_eq (flat_map triple_blanks ts)
 
--- names are the names of the plan's variables
+-- names are the names of the variables of the plan
 module _ (names : List Name) where
   abbrev mutual
     pub translate_expression : ExpressionTree → Expression
@@ -106,22 +107,22 @@ module _ (names : List Name) where
   with_pattern A [] = A
   with_pattern A (t ∷ ts) = algebra.Join A (translate_pattern (t ∷ ts))
 
-  -- the open basic pattern ends, and is joined
+  -- the open basic graph pattern ends, and is joined
   abbrev pub closed : Part → Algebra
   closed p = with_pattern p.before p.triples
 
-  -- the group's filters are applied at its end
+  -- the filters of the group are applied at its end
   abbrev pub finished : Part → Algebra
   finished p = filtered p.filters (closed p)
 
   abbrev mutual
-    -- A group begins with the empty pattern, and its elements are taken in order.
+    -- A group begins with the empty pattern, and its elements are added in order.
     pub group_part : GroupTree → Part
     group_part element.none = record { before = empty_pattern; triples = []; filters = None }
     group_part (element.then g e) = add_element (group_part g) e
 
-    -- Triples go into the open basic pattern, and a FILTER does not end it. Every other element does.
-    -- The filters that stand directly in OPTIONAL's group are the condition.
+    -- Triples are added to the open basic graph pattern, and a FILTER does not end it. Every other
+    -- element does. The filters directly in the group of an OPTIONAL are its condition.
     pub add_element : Part → ElementTree → Part
     add_element p (element.triples ts) =
         record { before = p.before; triples = p.triples ++ ts; filters = p.filters }
@@ -143,8 +144,8 @@ module _ (names : List Name) where
     add_element p (element.values xs rows) =
         behind p (algebra.Join (closed p) (algebra.Table (map (number_of names) xs) rows))
 
-    -- The left side of a UNION is a group, or a UNION of two and more. (Other elements, which no
-    -- reader puts there, stand for the empty pattern.)
+    -- The left side of a UNION is a group, or a UNION with two or more groups. Every other element,
+    -- which no parser makes there, is translated as the empty pattern.
     pub translate_side : ElementTree → Algebra
     translate_side (element.group g) = finished (group_part g)
     translate_side (element.union e g) = algebra.Union (translate_side e) (finished (group_part g))
@@ -153,7 +154,7 @@ module _ (names : List Name) where
   abbrev pub translate_group : GroupTree → Algebra
   translate_group g = finished (group_part g)
 
--- A query's plan: the names of its variables by their numbers, and the algebra expression.
+-- The plan of a query: the names of its variables by their numbers, and the algebra expression.
 pub record Translation : Type 0 where
   pub names : List Name
   pub algebra : Algebra

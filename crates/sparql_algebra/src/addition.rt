@@ -1,4 +1,4 @@
-//! What an element adds to its group.
+//! The part of a group that one element adds.
 ghost use Rattle.std.specs.Prelude.{◌≡◌, IfOk};
 ghost use Rattle.algebra_model.specs.Algebra.{Extend, Join, LeftJoin, Minus};
 ghost use Rattle.sparql_algebra.specs.Added.{added};
@@ -15,7 +15,8 @@ use crate::part::Part;
 use sparql_tree::Triple;
 use std::alloc::{AllocError, Global};
 
-/// What an element adds: triples and a filter leave the basic pattern open, every other ends it.
+/// What an element adds to its group. Triples and filters leave the current basic graph pattern
+/// open; every other element ends it.
 #[derive(Drop)]
 pub enum Addition<'a> {
     Triples(&'a [Triple]),
@@ -24,16 +25,16 @@ pub enum Addition<'a> {
     Optional(Box<Operator>, Box<Expr>),
     /// The right side of a MINUS.
     Minus(Box<Operator>),
-    /// The variable of a BIND by its number, and its expression.
+    /// The number of the variable of a BIND, and its expression.
     Extend(usize, Box<Expr>),
-    /// What is joined: of every other element.
+    /// The operator that is joined, for every other element.
     Join(Box<Operator>),
 }
 
-/// The group with what the element adds.
+/// Adds what an element adds to the part of the group before it.
 ///
 /// # Errors
-/// `AllocError`: a growth was refused.
+/// `AllocError` if an allocation fails.
 pub fn with_addition<'a>(
     alloc: Global,
     names: &Names,

@@ -1,4 +1,4 @@
-//! Expressions of a query's tree as expressions over numbered variables.
+//! Expressions of a query's syntax tree as expressions over numbered variables.
 ghost use Rattle.std.specs.Prelude.{◌≡◌, IfOk, map};
 ghost use Rattle.sparql_tree.specs.ExpressionTree.{expression_of as tree_of};
 ghost use Rattle.sparql_algebra.specs.ExpressionOf.{expression_of};
@@ -48,10 +48,10 @@ fn convert(alloc: Global, names: &Names, tree: &Expression) -> Result<Expr, Allo
     }
 }
 
-/// The expression with each variable by its number. Its terms are copied.
+/// Converts an expression: its variables become numbers. Its terms are copied.
 ///
 /// # Errors
-/// `AllocError`: a growth was refused.
+/// `AllocError` if an allocation fails.
 #[cycle(conversion)]
 pub fn convert_boxed(
     alloc: Global,

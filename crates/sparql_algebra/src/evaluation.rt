@@ -23,18 +23,19 @@ use term_values::compare;
 pub enum ExprFault {
     /// The expression is an error over this row.
     Error,
-    /// A growth was refused. It says nothing of the value.
+    /// Out of memory. The expression may have a value or not.
     Memory,
 }
 
-/// The value of an expression over a row (SPARQL 1.1 Query Language, section 17).
+/// Evaluates an expression over a row (SPARQL 1.1 Query Language, section 17).
 ///
 /// An unbound variable is an error. `||` and `&&` may have a value although one side is an error.
 ///
 /// # Errors
-/// - `Error`: the expression is an error over this row. An unbound variable is answered so whatever
-///   memory there is, and so is each error of an expression for which [`test`] takes no memory.
-/// - `Memory`: a growth was refused.
+/// - `Error` if the expression is an error over this row. An unbound variable always returns it,
+///   even if memory is short. So does each error of an expression for which [`test`] allocates
+///   nothing.
+/// - `Memory` if an allocation fails.
 pub fn value<R: Lookup>(alloc: Global, expr: &Expr, row: &R) -> Result<Term, ExprFault>
     ensures value { IfOk result (λ term. val (expression_of expr.now) (R.solution row.now) ≡ Some term) }
     ensures error { (result ≡ Err ExprFault.Error) → val (expression_of expr.now) (R.solution row.now) ≡ None }
@@ -53,16 +54,19 @@ pub fn value<R: Lookup>(alloc: Global, expr: &Expr, row: &R) -> Result<Term, Exp
     }
 }
 
-/// Whether a row passes a filter: whether the expression has a value there, and its effective
-/// boolean value is true (SPARQL 1.1 Query Language, section 18.5, Filter).
+/// Returns whether a row passes a filter: the expression has a value, and its effective boolean
+/// value is true (SPARQL 1.1 Query Language, section 18.5, Filter).
 ///
-/// It copies no variable's or constant's term, and makes no literal of the truth value that it answers.
-/// So it takes no memory where no operand is a term to be made: for a variable, a constant and BOUND;
-/// for a comparison, sameTerm and IN whose sides are variables and constants; for isIRI, isBlank and
-/// isLiteral of one of these; and for `||`, `&&` and `!` of all these.
+/// The terms of variables and constants are borrowed, and the result is not made into a literal.
+/// The following expressions allocate nothing:
+///
+/// - a variable, a constant, and BOUND;
+/// - a comparison, sameTerm, and IN, if their operands are variables and constants;
+/// - isIRI, isBlank and isLiteral of a variable or a constant;
+/// - `||`, `&&` and `!` of all these.
 ///
 /// # Errors
-/// `AllocError`: a growth was refused, where the expression takes memory.
+/// `AllocError` if an allocation fails.
 pub fn test<R: Lookup>(alloc: Global, expr: &Expr, row: &R) -> Result<bool, AllocError>
     ensures holds { IfOk result (λ passes. passes ≡ holds (expression_of expr.now) (R.solution row.now)) }
     ensures bound { (v : ℕ) → expr.now ≡ Expr.Bound v → IsOk result }
@@ -80,7 +84,8 @@ fn owned(alloc: Global, value: Value) -> Result<Term, AllocError>
     value.into_held(alloc)?.into_term(alloc)
 }
 
-/// The value, and None where it is an error. A variable's and a constant's term is lent.
+/// Returns the value of an expression, or None if it is an error. The terms of variables and
+/// constants are borrowed.
 #[cycle(evaluate)]
 fn evaluate<'a, R: Lookup>(
     alloc: Global,
@@ -125,7 +130,7 @@ fn evaluate<'a, R: Lookup>(
     }
 }
 
-/// `left || right` as a value, where the right side is known.
+/// Evaluates `left || right` as a value, from the result of the right side.
 #[cycle(evaluate)]
 fn evaluate_either<'a, R: Lookup>(
     alloc: Global,
@@ -140,7 +145,7 @@ fn evaluate_either<'a, R: Lookup>(
     Ok(boolean_value(evaluate_or(alloc, left, right, row)?))
 }
 
-/// `left && right` as a value, where the right side is known.
+/// Evaluates `left && right` as a value, from the result of the right side.
 #[cycle(evaluate)]
 fn evaluate_both<'a, R: Lookup>(
     alloc: Global,
@@ -155,7 +160,7 @@ fn evaluate_both<'a, R: Lookup>(
     Ok(boolean_value(evaluate_and(alloc, left, right, row)?))
 }
 
-/// `!inner`.
+/// Evaluates `!inner` as a value.
 #[cycle(evaluate)]
 fn evaluate_not<'a, R: Lookup>(
     alloc: Global,
@@ -169,7 +174,7 @@ fn evaluate_not<'a, R: Lookup>(
     Ok(boolean_value(negated(evaluate_truth(alloc, inner, row)?)))
 }
 
-/// `item IN (list)` as a value.
+/// Evaluates `item IN (list)` as a value.
 #[cycle(evaluate)]
 fn evaluate_in<'a, R: Lookup>(
     alloc: Global,
@@ -203,8 +208,8 @@ fn negated(truth: Option<bool>) -> Option<bool>
     }
 }
 
-/// The value as a term, and None where it is an error. A variable's and a constant's term takes no
-/// memory.
+/// Returns the value of an expression as a term, or None if it is an error. The terms of variables
+/// and constants are borrowed.
 #[cycle(evaluate)]
 fn evaluate_held<'a, R: Lookup>(
     alloc: Global,
@@ -221,7 +226,8 @@ fn evaluate_held<'a, R: Lookup>(
     }
 }
 
-/// The effective boolean value, and None where the value or the effective boolean value is an error.
+/// Returns the effective boolean value of an expression. Returns None if the value or its effective
+/// boolean value is an error.
 #[cycle(evaluate)]
 fn evaluate_truth<R: Lookup>(
     alloc: Global,
@@ -237,8 +243,9 @@ fn evaluate_truth<R: Lookup>(
     }
 }
 
-/// `left || right` where the right side is known. The operands of the left side are tried in a loop,
-/// from the last to the first, until one is true: a long chain takes no deeper stack.
+/// Evaluates `left || right` from the result of the right side. The operands of the left side are
+/// evaluated in a loop, from the last to the first, until one is true. A long chain thus needs no
+/// more stack than a short one.
 #[cycle(evaluate)]
 fn evaluate_or<R: Lookup>(
     alloc: Global,
@@ -262,8 +269,9 @@ fn evaluate_or<R: Lookup>(
     Ok(found)
 }
 
-/// `left && right` where the right side is known. The operands of the left side are tried in a loop,
-/// from the last to the first, until one is false: a long chain takes no deeper stack.
+/// Evaluates `left && right` from the result of the right side. The operands of the left side are
+/// evaluated in a loop, from the last to the first, until one is false. A long chain thus needs no
+/// more stack than a short one.
 #[cycle(evaluate)]
 fn evaluate_and<R: Lookup>(
     alloc: Global,
@@ -287,7 +295,7 @@ fn evaluate_and<R: Lookup>(
     Ok(found)
 }
 
-/// The comparison of a value that is there with one to the right.
+/// Compares the value of the left side with that of the right side.
 #[cycle(evaluate)]
 fn evaluate_comparison<'a, R: Lookup>(
     alloc: Global,
@@ -305,7 +313,7 @@ fn evaluate_comparison<'a, R: Lookup>(
     Ok(boolean_value(compare_values(operator, &left, &right)))
 }
 
-/// Whether a value that is there and one to the right are the same term.
+/// Returns whether the left side's value and that of the right side are the same term.
 #[cycle(evaluate)]
 fn evaluate_same_term<'a, R: Lookup>(
     alloc: Global,
@@ -322,7 +330,7 @@ fn evaluate_same_term<'a, R: Lookup>(
     Ok(boolean_value(same_values(&left, &right)))
 }
 
-/// The call of a function on the argument's value.
+/// Calls a function on the value of its argument.
 #[cycle(evaluate)]
 fn evaluate_call<'a, R: Lookup>(
     alloc: Global,
@@ -340,7 +348,8 @@ fn evaluate_call<'a, R: Lookup>(
     }
 }
 
-/// `item IN (list)`: whether the item is equal to a member, or an error where that cannot be told.
+/// Evaluates `item IN (list)`: returns whether the item is equal to a member, or None for an error.
+/// It is an error if no comparison is true and at least one is an error.
 #[cycle(evaluate)]
 fn evaluate_member<R: Lookup>(
     alloc: Global,
@@ -361,7 +370,7 @@ fn evaluate_member<R: Lookup>(
     Ok(found)
 }
 
-/// The logic table of `||`.
+/// The truth table of `||`; None is an error.
 fn either(left: Option<bool>, right: Option<bool>) -> Option<bool>
     ensures value { result ≡ logical_or left right }
 {
@@ -375,7 +384,7 @@ fn either(left: Option<bool>, right: Option<bool>) -> Option<bool>
     }
 }
 
-/// The logic table of `&&`.
+/// The truth table of `&&`; None is an error.
 fn both(left: Option<bool>, right: Option<bool>) -> Option<bool>
     ensures value { result ≡ logical_and left right }
 {

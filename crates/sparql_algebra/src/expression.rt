@@ -2,7 +2,7 @@
 use rdf_core::Term;
 use sparql_tree::{Comparison, Function};
 
-/// An expression. Its variables are numbers of the plan's variables.
+/// An expression. Its variables are numbers of the variables of the plan.
 #[derive(Debug, Drop)]
 pub enum Expr {
     Variable(usize),

@@ -1,4 +1,5 @@
-//! The translation of a group, element by element (SPARQL 1.1 Query Language, section 18.2.2).
+//! The translation of a group graph pattern, element by element (SPARQL 1.1 Query Language, section
+//! 18.2.2).
 ghost use Rattle.std.specs.Prelude.{◌≡◌, IfOk};
 ghost use Rattle.sparql_tree.specs.GroupTree.{element_of, group_of, optional};
 ghost use Rattle.algebra_model.specs.Algebra.{Graph, Union};
@@ -18,10 +19,10 @@ use rdf_core::Term;
 use sparql_tree::{Element, GraphName};
 use std::alloc::{AllocError, Global};
 
-/// The operator that a group means.
+/// Translates a group into its operator.
 ///
 /// # Errors
-/// `AllocError`: a growth was refused.
+/// `AllocError` if an allocation fails.
 #[cycle(group)]
 pub fn convert_group(
     alloc: Global,
@@ -51,7 +52,7 @@ fn read_group<'a>(
     Ok(part)
 }
 
-/// What an element adds to its group.
+/// Translates an element of a group into what it adds.
 #[cycle(group)]
 fn read_element<'a>(
     alloc: Global,
@@ -84,7 +85,8 @@ fn read_element<'a>(
     }
 }
 
-/// What an OPTIONAL adds: its group's pattern, and the group's filters as the condition.
+/// Translates an OPTIONAL: its group's pattern is the right side, and the filters of the group are
+/// the condition.
 #[cycle(group)]
 fn read_optional<'a>(
     alloc: Global,
@@ -98,7 +100,7 @@ fn read_optional<'a>(
     Ok(Addition::Optional(right, condition))
 }
 
-/// A side of a UNION, which is a group or a UNION itself.
+/// Translates a side of a UNION, which is a group or a UNION itself.
 #[cycle(group)]
 fn convert_side(alloc: Global, names: &Names, side: &Element) -> Result<Box<Operator>, AllocError>
     ensures operator { IfOk result
@@ -120,7 +122,7 @@ fn convert_side(alloc: Global, names: &Names, side: &Element) -> Result<Box<Oper
     }
 }
 
-/// `left UNION { right }`, where the left side is an operator already.
+/// Translates `left UNION { right }`; the left side is translated already.
 #[cycle(group)]
 fn convert_union(
     alloc: Global,
@@ -135,7 +137,7 @@ fn convert_union(
     making::union(alloc, left, right)
 }
 
-/// `GRAPH name { group }`.
+/// Translates `GRAPH name { group }`.
 #[cycle(group)]
 fn convert_graph(
     alloc: Global,

@@ -1,4 +1,4 @@
-//! Values on the way: a term is lent as long as that serves, and a truth value is no term yet.
+//! Intermediate values: a borrowed or owned term, or a truth value that is not a literal yet.
 ghost use Rattle.std.specs.Prelude.{◌≡◌, IfOk, IsOk, None, option_map, true};
 ghost use Rattle.algebra_model.specs.BooleanValue.{ebv};
 ghost use Rattle.algebra_model.specs.Call.{boolean_term, call_value, datatype, lang, str, string_term};
@@ -13,14 +13,14 @@ use sparql_tree::Function;
 use std::alloc::{AllocError, Global};
 use term_values::truth;
 
-/// A term that is lent, or that the holder owns.
+/// A borrowed term, or an owned one.
 pub enum Held<'a> {
     Lent(&'a Term),
     Owned(Term),
 }
 
 impl<'a> Drop for Held<'a> {
-    /// Written out and not derived: a proof then meets one call at each exit that drops a value.
+    /// Implemented by hand. A proof then meets one call at each exit that drops a value.
     fn drop(self) {
         match self {
             Held::Lent(_) | Held::Owned(_) => {}
@@ -28,7 +28,7 @@ impl<'a> Drop for Held<'a> {
     }
 }
 
-/// The value of an expression: a term, or the truth value that a boolean literal would show.
+/// The value of an expression: a term, or a truth value in place of the boolean literal.
 #[derive(Drop)]
 pub enum Value<'a> {
     Held(Held<'a>),
@@ -45,7 +45,7 @@ impl<'a> Held<'a> {
         }
     }
 
-    /// The term itself, which is copied only where it was lent: an owned one takes no memory.
+    /// Returns the term itself. Only a borrowed term is copied; an owned term allocates nothing.
     pub fn into_term(self, alloc: Global) -> Result<Term, AllocError>
         ensures term { IfOk result (λ term. term ≡ held_term self.entry) }
         ensures owned { (term : Term) → self.entry ≡ Held.Owned term → result ≡ Ok term }
@@ -58,7 +58,7 @@ impl<'a> Held<'a> {
 }
 
 impl<'a> Value<'a> {
-    /// The value as a term, where a truth value becomes a literal. A term takes no memory.
+    /// Returns the value as a term: a truth value becomes a literal. A term allocates nothing.
     pub fn into_held(self, alloc: Global) -> Result<Held<'a>, AllocError>
         ensures term { IfOk result (λ held. held_term held ≡ value_term self.entry) }
         ensures held { is_held self.entry ≡ true → IsOk result }
@@ -69,7 +69,7 @@ impl<'a> Value<'a> {
         }
     }
 
-    /// The effective boolean value, and None where that is an error.
+    /// Returns the effective boolean value, or None if it is an error.
     pub fn truth(&self) -> Option<bool>
         ensures truth { result ≡ ebv (value_term self.now) }
     {
@@ -80,7 +80,7 @@ impl<'a> Value<'a> {
     }
 }
 
-/// What a test gives as a value, where None is an error.
+/// Makes a value of the result of a test; None is an error.
 pub fn boolean_value<'a>(outcome: Option<bool>) -> Option<Value<'a>>
     ensures value { option_map value_term result ≡ boolean_result outcome }
 {
@@ -90,8 +90,8 @@ pub fn boolean_value<'a>(outcome: Option<bool>) -> Option<Value<'a>>
     }
 }
 
-/// The call of a function on a term (SPARQL 1.1 Query Language, section 17.4.2), and None where that
-/// is an error. isIRI, isBlank and isLiteral take no memory, and an error takes none.
+/// Calls a function on a term (SPARQL 1.1 Query Language, section 17.4.2). Returns None if the call
+/// is an error. isIRI, isBlank and isLiteral allocate nothing, and neither does an error.
 pub fn call<'a>(
     alloc: Global,
     function: Function,

@@ -1,24 +1,25 @@
-//! Plans of the SPARQL algebra, and the values of expressions over a row.
+//! Translates queries to plans of the SPARQL algebra, and evaluates expressions over a row.
 //!
-//! [`translate`] answers the plan of a query: exactly what specs/Translation.antt says.
+//! [`translate`] returns the plan of a query, exactly as specs/Translation.antt defines it. A
+//! [`Plan`] holds the names of a query's variables and a tree of [`Operator`]s over their numbers.
+//! In contracts the tree is an algebra expression: `algebra_of` of specs/AlgebraOf.antt, into
+//! `Algebra` of the crate algebra_model. It is an invariant of a plan that its variables have
+//! names, so an evaluator needs no condition on it.
 //!
-//! A [`Plan`] is the names of a query's variables and a tree of [`Operator`]s over their numbers.
-//! A contract sees the tree as the algebra expression that it stands for: `algebra_of` of
-//! specs/AlgebraOf.antt, into `Algebra` of `algebra_model`. A plan holds the fact that its variables
-//! have names, so that an evaluator needs no condition on it.
+//! [`value`] returns the value of an expression over a row, or `Error` exactly if the expression is
+//! an error. A row is any type that implements [`Lookup`]. [`test`] evaluates the condition of a
+//! filter. [`truth`] is the effective boolean value of a term, and [`compare`] compares two terms.
+//! They compare numbers of any length exactly, by their digits, and allocate nothing.
 //!
-//! [`value`] answers the value of an expression, and `Error` exactly where that is an error; a row is
-//! anything that is [`Lookup`]. [`test`] is what a filter asks. [`truth`] is the effective boolean
-//! value of a term, and [`compare`] the comparison of two: numbers of any length are compared exactly,
-//! by their digits. Neither of these two takes memory.
+//! Standards: SPARQL 1.1 Query Language, sections 17 and 18.2; XML Schema 1.1 Part 2, sections 3.3
+//! and 3.4 (lexical forms of numbers and booleans). The crate algebra_model states their
+//! definitions.
 //!
-//! Standard: SPARQL 1.1 Query Language, sections 17 and 18.2; XML Schema 1.1 Part 2, sections 3.3 and
-//! 3.4 (forms of numbers and booleans). The definitions are those of `algebra_model`.
-//!
-//! To read in this order: `operator`, `plan`, `expression` (the trees); `lookup`, `held`, `evaluation`
+//! Reading order: `operator`, `plan`, `expression` (the trees); `lookup`, `held`, `evaluation`
 //! (expressions over a row); `names`, `naming` (the variables of a query and their numbers);
 //! `conversion`, `pattern`, `table`, `making`, `part`, `addition`, `group`, `translation` (a query,
-//! element by element). Comparisons and effective boolean values are in `term_values`.
+//! element by element). Comparisons and effective boolean values are in the crate term_values.
+//! Tests: the crate algebra_tests.
 //!
 //! ```text
 //! compare(Comparison::Equal, &one, &one_point_zero)   // "01"^^xsd:integer and 1.0: Some(true)
@@ -26,7 +27,7 @@
 //! truth(&ill_formed)                                  // "abc"^^xsd:integer: Some(false)
 //! ```
 //!
-//! Not promised: room on the stack for a query or an expression of any depth.
+//! Not guaranteed: enough stack for a query or an expression of any depth.
 #![tactic(auto)]
 
 mod addition;

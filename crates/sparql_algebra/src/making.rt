@@ -1,4 +1,5 @@
-//! Operators over inputs, each in a box of its own: what owns a tree on the way owns a box.
+//! Constructors of operators. Each input is in a box of its own, so the code that builds a tree
+//! owns one box at a time.
 ghost use Rattle.std.specs.Prelude.{◌≡◌, IfOk};
 ghost use Rattle.algebra_model.specs.Algebra.{Distinct, Extend, Filter, Graph, Join, LeftJoin, Minus, Project, Union};
 ghost use Rattle.sparql_algebra.specs.AlgebraOf.{algebra_of, graph_name_of};
@@ -9,17 +10,17 @@ use crate::expression::Expr;
 use crate::operator::{GraphName, Operator};
 use std::alloc::{AllocError, Global};
 
-/// The tree in a box.
+/// Puts a tree into a box.
 ///
 /// # Errors
-/// `AllocError`: a growth was refused.
+/// `AllocError` if an allocation fails. The tree is dropped.
 pub fn boxed(alloc: Global, tree: Operator) -> Result<Box<Operator>, AllocError>
     ensures tree { IfOk result (λ made. made.value ≡ tree) }
 {
     Ok(Box::new(alloc, tree)?)
 }
 
-/// The empty basic pattern.
+/// Creates the empty basic graph pattern.
 pub fn empty_pattern(alloc: Global) -> Result<Box<Operator>, AllocError>
     ensures operator { IfOk result (λ made. algebra_of made.value ≡ empty_pattern) }
 {

@@ -1,4 +1,4 @@
-//! Names in the order in which they first came, each once, and their numbers.
+//! Distinct names, numbered in the order in which they were added.
 ghost use Rattle.std.specs.Prelude.{◌≡◌, ◌<◌, ◌^◌, [], length, IfOk, OnErr, OnOk};
 ghost use Rattle.std.specs.Str.{bytes_eq};
 ghost use Rattle.indexmap.specs.IndexSet.{insert_key};
@@ -9,7 +9,8 @@ use rdf_core::Text;
 use std::alloc::{AllocError, Global};
 use std::marker::Model;
 
-/// Distinct names, numbered from 0 in the order in which they came. A contract sees their list.
+/// A list of distinct names, numbered from 0 in the order in which they were added. In contracts it
+/// is their list.
 #[derive(Drop)]
 pub struct Names {
     set: IndexSet<Text>,
@@ -24,7 +25,7 @@ impl Model for Names {
 }
 
 impl Names {
-    /// No names; takes no memory.
+    /// Creates an empty list. Allocates nothing.
     pub fn new(alloc: Global) -> Names
         ensures empty { result ≡ [] }
     {
@@ -33,7 +34,7 @@ impl Names {
         }
     }
 
-    /// How many names there are.
+    /// Returns the number of names.
     pub fn len(&self) -> usize
         ensures value { result ≡ length self.now }
         ensures small { result < 2 ^ 63 }
@@ -41,10 +42,10 @@ impl Names {
         self.set.len()
     }
 
-    /// Puts the name last where it is not there. It is copied only then.
+    /// Appends the name if the list lacks it. Only then is it copied.
     ///
     /// # Errors
-    /// `AllocError`: a growth was refused. The names are as they were.
+    /// `AllocError` if an allocation fails. The names are unchanged.
     pub fn note(&mut self, name: &Text) -> Result<(), AllocError>
         ensures noted { OnOk result (self.new ≡ insert_key bytes_eq self.old name.now) }
         ensures refused { OnErr result (self.new ≡ self.old) }
@@ -56,14 +57,14 @@ impl Names {
         Ok(())
     }
 
-    /// Whether the name is there.
+    /// Returns whether the name is in the list.
     pub fn contains(&self, name: &Text) -> bool
         ensures among { result ≡ is_name_among name.now self.now }
     {
         self.set.contains(name)
     }
 
-    /// The number of the name, and the count of names where it is not there.
+    /// Returns the number of the name, or the number of names if the list lacks it.
     pub fn number(&self, name: &Text) -> usize
         ensures number { result ≡ number_of self.now name.now }
     {
@@ -73,17 +74,17 @@ impl Names {
         }
     }
 
-    /// The names, lent.
+    /// Borrows the names as a slice.
     pub fn as_slice(&self) -> &[Text]
         ensures names { result.now ≡ self.now }
     {
         self.set.as_slice()
     }
 
-    /// The names, moved into a list.
+    /// Moves the names into a list.
     ///
     /// # Errors
-    /// `AllocError`: a growth was refused.
+    /// `AllocError` if an allocation fails. The names are dropped.
     pub fn into_list(self, alloc: Global) -> Result<Vec<Text>, AllocError>
         ensures names { IfOk result (λ list. list.items ≡ self) }
     {

@@ -1,5 +1,6 @@
-//! The names that a query's tree mentions, in order (SPARQL 1.1 Query Language, section 18.2.1).
-//! Where a growth is refused, a first part of the names in question is noted, and nothing else.
+//! The names that the syntax tree of a query mentions, in order (SPARQL 1.1 Query Language, section
+//! 18.2.1). If an allocation fails, some of the first names to add have been added, and no other
+//! name.
 ghost use Rattle.std.specs.Prelude.{◌≡◌, [], IfOk, OnErr, OnOk, flat_map};
 ghost use Rattle.std.specs.Str.{bytes_eq};
 ghost use Rattle.indexmap.specs.IndexSet.{insert_all};
@@ -13,11 +14,11 @@ use rdf_core::Text;
 use sparql_tree::{Element, GraphName, PatternTerm, Query, Selection, Triple};
 use std::alloc::{AllocError, Global};
 
-/// The names of a query by their numbers: first as the text mentions them, behind them what a tree
-/// that no reader made lists or binds besides.
+/// Returns the names of a query by their numbers. First come the names in the order in which the
+/// text mentions them. A tree that no parser made may list or bind further names; they follow.
 ///
 /// # Errors
-/// `AllocError`: a growth was refused.
+/// `AllocError` if an allocation fails.
 pub fn query_names(alloc: Global, query: &Query) -> Result<Names, AllocError>
     ensures names { IfOk result (λ names. names ≡ names_of (query_of query.now)) }
 {
@@ -28,10 +29,10 @@ pub fn query_names(alloc: Global, query: &Query) -> Result<Names, AllocError>
     Ok(names)
 }
 
-/// The names in scope of a group.
+/// Returns the names of the variables in scope in a group.
 ///
 /// # Errors
-/// `AllocError`: a growth was refused.
+/// `AllocError` if an allocation fails.
 pub fn scope(alloc: Global, group: &[Element]) -> Result<Names, AllocError>
     ensures names { IfOk result (λ names. names ≡ insert_all bytes_eq [] (group_scope (group_of group.now))) }
 {
@@ -40,10 +41,10 @@ pub fn scope(alloc: Global, group: &[Element]) -> Result<Names, AllocError>
     Ok(names)
 }
 
-/// Notes each name of a list.
+/// Adds each name of a list.
 ///
 /// # Errors
-/// `AllocError`: a growth was refused. A first part of the list is noted.
+/// `AllocError` if an allocation fails. Some of the first names of the list have been added.
 pub fn note_list(names: &mut Names, list: &[Text]) -> Result<(), AllocError>
     ensures noted { OnOk result (names.new ≡ insert_all bytes_eq names.old list.now) }
     ensures refused { OnErr result (IsNotedInPart names.old list.now names.new) }
@@ -66,8 +67,8 @@ fn note_selection(names: &mut Names, selection: &Selection) -> Result<(), AllocE
     }
 }
 
-/// Notes what the elements of a group bind; where `all` is set, also in the right sides of MINUS.
-/// A refusal leaves a first part of it noted.
+/// Adds the names that the elements of a group bind. If `all` is set, it adds those in the right
+/// sides of MINUS too. On error, some of the first of these names have been added.
 #[cycle(naming)]
 fn note_group(names: &mut Names, all: bool, group: &[Element]) -> Result<(), AllocError>
     ensures noted { OnOk result

@@ -2,8 +2,8 @@
 use crate::expression::Expr;
 use rdf_core::Term;
 
-/// What stands in a place of a triple pattern: a variable of the plan, a blank label of the
-/// pattern, or a term.
+/// A place of a triple pattern: a variable of the plan, a blank node label of the pattern, or a
+/// term.
 #[derive(Debug)]
 pub enum PatternTerm {
     Variable(usize),
@@ -12,7 +12,7 @@ pub enum PatternTerm {
 }
 
 impl Drop for PatternTerm {
-    /// Written out and not derived: a proof then meets one call at each exit that drops a value.
+    /// Implemented by hand. A proof then meets one call at each exit that drops a value.
     fn drop(self) {
         match self {
             PatternTerm::Variable(_) | PatternTerm::Label(_) | PatternTerm::Term(_) => {}
@@ -20,7 +20,7 @@ impl Drop for PatternTerm {
     }
 }
 
-/// A triple of a basic pattern.
+/// A triple pattern of a basic graph pattern.
 #[derive(Debug, Drop)]
 pub struct TriplePattern {
     pub subject: PatternTerm,
@@ -28,7 +28,7 @@ pub struct TriplePattern {
     pub object: PatternTerm,
 }
 
-/// What stands behind GRAPH: a variable, which goes over all graph names, or a name.
+/// The name after GRAPH: an IRI, or a variable that ranges over the names of all named graphs.
 #[derive(Debug)]
 pub enum GraphName {
     Variable(usize),
@@ -36,7 +36,7 @@ pub enum GraphName {
 }
 
 impl Drop for GraphName {
-    /// Written out for the same reason.
+    /// Implemented by hand for the same reason.
     fn drop(self) {
         match self {
             GraphName::Variable(_) | GraphName::Iri(_) => {}
@@ -44,10 +44,10 @@ impl Drop for GraphName {
     }
 }
 
-/// An operator of the algebra over its inputs, each a variant under SPARQL's own name.
+/// An operator of the algebra with its inputs. Each variant has the name that SPARQL gives it.
 #[derive(Debug, Drop)]
 pub enum Operator {
-    /// A basic graph pattern with its number of blank labels.
+    /// A basic graph pattern with its number of blank node labels.
     Pattern {
         labels: usize,
         triples: Vec<TriplePattern>,
@@ -77,7 +77,7 @@ pub enum Operator {
         condition: Expr,
         inner: Box<Operator>,
     },
-    /// Binds the variable to the expression's value.
+    /// Binds the variable to the value of the expression.
     Extend {
         variable: usize,
         expression: Expr,
@@ -91,7 +91,7 @@ pub enum Operator {
     Distinct {
         inner: Box<Operator>,
     },
-    /// The rows of VALUES over these variables, where UNDEF is None.
+    /// The rows of VALUES over these variables; UNDEF is None.
     Table {
         variables: Vec<usize>,
         rows: Vec<Vec<Option<Term>>>,

@@ -1,4 +1,4 @@
-//! A group as far as it is read.
+//! The translation of the first elements of a group.
 ghost use Rattle.std.specs.Prelude.{◌≡◌, [], ◌++◌, IfOk, None, Some, map, option_map, true};
 ghost use Rattle.algebra_model.specs.Call.{boolean_term};
 ghost use Rattle.sparql_algebra.specs.AlgebraOf.{algebra_of};
@@ -16,8 +16,8 @@ use rdf_core::{Term, Text};
 use sparql_tree::Triple;
 use std::alloc::{AllocError, Global};
 
-/// What stands before the open basic pattern, that pattern's triples, and the filters so far,
-/// joined by `&&`.
+/// The operator before the open basic graph pattern, the triples of that pattern, and the filters
+/// so far, combined with `&&`.
 #[derive(Drop)]
 pub struct Part<'a> {
     pub before: Box<Operator>,
@@ -26,7 +26,7 @@ pub struct Part<'a> {
 }
 
 impl<'a> Part<'a> {
-    /// A group of which nothing is read: the empty pattern.
+    /// Creates the part of a group before its first element: the empty pattern.
     pub fn new(alloc: Global) -> Result<Part<'a>, AllocError>
         ensures part { IfOk result (λ part.
             part_of part ≡ record { before = empty_pattern; triples = []; filters = None }) }
@@ -38,7 +38,7 @@ impl<'a> Part<'a> {
         })
     }
 
-    /// The triples go into the open basic pattern.
+    /// Adds the triples to the open basic graph pattern.
     pub fn with_triples(self, triples: &'a [Triple]) -> Result<Part<'a>, AllocError>
         ensures part { IfOk result (λ part. part_of part ≡ record {
           before = (part_of self.entry).before;
@@ -58,7 +58,7 @@ impl<'a> Part<'a> {
         })
     }
 
-    /// A filter joins the others, and the basic pattern stays open.
+    /// Adds a filter. The basic graph pattern stays open.
     pub fn with_filter(self, alloc: Global, filter: Box<Expr>) -> Result<Part<'a>, AllocError>
         ensures part { IfOk result (λ part. part_of part ≡ record {
           before = (part_of self.entry).before;
@@ -78,8 +78,8 @@ impl<'a> Part<'a> {
         })
     }
 
-    /// The open basic pattern ends, and is joined with what stands before. The filters are handed
-    /// back beside.
+    /// Ends the open basic graph pattern and joins it with the operator before it. The filters are
+    /// returned with the operator.
     pub fn close(
         self,
         alloc: Global,
@@ -101,7 +101,7 @@ impl<'a> Part<'a> {
         Ok((making::join(alloc, before, pattern)?, filters))
     }
 
-    /// The whole group: the filters are applied at its end.
+    /// Translates the whole group: the filters are applied at its end.
     pub fn finish(self, alloc: Global, names: &Names) -> Result<Box<Operator>, AllocError>
         ensures finished { IfOk result
             (λ made. algebra_of made.value ≡ finished names.now (part_of self.entry)) }
@@ -113,8 +113,8 @@ impl<'a> Part<'a> {
         }
     }
 
-    /// The right side of an OPTIONAL whose group this is, and its condition: the filters that stand
-    /// directly in the group, and `true` where there are none.
+    /// Returns the right side of an OPTIONAL with this group, and its condition. The condition is
+    /// the filters directly in the group, or `true` if it has none.
     pub fn split(
         self,
         alloc: Global,
@@ -128,7 +128,8 @@ impl<'a> Part<'a> {
         Ok((inner, condition(alloc, filters)?))
     }
 
-    /// An operator that ended the basic pattern, with the group's filters.
+    /// Creates the part of a group after an element that ended the basic graph pattern, with the
+    /// filters of the group.
     pub fn behind(alloc: Global, before: Box<Operator>, filters: Option<Box<Expr>>) -> Part<'a>
         ensures part { part_of result ≡ record {
           before = algebra_of before.value;
@@ -175,7 +176,7 @@ fn with_conjunct(
     }
 }
 
-/// The condition of an OPTIONAL: its filters, and `true` where there are none.
+/// Returns the condition of an OPTIONAL: its filters, or `true` if it has none.
 fn condition(alloc: Global, filters: Option<Box<Expr>>) -> Result<Box<Expr>, AllocError>
     ensures condition { IfOk result (λ made.
         expression_of made.value ≡ condition_of (option_map (λ e. expression_of e.value) filters)) }

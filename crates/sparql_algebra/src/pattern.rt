@@ -1,4 +1,4 @@
-//! A run of triples as a basic graph pattern.
+//! Consecutive triples as a basic graph pattern.
 ghost use Rattle.std.specs.Prelude.{◌≡◌, IfOk, OnOk, flat_map, map};
 ghost use Rattle.std.specs.Str.{bytes_eq};
 ghost use Rattle.indexmap.specs.IndexSet.{insert_all};
@@ -11,10 +11,11 @@ use crate::operator::{self, Operator};
 use sparql_tree::{PatternTerm, Triple};
 use std::alloc::{AllocError, Global};
 
-/// The basic graph pattern of the triples. Its blank labels are numbered by their first places.
+/// Translates triples into a basic graph pattern. Its blank node labels are numbered in the order
+/// of their first occurrence.
 ///
 /// # Errors
-/// `AllocError`: a growth was refused.
+/// `AllocError` if an allocation fails.
 pub fn basic_pattern(
     alloc: Global,
     names: &Names,
@@ -32,7 +33,7 @@ pub fn basic_pattern(
     boxed(alloc, tree)
 }
 
-/// The blank labels of the triples, each once.
+/// Returns the blank node labels of the triples, each once.
 fn pattern_labels(alloc: Global, triples: &[&Triple]) -> Result<Names, AllocError>
     ensures labels { IfOk result (λ labels. labels ≡ labels_of (map (λ t. t.now) triples.now)) }
 {
@@ -76,7 +77,7 @@ fn convert_triples(
     Ok(patterns)
 }
 
-/// The triple with numbers for names.
+/// Replaces the names in a triple by numbers.
 fn convert_triple(
     alloc: Global,
     names: &Names,

@@ -7,11 +7,11 @@ ghost use Rattle.sparql_algebra.specs.Projected.{projected, top_projected};
 use crate::operator::Operator;
 use rdf_core::Text;
 
-/// What a query means (SPARQL 1.1 Query Language, section 18.2).
+/// A translated query (SPARQL 1.1 Query Language, section 18.2).
 ///
-/// A variable is a number, and `names` has its name, without its sign, at that number. Every
-/// variable that the tree binds or lists has a name, and every blank label of a pattern is below
-/// the pattern's count of labels.
+/// A variable is a number, and `names` has its name at that index, without `?` or `$`. Every
+/// variable that the tree binds or lists has a name. Every blank node label of a pattern is below
+/// the pattern's number of labels.
 #[derive(Debug, Drop)]
 pub struct Plan {
     pub names: Vec<Text>,
@@ -20,10 +20,10 @@ pub struct Plan {
 }
 
 impl Plan {
-    /// The projected variables, in the order of the results.
+    /// Returns the projected variables, in the order of the results.
     ///
-    /// They stand in the Project on top, or in the one right below a Distinct on top. A tree
-    /// without one there has none.
+    /// They are those of the Project at the root, or of the one directly below a Distinct at the
+    /// root. A tree without one there has none.
     pub fn projected(&self) -> &[usize]
         ensures listed { result.now ≡ projected (algebra_of self.now.tree) }
     {
@@ -43,7 +43,7 @@ impl Plan {
     }
 }
 
-/// The variables of a Project on top, and none where another operator stands there.
+/// Returns the variables of a Project at the root, and none for another operator.
 fn top_projected(tree: &Operator) -> &[usize]
     ensures listed { result.now ≡ top_projected (algebra_of tree.now) }
 {

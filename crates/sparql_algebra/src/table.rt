@@ -10,10 +10,10 @@ use crate::operator::Operator;
 use rdf_core::{Term, Text};
 use std::alloc::{AllocError, Global};
 
-/// The table with numbers for its variables. Its cells are copied.
+/// Translates VALUES into a table over the numbers of its variables. Its cells are copied.
 ///
 /// # Errors
-/// `AllocError`: a growth was refused.
+/// `AllocError` if an allocation fails.
 pub fn convert_table(
     alloc: Global,
     names: &Names,
@@ -30,10 +30,10 @@ pub fn convert_table(
     boxed(alloc, tree)
 }
 
-/// The numbers of the names, in their order.
+/// Returns the numbers of the names of a list, in order.
 ///
 /// # Errors
-/// `AllocError`: a growth was refused.
+/// `AllocError` if an allocation fails.
 pub fn numbers(alloc: Global, names: &Names, list: &[Text]) -> Result<Vec<usize>, AllocError>
     ensures numbers { IfOk result
         (λ numbers. numbers.items ≡ map (number_of names.now) list.now) }

@@ -17,13 +17,13 @@ use crate::table::numbers;
 use sparql_tree::{Query, Selection};
 use std::alloc::{AllocError, Global};
 
-/// The plan of a query (SPARQL 1.1 Query Language, section 18.2).
+/// Translates a query into its plan (SPARQL 1.1 Query Language, section 18.2).
 ///
-/// Variables are numbered by the first place in the text where each stands. Texts and terms are
-/// copied, and the query stays as it is.
+/// Variables are numbered in the order of their first occurrence in the text. Texts and terms are
+/// copied, and the query is unchanged.
 ///
 /// # Errors
-/// `AllocError`: a growth was refused.
+/// `AllocError` if an allocation fails.
 pub fn translate(alloc: Global, query: &Query) -> Result<Plan, AllocError>
     ensures names { IfOk result (λ plan. plan.names.items ≡ names_of (query_of query.now)) }
     ensures tree { IfOk result
@@ -36,7 +36,7 @@ pub fn translate(alloc: Global, query: &Query) -> Result<Plan, AllocError>
     Ok(Plan { names, tree })
 }
 
-/// The tree of the plan: DISTINCT where it is asked for, the projection, and the group.
+/// Creates the tree of the plan: the group, its projection, and Distinct if the query has DISTINCT.
 fn convert_query(alloc: Global, names: &Names, query: &Query) -> Result<Box<Operator>, AllocError>
     requires names { names.now ≡ names_of (query_of query.now) }
     ensures tree { IfOk result
@@ -52,7 +52,7 @@ fn convert_query(alloc: Global, names: &Names, query: &Query) -> Result<Box<Oper
     }
 }
 
-/// The numbers of the selected variables, in the order of the results.
+/// Returns the numbers of the selected variables, in the order of the results.
 fn projected_numbers(alloc: Global, names: &Names, query: &Query) -> Result<Vec<usize>, AllocError>
     requires names { names.now ≡ names_of (query_of query.now) }
     ensures numbers { IfOk result (λ numbers. numbers.items ≡ projection (query_of query.now)) }

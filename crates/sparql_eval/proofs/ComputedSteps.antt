@@ -1,4 +1,4 @@
--- The terms that a dictionary takes in, operator by operator.
+-- The terms that are added to a dictionary, operator by operator.
 use Rattle.std.proofs.Common.{◌≡◌, ◌⊎◌, ℕ, zero, suc, ◌<◌, List, [], ◌∷◌, length, map, slice_get, nat_eq, IsPermutation, Contains, Option, Some, Result, IfOk, inl, inr, ap, sym, subst, arith}
 use Rattle.std.specs.Option.{option_map, ForSome}
 use Rattle.std.proofs.lemmas.List.Sorted.{Contains-permutation, IsPermutation-map, IsPermutation-sym}
@@ -22,7 +22,7 @@ use Rattle.sparql_eval.proofs.EvaluateSteps.{active_kept, index_kept}
 use Rattle.sparql_eval.proofs.GraphSteps.{names_read}
 use Rattle.sparql_eval.proofs.TakingLaws.{takes_more, takes_none, takes_twice}
 
--- ---- what is answered, where the dictionary stays
+-- ---- the result of an operator that leaves the dictionary unchanged
 
 pub takes_still : {E : Type 0} (W : Term → Type 0) (t0 t1 : List Term) (r : Result (RowList × List Term) E) → TakesOnly W t0 t1 → IfOk r (λ x. x.1 ≡ t1) → IfOk r (λ x. TakesOnly W t0 x.1)
 takes_still W t0 t1 r h k = IfOk-weaker r (λ x. x.1 ≡ t1) (λ x. TakesOnly W t0 x.1) (λ x e. subst (TakesOnly W t0) (sym e) h) k
@@ -30,11 +30,11 @@ takes_still W t0 t1 r h k = IfOk-weaker r (λ x. x.1 ≡ t1) (λ x. TakesOnly W 
 pub takes_nothing : {E : Type 0} (W : Term → Type 0) (terms : List Term) (r : Result (RowList × List Term) E) → IfOk r (λ x. x.1 ≡ terms) → IfOk r (λ x. TakesOnly W terms x.1)
 takes_nothing W terms r k = takes_still W terms terms r (takes_none W terms) k
 
--- what one step wants and what the next one wants, after one another
+-- the terms of one step and those of the next one, one after another
 takes_two : (V V' W : Term → Type 0) (a b c : List Term) → ((t : Term) → V t ⊎ V' t → W t) → TakesOnly V a b → TakesOnly V' b c → TakesOnly W a c
 takes_two V V' W a b c f h k = takes_twice W a b c (takes_more V W a b (λ t v. f t (inl v)) h) (takes_more V' W b c (λ t v. f t (inr v)) k)
 
--- ---- what a tree computes, where the dictionary of the index grows
+-- ---- the terms that a tree computes, if the dictionary of the index grows
 
 module _ (terms now : List Term) (grown : IsGrown terms now) (D : List NumQuad) (below : AreBelow (length terms) D) (w : ℕ) (g : Option ℕ) (named : ForSome g (λ n. n < length terms)) where
   -- an expression computes the same terms through a dictionary that has grown
@@ -52,17 +52,17 @@ module _ (terms now : List Term) (grown : IsGrown terms now) (D : List NumQuad) 
       (takes_two (Wanted terms D w g A) (Wanted terms D w g B) (Wanted terms D w g joined) terms now x.1 f h (wanted_kept B x.1 m))) k
 
 module _ {E : Type 0} (terms : List Term) (D : List NumQuad) (w : ℕ) (g : Option ℕ) (r : Result (RowList × List Term) E) (whole made : Algebra) (is : whole ≡ made) where
-  -- what the expression is made of computes the terms
+  -- an expression with the same parts computes the same terms
   pub takes_as : IfOk r (λ x. TakesOnly (Wanted terms D w g made) terms x.1) → IfOk r (λ x. TakesOnly (Wanted terms D w g whole) terms x.1)
   takes_as h = subst (λ (X : Algebra). IfOk r (λ x. TakesOnly (Wanted terms D w g X) terms x.1)) (sym is) h
 
 -- ---- Extend
 
--- the values of rows that are evaluated are those of the solutions
+-- the values for rows are the values of their solutions
 values_wanted : (terms now : List Term) (w : ℕ) (A : List (Solution Term)) (rows : RowList) → IsEvaluated terms w A rows now → (value : Solution Term → Option Term) (t : Term) → IsValue value (solutions_of now rows) t → IsValue value A t
 values_wanted terms now w A rows h value t m = Contains-permutation (map value (solutions_of now rows)) (map value A) (Some t) (IsPermutation-map value (solutions_of now rows) A h.bag) m
 
--- the terms of the input, and the values behind them
+-- the terms of the input, followed by the values
 pub takes_values : {E : Type 0} (terms : List Term) (D : List NumQuad) (w : ℕ) (g : Option ℕ) (r : Result (RowList × List Term) E) (v : ℕ) (e : Expression) (A : Algebra) (now : List Term) (rows : RowList)
     → IsEvaluated terms w (eval w (quads_at terms D) (option_map (term_at terms) g) A) rows now → TakesOnly (Wanted terms D w g A) terms now
     → IfOk r (λ x. TakesOnly (IsValue (val e) (solutions_of now rows)) now x.1) → IfOk r (λ x. TakesOnly (Wanted terms D w g (Extend v e A)) terms x.1)
@@ -80,11 +80,11 @@ contains_mapped f (y ∷ xs) zero x e = let p : y ≡ x = cc in (0, omega arith,
 contains_mapped f (y ∷ xs) (suc k) x e = let r = contains_mapped f xs k x e in (suc r.0, omega (arith, r.1), r.2)
 
 module _ (terms : List Term) (index : List NumQuad) (w : ℕ) (A : Algebra) where
-  -- the terms that the expression computes in the graphs behind GRAPH
+  -- the terms that the expression computes in the graphs of GRAPH
   abbrev pub WantedIn : GraphName → Term → Type 0
   WantedIn i t = InSomeGraph (quads_at terms index) i (λ h. IsComputed w (quads_at terms index) h A t)
 
-  -- in one of the named graphs after those before it
+  -- in one of the named graphs, after the graphs before it
   module _ (once : IsWithoutRepeats terms) (below : AreBelow (length terms) index) (graphs : List ℕ) (are : IsPermutation (without_repeats nat_eq (graph_names index)) graphs) where
     wanted_in_each : (v k n : ℕ) → slice_get graphs k ≡ Some n → (t : Term) → Wanted terms index w (Some n) A t → WantedIn (each_graph v) t
     wanted_in_each v k n at t m =

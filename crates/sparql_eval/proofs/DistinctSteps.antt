@@ -1,4 +1,4 @@
--- Distinct, one row more.
+-- Distinct, with one more row.
 use Rattle.std.proofs.Common.{◌≡◌, ℕ, ◌+◌, Bool, true, false, cond, not, ◌||◌, List, [], ◌∷◌, ◌++◌, filter, map, nat_eq, Decides, refl, sym, ap, ◌∙◌, append-nil, if◌then◌else◌, subst, length, ◌<◌, take, slice_get, Some}
 use Rattle.std.specs.Cmp.{both_ways}
 use Rattle.std.specs.List.{list_any}
@@ -41,7 +41,7 @@ module _ {X : Type 0} (same : X → X → Bool) (decides : (x y : X) → Decides
 number_decides : (μ ν : Solution ℕ) → Decides (same_solution nat_eq μ ν) (μ ≡ ν)
 number_decides = solution_decides nat_eq Decides-eqb
 
--- a row was seen where it is among the keys
+-- a row was seen exactly if it is among the keys
 seen_before : {K : Type 0} (now : K → Solution ℕ) (keys : List K) (made A : List (Solution ℕ)) (x : Solution ℕ) → map now keys ≡ made → made ≡ distinct nat_eq A → list_any (λ k. same_solution nat_eq x (now k)) keys ≡ list_any (same_solution nat_eq x) A
 seen_before now keys made A x e h =
     sym (any-map (same_solution nat_eq x) now keys) ∙ ap (list_any (same_solution nat_eq x)) (e ∙ h) ∙ any-without_repeats_is (same_solution nat_eq) number_decides x A
@@ -52,7 +52,7 @@ distinct-take now keys made R i x e h at =
     ap (distinct nat_eq) (take_more_get R i x at) ∙ without_repeats-push (same_solution nat_eq) number_decides (take i R) x
     ∙ (λ j. if sym (seen_before now keys made (take i R) x e h) j then sym h j else sym h j ++ x ∷ [])
 
--- one turn: the row is added exactly where it is new
+-- one iteration: the row is added exactly if it is new
 pub distinct_turn : {K : Type 0} (now : K → Solution ℕ) (keys keys' : List K) (k : K) (made made' R : List (Solution ℕ)) (i : ℕ) (b : Bool) → map now keys ≡ made → made ≡ distinct nat_eq (take i R) → slice_get R i ≡ Some (now k)
     → b ≡ not (list_any (λ k'. same_solution nat_eq (now k) (now k')) keys)
     → keys' ≡ (if list_any (λ k'. same_solution nat_eq (now k) (now k')) keys then keys else keys ++ k ∷ [])

@@ -84,7 +84,7 @@ module _ (terms terms' : List Term) (grown : IsGrown terms terms') where
   pub tree_kept : (D : List NumQuad) (w : ℕ) (g : Option ℕ) (tree : Operator) → AreBelow (length terms) D → ForSome g (λ n. n < length terms) → tree_solutions terms' D w g tree ≡ tree_solutions terms D w g tree
   tree_kept D w g tree below named = λ i. eval w ((index_kept D below).1 i) ((active_kept g named).1 i) (algebra_of tree)
 
--- ---- what is answered, where nothing is refused
+-- ---- the result if no allocation fails
 
 pub as_whole : {E : Type 0} (t0 : List Term) (w : ℕ) (r : Result (RowList × List Term) E) (A whole : List (Solution Term)) → whole ≡ A → IfOk r (λ x. IsEvaluated t0 w A x.0 x.1) → IfOk r (λ x. IsEvaluated t0 w whole x.0 x.1)
 as_whole t0 w r A whole is k = subst (λ (W : List (Solution Term)). IfOk r (λ x. IsEvaluated t0 w W x.0 x.1)) (sym is) k
@@ -103,11 +103,11 @@ after_two t0 t1 w r F keeps A B left right h k =
     IfOk-weaker r (λ x. IsEvaluated t1 left.width (F (solutions_of t1 left) (solutions_of t1 right)) x.0 x.1) (λ x. IsEvaluated t0 w (F A B) x.0 x.1)
     (λ x e. then_two t0 t1 x.1 w left.width F keeps A B left right x.0 h h.wide_left e) k
 
--- rows are evaluated as what they stand for
+-- rows are evaluated as the solutions that they represent
 itself : (terms : List Term) (rows : RowList) → AreKnown terms rows → IsEvaluated terms rows.width (solutions_of terms rows) rows terms
 itself terms rows known = record { grown = grown_itself terms; wide = refl; known = known; bag = IsPermutation-refl (solutions_of terms rows) }
 
--- the right input is evaluated behind rows on the left
+-- the right input is evaluated after the left one, whose rows are unchanged
 pub after_right : {E : Type 0} (t0 t1 : List Term) (w : ℕ) (r : Result (RowList × List Term) E) (F : List (Solution Term) → List (Solution Term) → List (Solution Term)) → KeepsBagsOfTwo F → (B : List (Solution Term)) (left right : RowList)
     → left.width ≡ w → AreKnown t0 left → IsEvaluated t0 w B right t1
     → IfOk r (λ x. IsEvaluated t1 left.width (F (solutions_of t1 left) (solutions_of t1 right)) x.0 x.1) → IfOk r (λ x. IsEvaluated t0 left.width (F (solutions_of t0 left) B) x.0 x.1)
@@ -123,12 +123,12 @@ after_left t0 t1 w r F keeps A B B' is left h k =
     after_one t0 t1 w r (λ X. F X B) (λ X Y p. keeps X Y B B p (IsPermutation-refl B)) A left h
     (subst (λ (Z : List (Solution Term)). IfOk r (λ x. IsEvaluated t1 left.width (F (solutions_of t1 left) Z) x.0 x.1)) is k)
 
--- ---- variables that have places
+-- ---- variables below the width
 
 pub all_below : (w : ℕ) (vs : List ℕ) → list_all (λ v. nat_lt v w) vs ≡ true → All (λ v. v < w) vs
 all_below w vs e = λ k d low. (Decides-ltb (get_or vs k d) w).0 (AllPass-from_list_all (λ v. nat_lt v w) vs e k d low)
 
--- ---- equal bags give equal bags, operator by operator
+-- ---- equal multisets give equal multisets, operator by operator
 
 pub join_keeps : KeepsBagsOfTwo (join term_eq)
 join_keeps = join-IsSameBag term_eq term_decides

@@ -1,4 +1,4 @@
--- Extend: rows of numbers, in each the variable bound, and what they read.
+-- Extend: rows of numbers with one more variable bound, and the solutions that they represent.
 use Rattle.std.proofs.Common.{◌≡◌, ℕ, zero, suc, ◌+◌, ◌<◌, true, false, not, List, [], ◌∷◌, ◌++◌, length, set, take, map, get_or, slice_get, Option, None, Some, is_some, option_map, refl, sym, ap, ◌∙◌, add-one}
 use Rattle.rdf_core.specs.declared.term.Term.{Term}
 use Rattle.algebra_model.specs.Operators.{bind, extend}
@@ -33,7 +33,7 @@ bind_long (suc v) n (x ∷ μ) = ap suc (bind_long v n μ)
 
 -- ---- all rows
 
--- one row more
+-- one more row
 pub bind_more : (v : ℕ) (ns : List (Option ℕ)) (A : List (Solution ℕ)) (i : ℕ) (n : Option ℕ) (μ : Solution ℕ) → slice_get ns i ≡ Some n → slice_get A i ≡ Some μ
     → bind_each v (take (i + 1) ns) (take (i + 1) A) ≡ bind_each v (take i ns) (take i A) ++ bind v n μ ∷ []
 bind_more v ns A i n μ at at' = rw add-one (by ns A i at at')
@@ -59,7 +59,7 @@ first_known : (terms : List Term) (n : Option ℕ) (ns : List (Option ℕ)) → 
 first_known terms None ns h = (tt, h)
 first_known terms (Some n) ns h = h
 
--- numbers that read as the values of the rows extend them by these
+-- numbers whose terms are the values of the rows extend the rows by these values
 pub bind_extends : (terms later : List Term) → IsGrown terms later → (v : ℕ) (value : Solution Term → Option Term) (ns : List (Option ℕ)) (A : List (Solution ℕ))
     → Known later ns → Each (Known terms) A → read_by later ns ≡ map (λ μ. value (read_by terms μ)) A
     → Each (Known later) (bind_each v ns A) × (map (read_by later) (bind_each v ns A) ≡ extend v value (map (read_by terms) A))

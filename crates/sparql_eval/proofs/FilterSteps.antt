@@ -45,12 +45,12 @@ module _ (terms : List Term) (e : Expression) where
   between (μ ∷ A) (suc n) zero = ap (λ r. filter_part terms e μ ∷ r) (between A n zero)
   between (μ ∷ A) n (suc k) = between A n k
 
-  -- what was made of the rows from one place up to another
+  -- the result for the rows from one place up to another
   pub made_between : (w : ℕ) (A : List (Solution ℕ)) (n k : ℕ) (made : RowList) → made.width ≡ w → made.rows ≡ filter passes (take n (drop k A)) → AreRowsOf w (take n (drop k (filter_parts terms e A))) made
   made_between w A n k made wide rows =
       (wide, same_bag made.rows _ (rows ∙ sym (ap joined (between A n k) ∙ parts_joined (take n (drop k A)))))
 
-  -- one row more
+  -- one more row
   pub filter_more : (A : List (Solution ℕ)) (from i : ℕ) (μ : Solution ℕ) → from ≤ i → slice_get A i ≡ Some μ → filter passes (take (i + 1 - from) (drop from A)) ≡ filter passes (take (i - from) (drop from A)) ++ cond (passes μ) (μ ∷ []) []
   filter_more A from i μ low h =
       ap (λ m. filter passes (take m (drop from A))) (let s : i + 1 - from ≡ (i - from) + 1 = omega arith in s)

@@ -1,4 +1,4 @@
--- The numbers of named graphs, and rows joined with a graph's name.
+-- The numbers of named graphs, and rows joined with the name of a graph.
 use Rattle.std.proofs.Common.{◌≡◌, ℕ, ◌+◌, ◌<◌, ◌≤◌, Bool, true, false, cond, ◌||◌, List, [], ◌∷◌, ◌++◌, length, map, take, filter_map, nat_eq, nat_cmp, eq-eqb, ne_eqb, get_or, slice_get, Contains, Option, None, Some, MatchOption, Result, Ok, Err, is_ok, ⊎_elim, refl, sym, ap, ◌∙◌, subst, IsPermutation, append_assoc, arith}
 use Rattle.std.specs.Bool.{then_some}
 use Rattle.std.specs.List.{list_any, cons_option, All}
@@ -32,7 +32,7 @@ use Rattle.sparql_eval.specs.GraphNumbers.{IsGraphNumber}
 use Rattle.sparql_eval.proofs.ReadingLaws.{apart, tells, number_known, number_read}
 use Rattle.sparql_eval.proofs.PatternSteps.{not_at}
 
--- ---- a row joined with the name's row
+-- ---- a row joined with the row of the name
 
 pub named_take : (R : List (Solution ℕ)) (ν : Solution ℕ) (i : ℕ) (μ : Solution ℕ) → slice_get R i ≡ Some μ → join nat_eq (take (i + 1) R) (ν ∷ []) ≡ join nat_eq (take i R) (ν ∷ []) ++ cond (is_compatible nat_eq μ ν) (merge μ ν ∷ []) []
 named_take R ν i μ h = join-take R (ν ∷ []) i μ h ∙ ap (λ l. join nat_eq (take i R) (ν ∷ []) ++ l) (by (is_compatible nat_eq μ ν))
@@ -48,12 +48,12 @@ named_turn R ν i μ h before made made' b is was e =
     ∙ ap (λ (c : Bool). before ++ (join nat_eq (take i R) (ν ∷ []) ++ cond c (merge μ ν ∷ []) [])) is
     ∙ ap (λ (l : List (Solution ℕ)). before ++ l) (sym (named_take R ν i μ h))
 
--- ---- a search of numbers that rise
+-- ---- a search in increasing numbers
 
 rise : (xs : List ℕ) → IsStrictlyIncreasing xs → (i j : ℕ) → i ≤ j → j < length xs → get_or xs i 0 ≤ get_or xs j 0
 rise xs up i j = non_decreasing_from_sorted xs (sorted_from_strictly_increasing xs up) i j 0
 
--- it finds a number where the number is among them
+-- the search finds a number exactly if it is among them
 pub search_tells : (xs : List ℕ) → IsStrictlyIncreasing xs → (n : ℕ) (r : Result ℕ ℕ) → IsBinarySearchResult (λ x. nat_cmp x n) xs r → is_ok r ≡ list_any (λ x. nat_eq x n) xs
 search_tells xs up n (Ok i) is =
     let found = searched xs n (Ok i) is (rise xs up) in
@@ -106,13 +106,13 @@ module _ (terms : List Term) (once : IsWithoutRepeats terms) (index : List NumQu
   among n low [] h = refl
   among n low (g ∷ gs) h = λ i. (tells terms once n g low h.0 ∙ symmetric n g) i || among n low gs h.1 i
 
-  -- a name is some graph's where its number is
+  -- a name is the name of some graph exactly if its number is
   pub name_found : (t : Term) (n : ℕ) → n < length terms → term_at terms n ≡ t → list_any (term_eq t) (names (quads_at terms index)) ≡ list_any (λ g. nat_eq g n) graphs
   name_found t n low e =
       alike_from_set (names (quads_at terms index)) (map (term_at terms) graphs) (set_from_permutation (names (quads_at terms index)) (map (term_at terms) graphs) names_read) (term_eq t)
       ∙ any-map (term_eq t) (term_at terms) graphs ∙ ap (λ u. list_any (λ g. term_eq u (term_at terms g)) graphs) (sym e) ∙ among n low graphs graph_below
 
-  -- what is answered for a name that has a number, by whether the number is some graph's
+  -- the result for a name that has a number, by whether the number is that of some graph
   pub number_told : (t : Term) (n : ℕ) → slice_get terms n ≡ Some t → (b : Bool) → b ≡ list_any (λ g. nat_eq g n) graphs → MatchOption (then_some b n) (list_any (term_eq t) (names (quads_at terms index)) ≡ false) (IsGraphNumber terms index t)
   number_told t n at b is = by b (name_found t n low read ∙ sym is)
     where
@@ -126,7 +126,7 @@ module _ (terms : List Term) (once : IsWithoutRepeats terms) (index : List NumQu
       by true e = (e, low, read)
       by false e = e
 
--- a term that the dictionary lacks is no graph's name
+-- a term that the dictionary lacks is not the name of a graph
 pub name_absent : (terms : List Term) → IsWithoutRepeats terms → (index : List NumQuad) → AreBelow (length terms) index → (t : Term) → (Contains terms t → ⊥) → list_any (term_eq t) (names (quads_at terms index)) ≡ false
 name_absent terms once index below t lacks =
     let graphs = without_repeats nat_eq (graph_names index) in

@@ -1,4 +1,4 @@
--- Join, LeftJoin and Minus at numbers, read as terms.
+-- Join, LeftJoin and Minus of numbers, read as terms.
 use Rattle.std.proofs.Common.{◌≡◌, ℕ, zero, suc, ◌<◌, Bool, true, ◌&&◌, List, [], ◌∷◌, length, map, nat_eq, nat_lt, None, Some, refl, sym, subst}
 use Rattle.std.proofs.lemmas.Bool.{and_parts}
 use Rattle.std.proofs.lemmas.Bool.Decides.{Decides-ltb}
@@ -20,7 +20,7 @@ use Rattle.sparql_eval.specs.Evaluated.{AreKnown, IsEvaluated}
 use Rattle.sparql_eval.specs.Numbered.{IsKnownAt}
 use Rattle.sparql_eval.proofs.ReadingLaws.{Known, read_by, tells, grown_itself}
 
--- rows that are one bag with these numbers, and the numbers read
+-- rows that are the same multiset as these solutions of numbers, with the numbers read as terms
 pub at_numbers : (terms : List Term) (w : ℕ) (N : List (Solution ℕ)) (A : List (Solution Term)) (made : RowList) → made.width ≡ w → IsSameBag made.rows N → Each (Known terms) N → A ≡ map (read_by terms) N → IsEvaluated terms w A made terms
 at_numbers terms w N A made wide bag known read = record {
   grown = grown_itself terms;
@@ -49,7 +49,7 @@ module _ (terms : List Term) (once : IsWithoutRepeats terms) (left right made : 
       (left_join-bound (λ n. n < length terms) nat_eq (λ μ. holds e (read_by terms μ)) left.rows right.rows knownL knownR)
       (left_join-read nat_eq term_eq (λ n. n < length terms) (term_at terms) (tells terms once) (holds e) (λ μ. holds e (read_by terms μ)) (λ μ h. refl) left.rows right.rows knownL knownR)
 
--- ---- what a left join asks of the numbers
+-- ---- what a left join requires of the numbers
 
 module _ (terms : List Term) where
   abbrev is_known : ℕ → Bool

@@ -34,7 +34,7 @@ use Rattle.sparql_eval.proofs.ReadingLaws.{Known, read_by, tells, rows_kept, num
 use Rattle.sparql_eval.proofs.TableSteps.{row_begins}
 use Rattle.sparql_eval.proofs.GraphSteps.{graph_below, names_read}
 
--- ---- one graph more
+-- ---- one more graph
 
 module _ (terms now later : List Term) (once : IsWithoutRepeats later) (g : IsGrown terms now) (g' : IsGrown now later) (h : IsGrown terms later) (w v : ℕ) (P : Term → List (Solution Term)) where
   abbrev in_graph : Term → List (Solution Term)

@@ -28,12 +28,13 @@ use Rattle.sparql_eval.specs.Constants.{ArePatternsOf, IsPatternOf, IsPatternTer
 use Rattle.sparql_eval.specs.Evaluated.{IsEvaluated}
 use Rattle.sparql_eval.proofs.ReadingLaws.{Known, read_by, apart, evaluated, grown_itself, number_known, number_read}
 
--- the triples of the pattern have their variables and labels below the counts, at numbers too
+-- the variables and blank node labels of the pattern are below the counts, also with numbers for
+-- its terms
 pub numbers_below : (terms : List Term) (w l : ℕ) (P : List (TriplePattern Term)) (N : List (TriplePattern ℕ)) → list_all (is_triple_below w l) P ≡ true → ArePatternsOf terms P N → solve.AreBelow w (w + l) N
 numbers_below terms w l P N below h =
     are_below-unread (term_at terms) w (w + l) N (subst (solve.AreBelow w (w + l)) (sym h.0) (are_below w l P below))
 
--- a term that the dictionary lacks is no term of the quads
+-- a term that the dictionary lacks does not occur in the quads
 pub not_at : (terms : List Term) (c : Term) → (Contains terms c → ⊥) → (n : ℕ) → n < length terms → term_eq c (term_at terms n) ≡ false
 not_at terms c lacks n below = by (term_eq c (term_at terms n)) refl
   where
@@ -53,7 +54,7 @@ not_occurring terms c lacks (q ∷ D) below g =
         let h = All-head (IsBelow (length terms)) q D below in
         λ i. not_at terms c lacks q.s h.0 i || (not_at terms c lacks q.p h.1 i || (not_at terms c lacks q.o h.2 i || rest i))
 
--- a pattern with such a term has no solution
+-- a pattern with a term that the dictionary lacks has no solution
 pub lacking : (terms : List Term) (w l : ℕ) (P : List (TriplePattern Term)) (D : List NumQuad) (g : Option Term) → AreBelow (length terms) D → LacksSome terms P → (made : RowList) → made.width ≡ w → made.rows ≡ []
     → IsEvaluated terms w (bgp term_eq w l P (graph (quads_at terms D) g)) made terms
 lacking terms w l P D g below h made wide none =
@@ -72,7 +73,7 @@ solved law terms once w l P N D g distinct below named within h made wide bag =
       bag = subst (λ (Q : List (TriplePattern Term)). IsSameBag (map (read_by terms) made.rows) (bgp term_eq w l Q (graph (quads_at terms D) (option_map (term_at terms) g)))) h.0 r.0;
     }
 
--- ---- what stands in a pattern, looked up
+-- ---- the terms of a pattern, looked up
 
 pub constant_found : (terms : List Term) (n : ℕ) (t : Term) → slice_get terms n ≡ Some t → IsPatternTermOf terms (constant t) (constant n)
 constant_found terms n t h = (ap constant (number_read terms n t h), number_known terms n t h)

@@ -1,4 +1,4 @@
--- Project, one cell and one row more.
+-- Project, with one more cell and one more row.
 use Rattle.std.proofs.Common.{◌≡◌, ℕ, zero, suc, ◌+◌, ◌<◌, ◌==◌, Bool, List, [], ◌∷◌, ◌++◌, length, get_or, take, map, slice_get, None, Some, refl, sym, ap, ◌∙◌, arith, add-one, subst, if◌then◌else◌}
 use Rattle.std.specs.List.{list_any}
 use Rattle.std.proofs.lemmas.List.{map-append}
@@ -30,7 +30,7 @@ restrict-alike : (p q : ℕ → Bool) (μ : Solution ℕ) → ((k : ℕ) → k <
 restrict-alike p q [] e = refl
 restrict-alike p q (x ∷ μ) e = λ i. (if e 0 (omega arith) i then x else None) ∷ restrict-alike (λ k. p (suc k)) (λ k. q (suc k)) μ (λ k low. e (suc k) (omega arith)) i
 
--- one row more, where the test answers as the list of variables does, below the width
+-- one more row, if the test agrees with the list of variables below the width
 pub project-take : (vs : List ℕ) (p : ℕ → Bool) (w : ℕ) → ((k : ℕ) → k < w → p k ≡ list_any (λ u. u == k) vs) → (A : List (Solution ℕ)) (i : ℕ) (μ : Solution ℕ) → slice_get A i ≡ Some μ → length μ ≡ w
     → project vs (take (i + 1) A) ≡ project vs (take i A) ++ restrict p μ ∷ []
 project-take vs p w e A i μ h wide =

@@ -26,7 +26,7 @@ grown_itself terms = ([], sym (append-nil terms))
 pub grown_twice : (a b c : List Term) → IsGrown a b → IsGrown b c → IsGrown a c
 grown_twice a b c h k = (h.0 ++ k.0, k.1 ∙ ap (λ l. l ++ k.0) h.1 ∙ append_assoc a h.0 k.0)
 
--- every number of the row stands for a term
+-- every number of the row is the number of a term
 abbrev pub Known : List Term → Solution ℕ → Type 0
 Known terms μ = EachBound (λ n. n < length terms) μ
 
@@ -52,22 +52,22 @@ module _ (terms terms' : List Term) (grown : IsGrown terms terms') where
       let rs = rows_kept A h.1 in
       ((r.0, rs.0), λ i. r.1 i ∷ rs.1 i)
 
--- each number stands for a term of its own
+-- different numbers have different terms
 pub apart : (terms : List Term) → IsWithoutRepeats terms → IsReading (length terms) (term_at terms)
 apart terms h x y low high e =
     let p : x < y → ⊥ = λ l. h x y (Blank []) l high e in
     let q : y < x → ⊥ = λ l. h y x (Blank []) l low (sym e) in
     omega arith
 
--- so two of them are one number exactly where their terms are one term
+-- so two numbers are equal exactly if their terms are equal
 pub tells : (terms : List Term) → IsWithoutRepeats terms → (x y : ℕ) → x < length terms → y < length terms → term_eq (term_at terms x) (term_at terms y) ≡ nat_eq x y
 tells terms h = reading_tells (length terms) (term_at terms) (apart terms h)
 
--- a term that was taken in
+-- a term that was added
 pub grown_interned : (old new : List Term) (t : Term) → (Contains old t → new ≡ old) → ((Contains old t → ⊥) → new ≡ old ++ t ∷ []) → IsGrown old new
 grown_interned old new t known fresh = subst (IsGrown old) (sym (interned old new t known fresh)) (grown old (t ∷ []))
 
--- ---- known numbers, place by place
+-- ---- known numbers, variable by variable
 
 pub Each-at : {X : Type 0} (P : X → Type 0) (xs : List X) (i : ℕ) (x : X) → Each P xs → slice_get xs i ≡ Some x → P x
 Each-at P [] i x h e = cc
@@ -82,7 +82,7 @@ row_known terms [] h = tt
 row_known terms (None ∷ μ) h = row_known terms μ (λ k n e. h (suc k) n e)
 row_known terms (Some x ∷ μ) h = (h 0 x refl, row_known terms μ (λ k n e. h (suc k) n e))
 
--- ---- one place of a row
+-- ---- one cell of a row
 
 cell_in : (terms : List Term) (n : Option ℕ) → IsKnownCell terms n → OfOption (λ n. n < length terms) n
 cell_in terms None h = h
@@ -94,7 +94,7 @@ set_known terms μ v n h k = set-bound (λ n. n < length terms) μ v n (cell_in 
 pub set_read : (terms : List Term) (μ : Solution ℕ) (v : ℕ) (n : Option ℕ) → read_by terms (set μ v n) ≡ set (read_by terms μ) v (option_map (term_at terms) n)
 set_read terms μ v n = map-set (option_map (term_at terms)) μ v n
 
--- binding a variable that is open sets its place
+-- binding a variable that is unbound sets its cell
 pub bind_open : {T : Type 0} (v : ℕ) (t : Option T) (μ : Solution T) → get_or μ v None ≡ None → set μ v t ≡ bind v t μ
 bind_open v t [] e = set_nil v t
   where
@@ -112,7 +112,7 @@ bind_bound zero t (None ∷ μ) e = cc
 bind_bound zero t (Some x ∷ μ) e = refl
 bind_bound (suc v) t (x ∷ μ) e = ap (λ r. x ∷ r) (bind_bound v t μ e)
 
--- ---- what an operator answers, where the dictionary stays
+-- ---- the result of an operator that leaves the dictionary unchanged
 
 pub evaluated : (terms : List Term) (width : ℕ) (A : List (Solution Term)) (made : RowList) → made.width ≡ width → Each (Known terms) made.rows → map (read_by terms) made.rows ≡ A → IsEvaluated terms width A made terms
 evaluated terms width A made wide known read = record { grown = grown_itself terms; wide = wide; known = known; bag = same_bag (map (read_by terms) made.rows) A read }
@@ -123,7 +123,7 @@ number_known terms n t h = (number_reads terms n t h).0
 pub number_read : (terms : List Term) (n : ℕ) (t : Term) → slice_get terms n ≡ Some t → term_at terms n ≡ t
 number_read terms n t h = (number_reads terms n t h).1
 
--- the term at a place of a row
+-- the term in a cell of a row
 pub get_read : (terms : List Term) (μ : Solution ℕ) (k n : ℕ) (t : Term) → get_or μ k None ≡ Some n → slice_get terms n ≡ Some t → Some t ≡ get_or (read_by terms μ) k None
 get_read terms [] k n t e h = cc
 get_read terms (None ∷ μ) zero n t e h = cc

@@ -25,7 +25,7 @@ table_row-none : (w : ℕ) (vs : List ℕ) → table_row {T = Term} w vs [] ≡ 
 table_row-none w [] = refl
 table_row-none w (v ∷ vs) = refl
 
--- behind the last cell, or the last variable, nothing is bound
+-- after the last cell, or the last variable, nothing is bound
 pub table_row-end : (w : ℕ) (vs : List ℕ) (cells : List (Option Term)) (n : ℕ) → (n < length vs → n < length cells → ⊥) → table_row w (drop n vs) (drop n cells) ≡ replicate w None
 table_row-end w [] cells zero h = refl
 table_row-end w (v ∷ vs) [] zero h = refl
@@ -46,14 +46,14 @@ pub row_begins : (terms : List Term) (w : ℕ) (row : Solution ℕ) → row ≡ 
 row_begins terms w row e =
     (subst (Known terms) (sym e) (unbound-bound (λ n. n < length terms) w), ap (read_by terms) e ∙ unbound_read terms w)
 
--- one cell more
+-- one more cell
 pub row_more : (terms terms' : List Term) → IsGrown terms terms' → (row : Solution ℕ) (v : ℕ) (n : Option ℕ) (x : Option Term) → Known terms row → IsKnownCell terms' n → option_map (term_at terms') n ≡ x
     → Known terms' (set row v n) × (read_by terms' (set row v n) ≡ set (read_by terms row) v x)
 row_more terms terms' g row v n x k c e =
     let r = row_kept terms terms' g row k in
     (set_known terms' row v n c r.0, set_read terms' row v n ∙ (λ i. set (r.1 i) v (e i)))
 
--- ---- what the loops hold
+-- ---- the invariants of the loops
 
 none_taken : {X : Type 0} (w : ℕ) → take {A = X} w [] ≡ []
 none_taken zero = refl
@@ -68,7 +68,7 @@ set_long [] (suc k) x = refl
 set_long (y ∷ xs) zero x = refl
 set_long (y ∷ xs) (suc k) x = ap suc (set_long xs k x)
 
--- an element, read with itself for what is missing
+-- an element, with itself as the value for a missing one
 pub get_from : {X : Type 0} (xs : List X) (i : ℕ) (x : X) → i < length xs → x ≡ get_or xs i x → slice_get xs i ≡ Some x
 get_from xs i x h e = slice_get-get_or xs i x h ∙ ap Some (sym e)
 
@@ -76,7 +76,7 @@ pub replicate_long : {X : Type 0} (w : ℕ) (x : X) → length (replicate w x) �
 replicate_long zero x = refl
 replicate_long (suc w) x = ap suc (replicate_long w x)
 
--- one row more
+-- one more row
 pub table_more : (now later : List Term) → IsGrown now later → (w : ℕ) (vs : List ℕ) (made : List (Solution ℕ)) (rows : List (List (Option Term))) (row : Solution ℕ) (cells : List (Option Term))
     → Each (Known now) made → map (read_by now) made ≡ table w vs rows → Known later row → read_by later row ≡ table_row w vs cells
     → Each (Known later) (made ++ row ∷ []) × (map (read_by later) (made ++ row ∷ []) ≡ table w vs (rows ++ cells ∷ []))
@@ -86,6 +86,6 @@ table_more now later g w vs made rows row cells known was here read =
       map-append (read_by later) made (row ∷ []) ∙ (λ i. (kept.1 ∙ was) i ++ read i ∷ []) ∙ sym (map-append (table_row w vs) rows (cells ∷ [])),
     )
 
--- a cell of a row is one of the table's
+-- a cell of a row is a cell of the table
 pub cell_of : {X : Type 0} (cells : X → List (Option Term)) (vs : List ℕ) (rows : List X) (k : ℕ) (row : X) (t : Term) → slice_get rows k ≡ Some row → Contains (take (length vs) (cells row)) (Some t) → IsCell vs (map cells rows) t
 cell_of cells vs rows k row t at h = Contains-flat_map (take (length vs)) (map cells rows) k (cells row) (Some t) (slice_get-map cells rows k ∙ ap (option_map cells) at) h

@@ -1,4 +1,4 @@
--- The terms that a dictionary takes in.
+-- The terms that are added to a dictionary.
 use Rattle.std.proofs.Common.{◌≡◌, ℕ, zero, suc, ◌<◌, ◌⊎◌, inl, inr, ⊎_elim, Bool, true, false, cond, if◌then◌else◌, List, [], ◌∷◌, ◌++◌, filter, take, slice_get, Option, Some, Result, Ok, Err, OnOk, Contains, sym, ap, ◌∙◌, subst, arith}
 use Rattle.std.specs.List.{flat_map, list_any}
 use Rattle.std.proofs.lemmas.List.Elements.{Contains-append_left, Contains-append_right, Contains-append_cases, Contains-push_cases}
@@ -60,9 +60,9 @@ Contains-flat_map f (z ∷ xs) zero x y e h =
     Contains-append_left (f z) (flat_map f xs) y (subst (λ w. Contains (f w) y) (sym p) h)
 Contains-flat_map f (z ∷ xs) (suc i) x y e h = Contains-append_right (f z) (flat_map f xs) y (Contains-flat_map f xs i x y e h)
 
--- ---- what a dictionary takes in
+-- ---- added terms
 
--- a term that was taken in
+-- a term that was added
 pub takes_interned : (old new : List Term) (t : Term) → (Contains old t → new ≡ old) → ((Contains old t → ⊥) → new ≡ old ++ t ∷ []) → TakesOnly (λ u. u ≡ t) old new
 takes_interned old new t known fresh = by (list_any (term_eq t) old) (interned old new t known fresh)
   where
@@ -70,15 +70,15 @@ takes_interned old new t known fresh = by (list_any (term_eq t) old) (interned o
     by true e u h = inl (subst (λ l. Contains l u) e h)
     by false e u h = ⊎_elim inl (λ (is : t ≡ u). inr (sym is)) (Contains-push_cases old t u (subst (λ l. Contains l u) e h))
 
--- the same of a term equal to it
+-- the same for a term equal to it
 pub takes_same : (s t : Term) (a b : List Term) → s ≡ t → TakesOnly (λ u. u ≡ s) a b → TakesOnly (λ u. u ≡ t) a b
 takes_same s t a b e only = takes_more (λ u. u ≡ s) (λ u. u ≡ t) a b (λ u is. is ∙ e) only
 
--- the same of a value that is the term
+-- the same for a value that is the term
 pub takes_value : (value : Option Term) (t : Term) (a b : List Term) → value ≡ Some t → TakesOnly (λ u. u ≡ t) a b → TakesOnly (λ u. value ≡ Some u) a b
 takes_value value t a b e only = takes_more (λ u. u ≡ t) (λ u. value ≡ Some u) a b (λ u is. e ∙ ap Some (sym is)) only
 
--- the same where nothing was taken in on a failure
+-- the same if nothing was added on error
 pub took_same : {X E : Type 0} (r : Result X E) (s t : Term) (a b : List Term) → s ≡ t → OnOk r (TakesOnly (λ u. u ≡ s) a b) → OnOk r (TakesOnly (λ u. u ≡ t) a b)
 took_same (Ok x) s t a b e only = takes_same s t a b e only
 took_same (Err x) s t a b e only = only
@@ -94,6 +94,6 @@ first_there (x ∷ ts) t h =
     ⊎_elim (Contains-first x ts t) (λ r. Contains-later x ts t (first_there ts t (Contains-filter (differs_from x) (first_appearances ts) t r)))
     (Contains-cases x rest t h)
 
--- a dictionary that absorbs another takes in that one's terms alone
+-- merging another dictionary adds only the terms of that dictionary
 pub takes_absorbed : (old own new : List Term) → new ≡ first_appearances (old ++ own) → TakesOnly (Contains own) old new
 takes_absorbed old own new e t h = Contains-append_cases old own t (first_there (old ++ own) t (subst (λ l. Contains l t) e h))

@@ -1,4 +1,4 @@
--- What each operator of a tree stands for, and its solutions by those of the trees below it.
+-- The solutions of each operator of a tree, from the solutions of the trees below it.
 use Rattle.std.proofs.Common.{◌≡◌, ℕ, List, ◌++◌, map, filter, Option, sym, ap, ◌∙◌, Box, Vec, Global}
 use Rattle.std.specs.Option.{option_map}
 use Rattle.rdf_core.specs.declared.term.Term.{Term}

@@ -40,7 +40,7 @@ rows_read_wide f w [] h k d low = absurd (omega arith)
 rows_read_wide f w (μ ∷ A) h zero d low = length-map μ _ ∙ h 0 μ (omega arith)
 rows_read_wide f w (μ ∷ A) h (suc k) d low = rows_read_wide f w A (λ k d low. h (suc k) d (omega arith)) k d (omega arith)
 
--- the rows of the right side, read, are the join
+-- the rows of the right side, read as terms, are the join
 pub join_with_unit : (same : Term → Term → Bool) (terms : List Term) (w : ℕ) (left right : RowList) → left.rows ≡ replicate w None ∷ [] → All (λ μ. length μ ≡ w) right.rows
     → solutions_of terms right ≡ join same (solutions_of terms left) (solutions_of terms right)
 join_with_unit same terms w left right is wide =
@@ -61,7 +61,7 @@ unit_rows (r ∷ []) w row e g l h =
     ap (λ (x : Solution ℕ). x ∷ []) (same ∙ none_each row h ∙ ap (λ n. replicate n None) l)
 unit_rows (r ∷ s ∷ rows) w row e g l h = absurd (omega arith)
 
--- such a row, the other way about
+-- the converse: a row without bound cells
 all_none : (w : ℕ) → list_all (λ (cell : Option ℕ). not (is_some cell)) (replicate w None) ≡ true
 all_none zero = refl
 all_none (suc w) = all_none w

@@ -1,4 +1,4 @@
--- The values of an expression, one row and one piece more, and their numbers.
+-- The values of an expression, with one more row and one more piece, and their numbers.
 use Rattle.std.proofs.Common.{◌≡◌, ℕ, zero, suc, ◌+◌, ◌-◌, ◌*◌, ◌<◌, ◌≤◌, List, [], ◌∷◌, ◌++◌, length, take, drop, map, get_or, slice_get, min, Option, None, Some, option_map, Contains, ⊎_elim, refl, sym, ap, ◌∙◌, subst, arith, lt_of_not-le, mul-le-mul_right}
 use Rattle.std.specs.List.{slice_index_or}
 use Rattle.std.proofs.Math.Nat.{suc-mul, zero-mul}
@@ -42,7 +42,7 @@ module _ (terms terms' own own' : List Term) (g : IsGrown terms terms') (h : IsG
       let rs = values_kept xs k.1 in
       ((r.0, rs.0), λ i. r.1 i ∷ rs.1 i)
 
--- ---- one row more, and all pieces
+-- ---- one more row, and all pieces
 
 no_rows : {X : Type 0} (xs : List X) → length xs ≤ 0 → [] ≡ xs
 no_rows [] h = refl
@@ -68,7 +68,7 @@ module _ (terms : List Term) (e : Expression) where
             (taken t k)),
       )
 
-  -- all pieces, one behind the other
+  -- all pieces, concatenated
   pub values_joined : (size : ℕ) (outs : List PieceValues) (A : List (Solution ℕ))
       → ((i : ℕ) (d : PieceValues) → i < length outs → ArePieceValues terms e (piece_of size i A) (slice_index_or outs i d))
       → length A ≤ length outs * size → AreAllValues terms e A outs
@@ -119,7 +119,7 @@ drop_least (x ∷ A) m zero e = let z : m ≡ 0 = omega arith in ap (λ k. drop 
 drop_least (x ∷ A) zero (suc n) e = absurd (omega arith)
 drop_least (x ∷ A) (suc m) (suc n) e = drop_least A m n (omega arith)
 
--- the rows between two places, neither of them past the end
+-- the rows between two places, both at most the number of rows
 pub piece_between : {X : Type 0} (A : List X) (size start from to : ℕ) → from ≡ min start (length A) → to ≡ min (from + size) (length A) → take (to - from) (drop from A) ≡ take size (drop start A)
 piece_between A size start from to e f =
     let long = length-drop from A in
@@ -138,7 +138,7 @@ one_piece n size pieces p h e =
 
 -- ---- the numbers of values
 
--- a dictionary that absorbs another
+-- a dictionary that merged another
 pub absorbed_grown : (old own new : List Term) → IsWithoutRepeats old → new ≡ first_appearances (old ++ own) → IsGrown old new
 absorbed_grown old own new apart e = subst (IsGrown old) (absorbed_terms old own apart ∙ sym e) (grown old own)
 
@@ -155,7 +155,7 @@ module _ (terms new own : List Term) (numbers : List ℕ) (g : IsGrown terms new
   own_below (Number n ∷ xs) k = (tt, own_below xs k.1)
   own_below (Own n ∷ xs) k = ((own_known new own numbers h n k.0).0, own_below xs k.1)
 
-  -- read through the dictionary that absorbed the terms, the numbers are the values
+  -- the numbers, read through the dictionary that merged the terms, are the values
   pub values_numbered : (xs : List PieceValue) → Each (IsValueIn terms own) xs
       → Known new (map (value_number numbers) xs) × (read_by new (map (value_number numbers) xs) ≡ map (value_term terms own) xs)
   values_numbered [] k = (tt, refl)
@@ -172,7 +172,7 @@ module _ (terms new own : List Term) (numbers : List ℕ) (g : IsGrown terms new
       let rs = values_numbered xs k.1 in
       ((number_known new m (term_at own n) at, rs.0), λ i. Some (number_read new m (term_at own n) at i) ∷ rs.1 i)
 
--- a piece that was read against an earlier dictionary
+-- a piece that was computed with an earlier dictionary
 pub piece_kept : (terms terms' : List Term) → IsGrown terms terms' → (piece : PieceValues) → IsPieceIn terms piece → IsPieceIn terms' piece × (piece_terms terms' piece ≡ piece_terms terms piece)
 piece_kept terms terms' g piece k = values_kept terms terms' piece.own piece.own g (grown_itself piece.own) piece.values.items k
 
@@ -181,7 +181,7 @@ known-append terms [] ys h k = k
 known-append terms (None ∷ xs) ys h k = known-append terms xs ys h k
 known-append terms (Some x ∷ xs) ys h k = (h.0, known-append terms xs ys h.1 k)
 
--- one piece more
+-- one more piece
 pub numbers_more : (old new own : List Term) (numbers : List ℕ) (g : IsGrown old new) (h : AreNumbersOf new own numbers) (was now : List (Option ℕ)) (xs : List PieceValue)
     → Known old was → Each (IsValueIn old own) xs → now ≡ was ++ map (value_number numbers) xs
     → Known new now × (read_by new now ≡ read_by old was ++ map (value_term old own) xs)

@@ -1,4 +1,5 @@
--- The constants of a pattern, looked up in a dictionary. Only private clauses cite these words.
+-- The constants of a pattern, looked up in a dictionary. Only private clauses use these
+-- definitions.
 use Rattle.std.specs.Prelude.{◌≡◌, ℕ, ◌<◌, true, List, length, map, Contains}
 use Rattle.std.specs.List.{list_any}
 use Rattle.rdf_core.specs.declared.term.Term.{Term}
@@ -8,7 +9,7 @@ use Rattle.algebra_model.specs.Reading.{Each, EachConstant, EachOfPattern, read_
 use Rattle.algebra_model.proofs.WithinLaws.{is_the_term, has_term}
 use Rattle.dict_core.specs.Dict.{term_at}
 
--- the numbers are what stands in the pattern, each constant by its number
+-- the two are the same place of a pattern, with a number in place of each constant
 abbrev pub IsPatternTermOf : List Term → PatternTerm Term → PatternTerm ℕ → Type 0
 IsPatternTermOf terms p n = (read_pattern_term (term_at terms) n ≡ p) × EachConstant (λ x. x < length terms) n
 
@@ -18,7 +19,7 @@ IsPatternOf terms t n = (read_pattern (term_at terms) n ≡ t) × EachOfPattern 
 abbrev pub ArePatternsOf : List Term → List (TriplePattern Term) → List (TriplePattern ℕ) → Type 0
 ArePatternsOf terms P N = (map (read_pattern (term_at terms)) N ≡ P) × Each (EachOfPattern (λ x. x < length terms)) N
 
--- a constant of the pattern is no term of the dictionary
+-- the place holds a constant that the dictionary lacks
 abbrev pub LacksTerm : List Term → PatternTerm Term → Type 0
 LacksTerm terms p = (c : Term) × (¬ (Contains terms c)) × (is_the_term term_eq c p ≡ true)
 

@@ -1,4 +1,4 @@
--- What each row gives under a filter. Only private clauses cite this word.
+-- What each row gives under a filter. Only private clauses use this definition.
 use Rattle.std.specs.Prelude.{ℕ, List, [], ◌∷◌, map, if◌then◌else◌}
 use Rattle.rdf_core.specs.declared.term.Term.{Term}
 use Rattle.algebra_model.specs.Expression.{Expression, holds}
@@ -6,7 +6,7 @@ use Rattle.algebra_model.specs.Reading.{read_row}
 use Rattle.algebra_model.specs.Solution.{Solution}
 use Rattle.dict_core.specs.Dict.{term_at}
 
--- the row itself, where it passes
+-- the row itself if it passes
 abbrev pub filter_part : List Term → Expression → Solution ℕ → List (Solution ℕ)
 filter_part terms e μ = if holds e (read_row (term_at terms) μ) then μ ∷ [] else []
 

@@ -1,4 +1,4 @@
--- Numbers of graphs. Only private clauses cite this word.
+-- Numbers of graphs. Only private clauses use this definition.
 use Rattle.std.specs.Prelude.{◌≡◌, ℕ, ◌<◌, true, List, length}
 use Rattle.std.specs.List.{list_any}
 use Rattle.rdf_core.specs.declared.term.Term.{Term}

@@ -1,5 +1,5 @@
--- Rows whose numbers all stand for terms of a dictionary (our own). Only private clauses cite these
--- words.
+-- Rows whose numbers are all numbers of terms of a dictionary. Only private clauses use these
+-- definitions.
 use Rattle.std.specs.Prelude.{◌≡◌, ℕ, ◌<◌, List, length, get_or, slice_get, Option, Some, None}
 use Rattle.rdf_core.specs.declared.term.Term.{Term}
 use Rattle.algebra_model.specs.Solution.{Solution}
@@ -12,7 +12,7 @@ IsKnownCell terms (Some n) = n < length terms
 abbrev pub IsKnownRow : List Term → Solution ℕ → Type 0
 IsKnownRow terms μ = EachBound (λ n. n < length terms) μ
 
--- the same of a row and of rows, place by place
+-- the same for one row and for rows, cell by cell
 abbrev pub IsKnownAt : List Term → Solution ℕ → Type 0
 IsKnownAt terms μ = (k n : ℕ) → get_or μ k None ≡ Some n → n < length terms
 

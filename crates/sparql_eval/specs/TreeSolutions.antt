@@ -1,5 +1,5 @@
--- The solutions of a tree over an index, read through a dictionary. Only private clauses cite these
--- words.
+-- The solutions of a tree over an index, read through a dictionary. Only private clauses use these
+-- definitions.
 use Rattle.std.specs.Prelude.{ℕ, List, Option}
 use Rattle.std.specs.Option.{option_map}
 use Rattle.rdf_core.specs.declared.term.Term.{Term}
@@ -17,7 +17,7 @@ use Rattle.sparql_eval.specs.Computed.{IsComputed}
 abbrev pub tree_solutions : List Term → List NumQuad → ℕ → Option ℕ → Operator → List (Solution Term)
 tree_solutions terms index w active tree = eval w (quads_at terms index) (option_map (term_at terms) active) (algebra_of tree)
 
--- in the named graphs that stand behind GRAPH
+-- in the named graphs of a GRAPH
 abbrev pub graph_solutions : List Term → List NumQuad → ℕ → GraphName → Operator → List (Solution Term)
 graph_solutions terms index w name tree = in_graphs w (quads_at terms index) name (λ h. eval w (quads_at terms index) h (algebra_of tree))
 

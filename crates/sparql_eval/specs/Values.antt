@@ -1,5 +1,5 @@
--- The values of an expression over pieces of rows, and their numbers. Only private clauses cite
--- these words.
+-- The values of an expression over pieces of rows, and their numbers. Only private clauses use
+-- these definitions.
 use Rattle.std.specs.Prelude.{◌≡◌, ℕ, ◌<◌, List, [], ◌∷◌, length, map, get_or, Option, Some, None, Contains}
 use Rattle.std.specs.List.{flat_map}
 use Rattle.rdf_core.specs.declared.term.Term.{Term}
@@ -12,14 +12,14 @@ use Rattle.sparql_eval.specs.declared.piece_values.PieceValue.{PieceValue}
 use Rattle.sparql_eval.specs.declared.piece_values.PieceValue.TheVariants.{Error, Known, Own}
 use Rattle.sparql_eval.specs.declared.piece_values.PieceValues.{PieceValues}
 
--- the term that a value stands for, and none for an error; the lent dictionary has `terms`, and the
--- piece's own has `own`
+-- the term of a value, or none for an error; the borrowed dictionary has `terms`, and the piece's
+-- own has `own`
 abbrev pub value_term : List Term → List Term → PieceValue → Option Term
 value_term terms own Error = None
 value_term terms own (Known n) = Some (term_at terms n)
 value_term terms own (Own k) = Some (term_at own k)
 
--- its number stands for a term
+-- its number is the number of a term
 abbrev pub IsValueIn : List Term → List Term → PieceValue → Type 0
 IsValueIn terms own Error = Unit {0}
 IsValueIn terms own (Known n) = n < length terms
@@ -41,7 +41,7 @@ abbrev pub AreValues : List Term → List Term → Expression → List (Solution
 AreValues terms own e A found =
     Each (IsValueIn terms own) found × (map (value_term terms own) found ≡ values_over terms e A) × AreAmong own (values_over terms e A)
 
--- the same of a piece
+-- the same for a piece
 abbrev pub ArePieceValues : List Term → Expression → List (Solution ℕ) → PieceValues → Type 0
 ArePieceValues terms e A piece = AreValues terms piece.own e A piece.values.items
 
@@ -51,28 +51,28 @@ IsPieceIn terms piece = Each (IsValueIn terms piece.own) piece.values.items
 abbrev pub piece_terms : List Term → PieceValues → List (Option Term)
 piece_terms terms piece = map (value_term terms piece.own) piece.values.items
 
--- the terms of its own
+-- the terms of the piece's own dictionary
 abbrev pub own_terms : PieceValues → List Term
 own_terms piece = piece.own
 
--- the same of pieces, one behind the other
+-- the same for pieces, concatenated
 abbrev pub AreAllValues : List Term → Expression → List (Solution ℕ) → List PieceValues → Type 0
 AreAllValues terms e A pieces =
     Each (IsPieceIn terms) pieces × (flat_map (piece_terms terms) pieces ≡ values_over terms e A) × AreAmong (flat_map own_terms pieces) (values_over terms e A)
 
--- a value's number, where the k-th of the piece's own terms has the k-th of these numbers
+-- the number of a value; the k-th number is that of the k-th of the piece's own terms
 abbrev pub value_number : List ℕ → PieceValue → Option ℕ
 value_number numbers Error = None
 value_number numbers (Known n) = Some n
 value_number numbers (Own k) = Some (get_or numbers k 0)
 
--- a number of the piece's own is below n
+-- a number of the piece's own dictionary is below n
 abbrev pub IsOwnBelow : ℕ → PieceValue → Type 0
 IsOwnBelow n Error = Unit {0}
 IsOwnBelow n (Known m) = Unit {0}
 IsOwnBelow n (Own k) = k < n
 
--- the rows, in each the variable bound to its number
+-- the rows, each with the variable bound to its number
 abbrev pub bind_each : ℕ → List (Option ℕ) → List (Solution ℕ) → List (Solution ℕ)
 bind_each v [] A = []
 bind_each v (n ∷ numbers) [] = []

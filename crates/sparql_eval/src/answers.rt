@@ -1,12 +1,12 @@
-//! What an operator answers: its rows, and the dictionary that they are read through.
+//! The result of an operator: its rows, and the dictionary of their numbers.
 ghost use Rattle.std.specs.Prelude.{◌≡◌, Err, IfErr, IfOk, Ok};
 
 use dict_core::Dict;
 use row_core::Rows;
 use row_pieces::EvalFault;
 
-/// The rows with the dictionary, or the fault. A fault drops the dictionary: this is the one place where
-/// an operator drops it.
+/// Pairs the rows with the dictionary, or returns the fault and drops the dictionary. No other
+/// place drops a dictionary for an operator.
 pub(crate) fn with_dict(
     made: Result<Rows, EvalFault>,
     dict: Dict,

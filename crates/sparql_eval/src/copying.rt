@@ -1,11 +1,11 @@
-//! Rows put behind other rows.
+//! Copies of rows, appended to other rows.
 ghost use Rattle.std.specs.Prelude.{◌≡◌, ◌++◌, ℕ, take, OnErr, OnOk};
 
 use row_core::Rows;
 use std::alloc::AllocError;
 
-/// Adds copies of the rows behind those of `made`. A refusal leaves those that were there, and behind
-/// them copies of the first of the rows, as many as came in.
+/// Appends copies of the rows to `made`. On error, `made` keeps its rows, followed by copies of
+/// some of the first rows.
 pub(crate) fn add_rows(made: &mut Rows, rows: &Rows) -> Result<(), AllocError>
     requires same_width { rows.now.width ≡ made.old.width }
     ensures added { OnOk result (made.new.rows ≡ made.old.rows ++ rows.now.rows) }

@@ -15,14 +15,14 @@ use row_pieces::EvalFault;
 use std::alloc::{AllocError, Global};
 use std::hash::RandomState;
 
-/// Distinct: each row once. Rows are compared by their numbers, since the dictionary has no term
-/// twice, and hashed with the given state. The dictionary is handed back as it was.
+/// Evaluates Distinct: returns each row once, and the dictionary unchanged. Rows are compared by
+/// their numbers, since the dictionary holds each term once. They are hashed with the given state.
 ///
 /// # Requires
 /// Each number in the rows is below the length of the dictionary.
 ///
 /// # Errors
-/// `Memory`: a growth was refused. The dictionary is dropped.
+/// `Memory` if an allocation fails. The dictionary is dropped.
 pub fn distinct(
     alloc: Global,
     state: RandomState,
@@ -40,7 +40,7 @@ pub fn distinct(
     with_dict(made, dict)
 }
 
-/// Each row once, at its first place.
+/// Returns each row once, at its first place.
 fn distinct_rows(alloc: Global, state: RandomState, rows: &Rows) -> Result<Rows, EvalFault>
     ensures made { IfOk result (λ made. (made.width ≡ rows.now.width)
         × (made.rows ≡ distinct nat_eq rows.now.rows)) }
@@ -53,7 +53,7 @@ fn distinct_rows(alloc: Global, state: RandomState, rows: &Rows) -> Result<Rows,
     }
 }
 
-/// Each row that was not seen before, at its first place.
+/// Returns each row that does not occur before, in order.
 fn first_rows<'r>(
     alloc: Global,
     seen: &mut IndexSet<&'r [Option<u64>], RandomState>,
@@ -73,7 +73,7 @@ fn first_rows<'r>(
     Ok(made)
 }
 
-/// Whether the row was not seen before; it is now.
+/// Adds the row to the rows seen, and returns whether it is new among them.
 fn see<'r>(
     seen: &mut IndexSet<&'r [Option<u64>], RandomState>,
     row: &'r [Option<u64>],

@@ -22,23 +22,25 @@ use std::random::RandomSource;
 use std::sync::Wait;
 use std::thread::Threads;
 
-/// The solutions of a plan over a dataset, with the default graph active. The dataset is the index,
-/// read through the given dictionary.
+/// Returns the solutions of a plan over a dataset, with the default graph active. The dataset is
+/// the index, read through the given dictionary.
 ///
-/// The answered dictionary begins with the given one. It takes in no terms but those that stand in VALUES
-/// somewhere in the plan and the values that Extend computes somewhere in it.
+/// The returned dictionary begins with the given one. The evaluation adds only these terms: those
+/// that occur in VALUES somewhere in the plan, and the values that Extend computes somewhere in it.
 ///
-/// Each operator is done once, but within GRAPH under a variable once a named graph, and its inputs before
-/// it; one that goes over rows cuts them into pieces of `how.rows` for `how.workers` workers.
+/// Each operator is evaluated once, after its inputs. Within GRAPH with a variable it is evaluated
+/// once for each named graph. An operator that reads rows splits them into pieces of `how.rows`
+/// rows for `how.workers` workers.
 ///
 /// # Requires
-/// Each number in the index is below the length of the dictionary, and `how` keeps its limits.
+/// - Each number in the index is below the length of the dictionary.
+/// - `how` keeps its limits.
 ///
 /// # Errors
-/// - `WorkerRefused`: the start of a worker was refused. It never comes of one worker.
-/// - `Memory`: a growth was refused, or the randomness that rows are hashed with.
+/// - `WorkerRefused` if a worker thread could not be started. It cannot occur with one worker.
+/// - `Memory` if an allocation fails, or if there is no random seed for the hash tables.
 ///
-/// A refusal drops the dictionary.
+/// On error, the dictionary is dropped.
 pub fn evaluate<R: RandomSource + Threads + Wait, G: Gate + Sync>(
     rt: &R,
     alloc: Global,
@@ -72,25 +74,27 @@ pub fn evaluate<R: RandomSource + Threads + Wait, G: Gate + Sync>(
     evaluator.solve(dict, None, &plan.tree)
 }
 
-/// The solutions of a tree in a named graph, or in each of them in turn (SPARQL 1.1 Query Language,
-/// section 18.6, Graph), whichever graph is active. The dataset is the index, read through the given
-/// dictionary. What rows are hashed with is `state`.
+/// Evaluates a tree in one named graph, or in each of them in turn, whichever graph is active
+/// (SPARQL 1.1 Query Language, section 18.6, Graph). The dataset is the index, read through the
+/// given dictionary. Rows are hashed with `state`.
 ///
-/// A name that no graph has gives no row. Under a variable the inner tree is evaluated in each named
-/// graph, and its rows are then joined with the variable bound to the graph's name.
+/// A name that no graph has gives no row. For a variable, the inner tree is evaluated in each named
+/// graph, and its rows are then joined with the variable bound to the name of the graph.
 ///
-/// The dictionary takes in no terms but those that stand in VALUES somewhere in the tree and the values that
-/// Extend computes somewhere in it, each with one of those graphs active.
+/// The evaluation adds only these terms to the dictionary, each with one of those graphs active:
+/// those that occur in VALUES somewhere in the tree, and the values that Extend computes somewhere
+/// in it.
 ///
 /// # Requires
-/// Each number in the index is below the length of the dictionary, the variables of the name and of the
-/// tree are below `width`, and `how` keeps its limits.
+/// - Each number in the index is below the length of the dictionary.
+/// - The variables of the name and of the tree are below `width`.
+/// - `how` keeps its limits.
 ///
 /// # Errors
-/// - `WorkerRefused`: the start of a worker was refused. It never comes of one worker.
-/// - `Memory`: a growth was refused.
+/// - `WorkerRefused` if a worker thread could not be started. It cannot occur with one worker.
+/// - `Memory` if an allocation fails.
 ///
-/// A refusal drops the dictionary.
+/// On error, the dictionary is dropped.
 pub fn graph<R: Threads + Wait, G: Gate + Sync>(
     rt: &R,
     alloc: Global,

@@ -1,4 +1,4 @@
-//! The recursion over a plan's tree: each operator over the rows of its inputs.
+//! The recursion over the tree of a plan: each operator is applied to the rows of its inputs.
 ghost use Rattle.std.specs.Prelude.{◌≡◌, ◌<◌, ◌++◌, true, filter, length, map, option_map, IfErr, IfOk};
 ghost use Rattle.std.specs.List.{list_all};
 ghost use Rattle.std.specs.Option.{ForSome};
@@ -38,7 +38,7 @@ use std::hash::RandomState;
 use std::sync::Wait;
 use std::thread::Threads;
 
-/// What a tree is evaluated over, and how: the index, the count of variables, what rows are hashed
+/// The context of an evaluation: the index, the number of variables, the state that rows are hashed
 /// with, and the workers.
 #[derive(Drop)]
 pub(crate) struct Evaluator<'a, R, G> {
@@ -53,8 +53,8 @@ pub(crate) struct Evaluator<'a, R, G> {
 }
 
 impl<'a, R: Threads + Wait, G: Gate + Sync> Evaluator<'a, R, G> {
-    /// The solutions of a tree, with the graph of this number active, the default graph where None. The
-    /// dictionary takes in the terms of VALUES and the values of Extend alone.
+    /// Evaluates a tree with the graph of this number active, or the default graph if it is None.
+    /// Only the terms of VALUES and the values of Extend are added to the dictionary.
     #[cycle(solve)]
     pub(crate) fn solve(
         &self,
@@ -116,7 +116,7 @@ impl<'a, R: Threads + Wait, G: Gate + Sync> Evaluator<'a, R, G> {
         }
     }
 
-    /// The Join of rows with the solutions of a tree.
+    /// Joins rows with the solutions of a tree.
     #[cycle(solve)]
     fn solve_join(
         &self,
@@ -141,7 +141,7 @@ impl<'a, R: Threads + Wait, G: Gate + Sync> Evaluator<'a, R, G> {
         self.join(dict, left, right)
     }
 
-    /// The LeftJoin of rows with the solutions of a tree.
+    /// Applies LeftJoin to rows and the solutions of a tree.
     #[cycle(solve)]
     fn solve_left_join(
         &self,
@@ -167,7 +167,7 @@ impl<'a, R: Threads + Wait, G: Gate + Sync> Evaluator<'a, R, G> {
         self.left_join(dict, &left, &right, condition)
     }
 
-    /// The Union of rows with the solutions of a tree.
+    /// Unites rows with the solutions of a tree.
     #[cycle(solve)]
     fn solve_union(
         &self,
@@ -192,7 +192,7 @@ impl<'a, R: Threads + Wait, G: Gate + Sync> Evaluator<'a, R, G> {
         union_of(dict, left, right)
     }
 
-    /// The Minus of rows and the solutions of a tree.
+    /// Applies Minus to rows and the solutions of a tree.
     #[cycle(solve)]
     fn solve_minus(
         &self,
@@ -217,7 +217,7 @@ impl<'a, R: Threads + Wait, G: Gate + Sync> Evaluator<'a, R, G> {
         self.minus(dict, &left, &right)
     }
 
-    /// The solutions of a Filter.
+    /// Evaluates a Filter and its input.
     #[cycle(solve)]
     fn solve_filter(
         &self,
@@ -240,7 +240,7 @@ impl<'a, R: Threads + Wait, G: Gate + Sync> Evaluator<'a, R, G> {
         self.filter(dict, &rows, condition)
     }
 
-    /// The solutions of an Extend.
+    /// Evaluates an Extend and its input.
     #[cycle(solve)]
     fn solve_extend(
         &self,
@@ -265,7 +265,7 @@ impl<'a, R: Threads + Wait, G: Gate + Sync> Evaluator<'a, R, G> {
         self.extend(dict, &rows, variable, expression)
     }
 
-    /// The solutions of a Project.
+    /// Evaluates a Project and its input.
     #[cycle(solve)]
     fn solve_project(
         &self,
@@ -288,7 +288,7 @@ impl<'a, R: Threads + Wait, G: Gate + Sync> Evaluator<'a, R, G> {
         project(self.alloc, dict, &rows, variables)
     }
 
-    /// The solutions of a Distinct.
+    /// Evaluates a Distinct and its input.
     #[cycle(solve)]
     fn solve_distinct(
         &self,
@@ -310,8 +310,8 @@ impl<'a, R: Threads + Wait, G: Gate + Sync> Evaluator<'a, R, G> {
         distinct(self.alloc, self.state, dict, &rows)
     }
 
-    /// The solutions of a tree in a named graph, or in each of them in turn. The dictionary takes in the
-    /// terms that the tree computes there alone.
+    /// Evaluates a tree in one named graph, or in each of them in turn. Only the terms that the
+    /// tree computes there are added to the dictionary.
     #[cycle(solve)]
     pub(crate) fn solve_graph(
         &self,
@@ -340,8 +340,9 @@ impl<'a, R: Threads + Wait, G: Gate + Sync> Evaluator<'a, R, G> {
         }
     }
 
-    /// The solutions of a tree in each named graph, those of a graph joined with the variable bound
-    /// to the graph's name. The dictionary takes in the terms that the tree computes in these graphs alone.
+    /// Evaluates a tree in each named graph, and joins the rows of a graph with the variable bound
+    /// to its name. Only the terms that the tree computes in these graphs are added to the
+    /// dictionary.
     #[cycle(solve)]
     fn solve_each(
         &self,

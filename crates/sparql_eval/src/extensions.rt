@@ -22,24 +22,25 @@ use std::hash::RandomState;
 use std::sync::Wait;
 use std::thread::Threads;
 
-/// Extend: every row, with the variable bound to the value of the expression. An error leaves a row
-/// as it is, and so does a variable that the row binds already.
+/// Evaluates Extend: returns every row, with the variable bound to the value of the expression. A
+/// row is unchanged if the expression is an error, or if the row binds the variable already.
 ///
-/// The values are computed over pieces of the rows, side by side. Each piece numbers those that the
-/// dictionary lacks by a dictionary of its own, hashed with the given state; then the dictionary
-/// takes these in, piece by piece in order. A value that is a term of the dictionary gets that term's
-/// number. The dictionary takes in values of the rows alone.
+/// The values are computed in parallel over pieces of the rows. Each piece numbers the terms that
+/// the dictionary lacks with a dictionary of its own, hashed with the given state. These terms are
+/// then added to the dictionary, piece by piece in order. A value that is a term of the dictionary
+/// gets the number of that term. Only values of the rows are added to the dictionary.
 ///
 /// # Requires
-/// Each number in the rows is below the length of the dictionary, the variable below the width of the
-/// rows, and `how` keeps its limits.
+/// - Each number in the rows is below the length of the dictionary.
+/// - The variable is below the width of the rows.
+/// - `how` keeps its limits.
 ///
 /// # Errors
-/// - `WorkerRefused`: the start of a worker was refused. It never comes of one worker, nor where
-///   one piece holds all rows.
-/// - `Memory`: a growth was refused.
+/// - `WorkerRefused` if a worker thread could not be started. It cannot occur with one worker, or
+///   if one piece holds all rows.
+/// - `Memory` if an allocation fails.
 ///
-/// A refusal drops the dictionary.
+/// On error, the dictionary is dropped.
 pub fn extend<R: Threads + Wait, G: Gate + Sync>(
     rt: &R,
     alloc: Global,
@@ -68,7 +69,7 @@ pub fn extend<R: Threads + Wait, G: Gate + Sync>(
     with_dict(made, dict)
 }
 
-/// The rows of an Extend.
+/// Returns the rows of an Extend.
 fn extended<R: Threads + Wait, G: Gate + Sync>(
     rt: &R,
     alloc: Global,
@@ -96,7 +97,7 @@ fn extended<R: Threads + Wait, G: Gate + Sync>(
     Ok(made)
 }
 
-/// The rows, in each the variable bound to its number.
+/// Binds the variable in each row to its number.
 fn extend_rows(
     alloc: Global,
     rows: &Rows,
@@ -117,7 +118,7 @@ fn extend_rows(
     Ok(made)
 }
 
-/// Writes a row with the variable bound to the number into `extended`, in place of what it held.
+/// Replaces the contents of `extended` with a row that has the variable bound to the number.
 fn extend_row(
     extended: &mut Vec<Option<u64>>,
     row: &[Option<u64>],
@@ -135,7 +136,7 @@ fn extend_row(
     Ok(())
 }
 
-/// Whether the row leaves the variable unbound.
+/// Returns whether the row leaves the variable unbound.
 fn is_open(row: &[Option<u64>], variable: usize) -> bool
     requires variable { variable < length row.now }
     ensures value { result ≡ not (is_some (get_or row.now variable None)) }

@@ -18,18 +18,19 @@ use std::alloc::{AllocError, Global};
 use std::sync::Wait;
 use std::thread::Threads;
 
-/// Filter: the rows for which the condition's effective boolean value is true. It is tested over
-/// pieces of the rows, side by side. The dictionary is handed back as it was.
+/// Evaluates Filter: returns the rows for which the effective boolean value of the condition is
+/// true. Pieces of the rows are tested in parallel. The dictionary is returned unchanged.
 ///
 /// # Requires
-/// Each number in the rows is below the length of the dictionary, and `how` keeps its limits.
+/// - Each number in the rows is below the length of the dictionary.
+/// - `how` keeps its limits.
 ///
 /// # Errors
-/// - `WorkerRefused`: the start of a worker was refused. It never comes of one worker, nor where
-///   one piece holds all rows.
-/// - `Memory`: a growth was refused.
+/// - `WorkerRefused` if a worker thread could not be started. It cannot occur with one worker, or
+///   if one piece holds all rows.
+/// - `Memory` if an allocation fails.
 ///
-/// A refusal drops the dictionary.
+/// On error, the dictionary is dropped.
 pub fn filter<R: Threads + Wait, G: Gate + Sync>(
     rt: &R,
     alloc: Global,
@@ -51,7 +52,7 @@ pub fn filter<R: Threads + Wait, G: Gate + Sync>(
     with_dict(made, dict)
 }
 
-/// The rows of a Filter.
+/// Returns the rows that pass the condition.
 fn filtered<R: Threads + Wait, G: Gate + Sync>(
     rt: &R,
     alloc: Global,
@@ -76,7 +77,7 @@ fn filtered<R: Threads + Wait, G: Gate + Sync>(
     over_pieces(rt, alloc, &work, how, gate)
 }
 
-/// The rows, and the condition that they are to pass.
+/// The rows to filter and the condition, as a job for the workers.
 #[derive(Drop)]
 struct FilterWork<'a> {
     dict: &'a Dict,

@@ -13,7 +13,7 @@ use rdf_core::Term;
 use row_core::{Rows, is_compatible, merge_into};
 use std::alloc::{AllocError, Global};
 
-/// The number of a graph's name, and None where no graph has that name.
+/// Returns the number of the name of a graph, or None if no graph has that name.
 pub(crate) fn graph_number(dict: &Dict, index: &Index, name: &Term) -> Option<u64>
     requires index { AreBelow (length dict.now) index.now }
     ensures number { MatchOption result
@@ -29,7 +29,7 @@ pub(crate) fn graph_number(dict: &Dict, index: &Index, name: &Term) -> Option<u6
         .then_some(number)
 }
 
-/// The row that binds one variable.
+/// Creates the row that binds one variable.
 fn name_row(
     alloc: Global,
     width: usize,
@@ -46,8 +46,8 @@ fn name_row(
     Ok(row)
 }
 
-/// Adds the merges of the rows with one row. A refusal leaves the rows that were there, and behind them
-/// the merges of the first of the others, as many as came in.
+/// Appends the merge of each of the rows with one row. On error, `made` keeps its rows, followed by
+/// the merges of some of the first rows.
 fn add_named(
     alloc: Global,
     made: &mut Rows,
@@ -72,8 +72,8 @@ fn add_named(
     Ok(())
 }
 
-/// Adds the merges of a graph's rows with the variable bound to the graph's number. A refusal leaves the
-/// rows that were there, and perhaps more behind them.
+/// Appends the merge of each row of a graph with the variable bound to the number of the graph. On
+/// error, `made` keeps its rows, perhaps with more rows after them.
 pub(crate) fn add_graph(
     alloc: Global,
     made: &mut Rows,

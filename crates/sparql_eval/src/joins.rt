@@ -23,19 +23,21 @@ use std::hash::RandomState;
 use std::sync::Wait;
 use std::thread::Threads;
 
-/// Join: the merge of each compatible pair, once for each pair. The right side is hashed with the
-/// given state, and lent to the pieces of the left side. The dictionary is handed back as it was.
+/// Evaluates Join: returns the merge of each compatible pair of rows, once for each pair. The right
+/// side is hashed with the given state, and the pieces of the left side borrow it. The dictionary
+/// is returned unchanged.
 ///
 /// # Requires
-/// Both sides have the same width, each number in them is below the length of the dictionary, and `how`
-/// keeps its limits.
+/// - Both sides have the same width.
+/// - Each number in them is below the length of the dictionary.
+/// - `how` keeps its limits.
 ///
 /// # Errors
-/// - `WorkerRefused`: the start of a worker was refused. It never comes of one worker, nor where
-///   one piece holds all left rows.
-/// - `Memory`: a growth was refused.
+/// - `WorkerRefused` if a worker thread could not be started. It cannot occur with one worker, or
+///   if one piece holds all left rows.
+/// - `Memory` if an allocation fails.
 ///
-/// A refusal drops the dictionary.
+/// On error, the dictionary is dropped.
 pub fn join<R: Threads + Wait, G: Gate + Sync>(
     rt: &R,
     alloc: Global,
@@ -60,7 +62,7 @@ pub fn join<R: Threads + Wait, G: Gate + Sync>(
     with_dict(made, dict)
 }
 
-/// The rows of a Join.
+/// Returns the rows of a Join.
 fn joined<R: Threads + Wait, G: Gate + Sync>(
     rt: &R,
     alloc: Global,
@@ -84,9 +86,9 @@ fn joined<R: Threads + Wait, G: Gate + Sync>(
     row_join::join(rt, alloc, state, left, right, how, gate)
 }
 
-/// The join of rows that nobody else needs. Where the left side is the one row that binds nothing,
-/// with which each group begins, the right side is the answer. The dictionary is handed back as it
-/// was. Left rows that fit in one piece start no worker.
+/// Joins rows that the evaluator needs no longer. If the left side is the one row that binds
+/// nothing, with which each group graph pattern begins, the result is the right side. The
+/// dictionary is returned unchanged. If one piece holds all left rows, no thread is started.
 pub(crate) fn join_of<R: Threads + Wait, G: Gate + Sync>(
     rt: &R,
     alloc: Global,
@@ -113,7 +115,7 @@ pub(crate) fn join_of<R: Threads + Wait, G: Gate + Sync>(
     join(rt, alloc, state, dict, &left, &right, how, gate)
 }
 
-/// Whether there is one row, of this width, and it binds no variable.
+/// Returns whether there is exactly one row, of this width, and it binds no variable.
 fn binds_nothing(rows: &Rows, width: usize) -> bool
     requires width { rows.now.width ≡ width }
     ensures unit { OnTrue result (rows.now.rows ≡ replicate width None ∷ []) }
@@ -122,26 +124,27 @@ fn binds_nothing(rows: &Rows, width: usize) -> bool
     rows.len() == 1 && all_open(rows.row(0))
 }
 
-/// Whether the row binds no variable.
+/// Returns whether the row binds no variable.
 fn all_open(row: &[Option<u64>]) -> bool
     ensures value { result ≡ list_all (λ cell. not (is_some cell)) row.now }
 {
     row.iter().all(|cell| cell.is_none())
 }
 
-/// LeftJoin: the merges of compatible pairs of which the condition is true, and each left row that
-/// has none. The dictionary is handed back as it was.
+/// Evaluates LeftJoin: returns the merges of the compatible pairs for which the condition is true,
+/// and each left row that has no such pair. The dictionary is returned unchanged.
 ///
 /// # Requires
-/// Both sides have the same width, each number in them is below the length of the dictionary, and `how`
-/// keeps its limits.
+/// - Both sides have the same width.
+/// - Each number in them is below the length of the dictionary.
+/// - `how` keeps its limits.
 ///
 /// # Errors
-/// - `WorkerRefused`: the start of a worker was refused. It never comes of one worker, nor where
-///   one piece holds all left rows.
-/// - `Memory`: a growth was refused.
+/// - `WorkerRefused` if a worker thread could not be started. It cannot occur with one worker, or
+///   if one piece holds all left rows.
+/// - `Memory` if an allocation fails.
 ///
-/// A refusal drops the dictionary.
+/// On error, the dictionary is dropped.
 pub fn left_join<R: Threads + Wait, G: Gate + Sync>(
     rt: &R,
     alloc: Global,
@@ -168,7 +171,7 @@ pub fn left_join<R: Threads + Wait, G: Gate + Sync>(
     with_dict(made, dict)
 }
 
-/// The rows of a LeftJoin.
+/// Returns the rows of a LeftJoin.
 fn left_joined<R: Threads + Wait, G: Gate + Sync>(
     rt: &R,
     alloc: Global,
@@ -195,19 +198,20 @@ fn left_joined<R: Threads + Wait, G: Gate + Sync>(
     row_join::left_join(rt, alloc, state, left, right, &test, how, gate)
 }
 
-/// Minus: each left row with which every right row is incompatible or shares no bound variable. The
-/// dictionary is handed back as it was.
+/// Evaluates Minus: returns each left row for which every right row is incompatible with it or
+/// shares no bound variable with it. The dictionary is returned unchanged.
 ///
 /// # Requires
-/// Both sides have the same width, each number in them is below the length of the dictionary, and `how`
-/// keeps its limits.
+/// - Both sides have the same width.
+/// - Each number in them is below the length of the dictionary.
+/// - `how` keeps its limits.
 ///
 /// # Errors
-/// - `WorkerRefused`: the start of a worker was refused. It never comes of one worker, nor where
-///   one piece holds all left rows.
-/// - `Memory`: a growth was refused.
+/// - `WorkerRefused` if a worker thread could not be started. It cannot occur with one worker, or
+///   if one piece holds all left rows.
+/// - `Memory` if an allocation fails.
 ///
-/// A refusal drops the dictionary.
+/// On error, the dictionary is dropped.
 pub fn minus<R: Threads + Wait, G: Gate + Sync>(
     rt: &R,
     alloc: Global,
@@ -232,7 +236,7 @@ pub fn minus<R: Threads + Wait, G: Gate + Sync>(
     with_dict(made, dict)
 }
 
-/// The rows of a Minus.
+/// Returns the rows of a Minus.
 fn subtracted<R: Threads + Wait, G: Gate + Sync>(
     rt: &R,
     alloc: Global,
@@ -256,7 +260,7 @@ fn subtracted<R: Threads + Wait, G: Gate + Sync>(
     row_join::minus(rt, alloc, state, left, right, how, gate)
 }
 
-/// The condition of a left join, and the dictionary that the rows are read through.
+/// The condition of a left join, with the dictionary of the numbers in the rows.
 #[derive(Drop)]
 struct Condition<'a> {
     dict: &'a Dict,

@@ -1,28 +1,35 @@
-//! Plans of the SPARQL algebra and their operators, over rows of numbers with a dictionary.
+//! Evaluates plans of the SPARQL algebra over an indexed dataset. Solutions are rows of numbers,
+//! and a dictionary gives the term of each number.
 //!
-//! [`evaluate`] answers the solutions of a plan over an index that is read through a dictionary: rows of
-//! numbers, and the dictionary that says which terms they stand for. The operators stand as functions
-//! of their own, over rows, the dictionary, and what else each takes. The contract of each is one
-//! record, `IsEvaluated` of specs/Evaluated.antt: the answered dictionary begins with the given one,
-//! and the rows, read through it, are the bag of solutions that the definition gives of the arguments
-//! so read, whatever the workers and the pieces. Beside it, the dictionary takes in no terms but those of VALUES and
-//! computed values (`TakesOnly` of specs/Computed.antt). Numbers may be compared in place of terms, since
-//! a dictionary has no term twice.
+//! [`evaluate`] takes a plan, an index and the dictionary of its numbers. It returns the rows of
+//! the solutions and a dictionary. [`graph`] evaluates a tree in named graphs. Each other operator
+//! is a function of its own: [`pattern`], [`join`], [`left_join`], [`minus`], [`union`],
+//! [`filter`], [`extend`], [`project`], [`distinct`] and [`table`].
 //!
-//! Standard: SPARQL 1.1 Query Language, sections 18.5 and 18.6; the definitions are those of
-//! `algebra_model`.
+//! Callers rely on two clauses of each of them:
 //!
-//! To read in this order: `copying`, `unions`, `projections`, `distinctness` (rows alone);
-//! `answers` (rows with a dictionary); `numbering`, `tables` (terms taken in); `reading`, `filters`, `piece_values`, `values`,
-//! `extensions` (expressions); `patterns`, `graphs` (the index); `joins` (two lists of rows);
-//! `evaluator`, `evaluation` (a plan).
+//! - `IsEvaluated` (specs/Evaluated.antt): the returned dictionary begins with the given one. The
+//!   rows, read through it, are the multiset of solutions that the definition of the operator
+//!   gives, whatever the workers and the pieces.
+//! - `TakesOnly` (specs/Computed.antt): only the terms of VALUES and computed values are added to
+//!   the dictionary.
+//!
+//! Numbers are compared in place of terms, since a dictionary holds each term once.
+//!
+//! Standard: SPARQL 1.1 Query Language, sections 18.5 and 18.6. The crate algebra_model states its
+//! definitions.
+//!
+//! Reading order: `copying`, `unions`, `projections`, `distinctness` (rows alone); `answers` (rows
+//! with a dictionary); `numbering`, `tables` (terms added to the dictionary); `reading`, `filters`,
+//! `piece_values`, `values`, `extensions` (expressions); `patterns`, `graphs` (the index); `joins`
+//! (two lists of rows); `evaluator`, `evaluation` (a plan). Tests: the crate evaluation_tests.
 //!
 //! ```text
 //! { ?s p ?o OPTIONAL { ?o p ?z } }  over  x p y, y p z  =  (?s: x, ?o: y, ?z: z), (?s: y, ?o: z)
 //! ```
-//! The test `a_filter_in_optional_sees_the_left_row` of evaluation_tests runs one like it.
+//! The test `a_filter_in_optional_sees_the_left_row` of evaluation_tests runs a similar query.
 //!
-//! Not promised: the order of the rows, and which numbers computed terms get.
+//! Not guaranteed: the order of the rows, and which numbers computed terms get.
 #![tactic(auto)]
 
 mod answers;

@@ -1,4 +1,4 @@
-//! Terms taken into the dictionary.
+//! Terms added to the dictionary.
 ghost use Rattle.std.specs.Prelude.{◌≡◌, ◌<◌, length, IfOk, OnOk};
 ghost use Rattle.dict_core.specs.Dict.{IsGrown, term_at};
 ghost use Rattle.sparql_eval.specs.Computed.{TakesOnly};
@@ -7,7 +7,7 @@ use dict_core::Dict;
 use rdf_core::Term;
 use std::alloc::{AllocError, Global};
 
-/// The number of a term, which is copied into the dictionary where it was not there.
+/// Returns the number of a term. If the dictionary lacks the term, a copy is added.
 #[tactic(auto, using(crate::proofs::ReadingLaws::grown_itself, crate::proofs::ReadingLaws::number_known, crate::proofs::ReadingLaws::number_read, crate::proofs::TakingLaws::takes_none, crate::proofs::TakingLaws::takes_same))]
 pub(crate) fn number_of_term(alloc: Global, dict: &mut Dict, term: &Term) -> Result<u64, AllocError>
     ensures grown { OnOk result (IsGrown dict.old dict.new) }
@@ -21,7 +21,7 @@ pub(crate) fn number_of_term(alloc: Global, dict: &mut Dict, term: &Term) -> Res
     number_new(dict, term.copy(alloc)?)
 }
 
-/// The number of a term that the dictionary takes in.
+/// Returns the number of a term, which is moved into the dictionary if it lacks the term.
 pub(crate) fn number_new(dict: &mut Dict, term: Term) -> Result<u64, AllocError>
     ensures grown { OnOk result (IsGrown dict.old dict.new) }
     ensures known { IfOk result (λ n. n < length dict.new) }

@@ -27,18 +27,20 @@ use std::alloc::{AllocError, Global};
 use std::sync::Wait;
 use std::thread::Threads;
 
-/// The solutions of a basic graph pattern over one graph of the dataset, None for the default graph.
-/// The dataset is the index, read through the dictionary. The dictionary is handed back as it was.
+/// Evaluates a basic graph pattern over one graph of the dataset; None is the default graph. The
+/// dataset is the index, read through the dictionary. The dictionary is returned unchanged.
 ///
 /// # Requires
-/// Each number in the index, and that of the graph, is below the length of the dictionary; the variables
-/// of the triples are below `width`, their blank labels below `labels`; and `how` keeps its limits.
+/// - Each number in the index, and that of the graph, is below the length of the dictionary.
+/// - The variables of the triple patterns are below `width`, and their blank node labels below
+///   `labels`.
+/// - `how` keeps its limits.
 ///
 /// # Errors
-/// - `WorkerRefused`: the start of a worker was refused. It never comes of one worker.
-/// - `Memory`: a growth was refused.
+/// - `WorkerRefused` if a worker thread could not be started. It cannot occur with one worker.
+/// - `Memory` if an allocation fails.
 ///
-/// A refusal drops the dictionary.
+/// On error, the dictionary is dropped.
 pub fn pattern<R: Threads + Wait, G: Gate + Sync>(
     rt: &R,
     alloc: Global,
@@ -67,7 +69,7 @@ pub fn pattern<R: Threads + Wait, G: Gate + Sync>(
     with_dict(made, dict)
 }
 
-/// The rows of a basic graph pattern.
+/// Returns the rows of a basic graph pattern.
 fn matches<R: Threads + Wait, G: Gate + Sync>(
     rt: &R,
     alloc: Global,
@@ -99,7 +101,8 @@ fn matches<R: Threads + Wait, G: Gate + Sync>(
     row_pattern::pattern(rt, alloc, index, active, width, labels, triples, how, gate)
 }
 
-/// The triple patterns at numbers, and None where the dictionary lacks one of their terms.
+/// Replaces each term of the triple patterns by its number. Returns None if the dictionary lacks
+/// one of the terms.
 fn number_triples(
     alloc: Global,
     dict: &Dict,
@@ -119,7 +122,8 @@ fn number_triples(
     Ok(Some(numbered))
 }
 
-/// A triple pattern at numbers, and None where the dictionary lacks one of its terms.
+/// Replaces each term of a triple pattern by its number. Returns None if the dictionary lacks one
+/// of the terms.
 #[tactic(auto, using(crate::proofs::PatternSteps::lacks_subject, crate::proofs::PatternSteps::lacks_predicate, crate::proofs::PatternSteps::lacks_object, crate::proofs::PatternSteps::triple_found))]
 fn number_triple(dict: &Dict, triple: &TriplePattern) -> Option<NumberedTriple>
     ensures numbered { MatchOption result (LacksTriple dict.now (triple_pattern_of triple.now))
@@ -135,8 +139,8 @@ fn number_triple(dict: &Dict, triple: &TriplePattern) -> Option<NumberedTriple>
     })
 }
 
-/// What stands in a triple pattern at numbers, and None where it is a term that the dictionary
-/// lacks.
+/// Replaces a term of a triple pattern by its number; variables and blank node labels are
+/// unchanged. Returns None if the dictionary lacks the term.
 #[tactic(auto, using(crate::proofs::PatternSteps::constant_found, crate::proofs::PatternSteps::constant_lacks))]
 fn number_place(dict: &Dict, place: &PatternTerm) -> Option<PatternNumber>
     ensures numbered { MatchOption result (LacksTerm dict.now (pattern_term_of place.now))

@@ -13,24 +13,24 @@ use std::alloc::{AllocError, Global};
 /// The value of an expression for one row.
 #[derive(Clone, Copy)]
 pub(crate) enum PieceValue {
-    /// There is none: an error.
+    /// The expression is an error for this row.
     Error,
-    /// The number of a term that the lent dictionary has.
+    /// The number of a term that the borrowed dictionary has.
     Known(u64),
-    /// The number of a term that it lacks, in the piece's own dictionary.
+    /// The number, in the piece's own dictionary, of a term that the borrowed dictionary lacks.
     Own(u64),
 }
 
-/// The values of an expression for a piece of rows. The terms that the lent dictionary lacks stand
-/// in a dictionary of the piece's own, each once.
+/// The values of an expression for a piece of rows. A dictionary of its own holds the terms that
+/// the borrowed dictionary lacks, each once.
 #[derive(Drop)]
 pub(crate) struct PieceValues {
     pub(crate) own: Dict,
     pub(crate) values: Vec<PieceValue>,
 }
 
-/// The number of each row's value in the dictionary, None where the value is an error. The
-/// dictionary takes in the pieces' own terms, piece by piece in order.
+/// Returns the number of each row's value in the dictionary, or None if the value is an error. The
+/// pieces' own terms are added to the dictionary, piece by piece in order.
 pub(crate) fn number_values(
     alloc: Global,
     dict: &mut Dict,
@@ -51,7 +51,7 @@ pub(crate) fn number_values(
     Ok(numbers)
 }
 
-/// Puts the numbers of a piece's values behind the others; the dictionary takes in its own terms.
+/// Appends the numbers of a piece's values, and adds the piece's own terms to the dictionary.
 fn number_piece(
     dict: &mut Dict,
     numbers: &mut Vec<Option<u64>>,
@@ -72,7 +72,7 @@ fn number_piece(
     Ok(())
 }
 
-/// Puts the numbers of the values behind the others.
+/// Appends the numbers of the values.
 fn add_numbers(
     numbers: &mut Vec<Option<u64>>,
     own_numbers: &[u64],
@@ -88,7 +88,7 @@ fn add_numbers(
     Ok(())
 }
 
-/// The number of a value.
+/// Returns the number of a value, or None for an error.
 fn number_value(own_numbers: &[u64], value: PieceValue) -> Option<u64>
     requires own { IsOwnBelow (length own_numbers.now) value }
     ensures value { result ≡ value_number own_numbers.now value }

@@ -11,14 +11,14 @@ use row_core::Rows;
 use row_pieces::EvalFault;
 use std::alloc::{AllocError, Global};
 
-/// Project: every row, with the listed variables alone bound. The dictionary is handed back as it
-/// was.
+/// Evaluates Project: returns every row with only the listed variables bound. The dictionary is
+/// returned unchanged.
 ///
 /// # Requires
 /// Each number in the rows is below the length of the dictionary.
 ///
 /// # Errors
-/// `Memory`: a growth was refused. The dictionary is dropped.
+/// `Memory` if an allocation fails. The dictionary is dropped.
 pub fn project(
     alloc: Global,
     dict: Dict,
@@ -35,7 +35,7 @@ pub fn project(
     with_dict(made, dict)
 }
 
-/// Every row, with the listed variables alone bound.
+/// Returns every row with only the listed variables bound.
 fn projected(alloc: Global, rows: &Rows, variables: &[usize]) -> Result<Rows, EvalFault>
     ensures made { IfOk result (λ made. (made.width ≡ rows.now.width)
         × (made.rows ≡ project variables.now rows.now.rows)) }
@@ -51,7 +51,7 @@ fn projected(alloc: Global, rows: &Rows, variables: &[usize]) -> Result<Rows, Ev
     Ok(made)
 }
 
-/// For each variable whether it is listed.
+/// Returns for each variable whether it is listed.
 fn kept_variables(alloc: Global, width: usize, variables: &[usize]) -> Result<Vec<bool>, AllocError>
     ensures wide { IfOk result (λ kept. length kept.items ≡ width) }
     ensures listed { IfOk result (λ kept. (k : ℕ) → k < width
@@ -67,7 +67,7 @@ fn kept_variables(alloc: Global, width: usize, variables: &[usize]) -> Result<Ve
     Ok(kept)
 }
 
-/// Writes the row with the kept variables alone into `cells`, in place of what it held.
+/// Replaces the contents of `cells` with the row, restricted to the kept variables.
 fn restrict_into(
     cells: &mut Vec<Option<u64>>,
     row: &[Option<u64>],
@@ -85,7 +85,7 @@ fn restrict_into(
     Ok(())
 }
 
-/// The cell of a kept variable, and None of another.
+/// Returns the cell of a kept variable, and None for another variable.
 fn kept_cell(is_kept: bool, cell: Option<u64>) -> Option<u64>
     ensures value { result ≡ (if is_kept then cell else None) }
 {

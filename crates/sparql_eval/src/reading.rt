@@ -6,7 +6,7 @@ use dict_core::Dict;
 use rdf_core::Term;
 use sparql_algebra::Lookup;
 
-/// A row, and the dictionary that knows its numbers.
+/// A row, with the dictionary of its numbers.
 #[derive(Clone, Copy)]
 pub(crate) struct ReadRow<'a> {
     pub(crate) dict: &'a Dict,
@@ -28,7 +28,8 @@ impl<'a> Lookup for ReadRow<'a> {
     }
 }
 
-/// The number at a variable's place, and None where the row has no such place.
+/// Returns the number that the row binds a variable to, or None. The row may be too short to have
+/// the variable.
 fn number_at(row: &[Option<u64>], var: usize) -> Option<u64>
     ensures value { result ≡ get_or row.now var None }
 {

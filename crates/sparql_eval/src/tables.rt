@@ -1,4 +1,4 @@
-//! Tables of VALUES (SPARQL 1.1 Query Language, section 18.2.2.6).
+//! Inline data: the tables of VALUES (SPARQL 1.1 Query Language, section 18.2.2.6).
 ghost use Rattle.std.specs.Prelude.{◌≡◌, ◌<◌, All, Contains, Some, length, map, option_map, take, IfErr, IfOk, OnOk};
 ghost use Rattle.dict_core.specs.Dict.{IsGrown, term_at};
 ghost use Rattle.algebra_model.specs.Operators.{table, table_row};
@@ -16,15 +16,16 @@ use row_core::Rows;
 use row_pieces::EvalFault;
 use std::alloc::{AllocError, Global};
 
-/// A table: a row for each list of cells, which binds each variable to the cell at its place. A
-/// cell that is None (UNDEF) binds nothing. Where a variable is listed twice its first place counts.
-/// The dictionary takes in the terms of cells alone, each once.
+/// Creates the rows of a table. Each list of cells gives one row, which binds each variable to the
+/// cell at the same place. A cell that is None (UNDEF) binds nothing. If a variable is listed
+/// twice, its first place is used. Only the terms of the cells are added to the dictionary, each
+/// once.
 ///
 /// # Requires
 /// Each variable is below `width`.
 ///
 /// # Errors
-/// `Memory`: a growth was refused. The dictionary is dropped.
+/// `Memory` if an allocation fails. The dictionary is dropped.
 pub fn table(
     alloc: Global,
     dict: Dict,
@@ -44,7 +45,7 @@ pub fn table(
     with_dict(made, dict)
 }
 
-/// The rows of a table.
+/// Returns the rows of a table.
 fn tabulated(
     alloc: Global,
     dict: &mut Dict,
@@ -68,7 +69,7 @@ fn tabulated(
     Ok(made)
 }
 
-/// Writes the numbers of the cells into `row`, in place of what it held.
+/// Replaces the contents of `row` with the numbers of the cells.
 fn number_row(
     alloc: Global,
     dict: &mut Dict,
@@ -95,7 +96,7 @@ fn number_row(
     Ok(())
 }
 
-/// The number of a cell's term, which the dictionary takes in.
+/// Returns the number of a cell's term, which is added to the dictionary if it lacks the term.
 #[tactic(auto, using(crate::proofs::ReadingLaws::grown_itself, crate::proofs::TakingLaws::takes_none, crate::proofs::TakingLaws::takes_value))]
 fn number_cell(
     alloc: Global,

@@ -9,14 +9,14 @@ use row_core::Rows;
 use row_pieces::EvalFault;
 use std::alloc::Global;
 
-/// Union: the rows of both sides, each as often as it stands in them. The dictionary is handed back
-/// as it was.
+/// Evaluates Union: returns the rows of both sides, with the sum of their multiplicities. The
+/// dictionary is returned unchanged.
 ///
 /// # Requires
 /// Both sides have the same width, and each number in them is below the length of the dictionary.
 ///
 /// # Errors
-/// `Memory`: a growth was refused. The dictionary is dropped.
+/// `Memory` if an allocation fails. The dictionary is dropped.
 pub fn union(
     alloc: Global,
     dict: Dict,
@@ -37,8 +37,8 @@ pub fn union(
     Ok((made, dict))
 }
 
-/// The union of rows that nobody needs any more: the right ones are put behind the left ones. The
-/// dictionary is handed back as it was.
+/// Unites rows that the evaluator needs no longer: the right rows are moved after the left ones.
+/// The dictionary is returned unchanged.
 pub(crate) fn union_of(dict: Dict, left: Rows, right: Rows) -> Result<(Rows, Dict), EvalFault>
     requires same_width { left.width ≡ right.width }
     requires known_left { AreKnown dict left }

@@ -1,4 +1,4 @@
-//! The values of an expression over pieces of rows, side by side.
+//! The values of an expression, computed in parallel over pieces of rows.
 ghost use Rattle.std.specs.Prelude.{◌≡◌, ◌≤◌, ◌-◌, [], Some, length, take, drop, IfErr, IfOk, OnOk};
 ghost use Rattle.algebra_model.specs.Expression.{val};
 ghost use Rattle.algebra_model.specs.Reading.{read_row};
@@ -25,8 +25,8 @@ use std::hash::RandomState;
 use std::sync::Wait;
 use std::thread::Threads;
 
-/// The values of the expression for the rows, piece by piece in order. Rows that fit in one piece start
-/// no worker.
+/// Returns the values of the expression for the rows, piece by piece in order. If one piece holds
+/// all rows, no thread is started.
 pub(crate) fn values_of<R: Threads + Wait, G: Gate + Sync>(
     rt: &R,
     alloc: Global,
@@ -60,7 +60,7 @@ pub(crate) fn values_of<R: Threads + Wait, G: Gate + Sync>(
     }
 }
 
-/// The rows, and the expression that is evaluated over pieces of `size` of them.
+/// The rows and the expression, as a job for the workers. A piece has `size` rows.
 #[derive(Drop)]
 struct ValueJob<'a> {
     state: RandomState,
@@ -98,7 +98,7 @@ impl<'a> Job for ValueJob<'a> {
 }
 
 impl<'a> ValueJob<'a> {
-    /// The values for the rows from one place up to another.
+    /// Returns the values for the rows from one place up to another.
     fn values(&self, alloc: Global, from: usize, to: usize) -> Result<PieceValues, AllocError>
         requires places { (from ≤ to) × (to ≤ length self.now.rows.now.rows) }
         ensures values { IfOk result (ArePieceValues self.now.dict.now
@@ -112,7 +112,8 @@ impl<'a> ValueJob<'a> {
         }
     }
 
-    /// The same, with a dictionary that takes in the terms of the piece's own.
+    /// Returns the values for the rows from one place up to another. Terms that the borrowed
+    /// dictionary lacks are added to the piece's own.
     fn values_into(
         &self,
         alloc: Global,
@@ -138,7 +139,7 @@ impl<'a> ValueJob<'a> {
     }
 }
 
-/// The value for one row.
+/// Returns the value for one row.
 #[tactic(auto, using(crate::proofs::ReadingLaws::grown_itself, crate::proofs::TakingLaws::takes_none, crate::proofs::TakingLaws::takes_value))]
 fn value_at(
     alloc: Global,
@@ -160,8 +161,8 @@ fn value_at(
     }
 }
 
-/// The number of a term that is a value: the lent dictionary's where it has the term, or else that
-/// of the piece's own, which takes the term in.
+/// Returns the number of a term that is a value. It is that of the borrowed dictionary if it has
+/// the term. Otherwise the term is added to the piece's own dictionary.
 #[tactic(auto, using(crate::proofs::ReadingLaws::grown_itself, crate::proofs::ReadingLaws::number_known, crate::proofs::ReadingLaws::number_read, crate::proofs::TakingLaws::takes_none))]
 fn number_term(dict: &Dict, own: &mut Dict, term: Term) -> Result<PieceValue, AllocError>
     ensures grown { OnOk result (IsGrown own.old own.new) }
