@@ -1,4 +1,4 @@
--- Which variables are used, and which are kept, counts only at the places that a map has.
+-- Used variables and kept variables matter only at the places that a map has.
 use Rattle.std.proofs.Common.{◌≡◌, ℕ, zero, suc, ◌<◌, Bool, true, false, List, [], ◌∷◌, Option, Some, None, map, flat_map, get_or, length, refl, sym, ap, ◌∙◌, arith, if◌then◌else◌}
 use Rattle.algebra_model.specs.Bgp.{every_map}
 use Rattle.algebra_model.specs.Operators.{restrict}
@@ -19,7 +19,7 @@ restrict-alike p q (x ∷ μ) e =
     λ i. (if e 0 (omega arith) i then x else None)
     ∷ restrict-alike (λ k. p (suc k)) (λ k. q (suc k)) μ (λ k low. e (suc k) (omega arith)) i
 
--- every map, where the first place is used
+-- every map, if the first place is used
 pub used_maps : {T : Type 0} (b : Bool) (rest used : List Bool) (ts : List T) (maps : List (Solution T))
     → used ≡ b ∷ rest → b ≡ true
     → maps ≡ every_map (λ k. get_or rest k false) ts (length rest)

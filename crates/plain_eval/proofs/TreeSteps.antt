@@ -1,4 +1,4 @@
--- What a LeftJoin of the program stands for.
+-- The algebra expression of a LeftJoin of the program.
 use Rattle.std.proofs.Common.{◌≡◌, sym, ◌∙◌, ap, Box, Global}
 use Rattle.algebra_model.specs.Algebra.{Algebra, LeftJoin}
 use Rattle.sparql_algebra.specs.AlgebraOf.{algebra_of, algebra_step}

@@ -9,10 +9,10 @@ use crate::terms::{each_once, with_copy};
 use rdf_core::{Quad, Term};
 use std::alloc::{AllocError, Global};
 
-/// The quads of the graph of this name, and of the default graph where there is no name.
+/// Returns the quads of the graph with this name, or of the default graph if the name is None.
 ///
 /// # Errors
-/// `AllocError`: a growth was refused.
+/// `AllocError` if an allocation fails.
 pub fn graph(alloc: Global, quads: &[Quad], name: &Option<Term>) -> Result<Vec<Quad>, AllocError>
     ensures triples { IfOk result (λ found.
         map triple_of (map parts_of found.items) ≡ graph (map parts_of quads.now) name.now) }
@@ -30,7 +30,7 @@ pub fn graph(alloc: Global, quads: &[Quad], name: &Option<Term>) -> Result<Vec<Q
     }
 }
 
-/// The quads with a copy of one more in front.
+/// Prepends a copy of a quad to the quads.
 fn with_quad(alloc: Global, quad: &Quad, rest: Vec<Quad>) -> Result<Vec<Quad>, AllocError>
     ensures quads { IfOk result (λ list.
         map parts_of list.items ≡ parts_of quad.now ∷ map parts_of rest.items) }
@@ -38,10 +38,10 @@ fn with_quad(alloc: Global, quad: &Quad, rest: Vec<Quad>) -> Result<Vec<Quad>, A
     with_first(quad.copy(alloc)?, rest)
 }
 
-/// The names of the graphs, each once.
+/// Returns the names of the named graphs, each once.
 ///
 /// # Errors
-/// `AllocError`: a growth was refused.
+/// `AllocError` if an allocation fails.
 pub fn names(alloc: Global, quads: &[Quad]) -> Result<Vec<Term>, AllocError>
     ensures names { IfOk result (λ found. found.items ≡ names (map parts_of quads.now)) }
 {
@@ -49,7 +49,7 @@ pub fn names(alloc: Global, quads: &[Quad]) -> Result<Vec<Term>, AllocError>
     each_once(alloc, &all)
 }
 
-/// The graph name of each quad that has one.
+/// Returns the graph name of each quad that has one.
 fn graph_names(alloc: Global, quads: &[Quad]) -> Result<Vec<Term>, AllocError>
     ensures names { IfOk result (λ found. found.items ≡ filter_map (λ q. q.g) (map parts_of quads.now)) }
 {

@@ -1,4 +1,4 @@
-//! The walk over a plan's tree (SPARQL 1.1 Query Language, section 18.6).
+//! The recursion over the tree of a plan (SPARQL 1.1 Query Language, section 18.6).
 ghost use Rattle.std.specs.Prelude.{◌≡◌, ◌++◌, IfOk, Some, filter, flat_map, map};
 ghost use Rattle.rdf_core.specs.Equality.{term_eq};
 ghost use Rattle.rdf_core.specs.QuadParts.{parts_of};
@@ -19,15 +19,15 @@ use rdf_core::{Quad, Term};
 use sparql_algebra::{Expr, GraphName, Operator, TriplePattern};
 use std::alloc::{AllocError, Global};
 
-/// The solutions of a plan's tree with `width` variables over a dataset, where `active` is the name
-/// of the active graph, or None for the default graph.
+/// Evaluates the tree of a plan with `width` variables over a dataset. `active` is the name of the
+/// active graph, or None for the default graph.
 ///
-/// The quads may stand in any order and have repeats; they are read as a set. The list is the very
-/// one that the definition of evaluation gives, in its order.
+/// The quads may be in any order and have repeats; they are read as a set. The result is the list
+/// that the definition of evaluation gives, in its order.
 ///
 /// # Errors
-/// `AllocError`: a growth was refused, or a map of a basic pattern has more places than a machine
-/// number counts.
+/// `AllocError` if an allocation fails, or if a map of a basic graph pattern has more places than
+/// fit in a `usize`.
 #[cycle(evaluate)]
 pub fn evaluate(
     alloc: Global,
@@ -80,7 +80,7 @@ pub fn evaluate(
     }
 }
 
-/// The solutions of a basic graph pattern in the active graph.
+/// Evaluates a basic graph pattern over the active graph.
 fn evaluate_pattern(
     alloc: Global,
     width: usize,
@@ -97,7 +97,7 @@ fn evaluate_pattern(
     pattern(alloc, width, labels, triples, &found)
 }
 
-/// The Join of solutions with those of a tree.
+/// Joins solutions with those of a tree.
 #[cycle(evaluate)]
 fn evaluate_join(
     alloc: Global,
@@ -114,7 +114,7 @@ fn evaluate_join(
     join(alloc, &left, &right)
 }
 
-/// The LeftJoin of solutions with those of a tree.
+/// Applies LeftJoin to solutions and those of a tree.
 #[cycle(evaluate)]
 fn evaluate_left_join(
     alloc: Global,
@@ -133,7 +133,7 @@ fn evaluate_left_join(
     left_join(alloc, condition, &left, &right)
 }
 
-/// The Union of solutions with those of a tree.
+/// Unites solutions with those of a tree.
 #[cycle(evaluate)]
 fn evaluate_union(
     alloc: Global,
@@ -150,7 +150,7 @@ fn evaluate_union(
     union(alloc, &left, &right)
 }
 
-/// The Minus of solutions and those of a tree.
+/// Applies Minus to solutions and those of a tree.
 #[cycle(evaluate)]
 fn evaluate_minus(
     alloc: Global,
@@ -167,7 +167,7 @@ fn evaluate_minus(
     minus(alloc, &left, &right)
 }
 
-/// The solutions of a Filter.
+/// Evaluates a Filter.
 #[cycle(evaluate)]
 fn evaluate_filter(
     alloc: Global,
@@ -184,7 +184,7 @@ fn evaluate_filter(
     filter(alloc, condition, &solutions)
 }
 
-/// The solutions of an Extend.
+/// Evaluates an Extend.
 #[cycle(evaluate)]
 fn evaluate_extend(
     alloc: Global,
@@ -202,7 +202,7 @@ fn evaluate_extend(
     extend(alloc, variable, expression, &solutions)
 }
 
-/// The solutions of a Project.
+/// Evaluates a Project.
 #[cycle(evaluate)]
 fn evaluate_project(
     alloc: Global,
@@ -219,7 +219,7 @@ fn evaluate_project(
     project(alloc, variables, &solutions)
 }
 
-/// The solutions of a Distinct.
+/// Evaluates a Distinct.
 #[cycle(evaluate)]
 fn evaluate_distinct(
     alloc: Global,
@@ -235,7 +235,7 @@ fn evaluate_distinct(
     distinct(alloc, &solutions)
 }
 
-/// The solutions of a tree in the graph of a name, or in each named graph in turn.
+/// Evaluates a tree in the graph of a name, or in each named graph in turn.
 #[cycle(evaluate)]
 fn evaluate_graph(
     alloc: Global,
@@ -252,7 +252,7 @@ fn evaluate_graph(
     evaluate_among(alloc, width, quads, name, &names, inner)
 }
 
-/// The same, where the names of the graphs are known.
+/// Evaluates a tree in the graph of a name, or in each of the named graphs with these names.
 #[cycle(evaluate)]
 fn evaluate_among(
     alloc: Global,
@@ -281,7 +281,7 @@ fn evaluate_among(
     }
 }
 
-/// The solutions of a tree in the graph of this name.
+/// Evaluates a tree in the graph with this name.
 #[cycle(evaluate)]
 fn evaluate_named(
     alloc: Global,
@@ -297,7 +297,8 @@ fn evaluate_named(
     evaluate(alloc, width, quads, &active, inner)
 }
 
-/// The solutions of a tree in each of the named graphs, joined with the variable bound to the name.
+/// Evaluates a tree in each of the named graphs, and joins its solutions with the variable bound to
+/// the name.
 #[cycle(evaluate)]
 fn evaluate_each(
     alloc: Global,
@@ -319,7 +320,8 @@ fn evaluate_each(
     Ok(all)
 }
 
-/// The solutions of a tree in one named graph, joined with the variable bound to the name.
+/// Evaluates a tree in one named graph, and joins its solutions with the variable bound to the
+/// name.
 #[cycle(evaluate)]
 fn evaluate_bound(
     alloc: Global,
@@ -338,7 +340,7 @@ fn evaluate_bound(
     join(alloc, &solutions, &bound)
 }
 
-/// The one solution that binds the variable to the term, and nothing else.
+/// Creates the solution that binds only the variable, to the term.
 fn named(
     alloc: Global,
     width: usize,

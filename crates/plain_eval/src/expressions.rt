@@ -1,4 +1,4 @@
-//! The expressions of a plan as conditions and values, over solutions as rows.
+//! Implements conditions and values for the expressions of a plan; a solution is the row.
 use crate::condition::{Condition, Value};
 use crate::solution::Solution;
 use rdf_core::Term;

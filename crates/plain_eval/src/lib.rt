@@ -1,19 +1,21 @@
-//! Plans of the SPARQL algebra evaluated over terms themselves: slow, and obviously right.
+//! Evaluates plans of the SPARQL algebra over terms. It is slow and follows the definitions word by
+//! word. Tests compare the evaluator of the program with it on small inputs; nothing else uses it.
 //!
-//! [`evaluate`] walks over a plan's tree and answers its solutions over a list of quads. Each
-//! function is the sentence of its definition, on solutions of terms, with no numbers, index, hash
-//! or piece. Its contract is the very list that the definition gives, in its order. Tests compare
-//! the evaluator with these on small inputs; nothing else uses them.
+//! [`evaluate`] evaluates the tree of a plan over a list of quads and returns a list of
+//! [`Solution`]s. Each operator is also a function of its own, such as [`join`] and [`pattern`].
+//! The functions work on solutions of terms, without numbers, indexes, hash tables or pieces. Each
+//! contract says that the result is the list that the definition gives, in its order.
 //!
-//! Source: SPARQL 1.1 Query Language, sections 18.3, 18.5 and 18.6; RDF 1.1 Concepts, section 4.
+//! Standards: SPARQL 1.1 Query Language, sections 18.3, 18.5 and 18.6; RDF 1.1 Concepts, section 4.
 //!
-//! Reading order: `solution` (one solution), `condition` (what a filter and an extension ask),
-//! `expressions` (the expressions of a plan as such), `lists`, `terms`, `dataset` (graphs and their names),
-//! `places`, `patterns` (basic patterns by every map tried), `operators`, `evaluation`.
+//! Reading order: `solution` (one solution), `condition` (the condition of a filter and the value
+//! of an extension), `expressions` (the expressions of a plan), `lists`, `terms`, `dataset` (graphs
+//! and their names), `places`, `patterns` (basic graph patterns), `operators`, `evaluation`. Tests:
+//! `operators` and `solutions` of the crate algebra_tests.
 //!
-//! Not here: the order of rows, and LIMIT and OFFSET. No promise of speed or of room on the stack:
-//! the functions copy terms, most go by recursion, a call a solution, and a basic pattern tries
-//! every map from its variables and labels to the graph's terms.
+//! Not included: the order of rows, LIMIT and OFFSET. Not guaranteed: speed, and enough stack. The
+//! functions copy terms, and most of them recurse once for each solution. A basic graph pattern
+//! tries every map from its variables and blank node labels to the terms of the graph.
 #![tactic(auto)]
 
 pub mod condition;

@@ -1,9 +1,9 @@
-//! Lists, put together from the front.
+//! Lists that are built from the front.
 ghost use Rattle.std.specs.Prelude.{◌≡◌, ◌∷◌, IfOk};
 
 use std::alloc::AllocError;
 
-/// The items with one more in front.
+/// Prepends an item to a list.
 pub(crate) fn with_first<T: Drop>(first: T, rest: Vec<T>) -> Result<Vec<T>, AllocError>
     ensures value { IfOk result (λ list. list.items ≡ first ∷ rest.items) }
 {

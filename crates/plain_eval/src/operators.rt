@@ -1,4 +1,4 @@
-//! The operators, by running through all solutions or all pairs of them.
+//! The operators, implemented as loops over all solutions or all pairs of solutions.
 ghost use Rattle.std.specs.Prelude.{◌≡◌, ◌∷◌, ◌++◌, ◌&&◌, ◌||◌, not, IfOk, OnOk, filter, map};
 ghost use Rattle.std.specs.List.{list_all};
 ghost use Rattle.rdf_core.specs.Equality.{term_eq};
@@ -16,14 +16,14 @@ use crate::solution::{
 use rdf_core::Term;
 use std::alloc::{AllocError, Global};
 
-/// An equal solution.
+/// Copies a solution.
 fn copy(alloc: Global, solution: &Solution) -> Result<Solution, AllocError>
     ensures value { IfOk result (λ copy. copy ≡ solution.now) }
 {
     Ok(Solution::of(copy_cells(alloc, solution.terms())?))
 }
 
-/// The solutions with a copy of one more in front.
+/// Prepends a copy of a solution to the solutions.
 fn with_copy(
     alloc: Global,
     solution: &Solution,
@@ -34,7 +34,7 @@ fn with_copy(
     with_first(copy(alloc, solution)?, rest)
 }
 
-/// The merges of one solution with those that are compatible with it.
+/// Returns the merges of one solution with those that are compatible with it.
 fn merges(
     alloc: Global,
     solution: &Solution,
@@ -56,10 +56,10 @@ fn merges(
     }
 }
 
-/// Join: the merge of each compatible pair, once for each pair.
+/// Evaluates Join: returns the merge of each compatible pair, once for each pair.
 ///
 /// # Errors
-/// `AllocError`: a growth was refused.
+/// `AllocError` if an allocation fails.
 pub fn join(
     alloc: Global,
     left: &[Solution],
@@ -78,10 +78,10 @@ pub fn join(
     }
 }
 
-/// Filter: the solutions of which the condition is true.
+/// Evaluates Filter: returns the solutions for which the condition is true.
 ///
 /// # Errors
-/// `AllocError`: a growth was refused.
+/// `AllocError` if an allocation fails.
 pub fn filter<C: Condition>(
     alloc: Global,
     condition: &C,
@@ -102,7 +102,8 @@ pub fn filter<C: Condition>(
     }
 }
 
-/// Whether each of the others is incompatible with the solution, or shares no variable with it.
+/// Returns whether each of the others is incompatible with the solution or shares no bound variable
+/// with it.
 fn is_apart(solution: &Solution, others: &[Solution]) -> bool
     ensures value { result
         ≡ list_all (λ ν. not (is_compatible term_eq solution.now ν) || not (share solution.now ν)) others.now }
@@ -117,11 +118,11 @@ fn is_apart(solution: &Solution, others: &[Solution]) -> bool
     }
 }
 
-/// Minus: each solution on the left for which each on the right is incompatible with it, or shares
-/// no bound variable with it.
+/// Evaluates Minus: returns each left solution for which every right solution is incompatible with
+/// it or shares no bound variable with it.
 ///
 /// # Errors
-/// `AllocError`: a growth was refused.
+/// `AllocError` if an allocation fails.
 pub fn minus(
     alloc: Global,
     left: &[Solution],
@@ -142,7 +143,7 @@ pub fn minus(
     }
 }
 
-/// Whether no merge of the solution with a compatible one passes the condition.
+/// Returns whether no merge of the solution with a compatible one passes the condition.
 fn is_alone<C: Condition>(
     alloc: Global,
     condition: &C,
@@ -166,7 +167,7 @@ fn is_alone<C: Condition>(
     }
 }
 
-/// The solutions on the left that no solution on the right extends.
+/// Returns the left solutions that no right solution extends.
 fn alone_ones<C: Condition>(
     alloc: Global,
     condition: &C,
@@ -189,11 +190,11 @@ fn alone_ones<C: Condition>(
     }
 }
 
-/// LeftJoin: the joined solutions of which the condition is true, and behind them each solution on
-/// the left that none on the right extends so.
+/// Evaluates LeftJoin: returns the joined solutions for which the condition is true, followed by
+/// each left solution that has no such merge.
 ///
 /// # Errors
-/// `AllocError`: a growth was refused.
+/// `AllocError` if an allocation fails.
 pub fn left_join<C: Condition>(
     alloc: Global,
     condition: &C,
@@ -210,10 +211,11 @@ pub fn left_join<C: Condition>(
     Ok(kept)
 }
 
-/// Extend: each solution with its value at the variable; where the value is an error, as it is.
+/// Evaluates Extend: binds the variable to the value in each solution. A solution for which the
+/// value is an error is unchanged.
 ///
 /// # Errors
-/// `AllocError`: a growth was refused.
+/// `AllocError` if an allocation fails.
 pub fn extend<V: Value>(
     alloc: Global,
     variable: usize,
@@ -234,12 +236,12 @@ pub fn extend<V: Value>(
     }
 }
 
-/// Project: all solutions, each on the listed variables alone.
+/// Evaluates Project: returns all solutions, each with only the listed variables bound.
 ///
-/// The others become unbound, and every solution keeps its width.
+/// The other variables become unbound, and every solution keeps its width.
 ///
 /// # Errors
-/// `AllocError`: a growth was refused.
+/// `AllocError` if an allocation fails.
 pub fn project(
     alloc: Global,
     variables: &[usize],
@@ -258,10 +260,10 @@ pub fn project(
     }
 }
 
-/// Union: all solutions of both, the left ones first.
+/// Evaluates Union: returns the solutions of both, the left ones first.
 ///
 /// # Errors
-/// `AllocError`: a growth was refused.
+/// `AllocError` if an allocation fails.
 pub fn union(
     alloc: Global,
     left: &[Solution],
@@ -278,7 +280,7 @@ pub fn union(
     }
 }
 
-/// Equal solutions.
+/// Copies solutions.
 fn copies(alloc: Global, solutions: &[Solution]) -> Result<Vec<Solution>, AllocError>
     ensures value { IfOk result (λ copies. copies.items ≡ solutions.now) }
 {
@@ -291,7 +293,7 @@ fn copies(alloc: Global, solutions: &[Solution]) -> Result<Vec<Solution>, AllocE
     }
 }
 
-/// The solutions that differ from the given one.
+/// Returns the solutions that differ from the given one.
 fn others(
     alloc: Global,
     solution: &Solution,
@@ -313,10 +315,10 @@ fn others(
     }
 }
 
-/// Distinct: one of each solution.
+/// Evaluates Distinct: returns each solution once.
 ///
 /// # Errors
-/// `AllocError`: a growth was refused.
+/// `AllocError` if an allocation fails.
 pub fn distinct(alloc: Global, solutions: &[Solution]) -> Result<Vec<Solution>, AllocError>
     ensures value { IfOk result (λ kept. kept.items ≡ distinct term_eq solutions.now) }
 {
@@ -329,11 +331,12 @@ pub fn distinct(alloc: Global, solutions: &[Solution]) -> Result<Vec<Solution>, 
     }
 }
 
-/// A table (section 18.2.2.6, inline data): one solution of `width` variables for each row of cells,
-/// in which the listed variables have the row's cells; None is UNDEF, which binds nothing.
+/// Creates the solutions of a table (section 18.2.2.6, inline data). Each row of cells gives one
+/// solution of `width` variables, in which the listed variables have the cells of the row. A cell
+/// that is None (UNDEF) binds nothing.
 ///
 /// # Errors
-/// `AllocError`: a growth was refused.
+/// `AllocError` if an allocation fails.
 pub fn table(
     alloc: Global,
     width: usize,

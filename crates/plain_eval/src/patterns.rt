@@ -16,15 +16,17 @@ use rdf_core::{Quad, Term};
 use sparql_algebra::{PatternTerm, TriplePattern};
 use std::alloc::{AllocError, Global};
 
-/// The solutions of a basic graph pattern with `width` variables and so many blank labels over the
-/// triples of the quads: every map from what occurs in the pattern to terms of the triples that
-/// takes each triple of the pattern to one of them, without its labels.
+/// Evaluates a basic graph pattern with `width` variables and `labels` blank node labels over the
+/// triples of the quads. The graph names of the quads are ignored.
 ///
-/// Maps that differ in labels alone give repeats, and these are kept. The empty pattern has the one
-/// solution that binds nothing. The graph names of the quads do not count.
+/// It tries every map from the variables and labels in the pattern to terms of the triples. It
+/// keeps those that take each triple pattern to one of the triples, without their labels.
+///
+/// Maps that differ only in labels give repeated solutions, and these are kept. The empty pattern
+/// has the one solution that binds nothing.
 ///
 /// # Errors
-/// `AllocError`: a growth was refused, or a map has more places than a machine number counts.
+/// `AllocError` if an allocation fails, or if a map has more places than fit in a `usize`.
 pub fn pattern(
     alloc: Global,
     width: usize,
@@ -45,7 +47,7 @@ pub fn pattern(
     kept_maps(alloc, width, triples, quads, &maps)
 }
 
-/// Every map that takes each used place to one of the terms, in every way, and the others to none.
+/// Returns every map that takes each used place to one of the terms, and each other place to none.
 fn every_map(alloc: Global, used: &[bool], terms: &[Term]) -> Result<Vec<Solution>, AllocError>
     ensures value { IfOk result (λ maps. maps.items
         ≡ every_map (λ k. get_or used.now k false) terms.now (length used.now)) }
@@ -67,7 +69,7 @@ fn every_map(alloc: Global, used: &[bool], terms: &[Term]) -> Result<Vec<Solutio
     }
 }
 
-/// The maps, once for each of the terms, with the term in front.
+/// Prepends each of the terms to each of the maps.
 fn with_each(alloc: Global, terms: &[Term], maps: &[Solution]) -> Result<Vec<Solution>, AllocError>
     ensures value { IfOk result (λ made. made.items
         ≡ flat_map (λ x. map (λ μ. x ∷ μ) maps.now) (map Some terms.now)) }
@@ -83,14 +85,14 @@ fn with_each(alloc: Global, terms: &[Term], maps: &[Solution]) -> Result<Vec<Sol
     }
 }
 
-/// The maps with the term in front.
+/// Prepends the term to each of the maps.
 fn with_term(alloc: Global, term: &Term, maps: &[Solution]) -> Result<Vec<Solution>, AllocError>
     ensures value { IfOk result (λ made. made.items ≡ map (λ μ. Some term.now ∷ μ) maps.now) }
 {
     with_cell(alloc, &Some(term.copy(alloc)?), maps)
 }
 
-/// The maps with the cell in front.
+/// Prepends the cell to each of the maps.
 fn with_cell(
     alloc: Global,
     cell: &Option<Term>,
@@ -107,7 +109,7 @@ fn with_cell(
     Ok(made)
 }
 
-/// The maps that take each triple of the pattern to a triple of the quads, each without its labels.
+/// Returns the maps that take each triple pattern to a triple of the quads, without their labels.
 fn kept_maps(
     alloc: Global,
     width: usize,
@@ -128,7 +130,7 @@ fn kept_maps(
     Ok(kept)
 }
 
-/// Whether the map takes each triple of the pattern to a triple of the quads.
+/// Returns whether the map takes each triple pattern to a triple of the quads.
 fn is_in(width: usize, triples: &[TriplePattern], quads: &[Quad], tried: &[Option<Term>]) -> bool
     ensures value { result
         ≡ is_in term_eq width (map triple_pattern_of triples.now) (map triple_of (map parts_of quads.now)) tried.now }
@@ -141,7 +143,7 @@ fn is_in(width: usize, triples: &[TriplePattern], quads: &[Quad], tried: &[Optio
     }
 }
 
-/// Whether the map takes the triple of the pattern to a triple of the quads.
+/// Returns whether the map takes the triple pattern to a triple of the quads.
 fn is_found(width: usize, triple: &TriplePattern, quads: &[Quad], tried: &[Option<Term>]) -> bool
     ensures value { result
         ≡ list_any (takes_to term_eq width tried.now (triple_pattern_of triple.now)) (map triple_of (map parts_of quads.now)) }
@@ -163,7 +165,7 @@ fn takes_to(width: usize, tried: &[Option<Term>], triple: &TriplePattern, quad: 
         && is_image(width, tried, &triple.object, &quad.o)
 }
 
-/// Whether the map takes what stands in the pattern to the term.
+/// Returns whether the map takes this place of the pattern to the term.
 fn is_image(width: usize, tried: &[Option<Term>], place: &PatternTerm, term: &Term) -> bool
     ensures value { result
         ≡ option_eq term_eq (image width tried.now (pattern_term_of place.now)) (Some term.now) }
@@ -178,7 +180,7 @@ fn is_image(width: usize, tried: &[Option<Term>], place: &PatternTerm, term: &Te
     }
 }
 
-/// Whether the cell at this place has the term.
+/// Returns whether the cell at this place holds the term.
 fn has_cell(tried: &[Option<Term>], place: usize, term: &Term) -> bool
     ensures value { result ≡ option_eq term_eq (get_or tried.now place None) (Some term.now) }
 {
@@ -191,7 +193,7 @@ fn has_cell(tried: &[Option<Term>], place: usize, term: &Term) -> bool
     }
 }
 
-/// The first `width` cells.
+/// Returns the first `width` cells.
 fn first_cells(
     alloc: Global,
     width: usize,

@@ -1,4 +1,4 @@
-//! The places of a map that a pattern's triples mention, and those of listed variables.
+//! The places of a map that a pattern uses, and the places of listed variables.
 ghost use Rattle.std.specs.Prelude.{◌≡◌, ℕ, ◌+◌, ◌<◌, ◌==◌, IfOk, false, get_or, length, map};
 ghost use Rattle.std.specs.List.{list_any};
 ghost use Rattle.algebra_model.specs.Bgp.{is_at, mentions, occurs};
@@ -7,8 +7,8 @@ ghost use Rattle.sparql_algebra.specs.AlgebraOf.{pattern_term_of, triple_pattern
 use sparql_algebra::{PatternTerm, TriplePattern};
 use std::alloc::{AllocError, Global};
 
-/// For each place of a map whether its variable or label occurs in the triples. The `width`
-/// variables stand first, and the labels behind them.
+/// Returns for each place of a map whether its variable or label occurs in the triple patterns. The
+/// `width` variables come first, and the labels follow them.
 pub(crate) fn used_places(
     alloc: Global,
     width: usize,
@@ -26,7 +26,7 @@ pub(crate) fn used_places(
     Ok(used)
 }
 
-/// For each of `width` variables whether it is listed.
+/// Returns for each of `width` variables whether it is listed.
 pub(crate) fn listed_places(
     alloc: Global,
     width: usize,
@@ -60,7 +60,7 @@ fn mentions(width: usize, triple: &TriplePattern, place: usize) -> bool
         || is_at(width, &triple.object, place)
 }
 
-/// Whether the variable or label has this place.
+/// Returns whether the variable or label has this place.
 fn is_at(width: usize, term: &PatternTerm, place: usize) -> bool
     ensures value { result ≡ is_at width (pattern_term_of term.now) place }
 {
@@ -71,7 +71,7 @@ fn is_at(width: usize, term: &PatternTerm, place: usize) -> bool
     }
 }
 
-/// Whether the place is the sum of the two.
+/// Returns whether the place is the sum of the two.
 fn is_sum(width: usize, label: usize, place: usize) -> bool
     ensures value { result ≡ ((width + label) == place) }
 {

@@ -10,7 +10,7 @@ use rdf_core::Term;
 use std::alloc::{AllocError, Global};
 use std::marker::Model;
 
-/// One solution: the term of each variable, by the variable's number.
+/// A solution: the term of each variable, at the number of the variable.
 #[derive(Drop)]
 pub struct Solution {
     terms: Vec<Option<Term>>,
@@ -26,14 +26,14 @@ impl Model for Solution {
 }
 
 impl Solution {
-    /// The solution with these terms; takes no memory.
+    /// Creates a solution from these cells. Allocates nothing.
     pub fn of(terms: Vec<Option<Term>>) -> Solution
         ensures value { result ≡ terms.items }
     {
         Solution { terms }
     }
 
-    /// The terms, lent.
+    /// Borrows the cells.
     pub fn terms(&self) -> &[Option<Term>]
         ensures value { result.now ≡ self.now }
     {
@@ -41,7 +41,7 @@ impl Solution {
     }
 }
 
-/// An equal cell.
+/// Copies a cell.
 pub(crate) fn copy_cell(alloc: Global, cell: &Option<Term>) -> Result<Option<Term>, AllocError>
     ensures value { IfOk result (λ copy. copy ≡ cell.now) }
 {
@@ -51,7 +51,7 @@ pub(crate) fn copy_cell(alloc: Global, cell: &Option<Term>) -> Result<Option<Ter
     }
 }
 
-/// The cells with a copy of one more in front.
+/// Prepends a copy of a cell to the cells.
 fn with_copy(
     alloc: Global,
     cell: &Option<Term>,
@@ -62,7 +62,7 @@ fn with_copy(
     with_first(copy_cell(alloc, cell)?, rest)
 }
 
-/// Equal cells.
+/// Copies cells.
 pub(crate) fn copy_cells(
     alloc: Global,
     cells: &[Option<Term>],
@@ -78,7 +78,7 @@ pub(crate) fn copy_cells(
     }
 }
 
-/// Whether two cells do not bind a variable to two terms.
+/// Returns whether two cells are equal or at least one of them is unbound.
 fn agree(x: &Option<Term>, y: &Option<Term>) -> bool
     ensures value { result ≡ agree term_eq x.now y.now }
 {
@@ -91,7 +91,7 @@ fn agree(x: &Option<Term>, y: &Option<Term>) -> bool
     }
 }
 
-/// Whether the solutions agree on every variable that both bind.
+/// Returns whether the solutions agree on every variable that both bind.
 pub(crate) fn cells_agree(a: &[Option<Term>], b: &[Option<Term>]) -> bool
     ensures value { result ≡ is_compatible term_eq a.now b.now }
 {
@@ -104,7 +104,7 @@ pub(crate) fn cells_agree(a: &[Option<Term>], b: &[Option<Term>]) -> bool
     }
 }
 
-/// Whether some variable is bound in both.
+/// Returns whether some variable is bound in both solutions.
 pub(crate) fn cells_share(a: &[Option<Term>], b: &[Option<Term>]) -> bool
     ensures value { result ≡ share a.now b.now }
 {
@@ -123,7 +123,7 @@ pub(crate) fn cells_share(a: &[Option<Term>], b: &[Option<Term>]) -> bool
     }
 }
 
-/// Whether two cells are the same.
+/// Returns whether two cells are equal.
 pub(crate) fn same_cell(x: &Option<Term>, y: &Option<Term>) -> bool
     ensures value { result ≡ option_eq term_eq x.now y.now }
 {
@@ -136,7 +136,7 @@ pub(crate) fn same_cell(x: &Option<Term>, y: &Option<Term>) -> bool
     }
 }
 
-/// Whether the solutions are the same.
+/// Returns whether the solutions are equal.
 pub(crate) fn same_cells(a: &[Option<Term>], b: &[Option<Term>]) -> bool
     ensures value { result ≡ same_solution term_eq a.now b.now }
 {
@@ -149,7 +149,7 @@ pub(crate) fn same_cells(a: &[Option<Term>], b: &[Option<Term>]) -> bool
     }
 }
 
-/// The first where it is bound, and else the second.
+/// Returns the first cell if it is bound, and the second one otherwise.
 fn first_bound(
     alloc: Global,
     x: &Option<Term>,
@@ -163,7 +163,7 @@ fn first_bound(
     }
 }
 
-/// The union of two solutions.
+/// Returns the union of two solutions.
 pub(crate) fn merged_cells(
     alloc: Global,
     a: &[Option<Term>],
@@ -183,7 +183,7 @@ pub(crate) fn merged_cells(
     }
 }
 
-/// So many cells that bind nothing.
+/// Creates `width` cells that bind nothing.
 pub(crate) fn open_cells(alloc: Global, width: usize) -> Result<Vec<Option<Term>>, AllocError>
     ensures value { IfOk result (λ cells. cells.items ≡ replicate width None) }
 {
@@ -194,7 +194,7 @@ pub(crate) fn open_cells(alloc: Global, width: usize) -> Result<Vec<Option<Term>
     Ok(cells)
 }
 
-/// The cells with the term at the variable, where nothing is bound to it and there is a term.
+/// Binds the variable to the term, if there is a term and the variable is unbound.
 pub(crate) fn bound_cells(
     alloc: Global,
     variable: usize,
@@ -219,7 +219,8 @@ pub(crate) fn bound_cells(
     }
 }
 
-/// A row of a table: of `width` variables the listed ones have the cells, where a cell has a term.
+/// Creates the row of a table: each listed variable is bound to its cell, if the cell has a term.
+/// The row has `width` variables.
 pub(crate) fn table_cells(
     alloc: Global,
     width: usize,
@@ -243,7 +244,7 @@ pub(crate) fn table_cells(
     }
 }
 
-/// The cells of the kept variables, the others bound to nothing.
+/// Returns the cells with only the kept variables bound.
 pub(crate) fn restricted_cells(
     alloc: Global,
     kept: &[bool],

@@ -11,7 +11,7 @@ use crate::lists::with_first;
 use rdf_core::{Quad, Term};
 use std::alloc::{AllocError, Global};
 
-/// The terms with a copy of one more in front.
+/// Prepends a copy of a term to the terms.
 pub(crate) fn with_copy(
     alloc: Global,
     term: &Term,
@@ -22,7 +22,7 @@ pub(crate) fn with_copy(
     with_first(term.copy(alloc)?, rest)
 }
 
-/// Whether the term stands in the list.
+/// Returns whether the term is in the list.
 pub(crate) fn is_among(term: &Term, terms: &[Term]) -> bool
     ensures value { result ≡ list_any (term_eq term.now) terms.now }
 {
@@ -32,7 +32,7 @@ pub(crate) fn is_among(term: &Term, terms: &[Term]) -> bool
     }
 }
 
-/// The terms that differ from the given one.
+/// Returns the terms that differ from the given one.
 fn different(alloc: Global, term: &Term, terms: &[Term]) -> Result<Vec<Term>, AllocError>
     ensures value { IfOk result (λ kept. kept.items ≡ filter (λ y. not (term_eq term.now y)) terms.now) }
 {
@@ -49,7 +49,7 @@ fn different(alloc: Global, term: &Term, terms: &[Term]) -> Result<Vec<Term>, Al
     }
 }
 
-/// The terms, each once, at its first place.
+/// Returns the terms, each once, at its first place.
 pub(crate) fn each_once(alloc: Global, terms: &[Term]) -> Result<Vec<Term>, AllocError>
     ensures value { IfOk result (λ kept. kept.items ≡ without_repeats term_eq terms.now) }
 {
@@ -62,7 +62,7 @@ pub(crate) fn each_once(alloc: Global, terms: &[Term]) -> Result<Vec<Term>, Allo
     }
 }
 
-/// What stands in the triples of the quads, with repeats.
+/// Returns the terms that occur in the triples of the quads, with repeats.
 pub(crate) fn occurring(alloc: Global, quads: &[Quad]) -> Result<Vec<Term>, AllocError>
     ensures value { IfOk result
         (λ terms. terms.items ≡ occurring (map triple_of (map parts_of quads.now))) }
