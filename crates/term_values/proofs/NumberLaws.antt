@@ -18,7 +18,7 @@ use Rattle.term_values.specs.Digits.{without_leading_zeros, whole_order, fractio
 abbrev V : List ℕ → ℕ
 V = digits_value 10
 
--- the answer tells how the numbers stand
+-- the result is the order of the two numbers
 abbrev pub Ranks : Ordering → ℕ → ℕ → Type 0
 Ranks r x y = MatchOrdering r (x < y) (x ≡ y) (y < x)
 
@@ -35,7 +35,7 @@ ranks_tenfold Less x y h = omega arith
 ranks_tenfold Equal x y h = omega arith
 ranks_tenfold Greater x y h = omega arith
 
--- what stands in front decides, and where it is equal, what follows does
+-- the leading parts decide, and if they are equal, the rest does
 head_ranks : (d e P A B : ℕ) (s r : Ordering) → A < P → B < P → Ranks s d e → Ranks r A B
     → Ranks (ordering_then s r) (d * P + A) (e * P + B)
 head_ranks d e P A B Less r a b h g =
@@ -95,7 +95,7 @@ numeral_ranks (c ∷ cs) (d ∷ ds) p q e =
     let last : digit_value d * 10 ^ length cs + V ds ≡ digit_value d * 10 ^ length ds + V ds = ap (λ n. digit_value d * n + V ds) power in
     ranks_along (ordering_then (nat_cmp c d) (slice_cmp nat_cmp cs ds)) (sym (value_cons c cs)) (last ∙ sym (value_cons d ds)) h
 
--- fewer digits are less, where the others begin with no zero
+-- fewer digits are a smaller number, if the other number has no leading zero
 fewer_is_less : (v : List ℕ) (c : ℕ) (cs : List ℕ) → AllDigits 10 v → digit_value c < 10 → c ≢ 48
     → length v ≤ length cs → V v < V (c ∷ cs)
 fewer_is_less v c cs p q n le =
@@ -118,7 +118,7 @@ zero_in_front c cs e =
     let product : digit_value c * 10 ^ length cs ≡ 0 * 10 ^ length cs = ap (λ n. n * 10 ^ length cs) zero_value in
     omega (arith, value_cons c cs)
 
--- b tells whether c is a zero, and rest is what stripping leaves of cs
+-- b says whether c is a zero, and rest is cs without its leading zeros
 one_stripped : (b : Bool) (c : ℕ) (cs rest : List ℕ) → Decides b (c ≡ 48) → V rest ≡ V cs → V (cond b rest (c ∷ cs)) ≡ V (c ∷ cs)
 one_stripped true c cs rest d e = e ∙ zero_in_front c cs (d.0 refl)
 one_stripped false c cs rest d e = refl
@@ -163,7 +163,7 @@ whole_ranks v w p q =
     ranks_along (whole_order (without_leading_zeros v) (without_leading_zeros w)) (stripped_value v) (stripped_value w)
     (stripped_ranks _ _ (stripped_digits v p) (stripped_digits w q) (stripped_begins v) (stripped_begins w))
 
--- ---- digits behind the dot
+-- ---- fraction digits
 
 fraction_ranks : (f g : List ℕ) → AllDigits 10 f → AllDigits 10 g
     → Ranks (fraction_order f g) (V f * 10 ^ length g) (V g * 10 ^ length f)
@@ -195,7 +195,7 @@ fraction_ranks (c ∷ cs) (d ∷ ds) p q =
     raised_once : (c : ℕ) (cs : List ℕ) (Q R : ℕ) → R ≡ Q * 10 → (digit_value c * (10 ^ length cs * Q) + V cs * Q) * 10 ≡ V (c ∷ cs) * R
     raised_once c cs Q R e = rw (e, value_cons c cs) (omega arith)
 
--- ---- both
+-- ---- both parts
 
 pub size_ranks : (v f w g : List ℕ) → AllDigits 10 v → AllDigits 10 f → AllDigits 10 w → AllDigits 10 g
     → Ranks (size_order v f w g) (V (v ++ f) * 10 ^ length g) (V (w ++ g) * 10 ^ length f)

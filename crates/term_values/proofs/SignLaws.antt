@@ -1,4 +1,4 @@
--- Signs and zeros: the order of numbers from the order of their sizes.
+-- Signs and zeros: the order of numbers from the order of their absolute values.
 use Rattle.std.proofs.Common.{true≢false, Decides, nat_le, ◌≡◌, ◌≢◌, ℕ, zero, suc, ◌+◌, ◌*◌, ◌^◌, ◌<◌, ◌≤◌, Bool, true, false, ◌&&◌, ◌==◌, cond, ℤ, pos, neg_ℤ, List, [], ◌∷◌, ◌++◌, length, refl, sym, ◌∙◌, ap, subst, arith, lit<}
 use Rattle.std.proofs.lemmas.Int.{ints}
 use Rattle.std.proofs.lemmas.Bool.{leb-true}
@@ -76,7 +76,7 @@ back_digits : (v f : List ℕ) → list_all is_ascii_digit (v ++ f) ≡ true →
 back_digits v f h =
     all_digits f (second_so (list_all is_ascii_digit v) _ (sym (list_all-append is_ascii_digit v f) ∙ h))
 
--- ---- the order of two numbers of one sign
+-- ---- the order of two numbers with the same sign
 
 sizes : (x y : Digits) → Ranks (size_order x.whole.now x.fraction.now y.whole.now y.fraction.now)
     ((number_shown x).digits * 10 ^ (number_shown y).places) ((number_shown y).digits * 10 ^ (number_shown x).places)

@@ -1,4 +1,4 @@
--- The comparison that a comparison of a query's tree stands for.
+-- The comparison that a comparison operator of the syntax tree represents.
 use Rattle.algebra_model.specs.Comparison as comparison
 use Rattle.sparql_tree.specs.declared.expression.Comparison.{Comparison}
 use Rattle.sparql_tree.specs.declared.expression.Comparison.TheVariants.{Equal, NotEqual, Less, Greater, LessOrEqual, GreaterOrEqual}

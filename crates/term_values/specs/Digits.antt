@@ -1,5 +1,5 @@
--- How two numbers are compared digit by digit, without wide numbers. Only private clauses cite
--- these words; proofs/NumberLaws shows that they are the order of numbers.
+-- How two numbers are compared digit by digit, without arithmetic on large numbers. Only private
+-- clauses use these definitions. proofs/NumberLaws proves that this is the order of numbers.
 use Rattle.std.specs.Prelude.{ℕ, Bool, List, [], ◌∷◌, ◌==◌, if◌then◌else◌, length}
 use Rattle.std.specs.Ordering.{nat_cmp, ordering_then}
 use Rattle.std.specs.Cmp.Lexicographic.{slice_cmp}
@@ -13,11 +13,11 @@ abbrev pub without_leading_zeros : List ℕ → List ℕ
 without_leading_zeros [] = []
 without_leading_zeros (c ∷ cs) = if c == zero_digit then without_leading_zeros cs else c ∷ cs
 
--- digits before the dot, without leading zeros: fewer are less
+-- digits before the decimal point, without leading zeros: fewer digits are a smaller number
 abbrev pub whole_order : List ℕ → List ℕ → Ordering
 whole_order v w = ordering_then (nat_cmp (length v) (length w)) (slice_cmp nat_cmp v w)
 
--- digits behind the dot: where one list ends, zeros follow
+-- digits after the decimal point: the shorter list is continued with zeros
 abbrev pub fraction_order : List ℕ → List ℕ → Ordering
 fraction_order [] [] = Equal
 fraction_order [] (d ∷ ds) = ordering_then (nat_cmp zero_digit d) (fraction_order [] ds)

@@ -1,4 +1,4 @@
--- The literal's value that a value of the program holds.
+-- The value of a literal that a value of the program holds.
 use Rattle.algebra_model.specs.LiteralValue as model
 use Rattle.algebra_model.specs.LiteralValue.{number, boolean, string, other}
 use Rattle.term_values.specs.NumberShown.{number_shown}

@@ -1,5 +1,5 @@
 //! Comparisons of terms and effective boolean values (SPARQL 1.1 Query Language, sections 17.2 and
-//! 17.3). None of them takes memory.
+//! 17.3). Nothing here allocates.
 ghost use Rattle.std.specs.Prelude.{◌≡◌, ◌&&◌};
 ghost use Rattle.algebra_model.specs.BooleanValue.{ebv, has_characters, value_ebv};
 ghost use Rattle.algebra_model.specs.Comparison.{compares, equal_by, is_literal, terms_equal, value_cmp, value_of};
@@ -13,12 +13,12 @@ use rdf_core::vocabulary::XSD_BOOLEAN;
 use sparql_tree::Comparison;
 use std::cmp::Ordering;
 
-/// Whether the comparison holds of two terms, and None where that is an error (SPARQL 1.1 Query
-/// Language, sections 17.3 and 17.4.1.7).
+/// Compares two terms, and returns None if the comparison is an error (SPARQL 1.1 Query Language,
+/// sections 17.3 and 17.4.1.7).
 ///
-/// Numbers of any length are compared exactly by their values, strings by code points, booleans
-/// with false first. Other terms have no order, not even a term and itself, and two literals
-/// that are not the same may or may not be equal, which is an error too.
+/// Numbers of any length are compared exactly by their values, strings by code points, and booleans
+/// with false before true. Other terms have no order, not even a term and itself. For two such
+/// literals that are not the same term, equality is unknown, which is an error too.
 pub fn compare(operator: Comparison, left: &Term, right: &Term) -> Option<bool>
     ensures compared { result ≡ compares (comparison_of operator) left.now right.now }
 {
@@ -33,11 +33,11 @@ pub fn compare(operator: Comparison, left: &Term, right: &Term) -> Option<bool>
     }
 }
 
-/// The effective boolean value of a term, and None where that is an error (SPARQL 1.1 Query
+/// Returns the effective boolean value of a term, or None if it is an error (SPARQL 1.1 Query
 /// Language, section 17.2.2).
 ///
-/// An ill-formed number or boolean is false. An xsd:float or xsd:double is an error, ill-formed or
-/// not.
+/// An ill-formed number or boolean is false. An xsd:float or xsd:double is an error, whether it is
+/// well-formed or not.
 pub fn truth(term: &Term) -> Option<bool>
     ensures truth { result ≡ ebv term.now }
 {
@@ -82,7 +82,7 @@ fn has_characters(form: &str) -> bool
     !form.is_empty()
 }
 
-/// The order by value, where both are numbers, strings or booleans.
+/// Returns the order by value, if both are numbers, strings or booleans.
 fn value_order(left: &LiteralValue, right: &LiteralValue) -> Option<Ordering>
     ensures order { result ≡ value_cmp (value_shown left.now) (value_shown right.now) }
 {

@@ -1,9 +1,9 @@
-//! The sign and the digits of a number in place.
+//! The sign and the digits of a number, borrowed from its text.
 ghost use Rattle.std.specs.Prelude.{◌≡◌, ◌++◌, true};
 ghost use Rattle.std.specs.Char.{is_ascii_digit};
 ghost use Rattle.std.specs.List.{list_all};
 
-/// The sign of a number, and its digits before and behind the dot, lent from its text.
+/// The sign of a number, and its digits before and after the decimal point.
 #[derive(Clone, Copy)]
 pub struct Digits<'a> {
     pub negative: bool,

@@ -1,16 +1,17 @@
-//! Comparisons of RDF terms by value, and effective boolean values.
+//! Compares RDF terms by value, and returns effective boolean values.
 //!
 //! [`compare`] compares two terms: numbers of any length exactly, by their digits, strings by code
-//! points, booleans with false first. [`truth`] is the effective boolean value of a term. Both return
-//! what the tables of `algebra_model` say (`compares`, `ebv`), with None for an error, and neither
-//! allocates.
+//! points, booleans with false before true. [`truth`] is the effective boolean value of a term.
+//! Both return what the tables of the crate algebra_model define (`compares`, `ebv`), with None for
+//! an error. Neither of them allocates.
 //!
-//! `sparql_algebra` evaluates expressions with these two calls, and exports both.
+//! The crate sparql_algebra evaluates expressions with these two functions, and reexports both.
 //!
-//! Standard: SPARQL 1.1 Query Language, sections 17.2 and 17.3; XML Schema 1.1 Part 2, sections 3.3
-//! and 3.4 (lexical forms of numbers and booleans).
+//! Standards: SPARQL 1.1 Query Language, sections 17.2 and 17.3; XML Schema 1.1 Part 2, sections
+//! 3.3 and 3.4 (lexical forms of numbers and booleans).
 //!
-//! Reading order: `digits`, `number`, `literal`, `comparison`.
+//! Reading order: `digits`, `number`, `literal`, `comparison`. Tests: `comparisons` of the crate
+//! algebra_tests.
 //!
 //! ```text
 //! compare(Comparison::Equal, &one, &one_point_zero)   // "01"^^xsd:integer and 1.0: Some(true)
@@ -18,7 +19,7 @@
 //! truth(&ill_formed)                                  // "abc"^^xsd:integer: Some(false)
 //! ```
 //!
-//! Not included: xsd:float, xsd:double and xsd:dateTime have no value here.
+//! Not included: values of xsd:float, xsd:double and xsd:dateTime.
 #![tactic(auto)]
 
 mod comparison;

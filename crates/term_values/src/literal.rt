@@ -1,4 +1,4 @@
-//! What a literal stands for, by its datatype and lexical form (SPARQL 1.1 Query Language, sections
+//! The value of a literal, by its datatype and lexical form (SPARQL 1.1 Query Language, sections
 //! 17.1 and 17.2; XML Schema 1.1 Part 2, sections 3.3 and 3.4).
 ghost use Rattle.std.specs.Prelude.{◌≡◌, option_map};
 ghost use Rattle.std.specs.List.{list_any};
@@ -13,17 +13,17 @@ use crate::number::{decimal_digits, integer_digits};
 use rdf_core::Term;
 use rdf_core::vocabulary::{XSD_BOOLEAN, XSD_DECIMAL, XSD_STRING};
 
-/// What a term stands for in a comparison by value.
+/// The value of a term in a comparison.
 #[derive(Clone, Copy)]
 pub enum LiteralValue<'a> {
     Number(Digits<'a>),
     Boolean(bool),
     String(&'a str),
-    /// All else: terms that are no literals, literals with a tag, ill-formed ones too.
+    /// Every other term: IRIs, blank nodes, and literals with a language tag or another datatype.
     Other,
 }
 
-/// What a term stands for.
+/// Returns the value of a term.
 pub fn value_of(term: &Term) -> LiteralValue<'_>
     ensures value { value_shown result ≡ value_of term.now }
 {
@@ -37,7 +37,7 @@ pub fn value_of(term: &Term) -> LiteralValue<'_>
     }
 }
 
-/// What a literal without a tag stands for.
+/// Returns the value of a literal without a language tag.
 pub fn literal_value<'a>(form: &'a str, datatype: &str) -> LiteralValue<'a>
     ensures value { value_shown result ≡ literal_value form.entry.now datatype.entry.now }
 {
@@ -54,7 +54,7 @@ pub fn literal_value<'a>(form: &'a str, datatype: &str) -> LiteralValue<'a>
     }
 }
 
-/// Whether the datatype is one of the numbers that are compared by value.
+/// Returns whether the datatype is one of the number types that are compared by value.
 pub fn is_number_type(datatype: &str) -> bool
     ensures value { result ≡ is_number_type datatype.now }
 {
@@ -80,7 +80,7 @@ fn boolean_value(form: &str) -> LiteralValue<'_>
     }
 }
 
-/// Whether the datatype is xsd:integer or one derived from it.
+/// Returns whether the datatype is xsd:integer or a type derived from it.
 fn is_integer_type(datatype: &str) -> bool
     ensures value { result ≡ is_integer_type datatype.now }
 {
@@ -98,7 +98,7 @@ fn is_one_of(name: &str, names: &[&str]) -> bool
     false
 }
 
-/// xsd:integer and the types derived from it.
+/// The IRIs of xsd:integer and of the types derived from it.
 const INTEGER_TYPES: [&str; 13] = [
     "http://www.w3.org/2001/XMLSchema#integer",
     "http://www.w3.org/2001/XMLSchema#nonPositiveInteger",

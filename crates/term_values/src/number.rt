@@ -1,5 +1,5 @@
-//! Numbers of any length, by the digits of their texts (XML Schema 1.1 Part 2, sections 3.3.3 and
-//! 3.4.13). Two numbers are compared in place and in linear time, without wide numbers.
+//! Numbers of any length, as the digits of their lexical forms (XML Schema 1.1 Part 2, sections
+//! 3.3.3 and 3.4.13). Two numbers are compared in linear time, without arithmetic on large numbers.
 ghost use Rattle.std.specs.Prelude.{◌≡◌, ◌==◌, ◌&&◌, ◌++◌, get_or, option_map};
 ghost use Rattle.std.specs.Char.{is_ascii_digit};
 ghost use Rattle.std.specs.List.{list_all, position_or_len};
@@ -10,7 +10,7 @@ ghost use Rattle.term_values.specs.NumberShown.{number_shown};
 use crate::digits::Digits;
 use std::cmp::Ordering;
 
-/// The digits of a decimal's lexical form, and None where it is ill-formed.
+/// Splits the lexical form of a decimal, or returns None if it is ill-formed.
 pub fn decimal_digits(form: &[u8]) -> Option<Digits<'_>>
     ensures number { option_map number_shown result ≡ decimal_number form.now }
 {
@@ -19,7 +19,7 @@ pub fn decimal_digits(form: &[u8]) -> Option<Digits<'_>>
     digits_of_parts(negative, whole, fraction)
 }
 
-/// The digits of an integer's lexical form, and None where it is ill-formed.
+/// Splits the lexical form of an integer, or returns None if it is ill-formed.
 pub fn integer_digits(form: &[u8]) -> Option<Digits<'_>>
     ensures number { option_map number_shown result ≡ integer_number form.now }
 {
@@ -27,14 +27,14 @@ pub fn integer_digits(form: &[u8]) -> Option<Digits<'_>>
     digits_of_parts(negative, whole, &[])
 }
 
-/// Whether the number is zero, with either sign.
+/// Returns whether the number is zero, with either sign.
 pub fn is_zero(number: &Digits) -> bool
     ensures zero { result ≡ is_zero (number_shown number.now) }
 {
     are_zeros(number.whole) && are_zeros(number.fraction)
 }
 
-/// The order of two numbers.
+/// Compares two numbers.
 pub fn compare_numbers(left: &Digits, right: &Digits) -> Ordering
     ensures order { result ≡ number_cmp (number_shown left.now) (number_shown right.now) }
 {
@@ -59,7 +59,7 @@ fn are_both_zero(left: &Digits, right: &Digits) -> bool
     is_zero(left) && is_zero(right)
 }
 
-/// Whether a minus stands in front, and what stands behind the sign.
+/// Returns whether the form begins with a minus sign, and the text after the sign.
 fn split_sign(form: &[u8]) -> (bool, &[u8])
     ensures sign { result.0 ≡ is_negative form.now }
     ensures rest { result.1.now ≡ unsigned form.now }
@@ -71,7 +71,7 @@ fn split_sign(form: &[u8]) -> (bool, &[u8])
     }
 }
 
-/// What stands before the first dot, and behind it.
+/// Splits a text at its first decimal point.
 fn split_dot(text: &[u8]) -> (&[u8], &[u8])
     ensures whole { result.0.now ≡ whole_part text.now }
     ensures fraction { result.1.now ≡ fraction_part text.now }
@@ -84,14 +84,14 @@ fn split_dot(text: &[u8]) -> (&[u8], &[u8])
     }
 }
 
-/// The place of the first dot, or the length where there is none.
+/// Returns the place of the first decimal point, or the length of the text if it has none.
 fn dot_place(text: &[u8]) -> usize
     ensures place { result ≡ position_or_len is_dot text.now }
 {
     text.iter().take_while(|c| **c != b'.').count()
 }
 
-/// The number of these parts, where there is a digit and nothing but digits.
+/// Creates a number from its parts, if they have a digit and nothing but digits.
 fn digits_of_parts<'a>(negative: bool, whole: &'a [u8], fraction: &'a [u8]) -> Option<Digits<'a>>
     ensures number { option_map number_shown result ≡ number_of_parts negative whole.entry.now fraction.entry.now }
 {
@@ -106,7 +106,7 @@ fn digits_of_parts<'a>(negative: bool, whole: &'a [u8], fraction: &'a [u8]) -> O
     }
 }
 
-/// Whether there is a digit, and nothing but digits.
+/// Returns whether the parts have a digit and nothing but digits.
 fn is_numeral(whole: &[u8], fraction: &[u8]) -> bool
     ensures value { result ≡ is_numeral (whole.now ++ fraction.now) }
 {
@@ -129,7 +129,7 @@ fn are_zeros(digits: &[u8]) -> bool
     digits.iter().all(|c| *c == b'0')
 }
 
-/// The order of two numbers without their signs.
+/// Compares two numbers without their signs.
 fn compare_sizes(left: &Digits, right: &Digits) -> Ordering
     ensures order { result ≡ size_order left.now.whole.now left.now.fraction.now right.now.whole.now right.now.fraction.now }
 {
@@ -152,7 +152,7 @@ fn without_leading_zeros(digits: &[u8]) -> &[u8]
     rest
 }
 
-/// The order of two lists of digits behind a dot, where zeros follow each.
+/// Compares two lists of fraction digits, as if zeros followed each of them.
 fn compare_fractions(left: &[u8], right: &[u8]) -> Ordering
     ensures order { result ≡ fraction_order left.now right.now }
 {
