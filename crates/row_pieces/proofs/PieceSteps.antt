@@ -1,4 +1,4 @@
--- The rows of all pieces, one piece behind the other, are the rows of the whole.
+-- The rows of all pieces, concatenated, are the rows of the whole.
 use Rattle.std.proofs.Common.{◌≡◌, ℕ, suc, ◌+◌, ◌*◌, ◌<◌, ◌≤◌, List, [], ◌∷◌, ◌++◌, length, take, drop, refl, sym, ap, ◌∙◌, subst, arith, lt_of_not-le, mul-le-mul_right, add-mul, one-mul}
 use Rattle.std.specs.List.{flat_map, slice_index_or}
 use Rattle.std.proofs.Math.Nat.{suc-mul, zero-mul}

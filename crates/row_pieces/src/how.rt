@@ -1,23 +1,24 @@
-//! How an evaluation is run, and why it may have no answer.
+//! How an evaluation is run, and why it may have no result.
 use piece_pool::PoolFault;
 use std::alloc::AllocError;
 
-/// How an evaluation is cut into pieces and run. No answer depends on it.
+/// How an evaluation is split into pieces and run. The result does not depend on it.
 #[derive(Clone, Copy, Debug, PartialEq, Eq)]
 pub struct How {
-    /// How many workers at the most: 1 to 64. One is the caller itself, and no thread is started.
+    /// The largest number of workers: 1 to 64. If it is 1, the caller does all the work and no
+    /// thread is started.
     pub workers: usize,
-    /// How many rows a piece has at the most: 1 or more. Piece `i` of a list of rows has the rows
-    /// from `i * rows` on.
+    /// The largest number of rows in a piece: 1 or more. Piece `i` of a list of rows starts at row
+    /// `i * rows`.
     pub rows: usize,
 }
 
-/// Why an evaluation has no answer.
+/// Why an evaluation has no result.
 #[derive(Clone, Copy, Debug, PartialEq, Eq)]
 pub enum EvalFault {
-    /// The start of a worker was refused. Those that were started have been joined.
+    /// A worker thread could not be started. All started threads have been joined.
     WorkerRefused,
-    /// A growth was refused.
+    /// Out of memory.
     Memory,
 }
 

@@ -1,7 +1,16 @@
-//! An operator over rows of numbers, run over pieces of its input by a pool of workers.
+//! Runs an operator in parallel, over pieces of its input.
 //!
-//! [`over_pieces`] gives the bag of what all elements of a list give, whatever the cut and however many
-//! workers. An operator says what one element gives by [`RowWork`].
+//! An operator implements [`RowWork`]: a list of elements, and the rows that each of them gives.
+//! [`over_pieces`] splits the list into pieces of [`How::rows`] elements and runs them on a pool of
+//! [`How::workers`] workers. It returns the rows of all elements as a multiset, which is the same
+//! for every size of piece and every number of workers. [`EvalFault`] says why there is no result.
+//!
+//! The split is a choice of this project (not fixed by the standard).
+//!
+//! Reading order: `how`, `pieces`. Tests: `pieces` of the crate row_tests, which also gives an
+//! example of a `RowWork`.
+//!
+//! Not guaranteed: the order of the rows, and which worker runs which piece.
 #![tactic(auto)]
 
 mod how;

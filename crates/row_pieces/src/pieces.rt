@@ -1,4 +1,4 @@
-//! Operators run over pieces of rows: each element gives a part of the answer, whatever the cut.
+//! Operators over pieces of a list. Each element gives rows by itself, however the list is split.
 ghost use Rattle.std.specs.Int.{div_ceil};
 ghost use Rattle.std.specs.List.{flat_map};
 ghost use Rattle.std.specs.Prelude.{◌≡◌, ◌≤◌, ◌^◌, ℕ, List, length, IfOk, IfErr, All, take, drop, ◌-◌, ◌*◌};
@@ -14,7 +14,7 @@ use std::alloc::{AllocError, Global};
 use std::sync::Wait;
 use std::thread::Threads;
 
-/// Work on a list: each of its elements gives rows by itself.
+/// A list of elements, each of which gives rows.
 pub trait RowWork {
     /// The width of the rows.
     ghost width: { Self → ℕ };
@@ -22,25 +22,28 @@ pub trait RowWork {
     /// The rows that each element gives.
     ghost parts: { Self → List (List (Solution ℕ)) };
 
-    /// The width of the rows.
+    /// Returns the width of the rows.
     fn row_width(&self) -> usize
         ensures value { result ≡ width self.now };
 
-    /// How many elements there are.
+    /// Returns the number of elements.
     fn count(&self) -> usize
         ensures value { result ≡ length (parts self.now) };
 
-    /// The rows that the elements from one place up to another give.
+    /// Returns the rows of the elements from one place up to another.
     ///
     /// # Requires
-    /// `from` is `to` at most, and `to` the count of the elements at most.
+    /// `from` is at most `to`, and `to` is at most the number of elements.
+    ///
+    /// # Errors
+    /// `AllocError` if an allocation fails.
     fn run(&self, alloc: Global, from: usize, to: usize) -> Result<Rows, AllocError>
         requires places { (from ≤ to) × (to ≤ length (parts self.now)) }
         ensures rows { IfOk result (λ rows. AreRowsOf (width self.now)
             (take (to - from) (drop from (parts self.now))) rows) };
 }
 
-/// The work by pieces of `size` elements.
+/// A `RowWork` as a job for the pool, in pieces of `size` elements.
 #[derive(Drop)]
 struct RowPieces<'w, W> {
     work: &'w W,
@@ -68,16 +71,17 @@ impl<'w, W: RowWork> Job for RowPieces<'w, W> {
     ghost exclusive = { λ job i out fault _ absurd. absurd };
 }
 
-/// The rows of all elements, element by element and cut into pieces as `how` says: the bag of all
-/// parts. Workers do the pieces, and one worker's part, or one piece alone, the caller.
+/// Returns the rows of all elements as a multiset. The elements are split into pieces as `how`
+/// says, and workers run the pieces. With one worker, or if one piece holds all elements, the
+/// caller runs them.
 ///
 /// # Requires
 /// `how` keeps its limits.
 ///
 /// # Errors
-/// - `WorkerRefused`: the start of a worker was refused. It never comes of one worker, nor where one piece
-///   holds all elements.
-/// - `Memory`: a growth was refused.
+/// - `WorkerRefused` if a worker thread could not be started. It cannot occur with one worker, or
+///   if one piece holds all elements.
+/// - `Memory` if an allocation fails.
 pub fn over_pieces<R: Threads + Wait, W: RowWork + Sync, G: Gate + Sync>(
     rt: &R,
     alloc: Global,
@@ -100,8 +104,8 @@ pub fn over_pieces<R: Threads + Wait, W: RowWork + Sync, G: Gate + Sync>(
     }
 }
 
-/// How many elements a piece is to have: as many as asked for, or more where that would make more
-/// than 2^62 pieces, which is the most that a pool takes.
+/// Returns the number of elements in a piece. It is `rows`, or more if that would make more than
+/// 2^62 pieces, which is the limit of a pool.
 ///
 /// # Requires
 /// `rows` is 1 or more.
@@ -115,7 +119,7 @@ pub fn piece_size(count: usize, rows: usize) -> usize
     if count > 1 << 62 { rows.max(4) } else { rows }
 }
 
-/// The rows of lists of rows of one width, one list behind the other.
+/// Concatenates lists of rows of the same width.
 fn join_pieces(alloc: Global, width: usize, outs: Vec<Rows>) -> Result<Rows, AllocError>
     requires width { All (λ out. out.width ≡ width) outs.items }
     ensures width { IfOk result (λ rows. rows.width ≡ width) }
