@@ -1,4 +1,4 @@
--- What all works together come to.
+-- What all workers together return.
 use Rattle.std.proofs.Common.{◌≡◌, ℕ, ◌<◌, ◌≤◌, eqb, List, [], ◌∷◌, ◌++◌, length, get_or, All, Any, Contains, false, arith, refl, ap, ◌∙◌, sym, inl, inr, ⊎_elim, ◌⊎◌, subst}
 use Rattle.std.proofs.lemmas.Grind.{flat_map-append}
 use Rattle.std.proofs.lemmas.List.{map-append, append-nil}
@@ -15,7 +15,7 @@ use Rattle.piece_pool.proofs.WorkerSteps.{times-append}
 use Rattle.piece_pool.specs.declared.worker.Worked.{Worked}
 use Rattle.piece_pool.proofs.SlotSteps.{Contains-nil, Contains-cons_head, Contains-cons_tail, Contains-cons_cases}
 
--- answers and faults behind others
+-- outputs and faults after others
 module _ {Out Fault : Type 0} (outs outs' : List (ℕ × Out)) (failed failed' : List (ℕ × Fault)) (i : ℕ) where
   pub Contains-done_old : Contains (done_of outs failed) i → Contains (done_of (outs ++ outs') (failed ++ failed')) i
   Contains-done_old h =
@@ -25,11 +25,11 @@ module _ {Out Fault : Type 0} (outs outs' : List (ℕ × Out)) (failed failed' :
   Contains-done_new h =
       rw map-append (rw map-append (⊎_elim (λ a. Contains-append_left _ _ i (Contains-append_right (numbers_of outs) _ i a)) (λ b. Contains-append_right (numbers_of outs ++ numbers_of outs') _ i (Contains-append_right (numbers_of failed) _ i b)) (Contains-append_cases (numbers_of outs') (numbers_of failed') i h)))
 
--- one more work that did not stop
+-- one more worker that did not stop
 pub unstopped-more : {Out Fault : Type 0} (w : Worked Out Fault) (ws : List (Worked Out Fault)) → w.stopped ≡ false → All (λ (v : Worked Out Fault). v.stopped ≡ false) ws → All (λ (v : Worked Out Fault). v.stopped ≡ false) (w ∷ ws)
 unstopped-more w ws h all = All-cons (λ v. v.stopped ≡ false) w ws h all
 
--- one more work
+-- one more worker
 pub IsCollected-more : {Out Fault : Type 0} (answers : ℕ → Out → Type 0) (faults : ℕ → Fault → Type 0) (board : BoardView) (ps : List PassView) (outs : List (ℕ × Out)) (failed : List (ℕ × Fault)) (w : Worked Out Fault) → IsCollected answers faults board ps outs failed → IsWorked answers faults board w → w.stopped ≡ false → IsCollected answers faults board (ps ++ w.pass ∷ []) (outs ++ w.outs.items) (failed ++ w.faults.items)
 IsCollected-more answers faults board ps outs failed w all one going = record {
   of_board = All-push (λ p. IsPassOf board p) ps w.pass all.of_board one.of_board;
@@ -40,23 +40,23 @@ IsCollected-more answers faults board ps outs failed w all one going = record {
   covers = All-push (λ p. CoversUpTo p.history.seen p.history.draws (done_of (outs ++ w.outs.items) (failed ++ w.faults.items))) ps w.pass (All-weaker (λ p. CoversUpTo p.history.seen p.history.draws (done_of outs failed)) (λ p. CoversUpTo p.history.seen p.history.draws (done_of (outs ++ w.outs.items) (failed ++ w.faults.items))) (λ p h i drawn low. Contains-done_old outs w.outs.items failed w.faults.items i (h i drawn low)) ps all.covers) (λ i drawn low. Contains-done_new outs w.outs.items failed w.faults.items i (one.covers going i drawn low));
 }
 
--- a number that some pass drew, and that each has seen no report below, is done
+-- a number is done if some pass drew it and no pass has seen a smaller report
 pub Contains-drawn : (ps : List PassView) (done : List ℕ) (least i : ℕ) → All (λ p. CoversUpTo p.history.seen p.history.draws done) ps → All (λ p. least ≤ p.history.seen) ps → i ≤ least → Contains (all_draws ps) i → Contains done i
 Contains-drawn [] done least i covers seen low h = absurd (Contains-nil i h)
 Contains-drawn (p ∷ ps) done least i covers seen low h =
     ⊎_elim (λ here. All-head (λ q. CoversUpTo q.history.seen q.history.draws done) p ps covers i here (omega (arith, low, All-head (λ q. least ≤ q.history.seen) p ps seen))) (λ there. Contains-drawn ps done least i (All-tail (λ q. CoversUpTo q.history.seen q.history.draws done) p ps covers) (All-tail (λ q. least ≤ q.history.seen) p ps seen) low there) (Contains-append_cases p.history.draws (all_draws ps) i h)
 
--- a list that is not empty, and of whose elements P holds, has one of which P holds
+-- in a list that is not empty and all of whose elements satisfy P, some element satisfies P
 pub Any-first : {X : Type 0} (P : X → Type 0) (xs : List X) → All P xs → 0 < length xs → Any P xs
 Any-first P [] h some = absurd (omega (arith, some))
 Any-first P (x ∷ xs) h some = (0, x, omega arith, refl, All-head P x xs h)
 
--- an element with what each reading at its place has
+-- an element has what is true of every value at its place
 pub answer-at : {X : Type 0} (xs : List X) (P : X → Type 0) (i : ℕ) → i < length xs → ((d : X) → P (get_or xs i d)) → (x : X) × P x
 answer-at [] P i low h = absurd (omega (arith, low))
 answer-at (x ∷ xs) P i low h = (get_or (x ∷ xs) i x, h x)
 
--- a pair with a number that stands among the numbers
+-- a pair whose number is among the numbers
 pub Contains-pair : {X : Type 0} (ps : List (ℕ × X)) (i : ℕ) → Contains (numbers_of ps) i → (x : X) × Contains ps (i, x)
 Contains-pair [] i h = absurd (Contains-nil i h)
 Contains-pair (p ∷ ps) i h =
@@ -72,7 +72,7 @@ times-cons_cases : (a b : ℕ) (us : List ℕ) → 0 < times a (b ∷ us) → (b
 times-cons_cases a b us k =
     ⊎_elim (λ e. inl e.1) (λ n. inr (omega (arith, k, times-append a (b ∷ []) us, times-other a b n.0))) (eqb_tells b a)
 
--- a number stands in a list exactly where it stands there some times
+-- a number is in a list exactly if it occurs there at least once
 pub Contains-times : (x : ℕ) (xs : List ℕ) → 0 < times x xs → Contains xs x
 Contains-times x [] h = absurd (omega (arith, h))
 Contains-times x (y ∷ ys) h =
@@ -91,7 +91,7 @@ pub times-all_reports : (x : ℕ) (ps : List PassView) → times x (all_reports 
 times-all_reports x [] = refl
 times-all_reports x (p ∷ ps) = omega (arith, times-append x p.history.reports (all_reports ps), times-all_reports x ps, sum_by-append (λ q. times x q.history.reports) (p ∷ []) ps)
 
--- what `close` tells, by lists
+-- the postcondition of `close`, in terms of lists
 pub IsSettled-closed : (board : BoardView) (ps : List PassView) (drawn skipped least : ℕ) → IsClosed board ps drawn skipped least → IsSettled board ps drawn least
 IsSettled-closed board ps drawn skipped least h = record {
   each_drawn = λ i low. Contains-times i (all_draws ps) (omega (arith, times-all_draws i ps, h.drawn_once i, low));
@@ -102,7 +102,7 @@ IsSettled-closed board ps drawn skipped least h = record {
   reported = λ low. Contains-times least (all_reports ps) (omega (arith, times-all_reports least ps, h.least_reported low));
 }
 
--- once the board is closed, each piece below the least report has an answer
+-- once the board is closed, each piece below the least report has an output
 module _ {Out Fault : Type 0} (answers : ℕ → Out → Type 0) (faults : ℕ → Fault → Type 0) (board : BoardView) (ps : List PassView) (outs : List (ℕ × Out)) (failed : List (ℕ × Fault)) (drawn least : ℕ) (all : IsCollected answers faults board ps outs failed) (closed : IsSettled board ps drawn least) (some : 0 < length ps) where
   pub drawn-all : drawn ≡ board.pieces
   drawn-all = closed.complete (Any-first (λ p. 0 < p.history.finished) ps all.finished some)

@@ -1,4 +1,4 @@
--- What one more draw, answer or fault does to the work so far.
+-- What one more draw, output or fault changes in the work so far.
 use Rattle.std.proofs.Common.{◌≡◌, ℕ, ◌+◌, ◌≤◌, List, [], ◌∷◌, ◌++◌, Contains, arith, ap, subst, ⊎_elim}
 use Rattle.std.proofs.lemmas.List.{map-append}
 use Rattle.std.proofs.lemmas.List.Sums.{sum_by-append}
@@ -12,12 +12,12 @@ times-append x xs ys = sum_by-append _ xs ys
 pub IsNoMoreThan-draw : (xs ys : List ℕ) (i : ℕ) → IsNoMoreThan xs ys → IsNoMoreThan xs (ys ++ i ∷ [])
 IsNoMoreThan-draw xs ys i h x = omega (arith, h x, times-append x ys (i ∷ []))
 
--- one more answer of the number drawn last
+-- one more output for the number drawn last
 pub IsNoMoreThan-answer : {Out Fault : Type 0} (outs : List (ℕ × Out)) (failed : List (ℕ × Fault)) (draws : List ℕ) (i : ℕ) (out : Out) → IsNoMoreThan (done_of outs failed) draws → IsNoMoreThan (done_of (outs ++ (i, out) ∷ []) failed) (draws ++ i ∷ [])
 IsNoMoreThan-answer outs failed draws i out h x =
     rw map-append (omega (arith, h x, times-append x draws (i ∷ []), times-append x (numbers_of outs) (numbers_of failed), times-append x (numbers_of outs ++ i ∷ []) (numbers_of failed), times-append x (numbers_of outs) (i ∷ [])))
 
--- one more fault of it
+-- one more fault for the number drawn last
 pub IsNoMoreThan-fault : {Out Fault : Type 0} (outs : List (ℕ × Out)) (failed : List (ℕ × Fault)) (draws : List ℕ) (i : ℕ) (fault : Fault) → IsNoMoreThan (done_of outs failed) draws → IsNoMoreThan (done_of outs (failed ++ (i, fault) ∷ [])) (draws ++ i ∷ [])
 IsNoMoreThan-fault outs failed draws i fault h x =
     rw map-append (omega (arith, h x, times-append x draws (i ∷ []), times-append x (numbers_of outs) (numbers_of failed), times-append x (numbers_of outs) (numbers_of failed ++ i ∷ []), times-append x (numbers_of failed) (i ∷ [])))

@@ -1,4 +1,4 @@
--- Private: words of the collector. No public clause cites them.
+-- Definitions of the collector. Only private clauses use them.
 use Rattle.std.specs.Prelude.{◌≡◌, ℕ, ◌<◌, ◌≤◌, List, All, Any, Contains}
 use Rattle.std.specs.List.{flat_map}
 use Rattle.piece_board.specs.Pass.{PassView}
@@ -11,7 +11,7 @@ all_draws ps = flat_map (λ p. p.history.draws) ps
 abbrev pub all_reports : List PassView → List ℕ
 all_reports ps = flat_map (λ p. p.history.reports) ps
 
--- The answers and faults of finished workers, with their passes: the faults are those reported, and
+-- The outputs and faults of finished workers, with their passes. The faults are those reported, and
 -- each draw at or below what its pass has seen is done.
 pub record IsCollected {Out Fault : Type 0} (answers : ℕ → Out → Type 0)
     (faults : ℕ → Fault → Type 0) (board : BoardView) (ps : List PassView)
@@ -23,7 +23,7 @@ pub record IsCollected {Out Fault : Type 0} (answers : ℕ → Out → Type 0)
   pub reported : numbers_of failed ≡ all_reports ps
   pub covers : All (λ p. CoversUpTo p.history.seen p.history.draws (done_of outs failed)) ps
 
--- What is told when all passes are back: which numbers were drawn, and the smallest report.
+-- What is known once all passes are returned: which numbers were drawn, and the least report.
 pub record IsSettled (board : BoardView) (ps : List PassView) (drawn least : ℕ) : Type 0 where
   pub each_drawn : (i : ℕ) → i < drawn → Contains (all_draws ps) i
   pub complete : Any (λ p. 0 < p.history.finished) ps → drawn ≡ board.pieces

@@ -1,9 +1,10 @@
--- What a run of a job over all its pieces comes to (own). It names no worker, no gate and no board.
+-- The result of a job over all its pieces (a choice of this project). It mentions no worker, no
+-- gate and no board.
 use Rattle.std.specs.Prelude.{◌≡◌, ℕ, ◌<◌, List, length, slice_index_or}
 use Rattle.piece_pool.specs.declared.collector.Outcome.{Outcome}
 use Rattle.piece_pool.specs.declared.collector.Outcome.TheVariants.{All as Every, First}
 
--- no piece below n faults, and each has its answer in its place
+-- no piece below n is faulty, and the output of each is at its index
 pub record AnswersEach {Out Fault : Type 0} (answers : ℕ → Out → Type 0)
     (faults : ℕ → Fault → Type 0) (n : ℕ) (outs : List Out) : Type 0 where
   pub count : length outs ≡ n
@@ -18,7 +19,7 @@ pub record IsFirstFault {Out Fault : Type 0} (answers : ℕ → Out → Type 0)
   pub answered : (i : ℕ) → i < piece → (out : Out) × answers i out
   pub least : (i : ℕ) (other : Fault) → i < piece → ¬ faults i other
 
--- the answers of all pieces below n, or the least faulty piece
+-- the outputs of all pieces below n, or the least faulty piece
 abbrev pub IsOutcome :
     {Out Fault : Type 0} → (ℕ → Out → Type 0) → (ℕ → Fault → Type 0) → ℕ
     → Outcome Out Fault → Type 0

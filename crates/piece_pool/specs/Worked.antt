@@ -1,4 +1,5 @@
--- What a worker hands back (own): its answers and faults are the job's, and stand for its draws.
+-- What a worker returns (a choice of this project): outputs and faults of the job, for the numbers
+-- that it drew.
 use Rattle.std.specs.Prelude.{◌≡◌, ℕ, ◌<◌, ◌≤◌, List, ◌++◌, map, All, Contains, false}
 use Rattle.piece_board.specs.Counts.{times}
 use Rattle.piece_board.specs.Board.{BoardView, IsPassOf}
@@ -7,21 +8,21 @@ use Rattle.piece_pool.specs.declared.worker.Worked.{Worked}
 abbrev pub numbers_of : {X : Type 0} → List (ℕ × X) → List ℕ
 numbers_of ps = map (λ p. p.0) ps
 
--- the numbers of answers and faults
+-- the numbers of outputs and faults
 abbrev pub done_of : {Out Fault : Type 0} → List (ℕ × Out) → List (ℕ × Fault) → List ℕ
 done_of outs faults = numbers_of outs ++ numbers_of faults
 
--- no number stands in xs more often than in ys
+-- no number occurs in xs more often than in ys
 abbrev pub IsNoMoreThan : List ℕ → List ℕ → Type 0
 IsNoMoreThan xs ys = (x : ℕ) → times x xs ≤ times x ys
 
--- each number of xs that is at most this one stands in ys
+-- each number of xs that is at most this one occurs in ys
 abbrev pub CoversUpTo : ℕ → List ℕ → List ℕ → Type 0
 CoversUpTo most xs ys = (i : ℕ) → Contains xs i → i ≤ most → Contains ys i
 
--- What was done of a job so far: each answer and each fault is one of the job's; their numbers are
--- draws, each in one of the two lists and there once (no draw stands twice); and the numbers of the
--- faults are the reports.
+-- The work on a job so far. Each output and each fault is one of the job's. Their numbers are
+-- draws; each draw is in at most one of the two lists, and at most once. The numbers of the faults
+-- are the reports.
 pub record IsWorkOf {Out Fault : Type 0} (answers : ℕ → Out → Type 0)
     (faults : ℕ → Fault → Type 0) (draws reports : List ℕ) (outs : List (ℕ × Out))
     (failed : List (ℕ × Fault)) : Type 0 where
@@ -30,8 +31,8 @@ pub record IsWorkOf {Out Fault : Type 0} (answers : ℕ → Out → Type 0)
   pub drawn : IsNoMoreThan (done_of outs failed) draws
   pub reported : numbers_of failed ≡ reports
 
--- What one worker hands back of a job on a board. Unless it stopped, its pass is finished, and each
--- draw at or below what the pass has seen is answered or faulty.
+-- What one worker returns for a job on a board. Unless it stopped, its pass is finished, and each
+-- draw at or below what the pass has seen has an output or a fault.
 pub record IsWorked {Out Fault : Type 0} (answers : ℕ → Out → Type 0)
     (faults : ℕ → Fault → Type 0) (board : BoardView) (w : Worked Out Fault) : Type 0 where
   pub of_board : IsPassOf board w.pass

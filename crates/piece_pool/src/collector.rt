@@ -1,4 +1,4 @@
-//! What the works of all workers come to.
+//! Combines what the workers return.
 ghost use Rattle.std.specs.Prelude.{◌≡◌, ℕ, ◌<◌, ◌≤◌, IfOk, OnOk, map, IsSome, IsSomeAnd, Some, None, All, Contains, false, vec_len, slice_index_or};
 ghost use Rattle.piece_pool.specs.Worked.{IsWorked, numbers_of};
 ghost use Rattle.piece_pool.specs.Outcome.{IsOutcome};
@@ -9,16 +9,16 @@ use crate::worker::Worked;
 use piece_board::{Board, Pass};
 use std::alloc::{AllocError, Global};
 
-/// What a run of a job over all its pieces comes to.
+/// The result of a job over all its pieces.
 #[derive(Drop)]
 pub enum Outcome<Out, Fault> {
-    /// No piece is faulty: the answer of piece `i` is in place `i`.
+    /// No piece is faulty. The output of piece `i` is at index `i`.
     All(Vec<Out>),
-    /// The least faulty piece, and its fault.
+    /// The faulty piece with the least number, and its fault.
     First { piece: u64, fault: Fault },
 }
 
-/// The parts of the works of all workers.
+/// What all workers return, by kind.
 #[derive(Drop)]
 struct Collected<Out, Fault> {
     passes: Vec<Pass>,
@@ -26,15 +26,15 @@ struct Collected<Out, Fault> {
     faults: Vec<(u64, Fault)>,
 }
 
-/// Closes the board, and puts the answers of its pieces in their places, or names the least faulty
-/// one. Which threads did the works does not matter.
+/// Closes the board. Orders the outputs of its pieces by their numbers, or finds the faulty piece
+/// with the least number. It does not matter which threads did the work.
 ///
 /// # Requires
-/// The works are of all passes of this board, and of this job.
+/// `works` has what [`work`](crate::work) returned for this job, once for each pass of this board.
 ///
 /// # Errors
-/// A growth was refused: now, or to a worker, which then stopped (one that stopped is always a refusal).
-/// Everything is dropped.
+/// `AllocError` if an allocation fails, or if a worker stopped, which happens only if an allocation
+/// failed. Everything is dropped.
 pub fn gather<J: Job>(
     alloc: Global,
     board: Board,
@@ -64,7 +64,7 @@ where
     Ok(Outcome::All(in_order(alloc, n, outs)?))
 }
 
-/// Takes the works apart, one list behind the other.
+/// Concatenates the passes, the outputs and the faults of the workers.
 fn collect<J: Job>(
     alloc: Global,
     board: &Board,
@@ -105,7 +105,7 @@ where
     })
 }
 
-/// The answers in the order of their numbers.
+/// Returns the outputs in the order of their numbers.
 fn in_order<Out: Drop>(alloc: Global, n: u64, outs: Vec<(u64, Out)>) -> Result<Vec<Out>, AllocError>
     requires all { (i : ℕ) → i < n → Contains (numbers_of outs.items) i }
     ensures count { IfOk result (λ v. vec_len v ≡ n) }
@@ -117,7 +117,7 @@ fn in_order<Out: Drop>(alloc: Global, n: u64, outs: Vec<(u64, Out)>) -> Result<V
     Ok(ordered)
 }
 
-/// Each answer in the place of its number.
+/// Puts each output at the index of its number.
 fn by_number<Out: Drop>(
     alloc: Global,
     n: u64,
@@ -141,7 +141,7 @@ fn by_number<Out: Drop>(
     Ok(slots)
 }
 
-/// The values of places that are all filled.
+/// Returns the values of slots that are all filled.
 fn unwrapped<Out: Drop>(alloc: Global, slots: Vec<Option<Out>>) -> Result<Vec<Out>, AllocError>
     requires full { (i : ℕ) → i < vec_len slots → IsSome (slice_index_or slots.items i None) }
     ensures values { IfOk result (λ v. map Some v.items ≡ slots.items) }
@@ -154,7 +154,7 @@ fn unwrapped<Out: Drop>(alloc: Global, slots: Vec<Option<Out>>) -> Result<Vec<Ou
     Ok(outs)
 }
 
-/// The fault of a piece that has one.
+/// Returns the fault of a piece that has one.
 fn fault_of<Fault: Drop>(faults: Vec<(u64, Fault)>, piece: u64) -> Fault
     requires there { Contains (numbers_of faults.items) piece }
     ensures fault { Contains faults.items (piece, result) }

@@ -1,13 +1,14 @@
-//! What a worker calls before and after each piece that it runs.
+//! Callbacks before and after each piece.
 ghost use Rattle.std.specs.Prelude.{◌≡◌, ◌+◌, ◌<◌, ◌^◌};
 
-/// A door that each piece passes: a worker calls `enter` before it runs piece `i`, and `leave`
-/// after. No contract speaks of a gate, so no gate changes an outcome.
+/// Callbacks of a worker: it calls `enter` before it runs piece `i`, and `leave` after. No contract
+/// mentions a gate, so no gate changes a result.
 pub trait Gate {
-    /// Called by the worker's thread before it runs piece `i`.
+    /// Called before a worker runs piece `i`, on the thread of the worker.
     fn enter(&self, i: u64);
 
-    /// Called by the same thread after it ran piece `i`, faulty or not.
+    /// Called on the same thread after the worker ran piece `i`, whether the piece is faulty or
+    /// not.
     fn leave(&self, i: u64);
 }
 
@@ -21,8 +22,8 @@ impl Gate for OpenGate {
     fn leave(&self, _i: u64) {}
 }
 
-/// A gate for a job that runs a part of the pieces of a document: it calls another gate with the number
-/// of each piece in the document.
+/// A gate for a job that runs some of the pieces of a document. It calls another gate with the
+/// number of each piece in the document.
 ///
 /// A job numbers its pieces from 0. Piece `i` of the job is piece `first + i` of the document.
 #[derive(Drop)]

@@ -1,15 +1,15 @@
-//! Work that is cut into numbered pieces.
+//! Work that is split into numbered pieces.
 ghost use Rattle.std.specs.Prelude.{ℕ, IfOk, IfErr};
 ghost use Rattle.piece_pool.specs.Job.{IfOwn};
 
 use std::alloc::{AllocError, Global};
 
-/// Why a job has no answer for a piece.
+/// Why a job has no output for a piece.
 #[derive(Drop)]
 pub enum JobFault<F> {
-    /// The piece is faulty, in the job's own words.
+    /// The piece is faulty. The value is the job's own description of the fault.
     Own(F),
-    /// Out of memory. Nothing is known of the piece.
+    /// Out of memory. The piece may be faulty or not.
     Memory,
 }
 
@@ -24,31 +24,31 @@ impl<F> From<AllocError> for JobFault<F> {
     }
 }
 
-/// Work by pieces. It tells by two definitions what an answer is and what a fault is of piece `i`;
-/// `run` answers by them for every number.
+/// Work in numbered pieces. Two definitions say what the output and the fault of piece `i` are, and
+/// `run` is proved to return them.
 pub trait Job {
-    /// What a piece that is not faulty gives.
+    /// The output of a piece that is not faulty.
     type Out;
 
-    /// What is wrong with a faulty piece.
+    /// The fault of a faulty piece.
     type Fault;
 
-    /// Piece `i` answers with `out`.
+    /// `out` is the output of piece `i`.
     ghost answers: { Self → ℕ → Self.Out → Type 0 };
 
-    /// Piece `i` faults with `fault`.
+    /// `fault` is the fault of piece `i`.
     ghost faults: { Self → ℕ → Self.Fault → Type 0 };
 
-    /// Runs piece `i`.
+    /// Runs piece `i` and returns its output.
     ///
     /// # Errors
-    /// - `Own`: the piece faults so.
-    /// - `Memory`: a growth was refused.
+    /// - `Own` with the fault, if the piece is faulty.
+    /// - `Memory` if an allocation fails.
     fn run(&self, alloc: Global, i: u64) -> Result<Self::Out, JobFault<Self::Fault>>
         ensures answers { IfOk result (λ out. answers self.now i out) }
         ensures faults { IfErr result (IfOwn (λ fault. faults self.now i fault)) };
 
-    /// No piece both answers and faults.
+    /// Proves that no piece has both an output and a fault.
     ghost exclusive: { (job : Self) (i : ℕ) (out : Self.Out) (fault : Self.Fault)
         → answers job i out → faults job i fault → ⊥ };
 }

@@ -1,26 +1,28 @@
-//! Work cut into numbered pieces, run by worker threads: pieces go in, and out comes every piece's
-//! own answer in its place, or the least faulty piece.
+//! Runs numbered pieces of work on worker threads. The result is the output of every piece in
+//! order, or the first faulty piece.
 //!
-//! Other crates call [`run_all`]. It runs a [`Job`] over the pieces `0` to `n - 1`, and its outcome
-//! ([`Outcome`], specs/Outcome.antt) depends on the job and `n` alone. No clause names a worker or a gate,
-//! so every number of workers gives the same outcome. With one worker, or with at most one piece, the
-//! caller's thread runs the pieces, so `WorkerRefused` cannot occur.
+//! Other crates call [`run_all`]. It runs a [`Job`] over the pieces `0` to `n - 1`. The result
+//! ([`Outcome`], defined in specs/Outcome.antt) depends only on the job and `n`. No clause mentions
+//! a worker or a gate, so every number of workers gives the same result. With one worker, or with
+//! at most one piece, the caller's thread runs the pieces, so `WorkerRefused` cannot occur.
 //!
-//! [`run_pieces`] does the same but always starts a thread for each worker. Its halves are [`work`], which
-//! one worker does with a pass of a claim board (`piece_board`) and which waits for nobody, and
-//! [`gather`], which puts the works of all workers together.
+//! [`run_pieces`] does the same but always starts a thread for each worker. It consists of two
+//! functions. Each worker calls [`work`] with a pass of a claim board (crate piece_board) and never
+//! waits. [`gather`] combines what all workers return.
 //!
-//! To read in this order: `job` (what is run), `gate` (what is called before and after each piece),
-//! `worker` (one worker's loop), `collector` (answers by number), `pool` (starting and joining the
-//! workers), `running` (in parallel, or on the caller's thread).
+//! Everything here is a choice of this project (not fixed by a standard).
+//!
+//! Reading order: `job` (the work), `gate` (callbacks before and after each piece), `worker` (the
+//! loop of one worker), `collector` (outputs by number), `pool` (starting and joining the workers),
+//! `running` (in parallel, or on the caller's thread). Tests: the crate worker_tests.
 //!
 //! ```text
 //! let outcome = run_all(&rt, alloc, 4, 1000, &job, &OpenGate)?;
 //! ```
-//! The test `an_offset_gate_numbers_the_pieces_of_a_document` of worker_tests runs such a call.
+//! The test `an_offset_gate_numbers_the_pieces_of_a_document` of worker_tests makes a similar call.
 //!
-//! Not promised: that a second thread ran, that any piece is skipped, which worker ran what, that
-//! `run_pieces` returns (it joins its workers).
+//! Not guaranteed: that a second thread runs, that any piece is skipped, which worker runs which
+//! piece, and that `run_pieces` returns (it joins its workers).
 #![tactic(auto)]
 
 mod collector;
@@ -37,7 +39,7 @@ pub use pool::{PoolFault, run_pieces};
 pub use running::run_all;
 pub use worker::{Worked, work};
 
-/// Places at which a document in memory is cut into pieces.
+/// The places at which a document in memory is split into pieces.
 pub use piece_cuts::Cuts;
 
 /// The pieces of a document that is read block by block.

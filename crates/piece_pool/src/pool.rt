@@ -18,16 +18,16 @@ use std::sync::Wait;
 use std::thread;
 use std::thread::{Promise, Scope, Threads};
 
-/// The bytes of a worker's stack: room for a job that recurses over a long query. Only the pages that
-/// are touched take memory.
+/// The size of a worker's stack in bytes. It has room for a job that recurses over a long query.
+/// Only the pages that are used take memory.
 const WORKER_STACK: usize = 64 * 1024 * 1024;
 
-/// Why a pool has no outcome.
+/// Why a pool has no result.
 #[derive(Clone, Copy, Debug, PartialEq, Eq)]
 pub enum PoolFault {
-    /// The start of a worker was refused. Those that were started have been joined.
+    /// A worker thread could not be started. All started threads have been joined.
     WorkerRefused,
-    /// A growth was refused, to the pool, to a worker or to the job.
+    /// Out of memory: an allocation of the pool, of a worker or of the job failed.
     Memory,
 }
 
@@ -55,7 +55,7 @@ impl From<BoardFault> for PoolFault {
     }
 }
 
-/// That a worker works on this job with a pass of this board.
+/// The claim that a worker runs this job with a pass of this board.
 #[derive(Drop)]
 struct WorkOn<J> {
     job: Snapshot<J>,
@@ -67,20 +67,22 @@ impl<J: Job> Promise<Worked<J::Out, J::Fault>> for WorkOn<J> {
         p.board.value w };
 }
 
-/// Runs the pieces 0 to `n - 1` of a job on threads, the smaller of `workers` and `n` of them, and
-/// answers what they come to. Every number of workers and every gate gives the same outcome.
+/// Runs the pieces 0 to `n - 1` of a job on threads, and returns their result. The number of
+/// threads is the smaller of `workers` and `n`. Every number of workers and every gate gives the
+/// same result.
 ///
-/// With no piece no thread is started and no gate called. It waits for the workers that it started.
+/// If `n` is 0, no thread is started and no gate is called. The call waits for the threads that it
+/// starts.
 ///
 /// # Requires
 /// `workers` is 1 to 64, and `n` is at most 2^62.
 ///
 /// # Errors
-/// - `WorkerRefused`: the start of a worker was refused. It stands before `Memory`, and never comes where
-///   there is no piece.
-/// - `Memory`: a growth was refused.
+/// - `WorkerRefused` if a worker thread could not be started. It takes precedence over `Memory`,
+///   and cannot occur if `n` is 0.
+/// - `Memory` if an allocation fails.
 ///
-/// Every worker that was started has been joined, and all answers are dropped.
+/// On error, all started threads have been joined, and all outputs are dropped.
 pub fn run_pieces<R: Threads + Wait, J: Job + Sync, G: Gate + Sync>(
     rt: &R,
     alloc: Global,
@@ -106,7 +108,7 @@ where
     Ok(gather(alloc, board, works, job)?)
 }
 
-/// The works of all passes, by a thread for each.
+/// Runs one thread for each pass, and returns what the workers return.
 fn run_workers<R: Threads + Wait, J: Job + Sync, G: Gate + Sync>(
     rt: &R,
     alloc: Global,
@@ -135,8 +137,7 @@ where
     )
 }
 
-/// Starts a worker for each pass, up to the first that is refused, and joins those that were
-/// started.
+/// Starts a worker for each pass, until one cannot be started. Joins all that were started.
 fn start_and_join<'s, E, R: Threads, J: Job + Sync, G: Gate + Sync>(
     rt: &R,
     scope: &Scope<'s, E>,

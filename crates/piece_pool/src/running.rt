@@ -1,4 +1,4 @@
-//! The pieces of a job by workers, or by the caller where there is nothing to share.
+//! Runs the pieces of a job in parallel, or on the caller's thread if there is nothing to share.
 ghost use Rattle.std.specs.Prelude.{◌≡◌, ◌≤◌, ◌^◌, All, IfErr, IfOk, vec_len};
 ghost use Rattle.piece_board.specs.Pass.{unused};
 ghost use Rattle.piece_pool.specs.Outcome.{IsOutcome};
@@ -15,16 +15,19 @@ use std::alloc::{AllocError, Global};
 use std::sync::Wait;
 use std::thread::Threads;
 
-/// What the pieces 0 to `n - 1` of a job come to, as [`run_pieces`] answers it; but where there is one
-/// worker, or one piece at the most, the caller's own thread runs them and none is started.
+/// Runs the pieces 0 to `n - 1` of a job, and returns their result, which is that of
+/// [`run_pieces`]. With one worker, or if `n` is at most 1, the caller's thread runs the pieces and
+/// no thread is started.
 ///
 /// # Requires
 /// `workers` is 1 to 64, and `n` is at most 2^62.
 ///
 /// # Errors
-/// - `WorkerRefused`: the start of a worker was refused. It stands before `Memory`, and never comes of
-///   one worker, nor of one piece at the most.
-/// - `Memory`: a growth was refused.
+/// - `WorkerRefused` if a worker thread could not be started. It takes precedence over `Memory`. It
+///   cannot occur with one worker, or if `n` is at most 1.
+/// - `Memory` if an allocation fails.
+///
+/// On error, all started threads have been joined, and all outputs are dropped.
 pub fn run_all<R: Threads + Wait, J: Job + Sync, G: Gate + Sync>(
     rt: &R,
     alloc: Global,
@@ -48,14 +51,14 @@ where
     run_pieces(rt, alloc, workers, n, job, gate)
 }
 
-/// What the pieces 0 to `n - 1` of a job come to, run by the caller's own thread: the outcome of
-/// [`run_pieces`]. It starts no thread and waits for nobody.
+/// Runs the pieces 0 to `n - 1` of a job on the caller's own thread. The result is that of
+/// [`run_pieces`]. It starts no thread and never waits.
 ///
 /// # Requires
 /// `n` is at most 2^62.
 ///
 /// # Errors
-/// A growth was refused, to the pool or to the job. All answers are dropped.
+/// `AllocError` if an allocation of the pool or of the job fails. All outputs are dropped.
 pub(crate) fn run_alone<J: Job, G: Gate>(
     alloc: Global,
     n: u64,
@@ -75,7 +78,7 @@ where
     gather(alloc, board, works, job)
 }
 
-/// Works with each pass on the caller's own thread.
+/// Calls `work` with each pass on the caller's own thread.
 fn work_in_turn<J: Job, G: Gate>(
     alloc: Global,
     board: &Board,

@@ -9,20 +9,20 @@ use crate::job::{Job, JobFault};
 use piece_board::{Board, Pass};
 use std::alloc::Global;
 
-/// What one worker hands back.
+/// What one worker returns.
 #[derive(Drop)]
 pub struct Worked<Out, Fault> {
-    /// The pass that it worked with.
+    /// The pass that it used.
     pub pass: Pass,
-    /// Answers, each with the number of its piece.
+    /// The outputs, each with the number of its piece.
     pub outs: Vec<(u64, Out)>,
-    /// Faults, each with the number of its piece.
+    /// The faults, each with the number of its piece.
     pub faults: Vec<(u64, Fault)>,
-    /// Whether it stopped because a growth was refused, to it or to the job.
+    /// Whether it stopped because an allocation of the worker or of the job failed.
     pub stopped: bool,
 }
 
-/// How a worker goes on after a draw.
+/// What a worker does after a draw.
 #[derive(Clone, Copy)]
 enum Step {
     Finished,
@@ -30,11 +30,12 @@ enum Step {
     Stopped,
 }
 
-/// Draws pieces of the board with this pass and runs them, until there are none.
+/// Draws pieces of the board with this pass and runs them, until no piece is left.
 ///
-/// After each draw it looks once at the board. A piece above a known fault is skipped; any other is
-/// run, between `enter` and `leave` of the gate, and reported where it is faulty. Want of memory,
-/// its own or the job's, stops it. It waits for nobody, and returns: no pass draws a number twice.
+/// After each draw it reads the least reported number of the board once. A piece above that number
+/// is skipped. Any other piece is run, between `enter` and `leave` of the gate, and reported if it
+/// is faulty. The worker stops if an allocation fails, its own or the job's. It never waits, and it
+/// returns, since no pass draws a number twice.
 ///
 /// # Requires
 /// The pass is of this board, and unused.
