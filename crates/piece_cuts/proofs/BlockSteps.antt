@@ -1,4 +1,4 @@
--- What one more read does to the bytes that are kept, and the first piece of them.
+-- What one more read changes in the buffered bytes, and their first piece.
 use Rattle.std.proofs.Common.{◌≡◌, ◌≢◌, ℕ, ◌+◌, ◌-◌, ◌<◌, ◌≤◌, List, [], ◌∷◌, ◌++◌, length, get_or, take, drop, Option, Some, None, rules, max, arith, refl, ap, ◌∙◌, sym, subst, append_assoc, length-append, inl, inr, ◌⊎◌, Vec, Global}
 use Rattle.std.proofs.lemmas.List.{append-nil, take-append-drop, get_or_append_left, length-take, take_more}
 use Rattle.nquads_core.specs.Transfer.{ReadsMore}
@@ -20,11 +20,11 @@ nil_from_length : (xs : List ℕ) → length xs ≡ 0 → xs ≡ []
 nil_from_length [] h = refl
 nil_from_length (x ∷ xs) h = absurd (omega (arith, h))
 
--- a read that gives nothing leaves the bytes
+-- a read of no bytes leaves the bytes unchanged
 pub same_from_none : (a b : Option (List ℕ)) (xs ys : List ℕ) (n : ℕ) → n ≡ 0 → ReadsMore a b xs ys n → ys ≡ xs
 same_from_none a b xs ys n e h = h.appended ∙ ap (λ us. xs ++ us) (nil_from_length h.added (h.count ∙ e)) ∙ append-nil xs
 
--- a cut of the front is one of the whole
+-- a cut of the front is a cut of the whole
 pub IsNextCut-append : (xs ys : List ℕ) (size place : ℕ) → 1 ≤ size → IsNextCut xs size 0 place → IsNextCut (xs ++ ys) size 0 place
 IsNextCut-append xs ys size place some h = record {
   cut = record { inside = (h.cut.inside.0, omega (arith, h.cut.inside.1, length-append xs ys)); behind = get_or_append_left xs ys 0 (place - 1) (omega (arith, h.cut.inside.0, h.cut.inside.1)) ∙ h.cut.behind };
@@ -32,7 +32,7 @@ IsNextCut-append xs ys size place some h = record {
   least = λ q far below is. h.least q far below (sym (get_or_append_left xs ys 0 (q - 1) (omega (arith, far, some, below, h.cut.inside.1))) ∙ is);
 }
 
--- the first piece, where a cut is among the bytes that are kept
+-- the first piece, if a cut is among the buffered bytes
 pub IsFirstPiece-cut : (xs ys : List ℕ) (size place : ℕ) → 1 ≤ size → IsNextCut xs size 0 place → IsFirstPiece size (xs ++ ys) (take place xs) (drop place xs ++ ys)
 IsFirstPiece-cut xs ys size place some h = record {
   joined = sym (sym (append_assoc (take place xs) (drop place xs) ys) ∙ ap (λ us. us ++ ys) (take-append-drop place xs));
@@ -42,11 +42,11 @@ IsFirstPiece-cut xs ys size place some h = record {
     length-take-below : (us : List ℕ) (n : ℕ) → n ≤ length us → length (take n us) ≡ n
     length-take-below us n le = simp length-take (omega arith)
 
--- the first piece, where there is none and the reader is at its end
+-- the first piece, if there is no cut and the reader is at its end
 pub IsFirstPiece-last : (xs : List ℕ) (size : ℕ) → HasNoNextCut xs size 0 → IsFirstPiece size (xs ++ []) xs []
 IsFirstPiece-last xs size h = record { joined = refl; cut = inr (rw append-nil h, refl) }
 
--- the text, by what is kept after some reads
+-- the text, from what is buffered after some reads
 text-is : (kept mid added xs ys : List ℕ) → mid ≡ kept ++ added → xs ≡ added ++ ys → kept ++ xs ≡ mid ++ ys
 text-is kept mid added xs ys m c = ap (λ us. kept ++ us) c ∙ sym (append_assoc kept added ys) ∙ ap (λ us. us ++ ys) (sym m)
 
@@ -57,7 +57,7 @@ BothKnown-cut (Some xs) (Some ys) kept mid size place some grows h =
     let text = text-is kept mid grows.added xs ys grows.appended grows.consumed in
     (rw text (omega (arith, length-append mid ys, h.cut.inside.1)), rw text (IsFirstPiece-cut mid ys size place some h))
 
--- the same, by equal sizes and bytes
+-- the same, from equal sizes and bytes
 pub BothKnown-block : (left left' : Option (List ℕ)) (size size' : ℕ) (kept kept' front tail tail' : List ℕ) (b : Vec ℕ Global) → size ≡ size' → kept ≡ kept' → b.items ≡ front → tail' ≡ tail → BothKnown left left' (λ xs ys. (0 < length (kept ++ xs)) × IsFirstPiece size (kept ++ xs) front (tail ++ ys)) → BothKnown left left' (λ xs ys. GivesBlock size' (kept' ++ xs) (tail' ++ ys) (Some b))
 BothKnown-block None left' size size' kept kept' front tail tail' b s k f t h = tt
 BothKnown-block (Some xs) None size size' kept kept' front tail tail' b s k f t h = absurd h
@@ -67,7 +67,8 @@ BothKnown-block (Some xs) (Some ys) size size' kept kept' front tail tail' b s k
 pub IsClear-start : (bytes : List ℕ) (size : ℕ) → IsClear bytes size size
 IsClear-start bytes size q from below = absurd (omega arith)
 
--- where there is no cut from there on, all that is there is clear, and so it stays as bytes are added
+-- if there is no cut after this place, all bytes are clear, and they stay clear if bytes are
+-- appended
 pub IsClear-more : (bytes more all : List ℕ) (size searched : ℕ) → 1 ≤ size → IsClear bytes size searched
     → HasNoNextCut bytes searched 0 → all ≡ bytes ++ more → IsClear all size (max searched (length bytes))
 IsClear-more bytes more all size searched some clear none e q from below =
@@ -83,7 +84,7 @@ IsClear-more bytes more all size searched some clear none e q from below =
     by (inl low) = clear q from low
     by (inr high) = (omega arith, none q (omega arith) (omega arith))
 
--- a cut found from there on is the first
+-- a cut found after this place is the first one
 pub IsNextCut-clear : (bytes : List ℕ) (size searched place : ℕ) → size ≤ searched → IsClear bytes size searched
     → IsNextCut bytes searched 0 place → IsNextCut bytes size 0 place
 IsNextCut-clear bytes size searched place l clear h = record {
@@ -99,7 +100,7 @@ IsNextCut-clear bytes size searched place l clear h = record {
     by q far below (inl low) = (clear q (omega (arith, far)) low).1
     by q far below (inr high) = h.least q (omega (arith, high)) below
 
--- and where there is none, there is none at all
+-- and if there is none, there is none at all
 pub HasNoNextCut-clear : (bytes : List ℕ) (size searched : ℕ) → IsClear bytes size searched
     → HasNoNextCut bytes searched 0 → HasNoNextCut bytes size 0
 HasNoNextCut-clear bytes size searched clear none q far below = by (which q searched)

@@ -37,12 +37,12 @@ module _ (doc : List ℕ) (from start size : ℕ) (starts : from + 1 ≡ start +
     least = λ q far before is. first.before (q - 1 - from) (omega arith) (omega arith) (Passes-before q far is);
   }
 
--- every next cut from a start on is a cut, and they rise
+-- every next cut from a start on is a cut, and the cuts increase
 pub AreCuts-every : (doc : List ℕ) (size start : ℕ) (places : List ℕ) → 1 ≤ size → AreEveryFrom doc size start places → AreCutsFrom doc start places
 AreCuts-every doc size start [] some every = tt
 AreCuts-every doc size start (p ∷ ps) some every = (omega (arith, some, every.0.far), every.0.cut, AreCuts-every doc size p ps some every.1)
 
--- the ends of a piece lie in order and inside the document
+-- the ends of a piece are in order and inside the document
 pub ends-in_order : (doc : List ℕ) (low : ℕ) (places : List ℕ) (i : ℕ) → AreCutsFrom doc low places → low ≤ length doc → i < length places + 1 → get_or (low ∷ places) i 0 ≤ get_or (places ++ length doc ∷ []) i 0
 ends-in_order doc low [] zero cuts inside lt = inside
 ends-in_order doc low [] (suc i) cuts inside lt = absurd (omega (arith, lt))

@@ -1,4 +1,4 @@
--- The blocks of a document that is read bit by bit (our own).
+-- The blocks of a document that is read in parts (a choice of this project).
 use Rattle.std.specs.Prelude.{◌≡◌, ◌≢◌, ℕ, ◌<◌, ◌≤◌, ◌-◌, slice_index, List, [], ◌∷◌, ◌++◌, length, ⊤, ◌⊎◌, Option, Some, None, Result, Ok, Err, IfOk, Vec}
 use Rattle.std.specs.Global.{Global}
 use Rattle.std.specs.Io.KnownBytes.{Consumes}
@@ -12,23 +12,23 @@ pub record BlocksView : Type 0 where
   pub kept : List ℕ
   pub state : BlockState
 
--- the front of a text up to its first cut, or the whole where it has none
+-- the front of a text up to its first cut, or the whole text if it has none
 pub record IsFirstPiece (size : ℕ) (text piece rest : List ℕ) : Type 0 where
   pub joined : text ≡ piece ++ rest
   pub cut : IsNextCut text size 0 (length piece) ⊎ (HasNoNextCut text size 0 × (rest ≡ []))
 
--- None where the text is empty, and otherwise its first piece
+-- None if the text is empty, and its first piece otherwise
 abbrev pub GivesBlock : ℕ → List ℕ → List ℕ → Option (Vec ℕ Global) → Type 0
 GivesBlock size text rest None = text ≡ []
 GivesBlock size text rest (Some b) = (0 < length text) × IsFirstPiece size text b.items rest
 
--- P of the bytes left before and after, where they are known
+-- P of the bytes left before and after, if they are known
 abbrev pub BothKnown : Option (List ℕ) → Option (List ℕ) → (List ℕ → List ℕ → Type 0) → Type 0
 BothKnown None left' P = ⊤
 BothKnown (Some xs) None P = ⊥
 BothKnown (Some xs) (Some ys) P = P xs ys
 
--- the text is the bytes that are kept and what the reader has left
+-- the text is the buffered bytes followed by what the reader has left
 abbrev pub GivesKnownBlock : ℕ → List ℕ → Option (List ℕ) → List ℕ → Option (List ℕ) → Result (Option (Vec ℕ Global)) ReadFault → Type 0
 GivesKnownBlock size kept left kept' left' r = IfOk r (λ b. BothKnown left left' (λ xs ys. GivesBlock size (kept ++ xs) (kept' ++ ys) b))
 
@@ -37,21 +37,21 @@ abbrev pub IsWhole : Option (Vec ℕ Global) → Type 0
 IsWhole None = ⊥
 IsWhole (Some b) = (front : List ℕ) × (b.items ≡ front ++ 10 ∷ [])
 
--- what is answered from then on
+-- what later calls return
 abbrev pub state_after : {X : Type 0} → Result (Option X) ReadFault → BlockState
 state_after (Ok None) = Ended
 state_after (Ok (Some b)) = Reading
 state_after (Err f) = Failed f
 
--- Words that only private clauses cite.
+-- Definitions that only private clauses use.
 
--- what was added to the bytes is what was taken from the reader
+-- the bytes that were appended are those that were taken from the reader
 pub record Grows (left left' : Option (List ℕ)) (old new : List ℕ) : Type 0 where
   pub added : List ℕ
   pub appended : new ≡ old ++ added
   pub consumed : Consumes left left' added
 
--- no cut lies from the size on and before this place, and all of that is there
+-- all bytes before this place are there, and no cut is from the size on and before this place
 abbrev pub IsClear : List ℕ → ℕ → ℕ → Type 0
 IsClear bytes size searched =
     (q : ℕ) → size ≤ q → q < searched → (q ≤ length bytes) × (slice_index bytes (q - 1) ≢ 10)

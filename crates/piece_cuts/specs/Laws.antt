@@ -1,4 +1,4 @@
--- What the laws of this crate say.
+-- The statements of the laws of this crate.
 use Rattle.std.specs.Prelude.{◌≡◌, ℕ, ◌+◌, ◌<◌, ◌≤◌, List, [], ◌∷◌, ◌++◌, length, slice_range, slice_get, flat_map, Some, ◌⊎◌}
 use Rattle.piece_cuts.specs.Cuts.{AreCuts, AreEveryFrom, piece_at}
 use Rattle.piece_cuts.specs.Blocks.{IsFirstPiece}
@@ -8,15 +8,15 @@ abbrev pub pieces_from : List ℕ → ℕ → List ℕ → List (List ℕ)
 pieces_from doc start [] = slice_range doc start (length doc) ∷ []
 pieces_from doc start (p ∷ ps) = slice_range doc start p ∷ pieces_from doc p ps
 
--- all the pieces of a document that is cut at these places
+-- all the pieces of a document that is split at these places
 abbrev pub pieces_of : List ℕ → List ℕ → List (List ℕ)
 pieces_of doc places = pieces_from doc 0 places
 
 abbrev pub EndsWithLineFeed : List ℕ → Type 0
 EndsWithLineFeed piece = (front : List ℕ) × (piece ≡ front ++ 10 ∷ [])
 
--- The pieces by number are all the pieces; joined they are the document; and each but the last ends
--- with a line feed.
+-- The pieces by number are all the pieces. Concatenated, they are the document, and each piece but
+-- the last ends with a line feed.
 pub record ArePiecesOf (doc places : List ℕ) : Type 0 where
   pub each : (i : ℕ) → i < length places + 1
       → slice_get (pieces_of doc places) i ≡ Some (piece_at doc places i)
@@ -26,8 +26,8 @@ pub record ArePiecesOf (doc places : List ℕ) : Type 0 where
 abbrev pub PiecesAreTheDocument : Type 0
 PiecesAreTheDocument = (doc places : List ℕ) → AreCuts doc places → ArePiecesOf doc places
 
--- The pieces of a text that is not empty are its first piece, and then the pieces of the rest where
--- that is not empty.
+-- The pieces of a nonempty text are its first piece, followed by the pieces of the rest, unless the
+-- rest is empty.
 abbrev pub FirstPieceThenTheRest : Type 0
 FirstPieceThenTheRest =
     (size : ℕ) (text piece rest places : List ℕ) → 1 ≤ size → 0 < length text

@@ -1,4 +1,4 @@
-//! A document that is read bit by bit, in blocks.
+//! A document that is read in blocks.
 ghost use Rattle.std.specs.Prelude.{◌≡◌, ◌≢◌, ◌≤◌, ◌⊎◌, [], IfOk, MatchOption, OnErr};
 ghost use Rattle.std.specs.Io.KnownBytes.{IsAtEnd};
 ghost use Rattle.nquads_core.specs.Transfer.{CountsRead, IsReadInPart};
@@ -11,7 +11,8 @@ use std::alloc::{AllocError, Global};
 use std::marker::Model;
 use std::mem;
 
-/// What blocks answer from now on. No call returns it: a contract sees it as the field `state` of [`Blocks`].
+/// What the next call of [`Blocks::next`] returns. No call returns this type; in contracts it is
+/// the field `state` of [`Blocks`].
 #[derive(Clone, Copy)]
 pub enum BlockState {
     /// The next block.
@@ -22,9 +23,11 @@ pub enum BlockState {
     Failed(ReadFault),
 }
 
-/// The pieces of a document that is read bit by bit, each in a block of its own: those of
-/// `Cuts::every` of the document, one after the other. A contract sees the size, the bytes that were
-/// read and not yet given, and what is answered from now on.
+/// A document that is read piece by piece. Each block is one piece; the pieces are those of
+/// `Cuts::every` of the document, in order.
+///
+/// In contracts this type is the size, the bytes that were read and not yet returned, and what the
+/// next call returns.
 #[derive(Drop)]
 pub struct Blocks {
     alloc: Global,
@@ -47,13 +50,14 @@ impl Model for Blocks {
 impl Blocks {
     ghost use Rattle.piece_cuts.specs.Blocks.{GivesKnownBlock, IsWhole, state_after};
 
-    /// Blocks of at least so many bytes, the last one aside. Nothing has been read yet.
+    /// Creates the blocks of a document, without reading anything. Each block has at least `size`
+    /// bytes, except the last one.
     ///
     /// # Requires
     /// `size` is 1 or more.
     ///
     /// # Errors
-    /// `AllocError`: a growth was refused.
+    /// `AllocError` if an allocation fails.
     pub fn new(alloc: Global, size: usize) -> Result<Blocks, AllocError>
         requires some { 1 ≤ size }
         ensures fresh { IfOk result
@@ -67,16 +71,17 @@ impl Blocks {
         })
     }
 
-    /// The next block of the document: the first piece of the bytes kept and those that the reader
-    /// still has. None where there are no more bytes; each later call then answers None. A block that
-    /// does not end with a line feed, and None, come only at the reader's end.
+    /// Returns the next block of the document. It is the first piece of the bytes that are buffered
+    /// and those that the reader still has. Returns None if no bytes are left; each later call then
+    /// returns None. A block without a line feed at its end is returned only if the reader has
+    /// ended, and so is None.
     ///
     /// # Errors
-    /// - `Read`: the reader failed in this call, or in the one that first answered so.
-    /// - `Memory`: a growth was refused, in this call or in the one that first answered so.
+    /// - `Read` if the reader failed, in this call or in an earlier one.
+    /// - `Memory` if an allocation fails, in this call or in an earlier one.
     ///
-    /// Each later call answers the same fault, and reads nothing. Bytes that were read and not given
-    /// are lost.
+    /// Each later call returns the same fault and reads nothing. Bytes that were read and not
+    /// returned are lost.
     pub fn next<S: Source>(&mut self, reader: &mut S) -> Result<Option<Vec<u8>>, ReadFault>
         ensures size { self.new.size ≡ self.old.size }
         ensures block { self.old.state ≡ BlockState.Reading → GivesKnownBlock self.old.size
@@ -125,8 +130,8 @@ impl Blocks {
     }
 }
 
-/// Reads on until there is a first cut, or to the end. What was searched once is not searched again,
-/// but for the last byte of each read, so a long line costs time in proportion to its length.
+/// Reads until the buffer has a first cut, or to the end of the reader. Bytes are searched once,
+/// except the last byte of each read. The time for a long line is thus proportional to its length.
 fn first_cut<S: Source>(
     reader: &mut S,
     kept: &mut Vec<u8>,

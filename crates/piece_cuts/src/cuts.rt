@@ -1,4 +1,4 @@
-//! Places at which a document in memory is cut.
+//! Places at which a document in memory is split.
 ghost use Rattle.std.specs.Prelude.{◌≡◌, ◌↔◌, ◌+◌, ◌<◌, ◌≤◌, IfOk, IsSome, IfSome, IsTrue, length};
 ghost use Rattle.piece_cuts.specs.Cuts.{AreCuts, AreEveryFrom, piece_at};
 
@@ -6,7 +6,8 @@ use crate::places::{are_cuts, bounds, next_cut};
 use std::alloc::{AllocError, Global};
 use std::marker::Model;
 
-/// Places at which a document is cut into pieces. A contract sees the list of the places.
+/// Places at which a document is split into pieces. In contracts this type is the list of the
+/// places.
 #[derive(Drop)]
 pub struct Cuts {
     places: Vec<usize>,
@@ -21,15 +22,15 @@ impl Model for Cuts {
 }
 
 impl Cuts {
-    /// Cuts just behind each line feed that makes a piece of at least `size` bytes. A line feed that
-    /// ends the document is no cut, so no piece is empty but the one of an empty document. These are
-    /// cuts of this document, as `fits` says: no caller needs to test them.
+    /// Splits a document after each line feed that makes a piece of at least `size` bytes. A line
+    /// feed at the end of the document is no cut. Only the piece of an empty document is thus
+    /// empty. The result are cuts of this document (`fits`), so callers need not check them.
     ///
     /// # Requires
     /// `size` is 1 or more.
     ///
     /// # Errors
-    /// `AllocError`: a growth was refused.
+    /// `AllocError` if an allocation fails.
     pub fn every(alloc: Global, doc: &[u8], size: usize) -> Result<Cuts, AllocError>
         requires some { 1 ≤ size }
         ensures places { IfOk result (AreEveryFrom doc.now size 0) }
@@ -44,9 +45,14 @@ impl Cuts {
         Ok(Cuts { places })
     }
 
-    /// The given places, where they cut this document: they rise strictly, lie above 0 and below the
-    /// document's length, and each stands just behind a line feed. None, with the list dropped, where
-    /// they do not. The empty list is one piece.
+    /// Creates cuts from a list of places, or returns None and drops the list if they do not fit
+    /// the document. They fit it if all of these are true:
+    ///
+    /// - They increase strictly.
+    /// - Each is above 0 and below the length of the document.
+    /// - The byte before each is a line feed.
+    ///
+    /// The empty list makes one piece.
     pub fn of(doc: &[u8], places: Vec<usize>) -> Option<Cuts>
         ensures valid { IsSome result ↔ AreCuts doc.now places.items }
         ensures value { IfSome result (λ cuts. cuts ≡ places.items) }
@@ -58,22 +64,22 @@ impl Cuts {
         }
     }
 
-    /// Whether these places cut this document, as `of` says.
+    /// Returns whether these places are cuts of this document, with the conditions of [`Cuts::of`].
     pub fn fits(&self, doc: &[u8]) -> bool
         ensures value { IsTrue result ↔ AreCuts doc.now self.now }
     {
         are_cuts(doc, &self.places)
     }
 
-    /// How many pieces there are: one more than places.
+    /// Returns the number of pieces. It is the number of places plus one.
     pub fn pieces(&self) -> u64
         ensures value { result ≡ length self.now + 1 }
     {
         self.places.len() as u64 + 1
     }
 
-    /// The bytes of piece `i`, counted from 0: those between the two places round it, with the
-    /// document's ends among them.
+    /// Returns the bytes of piece `i`, counted from 0. It begins at the place before it, or at the
+    /// start of the document. It ends at the next place, or at the end of the document.
     ///
     /// # Requires
     /// These are cuts of the document (`fits`), and `i` is below `pieces`.

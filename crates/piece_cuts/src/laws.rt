@@ -1,13 +1,14 @@
-//! Laws of cuts and pieces, over the definitions alone.
+//! Laws of cuts and pieces. A law is the contract of a function without effect.
 ghost use Rattle.piece_cuts.specs.Laws.{FirstPieceThenTheRest, PiecesAreTheDocument};
 
-/// The pieces of a document, joined, are the document, and each but the last ends with a line feed.
+/// Proves that the concatenated pieces of a document are the document, and that each piece but the
+/// last ends with a line feed.
 pub fn pieces_are_the_document()
     ensures law { PiecesAreTheDocument }
 {}
 
-/// The pieces of a text that is not empty are its first piece, and then the pieces of the rest: so
-/// blocks that are read one after the other are the pieces of the whole.
+/// Proves that the pieces of a nonempty text are its first piece, followed by the pieces of the
+/// rest. Blocks that are read one after another are thus the pieces of the whole.
 pub fn first_piece_then_the_rest()
     ensures law { FirstPieceThenTheRest }
 {}

@@ -1,16 +1,21 @@
-//! A document cut into pieces of whole lines: at places of a document that lies in memory
-//! ([`Cuts`]), or as blocks of one that is read bit by bit ([`Blocks`]).
+//! Splits a document into pieces of whole lines. [`Cuts`] holds the places of a document in memory,
+//! and [`Blocks`] reads a document block by block.
 //!
-//! What the crates above use: the pieces of cuts that fit a document, joined, are the document, and
-//! each but the last ends with a line feed; the blocks that [`Blocks::next`] gives are, one after the
-//! other, the pieces of `Cuts::every` of what the reader gives.
+//! Callers rely on these guarantees:
 //!
-//! A line feed ends a line of N-Quads wherever it stands (RDF 1.1 N-Quads, grammar, EOL), so no line
-//! is cut in two. Where else to cut is our own choice.
+//! - The concatenated pieces of cuts that fit a document are the document, and each piece but the
+//!   last ends with a line feed.
+//! - The blocks that [`Blocks::next`] returns are the pieces of `Cuts::every` of what the reader
+//!   gives, in order.
 //!
-//! To read in this order: `places` (the search for a cut), `cuts`, `blocks`, `laws`.
+//! Standard: RDF 1.1 N-Quads, [8] `EOL`. A line feed ends a line wherever it occurs, so no line is
+//! split. At which line feeds a document is split is a choice of this project (not fixed by the
+//! standard).
 //!
-//! Not promised: that a piece is small; a line longer than the size is one piece.
+//! Reading order: `places` (the search for a cut), `cuts`, `blocks`, `laws`. Tests: `cutting` of
+//! the crate worker_tests, and `documents` and `readers` of loading_tests.
+//!
+//! Not guaranteed: that a piece is small. A line longer than the size is one piece.
 #![tactic(auto)]
 
 mod blocks;

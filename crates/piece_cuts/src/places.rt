@@ -1,10 +1,11 @@
-//! Where a document may be cut, and the two ends of a piece.
+//! Where a document may be split, and the two ends of a piece.
 ghost use Rattle.std.specs.Prelude.{◌≡◌, ◌↔◌, ◌+◌, ◌<◌, ◌≤◌, IsTrue, ◌∷◌, ◌++◌, [], slice_index, MatchOption, length};
 ghost use Rattle.piece_cuts.specs.Cuts.{AreCuts, HasNoNextCut, IsNextCut};
 
 use memchr::memchr;
 
-/// The next cut from this start: just behind the first line feed that lies so far on.
+/// Returns the next cut from this start: the first place that is at least `size` bytes later and
+/// follows a line feed.
 pub fn next_cut(doc: &[u8], start: usize, size: usize) -> Option<usize>
     requires some { 1 ≤ size }
     requires inside { start ≤ length doc.now }
@@ -20,7 +21,7 @@ pub fn next_cut(doc: &[u8], start: usize, size: usize) -> Option<usize>
     }
 }
 
-/// Whether the places rise, and each is a cut of the document.
+/// Returns whether the places increase strictly, and each is a cut of the document.
 pub fn are_cuts(doc: &[u8], places: &[usize]) -> bool
     ensures value { IsTrue result ↔ AreCuts doc.now places.now }
 {
@@ -34,7 +35,7 @@ pub fn are_cuts(doc: &[u8], places: &[usize]) -> bool
     true
 }
 
-/// The two ends of piece `i`.
+/// Returns the two ends of piece `i`.
 fn ends(places: &[usize], len: usize, i: usize) -> (usize, usize)
     requires inside { i < length places.now + 1 }
     ensures from { result.0 ≡ slice_index (0 ∷ places.now) i }
@@ -45,7 +46,7 @@ fn ends(places: &[usize], len: usize, i: usize) -> (usize, usize)
     (from, to)
 }
 
-/// The two ends of piece `i`, which lie in order and inside the document.
+/// Returns the two ends of piece `i`, which are in order and inside the document.
 pub fn bounds(doc: &[u8], places: &[usize], i: usize) -> (usize, usize)
     requires cuts { AreCuts doc.now places.now }
     requires inside { i < length places.now + 1 }

@@ -2,7 +2,7 @@ use Rattle.std.proofs.Common.{drop}
 use Rattle.piece_cuts.specs.Cuts.{AreCuts, AreCutsFrom}
 use Rattle.piece_cuts.proofs.places.are_cuts.Given as goal
 
--- the rule holds of all places exactly where it holds of those that are left
+-- the rule is true of all places exactly if it is true of the remaining ones
 abbrev pub invariant-loop-place : goal.invariant-loop-place
 invariant-loop-place l = record {
   back : AreCutsFrom l.doc l.low (drop l.place-index l.places) → AreCuts l.doc l.places;

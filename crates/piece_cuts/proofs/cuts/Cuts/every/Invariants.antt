@@ -2,7 +2,7 @@ use Rattle.std.proofs.Common.{ℕ, ◌-◌, ◌≤◌, ◌++◌, List, length}
 use Rattle.piece_cuts.specs.Cuts.{AreEveryFrom}
 use Rattle.piece_cuts.proofs.cuts.Cuts.every.Given as goal
 
--- what follows from the start on completes the places so far
+-- the rest from the start on completes the places so far
 abbrev pub invariant-loop-place : goal.invariant-loop-place
 invariant-loop-place l = record {
   inside : l.start ≤ length l.doc;
