@@ -1,4 +1,4 @@
--- What a drawing loop needs of its pass.
+-- What a loop of draws requires of its pass.
 use Rattle.std.specs.Prelude.{◌≡◌}
 use Rattle.piece_board.specs.Pass.{PassView}
 use Rattle.piece_board.specs.Board.{BoardView, IsPassOf}

@@ -1,4 +1,4 @@
-//! One board, by one thread, two and four.
+//! Draws from one board with one, two and four threads.
 ghost use Rattle.std.specs.Prelude.{◌≡◌, ◌≤◌, ◌^◌, ◌+◌, All, IfOk, IfSome, OnSome, vec_len};
 ghost use Rattle.piece_board.specs.Board.{IsPassOf};
 ghost use Rattle.pool_time.specs.Open.{IsOpen};
@@ -10,7 +10,7 @@ use std::thread::Threads;
 use std::time::{Duration, Instant};
 use std::{io, thread};
 
-/// Prints how many numbers were drawn by one thread, two and four, and how long that took.
+/// Prints how many numbers one, two and four threads drew, and how long that took.
 pub fn measure<R: Clock + Print + Threads + Sync>(
     rt: &R,
     alloc: Global,

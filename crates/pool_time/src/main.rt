@@ -1,7 +1,10 @@
-//! What a draw of the claim board costs, and a run of the pool.
+//! Measures the cost of a draw from the claim board (crate piece_board), and of a run of the pool
+//! (crate piece_pool).
 //!
-//! With the argument `time` it prints how long each took. Without one it does the same with small
-//! numbers and prints the counts alone, which are the same at every run.
+//! With the argument `time` it prints how long each measurement took. Without an argument it uses
+//! small numbers and prints only the counts, which are the same in every run.
+//!
+//! Reading order: `draws`, `pools`.
 #![tactic(auto)]
 
 mod draws;

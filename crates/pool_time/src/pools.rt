@@ -1,4 +1,4 @@
-//! `run_pieces` by one worker, two and four: over many pieces that do nothing, and over few that
+//! `run_pieces` with one, two and four workers: over many pieces that do nothing, and over few that
 //! compute.
 ghost use Rattle.std.specs.Prelude.{◌≤◌};
 
@@ -10,7 +10,7 @@ use std::sync::Wait;
 use std::thread::Threads;
 use std::time::Instant;
 
-/// Each piece is so many steps of a generator, one after the other.
+/// A job whose pieces each compute a number of steps of a random generator, one after another.
 #[derive(Drop)]
 struct Steps {
     count: u64,
