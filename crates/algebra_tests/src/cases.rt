@@ -1,14 +1,14 @@
-//! Tables of cases. A line of a table is a case, `=>`, and what its reader prints of it. Empty lines and lines that
-//! begin with `#` are skipped.
+//! Tables of cases. A line of a table is a case, `=>`, and the text that its reader prints for it.
+//! Empty lines and lines that begin with `#` are skipped.
 use crate::{comparisons, expressions, operators, plans, solutions};
 use std::alloc::{AllocError, Global};
 
-/// What is printed of a case.
+/// What a reader prints for a case.
 #[derive(Clone, Copy)]
 pub(crate) enum Reader {
     /// Two terms with an operator between them: the value of the comparison.
     Comparison,
-    /// Two terms: whether they are equal, asked in both directions.
+    /// Two terms: whether they are equal, in both orders.
     Equality,
     /// A term: whether it is equal to 5, and whether it is not.
     EqualsFive,
@@ -20,15 +20,15 @@ pub(crate) enum Reader {
     Filter,
     /// A query: its plan.
     Plan,
-    /// A plain operator and its solutions.
+    /// An operator of plain_eval: its solutions.
     Operator,
-    /// A document and a query: its solutions, by the plain evaluation.
+    /// A document and a query: its solutions according to plain_eval.
     Solutions,
-    /// A query: the solutions of its table, by the operator alone.
+    /// A query: the solutions of its table alone.
     Table,
     /// A query: its solutions after its second variable is bound to the first one.
     BoundAgain,
-    /// A document and a graph name, or another thing to count: the number.
+    /// A document, and a graph name or something else to count: the count.
     Count,
 }
 
@@ -49,7 +49,7 @@ fn printed(alloc: Global, reader: Reader, case: &str) -> Result<String, AllocErr
     }
 }
 
-/// Appends the case, what is expected and what is found, if these two differ.
+/// Appends the case, the expected text and the printed text, if these two differ.
 fn check(
     alloc: Global,
     reader: Reader,
@@ -83,8 +83,8 @@ fn check_line(
     }
 }
 
-/// Returns the cases of a table that are wrong, each with what is expected and what is found. The text is empty if
-/// all are right.
+/// Returns the cases of a table that fail, each with the expected text and the printed text. The
+/// result is empty if no case fails.
 fn report(alloc: Global, reader: Reader, table: &str) -> Result<String, AllocError> {
     let mut report = String::new(alloc);
     for line in table.lines() {
@@ -93,7 +93,7 @@ fn report(alloc: Global, reader: Reader, table: &str) -> Result<String, AllocErr
     Ok(report)
 }
 
-/// Whether each case of the table is right. Prints those that are not.
+/// Returns whether no case of the table fails. Prints those that fail.
 pub(crate) fn are_right<R: Print>(rt: &R, alloc: Global, reader: Reader, table: &str) -> bool {
     match report(alloc, reader, table) {
         Ok(report) => {

@@ -5,7 +5,7 @@ use rdf_core::Term;
 use sparql_algebra::{Comparison, compare, truth};
 use std::alloc::{AllocError, AllocGlobal, Global};
 
-/// Each operator as it is between two terms.
+/// The text of each comparison operator.
 const SIGNS: [(&str, Comparison); 6] = [
     (" = ", Comparison::Equal),
     (" != ", Comparison::NotEqual),
@@ -83,7 +83,8 @@ pub(crate) fn truth_of(alloc: Global, case: &str) -> Result<String, AllocError> 
     }
 }
 
-/// Numbers are compared by value, however long they are. A form outside its datatype's range is a number too.
+/// Numbers of any length are compared by value. A lexical form outside the range of its datatype is
+/// a number too.
 const NUMBERS: &str = r#"
 "01"^^xsd:integer = "1.0"^^xsd:decimal                => true
 "-0"^^xsd:integer = "0.0"^^xsd:decimal                => true
@@ -107,7 +108,8 @@ fn numbers_are_compared_by_value(rt: HostRuntime) {
     assert!(rt; are_right(&rt, rt.alloc(), Reader::Comparison, NUMBERS));
 }
 
-/// What equals the decimal 5 and what does not. What is no number is an error both times.
+/// Literals that equal the decimal 5 or do not. For a literal that is not a number, both
+/// comparisons are errors.
 const FORMS: &str = r#"
 "5."^^xsd:decimal       => true false
 "+005.000"^^xsd:decimal => true false
@@ -136,8 +138,8 @@ fn forms_of_numbers(rt: HostRuntime) {
     assert!(rt; are_right(&rt, rt.alloc(), Reader::EqualsFive, FORMS));
 }
 
-/// Terms that are not both compared by value: the same term is equal, two literals are an error, and all else is
-/// not equal.
+/// Terms that are not both numbers, strings or booleans. A term equals itself, two different
+/// literals are an error, and other terms are not equal.
 const OTHERS: &str = r#"
 "1"^^xsd:integer = "1"^^xsd:double       => error error
 "1"^^xsd:double = "1"^^xsd:double        => true true
@@ -168,8 +170,8 @@ fn other_terms_are_equal_or_not_or_an_error(rt: HostRuntime) {
     assert!(rt; are_right(&rt, rt.alloc(), Reader::Equality, OTHERS));
 }
 
-/// Numbers, booleans and strings have an order, and nothing else. The two characters are U+FFFF and U+10000, in
-/// the order of code points.
+/// Numbers, booleans and strings have an order, and other terms have none. The two characters are
+/// U+FFFF and U+10000, which are in the order of their code points.
 const ORDERED: &str = "
 \"0\"^^xsd:boolean < \"true\"^^xsd:boolean => true
 \"10\" < \"9\" => true

@@ -30,7 +30,7 @@ impl Lookup for Row {
     }
 }
 
-/// What is printed of an expression.
+/// What is printed for an expression.
 #[derive(Clone, Copy)]
 enum Asked {
     Value,
@@ -52,7 +52,7 @@ fn filtered(alloc: Global, expr: &Expr, row: &Row) -> Result<String, AllocError>
     String::from_str(alloc, if is_kept { "kept" } else { "removed" })
 }
 
-/// The condition of a filter right below the projection.
+/// Returns the condition of a filter directly below the projection.
 fn condition_of(tree: &Operator) -> Option<&Expr> {
     match tree {
         Operator::Project { inner, .. } => match &**inner {
@@ -63,7 +63,7 @@ fn condition_of(tree: &Operator) -> Option<&Expr> {
     }
 }
 
-/// Prints what is asked of the condition of a plan.
+/// Prints the value of the condition of a plan, or whether the filter keeps the row.
 fn answer(alloc: Global, plan: &Plan, row: &Row, what: Asked) -> Result<String, AllocError> {
     match (condition_of(&plan.tree), what) {
         (Some(condition), Asked::Value) => evaluated(alloc, condition, row),
@@ -77,7 +77,7 @@ fn planned(alloc: Global, query: &Query, row: &Row, what: Asked) -> Result<Strin
     answer(alloc, &plan, row, what)
 }
 
-/// Prints what is asked of the filter of a query's text.
+/// Prints the same for the filter of a query, from its text.
 fn read_text(alloc: Global, text: &str, row: &Row, what: Asked) -> Result<String, AllocError> {
     match read_query(alloc, text) {
         Ok(query) => planned(alloc, &query, row, what),
@@ -85,7 +85,7 @@ fn read_text(alloc: Global, text: &str, row: &Row, what: Asked) -> Result<String
     }
 }
 
-/// Prints what is asked of an expression. The row has a place for `?x` and none for `?y`.
+/// Prints the same for an expression. The row has a place for `?x` and none for `?y`.
 fn printed(alloc: Global, expr: &str, row: &Row, what: Asked) -> Result<String, AllocError> {
     let text = format!(in alloc;
         "PREFIX xsd: <{XSD}> PREFIX rdf: <{RDF}> SELECT ?x ?y {{ FILTER ({expr}) }}"
@@ -93,7 +93,7 @@ fn printed(alloc: Global, expr: &str, row: &Row, what: Asked) -> Result<String, 
     read_text(alloc, text.as_str(), row, what)
 }
 
-/// Reads the row with this term. The row of any other text binds nothing.
+/// Reads the row with this term. For any other text, the row binds nothing.
 fn row_of(alloc: Global, text: &str) -> Result<Row, AllocError> {
     let term = read(alloc, text)?;
     Ok(Row { term })
@@ -121,7 +121,8 @@ pub(crate) fn kept(alloc: Global, case: &str) -> Result<String, AllocError> {
     printed(alloc, expr, &row, Asked::Filter)
 }
 
-/// The tables of `&&`, `||` and `!` (SPARQL 1.1 Query Language, section 17.2). `?x` is unbound, which is an error.
+/// The truth tables of `&&`, `||` and `!` (SPARQL 1.1 Query Language, section 17.2). `?x` is
+/// unbound, which is an error.
 const LOGIC: &str = r#"
 true && true   => "true"^^xsd:boolean
 true && false  => "false"^^xsd:boolean
@@ -151,7 +152,7 @@ fn logic_has_three_values(rt: HostRuntime) {
     assert!(rt; are_right(&rt, rt.alloc(), Reader::Value, LOGIC));
 }
 
-/// A comparison is a boolean or an error. An operand that is an error makes it one.
+/// A comparison is a boolean or an error. If an operand is an error, the comparison is one.
 const COMPARISONS: &str = r#"
 "01"^^xsd:integer = "1.0"^^xsd:decimal => "true"^^xsd:boolean
 "-0"^^xsd:integer = "0.0"^^xsd:decimal => "true"^^xsd:boolean
@@ -174,7 +175,7 @@ fn a_comparison_is_a_boolean(rt: HostRuntime) {
     assert!(rt; are_right(&rt, rt.alloc(), Reader::Value, COMPARISONS));
 }
 
-/// Variables, bound and unbound, and sameTerm.
+/// Variables, bound and unbound, and sameTerm ([121] `BuiltInCall`).
 const TERMS: &str = r#"
 # A variable alone is its term, and an error if the row has no place for it. Under `||` it is a boolean.
 ?x where ?x is "01"^^xsd:integer          => "01"^^xsd:integer
@@ -194,7 +195,7 @@ fn variables_are_terms_or_errors(rt: HostRuntime) {
     assert!(rt; are_right(&rt, rt.alloc(), Reader::Value, TERMS));
 }
 
-/// IN and NOT IN.
+/// IN and NOT IN ([114] `RelationalExpression`).
 const MEMBERSHIP: &str = r#"
 # IN and NOT IN compare by value: 01 is among 2 and 1.0, a number of 40 digits is not, and a string, a double and
 # an unbound variable are errors.
@@ -255,7 +256,7 @@ fn a_filter_keeps_what_is_true(rt: HostRuntime) {
     assert!(rt; are_right(&rt, rt.alloc(), Reader::Filter, KEPT));
 }
 
-/// STR, LANG, DATATYPE, isIRI, isBlank and isLiteral of each kind of term.
+/// STR, LANG, DATATYPE, isIRI, isBlank and isLiteral ([121] `BuiltInCall`) of each kind of term.
 const FUNCTIONS: &str = r#"
 STR(?x) where ?x is "01"^^xsd:integer      => "01"
 LANG(?x) where ?x is "01"^^xsd:integer     => ""

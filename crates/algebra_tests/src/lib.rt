@@ -1,8 +1,12 @@
-//! Tests of the algebra: `comparisons`, `expressions` and `plans` of sparql_algebra, `operators` and `solutions`
-//! of plain_eval. `cases` runs their tables, and `terms` reads and prints terms.
+//! Tests of the algebra: `comparisons`, `expressions` and `plans` of sparql_algebra, and
+//! `operators` and `solutions` of plain_eval. `cases` runs their tables, and `terms` reads and
+//! prints terms.
 //!
-//! The tests are in a crate of their own, so that a check of the tests proves no library a second time. A table is
-//! one constant text, and its test is one call: a function that owns trees or has a long local table is slow to prove.
+//! Standard: SPARQL 1.1 Query Language, sections 17 and 18.
+//!
+//! The tests have a crate of their own, so a proof of the tests proves no library again. A table is
+//! one constant text, and its test is one call, because a function that owns trees or has a long
+//! local table is slow to prove.
 #![tactic(auto)]
 
 #[cfg(test)]

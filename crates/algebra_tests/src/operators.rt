@@ -1,5 +1,5 @@
-//! One call of each plain operator. A solution of two variables is a word of two characters: a letter is the blank
-//! node with that label, and `.` is unbound.
+//! One call of each operator of plain_eval. A solution of two variables is a word of two
+//! characters: a letter is the blank node with that label, and `.` is an unbound variable.
 use crate::cases::{Reader, are_right};
 use plain_eval::condition::{Condition, Value};
 use plain_eval::operators::{distinct, extend, filter, join, left_join, minus, project, union};
@@ -7,7 +7,7 @@ use plain_eval::solution::Solution;
 use rdf_core::{Term, Text};
 use std::alloc::{AllocError, AllocGlobal, Global};
 
-/// Whether the second variable is bound.
+/// The condition that the second variable is bound.
 struct SecondIsBound {}
 
 impl Condition for SecondIsBound {
@@ -23,7 +23,7 @@ impl Condition for SecondIsBound {
     }
 }
 
-/// An error for each solution.
+/// A value that is an error for each solution.
 struct NoValue {}
 
 impl Value for NoValue {
@@ -36,7 +36,7 @@ impl Value for NoValue {
     }
 }
 
-/// The cell of a character.
+/// Returns the cell of a character.
 fn cell(alloc: Global, letter: char) -> Result<Option<Term>, AllocError> {
     if letter == '.' {
         return Ok(None);
@@ -46,7 +46,7 @@ fn cell(alloc: Global, letter: char) -> Result<Option<Term>, AllocError> {
     Ok(Some(Term::Blank(Text::from_string(label))))
 }
 
-/// The solution of a word.
+/// Returns the solution of a word.
 fn solution(alloc: Global, word: &str) -> Result<Solution, AllocError> {
     let mut terms = Vec::new(alloc);
     for letter in word.chars() {
@@ -55,7 +55,7 @@ fn solution(alloc: Global, word: &str) -> Result<Solution, AllocError> {
     Ok(Solution::of(terms))
 }
 
-/// The solutions of a text.
+/// Returns the solutions of a text.
 fn solutions(alloc: Global, text: &str) -> Result<Vec<Solution>, AllocError> {
     let mut all = Vec::new(alloc);
     for word in text.split_whitespace() {
@@ -91,7 +91,7 @@ fn shown(alloc: Global, solutions: &[Solution]) -> Result<String, AllocError> {
     Ok(out)
 }
 
-/// Returns what an operator makes of two lists of solutions, or of the first one.
+/// Applies an operator to two lists of solutions, or to the first one.
 fn made(
     alloc: Global,
     operator: &str,
@@ -121,7 +121,7 @@ fn shown_operator(
     shown(alloc, &made)
 }
 
-/// Prints what an operator makes of solutions.
+/// Prints the solutions of an operator.
 pub(crate) fn operated(alloc: Global, case: &str) -> Result<String, AllocError> {
     let (operator, texts) = case.split_once(": ").unwrap_or(("", case));
     let (left, right) = texts.split_once(" and ").unwrap_or((texts, ""));
@@ -130,8 +130,8 @@ pub(crate) fn operated(alloc: Global, case: &str) -> Result<String, AllocError> 
     shown_operator(alloc, operator, &left, &right)
 }
 
-/// The condition of the left join and of the filter is that the second variable is bound. The extension of the second
-/// variable is an error. The projection keeps the first variable.
+/// The condition of the left join and of the filter is that the second variable is bound. The value
+/// of the extension of the second variable is an error. The projection keeps the first variable.
 const OPERATORS: &str = "
 join: ab a. c. and ab ad      => ab ab ad
 left join: ab a. c. and ab ad => ab ab ad c.

@@ -10,7 +10,8 @@ fn shown(alloc: Global, plan: &Plan) -> Result<String, AllocError> {
     format!(in alloc; "{:?}, {:?}: {:?}", plan.names, plan.projected(), plan.tree)
 }
 
-/// The plan of a query, in a box: a function that owns a tree by value is slow to prove.
+/// Returns the plan of a query in a box, because a function that owns a tree by value is slow to
+/// prove.
 pub(crate) fn plan_of(alloc: Global, query: &Query) -> Result<Box<Plan>, AllocError> {
     Ok(Box::new(alloc, translate(alloc, query)?)?)
 }
@@ -28,7 +29,7 @@ pub(crate) fn plan(alloc: Global, case: &str) -> Result<String, AllocError> {
     }
 }
 
-/// A comment is about the query after it.
+/// Queries and their plans. A comment describes the query after it.
 const PLANS: &str = "\
     # A filter ends no basic graph pattern, and is applied at the end of its group.\n\
     SELECT * { ?s <a:p> ?o FILTER(BOUND(?o)) ?o <a:q> ?z } => \

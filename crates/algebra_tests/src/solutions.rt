@@ -1,5 +1,5 @@
-//! Queries and their solutions over a document, by the plain evaluation. Examples of the SPARQL 1.1 Query Language
-//! name its section.
+//! Queries and their solutions over a document, according to plain_eval. Examples from the SPARQL
+//! 1.1 Query Language name its section.
 use crate::cases::{Reader, are_right};
 use crate::plans::plan_of;
 use crate::terms::{push_cell, read};
@@ -66,7 +66,8 @@ fn solved(alloc: Global, document: &str, plan: &Plan) -> Result<String, AllocErr
     }
 }
 
-/// The variables and rows of a table that is joined with the empty pattern below the projection.
+/// Returns the variables and rows of a table that is joined with the empty pattern below the
+/// projection.
 fn table_of(tree: &Operator) -> Option<(&[usize], &[Vec<Option<Term>>])> {
     let Operator::Project { inner, .. } = tree else {
         return None;
@@ -89,7 +90,7 @@ fn tabulated(alloc: Global, plan: &Plan) -> Result<String, AllocError> {
     shown(alloc, &made)
 }
 
-/// The tree of a plan, after which the second variable is bound to the first one.
+/// Returns the tree of a plan, with the second variable then bound to the first one.
 fn extended(alloc: Global, plan: Plan) -> Result<Box<Operator>, AllocError> {
     let inner = Box::new(alloc, plan.tree)?;
     let tree = Operator::Extend {
@@ -118,7 +119,7 @@ fn tabulated_query(alloc: Global, query: &Query) -> Result<String, AllocError> {
     tabulated(alloc, &plan)
 }
 
-/// What is done with a query.
+/// What is printed for a query.
 #[derive(Clone, Copy)]
 enum Task<'a> {
     Solve(&'a str),
@@ -141,7 +142,7 @@ fn read_and_done(alloc: Global, text: &str, task: Task<'_>) -> Result<String, Al
     }
 }
 
-/// Splits a case into the name of a document and what is asked of it.
+/// Splits a case into the name of a document and the rest.
 fn case_of(case: &str) -> (&str, &str) {
     case.split_once(": ").unwrap_or(("", case))
 }
@@ -152,7 +153,7 @@ pub(crate) fn solutions(alloc: Global, case: &str) -> Result<String, AllocError>
     read_and_done(alloc, query, Task::Solve(document_of(name)))
 }
 
-/// Prints the solutions of the table of a query, by the operator alone.
+/// Prints the solutions of the table of a query, without the rest of the plan.
 pub(crate) fn table_alone(alloc: Global, case: &str) -> Result<String, AllocError> {
     read_and_done(alloc, case, Task::Tabulate)
 }
@@ -162,13 +163,13 @@ pub(crate) fn bound_again(alloc: Global, case: &str) -> Result<String, AllocErro
     read_and_done(alloc, case, Task::Extend)
 }
 
-/// The number of quads in the graph of this name. `-` is the default graph.
+/// Returns the number of quads in the graph of this name. `-` is the default graph.
 fn quads_in(alloc: Global, quads: &[Quad], name: &str) -> Result<usize, AllocError> {
     let name = read(alloc, name)?;
     Ok(graph(alloc, quads, &name)?.len())
 }
 
-/// The number of graph names, of solutions of the empty pattern, or of quads in a graph.
+/// Returns the number of graph names, of solutions of the empty pattern, or of quads in a graph.
 fn count(alloc: Global, quads: &[Quad], case: &str) -> Result<usize, AllocError> {
     match case {
         "graph names" => Ok(names(alloc, quads)?.len()),
@@ -199,7 +200,7 @@ const BOOKS: &str = r#"<a:book1> <a:title> "SPARQL Tutorial" .
 <a:book2> <a:price> "23"^^<http://www.w3.org/2001/XMLSchema#integer> .
 "#;
 
-/// The document of section 8.3.3.
+/// The document of section 8.3.3 of the SPARQL 1.1 Query Language.
 const NUMBERS: &str = r#"<a:a> <a:p> "1"^^<http://www.w3.org/2001/XMLSchema#integer> .
 <a:a> <a:q> "1"^^<http://www.w3.org/2001/XMLSchema#integer> .
 <a:a> <a:q> "2"^^<http://www.w3.org/2001/XMLSchema#integer> .
@@ -221,7 +222,7 @@ const GRAPHS: &str = "<a:a> <a:p> <a:b> .
 _:g <a:q> <a:g> <a:g> .
 ";
 
-/// The document of a name.
+/// Returns the document of a name.
 fn document_of(name: &str) -> &'static str {
     match name {
         "books" => BOOKS,
@@ -235,7 +236,8 @@ fn document_of(name: &str) -> &'static str {
     }
 }
 
-/// OPTIONAL, UNDEF, and a BIND that is an error.
+/// OPTIONAL ([57] `OptionalGraphPattern`), UNDEF ([65] `DataBlockValue`), and a BIND whose
+/// expression is an error.
 const OPTIONALS: &str = r#"
 # Section 6.2: a filter in OPTIONAL removes a price, and no title.
 books: SELECT ?x ?t ?p { ?x <a:title> ?t OPTIONAL { ?x <a:price> ?p FILTER(?p < 30) } } => 2: <a:book1> "SPARQL Tutorial" -; <a:book2> "The Semantic Web" "23"^^xsd:integer
@@ -255,7 +257,7 @@ fn what_is_not_bound_stays_open(rt: HostRuntime) {
     assert!(rt; are_right(&rt, rt.alloc(), Reader::Solutions, OPTIONALS));
 }
 
-/// MINUS.
+/// MINUS ([66] `MinusGraphPattern`).
 const DIFFERENCES: &str = r#"
 # Section 8.3.1: if no variable is shared, MINUS removes nothing.
 triple: SELECT ?a ?b ?c ?d ?e ?f { ?a ?b ?c MINUS { ?d ?e ?f } }          => 1: <a:a> <a:b> <a:c> - - -
@@ -272,7 +274,7 @@ fn minus_needs_a_shared_variable(rt: HostRuntime) {
     assert!(rt; are_right(&rt, rt.alloc(), Reader::Solutions, DIFFERENCES));
 }
 
-/// GRAPH.
+/// GRAPH ([58] `GraphGraphPattern`).
 const NAMED_GRAPHS: &str = r#"
 # GRAPH with a variable is about the named graphs alone. The name is joined with what the pattern binds.
 graphs: SELECT ?g ?o { GRAPH ?g { <a:a> <a:p> ?o } }    => 2: <a:g> <a:c>; _:g <a:d>
@@ -292,7 +294,7 @@ fn graphs_are_named(rt: HostRuntime) {
     assert!(rt; are_right(&rt, rt.alloc(), Reader::Solutions, NAMED_GRAPHS));
 }
 
-/// Graph names, and the quads of a graph.
+/// Numbers of graph names, and of quads in a graph.
 const COUNTED: &str = r#"
 graphs: graph names       => 2
 graphs: <a:g>             => 2
@@ -305,7 +307,7 @@ fn a_dataset_has_graphs(rt: HostRuntime) {
     assert!(rt; are_right(&rt, rt.alloc(), Reader::Count, COUNTED));
 }
 
-/// How often a solution counts, and which variable a cell of a table belongs to.
+/// The multiplicities of solutions, and the variables of the cells of a table.
 const MULTIPLICITIES: &str = r#"
 # Section 18.3.1: a solution counts once for each term that a blank node label can stand for, DISTINCT keeps one
 # of them, and a label joins the triples of its pattern.
@@ -335,7 +337,7 @@ fn cells_of_a_table_go_by_their_variables(rt: HostRuntime) {
     assert!(rt; are_right(&rt, rt.alloc(), Reader::Table, CELLS));
 }
 
-/// An extension of a variable that may be bound. No text of a query has such a plan.
+/// An extension of a variable that may be bound. No query is translated to this plan.
 const BOUND_AGAIN: &str = r#"
 # A variable that is bound keeps its term. No text of a query has such a plan.
 SELECT ?a ?b { VALUES (?a ?b) { (<a:a> "A") (<a:b> UNDEF) } } => 2: <a:a> "A"; <a:b> <a:b>

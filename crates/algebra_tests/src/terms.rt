@@ -1,5 +1,5 @@
-//! Terms as text: `_:b` is a blank node, and all else is an IRI or a literal as SPARQL has it, with the prefixes
-//! `xsd:` and `rdf:`. `-` is an unbound variable.
+//! Terms as text: `_:b` is a blank node, and every other text is an IRI or a literal in SPARQL
+//! syntax, with the prefixes `xsd:` and `rdf:`. `-` is an unbound variable.
 use nquads_core::{PieceFault, read_piece};
 use rdf_core::vocabulary::XSD_STRING;
 use rdf_core::{Quad, Term, Text};
@@ -32,7 +32,7 @@ fn declarations(alloc: Global) -> Result<Declarations, AllocError> {
     Ok(names)
 }
 
-/// Reads an IRI or a literal, and None if the tokens are something else.
+/// Reads an IRI or a literal. Returns None if the tokens are something else.
 fn read_tokens(alloc: Global, tokens: &[Token<'_>]) -> Result<Option<Term>, AllocError> {
     let names = declarations(alloc)?;
     match read_term(alloc, &names, tokens) {
@@ -48,14 +48,14 @@ fn read_tokens(alloc: Global, tokens: &[Token<'_>]) -> Result<Option<Term>, Allo
     }
 }
 
-/// Reads an IRI or a literal as SPARQL has it.
+/// Reads an IRI or a literal in SPARQL syntax.
 fn read_name(alloc: Global, text: &str) -> Result<Option<Term>, AllocError> {
     let characters = characters_of(alloc, text)?;
     let scan = scan_text(alloc, &characters)?;
     read_tokens(alloc, &scan.tokens)
 }
 
-/// The object of the first quad.
+/// Returns the object of the first quad.
 fn first_object(alloc: Global, quads: &[Quad]) -> Result<Option<Term>, AllocError> {
     match quads.first() {
         Some(quad) => Ok(Some(quad.o.copy(alloc)?)),
@@ -63,7 +63,7 @@ fn first_object(alloc: Global, quads: &[Quad]) -> Result<Option<Term>, AllocErro
     }
 }
 
-/// The object of the statement of a line.
+/// Returns the object of the statement of a line.
 fn object_of(alloc: Global, line: &str) -> Result<Option<Term>, AllocError> {
     match read_piece(alloc, line.as_bytes()) {
         Ok(piece) => first_object(alloc, &piece.quads),
@@ -72,13 +72,13 @@ fn object_of(alloc: Global, line: &str) -> Result<Option<Term>, AllocError> {
     }
 }
 
-/// Reads a blank node as N-Quads has it.
+/// Reads a blank node in N-Quads syntax.
 fn read_blank(alloc: Global, text: &str) -> Result<Option<Term>, AllocError> {
     let line = format!(in alloc; "<a:s> <a:p> {text} .")?;
     object_of(alloc, line.as_str())
 }
 
-/// Reads a term, and None if the text is no term.
+/// Reads a term. Returns None if the text is not a term.
 pub(crate) fn read(alloc: Global, text: &str) -> Result<Option<Term>, AllocError> {
     if text.starts_with("_:") {
         read_blank(alloc, text)
@@ -87,7 +87,7 @@ pub(crate) fn read(alloc: Global, text: &str) -> Result<Option<Term>, AllocError
     }
 }
 
-/// Appends the tag or the datatype of a literal. `xsd:string` is left out.
+/// Appends the language tag or the datatype of a literal. `xsd:string` is left out.
 fn push_kind(out: &mut String, datatype: &str, tag: &Option<Text>) -> Result<(), AllocError> {
     if let Some(tag) = tag {
         return write!(out, "@{tag}");
@@ -117,7 +117,7 @@ fn push_term(out: &mut String, term: &Term) -> Result<(), AllocError> {
     }
 }
 
-/// Appends a term, and `-` if there is none.
+/// Appends a term, or `-` if there is none.
 pub(crate) fn push_cell(out: &mut String, cell: &Option<Term>) -> Result<(), AllocError> {
     match cell {
         Some(term) => push_term(out, term),
