@@ -1,4 +1,4 @@
--- Rows that tests make.
+-- Rows that tests create.
 use Rattle.std.proofs.Common.{◌≡◌, ℕ, List, [], ◌∷◌, ◌++◌, Option, None, Some, sym, subst}
 use Rattle.rdf_core.specs.declared.term.Term.{Term}
 use Rattle.algebra_model.specs.Reading.{Each}

@@ -1,5 +1,5 @@
-//! Tables of cases. A line of a table is a case, `=>`, and what its reader prints of it. Empty lines and lines that
-//! begin with `#` are skipped.
+//! Tables of cases. A line of a table is a case, `=>`, and the text that its reader prints for it.
+//! Empty lines and lines that begin with `#` are skipped.
 use crate::operators::Purpose;
 use crate::{operators, patterns, plans};
 use row_pieces::EvalFault;
@@ -8,22 +8,22 @@ use std::random::RandomSource;
 use std::sync::Wait;
 use std::thread::Threads;
 
-/// What is printed of a case.
+/// What a reader prints for a case.
 #[derive(Clone, Copy)]
 pub(crate) enum Reader {
-    /// An operator and its rows.
+    /// An operator: its rows.
     Operator(Purpose),
-    /// The cells of a table.
+    /// The cells of a table: its rows.
     Table,
     /// The predicate of a triple pattern and a graph: the rows of the pattern.
     Pattern,
-    /// A graph name: the rows of the empty pattern there.
+    /// A graph name: the rows of the empty pattern in this graph.
     Graph,
     /// A query: its solutions.
     Query,
     /// A query: the number of terms that its evaluation adds.
     Added,
-    /// Two rows that two workers print.
+    /// Two rows, printed with two workers.
     Printing,
 }
 
@@ -44,7 +44,7 @@ fn printed<R: RandomSource + Threads + Wait>(
     }
 }
 
-/// Appends the case, what is expected and what is found, if these two differ.
+/// Appends the case, the expected text and the printed text, if these two differ.
 pub(crate) fn compare(
     report: &mut String,
     case: &str,
@@ -90,8 +90,8 @@ fn check_line<R: RandomSource + Threads + Wait>(
     }
 }
 
-/// Returns the cases of a table that are wrong, each with what is expected and what is found. The text is empty if
-/// all are right.
+/// Returns the cases of a table that fail, each with the expected text and the printed text. The
+/// result is empty if no case fails.
 fn report<R: RandomSource + Threads + Wait>(
     rt: &R,
     alloc: Global,
@@ -105,7 +105,7 @@ fn report<R: RandomSource + Threads + Wait>(
     Ok(report)
 }
 
-/// Whether a report is empty. Prints it.
+/// Returns whether a report is empty. Prints it.
 pub(crate) fn is_empty<R: Print>(rt: &R, report: Result<String, EvalFault>) -> bool {
     match report {
         Ok(report) => {
@@ -116,7 +116,7 @@ pub(crate) fn is_empty<R: Print>(rt: &R, report: Result<String, EvalFault>) -> b
     }
 }
 
-/// Whether each case of the table is right. Prints those that are not.
+/// Returns whether no case of the table fails. Prints those that fail.
 pub(crate) fn are_right<R: RandomSource + Threads + Wait + Print>(
     rt: &R,
     alloc: Global,

@@ -1,7 +1,7 @@
-//! Documents and queries that look random: the evaluator has the solutions of the plain one.
+//! Pseudorandom documents and queries: the evaluator has the solutions of plain_eval.
 //!
-//! The queries are texts of the grammar. The rules on BIND and on blank node labels do not apply to them, so a BIND
-//! may be to a variable that is bound, and a label may be in two patterns.
+//! The queries are generated from the grammar, and the rules on BIND and on blank node labels are
+//! not applied to them. A BIND may thus be to a bound variable, and a label may be in two patterns.
 use crate::cases::{compare, is_empty};
 use crate::operators::{Draws, verdict};
 use crate::plans::{evaluated, plainly, plan_of};
@@ -27,7 +27,7 @@ fn name(draws: &mut Draws) -> &'static str {
     }
 }
 
-/// At most seven statements, some of them in a graph.
+/// Returns a document of at most seven statements, some of them in a named graph.
 pub(crate) fn document(alloc: Global, draws: &mut Draws) -> Result<String, AllocError> {
     let mut lines = String::new(alloc);
     for _ in 0..draws.below(8) {
@@ -44,7 +44,7 @@ pub(crate) fn document(alloc: Global, draws: &mut Draws) -> Result<String, Alloc
     Ok(lines)
 }
 
-/// A variable, a label or a name.
+/// Returns a variable, a blank node label or a prefixed name.
 fn word(draws: &mut Draws) -> &'static str {
     match draws.below(6) {
         0 | 1 => "?a",
@@ -54,7 +54,7 @@ fn word(draws: &mut Draws) -> &'static str {
     }
 }
 
-/// A variable or a name. The grammar has no labels as verbs.
+/// Returns a variable or a prefixed name. The grammar allows no labels as verbs ([78] `Verb`).
 fn verb(draws: &mut Draws) -> &'static str {
     match word(draws) {
         "_:l" => "?l",
@@ -70,7 +70,7 @@ fn push_triple(out: &mut String, draws: &mut Draws) -> Result<(), AllocError> {
     write!(out, "{s} {p} {o} . ")
 }
 
-/// Appends a triple in a graph, or in each.
+/// Appends a triple in one named graph, or in each of them.
 fn push_graph(out: &mut String, draws: &mut Draws) -> Result<(), AllocError> {
     let name = match draws.below(4) {
         0 => "<a:x>",
@@ -83,7 +83,7 @@ fn push_graph(out: &mut String, draws: &mut Draws) -> Result<(), AllocError> {
     out.push_str("} ")
 }
 
-/// A name, or UNDEF.
+/// Returns a prefixed name, or UNDEF.
 fn cell(draws: &mut Draws) -> &'static str {
     match draws.below(3) {
         0 => "UNDEF",
@@ -100,7 +100,7 @@ fn push_table(out: &mut String, draws: &mut Draws) -> Result<(), AllocError> {
     write!(out, "VALUES (?a ?b) {{ ({a} {b}) ({c} {d}) }} ")
 }
 
-/// Appends a triple, a graph or a table.
+/// Appends a triple, a GRAPH or a table.
 fn push_part(out: &mut String, draws: &mut Draws) -> Result<(), AllocError> {
     match draws.below(5) {
         0 => push_graph(out, draws),
@@ -109,7 +109,7 @@ fn push_part(out: &mut String, draws: &mut Draws) -> Result<(), AllocError> {
     }
 }
 
-/// Appends OPTIONAL of one part, and perhaps a filter on `?g`.
+/// Appends an OPTIONAL with one part, and perhaps a filter on `?g`.
 fn push_optional(out: &mut String, draws: &mut Draws) -> Result<(), AllocError> {
     out.push_str("OPTIONAL { ")?;
     push_part(out, draws)?;
@@ -119,7 +119,7 @@ fn push_optional(out: &mut String, draws: &mut Draws) -> Result<(), AllocError> 
     out.push_str("} ")
 }
 
-/// Appends a union of two parts.
+/// Appends a UNION of two parts.
 fn push_union(out: &mut String, draws: &mut Draws) -> Result<(), AllocError> {
     out.push_str("{ ")?;
     push_part(out, draws)?;
@@ -128,7 +128,7 @@ fn push_union(out: &mut String, draws: &mut Draws) -> Result<(), AllocError> {
     out.push_str("} ")
 }
 
-/// Appends MINUS of one part.
+/// Appends a MINUS with one part.
 fn push_minus(out: &mut String, draws: &mut Draws) -> Result<(), AllocError> {
     out.push_str("MINUS { ")?;
     push_part(out, draws)?;
@@ -151,7 +151,7 @@ fn push_bind(out: &mut String, draws: &mut Draws) -> Result<(), AllocError> {
     write!(out, "BIND(STR(?a) AS ?{name}) ")
 }
 
-/// Appends an element of any kind. About half are triples, graphs and tables by themselves.
+/// Appends an element of any kind. About half of them are single triples, graphs and tables.
 fn push_element(out: &mut String, draws: &mut Draws) -> Result<(), AllocError> {
     match draws.below(9) {
         0 => push_optional(out, draws),
@@ -163,7 +163,8 @@ fn push_element(out: &mut String, draws: &mut Draws) -> Result<(), AllocError> {
     }
 }
 
-/// A query for all variables of a group of at most four elements, one in four with DISTINCT.
+/// Returns a query that selects all variables of a group of at most four elements. One in four has
+/// DISTINCT.
 fn query(alloc: Global, draws: &mut Draws) -> Result<String, AllocError> {
     let mut group = String::new(alloc);
     for _ in 0..draws.below(5) {
@@ -173,7 +174,7 @@ fn query(alloc: Global, draws: &mut Draws) -> Result<String, AllocError> {
     format!(in alloc; "SELECT {distinct}* {{ {group}}}")
 }
 
-/// The query that the parser has read, with its variables at each place.
+/// Returns the query that the parser has read, with its variables at each place.
 fn query_of(select: Select, mentioned: Vec<rdf_core::Text>) -> Query {
     let Select {
         distinct,
@@ -192,7 +193,7 @@ fn query_of(select: Select, mentioned: Vec<rdf_core::Text>) -> Query {
     }
 }
 
-/// Parses a query, and applies none of the rules after the grammar.
+/// Parses a query, without the rules that follow the grammar.
 fn parsed(alloc: Global, text: &str) -> Result<Query, ReadFault> {
     let characters = characters_of(alloc, text)?;
     let scan = scan_text(alloc, &characters)?;
@@ -202,7 +203,7 @@ fn parsed(alloc: Global, text: &str) -> Result<Query, ReadFault> {
     Ok(query_of(select, mentioned))
 }
 
-/// Prints `same` if the plan has the solutions of the plain evaluation, row by row and in one piece.
+/// Prints `same` if the plan has the solutions of plain_eval, row by row and in one piece.
 fn compared<R: RandomSource + Threads + Wait>(
     rt: &R,
     alloc: Global,
@@ -238,7 +239,7 @@ fn agreement<R: RandomSource + Threads + Wait>(
     }
 }
 
-/// Compares one query over one document.
+/// Compares the solutions of one query over one document.
 fn check<R: RandomSource + Threads + Wait>(
     rt: &R,
     alloc: Global,
@@ -251,7 +252,7 @@ fn check<R: RandomSource + Threads + Wait>(
     Ok(compare(report, case.as_str(), "same", found.as_str())?)
 }
 
-/// Compares 100 queries, each over a document of its own.
+/// Compares the solutions of 100 queries, each over a document of its own.
 fn compare_drawn<R: RandomSource + Threads + Wait>(
     rt: &R,
     alloc: Global,
@@ -266,7 +267,7 @@ fn compare_drawn<R: RandomSource + Threads + Wait>(
     Ok(report)
 }
 
-/// Every query has the solutions of the plain evaluation, whatever the workers and the pieces.
+/// Every query has the solutions of plain_eval, whatever the workers and the pieces.
 #[test]
 fn queries_agree_with_the_plain_evaluation(rt: HostRuntime) {
     assert!(rt; is_empty(&rt, compare_drawn(&rt, rt.alloc())));

@@ -1,5 +1,5 @@
-//! Basic graph patterns that look random, with labels in every place of a triple: the operator has the rows of the
-//! plain one. No text of a query has a label as its predicate, so these patterns are not read.
+//! Pseudorandom basic graph patterns, with labels in every place of a triple pattern: the operator
+//! has the rows of plain_eval. They are not parsed, because no query has a label as a predicate.
 ghost use Rattle.std.specs.Prelude.{◌≡◌, true, map, IfOk};
 ghost use Rattle.std.specs.List.{list_all};
 ghost use Rattle.algebra_model.specs.Algebra.{is_below, is_triple_below};
@@ -21,7 +21,7 @@ use std::random::RandomSource;
 use std::sync::Wait;
 use std::thread::Threads;
 
-/// One of two variables, one of two labels, or a term.
+/// Returns one of two variables, one of two labels, or a term.
 fn spot(alloc: Global, draws: &mut Draws) -> Result<PatternTerm, AllocError>
     ensures below { IfOk result (λ spot. is_below 2 2 (pattern_term_of spot) ≡ true) }
 {
@@ -60,7 +60,7 @@ fn plainly_over(
     told_plain(alloc, &solutions)
 }
 
-/// Prints the solutions of the plain operator.
+/// Prints the solutions of plain_eval.
 fn plainly(
     alloc: Global,
     document: &str,
@@ -73,7 +73,7 @@ fn plainly(
     }
 }
 
-/// Compares a pattern in one graph of a document.
+/// Compares the rows of a pattern in one graph of a document.
 fn check<R: RandomSource + Threads + Wait>(
     rt: &R,
     alloc: Global,
@@ -92,7 +92,8 @@ fn check<R: RandomSource + Threads + Wait>(
     Ok(compare(report, case.as_str(), plain.as_str(), found.as_str())?)
 }
 
-/// Compares the pattern of two triples in the default graph, and in a named one if the document has its name.
+/// Compares the rows of a pattern of two triple patterns in the default graph, and in a named graph
+/// if the document has its name.
 fn check_drawn<R: RandomSource + Threads + Wait>(
     rt: &R,
     alloc: Global,
@@ -110,7 +111,7 @@ fn check_drawn<R: RandomSource + Threads + Wait>(
     Ok(())
 }
 
-/// Compares 200 patterns.
+/// Compares the rows of 200 patterns.
 fn compare_drawn<R: RandomSource + Threads + Wait>(
     rt: &R,
     alloc: Global,
@@ -123,7 +124,7 @@ fn compare_drawn<R: RandomSource + Threads + Wait>(
     Ok(report)
 }
 
-/// Every pattern has the rows of the plain operator.
+/// Every pattern has the rows of plain_eval.
 #[test]
 fn patterns_agree_with_the_plain_one(rt: HostRuntime) {
     assert!(rt; is_empty(&rt, compare_drawn(&rt, rt.alloc())));

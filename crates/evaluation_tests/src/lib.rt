@@ -1,12 +1,15 @@
-//! Tests of the operators and of the evaluation of whole plans, the calls of sparql_eval: `operators`, `patterns`,
-//! `plans`, `drawn` and `drawn_patterns`. What is expected is worked out by hand from the standard, or by the plain operators of
-//! plain_eval.
+//! Tests of the operators and the evaluation of plans in sparql_eval: `operators`, `patterns`,
+//! `plans`, `drawn` and `drawn_patterns`. The expected results are derived by hand from the
+//! standard, or computed by plain_eval.
 //!
-//! `cases` runs tables. `stores` loads documents, `rows` reads and prints rows, and `ways` has numbers of workers and
-//! sizes of pieces.
+//! `cases` runs tables, `stores` loads documents, `rows` reads rows and `printing` prints them, and
+//! `ways` has numbers of workers and sizes of pieces.
 //!
-//! The tests are in a crate of their own, so that a check of the tests proves no library a second time. A table is
-//! one constant text, and its test is one call: a function that owns trees or has a long local table is slow to prove.
+//! Standard: SPARQL 1.1 Query Language, sections 18.3, 18.5 and 18.6.
+//!
+//! The tests have a crate of their own, so a proof of the tests proves no library again. A table is
+//! one constant text, and its test is one call, because a function that owns trees or has a long
+//! local table is slow to prove.
 #![tactic(auto)]
 
 #[cfg(test)]

@@ -1,4 +1,5 @@
-//! Operators over rows, by worked examples, beside the plain operators, and with two workers that meet.
+//! Operators over rows: worked examples, comparisons with plain_eval, and runs in which two workers
+//! meet.
 ghost use Rattle.std.specs.Prelude.{◌≡◌, IfOk};
 ghost use Rattle.row_pieces.specs.How.{IsRunnable};
 ghost use Rattle.sparql_eval.specs.Evaluated.{AreKnown};
@@ -33,15 +34,15 @@ enum Operator {
     LeftJoin,
     Minus,
     Filter,
-    /// Of the second variable
+    /// Extends the second variable.
     Extend,
     Distinct,
     Union,
-    /// On the second variable, and one that no row has
+    /// Projects the second variable and one that no row has.
     Project,
 }
 
-/// The operators by their words. Those that take an expression have it after the word.
+/// The operators by their names. Some have an expression after the name.
 const WORDS: [(&str, Operator); 8] = [
     ("join", Operator::Join),
     ("left join", Operator::LeftJoin),
@@ -61,14 +62,14 @@ struct Task<'a> {
     right: &'a str,
 }
 
-/// Why an operator is called.
+/// The purpose of a call of an operator.
 #[derive(Clone, Copy)]
 pub(crate) enum Purpose {
-    /// To print its rows and the number of terms, with two workers, row by row.
+    /// Print its rows and the number of terms, with two workers, row by row.
     Answer,
-    /// To print whether two workers met, and its rows.
+    /// Print whether two workers met, and its rows.
     Meet,
-    /// To compare its rows with those of the plain operator, row by row and in one piece.
+    /// Compare its rows with those of plain_eval, row by row and in one piece.
     Compare,
 }
 
@@ -79,7 +80,7 @@ pub(crate) fn state_of<R: RandomSource>(rt: &R) -> Result<RandomState, EvalFault
     }
 }
 
-/// The rows of an operator.
+/// Returns the rows of an operator.
 fn made<R: Threads + Wait, G: Gate + Sync>(
     rt: &R,
     alloc: Global,
@@ -112,7 +113,8 @@ fn made<R: Threads + Wait, G: Gate + Sync>(
     }
 }
 
-/// Prints the rows of an operator over rows of the dictionary, and perhaps how many terms the dictionary has then.
+/// Prints the rows of an operator over rows of the dictionary. May print the number of terms that
+/// the dictionary then has.
 fn run<R: Threads + Wait, G: Gate + Sync>(
     rt: &R,
     alloc: Global,
@@ -184,7 +186,7 @@ fn met<R: RandomSource + Threads + Wait>(
     Ok(format!(in alloc; "{word}, {text}")?)
 }
 
-/// Whether the second variable is bound.
+/// The condition that the second variable is bound.
 struct SecondIsBound {}
 
 impl Condition for SecondIsBound {
@@ -200,7 +202,7 @@ impl Condition for SecondIsBound {
     }
 }
 
-/// The first variable.
+/// The value of the first variable.
 struct First {}
 
 impl Value for First {
@@ -219,7 +221,8 @@ impl Value for First {
     }
 }
 
-/// The extension of the second variable. For a variable it is `First`, without the expression's code.
+/// Returns the extension of the second variable by plain_eval. A variable is `First`, so the code
+/// of expressions is not used.
 fn plainly_extended(
     alloc: Global,
     expression: &Expr,
@@ -231,7 +234,8 @@ fn plainly_extended(
     }
 }
 
-/// The solutions of a plain operator. A condition is `SecondIsBound`, without the expression's code.
+/// Returns the solutions of an operator of plain_eval. A condition is `SecondIsBound`, so the code
+/// of expressions is not used.
 fn plainly_made(
     alloc: Global,
     operator: Operator,
@@ -262,14 +266,14 @@ fn plainly_told(
     told_plain(alloc, &made)
 }
 
-/// Prints the solutions of the plain operator.
+/// Prints the solutions of an operator of plain_eval.
 fn plainly(alloc: Global, task: Task<'_>, expression: &Expr) -> Result<String, AllocError> {
     let left = solutions_of(alloc, task.left)?;
     let right = solutions_of(alloc, task.right)?;
     plainly_told(alloc, task.operator, expression, &left, &right)
 }
 
-/// Prints `same` if the operator has the rows of the plain one, row by row and in one piece.
+/// Prints `same` if the operator has the rows of plain_eval, row by row and in one piece.
 fn compared<R: RandomSource + Threads + Wait>(
     rt: &R,
     alloc: Global,
@@ -304,7 +308,7 @@ pub(crate) fn verdict(
     }
 }
 
-/// The condition of a filter right below the projection.
+/// Returns the condition of a filter directly below the projection.
 fn condition_of(plan: &Plan) -> Option<&Expr> {
     match &plan.tree {
         sparql_algebra::Operator::Project { inner, .. } => match &**inner {
@@ -343,7 +347,7 @@ fn planned<R: RandomSource + Threads + Wait>(
     called(rt, alloc, task, &plan, purpose)
 }
 
-/// Calls an operator with the filter of a query's text as its expression.
+/// Calls an operator with the filter of a query as its expression.
 fn read<R: RandomSource + Threads + Wait>(
     rt: &R,
     alloc: Global,
@@ -357,7 +361,7 @@ fn read<R: RandomSource + Threads + Wait>(
     }
 }
 
-/// The operator that a text begins with, and its expression.
+/// Returns the operator that a text begins with, and its expression.
 fn operator_of(text: &str) -> (Operator, &str) {
     for (word, operator) in WORDS {
         if let Some(rest) = text.strip_prefix(word) {
@@ -375,7 +379,7 @@ fn operator_of(text: &str) -> (Operator, &str) {
     (Operator::Join, "no operator")
 }
 
-/// Prints what an operator makes of rows: `left join BOUND(?b): 0- 1- and 01`.
+/// Prints the result of an operator on rows: `left join BOUND(?b): 0- 1- and 01`.
 pub(crate) fn operated<R: RandomSource + Threads + Wait>(
     rt: &R,
     alloc: Global,
@@ -394,8 +398,9 @@ pub(crate) fn operated<R: RandomSource + Threads + Wait>(
     read(rt, alloc, task, text.as_str(), purpose)
 }
 
-/// A union has the rows of both sides, DISTINCT one of each, and a listed variable that no row has is never bound.
-/// Three pieces compute the same term, which the dictionary lacks: it is added once.
+/// A union has the rows of both sides, and DISTINCT each row once. A listed variable that no row
+/// has is never bound. Three pieces compute the same term, which the dictionary lacks: it is added
+/// once.
 const ROWS: &str = r#"
 union: 01 and 01 -0   => 3 terms, 3: - <a:x>; <a:x> <a:y>; <a:x> <a:y>
 distinct: 0- 01 0-    => 3 terms, 2: <a:x> -; <a:x> <a:y>
@@ -408,7 +413,7 @@ fn operators_go_over_rows(rt: HostRuntime) {
     assert!(rt; are_right(&rt, rt.alloc(), Reader::Operator(Purpose::Answer), ROWS));
 }
 
-/// Two workers meet in every operator that goes over pieces.
+/// Two workers meet in every operator that runs over pieces.
 const MEETINGS: &str = r#"
 filter true: 0- 1-           => met, 2: <a:x> -; <a:y> -
 extend true: 0- 1-           => met, 2: <a:x> "true"^^<http://www.w3.org/2001/XMLSchema#boolean>; <a:y> "true"^^<http://www.w3.org/2001/XMLSchema#boolean>
@@ -422,7 +427,7 @@ fn two_workers_meet(rt: HostRuntime) {
     assert!(rt; are_right(&rt, rt.alloc(), Reader::Operator(Purpose::Meet), MEETINGS));
 }
 
-/// The cells x, UNDEF and y.
+/// Returns the cells x, UNDEF and y.
 fn cells(alloc: Global) -> Result<Vec<Option<Term>>, AllocError> {
     let mut cells = Vec::new(alloc);
     cells.push(Some(iri(alloc, "a:x")?))?;
@@ -443,7 +448,7 @@ pub(crate) fn tabulated<R: RandomSource>(
     Ok(told(alloc, &dict, &rows)?)
 }
 
-/// A cell that is UNDEF binds nothing, and of a variable that is listed twice the first place counts.
+/// A cell that is UNDEF binds nothing. If a variable is listed twice, its first place is used.
 const TABLES: &str = "
 VALUES (?b ?a ?b) { (<a:x> UNDEF <a:y>) } => 1: - <a:x>
 ";
@@ -453,7 +458,7 @@ fn a_table_lists_rows(rt: HostRuntime) {
     assert!(rt; are_right(&rt, rt.alloc(), Reader::Table, TABLES));
 }
 
-/// Numbers that look random.
+/// A generator of pseudorandom numbers.
 #[derive(Drop)]
 pub(crate) struct Draws {
     pub(crate) state: u64,
@@ -472,7 +477,7 @@ impl Draws {
         (self.state >> 33) % n
     }
 
-    /// One of three terms, or none.
+    /// Returns one of three terms, or none.
     fn cell(&mut self) -> char {
         match self.below(4) {
             0 => '0',
@@ -482,7 +487,7 @@ impl Draws {
         }
     }
 
-    /// At most five rows.
+    /// Returns at most five rows.
     fn rows(&mut self, alloc: Global) -> Result<String, AllocError> {
         let mut rows = String::new(alloc);
         for _ in 0..self.below(6) {
@@ -507,7 +512,7 @@ const COMPARED: [&str; 9] = [
     "project",
 ];
 
-/// Compares each operator on two lists of rows.
+/// Compares the rows of each operator on two lists of rows.
 fn check_all<R: RandomSource + Threads + Wait>(
     rt: &R,
     alloc: Global,
@@ -523,7 +528,7 @@ fn check_all<R: RandomSource + Threads + Wait>(
     Ok(())
 }
 
-/// Compares each operator on 20 pairs of lists.
+/// Compares the rows of each operator on 20 pairs of lists.
 fn compare_drawn<R: RandomSource + Threads + Wait>(
     rt: &R,
     alloc: Global,
@@ -538,21 +543,21 @@ fn compare_drawn<R: RandomSource + Threads + Wait>(
     Ok(report)
 }
 
-/// Each operator has the rows of the plain one, whatever the workers and the pieces.
+/// Each operator has the rows of plain_eval, whatever the workers and the pieces.
 #[test]
 fn operators_agree_with_the_plain_ones(rt: HostRuntime) {
     assert!(rt; is_empty(&rt, compare_drawn(&rt, rt.alloc())));
 }
 
-/// The name of one variable.
+/// Returns the name of one variable.
 fn one_name(alloc: Global) -> Result<Vec<Text>, AllocError> {
     let mut names = Vec::new(alloc);
     names.push(Text::from_string(String::from_str(alloc, "x")?))?;
     Ok(names)
 }
 
-/// Prints whether two workers meet where two rows are printed, a row a piece, and the number of blocks: one for each
-/// row, one for what is before them and one for what is after them.
+/// Prints whether two workers meet while two rows are printed, with one row in a piece, and the
+/// number of blocks. There is one block for each row, one before them and one after them.
 fn met_over<R: Threads + Wait>(rt: &R, alloc: Global, dict: &Dict) -> Result<String, EvalFault> {
     let gate = Meeting::new();
     let rows = rows_of(alloc, dict, "0- 1-")?;
@@ -570,7 +575,7 @@ fn met_over<R: Threads + Wait>(rt: &R, alloc: Global, dict: &Dict) -> Result<Str
     Ok(format!(in alloc; "{word}, {} blocks", blocks.len())?)
 }
 
-/// Prints whether two workers meet where rows are printed.
+/// Prints whether two workers meet while rows are printed.
 pub(crate) fn met_in_printing<R: RandomSource + Threads + Wait>(
     rt: &R,
     alloc: Global,

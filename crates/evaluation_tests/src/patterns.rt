@@ -44,7 +44,7 @@ fn anything() -> TriplePattern
     }
 }
 
-/// The pattern of a text: `?0 predicate _:0`, and `?0 _:1 _:0` if the text is `_:1`.
+/// Returns the pattern of a text: `?0 predicate _:0`, or `?0 _:1 _:0` if the text is `_:1`.
 fn pattern_of(alloc: Global, predicate: &str) -> Result<TriplePattern, AllocError>
     ensures below { IfOk result (λ t. is_triple_below 1 2 (triple_pattern_of t) ≡ true) }
 {
@@ -55,7 +55,7 @@ fn pattern_of(alloc: Global, predicate: &str) -> Result<TriplePattern, AllocErro
     }
 }
 
-/// The name of a graph by its text, None for the default graph.
+/// Returns the name of a graph, or None for the default graph.
 pub(crate) fn name_of(alloc: Global, text: &str) -> Result<Option<Term>, AllocError> {
     if text == "default" {
         Ok(None)
@@ -64,7 +64,7 @@ pub(crate) fn name_of(alloc: Global, text: &str) -> Result<Option<Term>, AllocEr
     }
 }
 
-/// The number of a graph's name, None for the default graph.
+/// Returns the number of a graph's name, or None for the default graph.
 fn active(dict: &Dict, graph: &Option<Term>) -> Option<u64>
     ensures known { ForSome result (λ g. g < length dict.now) }
 {
@@ -119,8 +119,9 @@ pub(crate) fn solved<R: RandomSource + Threads + Wait>(
     rows_in(rt, alloc, dict, &index, &graph, 1, &triples)
 }
 
-/// A pattern is solved in the graph that is active. What is in another graph is no solution, and neither is a term
-/// that is nowhere. A solution counts once for each assignment of the labels.
+/// A pattern is evaluated over the active graph. A triple of another graph is no solution, and
+/// neither is a term that no graph has. The multiplicity of a solution is the number of assignments
+/// of the labels.
 const PATTERNS: &str = "
 a:p in default    => 2: <a:x>; <a:y>
 a:p in a:g        => 1: <a:x>

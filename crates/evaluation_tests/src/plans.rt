@@ -60,7 +60,7 @@ fn plainly_over(alloc: Global, quads: &[Quad], plan: &Plan) -> Result<String, Al
     told_plain(alloc, &solutions)
 }
 
-/// Prints the solutions of the plain evaluation of a plan.
+/// Prints the solutions of a plan according to plain_eval.
 pub(crate) fn plainly(alloc: Global, document: &str, plan: &Plan) -> Result<String, AllocError> {
     match read_piece(alloc, document.as_bytes()) {
         Ok(piece) => plainly_over(alloc, &piece.quads, plan),
@@ -68,7 +68,8 @@ pub(crate) fn plainly(alloc: Global, document: &str, plan: &Plan) -> Result<Stri
     }
 }
 
-/// Appends the solutions of one way if they differ from the plain ones.
+/// Appends the solutions with one number of workers and size of pieces, if they differ from those
+/// of plain_eval.
 fn check_way<R: RandomSource + Threads + Wait>(
     rt: &R,
     alloc: Global,
@@ -85,7 +86,8 @@ fn check_way<R: RandomSource + Threads + Wait>(
     Ok(())
 }
 
-/// Prints the solutions of the plain evaluation, and after them those of each way that differ.
+/// Prints the solutions of plain_eval, followed by those that differ, for each number of workers
+/// and size of pieces.
 fn everywhere<R: RandomSource + Threads + Wait>(
     rt: &R,
     alloc: Global,
@@ -123,14 +125,15 @@ fn growth_of_document<R: RandomSource + Threads + Wait>(
     growth(rt, alloc, dict, &index, plan)
 }
 
-/// What is printed of a query.
+/// What is printed for a query.
 #[derive(Clone, Copy)]
 enum Asked {
     Solutions,
     Growth,
 }
 
-/// The plan of a query, in a box: a function that owns a tree by value is slow to prove.
+/// Returns the plan of a query in a box, because a function that owns a tree by value is slow to
+/// prove.
 pub(crate) fn plan_of(alloc: Global, query: &Query) -> Result<Box<Plan>, AllocError> {
     Ok(Box::new(alloc, translate(alloc, query)?)?)
 }
@@ -160,7 +163,8 @@ fn read<R: RandomSource + Threads + Wait>(
     }
 }
 
-/// Prints the solutions of a query by the plain evaluation, and those of each way that differ.
+/// Prints the solutions of a query according to plain_eval, followed by those that differ, for each
+/// number of workers and size of pieces.
 pub(crate) fn solved<R: RandomSource + Threads + Wait>(
     rt: &R,
     alloc: Global,
@@ -169,7 +173,7 @@ pub(crate) fn solved<R: RandomSource + Threads + Wait>(
     read(rt, alloc, case, Asked::Solutions)
 }
 
-/// Prints how many terms the evaluation of a query adds to the document's.
+/// Prints how many terms the evaluation of a query adds to those of the document.
 pub(crate) fn added<R: RandomSource + Threads + Wait>(
     rt: &R,
     alloc: Global,
@@ -178,7 +182,7 @@ pub(crate) fn added<R: RandomSource + Threads + Wait>(
     read(rt, alloc, case, Asked::Growth)
 }
 
-/// OPTIONAL.
+/// OPTIONAL ([57] `OptionalGraphPattern`).
 const OPTIONALS: &str = r#"
 # The filter in OPTIONAL is the condition of the left join: it sees the left row, and if it fails that row is kept.
 SELECT * { ?s <a:p> ?o OPTIONAL { ?o <a:p> ?z FILTER(sameTerm(?s, <a:x>)) } } => 2: <a:x> <a:y> <a:z>; <a:y> <a:z> -
@@ -210,7 +214,7 @@ fn queries_have_their_solutions(rt: HostRuntime) {
     assert!(rt; are_right(&rt, rt.alloc(), Reader::Query, OPERATORS));
 }
 
-/// GRAPH.
+/// GRAPH ([58] `GraphGraphPattern`).
 const NAMED_GRAPHS: &str = r#"
 # With a variable each named graph is tried, also one whose name is a blank node. The variable is bound after the
 # inner pattern: if that binds it, the two have to agree.
@@ -231,7 +235,8 @@ fn a_graph_is_known_by_its_name(rt: HostRuntime) {
     assert!(rt; are_right(&rt, rt.alloc(), Reader::Query, NAMED_GRAPHS));
 }
 
-/// A computed term that the document has gets that term's number. Another one is added to the dictionary.
+/// A computed term that the document has gets the number of that term. Another computed term is
+/// added to the dictionary.
 const ADDED: &str = "
 SELECT * { ?s <a:q> ?v BIND(STR(?v) AS ?w) }      => 0
 SELECT * { ?s <a:q> ?v BIND(DATATYPE(?v) AS ?w) } => 1
@@ -242,7 +247,7 @@ fn a_computed_term_gets_the_number_of_an_equal_one(rt: HostRuntime) {
     assert!(rt; are_right(&rt, rt.alloc(), Reader::Added, ADDED));
 }
 
-/// The empty pattern.
+/// Creates the empty pattern.
 fn empty_pattern(alloc: Global) -> Operator
     ensures within { is_within 1 (algebra_of result) ≡ true }
 {
@@ -252,7 +257,7 @@ fn empty_pattern(alloc: Global) -> Operator
     }
 }
 
-/// The name of a text: `?g` is the first variable.
+/// Returns the graph name of a text: `?g` is the first variable.
 fn graph_name(alloc: Global, text: &str) -> Result<GraphName, AllocError>
     ensures below { IfOk result (λ name. is_name_below 1 (graph_name_of name) ≡ true) }
 {

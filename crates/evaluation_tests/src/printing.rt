@@ -1,5 +1,5 @@
-//! Solutions as text: their number, and in the order of their texts the N-Quads form of each term. `-` is an unbound
-//! variable.
+//! Solutions as text: their number, followed by the solutions in the order of their texts. A
+//! solution is the N-Quads form of each term, with `-` for an unbound variable.
 use dict_core::Dict;
 use plain_eval::Solution;
 use rdf_core::vocabulary::XSD_STRING;
@@ -7,7 +7,7 @@ use rdf_core::{Term, Text};
 use row_core::Rows;
 use std::alloc::{AllocError, Global};
 
-/// Appends the tag or the datatype of a literal. `xsd:string` is left out.
+/// Appends the language tag or the datatype of a literal. `xsd:string` is left out.
 fn push_kind(out: &mut String, datatype: &str, tag: &Option<Text>) -> Result<(), AllocError> {
     if let Some(tag) = tag {
         return write!(out, "@{tag}");

@@ -1,5 +1,5 @@
-//! Rows of two variables as text, as `01 2-`: each digit is the number of a term, and `-` is an unbound cell. The
-//! terms 0, 1 and 2 are the IRIs `a:x`, `a:y` and `a:z`.
+//! Rows of two variables as text, such as `01 2-`: each digit is the number of a term, and `-` is
+//! an unbound cell. The terms 0, 1 and 2 are the IRIs `a:x`, `a:y` and `a:z`.
 ghost use Rattle.std.specs.Prelude.{◌≡◌, IfOk, OnOk};
 ghost use Rattle.sparql_eval.specs.Evaluated.{AreKnown};
 ghost use Rattle.sparql_eval.specs.Numbered.{IsKnownCell};
@@ -26,7 +26,7 @@ fn add_names(alloc: Global, dict: &mut Dict) -> Result<(), EvalFault> {
     Ok(())
 }
 
-/// The dictionary of the three terms.
+/// Returns the dictionary of the three terms.
 pub(crate) fn dict_of(alloc: Global, state: RandomState) -> Result<Dict, EvalFault> {
     let mut dict = Dict::new(alloc, state)?;
     add_names(alloc, &mut dict)?;
@@ -39,7 +39,7 @@ fn cell(character: char) -> Option<u64> {
     character.to_digit(10).map(u64::from)
 }
 
-/// The rows of a text.
+/// Returns the rows of a text.
 fn pairs(alloc: Global, text: &str) -> Result<Vec<Pair>, AllocError> {
     let mut pairs = Vec::new(alloc);
     let mut first = None;
@@ -53,7 +53,7 @@ fn pairs(alloc: Global, text: &str) -> Result<Vec<Pair>, AllocError> {
     Ok(pairs)
 }
 
-/// The cell, or an unbound one if the dictionary has no term with its number.
+/// Returns the cell, or an unbound one if the dictionary has no term with its number.
 fn known_cell(dict: &Dict, cell: Option<u64>) -> Option<u64>
     ensures known { IsKnownCell dict.now result }
 {
@@ -76,7 +76,7 @@ fn add_pair(dict: &Dict, rows: &mut Rows, pair: Pair) -> Result<(), AllocError>
     Ok(())
 }
 
-/// Rows of two variables, of numbers that the dictionary has.
+/// Returns rows of two variables, with numbers that the dictionary has.
 fn of_pairs(alloc: Global, dict: &Dict, pairs: &[Pair]) -> Result<Rows, AllocError>
     ensures wide { IfOk result (λ rows. rows.width ≡ 2) }
     ensures known { IfOk result (λ rows. AreKnown dict.now rows) }
@@ -88,7 +88,7 @@ fn of_pairs(alloc: Global, dict: &Dict, pairs: &[Pair]) -> Result<Rows, AllocErr
     Ok(rows)
 }
 
-/// The rows of a text, of numbers that the dictionary has.
+/// Returns the rows of a text, with numbers that the dictionary has.
 pub(crate) fn rows_of(alloc: Global, dict: &Dict, text: &str) -> Result<Rows, AllocError>
     ensures wide { IfOk result (λ rows. rows.width ≡ 2) }
     ensures known { IfOk result (λ rows. AreKnown dict.now rows) }
@@ -97,7 +97,7 @@ pub(crate) fn rows_of(alloc: Global, dict: &Dict, text: &str) -> Result<Rows, Al
     of_pairs(alloc, dict, &pairs)
 }
 
-/// The term of a cell.
+/// Returns the term of a cell.
 fn term_of(alloc: Global, cell: Option<u64>) -> Result<Option<Term>, AllocError> {
     match cell {
         Some(0) => Ok(Some(iri(alloc, "a:x")?)),
@@ -107,7 +107,7 @@ fn term_of(alloc: Global, cell: Option<u64>) -> Result<Option<Term>, AllocError>
     }
 }
 
-/// The solution of a row.
+/// Returns the solution of a row.
 fn solution_of(alloc: Global, pair: Pair) -> Result<Solution, AllocError> {
     let mut terms = Vec::new(alloc);
     for cell in pair {
@@ -116,7 +116,7 @@ fn solution_of(alloc: Global, pair: Pair) -> Result<Solution, AllocError> {
     Ok(Solution::of(terms))
 }
 
-/// The rows of a text as solutions of terms.
+/// Returns the rows of a text as solutions of terms.
 pub(crate) fn solutions_of(alloc: Global, text: &str) -> Result<Vec<Solution>, AllocError> {
     let mut solutions = Vec::new(alloc);
     for pair in &pairs(alloc, text)? {

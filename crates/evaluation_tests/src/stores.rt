@@ -10,8 +10,8 @@ use std::alloc::{AllocError, Global};
 use std::hash::RandomState;
 use std::random::RandomSource;
 
-/// In the default graph x p y, y p z and x q "5"; x p y and x r g in the graph g; y p x in the graph
-/// of a blank node.
+/// A document with three graphs. The default graph has x p y, y p z and x q "5". The graph g has x
+/// p y and x r g. The graph of a blank node has y p x.
 pub(crate) const DOCUMENT: &str = r#"<a:x> <a:p> <a:y> .
 <a:y> <a:p> <a:z> .
 <a:x> <a:q> "5" .
@@ -20,7 +20,7 @@ pub(crate) const DOCUMENT: &str = r#"<a:x> <a:p> <a:y> .
 <a:y> <a:p> <a:x> _:h .
 "#;
 
-/// The dictionary and the index of a document.
+/// Returns the dictionary and the index of a document.
 pub(crate) fn store<R: RandomSource>(
     rt: &R,
     alloc: Global,
@@ -42,7 +42,7 @@ pub(crate) fn store<R: RandomSource>(
     Ok((dict, index))
 }
 
-/// The IRI of a text.
+/// Returns the IRI of a text.
 pub(crate) fn iri(alloc: Global, name: &str) -> Result<Term, AllocError> {
     Ok(Term::Iri(Text::from_string(String::from_str(alloc, name)?)))
 }

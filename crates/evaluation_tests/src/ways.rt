@@ -1,12 +1,13 @@
-//! Numbers of workers and sizes of pieces.
+//! Numbers of workers and sizes of pieces. A *way* is one of each.
 ghost use Rattle.row_pieces.specs.How.{IsRunnable};
 
 use row_pieces::How;
 
-/// How many ways there are.
+/// The number of ways.
 pub(crate) const COUNT: u8 = 6;
 
-/// Returns the way with this number: 1, 2 or 8 workers, row by row below 3, and else in pieces of 1024 rows.
+/// Returns the way with this number: 1, 2 or 8 workers. Numbers below 3 run row by row, and the
+/// others in pieces of 1024 rows.
 pub(crate) fn way(number: u8) -> How
     ensures runnable { IsRunnable result }
 {
