@@ -1,4 +1,4 @@
-//! The board on worked examples, and with two threads.
+//! The claim board: worked examples, and runs with two threads.
 ghost use Rattle.std.specs.Prelude.{◌≡◌, ◌∷◌, ◌^◌, ◌≤◌, [], IfOk, All, vec_len};
 ghost use Rattle.piece_board.specs.Board.{IsPassOf};
 ghost use Rattle.piece_board.specs.Pass.{unused};
@@ -25,7 +25,7 @@ pub(crate) fn open_two(alloc: Global, n: u64) -> Result<(Board, Pass, Pass), Boa
     Ok((board, a, b))
 }
 
-/// The vector of two values.
+/// Returns a vector of two values.
 pub(crate) fn pair<T: Drop>(alloc: Global, a: T, b: T) -> Result<Vec<T>, AllocError>
     ensures items { IfOk result (λ pair. pair.items ≡ a ∷ b ∷ []) }
 {
@@ -44,7 +44,7 @@ fn close_two(alloc: Global, board: Board, a: Pass, b: Pass) -> Result<Closed, Al
     Ok(board.close(pair(alloc, a, b)?))
 }
 
-/// Draws until there is no number left, and counts the numbers.
+/// Draws until no number is left, and counts the numbers.
 fn draw_all(board: &Board, mut pass: Pass) -> (Pass, u64)
     requires of_board { IsPassOf board.now pass }
     requires unfinished { pass.history.finished ≡ 0 }
@@ -81,7 +81,7 @@ fn draw_with_two_threads<R: Threads>(
     Ok((first, second, close_two(alloc, board, a, b)?))
 }
 
-/// Two threads share one board, which no proof of a single thread runs.
+/// Two threads share one board. The clauses say nothing about a second thread.
 #[test]
 fn two_threads_draw_each_number_once(rt: HostRuntime) -> Result<(), BoardFault> {
     let (first, second, closed) = draw_with_two_threads(&rt, rt.alloc(), 1000)?;
@@ -96,13 +96,13 @@ fn is_closed(closed: &Closed, drawn: u64, skipped: u64, least: u64) -> bool {
     closed.drawn == drawn && closed.skipped == skipped && closed.least == least
 }
 
-/// Does what the letter says with a pass, and returns the number that the step is about, if there is one.
+/// Makes the step of a letter with a pass. Returns the number that the step is about, if any.
 ///
 /// - `d` draws a number, unless the pass is finished.
 /// - `r` reports the last draw.
-/// - `l` looks for the least report.
+/// - `l` reads the least report.
 /// - `s` skips the last draw, if it is above the least report that the pass has seen.
-/// - `f` gives 1 if the pass is finished, and 0 if not.
+/// - `f` returns 1 if the pass is finished, and 0 if not.
 fn step(board: &Board, pass: &mut Pass, letter: u8) -> Option<u64>
     requires of_board { IsPassOf board.now pass.old }
     ensures of_board { IsPassOf board.now pass.new }
@@ -151,7 +151,8 @@ fn skip_last(board: &Board, pass: &mut Pass) -> Option<u64>
     Some(last)
 }
 
-/// Does the steps of a script in turn: those in lower case with `a`, those in upper case with `b`.
+/// Makes the steps of a script in turn: lower case letters with `a`, and upper case letters with
+/// `b`.
 fn play(
     board: &Board,
     a: &mut Pass,
@@ -186,7 +187,8 @@ fn played(alloc: Global, n: u64, script: &str) -> Result<(Vec<Option<u64>>, Clos
     Ok((found, closed))
 }
 
-/// Plays a script, and prints the numbers of its steps, `-` for none, and what the closed board says.
+/// Plays a script, and prints the numbers of its steps, with `-` for none, and the totals of the
+/// closed board.
 fn told(alloc: Global, n: u64, script: &str) -> Result<String, BoardFault>
     requires pieces { n ≤ 2 ^ 62 }
 {
@@ -205,7 +207,7 @@ fn told(alloc: Global, n: u64, script: &str) -> Result<String, BoardFault>
     Ok(text)
 }
 
-/// What one pass reports the other one sees, and skips what is above.
+/// A pass sees what the other pass reports, and skips larger numbers.
 #[test]
 fn a_skip_is_above_a_seen_report(rt: HostRuntime) -> Result<(), BoardFault> {
     let text = told(rt.alloc(), 4, "dDdRlsDLSdDfF")?;
@@ -216,7 +218,8 @@ fn a_skip_is_above_a_seen_report(rt: HostRuntime) -> Result<(), BoardFault> {
     Ok(())
 }
 
-/// With one number and two passes, the second to come draws none, and sees the report of the first.
+/// With one number and two passes, the second pass to draw gets no number, and sees the report of
+/// the first one.
 #[test]
 fn one_piece_and_two_passes(rt: HostRuntime) -> Result<(), BoardFault> {
     let text = told(rt.alloc(), 1, "dDrL")?;
@@ -240,7 +243,7 @@ fn draw_in_turn(alloc: Global, board: &Board, passes: Vec<Pass>) -> Result<Vec<P
     Ok(drawn)
 }
 
-/// The pass after it drew once, unless it was finished.
+/// Returns the pass after one draw, or unchanged if it was finished.
 fn drawn_unless_finished(board: &Board, mut pass: Pass) -> Pass
     requires of_board { IsPassOf board.now pass }
     ensures of_board { IsPassOf board.now result }
@@ -249,7 +252,7 @@ fn drawn_unless_finished(board: &Board, mut pass: Pass) -> Pass
     pass
 }
 
-/// Does `rounds` rounds of `draw_in_turn`.
+/// Runs `rounds` rounds of `draw_in_turn`.
 fn draw_rounds(
     alloc: Global,
     board: &Board,
@@ -266,7 +269,7 @@ fn draw_rounds(
     Ok(passes)
 }
 
-/// Whether three rounds draw all numbers of a board and finish each of its passes.
+/// Returns whether three rounds draw all numbers of a board and finish each of its passes.
 fn are_drawn_in_turn(alloc: Global, n: u64, seats: usize) -> Result<bool, BoardFault>
     requires pieces { n ≤ 2 ^ 62 }
     requires seats { (1 ≤ seats) × (seats ≤ 64) }
@@ -280,8 +283,8 @@ fn are_drawn_in_turn(alloc: Global, n: u64, seats: usize) -> Result<bool, BoardF
     Ok(is_opened && are_over && is_closed(&board.close(passes), n, 0, n))
 }
 
-/// As many seats as there can be, and about as many numbers: the last round finishes every pass. A board of no
-/// number finishes a pass at its first draw.
+/// The largest number of seats, and about as many numbers: the last round finishes every pass. An
+/// empty board finishes a pass at its first draw.
 #[test]
 fn seats_draw_in_turn(rt: HostRuntime) -> Result<(), BoardFault> {
     for (n, seats) in [(0, 1), (0, 64), (1, 64), (63, 64), (64, 64), (65, 64)] {

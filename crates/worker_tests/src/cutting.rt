@@ -13,7 +13,7 @@ fn append(text: &mut String, bytes: &[u8]) -> Result<(), AllocError> {
     text.push_str(str::from_utf8(bytes).unwrap_or("?"))
 }
 
-/// The pieces of a document, each after a bar.
+/// Prints the pieces of a document, each after a bar.
 fn pieces(alloc: Global, doc: &str, cuts: &Cuts) -> Result<String, AllocError> {
     let mut text = String::new(alloc);
     if cuts.fits(doc.as_bytes()) {
@@ -24,7 +24,7 @@ fn pieces(alloc: Global, doc: &str, cuts: &Cuts) -> Result<String, AllocError> {
     Ok(text)
 }
 
-/// The pieces of at least `size` bytes.
+/// Prints the pieces of at least `size` bytes.
 fn pieces_of_size(alloc: Global, doc: &str, size: usize) -> Result<String, AllocError>
     requires some { 1 ≤ size }
 {
@@ -55,7 +55,8 @@ fn every_cuts_behind_line_feeds(rt: HostRuntime) -> Result<(), AllocError> {
     Ok(())
 }
 
-/// The pieces of the document that is cut at these places, or `none` if they are no cuts of it.
+/// Prints the pieces of the document that is split at these places, or `none` if the places do not
+/// fit it.
 fn pieces_at(alloc: Global, places: &[usize]) -> Result<String, AllocError> {
     match Cuts::of(DOCUMENT.as_bytes(), Vec::from_slice(alloc, places)?) {
         Some(cuts) => pieces(alloc, DOCUMENT, &cuts),
@@ -97,7 +98,8 @@ fn append_next(
     }
 }
 
-/// What six calls give of the blocks of a document, of which a byte a call is read until the reader fails.
+/// Prints the results of six calls for the blocks of a document. The reader gives one byte per
+/// call, until it fails.
 fn blocks(alloc: Global, doc: &str, size: usize, until: usize) -> Result<String, AllocError>
     requires some { 1 ≤ size }
 {
@@ -110,7 +112,8 @@ fn blocks(alloc: Global, doc: &str, size: usize, until: usize) -> Result<String,
     Ok(text)
 }
 
-/// The blocks are the pieces. Each call after the last block gives none, and each call after a fault the same fault.
+/// The blocks are the pieces. Each call after the last block returns none, and each call after a
+/// fault the same fault.
 #[test]
 fn blocks_are_the_pieces_and_a_fault_is_repeated(rt: HostRuntime) -> Result<(), AllocError> {
     let cases = [
@@ -129,14 +132,14 @@ fn blocks_are_the_pieces_and_a_fault_is_repeated(rt: HostRuntime) -> Result<(), 
     Ok(())
 }
 
-/// The room of the first block.
+/// Returns the capacity of the first block.
 fn capacity_of_first(alloc: Global) -> Result<Option<usize>, BlockFault> {
     let mut reader = SliceSource::new(DOCUMENT.as_bytes(), 1);
     let mut blocks = Blocks::new(alloc, 1).map_err(|_| BlockFault::Memory)?;
     Ok(blocks.next(&mut reader)?.map(|block| block.capacity()))
 }
 
-/// A block keeps no room for what was read with it.
+/// The capacity of a block does not include bytes that were read for later blocks.
 #[test]
 fn a_block_has_room_for_its_own_bytes(rt: HostRuntime) {
     let capacity = capacity_of_first(rt.alloc());

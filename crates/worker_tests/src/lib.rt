@@ -1,7 +1,8 @@
-//! Tests of pieces and workers: `boards` of piece_board, `pools` and `refusals` (what is left where memory or a
-//! worker thread is missing) of piece_pool, `cutting` of piece_cuts.
+//! Tests of pieces and workers: `boards` of piece_board, `pools` and `refusals` of piece_pool, and
+//! `cutting` of piece_cuts. `refusals` tests what is left if an allocation fails or a worker thread
+//! cannot be started.
 //!
-//! They are in a crate of their own, so that a check of the tests proves nothing a second time.
+//! The tests have a crate of their own, so a proof of the tests proves no library again.
 #![tactic(auto)]
 
 #[cfg(test)]

@@ -1,4 +1,4 @@
-//! The pool on jobs of the tests: what no clause says of threads and gates.
+//! Runs of the pool that show what no clause says about threads and gates.
 ghost use Rattle.std.specs.Prelude.{◌≡◌, ◌≤◌, ◌^◌};
 ghost use Rattle.piece_board.specs.Pass.{unused};
 ghost use Rattle.piece_pool.specs.Worked.{IsWorked};
@@ -15,7 +15,7 @@ use std::thread;
 use std::thread::Threads;
 use test_fixtures::{Counter, Meeting, Numbers};
 
-/// The outcome of a run of [`Numbers`].
+/// The result of a run of [`Numbers`].
 #[derive(Clone, Copy, Debug, PartialEq, Eq)]
 enum Ran {
     /// The number of results, if result `i` is `i`.
@@ -61,8 +61,8 @@ fn run<R: Threads + Wait, G: Gate + Sync>(
     }
 }
 
-/// Each result is in its place, and each piece passed the gate once, for every number of workers. Without pieces
-/// the gate and the job are not called.
+/// Each output is at its index, and each piece passed the gate once, for every number of workers.
+/// Without pieces, neither the gate nor the job is called.
 #[test]
 fn each_piece_in_its_place(rt: HostRuntime) {
     for (workers, n) in [
@@ -85,7 +85,7 @@ fn each_piece_in_its_place(rt: HostRuntime) {
     }
 }
 
-/// The least faulty piece is named, whichever fault was found first.
+/// The result is the least faulty piece, whichever fault was found first.
 #[test]
 fn the_least_fault_is_named(rt: HostRuntime) {
     let expected = Ran::Faulty {
@@ -105,7 +105,7 @@ fn the_least_fault_is_named(rt: HostRuntime) {
     }
 }
 
-/// With one worker and faulty pieces alone, the first piece is run, and the others are skipped.
+/// If all pieces are faulty, one worker runs the first piece and skips the others.
 #[test]
 fn pieces_above_a_fault_are_skipped(rt: HostRuntime) {
     let gate = Counter::new();
@@ -119,8 +119,8 @@ fn pieces_above_a_fault_are_skipped(rt: HostRuntime) {
     );
 }
 
-/// Two pieces that wait for each other meet, so two threads run them at the same time. A pool with a single thread
-/// reaches the limit of the wait.
+/// Two pieces that wait for each other meet, so two threads run them at the same time. With a
+/// single thread the wait would reach its limit.
 #[test]
 fn two_pool_workers_meet(rt: HostRuntime) {
     let gate = Meeting::new();
@@ -130,8 +130,8 @@ fn two_pool_workers_meet(rt: HostRuntime) {
     assert!(rt; gate.is_met(), "the workers did not meet");
 }
 
-/// Runs pieces 10 to 12 of a document as a job of three pieces. Returns the sum of the numbers that its gate got, if
-/// each result is in its place.
+/// Runs the pieces 10 to 12 of a document as a job of three pieces. Returns the sum of the numbers
+/// that its gate got, if each output is at its index.
 fn sum_of_numbers<R: Threads + Wait>(rt: &R, alloc: Global, workers: usize) -> Option<u64>
     requires workers { (1 ≤ workers) × (workers ≤ 64) }
 {
@@ -147,7 +147,8 @@ fn sum_of_numbers<R: Threads + Wait>(rt: &R, alloc: Global, workers: usize) -> O
     Some(counter.sum())
 }
 
-/// With an offset a gate gets the number of each piece in the document, in parallel and with one worker.
+/// With an offset, a gate gets the number of each piece in the document, in parallel and with one
+/// worker.
 #[test]
 fn an_offset_gate_numbers_the_pieces_of_a_document(rt: HostRuntime) {
     let alone = sum_of_numbers(&rt, rt.alloc(), 1);
@@ -158,7 +159,7 @@ fn an_offset_gate_numbers_the_pieces_of_a_document(rt: HostRuntime) {
     );
 }
 
-/// Works with a pass in each of two threads.
+/// Calls `work` on two threads, with one pass each.
 fn work_twice<R: Threads, J: Job + Sync, G: Gate + Sync>(
     rt: &R,
     alloc: Global,
@@ -191,7 +192,7 @@ where
     )
 }
 
-/// Whether neither of two workers stopped, and what they did together.
+/// Returns whether neither of two workers stopped, and the combined result.
 fn gathered<R: Threads>(
     rt: &R,
     alloc: Global,
@@ -207,7 +208,8 @@ fn gathered<R: Threads>(
     Ok(Ran::of(&gather(alloc, board, works, job)?))
 }
 
-/// The two halves of the pool on threads of the test: the two workers meet, and `gather` runs nothing again.
+/// The two functions of the pool on threads of the test: the two workers meet, and `gather` runs no
+/// piece again.
 #[test]
 fn two_threads_work_on_one_board(rt: HostRuntime) -> Result<(), BoardFault> {
     let gate = Meeting::new();
@@ -219,7 +221,7 @@ fn two_threads_work_on_one_board(rt: HostRuntime) -> Result<(), BoardFault> {
     Ok(())
 }
 
-/// Has no memory for any piece.
+/// A job that is out of memory for every piece.
 #[derive(Drop)]
 struct Starved;
 
@@ -241,14 +243,14 @@ impl Job for Starved {
     ghost exclusive = { λ _ _ _ _ a _. a };
 }
 
-/// A job that is out of memory makes the pool fail, and no piece faulty.
+/// If a job is out of memory, the pool returns an error and no faulty piece.
 #[test]
 fn a_job_without_memory(rt: HostRuntime) {
     let outcome = run_pieces(&rt, rt.alloc(), 2, 5, &Starved, &OpenGate);
     assert!(rt; matches!(outcome, Err(PoolFault::Memory)));
 }
 
-/// Returns for each piece a word of a borrowed list.
+/// A job that returns for each piece a word of a borrowed list.
 #[derive(Drop)]
 struct Words<'a> {
     words: &'a [u64],
@@ -272,7 +274,7 @@ impl<'a> Job for Words<'a> {
     ghost exclusive = { λ _ _ _ _ _ f. f };
 }
 
-/// A job may borrow what it works on.
+/// A job may borrow its input.
 #[test]
 fn a_job_that_borrows(rt: HostRuntime) {
     let words = [7u64, 8, 9];

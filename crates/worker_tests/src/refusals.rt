@@ -1,8 +1,10 @@
-//! What is left if an allocation fails or a worker thread cannot be started, whichever it is.
+//! The state that is left if an allocation fails or a worker thread cannot be started, at any of
+//! these calls.
 //!
-//! With ample memory nothing fails here. tests/refusals.sh runs each of these tests with its first allocation
-//! failing, then with its second, and so on, until nothing fails in a run; and the same with the starts of
-//! workers. At most one call fails in a run, so a second try has to succeed.
+//! With enough memory nothing fails here. tests/refusals.sh runs each of these tests with its first
+//! allocation failing, then with its second, and so on, until nothing fails in a run. It does the
+//! same with the starts of workers. At most one call fails in a run, so a second attempt must
+//! succeed.
 ghost use Rattle.std.specs.Prelude.{◌≤◌};
 
 use piece_pool::{Outcome, PoolFault, run_pieces};
@@ -11,8 +13,9 @@ use std::sync::Wait;
 use std::thread::Threads;
 use test_fixtures::{Counter, Numbers};
 
-/// Runs nine pieces, of which those below `sound` are not faulty. What failed is printed, for the script to see, and
-/// run again. Returns None if a piece that entered the gate has not left it.
+/// Runs nine pieces; those below `sound` are not faulty. If an allocation or a start of a worker
+/// fails, this is printed for the script, and the pieces are run again. Returns None if a piece
+/// that entered the gate has not left it.
 fn outcome_of<R: Threads + Wait + Print>(
     rt: &R,
     alloc: Global,
@@ -43,7 +46,7 @@ fn print_fault<R: Print>(rt: &R, fault: PoolFault) {
     let _ = println!(rt; "{what} was refused");
 }
 
-/// Each worker that was started has been joined, and no results replace the failure.
+/// Each started worker has been joined, and an error is not replaced by outputs.
 #[test]
 fn a_refused_run_joins_its_workers(rt: HostRuntime) {
     for workers in [1usize, 2, 4] {
@@ -58,7 +61,7 @@ fn a_refused_run_joins_its_workers(rt: HostRuntime) {
     }
 }
 
-/// No other piece is named in place of the least faulty one.
+/// No other piece is returned in place of the least faulty one.
 #[test]
 fn a_refused_run_names_no_other_fault(rt: HostRuntime) {
     for workers in [1usize, 2, 4] {
