@@ -1,11 +1,11 @@
-//! Words of command lines, and the commands that they are.
+//! Command lines: their arguments, and the commands that they are.
 
 use crate::tests::words::words_of;
 use spq_command::{Command, CommandFault, read_command};
 use std::alloc::{AllocError, Global};
 
-/// The command as text: its name, the workers and the bytes of a block, and of a select the rows of a piece and the
-/// query. Words that are no command are `none`.
+/// Prints a command: its name, the number of workers and the bytes of a block. For a select it adds
+/// the rows of a piece and the query. Prints `none` for arguments that are no valid command line.
 fn told(alloc: Global, line: &[&str]) -> Result<String, AllocError> {
     let words = words_of(alloc, line)?;
     match read_command(alloc, &words) {
@@ -34,7 +34,7 @@ fn command_text(alloc: Global, command: &Command) -> Result<String, AllocError> 
     }
 }
 
-/// Words and the command that they are.
+/// Arguments, and the printed command.
 const COMMANDS: [(&[&str], &str); 9] = [
     // A query, and the defaults.
     (
@@ -74,7 +74,7 @@ const COMMANDS: [(&[&str], &str); 9] = [
     (&["", "select", "--query", "-"], "select 4 65536 1024 -"),
 ];
 
-/// Words that are no command.
+/// Arguments that are no valid command line.
 const NO_COMMANDS: [&[&str]; 20] = [
     &[],
     &["spq", "help"],
@@ -98,7 +98,8 @@ const NO_COMMANDS: [&[&str]; 20] = [
     &["spq", "terms", "more"],
 ];
 
-/// Whether the words are this command. It is printed if not.
+/// Returns whether the arguments are this command. Prints the command that was read if they are
+/// not.
 fn is_read<R: Print>(
     rt: &R,
     alloc: Global,

@@ -1,9 +1,9 @@
-//! Tests of the program's calls: `answer`, `run`, `write_fault` and `status` of spq_core over devices in
-//! memory, and the command lines of spq_command.
+//! Tests of the program's calls. `tests` runs `answer`, `run`, `write_fault` and `status` of
+//! spq_core over devices in memory, with worked examples. `refusals` tests what is left if an
+//! allocation fails or a worker thread cannot be started. `command_lines` tests the command lines
+//! of spq_command.
 //!
-//! To read in this order: `tests` (the commands by worked examples), `refusals` (what is left where memory or a
-//! worker thread is missing), `command_lines`. They are in a crate of their own, so that a check of the tests
-//! proves nothing a second time.
+//! The tests have a crate of their own, so a proof of the tests proves no library again.
 #![tactic(auto)]
 
 #[cfg(test)]

@@ -1,8 +1,10 @@
-//! What is left of an answer if an allocation fails or a worker thread cannot be started, whichever it is.
+//! The state that a query leaves if an allocation fails or a worker thread cannot be started, at
+//! any of these calls.
 //!
-//! With ample memory nothing fails here. tests/refusals.sh runs each of these tests with its first allocation
-//! failing, then with its second, and so on, until nothing fails in a run; and the same with the starts of
-//! workers. At most one call fails in a run, so a second try has to succeed.
+//! With enough memory nothing fails here. tests/refusals.sh runs each of these tests with its first
+//! allocation failing, then with its second, and so on, until nothing fails in a run. It does the
+//! same with the starts of workers. At most one call fails in a run, so a second attempt must
+//! succeed.
 ghost use Rattle.std.specs.Prelude.{◌≤◌};
 
 use crate::tests::asking::json;
@@ -18,7 +20,7 @@ use std::sync::Wait;
 use std::thread::Threads;
 use test_fixtures::Counter;
 
-/// The answer over a document that is cut line by line, with pieces of one row.
+/// Evaluates a query over a document that is split into lines, with pieces of one row.
 fn by_lines<R: Threads + Wait + RandomSource>(
     rt: &R,
     alloc: Global,
@@ -34,7 +36,7 @@ fn by_lines<R: Threads + Wait + RandomSource>(
     answer(rt, alloc, doc, query, &cuts, &how, gate)
 }
 
-/// Whether memory or a worker is missing, which is printed, for the script to see.
+/// Returns whether the fault is memory or a worker. Prints it for the script.
 fn is_refused<R: Print>(rt: &R, fault: Fault) -> bool {
     let what = match fault {
         Fault::Memory => "memory",
@@ -45,8 +47,8 @@ fn is_refused<R: Print>(rt: &R, fault: Fault) -> bool {
     true
 }
 
-/// The answer, or that of a second try if memory or a worker is missing at the first one. None if a piece that entered
-/// the gate has not left it.
+/// Evaluates a query. If memory or a worker is missing, it is evaluated again. Returns None if a
+/// piece that entered the gate has not left it.
 fn answered<R: Threads + Wait + RandomSource + Print>(
     rt: &R,
     alloc: Global,
@@ -70,8 +72,8 @@ fn answered<R: Threads + Wait + RandomSource + Print>(
     Some(by_lines(rt, alloc, doc, query, workers, gate))
 }
 
-/// Whether a query has this outcome, at once or at a second try, and then each piece that entered the gate has left
-/// it.
+/// Returns whether a query has this result, at the first or the second attempt, and each piece that
+/// entered the gate has left it.
 fn comes_to<R: Threads + Wait + RandomSource + Print>(
     rt: &R,
     alloc: Global,
@@ -91,7 +93,7 @@ fn comes_to<R: Threads + Wait + RandomSource + Print>(
     is_wanted && gate.is_balanced()
 }
 
-/// Whether a query has this outcome with one worker and with two.
+/// Returns whether a query has this result with one worker and with two.
 fn has_outcome<R: Threads + Wait + RandomSource + Print>(
     rt: &R,
     alloc: Global,
@@ -103,7 +105,8 @@ fn has_outcome<R: Threads + Wait + RandomSource + Print>(
         && comes_to(rt, alloc, doc.as_bytes(), query, 2, wanted)
 }
 
-/// Whether a query has these variables and bindings, or there is no memory for the expected document.
+/// Returns whether a query has these variables and bindings. It is also true if there is no memory
+/// for the expected document.
 fn has_rows<R: Threads + Wait + RandomSource + Print>(
     rt: &R,
     alloc: Global,
@@ -172,7 +175,7 @@ fn a_query_is_refused_by_its_rule_or_memory_is(rt: HostRuntime) {
     assert!(rt; has_outcome(&rt, rt.alloc(), "x\n", "SELECT", wanted));
 }
 
-/// A literal whose N-Quads form is longer than the first capacity of a buffer.
+/// Creates a literal whose N-Quads form is longer than the first capacity of a buffer.
 fn long_literal(alloc: Global) -> Result<Term, AllocError> {
     let lexical = String::from_str(alloc, "\"a line\"\nand another one, with a \\ in it")?;
     let datatype = String::from_str(alloc, "http://e/a/datatype/with/a/long/name")?;
@@ -183,7 +186,7 @@ fn long_literal(alloc: Global) -> Result<Term, AllocError> {
     })
 }
 
-/// Its N-Quads form, after two bytes.
+/// The N-Quads form of that literal, after two bytes.
 const SPELLED: &[u8] =
     b"> \"\\\"a line\\\"\\nand another one, with a \\\\ in it\"^^<http://e/a/datatype/with/a/long/name>";
 

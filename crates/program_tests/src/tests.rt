@@ -1,4 +1,4 @@
-//! The program over devices in memory, by worked examples: each file of this folder has one subject.
+//! Worked examples: the program over devices in memory. Each file of this folder has one topic.
 
 pub(crate) mod asking;
 mod documents;

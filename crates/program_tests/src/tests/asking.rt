@@ -1,4 +1,4 @@
-//! Commands and their outputs.
+//! Commands and their output.
 
 use rdf_core::Text;
 use spq_command::{Command, Reading};
@@ -9,10 +9,11 @@ use std::sync::Wait;
 use std::thread::Threads;
 use test_fixtures::{SliceSource, VecSink};
 
-/// The most bytes that a device moves per call, unless a test says otherwise.
+/// The largest number of bytes that a device moves per call, unless a test says otherwise.
 pub(crate) const CHUNK: usize = 7;
 
-/// Workers, bytes a block and rows a piece: no output depends on them.
+/// The number of workers, the bytes of a block and the rows of a piece. The output does not depend
+/// on them.
 pub(crate) type Way = (usize, usize, usize);
 
 pub(crate) const WHOLE: Way = (1, 65536, 1024);
@@ -32,8 +33,8 @@ const WAYS: [Way; 12] = [
     (8, 65536, 1024),
 ];
 
-/// A worked example of a select: its name, the document, the query, and the variables and the bindings of the
-/// expected output, with `'` for `"`.
+/// A worked example of a select: its name, the document, the query, and the variables and bindings
+/// of the expected output, with `'` for `"`.
 pub(crate) type Example = (
     &'static str,
     &'static str,
@@ -42,7 +43,8 @@ pub(crate) type Example = (
     &'static str,
 );
 
-/// How a document is read. A number out of range counts as the nearest one in range.
+/// Creates the settings for reading a document. A number that is out of range is replaced by the
+/// nearest one in range.
 fn reading(workers: usize, piece: usize) -> Reading {
     Reading {
         workers: workers.max(1).min(64),
@@ -83,7 +85,7 @@ pub(crate) fn ran<R: Threads + Wait + RandomSource>(
     run(rt, alloc, command, reader, writer)
 }
 
-/// The output of a command, or the line of its fault.
+/// Returns the output of a command, or the line of its fault.
 fn told<R: Threads + Wait + RandomSource>(
     rt: &R,
     alloc: Global,
@@ -98,7 +100,8 @@ fn told<R: Threads + Wait + RandomSource>(
     writer.bytes
 }
 
-/// Whether a command gives this output, or the line of its fault. It is printed if not.
+/// Returns whether a command has this output, or this line of its fault. Prints the output if it
+/// differs.
 pub(crate) fn gives<R: Threads + Wait + RandomSource + Print>(
     rt: &R,
     alloc: Global,
@@ -120,7 +123,7 @@ pub(crate) fn print_difference<R: Print>(rt: &R, expected: &[u8], given: &[u8]) 
     let _ = println!(rt; "expected {expected}\ngot {given}");
 }
 
-/// The JSON document of these variables and bindings, which are given with `'` for `"`.
+/// Returns the JSON document of these variables and bindings, which are given with `'` for `"`.
 pub(crate) fn json(alloc: Global, vars: &str, bindings: &str) -> Result<Vec<u8>, AllocError> {
     let mut made = Vec::new(alloc);
     let parts = [
@@ -138,7 +141,8 @@ pub(crate) fn json(alloc: Global, vars: &str, bindings: &str) -> Result<Vec<u8>,
     Ok(made)
 }
 
-/// Whether an example has its output in every way.
+/// Returns whether an example has its output for each number of workers, size of blocks and size of
+/// pieces.
 fn is_answered<R: Threads + Wait + RandomSource + Print>(
     rt: &R,
     alloc: Global,

@@ -1,4 +1,4 @@
-//! Documents that are checked, and whose terms are listed.
+//! Documents that are checked, and documents whose terms are listed.
 
 use super::asking::{WHOLE, check, gives, select, terms};
 use super::samples::{ESCAPED, GRAPHS, REPEATED, TWO_LINES};
@@ -68,10 +68,10 @@ const CHECKED: [(&str, &str, &str); 14] = [
     ),
 ];
 
-/// A comment with a byte that is no UTF-8.
+/// A comment with a byte that is not valid UTF-8.
 const NO_TEXT: &[u8] = b"# \xFF\n";
 
-/// Whether `check` gives this output, in one block and line by line.
+/// Returns whether `check` has this output, in one block and line by line.
 fn is_checked<R: Threads + Wait + RandomSource + Print>(
     rt: &R,
     alloc: Global,
@@ -96,7 +96,7 @@ fn documents_are_checked(rt: HostRuntime) {
     );
 }
 
-/// A document of `count` lines, of which the lines of these two numbers are malformed.
+/// Creates a document of `count` lines, of which the lines with these two numbers are malformed.
 fn with_bad_lines(alloc: Global, count: u64, bad: (u64, u64)) -> Result<Vec<u8>, AllocError> {
     let mut doc = Vec::new(alloc);
     for line in 0..count {
@@ -111,7 +111,7 @@ fn with_bad_lines(alloc: Global, count: u64, bad: (u64, u64)) -> Result<Vec<u8>,
     Ok(doc)
 }
 
-/// Whether the first of two malformed lines is named.
+/// Returns whether the first of two malformed lines is named.
 fn is_named<R: Threads + Wait + RandomSource + Print>(
     rt: &R,
     alloc: Global,
@@ -219,7 +219,8 @@ fn a_bad_line_refuses_a_select(rt: HostRuntime) {
 const TWICE: &[u8] =
     b"<http://e/a> <http://e/p> <http://e/b> .\n<http://e/a> <http://e/p> <http://e/b> .\n";
 
-/// The output of `check` for a prefix of `TWICE`. Each line has 40 bytes, and may end without a line feed.
+/// Returns the output of `check` for a prefix of `TWICE`. Each line has 40 bytes, and the last one
+/// may lack its line feed.
 fn expected_of_prefix(count: usize) -> &'static [u8] {
     match count {
         0 => b"ok 0 quads 0 terms 0 graphs\n".as_slice(),

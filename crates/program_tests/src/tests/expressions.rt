@@ -1,4 +1,4 @@
-//! FILTER, BIND and the values of expressions.
+//! FILTER ([68] `Filter`), BIND ([60] `Bind`) and the values of expressions ([110] `Expression`).
 
 use super::asking::{Example, WHOLE, first_wrong, gives, json, select};
 use super::samples::{BLANK, NUMBERS, TAGGED};
@@ -80,14 +80,14 @@ fn filters_and_values(rt: HostRuntime) -> Result<(), AllocError> {
     Ok(())
 }
 
-/// The query that binds one variable to the value of an expression.
+/// Returns the query that binds one variable to the value of an expression.
 fn binding(alloc: Global, expression: &str) -> Result<String, AllocError> {
     format!(in alloc;
         "PREFIX x: <http://www.w3.org/2001/XMLSchema#> SELECT ?v {{ BIND({expression} AS ?v) }}"
     )
 }
 
-/// The bindings of a value that is a boolean, or of an error.
+/// Returns the bindings of a boolean value, or of an error.
 fn bindings_of(value: Option<bool>) -> &'static str {
     match value {
         Some(true) => {
@@ -100,7 +100,7 @@ fn bindings_of(value: Option<bool>) -> &'static str {
     }
 }
 
-/// Comparisons and effective boolean values, and None for an error.
+/// Comparisons and effective boolean values, with None for an error.
 const VALUES: [(&str, Option<bool>); 28] = [
     ("\"01\"^^x:integer = \"1.0\"^^x:decimal", Some(true)),
     ("\"-0\"^^x:integer = \"0.0\"^^x:decimal", Some(true)),
@@ -135,7 +135,7 @@ const VALUES: [(&str, Option<bool>); 28] = [
     ("sameTerm(\"01\"^^x:integer, \"1\"^^x:integer)", Some(false)),
 ];
 
-/// Whether an expression has this value.
+/// Returns whether an expression has this value.
 fn has_value<R: Threads + Wait + RandomSource + Print>(
     rt: &R,
     alloc: Global,

@@ -17,7 +17,7 @@ const OBJECTS: &str = "SELECT ?o { <http://e/a> <http://e/p> ?o }";
 const OUTPUT: &[u8] =
     b"{\"head\":{\"vars\":[\"o\"]},\"results\":{\"bindings\":[{\"o\":{\"type\":\"uri\",\"value\":\"http://e/b\"}},{\"o\":{\"type\":\"literal\",\"value\":\"x\"}}]}}\n";
 
-/// Whether a select over devices of the standard library has its output.
+/// Returns whether a select over devices of the standard library has its output.
 fn is_answered_by_std<R: Threads + Wait + RandomSource>(rt: &R, alloc: Global, way: Way) -> bool {
     let command = select(alloc, OBJECTS, way);
     let mut reader = Device {
@@ -30,7 +30,7 @@ fn is_answered_by_std<R: Threads + Wait + RandomSource>(rt: &R, alloc: Global, w
     ran == Ok(()) && writer.inner.as_slice() == OUTPUT
 }
 
-/// Devices of the standard library report no count of failures, by which a clause could say that none failed.
+/// Devices of the standard library do not count failures, so no clause can say that none failed.
 #[test]
 fn devices_that_count_no_failures_do_not_fail(rt: HostRuntime) {
     for way in [WHOLE, (2, 1, 1)] {
@@ -38,7 +38,7 @@ fn devices_that_count_no_failures_do_not_fail(rt: HostRuntime) {
     }
 }
 
-/// How a run over `REPEATED` ended.
+/// The end of a run over `REPEATED`.
 #[derive(Clone, Copy, Debug, PartialEq, Eq)]
 struct Ended {
     done: Result<(), RunFault>,
@@ -48,11 +48,11 @@ struct Ended {
     failed: (u64, u64),
     /// The number of calls of the reader.
     reads: usize,
-    /// The status that the program ends with, and whether the line that it prints is the expected one.
+    /// The exit status of the program, and whether the line that it prints is the expected one.
     told: (u8, bool),
 }
 
-/// Runs a select, with the line that is expected if it fails.
+/// Runs a select. `line` is the line to expect if it fails.
 fn run_select<R: Threads + Wait + RandomSource>(
     rt: &R,
     alloc: Global,
@@ -143,18 +143,20 @@ fn a_bad_query_reads_nothing(rt: HostRuntime) {
     );
 }
 
-/// More calls of its reader, or of its writer, than any run here has.
+/// A number of calls that no reader or writer here reaches.
 const MANY: usize = 100;
 
-/// What a run with one failing call shows.
+/// The state after a run with one failing call.
 #[derive(Clone, Copy)]
 struct Effects {
     done: Result<(), RunFault>,
-    /// The bytes that are left of the document, the calls of the reader, and those that failed.
+    /// The number of bytes that are left of the document, of calls of the reader, and of those that
+    /// failed.
     rest: usize,
     reads: usize,
     failed_reads: u64,
-    /// The bytes written, if they are a prefix of the output, the calls of the writer, and those that failed.
+    /// The number of bytes written, if they are a prefix of the output, of calls of the writer, and
+    /// of those that failed.
     written: Option<usize>,
     writes: usize,
     failed_writes: u64,
@@ -187,8 +189,9 @@ fn run_sample<R: Threads + Wait + RandomSource>(
     }
 }
 
-/// Whether each read of a command that ends with `wanted` may fail: the command then ends at once, the bytes of the
-/// reads before are taken from the reader, and nothing is written.
+/// Checks a command with each of its reads failing in turn. The command must end at once with the
+/// fault `wanted`. Only the bytes of the reads before are taken from the reader, and nothing is
+/// written.
 fn tells_each_failed_read<R: Threads + Wait + RandomSource>(
     rt: &R,
     alloc: Global,
@@ -211,8 +214,9 @@ fn tells_each_failed_read<R: Threads + Wait + RandomSource>(
     false
 }
 
-/// Whether each write of a command may fail: the command then ends at once, the document is read to its end, and
-/// the bytes that the writes before took are a prefix of the output, which grows with each of them.
+/// Checks a command with each of its writes failing in turn. The command must end at once, with the
+/// document read to its end. The bytes written before are a prefix of the output that grows from
+/// one write to the next.
 fn tells_each_failed_write<R: Threads + Wait + RandomSource>(
     rt: &R,
     alloc: Global,
@@ -247,7 +251,7 @@ fn tells_each_failed_write<R: Threads + Wait + RandomSource>(
     false
 }
 
-/// Whether a command reports each of its calls that fails.
+/// Returns whether a command reports each failing call, of its reader and of its writer.
 fn tells_each_failed_call<R: Threads + Wait + RandomSource>(
     rt: &R,
     alloc: Global,

@@ -5,7 +5,7 @@ use spq_core::{RunFault, finish, status, write_fault};
 use std::alloc::{AllocError, Global};
 use test_fixtures::VecSink;
 
-/// A fault, its status and its line.
+/// A fault, its exit status and its line.
 const FAULTS: [(RunFault, u8, &str); 14] = [
     (RunFault::BadLine(1), 1, "error: line 1\n"),
     (
@@ -51,7 +51,8 @@ const FAULTS: [(RunFault, u8, &str); 14] = [
     (RunFault::Write, 5, "error: output\n"),
 ];
 
-/// The status of a fault and its line, from `status` and `write_fault`, and then from `finish`.
+/// Prints the status and the line of a fault, from `status` and `write_fault`, and then from
+/// `finish`.
 fn told(alloc: Global, fault: RunFault) -> Result<String, AllocError> {
     let mut written = VecSink::new(alloc, 1000);
     if write_fault(&fault, &mut written).is_err() {
@@ -67,7 +68,7 @@ fn told(alloc: Global, fault: RunFault) -> Result<String, AllocError> {
     )
 }
 
-/// Whether a fault has this status and this line.
+/// Returns whether a fault has this status and this line.
 fn is_told(alloc: Global, fault: RunFault, wanted: u8, line: &str) -> Result<bool, AllocError> {
     Ok(told(alloc, fault)? == format!(in alloc; "{wanted} {line}{wanted} {line}")?)
 }

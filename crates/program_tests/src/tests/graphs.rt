@@ -1,4 +1,4 @@
-//! Named graphs.
+//! Named graphs: GRAPH ([58] `GraphGraphPattern`).
 
 use super::asking::{Example, first_wrong};
 use super::samples::GRAPHS;

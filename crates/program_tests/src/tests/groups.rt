@@ -1,4 +1,5 @@
-//! OPTIONAL, UNION, MINUS and nested groups.
+//! OPTIONAL ([57] `OptionalGraphPattern`), UNION ([67] `GroupOrUnionGraphPattern`), MINUS ([66]
+//! `MinusGraphPattern`) and nested groups ([53] `GroupGraphPattern`).
 
 use super::asking::{Example, first_wrong};
 use super::samples::{NUMBERED, PAIRS, TWO_OBJECTS, TYPED};

@@ -1,4 +1,4 @@
-//! DISTINCT, OFFSET and LIMIT.
+//! DISTINCT ([9] `SelectClause`), OFFSET ([27] `OffsetClause`) and LIMIT ([26] `LimitClause`).
 
 use super::asking::{Example, first_wrong};
 use super::samples::{REPEATED, TWO_OBJECTS};

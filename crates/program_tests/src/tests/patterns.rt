@@ -1,4 +1,4 @@
-//! Basic graph patterns.
+//! Basic graph patterns ([55] `TriplesBlock`).
 
 use super::asking::{Example, first_wrong};
 use super::samples::{ESCAPED, ITSELF, LABELLED, ONES, REPEATED, SHARED, TWO_LINES, TWO_OBJECTS};

@@ -1,4 +1,5 @@
-//! Queries that are rejected, each by its first rule, whatever the document is.
+//! Queries that are rejected. Each is rejected by the first rule that it breaks, whatever the
+//! document is.
 
 use super::asking::{WHOLE, gives, json, select};
 use std::alloc::{AllocError, Global};
@@ -6,7 +7,8 @@ use std::random::RandomSource;
 use std::sync::Wait;
 use std::thread::Threads;
 
-/// Whether a query has this output, over the empty document and over one whose first line is malformed.
+/// Returns whether a query has this output, over the empty document and over one whose first line
+/// is malformed.
 fn is_told<R: Threads + Wait + RandomSource + Print>(
     rt: &R,
     alloc: Global,
@@ -98,7 +100,8 @@ fn the_first_rule_is_told(rt: HostRuntime) {
     }
 }
 
-/// A front, then `count` times a text, a middle, `count` times another text, and an end.
+/// Returns a text: a front, `count` times a second part, a middle, `count` times a fourth part, and
+/// an end.
 fn nested(
     alloc: Global,
     (front, open, middle, close, end): (&str, &str, &str, &str, &str),
@@ -116,7 +119,8 @@ fn nested(
     Ok(text)
 }
 
-/// The parts of a nested query, how often the second and the fourth one are repeated, and the output.
+/// The parts of a nested query, how often the second and the fourth one are repeated, and the
+/// output.
 type Nested = (
     (
         &'static str,
@@ -131,8 +135,8 @@ type Nested = (
 
 const DEPTH: &str = "error: query depth\n";
 
-/// Queries with 101 open brackets or more are rejected, whatever follows. Brackets after what no terminal begins
-/// with do not count.
+/// Queries with 101 open brackets or more are rejected, whatever follows. Brackets after a place
+/// where no terminal begins do not count.
 const TOO_DEEP: [Nested; 4] = [
     (("SELECT * ", "{", "", "}", ""), 101, DEPTH),
     (("SELECT * { FILTER", "(", "true", ")", " }"), 100, DEPTH),
@@ -140,7 +144,7 @@ const TOO_DEEP: [Nested; 4] = [
     (("SELECT ~ ", "{", "", "", ""), 101, "error: query syntax\n"),
 ];
 
-/// Whether a nested query is rejected so.
+/// Returns whether a nested query is rejected with this output.
 fn is_rejected<R: Threads + Wait + RandomSource + Print>(
     rt: &R,
     alloc: Global,
@@ -150,13 +154,13 @@ fn is_rejected<R: Threads + Wait + RandomSource + Print>(
     Ok(is_told(rt, alloc, query.as_str(), expected))
 }
 
-/// Queries with 100 open brackets.
+/// Queries with 100 open brackets, the largest number that is accepted.
 const DEEPEST: [Nested; 2] = [
     (("SELECT * ", "{", "", "}", ""), 100, "{}"),
     (("SELECT * { FILTER", "(", "true", ")", " }"), 99, "{}"),
 ];
 
-/// Whether a nested query without variables has these bindings over the empty document.
+/// Returns whether a nested query without variables has these bindings over the empty document.
 fn is_read<R: Threads + Wait + RandomSource + Print>(
     rt: &R,
     alloc: Global,

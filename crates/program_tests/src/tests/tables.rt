@@ -1,4 +1,4 @@
-//! VALUES.
+//! VALUES ([61] `InlineData`).
 
 use super::asking::{Example, first_wrong};
 use super::samples::TWO_OBJECTS;

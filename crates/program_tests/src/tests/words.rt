@@ -1,4 +1,4 @@
-//! Words of command lines, run over devices in memory.
+//! Command lines that are run over devices in memory.
 
 use super::asking::{CHUNK, print_difference};
 use sparql_read::QueryFault;
@@ -11,7 +11,7 @@ use test_fixtures::{SliceSource, VecSink};
 
 const STATEMENT: &[u8] = b"<http://e/s> <http://e/p> <http://e/o> .\n";
 
-/// The words of a line.
+/// Returns the arguments of a command line.
 pub(crate) fn words_of(alloc: Global, line: &[&str]) -> Result<Vec<String>, AllocError> {
     let mut words = Vec::new(alloc);
     for word in line {
@@ -20,7 +20,8 @@ pub(crate) fn words_of(alloc: Global, line: &[&str]) -> Result<Vec<String>, Allo
     Ok(words)
 }
 
-/// Whether the words end so over a document of one statement, and write this.
+/// Returns whether a command line has this result over a document of one statement, and writes
+/// these bytes.
 fn end_so<R: Threads + Wait + RandomSource + Sync + Print>(
     rt: &R,
     alloc: Global,
@@ -42,7 +43,7 @@ fn end_so<R: Threads + Wait + RandomSource + Sync + Print>(
     true
 }
 
-/// Words, and what they write.
+/// Command lines, and the bytes that they write.
 const RUN: [(&[&str], &[u8]); 4] = [
     (&["spq", "check"], b"ok 1 quads 3 terms 0 graphs\n"),
     (
@@ -66,7 +67,7 @@ fn words_are_run(rt: HostRuntime) {
     }
 }
 
-/// Words that write nothing, and their fault.
+/// Command lines that write nothing, and their fault.
 const REJECTED: [(&[&str], RunFault); 4] = [
     (&["spq"], RunFault::Line),
     (&["spq", "select"], RunFault::Line),

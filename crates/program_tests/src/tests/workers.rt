@@ -1,4 +1,4 @@
-//! That workers run at the same time, and that no outcome depends on which of them was first.
+//! Workers run at the same time, and no result depends on the order in which they finish.
 ghost use Rattle.std.specs.Prelude.{◌≤◌};
 
 use super::asking::json;
@@ -15,7 +15,7 @@ use std::sync::atomic::{AtomicU64, Ordering};
 use std::thread::{Threads, yield_now};
 use test_fixtures::Meeting;
 
-/// The answer over a document that is cut line by line.
+/// Evaluates a query over a document that is split into lines.
 fn by_lines<R: Threads + Wait + RandomSource, G: Gate + Sync>(
     rt: &R,
     alloc: Global,
@@ -34,7 +34,7 @@ fn by_lines<R: Threads + Wait + RandomSource, G: Gate + Sync>(
     answer(rt, alloc, doc, query, &cuts, &how, gate)
 }
 
-/// Whether a query over two lines, each in a piece, has two rows.
+/// Returns whether a query over two lines, with each line in a piece, has two rows.
 fn has_two_rows<R: Threads + Wait + RandomSource>(
     rt: &R,
     alloc: Global,
@@ -58,8 +58,8 @@ fn two_pieces_of_a_document_are_read_at_once(rt: HostRuntime) -> Result<(), Faul
     Ok(())
 }
 
-/// Piece 2 waits at its gate until piece 3 has left, at most 10,000,000 turns, so what is found in piece 3 is found
-/// first.
+/// A gate at which piece 2 waits until piece 3 has left, for at most 10,000,000 turns. A fault in
+/// piece 3 is thus found before one in piece 2.
 #[derive(Drop)]
 struct ThirdBehindFourth {
     left: AtomicU64,
@@ -74,7 +74,7 @@ impl ThirdBehindFourth {
         }
     }
 
-    /// Whether piece 3 left, and piece 2 did not wait up to the limit.
+    /// Returns whether piece 3 left, and piece 2 did not wait up to the limit.
     fn is_kept(&self) -> bool {
         self.left.load(Ordering::SeqCst) == 1 && self.late.load(Ordering::SeqCst) == 0
     }
@@ -101,7 +101,7 @@ impl Gate for ThirdBehindFourth {
     }
 }
 
-/// Sixteen lines, of which lines 3 to 16 are malformed.
+/// Creates sixteen lines, of which lines 3 to 16 are malformed.
 fn with_bad_lines(alloc: Global) -> Result<Vec<u8>, AllocError> {
     let mut doc = Vec::new(alloc);
     for line in 1..17 {
@@ -115,7 +115,7 @@ fn with_bad_lines(alloc: Global) -> Result<Vec<u8>, AllocError> {
     Ok(doc)
 }
 
-/// The fault of a document that is loaded line by line.
+/// Returns the fault of a document that is loaded line by line.
 fn load_fault<R: Threads + Wait + RandomSource>(
     rt: &R,
     alloc: Global,
@@ -129,7 +129,7 @@ fn load_fault<R: Threads + Wait + RandomSource>(
     Ok(load(rt, alloc, doc, &cuts, workers, gate).err())
 }
 
-/// Whether line 3 is named where line 4 is found first, when the document is loaded and when a query is answered.
+/// Returns whether line 3 is named although line 4 is found first, for a load and for a query.
 fn names_line_3<R: Threads + Wait + RandomSource>(
     rt: &R,
     alloc: Global,
