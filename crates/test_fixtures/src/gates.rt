@@ -4,14 +4,14 @@ use piece_pool::Gate;
 use std::sync::atomic::{AtomicU64, Ordering};
 use std::thread::yield_now;
 
-/// The number of turns that a worker waits for the other one in a [`Meeting`].
+/// The largest number of turns that a worker waits for the other one in a [`Meeting`].
 const TURNS: u64 = 10_000_000;
 
 /// A gate at which the workers of pieces 0 and 1 have to meet.
 ///
-/// Each of the two pieces sets its flag when it enters, and then waits until the flag of the other one is set,
-/// at most 10,000,000 turns. With a single thread the first to enter reaches this limit. All other pieces pass
-/// without waiting.
+/// Each of the two pieces sets its flag when it enters. It then waits until the flag of the other
+/// one is set, for at most 10,000,000 turns. With a single thread the first piece to enter reaches
+/// this limit. All other pieces pass without waiting.
 #[derive(Drop)]
 pub struct Meeting {
     first: AtomicU64,
@@ -20,7 +20,7 @@ pub struct Meeting {
 }
 
 impl Meeting {
-    /// Returns a gate that no piece has entered.
+    /// Creates a gate that no piece has entered.
     pub fn new() -> Meeting {
         Meeting {
             first: AtomicU64::new(0),
@@ -70,7 +70,7 @@ pub struct Counter {
 }
 
 impl Counter {
-    /// Returns a gate that no piece has entered.
+    /// Creates a gate that no piece has entered.
     pub fn new() -> Counter {
         Counter {
             entered: AtomicU64::new(0),

@@ -1,12 +1,12 @@
-//! A job on numbered pieces that needs no memory.
+//! A job on numbered pieces that allocates nothing.
 ghost use Rattle.std.specs.Prelude.{◌≡◌};
 
 use piece_pool::{Job, JobFault};
 use std::alloc::Global;
 use std::sync::atomic::{AtomicU64, Ordering};
 
-/// A job whose result for each piece below `sound` is the number of the piece. Every other piece is faulty, and
-/// its fault is its number. The job counts its runs.
+/// A job whose output for each piece below `sound` is the number of the piece. Every other piece is
+/// faulty, and its fault is its number. The job counts its runs.
 #[derive(Drop)]
 pub struct Numbers {
     pub sound: u64,
@@ -14,7 +14,7 @@ pub struct Numbers {
 }
 
 impl Numbers {
-    /// Returns the job whose first faulty piece is `sound`.
+    /// Creates the job whose first faulty piece is `sound`.
     pub fn sound_below(sound: u64) -> Numbers
         ensures sound { result.sound ≡ sound }
     {

@@ -1,12 +1,14 @@
 //! What the test crates share: gates that worker threads pass, a job, and devices in memory.
 //!
-//! - [`Meeting`] is a gate at which two workers have to meet, so it shows that two threads run at the same time.
+//! - [`Meeting`] is a gate at which two workers have to meet, so it shows that two threads run at
+//!   the same time.
 //! - [`Counter`] is a gate that counts the pieces that pass it.
-//! - [`Numbers`] is a job whose result for piece `i` is `i`, up to a first faulty piece.
-//! - [`SliceSource`] and [`VecSink`] are a source and a sink in memory. They move few bytes per call, and fail
-//!   after a number of bytes or at a given call.
+//! - [`Numbers`] is a job whose output for piece `i` is `i`, up to a first faulty piece.
+//! - [`SliceSource`] and [`VecSink`] are a source and a sink in memory. They move few bytes per
+//!   call. They fail after a number of bytes, or at a given call.
 //!
-//! No program depends on this crate.
+//! No program depends on this crate. Its tests are those of the crates that use it, such as
+//! worker_tests.
 //!
 //! ```text
 //! let gate = Meeting::new();

@@ -4,10 +4,14 @@ ghost use Rattle.std.specs.Prelude.{◌≡◌, []};
 use nquads_core::{DeviceFailed, Sink};
 use std::alloc::Global;
 
-/// A sink that appends to a vector. It reports the bytes that it holds, and how many of its calls failed.
+/// A sink that appends to a vector. It exposes the bytes that it holds, and counts its calls and
+/// those that failed.
 ///
-/// Each call takes at most `chunk` bytes, none if `chunk` is 0. A call fails once `until` bytes were taken, and
-/// if no memory is left. The call with the number `failing`, counted from 0, fails too.
+/// Each call takes at most `chunk` bytes, and none if `chunk` is 0. A call fails in these cases:
+///
+/// - `until` bytes were taken before;
+/// - an allocation fails;
+/// - it is the call with the number `failing`, counted from 0.
 #[derive(Drop)]
 pub struct VecSink {
     /// The bytes that were taken.
@@ -16,7 +20,7 @@ pub struct VecSink {
     pub calls: usize,
     /// The number of calls that failed.
     pub failed: u64,
-    /// The most bytes that a call takes.
+    /// The largest number of bytes that a call takes.
     pub chunk: usize,
     /// The number of bytes that can still be taken before every call fails.
     pub until: usize,
@@ -40,7 +44,8 @@ impl VecSink {
         }
     }
 
-    /// Returns an empty sink that takes at most `chunk` bytes per call. No call fails while memory is left.
+    /// Creates an empty sink that takes at most `chunk` bytes per call. A call fails only if an
+    /// allocation fails.
     pub fn new(alloc: Global, chunk: usize) -> VecSink
         ensures empty { result.bytes.items ≡ [] }
         ensures failed { result.failed ≡ 0 }
@@ -49,7 +54,7 @@ impl VecSink {
         VecSink::of(alloc, chunk, usize::MAX, usize::MAX)
     }
 
-    /// Returns a sink like `new`, of which every call fails once `until` bytes were taken.
+    /// Creates a sink like [`VecSink::new`] whose calls all fail once `until` bytes were taken.
     pub fn failing_after(alloc: Global, chunk: usize, until: usize) -> VecSink
         ensures empty { result.bytes.items ≡ [] }
         ensures failed { result.failed ≡ 0 }
@@ -58,7 +63,8 @@ impl VecSink {
         VecSink::of(alloc, chunk, until, usize::MAX)
     }
 
-    /// Returns a sink like `new`, of which the call with the number `call`, counted from 0, fails, and no other.
+    /// Creates a sink like [`VecSink::new`] whose call with the number `call`, counted from 0,
+    /// fails too.
     pub fn failing_at(alloc: Global, chunk: usize, call: usize) -> VecSink
         ensures empty { result.bytes.items ≡ [] }
         ensures failed { result.failed ≡ 0 }
@@ -75,7 +81,7 @@ impl Sink for VecSink {
 
     ghost failures = { λ s. Some s.failed };
 
-    // It takes a byte of each text that is not empty, unless `chunk` is 0.
+    // A call takes at least one byte of a text that is not empty, unless `chunk` is 0.
     ghost write_gives = { λ s bs r t. 0 < t.chunk → 0 < length bs → IfOk r (λ n. 0 < n) };
 
     fn write(&mut self, bytes: &[u8]) -> Result<usize, DeviceFailed> {

@@ -3,10 +3,11 @@ ghost use Rattle.std.specs.Prelude.{◌≡◌, ◌<◌};
 
 use nquads_core::{DeviceFailed, Source};
 
-/// A source of the bytes of a slice. It reports the bytes that are left, and how many of its calls failed.
+/// A source of the bytes of a slice. It exposes the bytes that are left, and counts its calls and
+/// those that failed.
 ///
-/// Each call gives at most `chunk` bytes. A call fails once `until` bytes were read, and the call with the
-/// number `failing`, counted from 0, fails too.
+/// Each call gives at most `chunk` bytes. A call fails if `until` bytes were read before, and so
+/// does the call with the number `failing`, counted from 0.
 #[derive(Drop)]
 pub struct SliceSource<'a> {
     /// The bytes that are left.
@@ -15,7 +16,7 @@ pub struct SliceSource<'a> {
     pub calls: usize,
     /// The number of calls that failed.
     pub failed: u64,
-    /// The most bytes that a call gives.
+    /// The largest number of bytes that a call gives.
     pub chunk: usize,
     /// The number of bytes that can still be read before every call fails.
     pub until: usize,
@@ -40,7 +41,7 @@ impl<'a> SliceSource<'a> {
         }
     }
 
-    /// Returns a source of these bytes that gives at most `chunk` bytes per call. No call fails.
+    /// Creates a source of these bytes that gives at most `chunk` bytes per call. No call fails.
     pub fn new(bytes: &'a [u8], chunk: usize) -> SliceSource<'a>
         requires some { 0 < chunk }
         ensures rest { result.rest.now ≡ bytes.now }
@@ -49,7 +50,8 @@ impl<'a> SliceSource<'a> {
         SliceSource::of(bytes, chunk, usize::MAX, usize::MAX)
     }
 
-    /// Returns a source like `new`, of which every call fails once `until` bytes were read.
+    /// Creates a source like [`SliceSource::new`] whose calls all fail once `until` bytes were
+    /// read.
     pub fn failing_after(bytes: &'a [u8], chunk: usize, until: usize) -> SliceSource<'a>
         requires some { 0 < chunk }
         ensures rest { result.rest.now ≡ bytes.now }
@@ -58,7 +60,8 @@ impl<'a> SliceSource<'a> {
         SliceSource::of(bytes, chunk, until, usize::MAX)
     }
 
-    /// Returns a source like `new`, of which the call with the number `call`, counted from 0, fails, and no other.
+    /// Creates a source like [`SliceSource::new`] whose call with the number `call`, counted from
+    /// 0, fails, and no other.
     pub fn failing_at(bytes: &'a [u8], chunk: usize, call: usize) -> SliceSource<'a>
         requires some { 0 < chunk }
         ensures rest { result.rest.now ≡ bytes.now }
