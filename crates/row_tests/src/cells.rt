@@ -1,4 +1,5 @@
-//! Rows of two variables as text, as `12 3-`: each digit is the number of a cell, and `-` is an unbound cell.
+//! Rows of two variables as text, such as `12 3-`: each digit is the number of a cell, and `-` is
+//! an unbound cell.
 
 use row_core::Rows;
 use std::alloc::{AllocError, Global};
@@ -24,7 +25,7 @@ pub(crate) fn pairs(alloc: Global, text: &str) -> Result<Vec<Pair>, AllocError> 
     Ok(pairs)
 }
 
-/// Returns how often a row is among the rows.
+/// Returns the multiplicity of a row.
 fn count(rows: &Rows, row: [Option<u64>; 2]) -> usize {
     let mut count: usize = 0;
     for i in 0..rows.len() {
@@ -37,7 +38,7 @@ fn count(rows: &Rows, row: [Option<u64>; 2]) -> usize {
 
 const CELLS: &str = "-0123456789";
 
-/// Prints the number of rows, and the rows of such cells in ascending order.
+/// Prints the number of rows, and the rows in ascending order.
 pub(crate) fn shown(alloc: Global, rows: &Rows) -> Result<String, AllocError> {
     let mut text = format!(in alloc; "{}:", rows.len())?;
     for a in CELLS.chars() {

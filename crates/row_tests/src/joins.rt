@@ -24,7 +24,7 @@ fn rows_of(alloc: Global, text: &str) -> Result<Rows, AllocError>
     Ok(rows)
 }
 
-/// The test whether the second variable is bound.
+/// The condition that the second variable is bound.
 #[derive(Drop)]
 struct SecondIsBound {}
 

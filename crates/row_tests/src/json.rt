@@ -1,4 +1,5 @@
-//! Worked results. The expected documents are written by hand from the format, with `'` for `"`.
+//! Worked examples of the results. The expected documents are written by hand from the format, with
+//! `'` for `"`.
 ghost use Rattle.std.specs.Prelude.{◌≡◌, ◌∷◌, ◌<◌, ◌≤◌, [], length, IfOk};
 ghost use Rattle.row_pieces.specs.How.{IsRunnable};
 ghost use Rattle.algebra_model.specs.Reading.{Each, EachBound};
@@ -237,7 +238,8 @@ fn every_term_and_row_has_its_form_and_place(rt: HostRuntime) -> Result<(), Eval
     Ok(())
 }
 
-/// An offset, a limit, and the bindings that they keep of a blank node, an IRI and a literal.
+/// An offset, a limit, and the bindings that they keep of three rows: a blank node, an IRI and a
+/// literal.
 const SLICES: [(u64, Option<u64>, &str); 8] = [
     (
         0,

@@ -108,7 +108,8 @@ fn two_triples_are_joined(rt: HostRuntime) {
     assert!(rt; rows.row(0) == [Some(1), Some(3), Some(6)].as_slice());
 }
 
-/// Two triple patterns without a common variable: each solution of the one with each of the other.
+/// Two triple patterns without a common variable: each solution of the first with each of the
+/// second.
 #[test]
 fn triples_apart_are_multiplied(rt: HostRuntime) {
     let quads = [quad(1, 2, 3), quad(4, 2, 3), quad(5, 6, 7), quad(8, 6, 7)];
@@ -120,7 +121,7 @@ fn triples_apart_are_multiplied(rt: HostRuntime) {
     assert_eq!(rt; rows.len(), 4);
 }
 
-/// Only the quads of the given graph count.
+/// Only the quads of the given graph match.
 #[test]
 fn the_graph_is_the_given_one(rt: HostRuntime) {
     let named = NumQuad {

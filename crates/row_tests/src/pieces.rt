@@ -1,5 +1,5 @@
-//! The number of elements of a piece, the names of faults, and jobs of zero, one and more pieces. The tests of the
-//! operators run `over_pieces`.
+//! The number of elements in a piece, the names of faults, and jobs of zero, one and more pieces.
+//! The tests of the operators run `over_pieces`.
 ghost use Rattle.std.specs.Prelude.{◌≤◌, ◌^◌};
 
 use piece_pool::{Outcome, PoolFault, run_all};
@@ -39,8 +39,9 @@ fn a_refusal_keeps_its_name(rt: HostRuntime) {
     );
 }
 
-/// Prints the result of `n` pieces, of which those below `sound` are not faulty: the number of results in their
-/// places, or the least faulty piece with its fault. Also prints how many pieces entered and left the gate.
+/// Prints the result of `n` pieces; those below `sound` are not faulty. The result is the number of
+/// outputs at their indexes, or the least faulty piece with its fault. Also prints how many pieces
+/// entered and left the gate.
 fn told<R: Threads + Wait>(
     rt: &R,
     alloc: Global,
@@ -65,7 +66,7 @@ fn told<R: Threads + Wait>(
     )
 }
 
-/// Returns how many results are in their places.
+/// Returns how many outputs are at their indexes.
 fn in_place(outs: &[u64]) -> u64 {
     let mut count = 0u64;
     for (i, out) in outs.iter().enumerate() {
@@ -76,8 +77,9 @@ fn in_place(outs: &[u64]) -> u64 {
     count
 }
 
-/// Runs zero pieces, one piece, which the caller runs, and more pieces, with two workers and with one, which is the
-/// caller. A single faulty piece is named, and has left the gate.
+/// Runs zero pieces, one piece and more pieces, with one worker and with two. The caller runs a
+/// single piece, and all pieces if there is one worker. A single faulty piece is named, and has
+/// left the gate.
 #[test]
 fn each_piece_is_answered_in_its_place(rt: HostRuntime) -> Result<(), AllocError> {
     for (n, sound, expected) in [
