@@ -1,4 +1,4 @@
-//! What a terminal shows while a document is read.
+//! Output to a terminal while a document is read.
 
 use spq_report::{Console, Meter, Terminals};
 use std::alloc::Global;
@@ -6,7 +6,7 @@ use std::cell::Cell;
 use std::io;
 use std::time::{Clock, Duration};
 
-/// A clock that goes on by 600 milliseconds at each look.
+/// A clock that advances by 600 milliseconds at each reading.
 #[derive(Drop)]
 struct Steps {
     looks: Cell<u64>,
@@ -24,7 +24,8 @@ impl Clock for Steps {
     }
 }
 
-/// What is written while three blocks of two lines are read, at this terminal.
+/// Returns the bytes that are written while three blocks of two lines are read. `input` and `error`
+/// say whether standard input and standard error are a terminal.
 fn shown(alloc: Global, input: bool, error: bool) -> Vec<u8> {
     let clock = Steps {
         looks: Cell::new(0),

@@ -1,7 +1,8 @@
-//! Tests of spq_report: `messages` (what a run with these arguments and this document writes to standard error) and
-//! `console` (what a terminal shows while a document is read), over devices in memory.
+//! Tests of spq_report, over devices in memory. `messages` tests what a run with given arguments
+//! and a given document writes to standard error. `console` tests what a terminal shows while a
+//! document is read.
 //!
-//! The tests are in a crate of their own, so that a check of the tests proves no library a second time.
+//! The tests have a crate of their own, so a proof of the tests proves no library again.
 #![tactic(auto)]
 
 #[cfg(test)]

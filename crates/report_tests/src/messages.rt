@@ -1,4 +1,4 @@
-//! What is written for words and a document.
+//! Messages on standard error for arguments and a document.
 
 use spq_core::run_words;
 use spq_report::{Account, Input, NoMeter, Output, report};
@@ -7,7 +7,7 @@ use std::random::RandomSource;
 use std::sync::Wait;
 use std::thread::Threads;
 
-/// The words of a line, which bars separate.
+/// Splits a line into arguments at its bars.
 fn words_of(alloc: Global, line: &str) -> Result<Vec<String>, AllocError> {
     let mut words = Vec::new(alloc);
     for word in line.split('|') {
@@ -16,7 +16,7 @@ fn words_of(alloc: Global, line: &str) -> Result<Vec<String>, AllocError> {
     Ok(words)
 }
 
-/// What is written on standard error for words and a document.
+/// Returns the bytes that are written to standard error for arguments and a document.
 fn said<R: Threads + Wait + RandomSource + Sync>(
     rt: &R,
     alloc: Global,
@@ -39,9 +39,10 @@ fn said<R: Threads + Wait + RandomSource + Sync>(
     String::from_utf8_lossy(alloc, &out)
 }
 
-/// The examples of a table that say something else, with what they say.
+/// Returns the examples of a table that write something else, with what they write.
 ///
-/// An example is the words, a document and what is written, with `--` between them and `====` after each.
+/// An example is the arguments, a document and the expected message, with `--` between them and
+/// `====` after each.
 fn wrong<R: Threads + Wait + RandomSource + Sync>(
     rt: &R,
     alloc: Global,
@@ -112,7 +113,7 @@ hint: spq reads standard input: use spq check < dump.nq
 ====
 ";
 
-/// Runs without a failure, and their warnings.
+/// Runs without an error, and their warnings.
 const WARNINGS: &str = "spq|check
 --
 <http://e/a> <http://e/p> <http://e/b> .
