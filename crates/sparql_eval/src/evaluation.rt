@@ -38,7 +38,7 @@ use std::thread::Threads;
 ///
 /// # Errors
 /// - `WorkerRefused` if a worker thread could not be started. It cannot occur with one worker.
-/// - `Memory` if an allocation fails, or if there is no random seed for the hash tables.
+/// - `Memory` if an allocation fails, or if the system has no random seed for the hash tables.
 ///
 /// On error, the dictionary is dropped.
 pub fn evaluate<R: RandomSource + Threads + Wait, G: Gate + Sync>(
@@ -79,7 +79,7 @@ pub fn evaluate<R: RandomSource + Threads + Wait, G: Gate + Sync>(
 /// given dictionary. Rows are hashed with `state`.
 ///
 /// A name that no graph has gives no row. For a variable, the inner tree is evaluated in each named
-/// graph, and its rows are then joined with the variable bound to the name of the graph.
+/// graph. The rows of a graph are then joined with the variable bound to the name of the graph.
 ///
 /// The evaluation adds only these terms to the dictionary, each with one of those graphs active:
 /// those that occur in VALUES somewhere in the tree, and the values that Extend computes somewhere

@@ -1,4 +1,5 @@
-//! Inline data: the tables of VALUES (SPARQL 1.1 Query Language, section 18.2.2.6).
+//! Inline data: the tables of VALUES (SPARQL 1.1 Query Language, [61] `InlineData` and section
+//! 18.2.2.6).
 ghost use Rattle.std.specs.Prelude.{◌≡◌, ◌<◌, All, Contains, Some, length, map, option_map, take, IfErr, IfOk, OnOk};
 ghost use Rattle.dict_core.specs.Dict.{IsGrown, term_at};
 ghost use Rattle.algebra_model.specs.Operators.{table, table_row};
