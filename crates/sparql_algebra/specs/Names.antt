@@ -34,7 +34,7 @@ abbrev pub selected_by : Option (List Name) → List Name → List Name → List
 selected_by None scope names = list.filter (λ x. is_name_among x scope) names
 selected_by (Some xs) scope names = without_repeats bytes_eq xs
 
--- `*` lists the variables in scope in the order of their numbers; if a variable is listed twice,
--- its first place is used
+-- `*` ([9] `SelectClause`) lists the variables in scope in the order of their numbers; if a
+-- variable is listed twice, its first place is used
 abbrev pub selected_names : QueryTree → List Name
 selected_names q = selected_by q.selection (group_scope q.group) (names_of q)

@@ -116,13 +116,15 @@ module _ (names : List Name) where
   finished p = filtered p.filters (closed p)
 
   abbrev mutual
-    -- A group begins with the empty pattern, and its elements are added in order.
+    -- A group ([53] `GroupGraphPattern`) begins with the empty pattern, and its elements are added
+    -- in order.
     pub group_part : GroupTree → Part
     group_part element.none = record { before = empty_pattern; triples = []; filters = None }
     group_part (element.then g e) = add_element (group_part g) e
 
-    -- Triples are added to the open basic graph pattern, and a FILTER does not end it. Every other
-    -- element does. The filters directly in the group of an OPTIONAL are its condition.
+    -- Triples ([55] `TriplesBlock`) are added to the open basic graph pattern, and a FILTER ([68]
+    -- `Filter`) does not end it. Every other element ([56] `GraphPatternNotTriples`) does. The
+    -- filters directly in the group of an OPTIONAL are its condition.
     pub add_element : Part → ElementTree → Part
     add_element p (element.triples ts) =
         record { before = p.before; triples = p.triples ++ ts; filters = p.filters }
@@ -144,8 +146,9 @@ module _ (names : List Name) where
     add_element p (element.values xs rows) =
         behind p (algebra.Join (closed p) (algebra.Table (map (number_of names) xs) rows))
 
-    -- The left side of a UNION is a group, or a UNION with two or more groups. Every other element,
-    -- which no parser makes there, is translated as the empty pattern.
+    -- The left side of a UNION ([67] `GroupOrUnionGraphPattern`) is a group, or a UNION with two or
+    -- more groups. Every other element, which no parser makes there, is translated as the empty
+    -- pattern.
     pub translate_side : ElementTree → Algebra
     translate_side (element.group g) = finished (group_part g)
     translate_side (element.union e g) = algebra.Union (translate_side e) (finished (group_part g))

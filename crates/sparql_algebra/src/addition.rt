@@ -21,11 +21,11 @@ use std::alloc::{AllocError, Global};
 pub enum Addition<'a> {
     Triples(&'a [Triple]),
     Filter(Box<Expr>),
-    /// The right side of an OPTIONAL, and its condition.
+    /// The right side of an OPTIONAL ([57] `OptionalGraphPattern`), and its condition.
     Optional(Box<Operator>, Box<Expr>),
-    /// The right side of a MINUS.
+    /// The right side of a MINUS ([66] `MinusGraphPattern`).
     Minus(Box<Operator>),
-    /// The number of the variable of a BIND, and its expression.
+    /// The number of the variable of a BIND ([60] `Bind`), and its expression.
     Extend(usize, Box<Expr>),
     /// The operator that is joined, for every other element.
     Join(Box<Operator>),

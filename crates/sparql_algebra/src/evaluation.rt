@@ -130,7 +130,8 @@ fn evaluate<'a, R: Lookup>(
     }
 }
 
-/// Evaluates `left || right` as a value, from the result of the right side.
+/// Evaluates `left || right` ([111] `ConditionalOrExpression`) as a value, from the result of the
+/// right side.
 #[cycle(evaluate)]
 fn evaluate_either<'a, R: Lookup>(
     alloc: Global,
@@ -145,7 +146,8 @@ fn evaluate_either<'a, R: Lookup>(
     Ok(boolean_value(evaluate_or(alloc, left, right, row)?))
 }
 
-/// Evaluates `left && right` as a value, from the result of the right side.
+/// Evaluates `left && right` ([112] `ConditionalAndExpression`) as a value, from the result of the
+/// right side.
 #[cycle(evaluate)]
 fn evaluate_both<'a, R: Lookup>(
     alloc: Global,
@@ -160,7 +162,7 @@ fn evaluate_both<'a, R: Lookup>(
     Ok(boolean_value(evaluate_and(alloc, left, right, row)?))
 }
 
-/// Evaluates `!inner` as a value.
+/// Evaluates `!inner` ([118] `UnaryExpression`) as a value.
 #[cycle(evaluate)]
 fn evaluate_not<'a, R: Lookup>(
     alloc: Global,
@@ -174,7 +176,7 @@ fn evaluate_not<'a, R: Lookup>(
     Ok(boolean_value(negated(evaluate_truth(alloc, inner, row)?)))
 }
 
-/// Evaluates `item IN (list)` as a value.
+/// Evaluates `item IN (list)` ([114] `RelationalExpression`) as a value.
 #[cycle(evaluate)]
 fn evaluate_in<'a, R: Lookup>(
     alloc: Global,

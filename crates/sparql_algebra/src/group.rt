@@ -19,7 +19,7 @@ use rdf_core::Term;
 use sparql_tree::{Element, GraphName};
 use std::alloc::{AllocError, Global};
 
-/// Translates a group into its operator.
+/// Translates a group ([53] `GroupGraphPattern`) into its operator.
 ///
 /// # Errors
 /// `AllocError` if an allocation fails.
@@ -52,7 +52,8 @@ fn read_group<'a>(
     Ok(part)
 }
 
-/// Translates an element of a group into what it adds.
+/// Translates an element of a group into its addition to the group. Elements are triples ([55]
+/// `TriplesBlock`), filters ([68] `Filter`) and the other patterns ([56] `GraphPatternNotTriples`).
 #[cycle(group)]
 fn read_element<'a>(
     alloc: Global,
@@ -85,8 +86,8 @@ fn read_element<'a>(
     }
 }
 
-/// Translates an OPTIONAL: its group's pattern is the right side, and the filters of the group are
-/// the condition.
+/// Translates an OPTIONAL ([57] `OptionalGraphPattern`): its group's pattern is the right side, and
+/// the filters of the group are the condition.
 #[cycle(group)]
 fn read_optional<'a>(
     alloc: Global,
@@ -100,7 +101,8 @@ fn read_optional<'a>(
     Ok(Addition::Optional(right, condition))
 }
 
-/// Translates a side of a UNION, which is a group or a UNION itself.
+/// Translates a side of a UNION ([67] `GroupOrUnionGraphPattern`), which is a group or a UNION
+/// itself.
 #[cycle(group)]
 fn convert_side(alloc: Global, names: &Names, side: &Element) -> Result<Box<Operator>, AllocError>
     ensures operator { IfOk result
@@ -137,7 +139,7 @@ fn convert_union(
     making::union(alloc, left, right)
 }
 
-/// Translates `GRAPH name { group }`.
+/// Translates `GRAPH name { group }` ([58] `GraphGraphPattern`).
 #[cycle(group)]
 fn convert_graph(
     alloc: Global,

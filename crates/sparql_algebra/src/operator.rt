@@ -6,8 +6,11 @@ use rdf_core::Term;
 /// term.
 #[derive(Debug)]
 pub enum PatternTerm {
+    /// The number of a variable of the plan.
     Variable(usize),
+    /// The number of a blank node label of the pattern.
     Label(usize),
+    /// A term, which matches only itself.
     Term(Term),
 }
 
@@ -31,12 +34,14 @@ pub struct TriplePattern {
 /// The name after GRAPH: an IRI, or a variable that ranges over the names of all named graphs.
 #[derive(Debug)]
 pub enum GraphName {
+    /// The number of a variable of the plan.
     Variable(usize),
+    /// The name of one graph.
     Iri(Term),
 }
 
 impl Drop for GraphName {
-    /// Implemented by hand for the same reason.
+    /// Implemented by hand, like the `Drop` of [`PatternTerm`].
     fn drop(self) {
         match self {
             GraphName::Variable(_) | GraphName::Iri(_) => {}
@@ -52,27 +57,33 @@ pub enum Operator {
         labels: usize,
         triples: Vec<TriplePattern>,
     },
+    /// The merges of the compatible pairs of solutions.
     Join {
         left: Box<Operator>,
         right: Box<Operator>,
     },
+    /// The merges that pass the condition, and the left solutions without one.
     LeftJoin {
         left: Box<Operator>,
         right: Box<Operator>,
         condition: Expr,
     },
+    /// The solutions of both sides.
     Union {
         left: Box<Operator>,
         right: Box<Operator>,
     },
+    /// The left solutions that no right solution removes.
     Minus {
         left: Box<Operator>,
         right: Box<Operator>,
     },
+    /// The solutions of the inner tree in one named graph, or in each of them.
     Graph {
         name: GraphName,
         inner: Box<Operator>,
     },
+    /// The solutions for which the condition is true.
     Filter {
         condition: Expr,
         inner: Box<Operator>,
@@ -88,6 +99,7 @@ pub enum Operator {
         variables: Vec<usize>,
         inner: Box<Operator>,
     },
+    /// Each solution once.
     Distinct {
         inner: Box<Operator>,
     },

@@ -11,8 +11,8 @@ use crate::operator::{self, Operator};
 use sparql_tree::{PatternTerm, Triple};
 use std::alloc::{AllocError, Global};
 
-/// Translates triples into a basic graph pattern. Its blank node labels are numbered in the order
-/// of their first occurrence.
+/// Translates triples ([55] `TriplesBlock`) into a basic graph pattern. Its blank node labels are
+/// numbered in the order of their first occurrence.
 ///
 /// # Errors
 /// `AllocError` if an allocation fails.

@@ -14,7 +14,9 @@ use rdf_core::Text;
 /// the pattern's number of labels.
 #[derive(Debug, Drop)]
 pub struct Plan {
+    /// The name of each variable, without `?` or `$`.
     pub names: Vec<Text>,
+    /// The operators over the numbers of the variables.
     pub tree: Operator,
     pub ghost within: { is_within (length names.items) (algebra_of tree) ≡ true },
 }

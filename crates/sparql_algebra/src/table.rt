@@ -10,7 +10,8 @@ use crate::operator::Operator;
 use rdf_core::{Term, Text};
 use std::alloc::{AllocError, Global};
 
-/// Translates VALUES into a table over the numbers of its variables. Its cells are copied.
+/// Translates VALUES ([61] `InlineData`) into a table over the numbers of its variables. Its cells
+/// are copied.
 ///
 /// # Errors
 /// `AllocError` if an allocation fails.
