@@ -331,9 +331,9 @@ pub fn distinct(alloc: Global, solutions: &[Solution]) -> Result<Vec<Solution>, 
     }
 }
 
-/// Creates the solutions of a table (section 18.2.2.6, inline data). Each row of cells gives one
-/// solution of `width` variables, in which the listed variables have the cells of the row. A cell
-/// that is None (UNDEF) binds nothing.
+/// Creates the solutions of a table ([61] `InlineData`, section 18.2.2.6). Each row of cells gives
+/// one solution of `width` variables, in which the listed variables have the cells of the row. A
+/// cell that is None (UNDEF) binds nothing.
 ///
 /// # Errors
 /// `AllocError` if an allocation fails.
