@@ -17,8 +17,9 @@ use std::cmp::Ordering;
 /// sections 17.3 and 17.4.1.7).
 ///
 /// Numbers of any length are compared exactly by their values, strings by code points, and booleans
-/// with false before true. Other terms have no order, not even a term and itself. For two such
-/// literals that are not the same term, equality is unknown, which is an error too.
+/// with false before true. Any other pair of terms has no order, not even a term and itself.
+/// Equality of the same term is true. Two literals that are not the same term may or may not be
+/// equal, so their equality is an error too.
 pub fn compare(operator: Comparison, left: &Term, right: &Term) -> Option<bool>
     ensures compared { result ≡ compares (comparison_of operator) left.now right.now }
 {

@@ -19,7 +19,8 @@ pub enum LiteralValue<'a> {
     Number(Digits<'a>),
     Boolean(bool),
     String(&'a str),
-    /// Every other term: IRIs, blank nodes, and literals with a language tag or another datatype.
+    /// Every other term: IRIs, blank nodes, literals with a language tag or another datatype, and
+    /// ill-formed numbers and booleans.
     Other,
 }
 
