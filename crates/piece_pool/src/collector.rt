@@ -30,7 +30,7 @@ struct Collected<Out, Fault> {
 /// with the least number. It does not matter which threads did the work.
 ///
 /// # Requires
-/// `works` has what [`work`](crate::work) returned for this job, once for each pass of this board.
+/// `works` has what `work` returned for this job, once for each pass of this board.
 ///
 /// # Errors
 /// `AllocError` if an allocation fails, or if a worker stopped, which happens only if an allocation
