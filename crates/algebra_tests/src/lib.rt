@@ -5,8 +5,8 @@
 //! Standard: SPARQL 1.1 Query Language, sections 17 and 18.
 //!
 //! The tests have a crate of their own, so a proof of the tests proves no library again. A table is
-//! one constant text, and its test is one call, because a function that owns trees or has a long
-//! local table is slow to prove.
+//! one constant text, and its test is one call. A function that owns trees or has a long local
+//! table would be slow to prove.
 #![tactic(auto)]
 
 #[cfg(test)]
