@@ -8,8 +8,8 @@
 //! Standard: SPARQL 1.1 Query Language, sections 18.3, 18.5 and 18.6.
 //!
 //! The tests have a crate of their own, so a proof of the tests proves no library again. A table is
-//! one constant text, and its test is one call, because a function that owns trees or has a long
-//! local table is slow to prove.
+//! one constant text, and its test is one call. A function that owns trees or has a long local
+//! table would be slow to prove.
 #![tactic(auto)]
 
 #[cfg(test)]

@@ -194,7 +194,8 @@ fn a_filter_in_optional_sees_the_left_row(rt: HostRuntime) {
     assert!(rt; are_right(&rt, rt.alloc(), Reader::Query, OPTIONALS));
 }
 
-/// VALUES, MINUS, UNION, DISTINCT and BIND.
+/// VALUES ([61] `InlineData`), MINUS ([66] `MinusGraphPattern`), UNION ([67]
+/// `GroupOrUnionGraphPattern`), DISTINCT ([9] `SelectClause`) and BIND ([60] `Bind`).
 const OPERATORS: &str = r#"
 # UNDEF leaves a variable unbound, and a row that leaves it unbound is compatible with every value.
 SELECT * { VALUES (?a ?b) { (<a:x> UNDEF) (UNDEF <a:z>) (UNDEF <a:y>) } VALUES (?a ?b) { (<a:x> <a:z>) } } => 2: <a:x> <a:z>; <a:x> <a:z>
