@@ -24,7 +24,7 @@ impl Model for Cuts {
 impl Cuts {
     /// Splits a document after each line feed that makes a piece of at least `size` bytes. A line
     /// feed at the end of the document is no cut. Only the piece of an empty document is thus
-    /// empty. The result are cuts of this document (`fits`), so callers need not check them.
+    /// empty. The result fits this document (`fits`), so callers need not check it.
     ///
     /// # Requires
     /// `size` is 1 or more.

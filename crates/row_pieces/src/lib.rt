@@ -7,8 +7,12 @@
 //!
 //! The split is a choice of this project (not fixed by the standard).
 //!
-//! Reading order: `how`, `pieces`. Tests: `pieces` of the crate row_tests, which also gives an
-//! example of a `RowWork`.
+//! Reading order: `how`, `pieces`. Tests: `pieces` of the crate row_tests; the tests of the
+//! operators there run [`over_pieces`].
+//!
+//! ```text
+//! let rows = over_pieces(&rt, alloc, &work, &How { workers: 4, rows: 1024 }, &OpenGate)?;
+//! ```
 //!
 //! Not guaranteed: the order of the rows, and which worker runs which piece.
 #![tactic(auto)]

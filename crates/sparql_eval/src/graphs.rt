@@ -13,7 +13,7 @@ use rdf_core::Term;
 use row_core::{Rows, is_compatible, merge_into};
 use std::alloc::{AllocError, Global};
 
-/// Returns the number of the name of a graph, or None if no graph has that name.
+/// Returns the number of a graph name, or None if no graph has that name.
 pub(crate) fn graph_number(dict: &Dict, index: &Index, name: &Term) -> Option<u64>
     requires index { AreBelow (length dict.now) index.now }
     ensures number { MatchOption result

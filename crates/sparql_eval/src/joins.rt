@@ -86,7 +86,7 @@ fn joined<R: Threads + Wait, G: Gate + Sync>(
     row_join::join(rt, alloc, state, left, right, how, gate)
 }
 
-/// Joins rows that the evaluator needs no longer. If the left side is the one row that binds
+/// Joins rows that the evaluator no longer needs. If the left side is the one row that binds
 /// nothing, with which each group graph pattern begins, the result is the right side. The
 /// dictionary is returned unchanged. If one piece holds all left rows, no thread is started.
 pub(crate) fn join_of<R: Threads + Wait, G: Gate + Sync>(

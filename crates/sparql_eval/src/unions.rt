@@ -37,7 +37,7 @@ pub fn union(
     Ok((made, dict))
 }
 
-/// Unites rows that the evaluator needs no longer: the right rows are moved after the left ones.
+/// Unites rows that the evaluator no longer needs: the right rows are moved after the left ones.
 /// The dictionary is returned unchanged.
 pub(crate) fn union_of(dict: Dict, left: Rows, right: Rows) -> Result<(Rows, Dict), EvalFault>
     requires same_width { left.width ≡ right.width }
