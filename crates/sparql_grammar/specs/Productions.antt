@@ -59,8 +59,8 @@ right_side the.primary = choice (last the.bracket (λ e. e))
     (choice (last the.call (λ e. e))
     (choice (take variable (λ v. give (x.variable v)))
     (last the.term (λ t. x.constant t))))
--- [120] BrackettedExpression ::= '(' Expression ')', where [110] Expression ::=
--- ConditionalOrExpression
+-- [120] BrackettedExpression ::= '(' Expression ')'
+-- [110] Expression ::= ConditionalOrExpression
 right_side the.bracket = sign s.OpenParenthesis (part the.disjunction (λ e. sign s.CloseParenthesis (give e)))
 -- [121] BuiltInCall ::= ('STR' | 'LANG' | 'DATATYPE' | 'isIRI' | 'isBLANK' | 'isLITERAL') '(' Expression ')'
 --     | 'BOUND' '(' Var ')' | 'sameTerm' '(' Expression ',' Expression ')'
