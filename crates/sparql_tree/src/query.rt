@@ -19,10 +19,11 @@ pub struct Query {
     pub selection: Selection,
     /// The elements of the query's outermost group.
     pub group: Vec<Element>,
-    /// A number over 18446744073709551615 in the text is stored as 18446744073709551615.
+    /// The number of LIMIT. A number above 18446744073709551615 is replaced by that number; the
+    /// same holds for `offset`.
     pub limit: Option<u64>,
     pub offset: Option<u64>,
-    /// The name of each variable occurrence, in the order of the text: also of those in SELECT,
-    /// FILTER, MINUS, VALUES and BIND.
+    /// The name of each variable occurrence, in the order of the text. The occurrences in SELECT,
+    /// FILTER, MINUS, VALUES and BIND are among them.
     pub mentioned: Vec<Text>,
 }
