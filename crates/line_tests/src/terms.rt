@@ -1,4 +1,4 @@
-//! One call of each public function, and the N-Quads forms and the order of terms.
+//! A call of each public function, and the N-Quads forms and the order of terms.
 use rdf_core::vocabulary::{RDF_LANG_STRING, XSD_INTEGER, XSD_STRING};
 use rdf_core::{Quad, Term, Text, is_iri, is_node, write_term};
 use std::alloc::{AllocError, AllocGlobal, Global};

@@ -58,7 +58,7 @@ impl Sink for VecSink {
 
     ghost failures = { λ s. Some s.failed };
 
-    // It accepts at least one byte of each text that is not empty.
+    // The sink accepts at least one byte of each text that is not empty.
     ghost write_gives = { λ s bs r t. 0 < length bs → IfOk r (λ n. 0 < n) };
 
     fn write(&mut self, bytes: &[u8]) -> Result<usize, DeviceFailed> {
