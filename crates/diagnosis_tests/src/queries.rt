@@ -270,7 +270,8 @@ fn groups_are_explained(rt: HostRuntime) {
     assert!(rt; are_right(&rt, rt.alloc(), Reader::Query, GROUPS));
 }
 
-/// Expressions in FILTER and BIND, and VALUES, whose rows have one value for each variable (section 10.2).
+/// Expressions in FILTER and BIND, and VALUES, whose rows have one value for each variable (section
+/// 10.2).
 const EXPRESSIONS: &str = r##"
 SELECT * { FILTER(?x ?y) }
 spq: query, line 1, column 22: expected an operator (such as '=' or '&&') or ')', found '?y'

@@ -27,6 +27,7 @@ use std::alloc::{AllocError, Global};
 /// The unit of a column.
 #[derive(Clone, Copy, Debug, PartialEq, Eq)]
 pub enum Counted {
+    /// The unit if the line is UTF-8
     Characters,
     /// The unit if the line is not UTF-8
     Bytes,
@@ -40,7 +41,9 @@ pub struct Diagnosis {
     pub offset: usize,
     /// The column of the place, from 1.
     pub column: usize,
+    /// The unit of the column.
     pub counted: Counted,
+    /// The reason why the character at the place is not allowed.
     pub reason: Reason,
 }
 

@@ -24,11 +24,13 @@ pub enum Scheme {
     Read,
 }
 
-/// The digits of a UCHAR that are read. With further digits they can denote `span` numbers, the
-/// least of which is `low`.
+/// The digits of a [12] UCHAR that are read. With further digits they can denote `span` numbers,
+/// the least of which is `low`.
 #[derive(Clone, Copy, Debug, PartialEq, Eq)]
 pub struct Digits {
+    /// The least number that they can still denote.
     pub low: u64,
+    /// The number of numbers that they can still denote.
     pub span: u64,
 }
 

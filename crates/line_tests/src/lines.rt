@@ -146,7 +146,8 @@ fn malformed_lines_are_rejected(rt: HostRuntime) {
     assert!(rt; is_malformed(rt.alloc(), b"# \xFF"), "not UTF-8");
 }
 
-/// Prints the number of lines, and the numbers of lines and quads of the piece or its first malformed line.
+/// Prints the number of lines, and the numbers of lines and quads of the piece or its first
+/// malformed line.
 pub(crate) fn piece(alloc: Global, text: &str) -> Result<String, AllocError> {
     let lines = count_lines(text.as_bytes());
     match read_piece(alloc, text.as_bytes()) {

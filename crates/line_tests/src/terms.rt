@@ -118,8 +118,8 @@ const TERMS: &[Parts] = &[
     Parts::Literal("x", XSD_STRING, None),
 ];
 
-/// Literals in ascending order: by lexical form, then datatype IRI, then language tag, with no tag first; each by
-/// the bytes of its UTF-8.
+/// Literals in ascending order: by lexical form, then datatype IRI, then language tag, with no tag
+/// first; each by the bytes of its UTF-8.
 const LITERALS: &[Parts] = &[
     Parts::Literal("x", RDF_LANG_STRING, None),
     Parts::Literal("x", RDF_LANG_STRING, Some("de")),

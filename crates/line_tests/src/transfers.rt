@@ -1,4 +1,5 @@
-//! Transfers over devices in memory that transfer few bytes with each call and fail at a given byte.
+//! Transfers over devices in memory that transfer few bytes with each call and fail at a given
+//! byte.
 ghost use Rattle.std.specs.Prelude.{◌<◌};
 
 use nquads_core::{

@@ -29,9 +29,11 @@ pub struct Diagnosis {
     pub fault: QueryFault,
     /// The number of characters of the text before the place.
     pub offset: usize,
+    /// The line and the column of the place.
     pub position: Position,
     /// The reason as text.
     pub reason: String,
+    /// What to write instead, if a hint is known.
     pub hint: Option<Hint>,
 }
 

@@ -4,8 +4,8 @@ use crate::steps::constant;
 use crate::symbol::{Step, Symbol};
 use sparql_lexer::{Keyword, Kind, Sign};
 
-/// The first terminal of a [121] BuiltInCall; the rest of the call and the symbols `then` follow
-/// it.
+/// Reads the first terminal of a [121] BuiltInCall; the rest of the call and the symbols `then`
+/// follow it.
 pub fn call(kind: Kind, then: &'static [Symbol]) -> Step {
     match kind {
         Kind::Keyword(
@@ -33,7 +33,8 @@ pub fn call(kind: Kind, then: &'static [Symbol]) -> Step {
     }
 }
 
-/// The first terminal of a [119] PrimaryExpression; its rest and the symbols `then` follow it.
+/// Reads the first terminal of a [119] PrimaryExpression; its rest and the symbols `then` follow
+/// it.
 pub fn primary(kind: Kind, then: &'static [Symbol]) -> Step {
     match kind {
         Kind::Sign(Sign::OpenParenthesis) => {
@@ -46,7 +47,7 @@ pub fn primary(kind: Kind, then: &'static [Symbol]) -> Step {
     }
 }
 
-/// The first terminal of a [118] UnaryExpression.
+/// Reads the first terminal of a [118] UnaryExpression.
 pub fn unary(kind: Kind) -> Step {
     match kind {
         Kind::Sign(Sign::Not) => Step::Take(&[Symbol::Primary], &[]),
@@ -54,7 +55,7 @@ pub fn unary(kind: Kind) -> Step {
     }
 }
 
-/// The first terminal of an [110] Expression; its rest and the symbols `then` follow it.
+/// Reads the first terminal of an [110] Expression; its rest and the symbols `then` follow it.
 pub fn expression(kind: Kind, then: &'static [Symbol]) -> Step {
     match kind {
         Kind::Sign(Sign::Not) => Step::Take(&[Symbol::Primary], then),
@@ -62,7 +63,7 @@ pub fn expression(kind: Kind, then: &'static [Symbol]) -> Step {
     }
 }
 
-/// The terminal after the first operand of a [114] RelationalExpression.
+/// Reads the terminal after the first operand of a [114] RelationalExpression.
 pub fn more_relation(kind: Kind) -> Step {
     match kind {
         Kind::Sign(
@@ -79,8 +80,8 @@ pub fn more_relation(kind: Kind) -> Step {
     }
 }
 
-/// The terminal after an operand of a [111] ConditionalOrExpression or [112]
-/// ConditionalAndExpression.
+/// Reads the terminal after an operand of a [111] ConditionalOrExpression or
+/// [112] ConditionalAndExpression.
 pub fn more_logic(kind: Kind) -> Step {
     match kind {
         Kind::Sign(Sign::And | Sign::Or) => Step::Take(&[Symbol::Expression], &[]),

@@ -34,6 +34,7 @@ pub struct Stop {
     /// The number of terminals before the place. It is the number of all terminals if they end too
     /// early.
     pub at: usize,
+    /// The reason why no query continues after the terminal at the place.
     pub cause: Cause,
     /// The symbols that may come there, the next one last.
     pub stack: Vec<Symbol>,

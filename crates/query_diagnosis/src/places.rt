@@ -7,8 +7,9 @@ use std::fmt;
 /// follows.
 #[derive(Clone, Copy, Debug, PartialEq, Eq)]
 pub struct Position {
+    /// The number of the line, from 1.
     pub line: usize,
-    /// The column, in characters.
+    /// The column, from 1, in characters.
     pub column: usize,
 }
 

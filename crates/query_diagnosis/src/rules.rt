@@ -14,7 +14,9 @@ const MAX_DEPTH: usize = 100;
 /// A terminal that clashes with an earlier one.
 #[derive(Clone, Copy, Debug, PartialEq, Eq)]
 pub struct Clash {
+    /// The place of the terminal in the list.
     pub at: usize,
+    /// The place of the earlier terminal.
     pub earlier: usize,
 }
 

@@ -9,7 +9,7 @@ fn only(kind: Kind, expected: Kind) -> Step {
     if kind == expected { DONE } else { Step::Stop }
 }
 
-/// Returns whether the terminal is an [136] iri: an IRIREF or a prefixed name.
+/// Returns whether the terminal is an [136] iri: an [139] IRIREF or a prefixed name.
 pub fn is_name(kind: Kind) -> bool {
     matches!(
         kind,
@@ -36,8 +36,8 @@ pub fn is_string(kind: Kind) -> bool {
     matches!(kind, Kind::ShortString | Kind::LongString)
 }
 
-/// The first terminal of an IRI or a literal; its rest and the symbols `then` follow it ([109]
-/// GraphTerm without blank nodes).
+/// Reads the first terminal of an IRI or a literal; its rest and the symbols `then` follow it
+/// ([109] GraphTerm without blank nodes).
 pub fn constant(kind: Kind, then: &'static [Symbol]) -> Step {
     if is_string(kind) {
         Step::Take(&[Symbol::LiteralTail], then)
@@ -48,7 +48,7 @@ pub fn constant(kind: Kind, then: &'static [Symbol]) -> Step {
     }
 }
 
-/// The first terminal of a [106] VarOrTerm; its rest and the symbols `then` follow it.
+/// Reads the first terminal of a [106] VarOrTerm; its rest and the symbols `then` follow it.
 fn pattern_term(kind: Kind, then: &'static [Symbol]) -> Step {
     if matches!(kind, Kind::Variable | Kind::BlankLabel | Kind::Anonymous) {
         Step::Take(&[], then)
@@ -57,7 +57,7 @@ fn pattern_term(kind: Kind, then: &'static [Symbol]) -> Step {
     }
 }
 
-/// A [78] Verb; the symbols `then` follow it.
+/// Reads a [78] Verb; the symbols `then` follow it.
 fn verb(kind: Kind, then: &'static [Symbol]) -> Step {
     if kind == Kind::Variable || kind == Kind::Keyword(Keyword::A) || is_name(kind) {
         Step::Take(&[], then)
@@ -74,7 +74,7 @@ fn variable_or_name(kind: Kind) -> Step {
     }
 }
 
-/// The first terminal of a [2] Query: a [6] PrefixDecl or a [7] SelectQuery.
+/// Reads the first terminal of a [2] Query: a [6] PrefixDecl or a [7] SelectQuery.
 fn query(kind: Kind) -> Step {
     match kind {
         Kind::Keyword(Keyword::Prefix) => Step::Take(
@@ -86,7 +86,7 @@ fn query(kind: Kind) -> Step {
     }
 }
 
-/// The terminal after the variables of SELECT ([17] WhereClause).
+/// Reads the terminal after the variables of SELECT ([17] WhereClause).
 fn where_clause(kind: Kind) -> Step {
     match kind {
         Kind::Keyword(Keyword::Where) => Step::Take(&[Symbol::Group, Symbol::Modifiers], &[]),
@@ -95,7 +95,7 @@ fn where_clause(kind: Kind) -> Step {
     }
 }
 
-/// The terminal of a [9] SelectClause after SELECT and DISTINCT.
+/// Reads the terminal of a [9] SelectClause after SELECT and DISTINCT.
 fn selection(kind: Kind) -> Step {
     match kind {
         Kind::Sign(Sign::Star) => Step::Take(&[Symbol::Where], &[]),
@@ -118,7 +118,7 @@ fn variables(kind: Kind) -> Step {
     }
 }
 
-/// The first terminal of [25] LimitOffsetClauses.
+/// Reads the first terminal of [25] LimitOffsetClauses.
 fn modifiers(kind: Kind) -> Step {
     match kind {
         Kind::Keyword(Keyword::Limit) => Step::Take(&[Symbol::Count, Symbol::MoreOffset], &[]),
@@ -136,7 +136,8 @@ fn count_behind(kind: Kind, keyword: Keyword) -> Step {
     }
 }
 
-/// The first terminal of a [56] GraphPatternNotTriples, an element of a group other than triples.
+/// Reads the first terminal of a [56] GraphPatternNotTriples, an element of a group other than
+/// triples.
 fn element(kind: Kind) -> Step {
     const THEN: &[Symbol] = &[Symbol::AfterElement];
     match kind {
@@ -159,7 +160,7 @@ fn element(kind: Kind) -> Step {
     }
 }
 
-/// The end of a group, or the first terminal of an element other than triples.
+/// Reads the end of a group, or the first terminal of an element other than triples.
 fn element_or_end(kind: Kind) -> Step {
     if kind == Kind::Sign(Sign::CloseBrace) {
         DONE
@@ -168,7 +169,7 @@ fn element_or_end(kind: Kind) -> Step {
     }
 }
 
-/// The next terminal of a [54] GroupGraphPatternSub, where triples may come.
+/// Reads the next terminal of a [54] GroupGraphPatternSub, where triples may come.
 fn body(kind: Kind) -> Step {
     let subject = pattern_term(
         kind,
@@ -200,7 +201,7 @@ fn after_element(kind: Kind) -> Step {
     }
 }
 
-/// The terminal after a group of a [67] GroupOrUnionGraphPattern.
+/// Reads the terminal after a group of a [67] GroupOrUnionGraphPattern.
 fn more_union(kind: Kind) -> Step {
     if kind == Kind::Keyword(Keyword::Union) {
         Step::Take(&[Symbol::Group, Symbol::MoreUnion], &[])
@@ -209,7 +210,7 @@ fn more_union(kind: Kind) -> Step {
     }
 }
 
-/// The terminal after an object of an [79] ObjectList.
+/// Reads the terminal after an object of an [79] ObjectList.
 fn more_objects(kind: Kind) -> Step {
     if kind == Kind::Sign(Sign::Comma) {
         Step::Take(&[Symbol::Object, Symbol::MoreObjects], &[])
@@ -218,7 +219,7 @@ fn more_objects(kind: Kind) -> Step {
     }
 }
 
-/// The terminal after the objects of a [77] PropertyListNotEmpty.
+/// Reads the terminal after the objects of a [77] PropertyListNotEmpty.
 fn more_properties(kind: Kind) -> Step {
     if kind == Kind::Sign(Sign::Semicolon) {
         Step::Take(&[Symbol::AfterSemicolon], &[])
@@ -235,7 +236,7 @@ fn after_semicolon(kind: Kind) -> Step {
     }
 }
 
-/// The terminal after the string of an [129] RDFLiteral.
+/// Reads the terminal after the string of an [129] RDFLiteral.
 fn literal_tail(kind: Kind) -> Step {
     match kind {
         Kind::LanguageTag => DONE,
@@ -244,7 +245,7 @@ fn literal_tail(kind: Kind) -> Step {
     }
 }
 
-/// The first terminal of a [62] DataBlock.
+/// Reads the first terminal of a [62] DataBlock.
 fn data_block(kind: Kind) -> Step {
     match kind {
         Kind::Variable => Step::Take(&[Symbol::OpenBrace, Symbol::Column], &[]),
@@ -253,7 +254,7 @@ fn data_block(kind: Kind) -> Step {
     }
 }
 
-/// The next terminal in the list of variables of an [64] InlineDataFull.
+/// Reads the next terminal in the list of variables of an [64] InlineDataFull.
 fn heading(kind: Kind) -> Step {
     match kind {
         Kind::Variable => Step::Take(&[Symbol::Heading], &[]),
@@ -262,7 +263,7 @@ fn heading(kind: Kind) -> Step {
     }
 }
 
-/// The next terminal between the rows of an [64] InlineDataFull.
+/// Reads the next terminal between the rows of an [64] InlineDataFull.
 fn rows(kind: Kind) -> Step {
     match kind {
         Kind::Sign(Sign::CloseBrace) => DONE,
@@ -271,7 +272,7 @@ fn rows(kind: Kind) -> Step {
     }
 }
 
-/// The next terminal in a list of [65] DataBlockValue, up to its closing sign.
+/// Reads the next terminal in a list of [65] DataBlockValue, up to its closing sign.
 fn cells(kind: Kind, close: Sign, then: &'static [Symbol]) -> Step {
     if kind == Kind::Sign(close) {
         DONE
@@ -282,7 +283,7 @@ fn cells(kind: Kind, close: Sign, then: &'static [Symbol]) -> Step {
     }
 }
 
-/// The steps of expressions and lists of values.
+/// Returns the step of a symbol of expressions or lists of values.
 fn inner_step(symbol: Symbol, kind: Kind) -> Step {
     match symbol {
         Symbol::DataBlock => data_block(kind),

@@ -91,7 +91,8 @@ pub(crate) fn all_hold<R: Print>(rt: &R, alloc: Global, reader: Reader, cases: &
     true
 }
 
-/// Returns the first part, the second `count` times, the third, the fourth `count` times, and the fifth.
+/// Returns the first part, the second `count` times, the third, the fourth `count` times, and the
+/// fifth.
 fn repeated(alloc: Global, count: usize, parts: &[&str; 5]) -> Result<String, AllocError> {
     let [first, opening, middle, closing, last] = *parts;
     let opened = opening.repeat(alloc, count)?;

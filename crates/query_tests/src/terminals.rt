@@ -149,7 +149,8 @@ fn words(rt: HostRuntime) {
     assert!(rt; all_hold(&rt, rt.alloc(), Reader::Terminals, WORDS));
 }
 
-/// A name may contain dots, but not at its end. A local name may contain colons, a blank node label may not.
+/// A name may contain dots, but not at its end. A local name may contain colons, a blank node label
+/// may not.
 const NAMES: &[Case] = &[
     ("e:a.", "PrefixedName e:a, Sign(Dot) ."),
     ("e:a.b", "PrefixedName e:a.b"),

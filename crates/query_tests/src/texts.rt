@@ -34,8 +34,8 @@ pub(crate) fn rules(alloc: Global, text: &str) -> Result<String, AllocError> {
     format!(in alloc; "deep {deep}, undefined {undefined}, relative {relative}")
 }
 
-/// At most 100 brackets may be open at once. A closing bracket of either kind closes one if one is open.
-/// Brackets in strings and IRIs do not count.
+/// At most 100 brackets may be open at once. A closing bracket of either kind closes one if one is
+/// open. Brackets in strings and IRIs do not count.
 const DEPTHS: &[Repeated] = &[
     (
         100,

@@ -59,7 +59,7 @@ pub goes_on : (k : Inside) (cl : Option ℕ) (value rest all : List ℕ) (c : �
 goes_on k cl value rest all c next value' h e v u =
     record { utf8 = u; left = rw v (sym (push_char value c (parts_at k cl 0 (chars next))) ∙ sym (ap (with_bytes value) e) ∙ h.left) }
 
--- the text ends before the closing delimiter, or it ends and has none
+-- the text ends, and the closing delimiter is missing or the kind of text has none
 pub no_close : (k : Inside) (cl : Option ℕ) (d : ℕ) (value rest all : List ℕ) → cl ≡ Some d → HasRead k cl value rest all → chars rest ≡ [] → with_bytes [] (parts_at k cl 0 (chars all)) ≡ None
 no_close k cl d value rest all s h e = stops k cl value rest all h (at_end k cl (chars rest) e ∙ ap at_text_end s)
 

@@ -10,8 +10,9 @@ is_iri_char c =
     nat_lt 32 c
     && not (c == 60 || c == 62 || c == 34 || c == 123 || c == 125 || c == 124 || c == 94 || c == 96 || c == 92)
 
--- The characters that a string on one line allows unescaped: [^#x27#x5C#xA#xD] in [156]
--- STRING_LITERAL1 and [^#x22#x5C#xA#xD] in [157] STRING_LITERAL2. The first argument is the quote.
+-- The characters that a string on one line allows unescaped: [^#x27#x5C#xA#xD] in
+-- [156] STRING_LITERAL1 and [^#x22#x5C#xA#xD] in [157] STRING_LITERAL2. The first argument is the
+-- quote.
 abbrev pub is_quoted_char : ℕ → ℕ → Bool
 is_quoted_char quote c = not (c == quote || c == 92 || c == 10 || c == 13)
 

@@ -1,6 +1,6 @@
 -- How the characters of an IRI or a string are written between their delimiters, unescaped or as
 -- escapes (RDF 1.1 N-Quads, section 4; SPARQL 1.1 Query Language, sections 19.2, 19.7 and 19.8). A
--- text is a list of characters.
+-- text is a list of characters. HEX is [172] of SPARQL and [162s] of N-Quads.
 use Rattle.std.specs.Prelude.{◌≡◌, ◌≢◌, ℕ, true, ◌⊎◌, List, [], ◌∷◌, ◌++◌, length, Some}
 use Rattle.std.specs.Char.{IsScalar}
 use Rattle.std.specs.Str.{encode_utf8_all}

@@ -27,8 +27,8 @@ abbrev pub scalar_of : ℕ → Option (ℕ × List ℕ) → Option (ℕ × ℕ)
 scalar_of n None = None
 scalar_of n (Some x) = if scalar x.0 then Some (x.0, n + 1) else None
 
--- UCHAR after the backslash: the character that it denotes, and the number of characters after the
--- backslash
+-- [12] UCHAR of N-Quads after its backslash: the character that it denotes, and the number of
+-- characters after the backslash
 unfoldable pub uchar_at : List ℕ → Option (ℕ × ℕ)
 uchar_at [] = None
 uchar_at (u ∷ cs) = if u == 117 then scalar_of 4 (hex_at 4 0 cs) else if u == 85 then scalar_of 8 (hex_at 8 0 cs) else None

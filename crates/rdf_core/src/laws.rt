@@ -2,8 +2,8 @@
 
 ghost use Rattle.rdf_core.specs.Laws.{EqualityIsIdentity, OrderIsByParts};
 
-/// `==` returns true for two terms if and only if they are the same term, that is, if all their
-/// parts are equal (RDF 1.1 Concepts, sections 3.2 to 3.4).
+/// `==` returns true for two terms if and only if all their parts are equal, so that they are the
+/// same term (RDF 1.1 Concepts, sections 3.2 to 3.4).
 pub fn equality_is_identity()
     ensures law { EqualityIsIdentity }
 {}

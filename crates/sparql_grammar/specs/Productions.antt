@@ -1,6 +1,9 @@
 -- The productions (SPARQL 1.1 Query Language, section 19.8), without the parts that this reader
--- leaves out. Each right side follows the production of the standard, by its number and name. Only
--- the alternatives that the reader has are listed.
+-- leaves out. The standard's production is above each right side, with its number and name. It
+-- lists only the alternatives that the reader has. [140] PNAME_NS, [139] IRIREF,
+-- [142] BLANK_NODE_LABEL, [145] LANGTAG, [146] INTEGER, [163] ANON, [130] NumericLiteral,
+-- [134] BooleanLiteral, [135] String, [136] iri and [108] Var are terminals or classes of terminals
+-- (Class.antt).
 use Rattle.std.specs.Prelude.{◌≡◌, ℕ, List, [], ◌∷◌, ◌++◌, Bool, true, false, Option, Some, None, length, ◌==◌, map}
 use Rattle.rdf_core.specs.Vocabulary.{xsd_string, rdf_lang_string, rdf_type}
 use Rattle.rdf_core.specs.declared.term.Term.{Term}

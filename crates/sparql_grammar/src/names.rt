@@ -11,7 +11,9 @@ use std::marker::Model;
 /// A prefix declaration, `PREFIX prefix: <iri>` ([6] PrefixDecl).
 #[derive(Debug, Drop)]
 pub struct Declaration {
+    /// The prefix, without its colon.
     pub prefix: Text,
+    /// The IRI of the prefix.
     pub iri: Text,
 }
 

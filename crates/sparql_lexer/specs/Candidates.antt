@@ -8,7 +8,7 @@ use Rattle.sparql_lexer.specs.declared.token.Sign.{Sign}
 use Rattle.sparql_lexer.specs.Scan.{Reads, Longest, Unreadable}
 use Rattle.sparql_lexer.specs.Signs.{sign_of_two}
 
--- a number for each kind; all words have the same number, and all signs
+-- a number for each kind; all words have the same number, and so do all signs
 abbrev pub row : Kind → ℕ
 row kind.IriRef = 0
 row kind.Variable = 1

@@ -1,4 +1,4 @@
--- Texts in which no PNAME_NS begins. Only private clauses use these definitions.
+-- Texts in which no [140] PNAME_NS begins. Only private clauses use these definitions.
 use Rattle.std.specs.Prelude.{◌<◌, ℕ, List, ◌∷◌, length, Bool, ◌||◌, nat_eq}
 use Rattle.sparql_lexer.specs.Characters.{is_name_part}
 use Rattle.sparql_lexer.specs.Names.{namespace}

@@ -1,7 +1,8 @@
 -- Delimited terminals: IRIs, strings, and ANON (SPARQL 1.1 Query Language, section 19.8). Section
--- 19.7 defines ECHAR, and section 19.2 defines the escapes `\u` and `\U`, here UCHAR as in RDF 1.1
--- N-Quads. The standard replaces UCHAR in the whole text before it applies the grammar. Here UCHAR
--- is a part of IRIs and strings only (a choice of this project).
+-- 19.7 describes ECHAR, and section 19.2 the escapes `\u` and `\U`, here called UCHAR as in RDF 1.1
+-- N-Quads. HEX is [172] HEX, and WS is [162] WS. The standard replaces UCHAR in the whole text
+-- before it applies the grammar. Here UCHAR is a part of IRIs and strings only (a choice of this
+-- project).
 use Rattle.std.specs.Prelude.{ℕ, not}
 use Rattle.rdf_core.specs.Characters.{is_hex}
 use Rattle.sparql_lexer.specs.Pattern.{Pattern, character, is, many, perhaps, ◌▸◌, ◌or◌}

@@ -1,4 +1,4 @@
--- The laws of this crate.
+-- The laws of this crate. ECHAR is [160] ECHAR, and UCHAR is [12] UCHAR of N-Quads.
 use Rattle.std.specs.Prelude.{◌≡◌, ◌↔◌, ℕ, List, [], ◌∷◌, ◌++◌, Some}
 use Rattle.rdf_core.specs.Escapes.{IsIriPart, IsAnyPart, IsWritten}
 use Rattle.sparql_lexer.specs.declared.token.Kind.TheVariants as kind

@@ -1,5 +1,6 @@
 -- Names, variables, blank node labels, language tags and words (SPARQL 1.1 Query Language, section
--- 19.8).
+-- 19.8). Characters.antt has the classes of [164] PN_CHARS_BASE, [165] PN_CHARS_U, [166] VARNAME,
+-- [167] PN_CHARS and [172] HEX.
 use Rattle.std.specs.Prelude.{◌≡◌, ℕ, Bool, true, ◌||◌, List, ◌∷◌, ◌++◌, nat_eq}
 use Rattle.rdf_core.specs.Characters.{is_hex}
 use Rattle.rdf_core.specs.Lexical.{is_tag}

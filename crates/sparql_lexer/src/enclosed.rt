@@ -42,7 +42,7 @@ fn skip_numbered(text: &[char]) -> Option<&[char]>
     skip_four_digits(last)
 }
 
-/// Skips the letter of an [160] ECHAR, or a UCHAR, after its backslash.
+/// Skips the letter of an [160] ECHAR, or a [12] UCHAR of N-Quads, after its backslash.
 fn skip_escaped(text: &[char]) -> Option<&[char]>
     ensures { Ends (character is_escape_letter or numbered) text.now result }
 {

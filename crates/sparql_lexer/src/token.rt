@@ -73,26 +73,35 @@ pub enum Kind {
     Anonymous,
     /// [145] LANGTAG, as `@en-gb`.
     LanguageTag,
+    /// [146] INTEGER, as `1`.
     Integer,
+    /// [147] DECIMAL, as `1.5`.
     Decimal,
+    /// [148] DOUBLE, as `1e5`.
     Double,
     /// [149] INTEGER_POSITIVE or [152] INTEGER_NEGATIVE, as `+1` or `-1`.
     SignedInteger,
+    /// [150] DECIMAL_POSITIVE or [153] DECIMAL_NEGATIVE, as `+1.5` or `-1.5`.
     SignedDecimal,
+    /// [151] DOUBLE_POSITIVE or [154] DOUBLE_NEGATIVE, as `+1e5` or `-1e5`.
     SignedDouble,
     /// [156] STRING_LITERAL1 or [157] STRING_LITERAL2, with one quote on each side.
     ShortString,
     /// [158] STRING_LITERAL_LONG1 or [159] STRING_LITERAL_LONG2, with three quotes on each side.
     LongString,
+    /// A keyword, as `SELECT`.
     Keyword(Keyword),
     /// A word that is not a keyword.
     Word,
+    /// A sign, as `{`.
     Sign(Sign),
 }
 
 /// A terminal: its kind, and its characters as in the text.
 #[derive(Clone, Copy, Debug)]
 pub struct Token<'a> {
+    /// The kind of the terminal.
     pub kind: Kind,
+    /// The characters of the terminal, with its delimiters and escapes.
     pub text: &'a [char],
 }

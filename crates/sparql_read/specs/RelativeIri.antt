@@ -11,10 +11,10 @@ abbrev pub lacks_scheme : Option (List ℕ) → Bool
 lacks_scheme None = false
 lacks_scheme (Some i) = not (has_scheme i)
 
--- an IRIREF whose IRI, with its escapes decoded, has no scheme
+-- an [139] IRIREF whose IRI, with its escapes decoded, has no scheme
 abbrev pub is_relative : Terminal → Bool
 is_relative (terminal k x) = lacks_scheme (reference_of k x)
 
--- some IRIREF is relative, in a declaration or elsewhere
+-- some [139] IRIREF is relative, in a declaration or elsewhere
 abbrev pub has_relative_iri : List Terminal → Bool
 has_relative_iri ts = list_any is_relative ts

@@ -15,13 +15,15 @@ pub enum Selection {
 /// A SELECT query as its text has it ([7] `SelectQuery`).
 #[derive(Debug, Drop)]
 pub struct Query {
+    /// Whether the query has DISTINCT.
     pub distinct: bool,
+    /// The variables after SELECT, or `*`.
     pub selection: Selection,
     /// The elements of the query's outermost group.
     pub group: Vec<Element>,
-    /// The number of LIMIT. A number above 18446744073709551615 is replaced by that number; the
-    /// same holds for `offset`.
+    /// The number of LIMIT. A number above 18446744073709551615 is replaced by that number.
     pub limit: Option<u64>,
+    /// The number of OFFSET. It has the same bound.
     pub offset: Option<u64>,
     /// The name of each variable occurrence, in the order of the text. The occurrences in SELECT,
     /// FILTER, MINUS, VALUES and BIND are among them.

@@ -57,8 +57,8 @@ pub fn is_quoted_char(quote: char, c: char) -> bool
     !(c == quote || c == '\\' || c == '\n' || c == '\r')
 }
 
-/// Returns whether a string in double quotes allows this character unescaped ([11]
-/// STRING_LITERAL_QUOTE of N-Quads).
+/// Returns whether a string in double quotes allows this character unescaped
+/// ([11] STRING_LITERAL_QUOTE of N-Quads).
 pub fn is_string_char(c: char) -> bool
     ensures value { result ≡ is_string_char c }
 {

@@ -66,7 +66,7 @@ fn named_char(count: u32, text: &str) -> Option<(char, &str)>
     Some((c, rest))
 }
 
-/// Reads a UCHAR after its backslash.
+/// Reads [12] UCHAR of N-Quads after its backslash.
 fn uchar(text: &str) -> Option<(char, &str)>
     ensures { MatchOption result (uchar_at (chars text.now) ≡ None)
         (λ p. NamesChar (uchar_at (chars text.now)) text.now p.0 p.1.now) }

@@ -6,8 +6,8 @@ ghost use Rattle.std.specs.Char.{to_ascii_lowercase};
 use crate::text::Text;
 use std::alloc::{AllocError, Global};
 
-/// Returns a language tag as a term holds it, in ASCII lower case. This is a choice of this project:
-/// RDF 1.1 Concepts, section 3.3, allows it and does not require it.
+/// Returns a language tag as a term holds it, in ASCII lower case. This is a choice of this
+/// project: RDF 1.1 Concepts, section 3.3, allows it and does not require it.
 ///
 /// # Errors
 /// `AllocError` if an allocation fails.
