@@ -54,8 +54,8 @@ is_label_start c = c == 58 || is_name_start c
 unfoldable pub is_label_char : ℕ → Bool
 is_label_char c = c == 45 || is_joining c || is_label_start c
 
--- [160] ECHAR ::= '\' [tbnrf"'\] (N-Quads [153s]): the character that the letter after the
--- backslash denotes
+-- [160] ECHAR ::= '\' [tbnrf"'\] (N-Quads [153s])
+-- The character that the letter after the backslash denotes.
 abbrev pub echar : ℕ → Option ℕ
 echar e =
     if e == 116 then Some 9 else if e == 98 then Some 8 else if e == 110 then Some 10

@@ -1,6 +1,6 @@
 -- How the characters of an IRI or a string are written between their delimiters, unescaped or as
 -- escapes (RDF 1.1 N-Quads, section 4; SPARQL 1.1 Query Language, sections 19.2, 19.7 and 19.8). A
--- text is a list of characters. HEX is [172] of SPARQL and [162s] of N-Quads.
+-- text is a list of characters. HEX is [172] HEX of SPARQL and [162s] HEX of N-Quads.
 use Rattle.std.specs.Prelude.{◌≡◌, ◌≢◌, ℕ, true, ◌⊎◌, List, [], ◌∷◌, ◌++◌, length, Some}
 use Rattle.std.specs.Char.{IsScalar}
 use Rattle.std.specs.Str.{encode_utf8_all}
@@ -8,8 +8,8 @@ use Rattle.rdf_core.specs.declared.lexical.escapes.Inside.{Inside}
 use Rattle.rdf_core.specs.declared.lexical.escapes.Inside.TheVariants.{Iri, Quoted, Any}
 use Rattle.rdf_core.specs.Characters.{is_iri_char, is_string_char, echar, is_hex, hex_from, all_pass}
 
--- N-Quads [12] UCHAR ::= '\u' HEX HEX HEX HEX | '\U' HEX HEX HEX HEX HEX HEX HEX HEX, whose digits
--- are the number of the Unicode scalar value c
+-- N-Quads [12] UCHAR ::= '\u' HEX HEX HEX HEX | '\U' HEX HEX HEX HEX HEX HEX HEX HEX
+-- The digits are the number of the Unicode scalar value c.
 pub record IsUchar (text : List ℕ) (c : ℕ) : Type 0 where
   pub letter : ℕ
   pub digits : List ℕ

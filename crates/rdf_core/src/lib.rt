@@ -1,4 +1,4 @@
-//! RDF terms and quads, which all other crates use.
+//! RDF terms and quads, which most other crates use.
 //!
 //! A [`Term`] is a blank node, an IRI or a literal. Its texts are of the type [`Text`], which a
 //! contract views as UTF-8 bytes. Two terms in a clause are therefore equal (`≡`) if and only if
@@ -6,8 +6,8 @@
 //! is the order `term_cmp` of specs/Order.antt ([`laws`]).
 //!
 //! A [`Quad`] is a statement with an invariant: the subject and the graph name are not literals,
-//! and the predicate is an IRI. [`write_term`] appends the N-Quads form of a term. It round-trips:
-//! the N-Quads reader of nquads_core returns the same term.
+//! and the predicate is an IRI. [`write_term`] appends the N-Quads form of a term. The form of a
+//! term that was read round-trips: the N-Quads reader of nquads_core returns the same term.
 //!
 //! Standards: RDF 1.1 Concepts and Abstract Syntax, sections 3 to 5; RDF 1.1 N-Quads, section 4;
 //! SPARQL 1.1 Query Language, section 19.8, for the shared lexical forms.

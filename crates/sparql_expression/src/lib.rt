@@ -4,8 +4,8 @@
 //! [`read_disjunction`] reads an expression, [`read_bracket`] and [`read_call`] the constraint of a
 //! FILTER, and [`read_term`] a constant term. Each returns a value that the grammar derives from
 //! the start of the tokens. It returns [`ReadFault::Syntax`] only if the grammar derives no value
-//! whose next terminal cannot continue it (`Reads` of specs/Reading.antt). Every reader consumes at
-//! least one token. Tokens are borrowed, never copied.
+//! whose next terminal cannot continue it (`Reads` of specs/Reading.antt). Each of them
+//! consumes at least one token. Tokens are borrowed, never copied.
 //!
 //! Readers of larger productions use [`accept`] and its siblings. Each accepts the first terminal
 //! if and only if it is of its class (specs/Front.antt). Their proofs use proofs/Steps.antt, which

@@ -65,7 +65,8 @@ right_side the.primary = choice (last the.bracket (λ e. e))
 -- [120] BrackettedExpression ::= '(' Expression ')'
 -- [110] Expression ::= ConditionalOrExpression
 right_side the.bracket = sign s.OpenParenthesis (part the.disjunction (λ e. sign s.CloseParenthesis (give e)))
--- [121] BuiltInCall ::= ('STR' | 'LANG' | 'DATATYPE' | 'isIRI' | 'isBLANK' | 'isLITERAL') '(' Expression ')'
+-- [121] BuiltInCall ::=
+--     ('STR' | 'LANG' | 'DATATYPE' | 'isIRI' | 'isBLANK' | 'isLITERAL') '(' Expression ')'
 --     | 'BOUND' '(' Var ')' | 'sameTerm' '(' Expression ',' Expression ')'
 right_side the.call = choice
     (take function (λ f. last the.bracket (λ e. x.call f e)))
@@ -81,7 +82,7 @@ right_side the.members = sign s.OpenParenthesis (choice
 right_side (the.more_members es) = part the.disjunction (λ e. choice
     (sign s.Comma (last (the.more_members (x.then es e)) (λ es. es)))
     (sign s.CloseParenthesis (give (x.then es e))))
--- iri | NumericLiteral | BooleanLiteral | RDFLiteral, the constant terms, where
+-- the constant terms: iri | NumericLiteral | BooleanLiteral | RDFLiteral
 -- [129] RDFLiteral ::= String (LANGTAG | '^^' iri)?
 right_side the.term = choice (take name (λ i. give (rdf.Iri i)))
     (choice (take number (λ t. give t))
@@ -90,14 +91,15 @@ right_side the.term = choice (take name (λ i. give (rdf.Iri i)))
 right_side (the.literal v) = choice (take language (λ l. give (tagged v l)))
     (choice (sign s.Carets (take name (λ i. give (plain v i))))
     (give (plain v xsd_string)))
--- [106] VarOrTerm ::= Var | BlankNode | iri | RDFLiteral | NumericLiteral | BooleanLiteral, where
+-- [106] VarOrTerm ::= Var | BlankNode | iri | RDFLiteral | NumericLiteral | BooleanLiteral
 -- [138] BlankNode ::= BLANK_NODE_LABEL | ANON
 -- An ANON is a label that occurs nowhere else. `;` and `,` repeat it as they repeat any subject.
 right_side the.pattern_term = choice (take variable (λ v. give (place.Variable v)))
     (choice (take blank (λ b. give (place.Blank b)))
     (choice (this kind.Anonymous (behind (λ n. place.Blank (anonymous_label n))))
     (last the.term (λ t. place.Term t))))
--- [78] Verb ::= VarOrIri | 'a', where [107] VarOrIri ::= Var | iri
+-- [78] Verb ::= VarOrIri | 'a'
+-- [107] VarOrIri ::= Var | iri
 right_side the.verb = choice (take variable (λ v. give (place.Variable v)))
     (choice (take name (λ i. give (place.Term (rdf.Iri i))))
     (word w.A (give (place.Term (rdf.Iri rdf_type)))))
@@ -136,7 +138,8 @@ right_side (the.after_other es) = choice
 -- [57] OptionalGraphPattern ::= 'OPTIONAL' GroupGraphPattern
 -- [66] MinusGraphPattern ::= 'MINUS' GroupGraphPattern
 -- [58] GraphGraphPattern ::= 'GRAPH' VarOrIri GroupGraphPattern
--- [68] Filter ::= 'FILTER' Constraint, where [69] Constraint ::= BrackettedExpression | BuiltInCall
+-- [68] Filter ::= 'FILTER' Constraint
+-- [69] Constraint ::= BrackettedExpression | BuiltInCall
 -- [60] Bind ::= 'BIND' '(' Expression 'AS' Var ')'
 -- [61] InlineData ::= 'VALUES' DataBlock
 right_side the.other = choice (last the.unions (λ e. e))
@@ -184,7 +187,8 @@ right_side (the.more_cells cs) = choice
 -- [65] DataBlockValue ::= iri | RDFLiteral | NumericLiteral | BooleanLiteral | 'UNDEF'
 right_side the.cell = choice (word w.Undef (give None)) (last the.term (λ t. Some t))
 -- [2] Query ::= Prologue SelectQuery
--- [4] Prologue ::= PrefixDecl*, where [6] PrefixDecl ::= 'PREFIX' PNAME_NS IRIREF
+-- [4] Prologue ::= PrefixDecl*
+-- [6] PrefixDecl ::= 'PREFIX' PNAME_NS IRIREF
 -- [7] SelectQuery ::= SelectClause WhereClause SolutionModifier
 -- [9] SelectClause ::= 'SELECT' 'DISTINCT'? (Var+ | '*')
 -- [17] WhereClause ::= 'WHERE'? GroupGraphPattern

@@ -13,8 +13,8 @@
 //! [`Declarations::find`] returns the last [`Declaration`] of a prefix, without a search through
 //! the list.
 //!
-//! Standard: SPARQL 1.1 Query Language, sections 4.1.1 and 19.8. docs/DECISIONS.md lists what this
-//! project leaves out.
+//! Standard: SPARQL 1.1 Query Language, sections 4.1.1 and 19.8. docs/USAGE.md (the query
+//! language) has the supported part.
 //!
 //! Reading order: specs/Class.antt, specs/Symbol.antt, specs/Form.antt, specs/Productions.antt,
 //! specs/Matches.antt, then `laws`; specs/Values.antt, then `names`.

@@ -12,15 +12,16 @@ use Rattle.sparql_lexer.specs.Characters.{is_iri_character, is_short_character, 
 abbrev pub four_digits : Pattern
 four_digits = character is_hex ▸ character is_hex ▸ character is_hex ▸ character is_hex
 
--- N-Quads [12] UCHAR ::= '\u' HEX HEX HEX HEX | '\U' HEX HEX HEX HEX HEX HEX HEX HEX, without its
--- backslash. The pattern does not check which character it denotes.
+-- N-Quads [12] UCHAR ::= '\u' HEX HEX HEX HEX | '\U' HEX HEX HEX HEX HEX HEX HEX HEX
+-- The pattern has no backslash, and does not check which character the digits denote.
 abbrev pub numbered : Pattern
 numbered = (is 117 ▸ four_digits) or (is 85 ▸ four_digits ▸ four_digits)
 
 abbrev pub number_escape : Pattern
 number_escape = is 92 ▸ numbered
 
--- ECHAR | UCHAR, where [160] ECHAR ::= '\' [tbnrf"'\]
+-- ECHAR | UCHAR
+-- [160] ECHAR ::= '\' [tbnrf"'\]
 abbrev pub escape : Pattern
 escape = is 92 ▸ (character is_escape_letter or numbered)
 
@@ -37,7 +38,8 @@ iri = is 60 ▸ many iri_piece ▸ is 62
 abbrev pub short_piece : ℕ → Pattern
 short_piece quote = character (is_short_character quote) or escape
 
--- [156] STRING_LITERAL1 ::= "'" (..)* "'", [157] STRING_LITERAL2 ::= '"' (..)* '"'
+-- [156] STRING_LITERAL1 ::= "'" (..)* "'"
+-- [157] STRING_LITERAL2 ::= '"' (..)* '"'
 abbrev pub short_string : ℕ → Pattern
 short_string quote = is quote ▸ many (short_piece quote) ▸ is quote
 
@@ -49,8 +51,8 @@ long_piece quote = perhaps (is quote or (is quote ▸ is quote)) ▸ (character 
 abbrev pub three : ℕ → Pattern
 three quote = is quote ▸ is quote ▸ is quote
 
--- [158] STRING_LITERAL_LONG1 ::= "'''" (..)* "'''", [159] STRING_LITERAL_LONG2 ::= '"""' (..)*
--- '"""'
+-- [158] STRING_LITERAL_LONG1 ::= "'''" (..)* "'''"
+-- [159] STRING_LITERAL_LONG2 ::= '"""' (..)* '"""'
 abbrev pub long_string : ℕ → Pattern
 long_string quote = three quote ▸ many (long_piece quote) ▸ three quote
 

@@ -10,7 +10,8 @@ use Rattle.sparql_lexer.specs.Characters.{is_letter, is_letter_or_digit, is_base
 abbrev pub is_variable_sign : ℕ → Bool
 is_variable_sign c = nat_eq 63 c || nat_eq 36 c
 
--- [143] VAR1 ::= '?' VARNAME, [144] VAR2 ::= '$' VARNAME
+-- [143] VAR1 ::= '?' VARNAME
+-- [144] VAR2 ::= '$' VARNAME
 abbrev pub variable : Pattern
 variable = character is_variable_sign ▸ character is_label_start ▸ many (character is_variable_part)
 
@@ -18,21 +19,22 @@ variable = character is_variable_sign ▸ character is_label_start ▸ many (cha
 abbrev pub tail : Pattern → Pattern
 tail part = perhaps (many (part or is 46) ▸ part)
 
--- [140] PNAME_NS ::= PN_PREFIX? ':' where [168] PN_PREFIX ::= PN_CHARS_BASE ((PN_CHARS | '.')*
--- PN_CHARS)?
+-- [140] PNAME_NS ::= PN_PREFIX? ':'
+-- [168] PN_PREFIX ::= PN_CHARS_BASE ((PN_CHARS | '.')* PN_CHARS)?
 abbrev pub namespace : Pattern
 namespace = perhaps (character is_base ▸ tail (character is_name_part)) ▸ is 58
 
--- [170] PLX ::= PERCENT | PN_LOCAL_ESC where [171] PERCENT ::= '%' HEX HEX and [173] PN_LOCAL_ESC
--- ::= '\' ('_' | '~' | '.' | ..)
+-- [170] PLX ::= PERCENT | PN_LOCAL_ESC
+-- [171] PERCENT ::= '%' HEX HEX
+-- [173] PN_LOCAL_ESC ::= '\' ('_' | '~' | '.' | ..)
 abbrev pub local_escape : Pattern
 local_escape = (is 37 ▸ character is_hex ▸ character is_hex) or (is 92 ▸ character is_local_escape)
 
 abbrev pub local_part : Pattern
 local_part = character is_local_part or local_escape
 
--- [169] PN_LOCAL ::= (PN_CHARS_U | ':' | [0-9] | PLX) ((PN_CHARS | '.' | ':' | PLX)* (PN_CHARS |
--- ':' | PLX))?
+-- [169] PN_LOCAL ::= (PN_CHARS_U | ':' | [0-9] | PLX)
+--     ((PN_CHARS | '.' | ':' | PLX)* (PN_CHARS | ':' | PLX))?
 abbrev pub local : Pattern
 local = (character is_local_start or local_escape) ▸ tail local_part
 

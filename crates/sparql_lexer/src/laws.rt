@@ -11,7 +11,7 @@ pub fn one_kind()
     ensures { (k l : Kind) (text rest : List ℕ) → Reads k text rest → Reads l text rest → k ≡ l }
 {}
 
-/// A text has exactly one list of terminals, and the list ends at exactly one place.
+/// A text has at most one list of terminals, and the list ends at one place.
 pub fn one_scan()
     ensures { (text end end' : List ℕ) (ts ts' : List Terminal) → Scans text ts end → Scans text ts' end' → (ts ≡ ts') × (end ≡ end') }
 {}

@@ -3,7 +3,7 @@
 //! [`scan_text`] takes the characters of the text and returns a [`Scan`] of [`Token`]s. They are
 //! the terminals of the text, each the longest at its place (`Scans` of specs/Scan.antt). The scan
 //! ends at the end of the text, or at the first place where there is no terminal. The law
-//! [`one_scan`] states that a text has exactly one list of terminals, and [`one_kind`] that no text
+//! [`one_scan`] states that a text has at most one list of terminals, and [`one_kind`] that no text
 //! is a terminal of two kinds.
 //!
 //! [`iri_value`] and [`string_value`] decode a terminal that the scan has delimited. They return
@@ -12,8 +12,8 @@
 //! states that queries and N-Quads have the same language tags.
 //!
 //! Standard: SPARQL 1.1 Query Language, sections 19.2 (codepoint escapes), 19.3 (white space), 19.4
-//! (comments), 19.7 (string escapes) and 19.8 (grammar). docs/DECISIONS.md lists what this project
-//! leaves out.
+//! (comments), 19.7 (string escapes) and 19.8 (grammar). docs/USAGE.md (the query language)
+//! has the supported part.
 //!
 //! Reading order: specs/Pattern.antt (the standard's notation), then a file for each family of
 //! terminals (Blanks, Enclosed, Names, Numbers, Words, Signs), specs/Scan.antt, `scanner`, `laws`.

@@ -11,8 +11,8 @@
 //! and has two directions. The grammar derives the value that is returned. `Syntax` is returned
 //! only if the grammar derives no value whose next terminal cannot continue it.
 //!
-//! Standard: SPARQL 1.1 Query Language, section 19.8. docs/DECISIONS.md lists what this project
-//! leaves out.
+//! Standard: SPARQL 1.1 Query Language, section 19.8. docs/USAGE.md (the query language)
+//! has the supported part.
 //!
 //! Reading order: `triples`, `values`, `group`, `select`, `query`. Tests: `productions` of the
 //! crate query_tests.
