@@ -23,11 +23,13 @@ CLEAN = [
     "CHANGELOG.md", "CONTRIBUTING.md", "bench/*.md", "docs/ARCHITECTURE.md", "docs/COMPARISON.md", "docs/CONTRACTS.md", "docs/COST.md",
     "docs/DECISIONS.md", "docs/DEFINITIONS.md", "docs/DIAGNOSTICS.md", "docs/PARTS.md", "docs/RECIPES.md", "docs/THEOREM.md", "docs/USAGE.md",
     "docs/decisions/*.md", "docs/definitions/*.md",
-    "crates/algebra_model/*", "crates/algebra_tests/*", "crates/evaluation_tests/*", "crates/line_tests/*", "crates/loading_tests/*",
-    "crates/piece_board/*", "crates/piece_cuts/*", "crates/piece_pool/*", "crates/plain_eval/*", "crates/pool_time/*", "crates/program_tests/*",
-    "crates/report_tests/*", "crates/result_json/*", "crates/row_core/*", "crates/row_join/*", "crates/row_pattern/*", "crates/row_pieces/*",
-    "crates/row_tests/*", "crates/sparql_algebra/*", "crates/sparql_eval/*", "crates/sparql_tree/*", "crates/spq_command/*",
-    "crates/term_values/*", "crates/test_fixtures/*", "crates/worker_tests/*",
+    "crates/algebra_model/*", "crates/algebra_tests/*", "crates/command_help/*", "crates/diagnosis_tests/*", "crates/evaluation_tests/*",
+    "crates/excerpt/*", "crates/line_diagnosis/*", "crates/line_tests/*", "crates/loading_tests/*", "crates/piece_board/*", "crates/piece_cuts/*",
+    "crates/piece_pool/*", "crates/plain_eval/*", "crates/pool_time/*", "crates/program_tests/*", "crates/query_diagnosis/*", "crates/query_laws/*",
+    "crates/query_tests/*", "crates/rdf_core/*", "crates/report_tests/*", "crates/result_json/*", "crates/row_core/*", "crates/row_join/*",
+    "crates/row_pattern/*", "crates/row_pieces/*", "crates/row_tests/*", "crates/sparql_algebra/*", "crates/sparql_eval/*",
+    "crates/sparql_expression/*", "crates/sparql_grammar/*", "crates/sparql_lexer/*", "crates/sparql_parse/*", "crates/sparql_read/*",
+    "crates/sparql_tree/*", "crates/spq_command/*", "crates/term_values/*", "crates/test_fixtures/*", "crates/worker_tests/*",
     "bench/*.c", "bench/*.py", "bench/*.rs", "bench/*.sh", "tests/*.c", "tests/*.py", "tests/*.sh",
 ]
 # Each private word, as a regular expression, and what to write.

@@ -1,14 +1,17 @@
-//! What spq says of a command line: the help, the version, and what is wrong with words that
-//! are no command.
+//! The texts that spq writes about a command line: the help, the version, and the errors of
+//! arguments that are not a command.
 //!
-//! [`message`] returns the text for the words of a command line, and None for words that are a command.
-//! The texts are those of the library of command lines (`clap`), with a hint where a word looks like
-//! the name of a file.
+//! [`message`] takes the arguments of a command line. It returns the text, or None if the arguments
+//! are a command. [`is_file_name`] returns whether an argument looks like the name of a file. The
+//! texts are those of the command-line library (`clap`), with a hint if an argument looks like a
+//! file name.
 //!
-//! To read in this order: `texts`, `program`, `messages`.
+//! No standard defines the command line; it is a choice of this project.
 //!
-//! Not promised: the wording, which is the library's. spq_command decides which words are a command; the
-//! tests see that this crate takes the same.
+//! Reading order: `texts`, `program`, `messages`. Tests: `commands` of the crate diagnosis_tests.
+//!
+//! Not guaranteed: the wording, which is that of the library. spq_command decides which arguments
+//! are a command; the tests check that this crate accepts the same ones.
 #![tactic(auto)]
 
 mod messages;

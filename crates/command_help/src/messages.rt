@@ -1,4 +1,4 @@
-//! The text for words that are no command.
+//! The text for arguments that are not a command.
 
 use crate::program::program;
 use clap::Error;
@@ -7,20 +7,20 @@ use std::alloc::{AllocError, Global};
 
 const HINT: &str = "hint: spq reads standard input: use spq check < ";
 
-/// Endings of the names of files that hold RDF, or that hold it compressed.
+/// Endings of the names of files that hold RDF, compressed or not.
 const ENDINGS: [&str; 14] = [
     ".nq", ".nt", ".ttl", ".trig", ".rdf", ".xml", ".json", ".jsonld", ".n3", ".txt", ".gz", ".xz",
     ".zst", ".bz2",
 ];
 
-/// Whether a word looks like the name of a file: it has a slash and does not begin with a hyphen, or has
-/// one of the endings that such names have.
+/// Returns whether an argument looks like the name of a file: it has a slash and does not begin
+/// with a hyphen, or it has an ending that these names have.
 pub fn is_file_name(word: &str) -> bool {
     !word.starts_with('-') && (word.contains('/') || ENDINGS.iter().any(|end| word.ends_with(*end)))
 }
 
-/// The first word that looks like the name of a file, after the program's name. The text of a query is
-/// none.
+/// Returns the first argument that looks like the name of a file. The program's name and the text
+/// of a query are left out.
 fn file_name_of(words: &[String]) -> Option<&str> {
     let mut is_query = false;
     for word in words.iter().skip(1) {
@@ -32,7 +32,7 @@ fn file_name_of(words: &[String]) -> Option<&str> {
     None
 }
 
-/// The text of an error, with a hint where a word looks like the name of a file.
+/// Returns the text of an error, with a hint if an argument looks like the name of a file.
 fn text_of(alloc: Global, error: &Error, words: &[String]) -> Result<String, AllocError> {
     let mut text = format!(in alloc; "{error}")?;
     let is_stray = matches!(
@@ -47,11 +47,11 @@ fn text_of(alloc: Global, error: &Error, words: &[String]) -> Result<String, All
     Ok(text)
 }
 
-/// The message for the words of a command line, with the program's name first: what is wrong with
-/// them, or the help or the version that they ask for. None: they are a command.
+/// Returns the message for the arguments of a command line, with the program's name as the first of
+/// them: the error, or the help or version that they request. Returns None if they are a command.
 ///
 /// # Errors
-/// Out of memory.
+/// `AllocError` if an allocation fails.
 pub fn message(alloc: Global, words: &[String]) -> Result<Option<String>, AllocError> {
     let line = program(alloc)?;
     match line.try_get_matches_from(words) {

@@ -5,7 +5,7 @@ use clap::builder::ValueParser;
 use clap::{Arg, Command};
 use std::alloc::{AllocError, Global};
 
-/// An option that takes a number from 1 to `most`.
+/// Returns an option that takes a number from 1 to `most`.
 fn number<'a>(alloc: Global, name: &'a str, most: u64, value: &'a str, help: &'a str) -> Arg<'a> {
     Arg::new(alloc, name)
         .long(name)
@@ -14,7 +14,7 @@ fn number<'a>(alloc: Global, name: &'a str, most: u64, value: &'a str, help: &'a
         .help(help)
 }
 
-/// A subcommand with the options that say how a document is read.
+/// Returns a subcommand with the options for reading a document.
 fn reading<'a>(alloc: Global, name: &'a str, about: &'a str) -> Result<Command<'a>, AllocError> {
     Command::new(alloc, name)
         .about(about)
@@ -52,10 +52,10 @@ fn select<'a>(alloc: Global) -> Result<Command<'a>, AllocError> {
         ))
 }
 
-/// The command lines of spq.
+/// Returns the command lines of spq.
 ///
 /// # Errors
-/// Out of memory.
+/// `AllocError` if an allocation fails.
 pub fn program<'a>(alloc: Global) -> Result<Command<'a>, AllocError> {
     Command::new(alloc, "spq")
         .version(VERSION)

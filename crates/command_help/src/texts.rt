@@ -3,22 +3,26 @@
 /// The version of spq.
 pub const VERSION: &str = "0.1.0";
 
+/// The description of spq.
 pub const ABOUT: &str =
     "Answers SPARQL SELECT queries over an N-Quads document, which comes on standard input.";
 
+/// The description of `spq select`.
 pub const ABOUT_SELECT: &str = "Answer a SELECT query, as SPARQL 1.1 Query Results JSON";
 
+/// The description of `spq check`.
 pub const ABOUT_CHECK: &str =
     "Count the quads, terms and graph names, or name the first malformed line";
 
+/// The description of `spq terms`.
 pub const ABOUT_TERMS: &str = "List the distinct terms by first appearance, one a line";
 
-/// The command lines, in the help of the whole.
+/// The command lines, in the help of spq.
 pub const USAGE: &str = "spq select --query TEXT [--rows N] [--workers N] [--piece BYTES] < FILE
        spq check [--workers N] [--piece BYTES] < FILE
        spq terms [--workers N] [--piece BYTES] < FILE";
 
-/// What follows the options in every help.
+/// The text after the options, in every help.
 pub const AFTER: &str = "Limits:
   --workers  1 to 64, by default 4: worker threads
   --piece    1 to 1073741824, by default 65536: least bytes of a block of input

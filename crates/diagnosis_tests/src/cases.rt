@@ -1,17 +1,18 @@
-//! Tables of cases. A case is a block of lines, and an empty line is between two of them. The first line is what is
-//! diagnosed. The others are the message.
+//! Tables of cases. A case is a block of lines, and an empty line separates two cases. The first
+//! line is the input, and the others are the expected message.
 use crate::texts::decoded_text;
 use crate::{commands, lines, queries};
 use std::alloc::{AllocError, Global};
 
-/// What is diagnosed.
+/// The kind of the input.
 #[derive(Clone, Copy)]
 pub(crate) enum Reader {
-    /// A line with its number. `is_cut` says that it is the last of its document, without a line end.
+    /// A line with its number. `is_cut` is true if it is the last line of its document and has no
+    /// line end.
     Line { number: u128, is_cut: bool },
     /// The text of a query.
     Query,
-    /// The words of a command line. The message has each of the lines.
+    /// The arguments of a command line. The message must have each of the expected lines.
     Command,
 }
 
@@ -23,7 +24,7 @@ fn printed(alloc: Global, reader: Reader, case: &str) -> Result<String, AllocErr
     }
 }
 
-/// Whether the text has each of the lines.
+/// Returns whether the text has each of the lines.
 fn has_lines(text: &str, lines: &str) -> bool {
     for line in lines.lines() {
         if !text.contains(line.trim()) {
@@ -33,7 +34,7 @@ fn has_lines(text: &str, lines: &str) -> bool {
     true
 }
 
-/// Whether the message is the expected one, which has no line end after its last line.
+/// Returns whether the message is the expected one, which has no line end after its last line.
 fn is_right(reader: Reader, message: &str, expected: &str) -> bool {
     match reader {
         Reader::Line { .. } | Reader::Query => message.strip_suffix("\n") == Some(expected),
@@ -41,7 +42,7 @@ fn is_right(reader: Reader, message: &str, expected: &str) -> bool {
     }
 }
 
-/// Appends the case and its message if that is not the expected one.
+/// Appends the case and its message if the message is not the expected one.
 fn check(
     alloc: Global,
     reader: Reader,
@@ -70,8 +71,8 @@ fn check_block(
     }
 }
 
-/// Returns the cases of a table that are wrong, each with what is expected and what is found. The text is empty if
-/// all are right.
+/// Returns the cases of a table that are wrong, each with its expected and its actual message. The
+/// text is empty if all are right.
 fn report(alloc: Global, reader: Reader, table: &str) -> Result<String, AllocError> {
     let mut report = String::new(alloc);
     for block in table.split("\n\n") {
@@ -80,7 +81,7 @@ fn report(alloc: Global, reader: Reader, table: &str) -> Result<String, AllocErr
     Ok(report)
 }
 
-/// Whether each case of the table is right. Prints those that are not.
+/// Returns whether each case of the table is right. Prints those that are not.
 pub(crate) fn are_right<R: Print>(rt: &R, alloc: Global, reader: Reader, table: &str) -> bool {
     match report(alloc, reader, table) {
         Ok(report) => {

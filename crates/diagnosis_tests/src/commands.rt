@@ -1,10 +1,10 @@
-//! Command lines and their messages. The wording is the library's, so most cases have only lines that the message
-//! must have.
+//! Command lines and their messages. The wording is that of the library, so most cases have only
+//! lines that the message must have.
 use crate::cases::{Reader, are_right};
 use command_help::message;
 use std::alloc::{AllocError, AllocGlobal, Global};
 
-/// The words of a line, with spaces between them.
+/// Returns the arguments in a line, which are separated by spaces.
 fn words_of(alloc: Global, line: &str) -> Result<Vec<String>, AllocError> {
     let mut words = Vec::new(alloc);
     for word in line.split_whitespace() {
@@ -13,7 +13,7 @@ fn words_of(alloc: Global, line: &str) -> Result<Vec<String>, AllocError> {
     Ok(words)
 }
 
-/// Prints the message about the words of a line, or `no message`.
+/// Prints the message about the arguments in a line, or `no message`.
 pub(crate) fn message_of(alloc: Global, case: &str) -> Result<String, AllocError> {
     let words = words_of(alloc, case)?;
     match message(alloc, &words)? {
@@ -22,7 +22,7 @@ pub(crate) fn message_of(alloc: Global, case: &str) -> Result<String, AllocError
     }
 }
 
-/// Words that are a command have no message. The text of a query is no name of a file.
+/// Arguments that are a command have no message. The text of a query is not a file name.
 const COMMANDS: &str = "
 spq check
 no message
@@ -88,7 +88,7 @@ fn help_and_version_are_shown(rt: HostRuntime) {
     assert!(rt; are_right(&rt, rt.alloc(), Reader::Command, HELP));
 }
 
-/// What is wrong with other words, with the usage and a similar word if there is one.
+/// The errors of other arguments, with the usage and a similar word if there is one.
 const WRONG: &str = "
 spq
 error:
@@ -131,7 +131,8 @@ fn wrong_words_are_named(rt: HostRuntime) {
     assert!(rt; are_right(&rt, rt.alloc(), Reader::Command, WRONG));
 }
 
-/// A word that may not come and looks like the name of a file: it has a slash, or it ends as files with RDF do.
+/// An argument that is not allowed and looks like a file name: it has a slash, or it ends as files
+/// with RDF do.
 const FILES: &str = "
 spq dump.nq
 error: unrecognized subcommand 'dump.nq'

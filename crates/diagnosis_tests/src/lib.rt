@@ -1,7 +1,9 @@
-//! Tests of the messages for people: `lines` of line_diagnosis, `queries` of query_diagnosis, `commands` of
-//! command_help. Each case of the first two has the whole message, written from the grammars and docs/DIAGNOSTICS.md.
+//! Tests of the messages for people: `lines` of line_diagnosis, `queries` of query_diagnosis, and
+//! `commands` of command_help. The first two also test excerpt. Each of their cases has the whole
+//! message, which is written from the grammars (RDF 1.1 N-Quads, section 4; SPARQL 1.1 Query
+//! Language, section 19.8) and docs/DIAGNOSTICS.md.
 //!
-//! `cases` runs tables, and `texts` decodes the bytes in them.
+//! `cases` runs the tables, and `texts` decodes the bytes in them.
 #![tactic(auto)]
 
 #[cfg(test)]

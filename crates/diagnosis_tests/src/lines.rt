@@ -1,4 +1,5 @@
-//! Malformed lines and their messages (RDF 1.1 N-Quads, grammar; docs/DIAGNOSTICS.md of this repository).
+//! Malformed lines and their messages (RDF 1.1 N-Quads, section 4; docs/DIAGNOSTICS.md of this
+//! repository).
 use crate::cases::{Reader, are_right};
 use crate::texts::decoded;
 use line_diagnosis::report;
@@ -18,8 +19,9 @@ pub(crate) fn message(
     }
 }
 
-/// What may come where: a subject is an IRI or a blank node, a predicate an IRI, an object an IRI, a blank node or a
-/// literal. A graph name or the dot follows an object, the dot a graph name, and a comment the dot.
+/// The parts of a statement. A subject is an IRI or a blank node, a predicate an IRI, and an object
+/// an IRI, a blank node or a literal. A graph name or the dot follows an object, the dot follows a
+/// graph name, and a comment may follow the dot.
 const PLACES: &str = r##"
 "x" <a:p> <a:o> .
 spq: line 1, column 1: a subject must be an IRI or a blank node, found a literal
@@ -277,8 +279,8 @@ fn places_of_terms_are_explained(rt: HostRuntime) {
     );
 }
 
-/// IRIs in angle brackets, each with a scheme. The place in an escape is its first digit after which no allowed
-/// character is left.
+/// IRIs in angle brackets with a scheme. The place in an escape is the first digit after which no
+/// allowed character is left.
 const IRIS: &str = r##"
 <http://e/a b> <a:p> <a:o> .
 spq: line 1, column 12: a space is not allowed in an IRI
@@ -590,8 +592,8 @@ fn literals_and_labels_are_explained(rt: HostRuntime) {
     );
 }
 
-/// Lines that are not UTF-8, or that show what the file is, and line ends inside a line. Columns count bytes if the
-/// line is not UTF-8.
+/// Lines that are not UTF-8, lines that show the format of the file, and line ends inside a line.
+/// Columns count bytes if the line is not UTF-8.
 const BYTES: &str = r##"
 <a:s> <a:p> "caf‹E9›" .
 spq: line 1, byte 17: invalid UTF-8: byte 0xE9
@@ -777,7 +779,7 @@ fn the_last_line_may_be_truncated(rt: HostRuntime) {
     );
 }
 
-/// A long line is cut to 80 columns round the place.
+/// A long line is cut to 80 columns around the place.
 const CUT: &str = r##"
 <http://e/a> "x" <http://e/b> .
 spq: line 69, column 14: a predicate must be an IRI, found a literal

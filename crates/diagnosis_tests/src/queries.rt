@@ -1,5 +1,5 @@
-//! Rejected queries and their messages (SPARQL 1.1 Query Language, section 19.8 and the sections that the tables
-//! name; docs/DIAGNOSTICS.md of this repository).
+//! Rejected queries and their messages (SPARQL 1.1 Query Language, section 19.8 and the sections
+//! that the tables name; docs/DIAGNOSTICS.md of this repository).
 use crate::cases::{Reader, are_right};
 use crate::texts::decoded_text;
 use query_diagnosis::report;
@@ -270,7 +270,8 @@ fn groups_are_explained(rt: HostRuntime) {
     assert!(rt; are_right(&rt, rt.alloc(), Reader::Query, GROUPS));
 }
 
-/// Expressions in FILTER and BIND, and VALUES, whose rows have one value for each variable (section 10.2).
+/// Expressions in FILTER and BIND, and VALUES, whose rows have one value for each variable (section
+/// 10.2).
 const EXPRESSIONS: &str = r##"
 SELECT * { FILTER(?x ?y) }
 spq: query, line 1, column 22: expected an operator (such as '=' or '&&') or ')', found '?y'
@@ -423,9 +424,10 @@ fn expressions_and_values_are_explained(rt: HostRuntime) {
     assert!(rt; are_right(&rt, rt.alloc(), Reader::Query, EXPRESSIONS));
 }
 
-/// Prefixes need a declaration (section 4.1.1), and IRIs a scheme. BIND is to a variable that the group does not bind
-/// (sections 10.1 and 18.2.1). A blank node label is in one basic graph pattern (section 5.1.1). At most 100 brackets
-/// may be open; a line is cut to 80 columns round the place.
+/// A prefix must have a declaration (section 4.1.1), and an IRI a scheme. The variable of a BIND
+/// must not be in scope (sections 10.1 and 18.2.1). A blank node label occurs in only one basic
+/// graph pattern (section 5.1.1). At most 100 brackets may be open. A line is cut to 80 columns
+/// around the place.
 const RULES: &str = r##"
 SELECT * { ?s e:p ?o }
 spq: query, line 1, column 15: the prefix 'e:' is not declared
@@ -563,7 +565,7 @@ fn rules_after_the_grammar_are_explained(rt: HostRuntime) {
     assert!(rt; are_right(&rt, rt.alloc(), Reader::Query, RULES));
 }
 
-/// Features that are left out, each with a hint.
+/// Unsupported features, each with a hint.
 const HINTS: &str = r##"
 SELECT * { ?s ?p ?o } ORDER BY ?s
 spq: query, line 1, column 23: expected LIMIT, OFFSET or the end of the query, found 'ORDER'

@@ -1,7 +1,7 @@
-//! Bytes in the text of a case: `‹E9›` is the byte 0xE9, and `‹›` is none, for an empty line.
+//! Bytes in the text of a case: `‹E9›` is the byte 0xE9, and `‹›` is no byte, for an empty line.
 use std::alloc::{AllocError, Global};
 
-/// The byte of hexadecimal digits, None if there is none.
+/// Returns the byte of hexadecimal digits, or None if there are no digits.
 fn byte_of(hex: &str) -> Option<u8> {
     let mut byte = None;
     for c in hex.chars() {
@@ -12,7 +12,7 @@ fn byte_of(hex: &str) -> Option<u8> {
     byte
 }
 
-/// Appends what follows an opening mark.
+/// Appends the bytes of the text after an opening mark.
 fn push_part(bytes: &mut Vec<u8>, part: &str) -> Result<(), AllocError> {
     let Some((hex, text)) = part.split_once("›") else {
         return bytes.extend_from_slice(part.as_bytes());
@@ -23,7 +23,7 @@ fn push_part(bytes: &mut Vec<u8>, part: &str) -> Result<(), AllocError> {
     bytes.extend_from_slice(text.as_bytes())
 }
 
-/// The bytes that a text stands for.
+/// Returns the bytes that a text denotes.
 pub(crate) fn decoded(alloc: Global, text: &str) -> Result<Vec<u8>, AllocError> {
     let mut bytes = Vec::new(alloc);
     for part in text.split("‹") {
@@ -32,7 +32,7 @@ pub(crate) fn decoded(alloc: Global, text: &str) -> Result<Vec<u8>, AllocError> 
     Ok(bytes)
 }
 
-/// The same as text, which is empty if the bytes are not UTF-8.
+/// Returns the same as text, or the empty text if the bytes are not UTF-8.
 pub(crate) fn decoded_text(alloc: Global, text: &str) -> Result<String, AllocError> {
     match String::from_utf8(decoded(alloc, text)?) {
         Ok(text) => Ok(text),

@@ -1,4 +1,4 @@
-//! The columns that are shown of a line.
+//! The columns of a line that are shown.
 
 ghost use Rattle.std.specs.Prelude.{◌≡◌, ◌≤◌, ◌<◌, ◌+◌, ◌-◌, ◌^◌, ◌++◌, ◌∷◌, [], IfOk, OnOk, if◌then◌else◌, string_bytes};
 ghost use Rattle.std.specs.Prelude.{length as list_length};
@@ -7,13 +7,14 @@ ghost use Rattle.excerpt.specs.Excerpt.{caret, excerpt_of, first_of, is_hidden, 
 
 use std::alloc::{AllocError, Global};
 
-/// How many columns are shown at the most.
+/// The maximum number of columns that are shown.
 const WIDTH: usize = 80;
 
-/// In place of the first or last character that is shown, where some are left out before or after it.
+/// The character in place of the first or last one that is shown, if characters before or after it
+/// are left out.
 const ELLIPSIS: char = '…';
 
-/// Whether a character has no picture of its own, and is no control character of ASCII.
+/// Returns whether a character has no visible form and is not an ASCII control character.
 fn is_hidden(c: char) -> bool
     ensures value { result ≡ is_hidden c }
 {
@@ -25,8 +26,8 @@ fn is_hidden(c: char) -> bool
         || c == 0xFEFF
 }
 
-/// The character that is shown for a character: a control character by its picture (U+2400 to
-/// U+2421), another invisible one as U+FFFD, all else as it is.
+/// Returns the visible form of a character: U+2400 to U+2421 for an ASCII control character, U+FFFD
+/// for another invisible character, and otherwise the character itself.
 pub fn visible(c: char) -> char
     ensures value { result ≡ visible c }
 {
@@ -42,7 +43,7 @@ pub fn visible(c: char) -> char
     }
 }
 
-/// The first column that is shown of a line of `length` characters.
+/// Returns the first column that is shown of a line of `length` characters.
 fn start_of(place: usize, length: usize) -> usize
     requires { length < 2 ^ 63 }
     ensures value { result ≡ start_of place length }
@@ -51,7 +52,7 @@ fn start_of(place: usize, length: usize) -> usize
     before.min((length + 1).saturating_sub(WIDTH))
 }
 
-/// The characters from one place up to another, each as it is seen.
+/// Returns the characters from one place up to another, each in its visible form.
 fn seen(alloc: Global, text: &str, first: usize, last: usize) -> Result<String, AllocError>
     ensures value { IfOk result (λ s. string_bytes s ≡ encode_utf8_all (seen (chars text.now) first last)) }
 {
@@ -62,7 +63,7 @@ fn seen(alloc: Global, text: &str, first: usize, last: usize) -> Result<String, 
         .collect(alloc)
 }
 
-/// Appends an ellipsis where some characters are left out.
+/// Appends an ellipsis if characters are left out.
 fn push_ellipsis(out: &mut String, is_cut: bool) -> Result<(), AllocError>
     ensures line { OnOk result (string_bytes out.new
         ≡ string_bytes out.old ++ encode_utf8_all (if is_cut then 0x2026 ∷ [] else [])) }
@@ -73,7 +74,7 @@ fn push_ellipsis(out: &mut String, is_cut: bool) -> Result<(), AllocError>
     Ok(())
 }
 
-/// The first character that is shown raw.
+/// Returns the place of the first character that is shown and is not replaced by an ellipsis.
 fn first_of(start: usize) -> usize
     requires small { start < 2 ^ 63 }
     ensures value { result ≡ first_of start }
@@ -81,7 +82,7 @@ fn first_of(start: usize) -> usize
     if start > 0 { start + 1 } else { 0 }
 }
 
-/// What follows the last character that is shown raw.
+/// Returns the place after the last character that is shown and is not replaced by an ellipsis.
 fn last_of(start: usize, length: usize) -> usize
     requires small { start < 2 ^ 63 }
     ensures value { result ≡ last_of start length }
@@ -93,7 +94,7 @@ fn last_of(start: usize, length: usize) -> usize
     }
 }
 
-/// Appends the line from a column on.
+/// Appends the columns of the line from `start` on.
 fn push_line(out: &mut String, text: &str, start: usize, length: usize) -> Result<(), AllocError>
     requires count { length ≡ list_length (chars text.now) }
     requires small { start < 2 ^ 63 }
@@ -108,7 +109,7 @@ fn push_line(out: &mut String, text: &str, start: usize, length: usize) -> Resul
     out.push('\n')
 }
 
-/// Appends the caret, after this many spaces.
+/// Appends the caret after this many spaces.
 fn push_caret(out: &mut String, indent: usize) -> Result<(), AllocError>
     ensures line { OnOk result (string_bytes out.new
         ≡ string_bytes out.old ++ (caret indent ++ 10 ∷ [])) }
@@ -119,7 +120,7 @@ fn push_caret(out: &mut String, indent: usize) -> Result<(), AllocError>
     out.push_str("^\n")
 }
 
-/// How many characters a text has.
+/// Returns the number of characters of a text.
 pub fn count_of(text: &str) -> usize
     ensures value { result ≡ list_length (chars text.now) }
     ensures small { result < 2 ^ 63 }
@@ -127,13 +128,14 @@ pub fn count_of(text: &str) -> usize
     text.chars().count()
 }
 
-/// Appends a line of text, cut to 80 columns round a place, and a caret under the place.
+/// Appends a line of text, cut to 80 columns around a place, and a second line with a caret under
+/// the place.
 ///
-/// `place` is the number of characters before it; a place after the end of the text counts as its
+/// `place` is the number of characters before it. A place after the end of the text counts as the
 /// end. Each of the two lines ends with LF.
 ///
 /// # Errors
-/// Out of memory. `out` may then have a part of the two lines.
+/// `AllocError` if an allocation fails. `out` may then have a part of the two lines.
 pub fn excerpt(out: &mut String, text: &str, place: usize) -> Result<(), AllocError>
     ensures lines { OnOk result (string_bytes out.new
         ≡ string_bytes out.old ++ excerpt_of (chars text.now) place) }

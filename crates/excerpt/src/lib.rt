@@ -1,12 +1,15 @@
-//! Messages for people about a place in a text: a first line with the place and the reason, the line
-//! of the text with a caret under the place, and at most one hint.
+//! Messages about a place in a text. The first line has the place and the reason. The line of the
+//! text and a line with a caret follow, and then at most one hint.
 //!
-//! [`message`] composes the whole; [`excerpt`] is the middle of it alone. A line is cut to 80 columns
-//! round the place, and control characters are shown by their pictures (`␀` to `␡`). Each character is
-//! taken to be one column wide. Wide characters, as those of Chinese, move the caret to the left of its
-//! place.
+//! [`message`] composes the whole message. [`excerpt`] appends only the line of the text and the
+//! caret. A line is cut to 80 columns around the place, and control characters are shown by their
+//! pictures (`␀` to `␡`). The crate assumes that each character is one column wide, so wide
+//! characters, for example Chinese ones, shift the caret to the left of its place.
 //!
-//! To read in this order: specs/Excerpt.antt, `excerpt`, `message`. Example:
+//! No standard defines these messages; they are a choice of this project.
+//!
+//! Reading order: specs/Excerpt.antt, `excerpt`, `message`. Tests: `lines` and `queries` of the
+//! crate diagnosis_tests compare whole messages. Example:
 //!
 //! ```text
 //! spq: line 3, column 12: a predicate must be an IRI, found a literal
@@ -14,7 +17,7 @@
 //!              ^
 //! ```
 //!
-//! Not promised: what a terminal shows of characters that it does not know.
+//! Not guaranteed: how a terminal displays characters that it does not know.
 #![tactic(auto)]
 
 mod columns;

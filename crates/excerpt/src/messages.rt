@@ -4,13 +4,13 @@ use crate::columns::excerpt;
 use std::alloc::{AllocError, Global};
 use std::fmt::Display;
 
-/// The message about a place in a line of text: `spq: PLACE: REASON`, the excerpt with a caret under
-/// the place, and the hint where there is one, each line with LF.
+/// Returns the message about a place in a line of text: `spq: PLACE: REASON`, the excerpt with a
+/// caret under the place, and the hint if there is one. Each line ends with LF.
 ///
 /// `at` is the number of characters of the line before the place.
 ///
 /// # Errors
-/// Out of memory.
+/// `AllocError` if an allocation fails.
 pub fn message<P: Display, R: Display, H: Display>(
     alloc: Global,
     place: &P,

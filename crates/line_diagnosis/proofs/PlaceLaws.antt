@@ -1,4 +1,4 @@
--- The empty front of a line.
+-- The empty beginning of a line.
 use Rattle.std.proofs.Common.{◌≡◌, ℕ, ◌<◌, ◌≤◌, ◌++◌, List, [], ◌∷◌, length, take, refl, inl, arith, rules, None, subst, sym, Bool, true, false}
 use Rattle.std.specs.Str.{IsUtf8, chars}
 use Rattle.std.proofs.lemmas.Str.{chars-nil}
@@ -20,10 +20,10 @@ empty_line = record {
   };
 }
 
--- every line begins with nothing
+-- every line begins with the empty text
 pub first_place : (line : List ℕ) → IsPlace line 0
 first_place line = record { in_line = omega arith; beginning = record { rest = []; whole = empty_line } }
 
--- nothing is said of a line that was read
+-- a line that was read is not malformed, so there is nothing to prove
 pub unread_bad : (line : List ℕ) → false ≡ true → IsBad line
 unread_bad line e = λ q s. let no : ⊥ = cc in no

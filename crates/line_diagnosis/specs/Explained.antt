@@ -1,4 +1,4 @@
--- What a diagnosis says of a line (our own).
+-- The diagnosis of a line (a choice of this project, not fixed by the standard).
 use Rattle.std.specs.Prelude.{◌≡◌, ℕ, List, take}
 use Rattle.std.specs.Str.{IsUtf8}
 use Rattle.line_diagnosis.specs.declared.diagnosis.Counted.TheVariants.{Characters}
@@ -6,8 +6,8 @@ use Rattle.line_diagnosis.specs.declared.diagnosis.Diagnosis.{Diagnosis}
 use Rattle.line_diagnosis.specs.Place.{IsPlace}
 use Rattle.line_diagnosis.specs.Column.{column_of}
 
--- Its offset is a place of the line, its column is that of this place, and characters are counted only
--- where the line is UTF-8.
+-- The offset is a place of the line, and the column is that of this place. The column counts
+-- characters only if the line is UTF-8.
 pub record IsExplained (line : List ℕ) (d : Diagnosis) : Type 0 where
   pub place : IsPlace line d.offset
   pub column : d.column ≡ column_of d.counted (take d.offset line)

@@ -1,9 +1,10 @@
--- Where a malformed line goes wrong (our own).
+-- The place at which a malformed line goes wrong (a choice of this project, not fixed by the
+-- standard).
 use Rattle.std.specs.Prelude.{ℕ, ◌≤◌, List, ◌++◌, length, take, Option}
 use Rattle.rdf_core.specs.QuadParts.{QuadParts}
 use Rattle.nquads_core.specs.Grammar.{Spells}
 
--- the line holds a statement, or blanks and perhaps a comment
+-- the line holds a statement, or is blank or a comment
 pub record IsWellFormed (line : List ℕ) : Type 0 where
   pub meaning : Option QuadParts
   pub spelled : Spells line meaning

@@ -1,9 +1,9 @@
-//! Before, between and after terminals (RDF 1.1 N-Quads, grammar: statement).
+//! The characters before, between and after terminals (RDF 1.1 N-Quads, section 4, [2] statement).
 
 use crate::reason::{Found, Next, Reason};
 use crate::state::{Part, Scheme, State};
 
-/// What begins with a character.
+/// Returns what begins with this character.
 fn found(c: char) -> Found {
     match c {
         '<' => Found::Iri,
@@ -14,7 +14,8 @@ fn found(c: char) -> Found {
     }
 }
 
-/// The part that an IRI is where this comes next.
+/// Returns the position of an IRI in the statement, given what may come next, or None if no IRI may
+/// come.
 fn iri_part(next: Next) -> Option<Part> {
     match next {
         Next::Subject => Some(Part::Subject),
@@ -26,7 +27,8 @@ fn iri_part(next: Next) -> Option<Part> {
     }
 }
 
-/// The part that a blank node is where this comes next.
+/// Returns the position of a blank node in the statement, given what may come next, or None if no
+/// blank node may come.
 fn blank_part(next: Next) -> Option<Part> {
     match next {
         Next::Predicate | Next::Datatype => None,
@@ -42,7 +44,8 @@ fn is_comment_next(next: Next) -> bool {
     next == Next::Subject || next == Next::End
 }
 
-/// The state after the first character of a terminal or a comment; None where none may begin with it.
+/// Returns the state after the first character of a terminal or a comment, or None if none may
+/// begin with it.
 fn opened(next: Next, c: char) -> Option<State> {
     match c {
         '<' => Some(State::Iri(iri_part(next)?, Scheme::Unread)),

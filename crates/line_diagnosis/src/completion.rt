@@ -6,7 +6,7 @@ use crate::reason::Next;
 use crate::state::{Digits, Part, Scheme, State, after};
 use std::alloc::{AllocError, Global};
 
-/// What ends the statement, with a space before it.
+/// Returns the end of the statement, with a space before it.
 fn rest_of(next: Next) -> &'static str {
     match next {
         Next::Subject | Next::End => "",
@@ -16,7 +16,7 @@ fn rest_of(next: Next) -> &'static str {
     }
 }
 
-/// What ends an IRI.
+/// Returns the end of an IRI.
 fn rest_of_iri(scheme: Scheme) -> &'static str {
     match scheme {
         Scheme::Unread => "a:>",
@@ -25,7 +25,8 @@ fn rest_of_iri(scheme: Scheme) -> &'static str {
     }
 }
 
-/// Appends the digits with which an escape names a code point of the ranges, and returns it.
+/// Appends the digits with which an escape denotes a code point of the ranges, and returns this
+/// code point.
 fn push_digits(out: &mut String, digits: Digits, ranges: &[(u64, u64)]) -> Result<u64, AllocError> {
     let code = least_named(ranges, digits).unwrap_or(digits.low);
     let mut rest = code.saturating_sub(digits.low);
@@ -44,7 +45,7 @@ fn push_iri(out: &mut String, part: Part, scheme: Scheme) -> Result<(), AllocErr
     out.push_str(rest_of(after(part)))
 }
 
-/// Appends an end with which the line is well-formed, where what is read of it led to this state.
+/// Appends an end that completes a well-formed line, given the state after its beginning.
 fn push_completion(out: &mut String, state: State) -> Result<(), AllocError> {
     match state {
         State::Between(next) => out.push_str(rest_of(next)),
@@ -79,10 +80,10 @@ fn push_completion(out: &mut String, state: State) -> Result<(), AllocError> {
     }
 }
 
-/// An end with which the line is well-formed, where what is read of it led to this state.
+/// Returns an end that completes a well-formed line, given the state after its beginning.
 ///
 /// # Errors
-/// Out of memory.
+/// `AllocError` if an allocation fails.
 pub fn completion(alloc: Global, state: State) -> Result<String, AllocError> {
     let mut out = String::new(alloc);
     push_completion(&mut out, state)?;

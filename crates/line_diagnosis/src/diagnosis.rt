@@ -24,42 +24,45 @@ use excerpt::count_of;
 use nquads_core::{LineFault, read_line};
 use std::alloc::{AllocError, Global};
 
-/// What a column counts.
+/// The unit of a column.
 #[derive(Clone, Copy, Debug, PartialEq, Eq)]
 pub enum Counted {
+    /// The unit if the line is UTF-8
     Characters,
-    /// Where the line is not UTF-8
+    /// The unit if the line is not UTF-8
     Bytes,
 }
 
-/// Where and why a line is malformed.
+/// The place at which a line is malformed, and the reason.
 #[derive(Clone, Copy, Debug, PartialEq, Eq)]
 pub struct Diagnosis {
-    /// How many bytes of the line are before the place. At the end of the line it is the line's length:
-    /// then a well-formed line begins with the whole line.
+    /// The number of bytes of the line before the place. At the end of the line it is the length of
+    /// the line; then a well-formed line begins with the whole line.
     pub offset: usize,
     /// The column of the place, from 1.
     pub column: usize,
+    /// The unit of the column.
     pub counted: Counted,
+    /// The reason why the character at the place is not allowed.
     pub reason: Reason,
 }
 
-/// How far a text is read.
+/// The part of a text that is read.
 #[derive(Drop)]
 struct Walk {
-    /// How many bytes are before the first character that is not allowed where it is; the length of the
-    /// text where there is none.
+    /// The number of bytes before the first character that is not allowed at its place, or the
+    /// length of the text if there is none.
     offset: usize,
     /// The state before that character.
     state: State,
-    /// Why it is not allowed there.
+    /// The reason why that character is not allowed.
     reason: Option<Reason>,
 }
 
-/// Reads a character (RDF 1.1 N-Quads, grammar).
+/// Reads a character (RDF 1.1 N-Quads, section 4).
 ///
 /// # Errors
-/// The reason why no well-formed line goes on with it in this state.
+/// The reason why no well-formed line continues with this character in this state.
 fn step(state: State, c: char) -> Result<State, Reason> {
     match state {
         State::Between(next) => step_between(next, c),
@@ -84,7 +87,7 @@ fn step(state: State, c: char) -> Result<State, Reason> {
     }
 }
 
-/// Why a line may not end in a state.
+/// Returns the reason why a line may not end in a state.
 fn reason_at_end(state: State) -> Reason {
     match state {
         State::Between(next) => Reason::Unexpected(next, Found::LineEnd),
@@ -104,7 +107,7 @@ fn reason_at_end(state: State) -> Reason {
     }
 }
 
-/// Reads a text up to the first character that is not allowed where it is.
+/// Reads a text up to the first character that is not allowed at its place.
 fn read_front(text: &str) -> Walk {
     let mut state = State::Between(Next::Subject);
     for (offset, c) in text.char_indices() {
@@ -126,7 +129,8 @@ fn read_front(text: &str) -> Walk {
     }
 }
 
-/// The text at the front of the bytes, up to the first that are no character, and why these are none.
+/// Returns the longest valid UTF-8 text that the bytes begin with, and the reason why the bytes
+/// after it are not a character.
 fn text_of(line: &[u8]) -> (&str, Option<Reason>) {
     match str::from_utf8(line) {
         Ok(text) => (text, None),
@@ -142,7 +146,7 @@ fn text_of(line: &[u8]) -> (&str, Option<Reason>) {
     }
 }
 
-/// The format of a compressed file that begins with these bytes.
+/// Returns the format of a compressed file that begins with these bytes.
 fn packing_of(line: &[u8]) -> Option<Packing> {
     match line {
         [0x1F, 0x8B, ..] => Some(Packing::Gzip),
@@ -153,8 +157,8 @@ fn packing_of(line: &[u8]) -> Option<Packing> {
     }
 }
 
-/// Whether the bytes begin as a text in UTF-16 does: with its byte order mark, or with a character
-/// of ASCII.
+/// Returns whether the bytes begin as a UTF-16 text does: with its byte order mark, or with an
+/// ASCII character.
 fn is_utf16(line: &[u8]) -> bool {
     matches!(
         line,
@@ -162,7 +166,8 @@ fn is_utf16(line: &[u8]) -> bool {
     )
 }
 
-/// The reason at a place, where the bytes of the line as a whole say more than the character there.
+/// Returns a reason from the bytes of the whole line if they say more than the character at the
+/// place.
 fn refined(line: &[u8], offset: usize, reason: Reason) -> Reason {
     if offset == 0 {
         if let Some(packing) = packing_of(line) {
@@ -178,7 +183,7 @@ fn refined(line: &[u8], offset: usize, reason: Reason) -> Reason {
     reason
 }
 
-/// Whether a line is malformed.
+/// Returns whether a line is malformed.
 fn is_malformed(alloc: Global, line: &[u8]) -> Result<bool, AllocError>
     ensures bad { IfOk result (λ found. found ≡ true → IsBad line.now) }
     ensures well_formed { IfOk result (λ found. found ≡ false → IsWellFormed line.now) }
@@ -190,7 +195,7 @@ fn is_malformed(alloc: Global, line: &[u8]) -> Result<bool, AllocError>
     }
 }
 
-/// Whether a line of these bytes and this end is well-formed.
+/// Returns whether the line of these bytes and this end is well-formed.
 fn is_beginning(alloc: Global, front: &[u8], end: &str) -> Result<bool, AllocError>
     ensures { IfOk result (λ found. found ≡ true → IsBeginning front.now) }
 {
@@ -202,7 +207,7 @@ fn is_beginning(alloc: Global, front: &[u8], end: &str) -> Result<bool, AllocErr
     Ok(true)
 }
 
-/// The column after a front of the line, and what it counts.
+/// Returns the column after a beginning of the line, and its unit.
 fn column_of(line: &[u8], front: &[u8]) -> (usize, Counted)
     requires small { length front.now < 2 ^ 63 }
     ensures column { result.0 ≡ column_of result.1 front.now }
@@ -214,7 +219,7 @@ fn column_of(line: &[u8], front: &[u8]) -> (usize, Counted)
     (front.len() + 1, Counted::Bytes)
 }
 
-/// The diagnosis of a line for the place after a front of it.
+/// Returns the diagnosis of a line for the place after a beginning of it.
 fn placed(line: &[u8], front: &[u8], reason: Reason) -> Diagnosis
     requires small { length front.now < 2 ^ 63 }
     ensures offset { result.offset ≡ length front.now }
@@ -230,7 +235,7 @@ fn placed(line: &[u8], front: &[u8], reason: Reason) -> Diagnosis
     }
 }
 
-/// The place and the reason of a malformed line.
+/// Returns the place and the reason of a malformed line.
 fn explain(alloc: Global, line: &[u8]) -> Result<Diagnosis, AllocError>
     ensures explained { IfOk result (IsExplained line.now) }
 {
@@ -246,13 +251,13 @@ fn explain(alloc: Global, line: &[u8]) -> Result<Diagnosis, AllocError>
     Ok(placed(line, &line[..0], Reason::Unexplained))
 }
 
-/// Where and why a line is malformed, given without its line end; None for a well-formed one (RDF 1.1
-/// N-Quads, grammar).
+/// Returns the place and the reason of a malformed line, given without its line end. Returns None
+/// for a well-formed one (RDF 1.1 N-Quads, section 4).
 ///
 /// Some well-formed line begins with the bytes before the place.
 ///
 /// # Errors
-/// Out of memory.
+/// `AllocError` if an allocation fails.
 pub fn diagnose(alloc: Global, line: &[u8]) -> Result<Option<Diagnosis>, AllocError>
     ensures well_formed { IfOk result (λ found. IfNone found (IsWellFormed line.now)) }
     ensures bad { IfOk result (λ found. OnSome found (IsBad line.now)) }

@@ -1,18 +1,18 @@
-//! Escapes of code points (RDF 1.1 N-Quads, grammar: UCHAR).
+//! Escapes of code points (RDF 1.1 N-Quads, section 4, [12] UCHAR).
 
 use crate::reason::{Found, Reason};
 use crate::state::{Digits, Scheme};
 
-/// Ranges of code points, each with its ends.
+/// Ranges of code points, each with its first and last.
 pub type Ranges = &'static [(u64, u64)];
 
-/// The scalar values.
+/// The Unicode scalar values.
 pub const SCALARS: [(u64, u64); 2] = [(0, 0xD7FF), (0xE000, 0x10FFFF)];
 
-/// What a scheme begins with (RFC 3987, section 2.2).
+/// The first characters of a scheme (RFC 3987, section 2.2).
 const SCHEME_START: [(u64, u64); 2] = [(0x41, 0x5A), (0x61, 0x7A)];
 
-/// What a scheme goes on with, and the colon after it.
+/// The other characters of a scheme, and the colon after it.
 const SCHEME_REST: [(u64, u64); 5] = [
     (0x2B, 0x2B),
     (0x2D, 0x2E),
@@ -21,7 +21,8 @@ const SCHEME_REST: [(u64, u64); 5] = [
     (0x61, 0x7A),
 ];
 
-/// What an IRI goes on with: all above U+20 but `<>"{}|^`, the backquote and the backslash.
+/// The characters of an IRI after its scheme: all above U+0020 except `<>"{}|^`, the backquote and
+/// the backslash.
 const IRI_CHARS: [(u64, u64); 9] = [
     (0x21, 0x21),
     (0x23, 0x3B),
@@ -34,7 +35,7 @@ const IRI_CHARS: [(u64, u64); 9] = [
     (0xE000, 0x10FFFF),
 ];
 
-/// The code points that may come next in an IRI.
+/// Returns the code points that may come next in an IRI.
 pub fn iri_ranges(scheme: Scheme) -> Ranges {
     match scheme {
         Scheme::Unread => &SCHEME_START,
@@ -43,12 +44,12 @@ pub fn iri_ranges(scheme: Scheme) -> Ranges {
     }
 }
 
-/// Whether a code point is in one of the ranges.
+/// Returns whether a code point is in one of the ranges.
 pub fn is_within(ranges: &[(u64, u64)], code: u64) -> bool {
     ranges.iter().any(|r| r.0 <= code && code <= r.1)
 }
 
-/// The least code point of the ranges that the digits can still name.
+/// Returns the least code point of the ranges that these digits and further ones can denote.
 pub fn least_named(ranges: &[(u64, u64)], digits: Digits) -> Option<u64> {
     let last = digits.last();
     for range in ranges {
@@ -60,7 +61,7 @@ pub fn least_named(ranges: &[(u64, u64)], digits: Digits) -> Option<u64> {
     None
 }
 
-/// The digits after `\u` or `\U`; None after another letter.
+/// Returns the digits after `\u` or `\U`, or None if the letter is another one.
 pub fn digits_after(letter: char) -> Option<Digits> {
     match letter {
         'u' => Some(Digits {
@@ -75,7 +76,7 @@ pub fn digits_after(letter: char) -> Option<Digits> {
     }
 }
 
-/// Why no code point of an IRI or a string is left that the digits can name.
+/// Returns the reason why the digits can denote no code point that is allowed.
 fn reason_of(digits: Digits) -> Reason {
     if digits.low > 0x10FFFF {
         Reason::TooLarge
@@ -86,7 +87,7 @@ fn reason_of(digits: Digits) -> Reason {
     }
 }
 
-/// Reads one more digit of an escape, which has to name a code point of these ranges.
+/// Reads one more digit of an escape, which must denote a code point of these ranges.
 pub fn step_digits(digits: Digits, ranges: &[(u64, u64)], c: char) -> Result<Digits, Reason> {
     let Some(digit) = c.to_digit(16) else {
         return Err(Reason::NoDigit(Found::Char(c)));

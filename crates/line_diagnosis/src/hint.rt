@@ -1,10 +1,10 @@
-//! One hint for a malformed line.
+//! The hint for a malformed line.
 
 use crate::diagnosis::Diagnosis;
 use crate::reason::{Found, Next, Packing, Reason};
 use std::fmt;
 
-/// What a user can do.
+/// What a user can do about a malformed line.
 #[derive(Clone, Copy, Debug, PartialEq, Eq)]
 pub enum Hint {
     Unpack(Packing),
@@ -55,7 +55,7 @@ impl fmt::Display for Hint {
     }
 }
 
-/// Whether the bytes end with a language tag and an underscore.
+/// Returns whether the bytes end with a language tag and an underscore.
 fn ends_with_tag(front: &[u8]) -> bool {
     let Some((b'_', tag)) = front.split_last().map(|x| (*x.0, x.1)) else {
         return false;
@@ -66,7 +66,7 @@ fn ends_with_tag(front: &[u8]) -> bool {
     }
 }
 
-/// The hint for a character that begins no terminal, after these bytes of the line.
+/// Returns the hint for a character that begins no terminal, after these bytes of the line.
 fn hint_of_char(before: &[u8], next: Next, c: char) -> Option<Hint> {
     let touches_quote = next == Next::Graph && before.last().copied() == Some(b'"');
     match c {
@@ -81,7 +81,7 @@ fn hint_of_char(before: &[u8], next: Next, c: char) -> Option<Hint> {
     }
 }
 
-/// The hint for a line that ends too early.
+/// Returns the hint for a line that ends too early.
 fn hint_at_end(reason: Reason, is_cut: bool) -> Option<Hint> {
     if is_cut {
         Some(Hint::Truncated)
@@ -92,8 +92,8 @@ fn hint_at_end(reason: Reason, is_cut: bool) -> Option<Hint> {
     }
 }
 
-/// The hint for a malformed line, where there is one. `is_cut` says that the line is the last of its
-/// document, and no line end follows it.
+/// Returns the hint for a malformed line, or None if there is none. `is_cut` is true if the line is
+/// the last of its document and no line end follows it.
 pub fn hint_of(line: &[u8], diagnosis: &Diagnosis, is_cut: bool) -> Option<Hint> {
     let before = line.get(..diagnosis.offset).unwrap_or(line);
     match diagnosis.reason {

@@ -1,11 +1,11 @@
-//! IRIs in angle brackets (RDF 1.1 N-Quads, grammar: IRIREF), each with a scheme.
+//! IRIs in angle brackets with a scheme (RDF 1.1 N-Quads, section 4, [10] IRIREF).
 
 use crate::escapes::{digits_after, iri_ranges, is_within, step_digits};
 use crate::reason::{Found, Reason};
 use crate::state::{Digits, Part, Scheme, State, after};
 use rdf_core::lexical::is_iri_char;
 
-/// How far the scheme is read after one more character.
+/// Returns the state of the scheme after one more character.
 pub fn scheme_after(scheme: Scheme, code: u64) -> Scheme {
     match scheme {
         Scheme::Unread => Scheme::Begun,
@@ -15,7 +15,7 @@ pub fn scheme_after(scheme: Scheme, code: u64) -> Scheme {
     }
 }
 
-/// Why a character is not allowed in an IRI.
+/// Returns the reason why a character is not allowed in an IRI.
 fn reason_of(scheme: Scheme, c: char) -> Reason {
     match c {
         '\n' | '\r' => Reason::LineBreak,

@@ -1,5 +1,5 @@
-//! Blank node labels (RDF 1.1 N-Quads, grammar: BLANK_NODE_LABEL). A dot after a label is a part of it
-//! where a character of a label follows the dots.
+//! Blank node labels (RDF 1.1 N-Quads, section 4, [141s] BLANK_NODE_LABEL). A dot after a label is
+//! a part of it if a label character follows the dots.
 
 use crate::between::step_between;
 use crate::reason::{Found, Next, Reason};
@@ -35,7 +35,7 @@ pub fn step_label(part: Part, c: char) -> Result<State, Reason> {
     }
 }
 
-/// Reads a character after the first dot, which may be the one that ends the statement.
+/// Reads a character after the first dot, which may be the end of the statement.
 pub fn step_label_dot(part: Part, c: char) -> Result<State, Reason> {
     if is_label_char(c) {
         Ok(State::Label(part))
@@ -48,7 +48,7 @@ pub fn step_label_dot(part: Part, c: char) -> Result<State, Reason> {
     }
 }
 
-/// Reads a character after more dots, which only a label can have.
+/// Reads a character after further dots, which only a label can have.
 pub fn step_label_dots(part: Part, c: char) -> Result<State, Reason> {
     if is_label_char(c) {
         Ok(State::Label(part))

@@ -1,22 +1,23 @@
-//! Why a line of N-Quads is malformed, and where: the bytes of a line go in, a place and a reason come
-//! out.
+//! Finds the place at which a line of N-Quads is malformed, and the reason.
 //!
-//! [`diagnose`] returns None for a well-formed line, and a [`Diagnosis`] for a malformed one. Some
-//! well-formed line begins with the bytes before its place (`IsPlace` of specs/Place.antt): that is
-//! proved. That no well-formed line begins with the line up to and including the character at the
-//! place is tested, on every short line over an alphabet of 23 characters
-//! (`tests/line_places.py`), and not proved.
+//! [`diagnose`] takes the bytes of a line. It returns None for a well-formed line, and a
+//! [`Diagnosis`] for a malformed one. Its contract states that some well-formed line begins with
+//! the bytes before the place (`IsPlace` of specs/Place.antt). No well-formed line begins with
+//! these bytes and the character at the place. This is not proved; `tests/line_places.py` tests it
+//! for every short line over an alphabet of 23 characters.
 //!
-//! [`report`] composes the message for a user: the first line, the excerpt and a hint.
+//! [`report`] composes the message for a user: the place and the reason, the excerpt, and a hint.
 //!
-//! Standard: RDF 1.1 N-Quads (Recommendation of 2014), grammar, as nquads_core reads it.
+//! Standard: RDF 1.1 N-Quads (Recommendation of 2014), section 4, as nquads_core reads it.
 //!
-//! To read in this order: specs/Place.antt, `reason` (why), `state` (how far a line is read), then a
-//! file a family of terminals (`between`, `iris`, `escapes`, `literals`, `labels`), `completion` (a
-//! well-formed end for each state), `diagnosis`, `hint`, `reports`.
+//! Reading order: specs/Place.antt, `reason`, `state` (the states between two characters), then a
+//! file for each family of terminals (`between`, `iris`, `escapes`, `literals`, `labels`),
+//! `completion` (a well-formed end for each state), `diagnosis`, `hint`, `reports`.
 //!
-//! Not promised: that the reason is the mistake that was made. It is about the first character that
-//! is not allowed where it is.
+//! Tests: `lines` of the crate diagnosis_tests.
+//!
+//! Not guaranteed: that the reason is the mistake that the author made. It is about the first
+//! character that is not allowed at its place.
 #![tactic(auto)]
 
 mod between;

@@ -1,4 +1,5 @@
-//! Strings and language tags (RDF 1.1 N-Quads, grammar: STRING_LITERAL_QUOTE, LANGTAG).
+//! Strings and language tags (RDF 1.1 N-Quads, section 4, [11] STRING_LITERAL_QUOTE and
+//! [144s] LANGTAG).
 
 use crate::between::step_between;
 use crate::escapes::{SCALARS, digits_after, step_digits};

@@ -1,8 +1,8 @@
-//! Why a line is malformed, in words.
+//! The reasons why a line is malformed, and their text.
 
 use std::fmt;
 
-/// What may come next in a statement (RDF 1.1 N-Quads, grammar).
+/// The part of a statement that may come next (RDF 1.1 N-Quads, section 4, [2] statement).
 #[derive(Clone, Copy, Debug, PartialEq, Eq)]
 pub enum Next {
     Subject,
@@ -17,7 +17,7 @@ pub enum Next {
     End,
 }
 
-/// What is there.
+/// The text that was found instead.
 #[derive(Clone, Copy, Debug, PartialEq, Eq)]
 pub enum Found {
     /// `<`
@@ -43,10 +43,10 @@ pub enum Packing {
     Bzip2,
 }
 
-/// Why no well-formed line has this character at this place.
+/// The reason why no well-formed line has this character at this place.
 #[derive(Clone, Copy, Debug, PartialEq, Eq)]
 pub enum Reason {
-    /// A byte that is no part of a character in UTF-8
+    /// A byte that is not a part of a UTF-8 character
     InvalidUtf8(u8),
     /// The line ends inside a character
     CutCharacter,
@@ -58,31 +58,31 @@ pub enum Reason {
     Packed(Packing),
     /// LF or CR inside the line
     LineBreak,
-    /// Something else than what may come next
+    /// Something other than the part that may come next
     Unexpected(Next, Found),
     /// `<<`
     QuotedTriple,
-    /// An IRI that begins with no scheme
+    /// An IRI that does not begin with a scheme
     NoScheme(Found),
-    /// A character that an IRI may not have
+    /// A character that is not allowed in an IRI
     IriChar(char),
-    /// An escape for a character that an IRI may not have there
+    /// An escape for a character that is not allowed at this place of an IRI
     IriEscape,
     /// The line ends inside an IRI
     OpenIri,
     /// The line ends inside a literal
     OpenLiteral,
-    /// Another escape than those of strings or IRIs
+    /// An escape that strings or IRIs do not have
     UnknownEscape(Found),
-    /// Something else than a hexadecimal digit in an escape
+    /// A character in an escape that is not a hexadecimal digit
     NoDigit(Found),
     /// An escape for a code point from U+D800 to U+DFFF
     Surrogate,
-    /// An escape for a number over U+10FFFF
+    /// An escape for a number above U+10FFFF
     TooLarge,
     /// `_` without a colon
     NoColon(Found),
-    /// A label that begins with another character than it may
+    /// A label whose first character is not allowed there
     LabelStart(Found),
     /// A label that ends with a dot
     LabelDot,
@@ -90,13 +90,13 @@ pub enum Reason {
     NoTag(Found),
     /// A hyphen of a language tag without a letter or digit
     NoSubtag(Found),
-    /// One `^` alone
+    /// A single `^`
     OneCaret(Found),
-    /// No reason is known. The tests never meet it.
+    /// The reason is not known. No test gives this reason.
     Unexplained,
 }
 
-/// Writes a character, or its code point where it has no picture of its own.
+/// Writes a character, or its code point if it has no visible form.
 fn write_char<W: fmt::Write>(f: &mut fmt::Formatter<W>, c: char) -> fmt::Result {
     if c == ' ' {
         f.write_str("a space")
@@ -133,7 +133,7 @@ impl fmt::Display for Packing {
     }
 }
 
-/// What was expected in place of what was found.
+/// Writes what was expected, and what was found instead.
 fn write_unexpected<W: fmt::Write>(
     f: &mut fmt::Formatter<W>,
     next: Next,

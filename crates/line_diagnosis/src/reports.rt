@@ -24,7 +24,7 @@ impl fmt::Display for Place {
     }
 }
 
-/// The message about a diagnosis.
+/// Returns the message about a diagnosis.
 fn message_of(
     alloc: Global,
     number: u128,
@@ -52,13 +52,14 @@ fn message_of(
     )
 }
 
-/// The message for a malformed line, given without its line end; None for a well-formed one.
+/// Returns the message for a malformed line, given without its line end. Returns None for a
+/// well-formed one.
 ///
-/// `number` is the line's number in its document, from 1. `is_cut` says that the line is the last of
-/// its document, and no line end follows it.
+/// `number` is the number of the line in its document, from 1. `is_cut` is true if the line is the
+/// last of its document and no line end follows it.
 ///
 /// # Errors
-/// Out of memory.
+/// `AllocError` if an allocation fails.
 pub fn report(
     alloc: Global,
     number: u128,

@@ -1,8 +1,9 @@
-//! How far a line is read. Each state can be reached, and goes on to the end of some well-formed line.
+//! The states between two characters of a line. Each state occurs, and some well-formed line
+//! continues from it.
 
 use crate::reason::Next;
 
-/// The part of a statement that a term is.
+/// The position of a term in a statement.
 #[derive(Clone, Copy, Debug, PartialEq, Eq)]
 pub enum Part {
     Subject,
@@ -12,32 +13,34 @@ pub enum Part {
     Graph,
 }
 
-/// How far the scheme of an IRI is read (RFC 3987, section 2.2).
+/// The part of an IRI's scheme that is read (RFC 3987, section 2.2).
 #[derive(Clone, Copy, Debug, PartialEq, Eq)]
 pub enum Scheme {
     /// Its first letter comes next
     Unread,
-    /// Up to its colon
+    /// A part of it, without the colon
     Begun,
-    /// The colon is read
+    /// All of it, with the colon
     Read,
 }
 
-/// The digits of an escape (UCHAR), as far as they are read: they can still name `span` numbers, from
-/// `low` on.
+/// The digits of a [12] UCHAR that are read. With further digits they can denote `span` numbers,
+/// the least of which is `low`.
 #[derive(Clone, Copy, Debug, PartialEq, Eq)]
 pub struct Digits {
+    /// The least number that they can still denote.
     pub low: u64,
+    /// The number of numbers that they can still denote.
     pub span: u64,
 }
 
 impl Digits {
-    /// The greatest number that they can still name.
+    /// Returns the greatest number that these digits and further ones can denote.
     pub fn last(self) -> u64 {
         self.low.saturating_add(self.span.saturating_sub(1))
     }
 
-    /// One more digit is read.
+    /// Returns the digits after one more digit.
     pub fn narrowed(self, digit: u64) -> Digits {
         let span = self.span / 16;
         Digits {
@@ -46,7 +49,7 @@ impl Digits {
         }
     }
 
-    /// Whether all digits are read.
+    /// Returns whether all digits are read.
     pub fn is_whole(self) -> bool {
         self.span <= 1
     }
@@ -55,9 +58,9 @@ impl Digits {
 /// A state between two characters of a line.
 #[derive(Clone, Copy, Debug, PartialEq, Eq)]
 pub enum State {
-    /// Before or between terminals: this may come next, or blanks
+    /// Before or between terminals, where this part or blanks may come
     Between(Next),
-    /// After a string and perhaps blanks: a language tag or a datatype may come too
+    /// After a string and optional blanks, where a language tag or a datatype may come as well
     AfterString,
     /// In a comment
     Comment,
@@ -91,11 +94,11 @@ pub enum State {
     Label(Part),
     /// After the first dot that follows a label or is a part of it
     LabelDot(Part),
-    /// After more such dots
+    /// After further dots
     LabelDots(Part),
 }
 
-/// What comes after a term.
+/// Returns the part that may come after a term at this position.
 pub fn after(part: Part) -> Next {
     match part {
         Part::Subject => Next::Predicate,
@@ -105,7 +108,7 @@ pub fn after(part: Part) -> Next {
     }
 }
 
-/// Whether a line may end in this state.
+/// Returns whether a line may end in this state.
 pub fn is_final(state: State) -> bool {
     match state {
         State::Between(Next::Subject | Next::End) | State::Comment => true,

@@ -1,26 +1,26 @@
-//! Cases of the tests: texts, and what is expected of each.
+//! Cases of the tests: texts, and the expected output for each.
 use crate::{lexical, lines, slices};
 use std::alloc::{AllocError, Global};
 
-/// A text, and what its reader prints.
+/// A text, and the expected output of its reader.
 pub(crate) type Case = (&'static str, &'static str);
 
-/// What is printed of a text.
+/// The reader of a text, whose output is compared.
 #[derive(Clone, Copy)]
 pub(crate) enum Reader {
-    /// The value of the inside of an IRI.
+    /// The value of the text between the angle brackets of an IRI.
     Iri,
-    /// The IRI before `>`, and what follows it.
+    /// The IRI before `>`, and the text after it.
     IriRef,
     /// The terms of a line.
     Line,
     /// The lines and quads of a piece.
     Piece,
-    /// The string before `"`, and what follows it.
+    /// The string before `"`, and the text after it.
     Quoted,
     /// The slices of the statements of a piece.
     Slices,
-    /// The value of the inside of a string.
+    /// The value of the text between the quotes of a string.
     String,
     /// The term that a slice denotes.
     Term,
@@ -48,7 +48,7 @@ fn is_same<R: Print>(rt: &R, case: &str, expected: &str, found: &str) -> bool {
     false
 }
 
-/// Returns whether the reader prints of the text what is expected.
+/// Returns whether the output of the reader for the text is the expected one.
 fn holds<R: Print>(rt: &R, alloc: Global, reader: Reader, (text, expected): Case) -> bool {
     let Ok(found) = printed(alloc, reader, text) else {
         return false;
@@ -56,7 +56,7 @@ fn holds<R: Print>(rt: &R, alloc: Global, reader: Reader, (text, expected): Case
     is_same(rt, text, expected, found.as_str())
 }
 
-/// Returns whether each case holds. Prints the first that does not.
+/// Returns whether each case is right. Prints the first that is not.
 pub(crate) fn all_hold<R: Print>(rt: &R, alloc: Global, reader: Reader, cases: &[Case]) -> bool {
     for case in cases {
         if !holds(rt, alloc, reader, *case) {

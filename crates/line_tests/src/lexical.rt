@@ -1,4 +1,4 @@
-//! The lexical forms by example, each function at least once.
+//! The lexical forms by example, with each function at least once.
 use crate::cases::{Case, Reader, all_hold};
 use rdf_core::Text;
 use rdf_core::lexical::{
@@ -14,8 +14,9 @@ fn a_text_is_taken_apart_at_its_front(rt: HostRuntime) {
     assert!(rt; first_char("").is_none());
 }
 
-/// Characters, and whether each is in PN_CHARS_BASE, starts a name, is in a name, starts a label and is in a label:
-/// each class at the ends of its ranges, and where the grammars of N-Quads and SPARQL differ.
+/// Characters, and whether each is in PN_CHARS_BASE, begins a name, is in a name, begins a label
+/// and is in a label ([164] to [167] of SPARQL, [157s] to [160s] of N-Quads). Each class is tested
+/// at the ends of its ranges, and where the two grammars differ.
 const CHARACTERS: &[(char, [bool; 5])] = &[
     ('a', [true, true, true, true, true]),
     ('_', [false, true, true, true, true]),
@@ -58,7 +59,7 @@ fn characters_are_of_their_classes(rt: HostRuntime) {
     assert!(rt; is_joining('\u{B7}') && is_joining('\u{2040}') && !is_joining('-'));
 }
 
-/// Letters, and the character that each escapes after a backslash.
+/// Letters, and the character that each denotes after a backslash.
 const ESCAPES: &[(char, Option<char>)] = &[
     ('t', Some('\t')),
     ('b', Some('\u{8}')),
@@ -90,19 +91,19 @@ fn escapes_have_their_letters_and_digits(rt: HostRuntime) {
     }
 }
 
-/// Prints the value of the inside of a string.
+/// Prints the value of the text between the quotes of a string.
 pub(crate) fn string(alloc: Global, text: &str) -> Result<String, AllocError> {
     let value = unescape_string(alloc, text)?;
     format!(in alloc; "{value:?}")
 }
 
-/// Prints the value of the inside of an IRI.
+/// Prints the value of the text between the angle brackets of an IRI.
 pub(crate) fn iri(alloc: Global, text: &str) -> Result<String, AllocError> {
     let value = unescape_iri(alloc, text)?;
     format!(in alloc; "{value:?}")
 }
 
-/// Insides of strings.
+/// Texts between quotes.
 const STRINGS: &[Case] = &[
     ("", "Some()"),
     ("a'b\"c\n", "Some(a'b\"c\n)"),
@@ -121,7 +122,7 @@ fn strings_are_decoded(rt: HostRuntime) {
     assert!(rt; all_hold(&rt, rt.alloc(), Reader::String, STRINGS));
 }
 
-/// Insides of IRIs.
+/// Texts between angle brackets.
 const IRIS: &[Case] = &[
     ("http://e/a", "Some(http://e/a)"),
     ("http://e/\\u0061\\U000000e9", "Some(http://e/a\u{e9})"),
@@ -137,7 +138,7 @@ fn iris_are_decoded(rt: HostRuntime) {
     assert!(rt; all_hold(&rt, rt.alloc(), Reader::Iri, IRIS));
 }
 
-/// Prints a delimited text and what follows it, or `none`.
+/// Prints a delimited text and the text after it, or `none`.
 fn delimited(alloc: Global, read: &Option<(Text, &str)>) -> Result<String, AllocError> {
     match read {
         Some((text, rest)) => format!(in alloc; "{text} | {rest}"),
@@ -187,7 +188,7 @@ fn delimited_texts_are_read_up_to_their_end(rt: HostRuntime) {
     assert!(rt; all_hold(&rt, rt.alloc(), Reader::Quoted, QUOTED));
 }
 
-/// Texts, and whether each starts with a scheme.
+/// Texts, and whether each begins with a scheme.
 const SCHEMES: &[(&str, bool)] = &[
     ("http://e/", true),
     ("a:", true),

@@ -1,4 +1,4 @@
-//! Lines and pieces by example: what each holds, and which are malformed.
+//! Lines and pieces by example: the content of each, and the malformed ones.
 use crate::cases::{Case, Reader, all_hold};
 use nquads_core::{LineFault, PieceFault, count_lines, read_line, read_piece};
 use rdf_core::{Quad, Term, write_term};
@@ -41,12 +41,12 @@ fn line_of(alloc: Global, line: &[u8]) -> Result<String, AllocError> {
     }
 }
 
-/// Prints what the line of a text holds.
+/// Prints the content of the line of a text.
 pub(crate) fn line(alloc: Global, text: &str) -> Result<String, AllocError> {
     line_of(alloc, text.as_bytes())
 }
 
-/// Lines, and the terms that each holds.
+/// Lines, and the terms of each.
 const LINES: &[Case] = &[
     (
         "<http://e/a><http://e/p>_:b.",
@@ -146,7 +146,8 @@ fn malformed_lines_are_rejected(rt: HostRuntime) {
     assert!(rt; is_malformed(rt.alloc(), b"# \xFF"), "not UTF-8");
 }
 
-/// Prints the number of lines, and the numbers of lines and quads of the piece or its first malformed line.
+/// Prints the number of lines, and the numbers of lines and quads of the piece or its first
+/// malformed line.
 pub(crate) fn piece(alloc: Global, text: &str) -> Result<String, AllocError> {
     let lines = count_lines(text.as_bytes());
     match read_piece(alloc, text.as_bytes()) {
@@ -160,7 +161,7 @@ pub(crate) fn piece(alloc: Global, text: &str) -> Result<String, AllocError> {
     }
 }
 
-/// Pieces, and what each holds. Malformed lines are numbered from 0.
+/// Pieces, and the content of each. Malformed lines are numbered from 0.
 const PIECES: &[Case] = &[
     ("", "0: 0 lines, 0 quads"),
     ("\n", "1: 1 lines, 0 quads"),

@@ -1,4 +1,4 @@
-//! Slices by example: what each statement of a piece is split into, and the term that a slice denotes.
+//! Slices by example: the slices of each statement of a piece, and the term that a slice denotes.
 use crate::cases::{Case, Reader, all_hold};
 use nquads_core::{RawStatement, read_term, split_piece};
 use rdf_core::{Term, write_term};
@@ -69,7 +69,7 @@ const PIECES: &[Case] = &[
         "<a:\u{e9}>|<a:p>|\"\u{6771} \u{1f600}\"@ja|;",
     ),
     ("<a:s> <a:p> \"\" .\n", "<a:s>|<a:p>|\"\"|;"),
-    // what is no term, or not allowed at its place, is split all the same
+    // a slice that is not a term, or not allowed at its place, is split all the same
     ("\"s\" _:p <o> \"g\" .\n", "\"s\"|_:p|<o>|\"g\"|;"),
     // unusual layout, CR and malformed lines
     ("<a:s> <a:p> <a:o>.\n", "not split"),
@@ -88,7 +88,7 @@ fn pieces_are_split(rt: HostRuntime) {
     assert!(rt; all_hold(&rt, rt.alloc(), Reader::Slices, PIECES));
 }
 
-/// Whether a piece that is not UTF-8 is not split.
+/// Returns whether a piece that is not UTF-8 is not split.
 fn is_not_split(alloc: Global, piece: &[u8]) -> bool {
     matches!(split_piece(alloc, piece), Ok(None))
 }

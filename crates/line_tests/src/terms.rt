@@ -1,4 +1,4 @@
-//! One call of each public function, and the N-Quads forms and the order of terms.
+//! A call of each public function, and the N-Quads forms and the order of terms.
 use rdf_core::vocabulary::{RDF_LANG_STRING, XSD_INTEGER, XSD_STRING};
 use rdf_core::{Quad, Term, Text, is_iri, is_node, write_term};
 use std::alloc::{AllocError, AllocGlobal, Global};
@@ -118,8 +118,8 @@ const TERMS: &[Parts] = &[
     Parts::Literal("x", XSD_STRING, None),
 ];
 
-/// Literals in ascending order: by lexical form, then datatype IRI, then language tag, with no tag first; each by
-/// the bytes of its UTF-8.
+/// Literals in ascending order: by lexical form, then datatype IRI, then language tag, with no tag
+/// first; each by the bytes of its UTF-8.
 const LITERALS: &[Parts] = &[
     Parts::Literal("x", RDF_LANG_STRING, None),
     Parts::Literal("x", RDF_LANG_STRING, Some("de")),

@@ -1,4 +1,5 @@
-//! Transfers over devices in memory that transfer few bytes with each call and fail at a given byte.
+//! Transfers over devices in memory that transfer few bytes with each call and fail at a given
+//! byte.
 ghost use Rattle.std.specs.Prelude.{◌<◌};
 
 use nquads_core::{
@@ -58,7 +59,7 @@ impl Sink for VecSink {
 
     ghost failures = { λ s. Some s.failed };
 
-    // It accepts at least one byte of each text that is not empty.
+    // The sink accepts at least one byte of each text that is not empty.
     ghost write_gives = { λ s bs r t. 0 < length bs → IfOk r (λ n. 0 < n) };
 
     fn write(&mut self, bytes: &[u8]) -> Result<usize, DeviceFailed> {

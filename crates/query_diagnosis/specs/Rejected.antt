@@ -1,4 +1,5 @@
--- A text that no rule rejects (our own; the rules are those of sparql_read).
+-- A text that no rule rejects (a choice of this project, not fixed by the standard; the rules are
+-- those of sparql_read).
 use Rattle.std.specs.Prelude.{ℕ, List}
 use Rattle.sparql_tree.specs.QueryTree.{QueryTree}
 use Rattle.sparql_read.specs.Refusal.{IsRead}

@@ -80,7 +80,7 @@ const UNDEF: Token<'static> = Token {
     text: &['U', 'N', 'D', 'E', 'F'],
 };
 
-/// Terminals that a symbol derives: the first that come to mind, not always the fewest.
+/// Returns terminals that a symbol derives. They are not always the fewest.
 fn end_of(symbol: Symbol) -> &'static [Token<'static>] {
     match symbol {
         Symbol::Query => &[SELECT, STAR, OPEN_BRACE, CLOSE_BRACE],
@@ -117,10 +117,10 @@ fn end_of(symbol: Symbol) -> &'static [Token<'static>] {
     }
 }
 
-/// Terminals with which the query is whole, where those that are read led to this state of the machine.
+/// Returns terminals that complete a query, given the state of the machine after its beginning.
 ///
 /// # Errors
-/// Out of memory.
+/// `AllocError` if an allocation fails.
 pub fn completion(alloc: Global, machine: &Machine) -> Result<Vec<Token<'static>>, AllocError> {
     let mut end = Vec::new(alloc);
     for symbol in machine.stack.iter().rev() {

@@ -19,23 +19,26 @@ use sparql_lexer::{Token, characters_of, scan_text, text_of};
 use sparql_read::{QueryFault, declarations_of, read_query};
 use std::alloc::{AllocError, Global};
 
-/// How many characters of a terminal are shown in a reason at the most.
+/// The maximum number of characters of a terminal that a reason shows.
 const SHOWN: usize = 40;
 
-/// Where and why a query is rejected.
+/// The place at which a query is rejected, and the reason.
 #[derive(Debug, Drop)]
 pub struct Diagnosis {
     /// The rule that rejects it.
     pub fault: QueryFault,
-    /// How many characters of the text are before the place.
+    /// The number of characters of the text before the place.
     pub offset: usize,
+    /// The line and the column of the place.
     pub position: Position,
-    /// In words.
+    /// The reason as text.
     pub reason: String,
+    /// What to write instead, if a hint is known.
     pub hint: Option<Hint>,
 }
 
-/// A text with its terminals up to the first place where none can be read, and what is there.
+/// A text with its terminals up to the first place where there is no terminal, and the rest of the
+/// text from there.
 #[derive(Clone, Copy)]
 struct Text<'a> {
     characters: &'a [char],
@@ -52,7 +55,7 @@ struct Found {
 }
 
 impl<'a> Text<'a> {
-    /// How many characters are before a terminal.
+    /// Returns the number of characters before a terminal.
     fn offset(self, at: usize) -> usize {
         if at >= self.tokens.len() && !self.rest.is_empty() {
             return self.characters.len().saturating_sub(self.rest.len());
@@ -65,7 +68,7 @@ impl<'a> Text<'a> {
     }
 }
 
-/// Appends a terminal in quotes: its first characters, as they are seen.
+/// Appends a terminal in quotes: its first characters, in their visible form.
 fn push_token(out: &mut String, token: Token<'_>) -> Result<(), AllocError> {
     out.push('\'')?;
     for c in token.text.iter().take(SHOWN) {
@@ -77,14 +80,14 @@ fn push_token(out: &mut String, token: Token<'_>) -> Result<(), AllocError> {
     out.push('\'')
 }
 
-/// `expected ..`, without what was found.
+/// Returns `expected ..`, without the text that was found.
 fn expected(alloc: Global, stop: &Stop) -> Result<String, AllocError> {
     let mut reason = String::from_str(alloc, "expected ")?;
     push_expected(&mut reason, &stop.stack)?;
     Ok(reason)
 }
 
-/// The reason at a terminal that may not come.
+/// Returns the place and the reason for a terminal that is not allowed.
 fn unexpected(alloc: Global, text: Text<'_>, stop: &Stop) -> Result<Found, AllocError> {
     let mut reason = expected(alloc, stop)?;
     reason.push_str(", found ")?;
@@ -99,7 +102,7 @@ fn unexpected(alloc: Global, text: Text<'_>, stop: &Stop) -> Result<Found, Alloc
     })
 }
 
-/// Whether the characters after a quote come to an escape that is none before the next quote.
+/// Returns whether an unknown escape occurs between a quote and the next quote.
 fn has_unknown_escape(after: &[char], quote: char) -> bool {
     let mut is_escape = false;
     for c in after {
@@ -114,7 +117,7 @@ fn has_unknown_escape(after: &[char], quote: char) -> bool {
     false
 }
 
-/// The reason at a quote that begins no string.
+/// Returns the reason for a quote that begins no string.
 fn no_string(rest: &[char], quote: char) -> &'static str {
     if has_unknown_escape(rest.get(1..).unwrap_or(&[]), quote) {
         "the string that begins here has an unknown escape"
@@ -123,7 +126,7 @@ fn no_string(rest: &[char], quote: char) -> &'static str {
     }
 }
 
-/// The reason at a character that begins no terminal.
+/// Returns the place and the reason for a character that begins no terminal.
 fn unreadable(alloc: Global, text: Text<'_>, c: char, stop: &Stop) -> Result<Found, AllocError> {
     let reason = if c == '"' || c == '\'' {
         String::from_str(alloc, no_string(text.rest, c))?
@@ -139,7 +142,7 @@ fn unreadable(alloc: Global, text: Text<'_>, c: char, stop: &Stop) -> Result<Fou
     })
 }
 
-/// The reason at a terminal whose kind may come.
+/// Returns the reason for a terminal whose kind is allowed.
 fn words_of(cause: Cause) -> &'static str {
     match cause {
         Cause::Kind => "this may not come here",
@@ -151,7 +154,7 @@ fn words_of(cause: Cause) -> &'static str {
     }
 }
 
-/// The first terminal after which no query can continue.
+/// Finds the first terminal after which no query continues.
 fn syntax(alloc: Global, text: Text<'_>) -> Result<Option<Found>, AllocError> {
     let Some(stop) = stop_of(alloc, text.tokens)? else {
         return Ok(None);
@@ -169,7 +172,7 @@ fn syntax(alloc: Global, text: Text<'_>) -> Result<Option<Found>, AllocError> {
     }
 }
 
-/// The first prefixed name without a declaration.
+/// Finds the first prefixed name without a declaration.
 fn prefix(alloc: Global, text: Text<'_>) -> Result<Option<Found>, AllocError> {
     let names = declarations_of(alloc, text.tokens)?;
     let Some(at) = undefined_prefix(alloc, &names, text.tokens)? else {
@@ -186,7 +189,7 @@ fn prefix(alloc: Global, text: Text<'_>) -> Result<Option<Found>, AllocError> {
     }))
 }
 
-/// A reason about a terminal: words, the terminal, and more words.
+/// Returns a reason about a terminal: text, the terminal, and more text.
 fn about(
     alloc: Global,
     text: Text<'_>,
@@ -202,7 +205,7 @@ fn about(
     Ok(reason)
 }
 
-/// The first IRI without a scheme.
+/// Finds the first IRI without a scheme.
 fn relative(alloc: Global, text: Text<'_>) -> Result<Option<Found>, AllocError> {
     let Some(at) = relative_iri(alloc, text.tokens)? else {
         return Ok(None);
@@ -220,7 +223,7 @@ fn relative(alloc: Global, text: Text<'_>) -> Result<Option<Found>, AllocError> 
     }))
 }
 
-/// A clash of two terminals, in words.
+/// Returns the place and the reason for a clash of two terminals.
 fn clashing(
     alloc: Global,
     text: Text<'_>,
@@ -241,7 +244,7 @@ fn clashing(
     }))
 }
 
-/// The first bracket that is one too many.
+/// Finds the first bracket that is nested too deep.
 fn depth(alloc: Global, text: Text<'_>) -> Result<Option<Found>, AllocError> {
     let Some(at) = deepest(text.tokens) else {
         return Ok(None);
@@ -253,7 +256,7 @@ fn depth(alloc: Global, text: Text<'_>) -> Result<Option<Found>, AllocError> {
     }))
 }
 
-/// The place and the reason of a fault.
+/// Finds the place and the reason of a fault.
 fn find(alloc: Global, text: Text<'_>, fault: QueryFault) -> Result<Option<Found>, AllocError> {
     match fault {
         QueryFault::Syntax => syntax(alloc, text),
@@ -280,7 +283,7 @@ fn find(alloc: Global, text: Text<'_>, fault: QueryFault) -> Result<Option<Found
     }
 }
 
-/// A place that is not known, at the beginning of the text.
+/// Returns an unknown place, at the beginning of the text.
 fn unknown(alloc: Global) -> Result<Found, AllocError> {
     Ok(Found {
         offset: 0,
@@ -289,7 +292,7 @@ fn unknown(alloc: Global) -> Result<Found, AllocError> {
     })
 }
 
-/// The place and the reason of a fault of a text.
+/// Returns the diagnosis of a fault of a text.
 fn explain(alloc: Global, text: &str, fault: QueryFault) -> Result<Diagnosis, AllocError>
     ensures fault { IfOk result (λ d. d.fault ≡ fault) }
 {
@@ -313,7 +316,7 @@ fn explain(alloc: Global, text: &str, fault: QueryFault) -> Result<Diagnosis, Al
     })
 }
 
-/// The rule that rejects a text, where one does.
+/// Returns the rule that rejects a text, or None if no rule does.
 fn fault_of(alloc: Global, text: &str) -> Result<Option<QueryFault>, AllocError>
     ensures read { IfOk result (λ found. IfNone found (IsReadText (chars text.now))) }
     ensures rejected { IfOk result (λ found. IfSome found (IsRefusal (chars text.now))) }
@@ -330,10 +333,11 @@ fn fault_of(alloc: Global, text: &str) -> Result<Option<QueryFault>, AllocError>
     }
 }
 
-/// Where and why the text of a query is rejected; None for a text that `read_query` reads.
+/// Returns the place and the reason for which the text of a query is rejected. Returns None for a
+/// text that `read_query` reads.
 ///
 /// # Errors
-/// Out of memory.
+/// `AllocError` if an allocation fails.
 pub fn diagnose(alloc: Global, text: &str) -> Result<Option<Diagnosis>, AllocError>
     ensures read { IfOk result (λ found. IfNone found (IsReadText (chars text.now))) }
     ensures rejected { IfOk result

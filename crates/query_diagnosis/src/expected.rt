@@ -1,11 +1,11 @@
-//! What may come at a place, in words.
+//! The terminals that may come at a place, as text.
 
 use crate::machine::{may_come, may_end};
 use crate::symbol::Symbol;
 use sparql_lexer::{Keyword, Kind, Sign};
 use std::alloc::{AllocError, Global};
 
-/// Words for terminals, in the order in which they are listed.
+/// The text for each terminal, in the order in which they are listed.
 const SINGLE: [(Kind, &str); 18] = [
     (Kind::LanguageTag, "a language tag"),
     (Kind::Sign(Sign::Carets), "'^^'"),
@@ -27,7 +27,7 @@ const SINGLE: [(Kind, &str); 18] = [
     (Kind::Keyword(Keyword::As), "AS"),
 ];
 
-/// What may come at a place, as a list that grows.
+/// The terminals that may come at a place, as a list that grows.
 #[derive(Drop)]
 struct List {
     items: Vec<&'static str>,
@@ -39,7 +39,7 @@ impl List {
         Ok(())
     }
 
-    /// Adds words if a terminal of this kind may come.
+    /// Adds a text if a terminal of this kind may come.
     fn add_if(
         &mut self,
         stack: &[Symbol],
@@ -53,12 +53,12 @@ impl List {
     }
 }
 
-/// Whether an operand of an expression may come.
+/// Returns whether an operand of an expression may come.
 fn may_come_expression(stack: &[Symbol]) -> bool {
     may_come(stack, Kind::Keyword(Keyword::Bound)) && may_come(stack, Kind::Variable)
 }
 
-/// Adds what terms, variables and names may come: one phrase for those that come together.
+/// Adds the terms, variables and names that may come, with one phrase for those that come together.
 fn add_terms(list: &mut List, stack: &[Symbol]) -> Result<(), AllocError> {
     if may_come(stack, Kind::Keyword(Keyword::A)) {
         return list.add("a verb (an IRI, a prefixed name, a variable or 'a')");
@@ -91,7 +91,7 @@ fn add_operators(list: &mut List, stack: &[Symbol]) -> Result<(), AllocError> {
     list.add_if(stack, Kind::Keyword(Keyword::In), "IN")
 }
 
-/// Adds the terminals that may come one by one, but `(` where an expression may come.
+/// Adds the other terminals that may come, except `(` where an expression may come.
 fn add_single(list: &mut List, stack: &[Symbol]) -> Result<(), AllocError> {
     let is_operand = may_come_expression(stack);
     for (kind, words) in SINGLE {
@@ -103,7 +103,7 @@ fn add_single(list: &mut List, stack: &[Symbol]) -> Result<(), AllocError> {
     Ok(())
 }
 
-/// What may come, where these symbols are on the stack.
+/// Returns the terminals that may come with these symbols on the stack.
 fn list_of(alloc: Global, stack: &[Symbol]) -> Result<List, AllocError> {
     let mut list = List {
         items: Vec::new(alloc),
@@ -123,10 +123,10 @@ fn list_of(alloc: Global, stack: &[Symbol]) -> Result<List, AllocError> {
     Ok(list)
 }
 
-/// Appends what may come, where these symbols are on the stack: as `a, b or c`.
+/// Appends the terminals that may come with these symbols on the stack, as `a, b or c`.
 ///
 /// # Errors
-/// Out of memory.
+/// `AllocError` if an allocation fails. `out` may then have a part of the text.
 pub fn push_expected(out: &mut String, stack: &[Symbol]) -> Result<(), AllocError> {
     let list = list_of(*out.allocator(), stack)?;
     let count = list.items.len();

@@ -1,10 +1,11 @@
-//! What the symbols of expressions do at a terminal ([110] Expression to [121] BuiltInCall).
+//! The steps of the symbols of expressions ([110] Expression to [121] BuiltInCall).
 
 use crate::steps::constant;
 use crate::symbol::{Step, Symbol};
 use sparql_lexer::{Keyword, Kind, Sign};
 
-/// [121] BuiltInCall, and then these.
+/// Reads the first terminal of a [121] BuiltInCall; the rest of the call and the symbols `then`
+/// follow it.
 pub fn call(kind: Kind, then: &'static [Symbol]) -> Step {
     match kind {
         Kind::Keyword(
@@ -32,7 +33,8 @@ pub fn call(kind: Kind, then: &'static [Symbol]) -> Step {
     }
 }
 
-/// [119] PrimaryExpression, and then these.
+/// Reads the first terminal of a [119] PrimaryExpression; its rest and the symbols `then` follow
+/// it.
 pub fn primary(kind: Kind, then: &'static [Symbol]) -> Step {
     match kind {
         Kind::Sign(Sign::OpenParenthesis) => {
@@ -45,7 +47,7 @@ pub fn primary(kind: Kind, then: &'static [Symbol]) -> Step {
     }
 }
 
-/// [118] UnaryExpression.
+/// Reads the first terminal of a [118] UnaryExpression.
 pub fn unary(kind: Kind) -> Step {
     match kind {
         Kind::Sign(Sign::Not) => Step::Take(&[Symbol::Primary], &[]),
@@ -53,7 +55,7 @@ pub fn unary(kind: Kind) -> Step {
     }
 }
 
-/// [110] Expression: its first operand, and then these.
+/// Reads the first terminal of an [110] Expression; its rest and the symbols `then` follow it.
 pub fn expression(kind: Kind, then: &'static [Symbol]) -> Step {
     match kind {
         Kind::Sign(Sign::Not) => Step::Take(&[Symbol::Primary], then),
@@ -61,7 +63,7 @@ pub fn expression(kind: Kind, then: &'static [Symbol]) -> Step {
     }
 }
 
-/// [114] RelationalExpression, after its first operand.
+/// Reads the terminal after the first operand of a [114] RelationalExpression.
 pub fn more_relation(kind: Kind) -> Step {
     match kind {
         Kind::Sign(
@@ -78,7 +80,8 @@ pub fn more_relation(kind: Kind) -> Step {
     }
 }
 
-/// [111] ConditionalOrExpression and [112] ConditionalAndExpression, after an operand.
+/// Reads the terminal after an operand of a [111] ConditionalOrExpression or
+/// [112] ConditionalAndExpression.
 pub fn more_logic(kind: Kind) -> Step {
     match kind {
         Kind::Sign(Sign::And | Sign::Or) => Step::Take(&[Symbol::Expression], &[]),

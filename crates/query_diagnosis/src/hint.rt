@@ -1,8 +1,8 @@
-//! What to write instead of a feature that is left out.
+//! The hints for a rejected query.
 
 use std::fmt;
 
-/// What a user can do.
+/// What a user can write instead.
 #[derive(Clone, Copy, Debug, PartialEq, Eq)]
 pub enum Hint {
     OrderBy,

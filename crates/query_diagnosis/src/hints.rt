@@ -1,11 +1,11 @@
-//! Which feature that is left out a query uses at a place.
+//! The unsupported feature of SPARQL that a query uses at a place.
 
 use crate::hint::Hint;
 use crate::machine::{may_come, may_end};
 use crate::symbol::Symbol;
 use sparql_lexer::{Keyword, Kind, Sign, Token};
 
-/// Words of SPARQL 1.1 that are no keywords here, and what to write instead.
+/// Words of SPARQL 1.1 that are not keywords here, and the hint for each.
 const WORDS: [(&str, Hint); 35] = [
     ("ORDER", Hint::OrderBy),
     ("GROUP", Hint::Aggregate),
@@ -44,7 +44,7 @@ const WORDS: [(&str, Hint); 35] = [
     ("BNODE", Hint::Function),
 ];
 
-/// Whether the characters are those of a word, in any case.
+/// Returns whether the characters are those of a word, in upper or lower case.
 fn is_word(text: &[char], word: &str) -> bool {
     text.len() == word.len()
         && text
@@ -53,7 +53,7 @@ fn is_word(text: &[char], word: &str) -> bool {
             .all(|(c, b)| c.to_ascii_uppercase() == char::from(b))
 }
 
-/// The hint of a word, where it is a feature of its own.
+/// Returns the hint for a word, or None if it has no hint.
 fn hint_of_word(text: &[char]) -> Option<Hint> {
     for (word, hint) in WORDS {
         if is_word(text, word) {
@@ -71,7 +71,7 @@ fn is_kind(tokens: &[Token<'_>], at: usize, kind: Kind) -> bool {
     kind_at(tokens, at) == Some(kind)
 }
 
-/// The hint of the word at a place, where one is there.
+/// Returns the hint for the word at a place, or None if there is no word or it has no hint.
 fn word_at(tokens: &[Token<'_>], at: usize) -> Option<Hint> {
     let token = tokens.get(at)?;
     if token.kind == Kind::Word {
@@ -81,7 +81,7 @@ fn word_at(tokens: &[Token<'_>], at: usize) -> Option<Hint> {
     }
 }
 
-/// Whether an operator of an expression may come.
+/// Returns whether an operator of an expression may come.
 fn is_operator_next(stack: &[Symbol]) -> bool {
     may_come(stack, Kind::Sign(Sign::And))
 }
@@ -98,12 +98,12 @@ fn is_term_next(stack: &[Symbol]) -> bool {
     may_come(stack, Kind::BlankLabel)
 }
 
-/// Whether what SELECT selects may come.
+/// Returns whether the projection of SELECT may come.
 fn is_selection_next(stack: &[Symbol]) -> bool {
     may_come(stack, Kind::Sign(Sign::Star)) || stack.last() == Some(&Symbol::Variables)
 }
 
-/// The hint of a word that may not come.
+/// Returns the hint for a word that is not allowed.
 fn hint_at_word(tokens: &[Token<'_>], at: usize, stack: &[Symbol]) -> Option<Hint> {
     let follows_not = at > 0 && is_kind(tokens, at - 1, Kind::Keyword(Keyword::Not));
     match word_at(tokens, at) {
@@ -114,7 +114,7 @@ fn hint_at_word(tokens: &[Token<'_>], at: usize, stack: &[Symbol]) -> Option<Hin
     }
 }
 
-/// The hint of a keyword that may not come.
+/// Returns the hint for a keyword that is not allowed.
 fn hint_at_keyword(
     tokens: &[Token<'_>],
     at: usize,
@@ -130,7 +130,7 @@ fn hint_at_keyword(
     }
 }
 
-/// The hint of `(` that may not come.
+/// Returns the hint for `(` that is not allowed.
 fn hint_at_open(tokens: &[Token<'_>], at: usize, stack: &[Symbol]) -> Option<Hint> {
     let next = word_at(tokens, at.saturating_add(1));
     if is_selection_next(stack) {
@@ -149,7 +149,7 @@ fn hint_at_open(tokens: &[Token<'_>], at: usize, stack: &[Symbol]) -> Option<Hin
     }
 }
 
-/// The hint of a sign that may not come.
+/// Returns the hint for a sign that is not allowed.
 fn hint_at_sign(tokens: &[Token<'_>], at: usize, stack: &[Symbol], sign: Sign) -> Option<Hint> {
     match sign {
         Sign::OpenParenthesis => hint_at_open(tokens, at, stack),
@@ -168,7 +168,7 @@ fn hint_at_sign(tokens: &[Token<'_>], at: usize, stack: &[Symbol], sign: Sign) -
     }
 }
 
-/// The hint for a terminal that may not come, where these symbols are on the stack.
+/// Returns the hint for a terminal that is not allowed with these symbols on the stack.
 pub fn hint_at(tokens: &[Token<'_>], at: usize, stack: &[Symbol]) -> Option<Hint> {
     match kind_at(tokens, at)? {
         Kind::Word => hint_at_word(tokens, at, stack),
@@ -181,7 +181,7 @@ pub fn hint_at(tokens: &[Token<'_>], at: usize, stack: &[Symbol]) -> Option<Hint
     }
 }
 
-/// The hint for a character that begins no terminal, where these symbols are on the stack.
+/// Returns the hint for a character that begins no terminal, with these symbols on the stack.
 pub fn hint_at_char(c: char, stack: &[Symbol]) -> Option<Hint> {
     match c {
         '[' => Some(Hint::PropertyList),

@@ -1,22 +1,27 @@
-//! Why a query is rejected, and where: the text of a query goes in, a place and a reason come out.
+//! Finds the place at which a query is rejected, and the reason.
 //!
-//! [`diagnose`] returns None for a text that `read_query` of sparql_read reads, and else a
-//! [`Diagnosis`] with the same fault. For a syntax error the place is that of the first terminal after
-//! which no query can continue. Some query begins with the terminals before it (`IsBeginning` of
-//! specs/Beginning.antt): that is proved. That none begins with these and the terminal at the place is
-//! tested and not proved: the tests run every query that is read through the same machine.
+//! [`diagnose`] takes the text of a query. It returns None for a text that `read_query` of
+//! sparql_read reads, and otherwise a [`Diagnosis`] with the same fault. The place of a syntax
+//! error is that of the first terminal after which no query continues. Two facts define it:
 //!
-//! [`report`] composes the message for a user: the first line, the line of the query with a caret, and
-//! a hint, which for a feature that is left out names what to write instead.
+//! - Some query begins with the terminals before the place (`IsBeginning` of specs/Beginning.antt).
+//!   This is proved.
+//! - No query begins with these terminals and the one at the place. This is not proved; the tests
+//!   run every query that is read through the same machine.
 //!
-//! Standard: SPARQL 1.1 Query Language, section 19.8 (grammar), sections 4.1.1, 5.1.1 and 10.1 for the
-//! rules on prefixes, blank node labels and BIND.
+//! [`report`] composes the message for a user: the place and the reason, the line of the query with
+//! a caret, and a hint. The hint for an unsupported feature names what to write instead.
 //!
-//! To read in this order: specs/Beginning.antt; `symbol`, `steps`, `expressions` (the grammar as a
-//! machine), `machine`, `completion`; `expected` (what may come, in words); `places`, `rules`;
-//! `hint`, `diagnosis`, `reports`.
+//! Standard: SPARQL 1.1 Query Language, section 19.8 (grammar), and sections 4.1.1, 5.1.1 and 10.1
+//! for the rules on prefixes, blank node labels and BIND.
 //!
-//! Not promised: that the reason is the mistake that was made.
+//! Reading order: specs/Beginning.antt; `symbol`, `steps`, `expressions` (the grammar as a
+//! machine), `machine`, `completion`; `expected` (the terminals that may come, as text); `places`,
+//! `rules`; `hint`, `diagnosis`, `reports`.
+//!
+//! Tests: `queries` of the crate diagnosis_tests.
+//!
+//! Not guaranteed: that the reason is the mistake that the author made.
 #![tactic(auto)]
 
 mod completion;

@@ -1,4 +1,4 @@
-//! The machine: it reads terminals up to the first after which no query can continue.
+//! A machine that reads terminals up to the first after which no query continues.
 
 ghost use Rattle.std.specs.Prelude.{◌≡◌, ◌≤◌, length, take, true, IfOk, IfSome};
 ghost use Rattle.sparql_lexer.specs.Terminal.{terminals};
@@ -13,46 +13,48 @@ use sparql_parse::parse;
 use sparql_read::declarations_of;
 use std::alloc::{AllocError, Global};
 
-/// Why no query continues after a terminal.
+/// The reason why no query continues after a terminal.
 #[derive(Clone, Copy, Debug, PartialEq, Eq)]
 pub enum Cause {
-    /// No terminal of its kind may come there; or the terminals end, and more have to come
+    /// No terminal of its kind is allowed there, or the terminals end too early
     Kind,
-    /// An escape in it names no character that is allowed there
+    /// An escape in it denotes no character that is allowed there
     Escape,
-    /// A variable is twice in the list of VALUES
+    /// A variable occurs twice in the list of VALUES
     Twice,
     /// A row of VALUES has more values than the list has variables
     LongRow,
-    /// A row of VALUES has fewer
+    /// A row of VALUES has fewer values than the list has variables
     ShortRow,
 }
 
-/// Where the machine stopped.
+/// The place where the machine stopped.
 #[derive(Debug, Drop)]
 pub struct Stop {
-    /// How many terminals are before the place: all, where the terminals end too early.
+    /// The number of terminals before the place. It is the number of all terminals if they end too
+    /// early.
     pub at: usize,
+    /// The reason why no query continues after the terminal at the place.
     pub cause: Cause,
-    /// What may come there, the next symbol last.
+    /// The symbols that may come there, the next one last.
     pub stack: Vec<Symbol>,
 }
 
-/// A machine between two terminals.
+/// The state of the machine between two terminals.
 #[derive(Debug, Drop)]
 pub struct Machine {
-    /// What has to be read, the next symbol last.
+    /// The symbols that are still to be read, the next one last.
     pub stack: Vec<Symbol>,
     /// The place of the first variable of the last list of VALUES.
     heading: usize,
-    /// How many variables that list has.
+    /// The number of variables of that list.
     pub width: usize,
-    /// How many values of the row are read.
+    /// The number of values of the row that are read.
     pub cells: usize,
 }
 
-/// The place of the symbol that takes a terminal of this kind, where one does: the top of the stack, or
-/// one below symbols that derive nothing.
+/// Returns the place of the symbol that takes a terminal of this kind, or None if none does. The
+/// symbol is the top of the stack, or one below symbols that derive the empty text.
 fn taker(stack: &[Symbol], kind: Kind) -> Option<usize> {
     let mut place = stack.len();
     while place > 0 {
@@ -66,20 +68,20 @@ fn taker(stack: &[Symbol], kind: Kind) -> Option<usize> {
     None
 }
 
-/// Whether a terminal of this kind may come.
+/// Returns whether a terminal of this kind may come.
 pub fn may_come(stack: &[Symbol], kind: Kind) -> bool {
     taker(stack, kind).is_some()
 }
 
-/// Whether the query may end.
+/// Returns whether the query may end.
 pub fn may_end(stack: &[Symbol]) -> bool {
-    // No symbol takes a word that is no keyword, so it serves as the end here.
+    // No symbol takes a word that is not a keyword, so this kind represents the end here.
     stack
         .iter()
         .all(|symbol| matches!(step(*symbol, Kind::Word), Step::Skip))
 }
 
-/// Whether the variable at a place is among those from another place on.
+/// Returns whether the variable at a place is among those from another place on.
 fn is_repeated(tokens: &[Token<'_>], from: usize, at: usize) -> bool {
     match (tokens.get(from..at), tokens.get(at)) {
         (Some(before), Some(token)) => before.iter().any(|t| is_same_name(*t, *token)),
@@ -87,12 +89,12 @@ fn is_repeated(tokens: &[Token<'_>], from: usize, at: usize) -> bool {
     }
 }
 
-/// Whether two variables have one name, whatever their signs.
+/// Returns whether two variables have the same name, with `?` or `$`.
 pub fn is_same_name(a: Token<'_>, b: Token<'_>) -> bool {
     a.text.get(1..) == b.text.get(1..)
 }
 
-/// Whether an escape of the terminal names no character that is allowed there.
+/// Returns whether an escape of the terminal denotes no character that is allowed there.
 fn is_misspelled(alloc: Global, token: Token<'_>) -> Result<bool, AllocError> {
     if token.kind == Kind::IriRef {
         Ok(iri_value(alloc, token.text)?.is_none())
@@ -123,7 +125,7 @@ impl Machine {
         Ok(())
     }
 
-    /// What is wrong with the terminal that a symbol takes, as a part of VALUES.
+    /// Returns the error of a terminal that a symbol takes, as a part of VALUES.
     fn cause_in_values(&self, symbol: Symbol, tokens: &[Token<'_>], at: usize) -> Option<Cause> {
         let closes = tokens.get(at).map(|t| t.kind) == Some(Kind::Sign(Sign::CloseParenthesis));
         match symbol {
@@ -150,7 +152,8 @@ impl Machine {
         }
     }
 
-    /// Reads a terminal. Some(cause): no query continues after it, and the machine is as it was.
+    /// Reads a terminal. If no query continues after it, returns the cause and leaves the machine
+    /// unchanged.
     fn read(
         &mut self,
         alloc: Global,
@@ -182,7 +185,7 @@ impl Machine {
     }
 }
 
-/// Whether the terminals are a query.
+/// Returns whether the terminals are a query.
 fn is_query(alloc: Global, tokens: &[Token<'_>]) -> Result<bool, AllocError>
     ensures query { IfOk result (λ found. found ≡ true → IsSomeQuery (terminals tokens.now)) }
 {
@@ -194,7 +197,7 @@ fn is_query(alloc: Global, tokens: &[Token<'_>]) -> Result<bool, AllocError>
     }
 }
 
-/// Whether the terminals and this end are a query.
+/// Returns whether the terminals followed by this end are a query.
 fn is_beginning<'a>(
     alloc: Global,
     front: &[Token<'a>],
@@ -207,14 +210,15 @@ fn is_beginning<'a>(
     is_query(alloc, &tokens)
 }
 
-/// Where terminals stop being the beginning of a query: at the first after which no query can continue,
-/// or after the last, where there is none (SPARQL 1.1 Query Language, section 19.8).
+/// Returns the place after which no query continues the terminals: the first terminal after which
+/// no query continues, or the end if there is no such terminal (SPARQL 1.1 Query Language, section
+/// 19.8).
 ///
-/// Some query begins with the terminals before the place. None: that could not be shown. The tests never
-/// meet it.
+/// Some query begins with the terminals before the place. Returns None if this could not be shown;
+/// no test gives None.
 ///
 /// # Errors
-/// Out of memory.
+/// `AllocError` if an allocation fails.
 pub fn stop_of(alloc: Global, tokens: &[Token<'_>]) -> Result<Option<Stop>, AllocError>
     ensures place { IfOk result (λ stop. IfSome stop (λ s. s.at ≤ length tokens.now)) }
     ensures beginning { IfOk result (λ stop.

@@ -3,11 +3,13 @@
 use sparql_lexer::Token;
 use std::fmt;
 
-/// A line and a column of a text, both from 1. A line ends with LF, CR LF, or a CR that no LF follows.
+/// A line and a column of a text, both from 1. A line ends with LF, CR LF, or a CR that no LF
+/// follows.
 #[derive(Clone, Copy, Debug, PartialEq, Eq)]
 pub struct Position {
+    /// The number of the line, from 1.
     pub line: usize,
-    /// Counts characters.
+    /// The column, from 1, in characters.
     pub column: usize,
 }
 
@@ -17,7 +19,7 @@ impl fmt::Display for Position {
     }
 }
 
-/// Whether a line ends after the character at a place.
+/// Returns whether a line ends after the character at a place.
 fn ends_line(text: &[char], at: usize) -> bool {
     match text.get(at) {
         Some('\n') => true,
@@ -26,7 +28,7 @@ fn ends_line(text: &[char], at: usize) -> bool {
     }
 }
 
-/// Where the line of a place begins.
+/// Returns the start of the line of a place.
 pub fn line_start(text: &[char], offset: usize) -> usize {
     let mut start = 0;
     for i in 0..offset.min(text.len()) {
@@ -37,14 +39,14 @@ pub fn line_start(text: &[char], offset: usize) -> usize {
     start
 }
 
-/// The line of a place, without its end.
+/// Returns the line of a place, without its line end.
 pub fn line_at(text: &[char], offset: usize) -> &[char] {
     let line = text.get(line_start(text, offset)..).unwrap_or(&[]);
     let end = line.iter().position(|c| *c == '\n' || *c == '\r');
     line.get(..end.unwrap_or(line.len())).unwrap_or(line)
 }
 
-/// The position of a place, given by the number of characters before it.
+/// Returns the position of a place, given by the number of characters before it.
 pub fn position_of(text: &[char], offset: usize) -> Position {
     let ended = (0..offset.min(text.len()))
         .filter(|i| ends_line(text, *i))
@@ -57,8 +59,8 @@ pub fn position_of(text: &[char], offset: usize) -> Position {
     }
 }
 
-/// How many characters of white space and comments are at the front (SPARQL 1.1 Query Language,
-/// section 19.8, WS).
+/// Returns the number of characters of white space and comments at the start of the text (SPARQL
+/// 1.1 Query Language, sections 19.3 and 19.4; section 19.8, [162] WS).
 fn blanks(text: &[char]) -> usize {
     let mut in_comment = false;
     for i in 0..text.len() {
@@ -74,8 +76,9 @@ fn blanks(text: &[char]) -> usize {
     text.len()
 }
 
-/// How many characters are before a terminal of the text, given by its place in the list; after the
-/// last terminal where there is none at that place.
+/// Returns the number of characters before a terminal of the text, given by its place in the list.
+/// If there is no terminal at that place, returns the number of characters up to the end of the
+/// last one.
 pub fn offset_of(text: &[char], tokens: &[Token<'_>], at: usize) -> usize {
     let mut offset = 0usize;
     for i in 0..tokens.len() {

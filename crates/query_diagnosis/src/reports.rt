@@ -19,7 +19,7 @@ impl fmt::Display for Place {
     }
 }
 
-/// The message about a diagnosis.
+/// Returns the message about a diagnosis.
 fn message_of(alloc: Global, text: &str, diagnosis: &Diagnosis) -> Result<String, AllocError> {
     let characters = characters_of(alloc, text)?;
     let line = text_of(alloc, line_at(&characters, diagnosis.offset))?;
@@ -37,10 +37,11 @@ fn message_of(alloc: Global, text: &str, diagnosis: &Diagnosis) -> Result<String
     )
 }
 
-/// The message for the text of a query that is rejected; None for a text that `read_query` reads.
+/// Returns the message for the text of a query that is rejected. Returns None for a text that
+/// `read_query` reads.
 ///
 /// # Errors
-/// Out of memory.
+/// `AllocError` if an allocation fails.
 pub fn report(alloc: Global, text: &str) -> Result<Option<String>, AllocError> {
     match diagnose(alloc, text)? {
         None => Ok(None),

@@ -1,5 +1,5 @@
-//! Where a query that the grammar derives breaks one of the other rules: each function returns the place of a
-//! terminal in the list, or None where no terminal breaks the rule.
+//! The places at which a query that the grammar derives breaks one of the other rules. Each
+//! function returns the place of a terminal in the list, or None if no terminal breaks the rule.
 
 use crate::machine::is_same_name;
 use rdf_core::lexical::has_scheme;
@@ -8,23 +8,29 @@ use sparql_lexer::{Keyword, Kind, Sign, Token, iri_value, text_of};
 use std::alloc::{AllocError, Global};
 use std::collections::BTreeMap;
 
-/// The most brackets that may be open at once.
+/// The maximum number of brackets that may be open at once.
 const MAX_DEPTH: usize = 100;
 
 /// A terminal that clashes with an earlier one.
 #[derive(Clone, Copy, Debug, PartialEq, Eq)]
 pub struct Clash {
+    /// The place of the terminal in the list.
     pub at: usize,
+    /// The place of the earlier terminal.
     pub earlier: usize,
 }
 
-/// What is before the first colon of a prefixed name.
+/// Returns the part of a prefixed name before its first colon.
 pub fn prefix_of<'a>(name: &'a [char]) -> &'a [char] {
     let end = name.iter().position(|c| *c == ':').unwrap_or(name.len());
     name.get(..end).unwrap_or(name)
 }
 
-/// The first prefixed name without a declaration (SPARQL 1.1 Query Language, section 4.1.1).
+/// Returns the place of the first prefixed name without a declaration (SPARQL 1.1 Query Language,
+/// section 4.1.1).
+///
+/// # Errors
+/// `AllocError` if an allocation fails.
 pub fn undefined_prefix(
     alloc: Global,
     names: &Declarations,
@@ -41,7 +47,10 @@ pub fn undefined_prefix(
     Ok(None)
 }
 
-/// The first IRI in angle brackets that has no scheme.
+/// Returns the place of the first [139] IRIREF without a scheme.
+///
+/// # Errors
+/// `AllocError` if an allocation fails.
 pub fn relative_iri(alloc: Global, tokens: &[Token<'_>]) -> Result<Option<usize>, AllocError> {
     for i in 0..tokens.len() {
         if tokens[i].kind == Kind::IriRef {
@@ -55,7 +64,7 @@ pub fn relative_iri(alloc: Global, tokens: &[Token<'_>]) -> Result<Option<usize>
     Ok(None)
 }
 
-/// The first bracket that is nested over 100 deep.
+/// Returns the place of the first bracket after which more than 100 are open.
 pub fn deepest(tokens: &[Token<'_>]) -> Option<usize> {
     let mut depth = 0usize;
     for i in 0..tokens.len() {
@@ -75,8 +84,11 @@ pub fn deepest(tokens: &[Token<'_>]) -> Option<usize> {
     None
 }
 
-/// The first blank node label that is in two basic graph patterns (SPARQL 1.1 Query Language,
-/// section 5.1.1). A brace or a BIND ends a basic graph pattern.
+/// Returns the first blank node label that occurs in two basic graph patterns (SPARQL 1.1 Query
+/// Language, section 5.1.1). A brace or a BIND ends a basic graph pattern.
+///
+/// # Errors
+/// `AllocError` if an allocation fails.
 pub fn reused_blank(alloc: Global, tokens: &[Token<'_>]) -> Result<Option<Clash>, AllocError> {
     let mut pattern = 0usize;
     let mut seen: BTreeMap<String, (usize, usize)> = BTreeMap::new(alloc);
@@ -106,25 +118,24 @@ pub fn reused_blank(alloc: Global, tokens: &[Token<'_>]) -> Result<Option<Clash>
 /// A group that is open.
 #[derive(Clone, Copy, Debug)]
 struct Frame {
-    /// How many variables were in scope before it.
+    /// The number of variables in scope before it.
     first: usize,
     /// Whether it is the right side of MINUS, whose variables are not in scope after it.
     is_minus: bool,
 }
 
-/// The walk over the groups of a query: which variables are in scope (SPARQL 1.1 Query Language,
-/// section 18.2.1).
+/// The variables in scope in the groups of a query (SPARQL 1.1 Query Language, section 18.2.1).
 #[derive(Drop)]
 struct Scopes {
     frames: Vec<Frame>,
     /// The places of the variables in scope in the groups that are open.
     seen: Vec<usize>,
     is_minus_next: bool,
-    /// Where the walk goes on: what is before is an expression or the values of VALUES.
+    /// The next place to visit. The terminals before it are an expression or the values of VALUES.
     next: usize,
 }
 
-/// The place after the brackets of the condition that begins at a place.
+/// Returns the place after the brackets of the condition that begins at a place.
 fn after_condition(tokens: &[Token<'_>], from: usize) -> usize {
     let mut depth = 0usize;
     for i in from.min(tokens.len())..tokens.len() {
@@ -142,7 +153,7 @@ fn after_condition(tokens: &[Token<'_>], from: usize) -> usize {
     tokens.len()
 }
 
-/// The first place of a terminal of this kind from a place on.
+/// Returns the first place of a terminal of this kind from a place on.
 fn find(tokens: &[Token<'_>], from: usize, kind: Kind) -> usize {
     for i in from.min(tokens.len())..tokens.len() {
         if tokens[i].kind == kind {
@@ -179,7 +190,7 @@ impl Scopes {
         }
     }
 
-    /// Adds the variables of VALUES, and goes on after its values.
+    /// Adds the variables of VALUES, and continues after its values.
     fn add_values(&mut self, tokens: &[Token<'_>], at: usize) -> Result<(), AllocError> {
         let values = find(tokens, at, Kind::Sign(Sign::OpenBrace));
         for i in at..values {
@@ -191,7 +202,7 @@ impl Scopes {
         Ok(())
     }
 
-    /// The place in the open group that already binds the variable at a place.
+    /// Returns the place in the open group that already binds the variable at a place.
     fn earlier(&self, tokens: &[Token<'_>], at: usize) -> Option<usize> {
         let first = self.frames.last().map_or(0, |frame| frame.first);
         let variable = tokens.get(at)?;
@@ -236,8 +247,11 @@ impl Scopes {
     }
 }
 
-/// The first BIND to a variable that the elements before it in its group bind (SPARQL 1.1 Query
-/// Language, section 10.1), and where they do.
+/// Returns the first BIND to a variable that the elements before it in its group bind, and the
+/// place where they bind it (SPARQL 1.1 Query Language, section 10.1).
+///
+/// # Errors
+/// `AllocError` if an allocation fails.
 pub fn bound_twice(alloc: Global, tokens: &[Token<'_>]) -> Result<Option<Clash>, AllocError> {
     let mut scopes = Scopes::new(alloc);
     for i in 0..tokens.len() {

@@ -1,15 +1,15 @@
-//! What each symbol does at a terminal: the query, its groups and triples.
+//! The steps of the symbols of the query, its groups and its triples.
 
 use crate::expressions::{call, expression, more_logic, more_relation, primary, unary};
 use crate::symbol::{DONE, Step, Symbol};
 use sparql_lexer::{Keyword, Kind, Sign};
 
-/// Takes a terminal of this kind alone.
+/// Takes only a terminal of this kind.
 fn only(kind: Kind, expected: Kind) -> Step {
     if kind == expected { DONE } else { Step::Stop }
 }
 
-/// IRIs and prefixed names ([136] iri).
+/// Returns whether the terminal is an [136] iri: an [139] IRIREF or a prefixed name.
 pub fn is_name(kind: Kind) -> bool {
     matches!(
         kind,
@@ -17,7 +17,7 @@ pub fn is_name(kind: Kind) -> bool {
     )
 }
 
-/// Numbers and booleans ([130] NumericLiteral, [134] BooleanLiteral).
+/// Returns whether the terminal is a [130] NumericLiteral or a [134] BooleanLiteral.
 pub fn is_number_or_boolean(kind: Kind) -> bool {
     matches!(
         kind,
@@ -31,11 +31,13 @@ pub fn is_number_or_boolean(kind: Kind) -> bool {
     )
 }
 
+/// Returns whether the terminal is a [135] String.
 pub fn is_string(kind: Kind) -> bool {
     matches!(kind, Kind::ShortString | Kind::LongString)
 }
 
-/// An IRI or a literal, and then these ([109] GraphTerm without blank nodes).
+/// Reads the first terminal of an IRI or a literal; its rest and the symbols `then` follow it
+/// ([109] GraphTerm without blank nodes).
 pub fn constant(kind: Kind, then: &'static [Symbol]) -> Step {
     if is_string(kind) {
         Step::Take(&[Symbol::LiteralTail], then)
@@ -46,7 +48,7 @@ pub fn constant(kind: Kind, then: &'static [Symbol]) -> Step {
     }
 }
 
-/// A term or a variable of a triple, and then these ([106] VarOrTerm).
+/// Reads the first terminal of a [106] VarOrTerm; its rest and the symbols `then` follow it.
 fn pattern_term(kind: Kind, then: &'static [Symbol]) -> Step {
     if matches!(kind, Kind::Variable | Kind::BlankLabel | Kind::Anonymous) {
         Step::Take(&[], then)
@@ -55,7 +57,7 @@ fn pattern_term(kind: Kind, then: &'static [Symbol]) -> Step {
     }
 }
 
-/// A verb, and then these ([78] VerbSimple, [136] iri, 'a').
+/// Reads a [78] Verb; the symbols `then` follow it.
 fn verb(kind: Kind, then: &'static [Symbol]) -> Step {
     if kind == Kind::Variable || kind == Kind::Keyword(Keyword::A) || is_name(kind) {
         Step::Take(&[], then)
@@ -72,7 +74,7 @@ fn variable_or_name(kind: Kind) -> Step {
     }
 }
 
-/// [2] Query, [6] PrefixDecl, [7] SelectQuery.
+/// Reads the first terminal of a [2] Query: a [6] PrefixDecl or a [7] SelectQuery.
 fn query(kind: Kind) -> Step {
     match kind {
         Kind::Keyword(Keyword::Prefix) => Step::Take(
@@ -84,7 +86,7 @@ fn query(kind: Kind) -> Step {
     }
 }
 
-/// What follows the variables of SELECT ([17] WhereClause).
+/// Reads the terminal after the variables of SELECT ([17] WhereClause).
 fn where_clause(kind: Kind) -> Step {
     match kind {
         Kind::Keyword(Keyword::Where) => Step::Take(&[Symbol::Group, Symbol::Modifiers], &[]),
@@ -93,7 +95,7 @@ fn where_clause(kind: Kind) -> Step {
     }
 }
 
-/// [9] SelectClause, after SELECT and DISTINCT.
+/// Reads the terminal of a [9] SelectClause after SELECT and DISTINCT.
 fn selection(kind: Kind) -> Step {
     match kind {
         Kind::Sign(Sign::Star) => Step::Take(&[Symbol::Where], &[]),
@@ -116,7 +118,7 @@ fn variables(kind: Kind) -> Step {
     }
 }
 
-/// [25] LimitOffsetClauses.
+/// Reads the first terminal of [25] LimitOffsetClauses.
 fn modifiers(kind: Kind) -> Step {
     match kind {
         Kind::Keyword(Keyword::Limit) => Step::Take(&[Symbol::Count, Symbol::MoreOffset], &[]),
@@ -125,7 +127,7 @@ fn modifiers(kind: Kind) -> Step {
     }
 }
 
-/// A keyword that may come, and a number after it.
+/// Takes this keyword; a number follows it.
 fn count_behind(kind: Kind, keyword: Keyword) -> Step {
     if kind == Kind::Keyword(keyword) {
         Step::Take(&[Symbol::Count], &[])
@@ -134,7 +136,8 @@ fn count_behind(kind: Kind, keyword: Keyword) -> Step {
     }
 }
 
-/// An element of a group but triples ([56] GraphPatternNotTriples).
+/// Reads the first terminal of a [56] GraphPatternNotTriples, an element of a group other than
+/// triples.
 fn element(kind: Kind) -> Step {
     const THEN: &[Symbol] = &[Symbol::AfterElement];
     match kind {
@@ -157,7 +160,7 @@ fn element(kind: Kind) -> Step {
     }
 }
 
-/// The end of a group, or an element but triples.
+/// Reads the end of a group, or the first terminal of an element other than triples.
 fn element_or_end(kind: Kind) -> Step {
     if kind == Kind::Sign(Sign::CloseBrace) {
         DONE
@@ -166,7 +169,7 @@ fn element_or_end(kind: Kind) -> Step {
     }
 }
 
-/// [54] GroupGraphPatternSub: the rest of a group, where triples may come.
+/// Reads the next terminal of a [54] GroupGraphPatternSub, where triples may come.
 fn body(kind: Kind) -> Step {
     let subject = pattern_term(
         kind,
@@ -198,7 +201,7 @@ fn after_element(kind: Kind) -> Step {
     }
 }
 
-/// [67] GroupOrUnionGraphPattern, after a group.
+/// Reads the terminal after a group of a [67] GroupOrUnionGraphPattern.
 fn more_union(kind: Kind) -> Step {
     if kind == Kind::Keyword(Keyword::Union) {
         Step::Take(&[Symbol::Group, Symbol::MoreUnion], &[])
@@ -207,7 +210,7 @@ fn more_union(kind: Kind) -> Step {
     }
 }
 
-/// [79] ObjectList, after an object.
+/// Reads the terminal after an object of an [79] ObjectList.
 fn more_objects(kind: Kind) -> Step {
     if kind == Kind::Sign(Sign::Comma) {
         Step::Take(&[Symbol::Object, Symbol::MoreObjects], &[])
@@ -216,7 +219,7 @@ fn more_objects(kind: Kind) -> Step {
     }
 }
 
-/// [77] PropertyListNotEmpty, after its objects.
+/// Reads the terminal after the objects of a [77] PropertyListNotEmpty.
 fn more_properties(kind: Kind) -> Step {
     if kind == Kind::Sign(Sign::Semicolon) {
         Step::Take(&[Symbol::AfterSemicolon], &[])
@@ -233,7 +236,7 @@ fn after_semicolon(kind: Kind) -> Step {
     }
 }
 
-/// [129] RDFLiteral, after its string.
+/// Reads the terminal after the string of an [129] RDFLiteral.
 fn literal_tail(kind: Kind) -> Step {
     match kind {
         Kind::LanguageTag => DONE,
@@ -242,7 +245,7 @@ fn literal_tail(kind: Kind) -> Step {
     }
 }
 
-/// [62] DataBlock.
+/// Reads the first terminal of a [62] DataBlock.
 fn data_block(kind: Kind) -> Step {
     match kind {
         Kind::Variable => Step::Take(&[Symbol::OpenBrace, Symbol::Column], &[]),
@@ -251,7 +254,7 @@ fn data_block(kind: Kind) -> Step {
     }
 }
 
-/// The variables of [64] InlineDataFull.
+/// Reads the next terminal in the list of variables of an [64] InlineDataFull.
 fn heading(kind: Kind) -> Step {
     match kind {
         Kind::Variable => Step::Take(&[Symbol::Heading], &[]),
@@ -260,7 +263,7 @@ fn heading(kind: Kind) -> Step {
     }
 }
 
-/// The rows of [64] InlineDataFull.
+/// Reads the next terminal between the rows of an [64] InlineDataFull.
 fn rows(kind: Kind) -> Step {
     match kind {
         Kind::Sign(Sign::CloseBrace) => DONE,
@@ -269,7 +272,7 @@ fn rows(kind: Kind) -> Step {
     }
 }
 
-/// [65] DataBlockValue, up to a closing sign.
+/// Reads the next terminal in a list of [65] DataBlockValue, up to its closing sign.
 fn cells(kind: Kind, close: Sign, then: &'static [Symbol]) -> Step {
     if kind == Kind::Sign(close) {
         DONE
@@ -280,7 +283,7 @@ fn cells(kind: Kind, close: Sign, then: &'static [Symbol]) -> Step {
     }
 }
 
-/// The steps of expressions and lists of values.
+/// Returns the step of a symbol of expressions or lists of values.
 fn inner_step(symbol: Symbol, kind: Kind) -> Step {
     match symbol {
         Symbol::DataBlock => data_block(kind),
@@ -327,7 +330,7 @@ fn inner_step(symbol: Symbol, kind: Kind) -> Step {
     }
 }
 
-/// What a symbol does at a terminal of this kind.
+/// Returns the step of a symbol for a terminal of this kind.
 pub fn step(symbol: Symbol, kind: Kind) -> Step {
     match symbol {
         Symbol::Query => query(kind),

@@ -1,5 +1,5 @@
-//! What may come next in a query: the symbols of a machine with a stack, which reads the grammar of
-//! sparql_grammar (SPARQL 1.1 Query Language, section 19.8) one terminal at a time.
+//! The symbols of a machine with a stack, which reads the grammar of sparql_grammar one terminal at
+//! a time (SPARQL 1.1 Query Language, section 19.8).
 
 /// A symbol of the stack.
 #[derive(Clone, Copy, Debug, PartialEq, Eq)]
@@ -59,16 +59,17 @@ pub enum Symbol {
     Variable,
 }
 
-/// What a symbol does at a terminal.
+/// The step of a symbol for a terminal.
 #[derive(Clone, Copy, Debug)]
 pub enum Step {
-    /// Takes the terminal, and is replaced by these symbols: first the first list, then the second.
+    /// The symbol takes the terminal. The symbols of the first list and then those of the second
+    /// replace it.
     Take(&'static [Symbol], &'static [Symbol]),
-    /// Derives nothing before this terminal, and is taken off the stack.
+    /// The symbol derives the empty text before this terminal, and is removed from the stack.
     Skip,
-    /// Neither.
+    /// The symbol neither takes the terminal nor derives the empty text.
     Stop,
 }
 
-/// Takes the terminal, and nothing more.
+/// The symbol takes the terminal, and no symbols replace it.
 pub const DONE: Step = Step::Take(&[], &[]);

@@ -31,7 +31,7 @@ of_closed : (names : List Name) (A : Algebra) (ts : List Triple) → patterns_of
 of_closed names A [] = sym (append-nil (patterns_of A))
 of_closed names A (t ∷ ts) = refl
 
--- ---- a group as far as it is read
+-- ---- a prefix of a group
 
 record IsPart (names : List Name) (p : Part) (g : GroupTree) : Type 0 where
   pub before : patterns_of p.before ≡ translated names (closed_patterns g)
@@ -47,7 +47,8 @@ whole_of names p g h =
 finished_of : (names : List Name) (p : Part) (g : GroupTree) → IsPart names p g → patterns_of (finished names p) ≡ translated names (basic_patterns g)
 finished_of names p g h = of_filtered p.filters (closed names p) ∙ whole_of names p g h
 
--- behind an element that ends the run: what was closed, the run, and what the element has inside
+-- after an element that ends a run: the patterns before the run, the run, and the patterns inside
+-- the element
 ended : (names : List Name) (p : Part) (g : GroupTree) (inside : List (List Triple)) → IsPart names p g
     → patterns_of (closed names p) ++ translated names inside ≡ translated names (closed_patterns g ++ (open_pattern g ∷ inside))
 ended names p g inside h =

@@ -41,7 +41,7 @@ abbrev mutual
   IsSide (bind e x) = ⊥
   IsSide (values xs rows) = ⊥
 
--- of what a symbol carries
+-- the property for the part of a list or chain that a symbol has
 abbrev Carried : Symbol → Type 0
 Carried (the.body es) = HasSides es
 Carried (the.others es) = HasSides es
@@ -49,7 +49,7 @@ Carried (the.after_other es) = HasSides es
 Carried (the.more_union e) = IsSide e
 Carried _ = ⊤
 
--- of what a symbol gives
+-- the property for the value of a symbol
 abbrev Given : (s : Symbol) → Value s → Type 0
 Given the.group v = HasSides v
 Given (the.body es) v = HasSides v
@@ -75,7 +75,7 @@ Given (the.pattern d xs) v = HasSides v.group
 Given (the.pattern_group d xs) v = HasSides v.group
 Given _ v = ⊤
 
--- each value that the form gives is so, where its parts are
+-- the property for every value of a form, provided that the parts of the form have it
 abbrev Fine : {A : Type 0} → (A → Type 0) → Form A → Type 0
 Fine P (give a) = P a
 Fine P (behind g) = (n : ℕ) → P (g n)

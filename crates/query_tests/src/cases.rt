@@ -1,37 +1,37 @@
-//! Cases of the tests: texts, and what is expected of each.
+//! Cases of the tests: texts, and the expected output for each.
 use crate::{declarations, expressions, productions, terminals, texts};
 use std::alloc::{AllocError, Global};
 
-/// A text, and what its reader prints.
+/// A text, and the expected output of its reader.
 pub(crate) type Case = (&'static str, &'static str);
 
-/// A count, the parts of a text (see [`repeated`]), and what the reader of the text prints.
+/// A count, the parts of a text (see [`repeated`]), and the expected output of its reader.
 pub(crate) type Repeated = (usize, [&'static str; 5], &'static str);
 
-/// What is printed of a text.
+/// The reader of a text, whose output is compared.
 #[derive(Clone, Copy)]
 pub(crate) enum Reader {
     /// The IRI of a prefix among added declarations.
     Added,
     /// The IRI of a prefix among the declarations of a text.
     Declared,
-    /// The expression at the front.
+    /// The expression at the start of the text.
     Expression,
     /// Whether the text is parsed.
     IsRead,
     /// The query, or the rule that rejects the text.
     Query,
-    /// Which rules of the terminals the text breaks.
+    /// The rules of the terminals that the text breaks.
     Rules,
-    /// Which rules of scope the text breaks.
+    /// The rules of scope that the text breaks.
     Scope,
-    /// The query that the text is parsed as, before the rules apply.
+    /// The query of the text, before the rules are checked.
     Select,
-    /// The term at the front.
+    /// The term at the start of the text.
     Term,
     /// The terminals.
     Terminals,
-    /// What IRIs and strings stand for.
+    /// The values of IRIs and strings.
     Values,
     /// The variables that the text mentions.
     Variables,
@@ -39,7 +39,7 @@ pub(crate) enum Reader {
     Verdict,
 }
 
-/// Prints what the reader finds in the text.
+/// Returns the output of the reader for the text.
 fn printed(alloc: Global, reader: Reader, text: &str) -> Result<String, AllocError> {
     match reader {
         Reader::Added => declarations::added(alloc, text),
@@ -58,7 +58,7 @@ fn printed(alloc: Global, reader: Reader, text: &str) -> Result<String, AllocErr
     }
 }
 
-/// Whether the two are equal. Prints the case and both if they are not.
+/// Returns whether the two are equal. Prints the case and both if they are not.
 fn is_same<R: Print>(rt: &R, case: &str, expected: &str, found: &str) -> bool {
     if found == expected {
         return true;
@@ -67,7 +67,7 @@ fn is_same<R: Print>(rt: &R, case: &str, expected: &str, found: &str) -> bool {
     false
 }
 
-/// Whether the reader prints of the text what is expected.
+/// Returns whether the output of the reader for the text is the expected one.
 pub(crate) fn holds<R: Print>(
     rt: &R,
     alloc: Global,
@@ -81,7 +81,7 @@ pub(crate) fn holds<R: Print>(
     is_same(rt, text, expected, found.as_str())
 }
 
-/// Whether each case holds. Prints the first that does not.
+/// Returns whether each case is right. Prints the first that is not.
 pub(crate) fn all_hold<R: Print>(rt: &R, alloc: Global, reader: Reader, cases: &[Case]) -> bool {
     for (text, expected) in cases {
         if !holds(rt, alloc, reader, *text, *expected) {
@@ -91,7 +91,8 @@ pub(crate) fn all_hold<R: Print>(rt: &R, alloc: Global, reader: Reader, cases: &
     true
 }
 
-/// Returns the first part, the second `count` times, the third, the fourth `count` times, and the fifth.
+/// Returns the first part, the second `count` times, the third, the fourth `count` times, and the
+/// fifth.
 fn repeated(alloc: Global, count: usize, parts: &[&str; 5]) -> Result<String, AllocError> {
     let [first, opening, middle, closing, last] = *parts;
     let opened = opening.repeat(alloc, count)?;
@@ -99,7 +100,7 @@ fn repeated(alloc: Global, count: usize, parts: &[&str; 5]) -> Result<String, Al
     format!(in alloc; "{first}{opened}{middle}{closed}{last}")
 }
 
-/// Whether the terminals of one repeated text are printed as another one.
+/// Returns whether the output of the terminals of one repeated text is another repeated text.
 pub(crate) fn is_repeated_as<R: Print>(
     rt: &R,
     alloc: Global,
@@ -122,7 +123,7 @@ pub(crate) fn is_repeated_as<R: Print>(
     )
 }
 
-/// Whether the reader prints of each repeated text what is expected.
+/// Returns whether the output of the reader for each repeated text is the expected one.
 pub(crate) fn are_repeated_as<R: Print>(
     rt: &R,
     alloc: Global,

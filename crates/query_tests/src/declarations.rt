@@ -1,4 +1,4 @@
-//! Declarations, and which one holds.
+//! Prefix declarations, and which one counts.
 use crate::cases::{Case, Reader, all_hold};
 use rdf_core::Text;
 use sparql_grammar::{Declaration, Declarations};
@@ -40,7 +40,7 @@ pub(crate) fn added(alloc: Global, prefix: &str) -> Result<String, AllocError> {
     iri_of(alloc, &names, prefix)
 }
 
-/// The last declaration of a prefix holds. A prefix without a declaration has no IRI.
+/// The last declaration of a prefix counts. A prefix without a declaration has no IRI.
 const PREFIXES: &[Case] = &[
     ("", "x:2"),
     ("a", "x:4"),

@@ -15,7 +15,7 @@ fn declarations(alloc: Global) -> Result<Declarations, AllocError> {
     Ok(names)
 }
 
-/// Prints the expression at the front, and the number of tokens after it.
+/// Prints the expression at the start of the tokens, and the number of tokens after it.
 fn tree(alloc: Global, tokens: &[Token<'_>]) -> Result<String, AllocError> {
     let names = declarations(alloc)?;
     match read_disjunction(alloc, &names, tokens) {
@@ -25,7 +25,7 @@ fn tree(alloc: Global, tokens: &[Token<'_>]) -> Result<String, AllocError> {
     }
 }
 
-/// Prints the expression at the front of the text, and the number of tokens after it.
+/// Prints the expression at the start of the text, and the number of tokens after it.
 pub(crate) fn expression(alloc: Global, text: &str) -> Result<String, AllocError> {
     let characters = characters_of(alloc, text)?;
     let scan = scan_text(alloc, &characters)?;
@@ -42,7 +42,7 @@ fn serialized(alloc: Global, term: &Term) -> Result<String, AllocError> {
     }
 }
 
-/// Prints the N-Quads form of the term at the front.
+/// Prints the N-Quads form of the term at the start of the tokens.
 fn front_term(alloc: Global, tokens: &[Token<'_>]) -> Result<String, AllocError> {
     let names = declarations(alloc)?;
     match read_term(alloc, &names, tokens) {
@@ -52,7 +52,7 @@ fn front_term(alloc: Global, tokens: &[Token<'_>]) -> Result<String, AllocError>
     }
 }
 
-/// Prints the N-Quads form of the term at the front of the text.
+/// Prints the N-Quads form of the term at the start of the text.
 pub(crate) fn term(alloc: Global, text: &str) -> Result<String, AllocError> {
     let characters = characters_of(alloc, text)?;
     let scan = scan_text(alloc, &characters)?;
@@ -126,7 +126,7 @@ fn calls(rt: HostRuntime) {
     assert!(rt; all_hold(&rt, rt.alloc(), Reader::Expression, CALLS));
 }
 
-/// The last declaration of a prefix holds. A name without a declaration stays as it is.
+/// The last declaration of a prefix counts. A name without a declaration is unchanged.
 const EXPANSIONS: &[Case] = &[
     ("<http://e/a>", "<http://e/a>"),
     ("e:a", "<http://late/a>"),

@@ -1,9 +1,17 @@
-//! Tests of the query reader: `terminals` of sparql_lexer, `declarations` of sparql_grammar, `expressions` of
-//! sparql_expression, `productions` of sparql_parse, `texts` of sparql_read (whole texts, and the rules that
-//! reject them). `cases` runs their tables.
+//! Tests of the query reader:
 //!
-//! The tests are in a crate of their own, so that a check of the tests proves no library a second time. A table is
-//! a constant, and its test is one call of a loop: a function with a long local table is slow to prove.
+//! - `terminals`: sparql_lexer
+//! - `declarations`: sparql_grammar
+//! - `expressions`: sparql_expression
+//! - `productions`: sparql_parse
+//! - `texts`: sparql_read, with whole texts and the rules that reject them
+//!
+//! `cases` runs their tables. The expected outputs are written from SPARQL 1.1 Query Language,
+//! sections 4, 5, 10, 18.2.1 and 19.
+//!
+//! The tests are in a crate of their own, so that a check of the tests does not prove a library
+//! again. A table is a constant, and its test is one call of a loop, because a function with a long
+//! local table is slow to prove.
 #![tactic(auto)]
 
 #[cfg(test)]

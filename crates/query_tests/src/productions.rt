@@ -39,7 +39,8 @@ const SELECTS: &[Case] = &[
         "PREFIX p: <x> SELECT DISTINCT * WHERE { }",
         "Select { distinct: true, selection: All, group: [], limit: None, offset: None }",
     ),
-    // `;` repeats the subject, `,` the verb too; a verb after the last `;` may be missing
+    // `;` repeats the subject, and `,` the subject and the verb; no verb is needed after the last
+    // `;`
     (
         "SELECT ?s { ?s a <x> ; <p> 1 , _:b ; . }",
         "Select { distinct: false, selection: Variables([s]), group: [Triples([\
@@ -47,7 +48,8 @@ const SELECTS: &[Case] = &[
          Triple { subject: Variable(s), predicate: Term(Iri(p)), object: Term(Literal { lexical: 1, datatype: http://www.w3.org/2001/XMLSchema#integer, tag: None }) }, \
          Triple { subject: Variable(s), predicate: Term(Iri(p)), object: Blank(b) }])], limit: None, offset: None }",
     ),
-    // `[]` is one label, named by the number of terminals after it, in all triples that `;` and `,` repeat
+    // `[]` is one label, named by the number of terminals after it, in all triples that `;` and `,`
+    // repeat
     (
         "SELECT * { [] ?a ?b , ?c }",
         "Select { distinct: false, selection: All, group: [Triples([\
@@ -61,7 +63,7 @@ const SELECTS: &[Case] = &[
          Optional([Triples([Triple { subject: Variable(a), predicate: Variable(b), object: Blank([25) }])]), \
          Minus([]), Graph(Variable(g), []), Filter(Variable(a)), Bind(Variable(a), b), Filter(Bound(a))], limit: None, offset: None }",
     ),
-    // a number over the largest is read as the largest
+    // a number above the greatest one is replaced by the greatest one
     (
         "SELECT * { VALUES ?v { <x> UNDEF } VALUES (?a ?b) { (UNDEF true) } } OFFSET 3 LIMIT 99999999999999999999",
         "Select { distinct: false, selection: All, group: [Values([v], [[Some(Iri(x))], [None]]), \
@@ -75,7 +77,7 @@ fn queries_have_their_trees(rt: HostRuntime) {
     assert!(rt; all_hold(&rt, rt.alloc(), Reader::Select, SELECTS));
 }
 
-/// Texts that are no query.
+/// Texts that are not a query.
 const NO_QUERIES: &[Case] = &[
     ("", "Syntax"),
     ("SELECT {}", "Syntax"),
@@ -99,7 +101,7 @@ fn long_heading(alloc: Global, last: &str) -> Result<String, AllocError> {
     format!(in alloc; "SELECT * {{ VALUES ({names}{last}) {{ }} }}")
 }
 
-/// Whether a heading with this last variable is read as expected.
+/// Returns whether the result for a heading with this last variable is the expected one.
 fn is_heading<R: Print>(rt: &R, alloc: Global, last: &str, expected: &str) -> bool {
     let Ok(text) = long_heading(alloc, last) else {
         return false;
@@ -107,7 +109,7 @@ fn is_heading<R: Print>(rt: &R, alloc: Global, last: &str, expected: &str) -> bo
     holds(rt, alloc, Reader::IsRead, text.as_str(), expected)
 }
 
-/// A variable that is twice in a long heading is found, wherever it is.
+/// A variable that occurs twice in a long heading is found at any place.
 const LAST_VARIABLES: &[Case] = &[
     ("?v5000_5000", "read"),
     ("?v0_0", "Syntax"),

@@ -26,7 +26,7 @@ fn append_text(
     list.push_str(text.as_str())
 }
 
-/// Prints the terminals of the text as `Kind text`, and what is left unread as `rest text`.
+/// Prints the terminals of the text as `Kind text`, and the unread rest as `rest text`.
 pub(crate) fn terminals(alloc: Global, text: &str) -> Result<String, AllocError> {
     let characters = characters_of(alloc, text)?;
     let scan = scan_text(alloc, &characters)?;
@@ -41,7 +41,7 @@ pub(crate) fn terminals(alloc: Global, text: &str) -> Result<String, AllocError>
     Ok(list)
 }
 
-/// Prints what an IRI or a string of this kind stands for.
+/// Prints the value of an IRI or a string of this kind.
 fn value(alloc: Global, kind: Kind, characters: &[char]) -> Result<String, AllocError> {
     let value = match kind {
         Kind::IriRef => iri_value(alloc, characters)?,
@@ -50,7 +50,7 @@ fn value(alloc: Global, kind: Kind, characters: &[char]) -> Result<String, Alloc
     format!(in alloc; "{kind:?} {value:?}")
 }
 
-/// Prints what each terminal of the text stands for. All of them are IRIs or strings.
+/// Prints the value of each terminal of the text. All of them are IRIs or strings.
 pub(crate) fn values(alloc: Global, text: &str) -> Result<String, AllocError> {
     let characters = characters_of(alloc, text)?;
     let scan = scan_text(alloc, &characters)?;
@@ -62,7 +62,7 @@ pub(crate) fn values(alloc: Global, text: &str) -> Result<String, AllocError> {
     Ok(list)
 }
 
-/// `<` starts an IRI if the text up to the next `>` is one, and else it is a comparison.
+/// `<` begins an IRI if the text up to the next `>` is one, and otherwise it is a comparison.
 const ANGLES: &[Case] = &[
     (
         "?a<=?b&&?c>=?d",
@@ -116,7 +116,8 @@ fn numbers(rt: HostRuntime) {
     assert!(rt; all_hold(&rt, rt.alloc(), Reader::Terminals, NUMBERS));
 }
 
-/// A word has all the letters that follow each other. A keyword may be in any case, but `a` is in lower case.
+/// A word is a longest run of letters. The case of a keyword does not matter, except that `a` is
+/// lower case.
 const WORDS: &[Case] = &[
     ("SELECTDISTINCT", "Word SELECTDISTINCT"),
     (
@@ -148,7 +149,8 @@ fn words(rt: HostRuntime) {
     assert!(rt; all_hold(&rt, rt.alloc(), Reader::Terminals, WORDS));
 }
 
-/// A name may contain dots, but not at its end. A local name may contain colons, a blank node label may not.
+/// A name may contain dots, but not at its end. A local name may contain colons, a blank node label
+/// may not.
 const NAMES: &[Case] = &[
     ("e:a.", "PrefixedName e:a, Sign(Dot) ."),
     ("e:a.b", "PrefixedName e:a.b"),
@@ -191,7 +193,7 @@ fn names(rt: HostRuntime) {
     assert!(rt; all_hold(&rt, rt.alloc(), Reader::Terminals, NAMES));
 }
 
-/// A long string that is never closed is read as an empty string and what follows it.
+/// A long string without its closing quotes is read as an empty string and further terminals.
 const STRINGS: &[Case] = &[
     ("'''abc'", "ShortString '', ShortString 'abc'"),
     ("'''((((", "ShortString '', rest '(((("),
@@ -216,7 +218,7 @@ fn strings(rt: HostRuntime) {
     assert!(rt; all_hold(&rt, rt.alloc(), Reader::Terminals, STRINGS));
 }
 
-/// A comment ends at LF, CR or the end of the text, and may be between brackets.
+/// A comment ends at LF, CR or the end of the text. It may occur between brackets.
 const BLANKS_AND_SIGNS: &[Case] = &[
     ("", ""),
     (" \t\r\n", ""),
@@ -238,8 +240,8 @@ fn blanks_and_signs(rt: HostRuntime) {
     assert!(rt; all_hold(&rt, rt.alloc(), Reader::Terminals, BLANKS_AND_SIGNS));
 }
 
-/// The ranges of PN_CHARS_BASE (SPARQL 1.1 Query Language, section 19.8): the character before each range,
-/// its ends, and the character after it.
+/// The ranges of [164] PN_CHARS_BASE (SPARQL 1.1 Query Language, section 19.8): the character
+/// before each range, its first and last, and the character after it.
 const LETTERS: &[(char, char, char, char)] = &[
     ('@', 'A', 'Z', '['),
     ('`', 'a', 'z', '{'),
@@ -266,7 +268,7 @@ fn letters_of_names_end_where_the_grammar_says(rt: HostRuntime) {
     }
 }
 
-/// A long run of name characters and dots before a colon is read as a short one is.
+/// A long run of name characters and dots before a colon is read in the same way as a short one.
 const RUNS: &[([&str; 5], [&str; 5])] = &[
     (
         ["", "a.", ":b", "", ""],
@@ -309,7 +311,8 @@ fn runs_before_a_colon(rt: HostRuntime) {
     }
 }
 
-/// An escape that is no character, or none that may be in an IRI, gives no value.
+/// An IRI or a string has no value if an escape denotes no character, or one that is not allowed in
+/// an IRI.
 const VALUES: &[Case] = &[
     ("<http://e/a>", "IriRef Some(http://e/a)"),
     ("<>", "IriRef Some()"),

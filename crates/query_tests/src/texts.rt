@@ -1,4 +1,4 @@
-//! The rules that a query must meet, by example.
+//! The rules for a query, by example.
 use crate::cases::{Case, Reader, Repeated, all_hold, are_repeated_as, holds, numbered};
 use crate::declarations::iri_of;
 use crate::productions::parsed;
@@ -15,7 +15,8 @@ mod queries;
 
 pub(crate) use queries::{query, verdict};
 
-/// Returns whether brackets are too deep, a prefix is undefined, and an IRI is relative.
+/// Returns whether brackets are too deep, whether a prefix is undefined, and whether an IRI is
+/// relative.
 fn checked(alloc: Global, text: &str) -> Result<(bool, bool, bool), AllocError> {
     let characters = characters_of(alloc, text)?;
     let scan = scan_text(alloc, &characters)?;
@@ -27,14 +28,14 @@ fn checked(alloc: Global, text: &str) -> Result<(bool, bool, bool), AllocError> 
     ))
 }
 
-/// Prints which rules of the terminals the text breaks.
+/// Prints the rules of the terminals that the text breaks.
 pub(crate) fn rules(alloc: Global, text: &str) -> Result<String, AllocError> {
     let (deep, undefined, relative) = checked(alloc, text)?;
     format!(in alloc; "deep {deep}, undefined {undefined}, relative {relative}")
 }
 
-/// At most 100 brackets may be open at once. A closing bracket of either kind closes one if one is open.
-/// Brackets in strings and IRIs do not count.
+/// At most 100 brackets may be open at once. A closing bracket of either kind closes one if one is
+/// open. Brackets in strings and IRIs do not count.
 const DEPTHS: &[Repeated] = &[
     (
         100,
@@ -98,7 +99,7 @@ fn depth_is_at_most_100(rt: HostRuntime) {
     assert!(rt; are_repeated_as(&rt, rt.alloc(), Reader::Rules, DEPTHS));
 }
 
-/// Each prefix needs a declaration, and each IRI a scheme.
+/// Each prefix must have a declaration, and each IRI a scheme.
 const NAMES_AND_IRIS: &[Case] = &[
     (
         "SELECT ?x { ?x e:p ?y }",
@@ -166,7 +167,7 @@ fn many_names(alloc: Global, last: &str) -> Result<String, AllocError> {
     format!(in alloc; "{declared} SELECT * {{ {used} ?s {last} ?o }}")
 }
 
-/// Whether the rules hold of many names and a last one as expected.
+/// Returns whether the rules for many names and a last one give the expected output.
 fn are_names<R: Print>(rt: &R, alloc: Global, last: &str, expected: &str) -> bool {
     let Ok(text) = many_names(alloc, last) else {
         return false;
@@ -174,7 +175,8 @@ fn are_names<R: Print>(rt: &R, alloc: Global, last: &str, expected: &str) -> boo
     holds(rt, alloc, Reader::Rules, text.as_str(), expected)
 }
 
-/// Each of many names finds the declaration of its prefix, and a name without one is found among them.
+/// Each of many names finds the declaration of its prefix, and a name without one is found among
+/// them.
 const LAST_NAMES: &[Case] = &[
     ("p2999:a", "deep false, undefined false, relative false"),
     ("p3000:a", "deep false, undefined true, relative false"),
@@ -197,7 +199,7 @@ pub(crate) fn declared(alloc: Global, prefix: &str) -> Result<String, AllocError
     iri_of(alloc, &names, prefix)
 }
 
-/// The last declaration of a prefix in the text holds.
+/// The last declaration of a prefix in the text counts.
 const DECLARED: &[Case] = &[("e", "c:"), ("f", "b:"), ("", "none")];
 
 #[test]
@@ -205,7 +207,7 @@ fn the_last_declaration_in_a_text_holds(rt: HostRuntime) {
     assert!(rt; all_hold(&rt, rt.alloc(), Reader::Declared, DECLARED));
 }
 
-/// Prints the variables that the text mentions.
+/// Prints the variables of the text, each time that one occurs.
 pub(crate) fn variables(alloc: Global, text: &str) -> Result<String, AllocError> {
     let characters = characters_of(alloc, text)?;
     let scan = scan_text(alloc, &characters)?;
@@ -213,7 +215,7 @@ pub(crate) fn variables(alloc: Global, text: &str) -> Result<String, AllocError>
     format!(in alloc; "{names:?}")
 }
 
-/// Each place counts, in the order of the text: in FILTER, MINUS and BIND too.
+/// Each occurrence counts, in the order of the text, also in FILTER, MINUS and BIND.
 const MENTIONED: &[Case] = &[("SELECT * { FILTER(?b = $a) ?a <p> ?b }", "[b, a, a, b]")];
 
 #[test]
@@ -221,14 +223,14 @@ fn variables_are_mentioned_at_each_place(rt: HostRuntime) {
     assert!(rt; all_hold(&rt, rt.alloc(), Reader::Variables, MENTIONED));
 }
 
-/// Prints which rules of scope the group breaks.
+/// Prints the rules of scope that the group breaks.
 fn group_scope(alloc: Global, group: &[Element]) -> Result<String, AllocError> {
     let bind = breaks_bind_scope(alloc, group)?;
     let blank = reuses_blank(alloc, group)?;
     format!(in alloc; "bind {bind}, blank {blank}")
 }
 
-/// Prints which rules of scope the query of the text breaks.
+/// Prints the rules of scope that the query of the text breaks.
 pub(crate) fn scope(alloc: Global, text: &str) -> Result<String, AllocError> {
     match parsed(alloc, text) {
         Ok(query) => group_scope(alloc, &query.group),
@@ -237,8 +239,8 @@ pub(crate) fn scope(alloc: Global, text: &str) -> Result<String, AllocError> {
     }
 }
 
-/// What precedes a BIND in its group counts, at any depth. What follows it, what is outside its group, and what
-/// is in FILTER or MINUS alone does not.
+/// The elements before a BIND in its group count, at any depth. The elements after it, those
+/// outside its group, and variables that occur only in FILTER or MINUS do not count.
 const BINDS: &[Case] = &[
     (
         "SELECT * { ?x <a:p> _:l BIND(?y AS ?x) }",
@@ -275,7 +277,7 @@ fn bind_is_to_a_variable_that_is_not_in_scope(rt: HostRuntime) {
     assert!(rt; all_hold(&rt, rt.alloc(), Reader::Scope, BINDS));
 }
 
-/// A basic graph pattern goes on after FILTER, and every other element ends it.
+/// A basic graph pattern continues after FILTER, and every other element ends it.
 const LABELS: &[Case] = &[
     (
         "SELECT * { ?x <a:p> _:l FILTER(?x) ?x <a:p> _:l }",

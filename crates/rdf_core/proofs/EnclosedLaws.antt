@@ -1,4 +1,4 @@
--- What stands inside delimiters is read exactly where it stands.
+-- Reading a delimited text finds its parts if and only if the text is made of them.
 use Rattle.std.proofs.Common.{◌≡◌, ◌≢◌, ℕ, zero, suc, Bool, true, false, eqb, List, [], ◌∷◌, ◌++◌, length, drop, Option, Some, None, refl, sym, ap, subst, ◌∙◌, append_assoc, append-nil, inl, inr, not}
 use Rattle.std.specs.Str.{encode_utf8_all}
 use Rattle.std.proofs.lemmas.Bool.{eqb-true, eqb-false}
@@ -12,12 +12,12 @@ use Rattle.rdf_core.proofs.EscapeSteps.{which, eqb_no, eqb_yes}
 use Rattle.rdf_core.proofs.EnclosedSteps.{at_raw, at_escape}
 use Rattle.rdf_core.proofs.EscapeLaws.{escape_takes, iri_again, quoted_again, any_again, none_some}
 
--- the closing sign, if there is one, and what follows it
+-- the closing delimiter, if there is one, and the text after it
 abbrev pub closing : Option ℕ → List ℕ → List ℕ
 closing None rest = rest
 closing (Some close) rest = close ∷ rest
 
--- ---- what is read stands there
+-- ---- soundness: the characters that are read are written in the text
 
 pub record TookParts (k : Inside) (cl : Option ℕ) (cs v rest : List ℕ) : Type 0 where
   pub body : List ℕ
@@ -82,9 +82,9 @@ parts_take k cl zero (c ∷ cs) v rest e =
       ]
     ]
 
--- ---- what stands there is read
+-- ---- completeness: the characters that are written in the text are read
 
--- the closing sign, if there is one, can't be taken for a part
+-- no part begins with the closing delimiter, if there is one
 abbrev pub IsApart : Inside → Option ℕ → Type 0
 IsApart k None = Unit {0}
 IsApart k (Some close) = (is_raw k close ≡ false) × (92 ≢ close)
@@ -147,7 +147,7 @@ parts_again k cl (c ∷ v) b rest a w h =
     let whole : b ++ closing cl rest ≡ one ++ (more ++ closing cl rest) = ap (λ (y : List ℕ). y ++ closing cl rest) h.2 ∙ append_assoc one more (closing cl rest) in
     ap (parts_at k cl 0) whole ∙ part_again k cl one c (more ++ closing cl rest) a h.3 ∙ ap (with_char c) (parts_again k cl v more rest a w h.4)
 
--- ---- up to a closing sign, and up to the end
+-- ---- the delimiters of an IRI and of a string, and texts without a delimiter
 
 pub iri_apart : IsApart Iri (Some 62)
 iri_apart = (refl, λ e. eqb-false 92 62 refl e)

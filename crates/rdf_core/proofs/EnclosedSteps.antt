@@ -1,4 +1,4 @@
--- What stands inside delimiters, as the code reads it.
+-- The steps of the loop that reads a delimited text.
 use Rattle.std.proofs.Common.{◌≡◌, ℕ, zero, suc, true, false, List, [], ◌∷◌, ◌++◌, drop, Option, Some, None, refl, sym, ap, ◌∙◌, append_assoc, append-nil, subst}
 use Rattle.std.specs.Char.{encode_utf8}
 use Rattle.std.specs.Str.{IsUtf8, chars, encode_utf8_all}
@@ -6,7 +6,7 @@ use Rattle.rdf_core.specs.declared.lexical.escapes.Inside.{Inside}
 use Rattle.rdf_core.specs.LexicalReading.{Finds, escape_at, is_close, is_raw, with_char, at_text_end, parts_at, with_bytes}
 use Rattle.rdf_core.proofs.EscapeSteps.{eqb_no, eqb_yes}
 
--- value has the bytes of what was read of all, and rest is left
+-- value holds the bytes of the characters read from all, and rest is the text that is not read yet
 pub record HasRead (k : Inside) (cl : Option ℕ) (value rest all : List ℕ) : Type 0 where
   pub utf8 : IsUtf8 rest
   pub left : with_bytes value (parts_at k cl 0 (chars rest)) ≡ with_bytes [] (parts_at k cl 0 (chars all))
@@ -21,7 +21,7 @@ pub push_char : (front : List ℕ) (c : ℕ) (read : Option (List ℕ × List �
 push_char front c None = refl
 push_char front c (Some x) = ap (λ (t : List ℕ). Some (t, x.1)) (sym (append_assoc front (encode_utf8 c) (encode_utf8_all x.0)))
 
--- ---- the steps: what is read at a text that begins with c
+-- ---- the steps: what is read from a text that begins with c
 
 pub at_end : (k : Inside) (cl : Option ℕ) (cs : List ℕ) → cs ≡ [] → parts_at k cl 0 cs ≡ at_text_end cl
 unfolding parts_at
@@ -47,7 +47,7 @@ pub at_wrong_escape : (k : Inside) (cl : Option ℕ) (c : ℕ) (cs ds : List ℕ
 unfolding parts_at
 at_wrong_escape k cl c cs ds e a b r = rw (e, a, eqb_yes c 92 b, r) refl
 
--- ---- a turn of the loop
+-- ---- one iteration of the loop
 
 pub stops : (k : Inside) (cl : Option ℕ) (value rest all : List ℕ) → HasRead k cl value rest all → parts_at k cl 0 (chars rest) ≡ None → with_bytes [] (parts_at k cl 0 (chars all)) ≡ None
 stops k cl value rest all h e = sym h.left ∙ ap (with_bytes value) e
@@ -59,7 +59,7 @@ pub goes_on : (k : Inside) (cl : Option ℕ) (value rest all : List ℕ) (c : �
 goes_on k cl value rest all c next value' h e v u =
     record { utf8 = u; left = rw v (sym (push_char value c (parts_at k cl 0 (chars next))) ∙ sym (ap (with_bytes value) e) ∙ h.left) }
 
--- the text ends where a closing sign was to come, or where none was
+-- the text ends, and the closing delimiter is missing or the kind of text has none
 pub no_close : (k : Inside) (cl : Option ℕ) (d : ℕ) (value rest all : List ℕ) → cl ≡ Some d → HasRead k cl value rest all → chars rest ≡ [] → with_bytes [] (parts_at k cl 0 (chars all)) ≡ None
 no_close k cl d value rest all s h e = stops k cl value rest all h (at_end k cl (chars rest) e ∙ ap at_text_end s)
 
@@ -67,7 +67,7 @@ pub all_read : (k : Inside) (cl : Option ℕ) (value rest all : List ℕ) → cl
 all_read k cl value rest all s h e =
     closes k cl value rest all [] h (at_end k cl (chars rest) e ∙ ap at_text_end s) ∙ ap (λ (t : List ℕ). Some (value, t)) (sym e)
 
--- ---- what was found, where a match tells which
+-- ---- the result, by its variant
 
 pub found_some : {X Y : Type 0} (view : X → Y) (found : Option X) (x : X) (read : Option Y) → found ≡ Some x → Finds view found read → read ≡ Some (view x)
 found_some {X} view found x read e h = subst (λ (y : Option X). Finds view y read) e h

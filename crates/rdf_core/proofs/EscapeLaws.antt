@@ -1,4 +1,4 @@
--- An escape is read exactly where one stands.
+-- Reading an escape finds it if and only if the text begins with one.
 use Rattle.std.proofs.Common.{◌≡◌, ℕ, zero, suc, ◌+◌, ◌*◌, Bool, true, false, cond, eqb, List, [], ◌∷◌, ◌++◌, length, Option, Some, None, refl, sym, ap, ◌∙◌, arith, inl, inr, ◌⊎◌, subst}
 use Rattle.std.specs.Prelude.{◌&&◌}
 use Rattle.std.specs.Char.{digit_value, IsScalar}
@@ -50,7 +50,7 @@ some_pair_n a b c d e = some_pair_parts a b c d e
 scalar_some : (n : ℕ) (x : ℕ × List ℕ) (m k : ℕ) → cond {A = Option (ℕ × ℕ)} (scalar x.0) (Some (x.0, n + 1)) None ≡ Some (m, k) → IsScalar x.0 × (x.0 ≡ m) × (n + 1 ≡ k)
 scalar_some n x m k e = let g = cond_is {A = ℕ × ℕ} (scalar x.0) (Some (x.0, n + 1)) (m, k) e in let p = some_pair_n x.0 m (n + 1) k g.1 in (g.0, p.0, p.1)
 
--- what stands behind the backslash
+-- the text after the backslash
 pub record TookEscape (Part : List ℕ → ℕ → Type 0) (cs : List ℕ) (m n : ℕ) : Type 0 where
   pub word : List ℕ
   pub rest : List ℕ
@@ -100,7 +100,7 @@ uchar_again word c t h =
       | inr k ↦ rw (w, k.0, k.1) (scalar_is 8 c c t (hex_at 8 0 (h.digits ++ t)) (rw k.1 at digits) h.scalar refl)
     ]
 
--- ---- escapes of a kind
+-- ---- the escapes of each kind of text
 
 iri_keep : (cs : List ℕ) (m n : ℕ) (read : Option (ℕ × ℕ)) → read ≡ uchar_at cs → keep_iri_char read ≡ Some (m, n) → (is_iri_char m ≡ true) × (read ≡ Some (m, n))
 iri_keep cs m n None r e = absurd cc
@@ -109,7 +109,7 @@ iri_keep cs m n (Some x) r e =
     let same = same_Some x (m, n) g.1 in
     (subst (λ (y : ℕ × ℕ). is_iri_char y.0 ≡ true) same g.0, g.1)
 
--- what an escape of a string means
+-- the character that an escape of a string denotes
 abbrev pub IsEscape : List ℕ → ℕ → Type 0
 IsEscape text c = IsEchar text c ⊎ IsUchar text c
 
@@ -143,7 +143,7 @@ pub iri_again : (word : List ℕ) (c : ℕ) (t : List ℕ) → is_iri_char c ≡
 unfolding escape_at
 iri_again word c t h u = rw (uchar_again word c t u, h) refl
 
--- u and U are no letters of the short escapes
+-- u and U are not letters of an ECHAR
 pub string_again : (word : List ℕ) (c : ℕ) (t : List ℕ) → IsEscape (92 ∷ word) c → string_escape_at (word ++ t) ≡ Some (c, length word)
 unfolding string_escape_at
 string_again word c t (inr h) =

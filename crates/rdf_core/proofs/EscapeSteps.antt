@@ -1,4 +1,4 @@
--- Escapes, as the code reads them.
+-- The steps of the functions that read escapes.
 use Rattle.std.proofs.Common.{◌≡◌, ℕ, zero, suc, ◌+◌, ◌*◌, Bool, true, false, cond, eqb, List, [], ◌∷◌, drop, Option, Some, None, MatchOption, refl, sym, ◌∙◌, add-one, eq-eqb, ◌⊎◌, inl, inr}
 use Rattle.std.specs.Char.{digit_value, IsScalar}
 use Rattle.std.specs.Str.{IsUtf8, chars}
@@ -74,7 +74,7 @@ pub option_weaker : {X P P' : Type 0} {Q Q' : X → Type 0} (o : Option X) → M
 option_weaker None h f g = f h
 option_weaker (Some x) h f g = g x h
 
--- one character further back
+-- the same escape, read from one character earlier
 pub names_behind : (read : Option (ℕ × ℕ)) (text behind : List ℕ) (letter c n : ℕ) (rest : List ℕ) → chars text ≡ letter ∷ chars behind → read ≡ Some (c, n + 1) → chars rest ≡ drop n (chars behind) → IsUtf8 rest → NamesChar read text c rest
 names_behind read text behind letter c n rest e is left u = record { skipped = n + 1; is = is; left = rw (e, add-one) left; utf8 = u }
 

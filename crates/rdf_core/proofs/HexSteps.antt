@@ -1,4 +1,4 @@
--- Hexadecimal digits, read one after the other.
+-- The loop that reads hexadecimal digits.
 use Rattle.std.proofs.Common.{◌≡◌, ℕ, suc, ◌+◌, ◌-◌, ◌*◌, ◌^◌, ◌<◌, ◌≤◌, true, false, ltb, List, [], ◌∷◌, Option, Some, None, refl, sym, ◌∙◌, arith, lit<, inl, inr}
 use Rattle.std.proofs.Math.Nat.{pow-le-pow_right}
 use Rattle.std.proofs.lemmas.Grind.{pow_more}
@@ -7,13 +7,14 @@ use Rattle.std.specs.Char.{digit_value}
 use Rattle.std.specs.Str.{IsUtf8, chars}
 use Rattle.rdf_core.specs.LexicalReading.{hex_at}
 
--- After i of count digits of all, rest is left, and value is that of those read.
+-- The first i of count digits of all are read, value is their value, and rest is the text after
+-- them.
 pub record HasRead (count i value : ℕ) (rest all : List ℕ) : Type 0 where
   pub utf8 : IsUtf8 rest
   pub left : hex_at (count - i) value (chars rest) ≡ hex_at count 0 (chars all)
   pub fits : value < 16 ^ i
 
--- one more digit fits 32 bits
+-- the value with one more digit fits in 32 bits
 pub one_more_fits : (i v d : ℕ) → i < 8 → v < 16 ^ i → d < 16 → v * 16 + d < 16 ^ (i + 1)
 one_more_fits i v d l h k = rw (pow_more 16 i) (omega arith)
 

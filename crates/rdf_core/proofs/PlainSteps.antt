@@ -1,4 +1,4 @@
--- A run of raw bytes is the text that its characters write.
+-- A run of unescaped bytes writes the characters that it encodes.
 use Rattle.std.proofs.Common.{◌≡◌, ℕ, ◌+◌, ◌-◌, ◌<◌, ◌≤◌, Bool, true, eqb, List, [], ◌∷◌, ◌++◌, length, take, drop, get_or, refl, sym, ap, subst, ◌∙◌, arith, inl, inr, not}
 use Rattle.std.specs.List.{list_all, slice_range}
 use Rattle.std.specs.Char.{encode_utf8}
@@ -16,7 +16,7 @@ use Rattle.rdf_core.proofs.EscapeSteps.{eqb_no}
 use Rattle.rdf_core.proofs.EscapeLaws.{and_parts}
 use Rattle.rdf_core.proofs.EnclosedLaws.{raw_part}
 
--- a character above 127 may stand raw anywhere
+-- a character above 127 may occur unescaped in every kind of text
 high_iri : (c : ℕ) → 128 ≤ c → is_iri_char c ≡ true
 high_iri c h = grind (arith, nat_tests)
 
@@ -42,7 +42,7 @@ first_raw k c rest h =
       | inr l ↦ high_raw k c l
     ]
 
--- raw bytes are the bytes of raw characters, which write themselves
+-- unescaped bytes encode unescaped characters, each of which writes itself
 pub raw_writes : (k : Inside) (cs : List ℕ) → list_all (is_raw k) (encode_utf8_all cs) ≡ true → Writes (IsPart k) cs cs
 raw_writes k [] h = refl
 raw_writes k (c ∷ cs) h =
@@ -59,7 +59,7 @@ plain_enclosed k close text front rest l h =
       written = record { chars = chars front; writes = raw_writes k (chars front) (subst (λ (y : List ℕ). list_all (is_raw k) y ≡ true) (sym bytes) h.raw); utf8 = sym bytes };
     }
 
--- ---- where a run of raw bytes ends
+-- ---- the end of a run of unescaped bytes
 
 pub plain_at : (k : Inside) (close : ℕ) (text : List ℕ) (end : ℕ) → IsUtf8 text → end < length text → close < 128 → get_or text end 0 ≡ close → list_all (is_raw k) (take end text) ≡ true → IsPlain k close text (take end text) (drop (end + 1) text)
 plain_at k close text end u l low e raw =

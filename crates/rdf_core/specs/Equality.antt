@@ -1,5 +1,5 @@
--- The equality and the order of terms that `==` and `cmp` compute, as `Term` derives them. The laws
--- `equality_is_identity` and `order_is_by_parts` say what they mean.
+-- The equality and the order that `Term` derives: the functions that `==` and `cmp` compute. The
+-- laws `equality_is_identity` and `order_is_by_parts` state what they are.
 use Rattle.std.specs.Prelude.{Bool}
 use Rattle.std.specs.declared.cmp.Ordering.{Ordering}
 use Rattle.rdf_core.specs.declared.term.Term.{Term}

@@ -1,5 +1,6 @@
--- How the characters of an IRI or a string may be written inside their delimiters, raw or as escapes
--- (RDF 1.1 N-Quads, grammar; SPARQL 1.1 Query Language, sections 19.2, 19.7 and 19.8). A text is a list of characters.
+-- How the characters of an IRI or a string are written between their delimiters, unescaped or as
+-- escapes (RDF 1.1 N-Quads, section 4; SPARQL 1.1 Query Language, sections 19.2, 19.7 and 19.8). A
+-- text is a list of characters. HEX is [172] HEX of SPARQL and [162s] HEX of N-Quads.
 use Rattle.std.specs.Prelude.{◌≡◌, ◌≢◌, ℕ, true, ◌⊎◌, List, [], ◌∷◌, ◌++◌, length, Some}
 use Rattle.std.specs.Char.{IsScalar}
 use Rattle.std.specs.Str.{encode_utf8_all}
@@ -7,7 +8,8 @@ use Rattle.rdf_core.specs.declared.lexical.escapes.Inside.{Inside}
 use Rattle.rdf_core.specs.declared.lexical.escapes.Inside.TheVariants.{Iri, Quoted, Any}
 use Rattle.rdf_core.specs.Characters.{is_iri_char, is_string_char, echar, is_hex, hex_from, all_pass}
 
--- UCHAR ::= '\u' HEX HEX HEX HEX | '\U' HEX HEX HEX HEX HEX HEX HEX HEX, which names the scalar value c
+-- N-Quads [12] UCHAR ::= '\u' HEX HEX HEX HEX | '\U' HEX HEX HEX HEX HEX HEX HEX HEX
+-- The digits are the number of the Unicode scalar value c.
 pub record IsUchar (text : List ℕ) (c : ℕ) : Type 0 where
   pub letter : ℕ
   pub digits : List ℕ
@@ -17,13 +19,14 @@ pub record IsUchar (text : List ℕ) (c : ℕ) : Type 0 where
   pub names : hex_from 0 digits ≡ c
   pub scalar : IsScalar c
 
--- ECHAR ::= '\' [tbnrf"'\]
+-- [160] ECHAR ::= '\' [tbnrf"'\] (N-Quads [153s])
 pub record IsEchar (text : List ℕ) (c : ℕ) : Type 0 where
   pub letter : ℕ
   pub parts : text ≡ 92 ∷ letter ∷ []
   pub names : echar letter ≡ Some c
 
--- one character of an IRI; an escape names no character either that may not stand raw (our own rule)
+-- One character of an IRI. An escape may denote only a character that may occur unescaped (a choice
+-- of this project, not fixed by the standard).
 abbrev pub IsIriPart : List ℕ → ℕ → Type 0
 IsIriPart text c = (is_iri_char c ≡ true) × ((text ≡ c ∷ []) ⊎ IsUchar text c)
 
@@ -31,7 +34,8 @@ IsIriPart text c = (is_iri_char c ≡ true) × ((text ≡ c ∷ []) ⊎ IsUchar 
 abbrev pub IsStringPart : List ℕ → ℕ → Type 0
 IsStringPart text c = ((is_string_char c ≡ true) × (text ≡ c ∷ [])) ⊎ (IsEchar text c ⊎ IsUchar text c)
 
--- one character of any string, whatever its quotes let stand raw
+-- one character of any string; which characters may occur unescaped between its quotes is not
+-- checked
 abbrev pub IsAnyPart : List ℕ → ℕ → Type 0
 IsAnyPart text c = ((c ≢ 92) × (text ≡ c ∷ [])) ⊎ (IsEchar text c ⊎ IsUchar text c)
 
@@ -40,18 +44,18 @@ IsPart Iri = IsIriPart
 IsPart Quoted = IsStringPart
 IsPart Any = IsAnyPart
 
--- the text writes these characters, one after the other
+-- the text writes these characters, in this order
 abbrev pub Writes : (List ℕ → ℕ → Type 0) → List ℕ → List ℕ → Type 0
 Writes Part text [] = text ≡ []
 Writes Part text (c ∷ cs) = (one : List ℕ) × (rest : List ℕ) × (text ≡ one ++ rest) × Part one c × Writes Part rest cs
 
--- the bytes in UTF-8 of the characters that the text writes
+-- the UTF-8 bytes of the characters that the text writes
 pub record IsWritten (part : List ℕ → ℕ → Type 0) (text bytes : List ℕ) : Type 0 where
   pub chars : List ℕ
   pub writes : Writes part text chars
   pub utf8 : bytes ≡ encode_utf8_all chars
 
--- the text begins with parts up to this closing sign, and `rest` follows it
+-- the text is a list of parts, the closing delimiter, and `rest`
 pub record IsEnclosed (part : List ℕ → ℕ → Type 0) (close : ℕ) (text bytes rest : List ℕ) : Type 0 where
   pub body : List ℕ
   pub parts : text ≡ body ++ close ∷ rest

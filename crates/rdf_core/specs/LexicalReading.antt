@@ -1,6 +1,7 @@
--- The parts of an IRI or a string read from left to right. In N-Quads what is promised stands in Escapes, and
--- only private clauses cite these words; sparql_lexer says the values of its IRIs and strings by them (Values).
--- None: no such thing stands there.
+-- Reads the parts of an IRI or a string from left to right. None means that there is no part or
+-- closing delimiter at the place where one must be. The contracts for N-Quads use Escapes, and only
+-- private clauses use these definitions. In sparql_lexer, Values defines the values of IRIs and
+-- strings with them.
 use Rattle.std.specs.Prelude.{◌≡◌, ℕ, zero, suc, ◌+◌, ◌*◌, Bool, true, false, not, List, [], ◌∷◌, ◌++◌, drop, Option, Some, None, option_and_then, ◌==◌, if◌then◌else◌}
 use Rattle.std.specs.Char.{digit_value}
 use Rattle.std.specs.Str.{IsUtf8, chars, encode_utf8_all}
@@ -10,23 +11,24 @@ use Rattle.rdf_core.specs.declared.lexical.escapes.Inside.{Inside}
 use Rattle.rdf_core.specs.declared.lexical.escapes.Inside.TheVariants.{Iri, Quoted, Any}
 use Rattle.rdf_core.specs.Characters.{is_iri_char, is_string_char, echar, is_hex}
 
--- What a function found, seen by view, is what reading gives.
+-- The result of a function, mapped by view, is the result of the definition.
 abbrev pub Finds : {X Y : Type 0} → (X → Y) → Option X → Option Y → Type 0
 Finds view None read = read ≡ None
 Finds view (Some x) read = read ≡ Some (view x)
 
--- the value of n hexadecimal digits behind others of the value v, and what follows them
+-- the value of n hexadecimal digits after digits of the value v, and the text after them
 unfoldable pub hex_at : ℕ → ℕ → List ℕ → Option (ℕ × List ℕ)
 hex_at zero v cs = Some (v, cs)
 hex_at (suc n) v [] = None
 hex_at (suc n) v (c ∷ cs) = if is_hex c then hex_at n (v * 16 + digit_value c) cs else None
 
--- the character of n digits, and how many characters these and the letter before them are
+-- the character of n digits, and the number of characters of the digits and the letter before them
 abbrev pub scalar_of : ℕ → Option (ℕ × List ℕ) → Option (ℕ × ℕ)
 scalar_of n None = None
 scalar_of n (Some x) = if scalar x.0 then Some (x.0, n + 1) else None
 
--- behind a backslash: the character that is meant, and how many characters spell it there
+-- [12] UCHAR of N-Quads after its backslash: the character that it denotes, and the number of
+-- characters after the backslash
 unfoldable pub uchar_at : List ℕ → Option (ℕ × ℕ)
 uchar_at [] = None
 uchar_at (u ∷ cs) = if u == 117 then scalar_of 4 (hex_at 4 0 cs) else if u == 85 then scalar_of 8 (hex_at 8 0 cs) else None
@@ -48,7 +50,7 @@ escape_at Iri cs = keep_iri_char (uchar_at cs)
 escape_at Quoted cs = string_escape_at cs
 escape_at Any cs = string_escape_at cs
 
--- read says that c is meant, and what follows it in the text is rest
+-- read returns the character c, and rest is the text after the escape
 pub record NamesChar (read : Option (ℕ × ℕ)) (text : List ℕ) (c : ℕ) (rest : List ℕ) : Type 0 where
   pub skipped : ℕ
   pub is : read ≡ Some (c, skipped)
@@ -64,7 +66,8 @@ abbrev pub is_close : Option ℕ → ℕ → Bool
 is_close None c = false
 is_close (Some close) c = c == close
 
--- at the end of the text: nothing more is read where there is no closing sign
+-- the result at the end of the text: no characters if there is no closing delimiter, and otherwise
+-- None
 abbrev pub at_text_end : Option ℕ → Option (List ℕ × List ℕ)
 at_text_end None = Some ([], [])
 at_text_end (Some close) = None
@@ -73,8 +76,8 @@ abbrev pub with_char : ℕ → Option (List ℕ × List ℕ) → Option (List �
 with_char c None = None
 with_char c (Some x) = Some (c ∷ x.0, x.1)
 
--- the characters up to the closing sign, or up to the end where there is none, and what follows;
--- `skipped` more characters are already read
+-- The characters up to the closing delimiter, or up to the end if there is none, and the text after
+-- them. The next `skipped` characters of the text are already read.
 unfoldable pub parts_at : Inside → Option ℕ → ℕ → List ℕ → Option (List ℕ × List ℕ)
 parts_at k close skipped [] = at_text_end close
 parts_at k close (suc n) (c ∷ cs) = parts_at k close n cs
@@ -83,12 +86,12 @@ parts_at k close zero (c ∷ cs) =
     else if c == 92 then option_and_then (λ e. with_char e.0 (parts_at k close e.1 cs)) (escape_at k cs)
     else if is_raw k c then with_char c (parts_at k close 0 cs) else None
 
--- the bytes of what was read before, and of these characters
+-- the bytes that were read before, followed by the bytes of these characters
 abbrev pub with_bytes : List ℕ → Option (List ℕ × List ℕ) → Option (List ℕ × List ℕ)
 with_bytes front None = None
 with_bytes front (Some x) = Some (front ++ encode_utf8_all x.0, x.1)
 
--- the text begins with this front of raw bytes, and then with the closing sign
+-- the text begins with unescaped bytes, `front`, and the closing delimiter follows them
 pub record IsPlain (k : Inside) (close : ℕ) (text front rest : List ℕ) : Type 0 where
   pub parts : text ≡ front ++ close ∷ rest
   pub front_utf8 : IsUtf8 front

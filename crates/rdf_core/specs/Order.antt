@@ -1,5 +1,7 @@
--- The order of terms: blank nodes, then IRIs, then literals; among each by the UTF-8 bytes of the
--- label, of the text, or of lexical form, datatype and tag, where no tag comes first. (Our own.)
+-- The order of terms: blank nodes, then IRIs, then literals. Blank nodes are ordered by the UTF-8
+-- bytes of their labels, and IRIs by those of their texts. Literals are ordered by lexical form,
+-- then datatype, then tag; no tag is before any tag. (A choice of this project, not fixed by the
+-- standard.)
 use Rattle.std.specs.Prelude.{ℕ, List, Option, Some, None}
 use Rattle.std.specs.Ordering.{nat_cmp, ordering_then}
 use Rattle.std.specs.Cmp.Lexicographic.{slice_cmp}

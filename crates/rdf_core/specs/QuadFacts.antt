@@ -1,5 +1,5 @@
--- Which terms may stand where in a quad (RDF 1.1 Concepts, sections 3.1 and 4): a subject and a
--- graph name are IRIs or blank nodes, a predicate is an IRI.
+-- The terms that each position of a quad allows (RDF 1.1 Concepts, sections 3.1 and 4). A subject
+-- or graph name is an IRI or a blank node. A predicate is an IRI.
 use Rattle.std.specs.Prelude.{Bool, true, false, Option, Some, None}
 use Rattle.rdf_core.specs.declared.term.Term.{Term}
 use Rattle.rdf_core.specs.declared.term.Term.TheVariants.{Blank, Iri, Literal}

@@ -1,5 +1,5 @@
--- The four terms of a quad (RDF 1.1 Concepts, sections 3.1 and 4), without the facts that a Quad
--- holds of them: definitions make these freely.
+-- The four terms of a quad (RDF 1.1 Concepts, sections 3.1 and 4), without the invariant of `Quad`.
+-- A definition can build one from any terms.
 use Rattle.std.specs.Prelude.{Option}
 use Rattle.rdf_core.specs.declared.term.Term.{Term}
 use Rattle.rdf_core.specs.declared.quad.Quad.{Quad}

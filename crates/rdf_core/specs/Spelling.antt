@@ -1,7 +1,7 @@
--- How a term is written (RDF 1.1 N-Quads, grammar): a blank node as `_:` and its label, an IRI in
--- angle brackets, a literal in double quotes with its tag, or with its datatype where that is not
--- xsd:string. In a literal only the quote, the backslash, LF and CR are escaped. (The choice of
--- escapes is our own.)
+-- The N-Quads form of a term (RDF 1.1 N-Quads, section 4). A blank node is `_:` and its label. An
+-- IRI is in angle brackets. A literal is in double quotes; its tag follows, or its datatype if that
+-- is not xsd:string. In a literal only the quote, the backslash, LF and CR are escaped. (Which
+-- characters are escaped is a choice of this project, not fixed by the standard.)
 use Rattle.std.specs.Prelude.{ℕ, List, [], ◌∷◌, ◌++◌, ◌==◌, if◌then◌else◌, Option, Some, None, codes}
 use Rattle.std.specs.List.{flat_map}
 use Rattle.std.specs.Str.{bytes_eq}
@@ -21,7 +21,7 @@ escaped b =
     if b == 34 then codes "\\\"" else if b == 92 then codes "\\\\"
     else if b == 10 then codes "\\n" else if b == 13 then codes "\\r" else b ∷ []
 
--- what stands behind the closing quote
+-- the text after the closing quote
 abbrev pub suffix : List ℕ → Option (List ℕ) → List ℕ
 suffix datatype (Some tag) = codes "@" ++ tag
 suffix datatype None =

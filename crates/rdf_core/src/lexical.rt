@@ -1,9 +1,10 @@
-//! Lexical forms that N-Quads and SPARQL share (RDF 1.1 N-Quads, grammar; SPARQL 1.1 Query Language,
-//! section 19.8): classes of characters, what stands inside angle brackets and quotes with its
+//! Lexical forms that N-Quads and SPARQL share (RDF 1.1 N-Quads, section 4; SPARQL 1.1 Query
+//! Language, section 19.8): character classes, the text between angle brackets or quotes with its
 //! escapes, language tags, and the scheme of an IRI.
 //!
-//! A terminal may be read in one go ([`read_iri_ref`], [`read_quoted`]), or cut first and decoded
-//! afterwards ([`unescape_iri`], [`unescape_string`]).
+//! [`read_iri_ref`] and [`read_quoted`] find the end of a terminal and decode it in one call.
+//! [`unescape_iri`] and [`unescape_string`] decode a terminal that the caller has already
+//! delimited.
 
 mod characters;
 mod enclosed;

@@ -1,20 +1,24 @@
-//! RDF terms and quads: what every other crate speaks of.
+//! RDF terms and quads, which most other crates use.
 //!
-//! A [`Term`] is a blank node, an IRI or a literal over [`Text`], which a contract sees as its
-//! bytes in UTF-8. So in a clause two terms are equal (`≡`) exactly where all their parts are, and
-//! there is no second model of a term. The comparisons, the order and the hash of terms are lawful:
-//! `==` decides `≡`, and `cmp` is the order `term_cmp` of specs/Order.antt ([`laws`]).
+//! A [`Term`] is a blank node, an IRI or a literal. Its texts are of the type [`Text`], which a
+//! contract views as UTF-8 bytes. Two terms in a clause are therefore equal (`≡`) if and only if
+//! all their parts are equal, and there is no second model of a term. `==` decides `≡`, and `cmp`
+//! is the order `term_cmp` of specs/Order.antt ([`laws`]).
 //!
-//! A [`Quad`] holds the fact that its subject and graph name are no literals and that its predicate
-//! is an IRI. [`write_term`] appends a term's spelling, which N-Quads reads back as the same term.
+//! A [`Quad`] is a statement with an invariant: the subject and the graph name are not literals,
+//! and the predicate is an IRI. [`write_term`] appends the N-Quads form of a term. The form of a
+//! term that was read round-trips: the N-Quads reader of nquads_core returns the same term.
 //!
-//! Standard: RDF 1.1 Concepts and Abstract Syntax, sections 3 to 5; RDF 1.1 N-Quads, grammar.
+//! Standards: RDF 1.1 Concepts and Abstract Syntax, sections 3 to 5; RDF 1.1 N-Quads, section 4;
+//! SPARQL 1.1 Query Language, section 19.8, for the shared lexical forms.
 //!
-//! To read in this order: `vocabulary` (IRIs of the standards), `text`, `term`, `quad`, `spelling`,
-//! `laws`, `lexical` (the forms inside the grammars of N-Quads and SPARQL).
+//! Reading order: `vocabulary` (IRIs of the standards), `text`, `term`, `quad`, `spelling` (the
+//! N-Quads form of a term), `laws`, `lexical` (the lexical forms that N-Quads and SPARQL share).
 //!
-//! Not promised: that an IRI is well-formed beyond what a reader checks, or that a blank node's
-//! label can be written; a term may be made of any texts.
+//! Tests: `terms` and `lexical` of the crate line_tests.
+//!
+//! Not guaranteed: that an IRI is well-formed beyond what a reader checks, or that a blank node
+//! label is valid in N-Quads. A term can be made of any texts.
 #![tactic(auto)]
 
 pub mod laws;

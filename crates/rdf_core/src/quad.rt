@@ -5,10 +5,11 @@ ghost use Rattle.rdf_core.specs.QuadFacts.{is_node, is_iri, is_graph_name};
 use crate::term::Term;
 use std::alloc::{AllocError, Global};
 
-/// A statement: subject, predicate, object, and perhaps the name of the graph that it stands in.
+/// A statement: subject, predicate, object, and the name of its graph unless it is in the default
+/// graph.
 ///
-/// Every value of the type holds the facts that subject and graph name are no literals and that the
-/// predicate is an IRI (RDF 1.1 Concepts, sections 3.1 and 4).
+/// Every value of the type satisfies an invariant: the subject and the graph name are not literals,
+/// and the predicate is an IRI (RDF 1.1 Concepts, sections 3.1 and 4).
 #[derive(Debug, Drop, PartialEq, Eq, PartialOrd, Ord, Hash)]
 pub struct Quad {
     /// The subject.
@@ -17,7 +18,7 @@ pub struct Quad {
     pub p: Term,
     /// The object.
     pub o: Term,
-    /// The graph name, None for the default graph.
+    /// The graph name, or None for the default graph.
     pub g: Option<Term>,
     pub ghost subject: { is_node s ≡ true },
     pub ghost predicate: { is_iri p ≡ true },
@@ -25,8 +26,8 @@ pub struct Quad {
 }
 
 impl Quad {
-    /// The quad of these terms, where they may make one; None, with the terms dropped, where the
-    /// subject or the graph name is a literal or the predicate is no IRI.
+    /// Returns the quad of these terms. Returns None and drops the terms if the subject or the
+    /// graph name is a literal, or if the predicate is not an IRI.
     pub fn of(s: Term, p: Term, o: Term, g: Option<Term>) -> Option<Quad>
         ensures quad { MatchOption result
             (((is_node s ≡ true) × (is_iri p ≡ true) × (is_graph_name g ≡ true)) → ⊥)
@@ -43,10 +44,10 @@ impl Quad {
         Some(Quad { s, p, o, g })
     }
 
-    /// An equal quad, with texts of its own.
+    /// Returns an equal quad that owns its texts.
     ///
     /// # Errors
-    /// `AllocError`: a growth was refused. The quad itself is unchanged.
+    /// `AllocError` if an allocation fails. The quad is unchanged.
     pub fn copy(&self, alloc: Global) -> Result<Quad, AllocError>
         ensures equal { IfOk result (λ q. q ≡ self.now) }
     {
@@ -61,14 +62,14 @@ impl Quad {
     }
 }
 
-/// Whether a term may stand as a subject or a graph name: it is no literal.
+/// Returns whether a term may be a subject or a graph name, that is, whether it is not a literal.
 pub fn is_node(term: &Term) -> bool
     ensures value { result ≡ is_node term.now }
 {
     !matches!(term, Term::Literal { .. })
 }
 
-/// Whether a term may stand as a predicate: it is an IRI.
+/// Returns whether a term may be a predicate, that is, whether it is an IRI.
 pub fn is_iri(term: &Term) -> bool
     ensures value { result ≡ is_iri term.now }
 {

@@ -1,4 +1,4 @@
-//! The spelling of terms (RDF 1.1 N-Quads, grammar).
+//! The N-Quads form of a term (RDF 1.1 N-Quads, section 4).
 
 ghost use Rattle.std.specs.Prelude.{◌≡◌, ◌++◌, List, ℕ, OnOk, OnErr};
 ghost use Rattle.std.specs.List.{flat_map};
@@ -11,7 +11,7 @@ use crate::text::Text;
 use crate::vocabulary::XSD_STRING;
 use std::alloc::AllocError;
 
-/// Appends one byte of a literal, escaped where it has to be.
+/// Appends one byte of a literal, escaped if necessary.
 fn put_escaped(out: &mut Vec<u8>, b: u8) -> Result<(), AllocError>
     ensures ok { OnOk result (out.new.items ≡ out.old.items ++ escaped b) }
     ensures err { OnErr result (out.new.items ≡ out.old.items) }
@@ -92,13 +92,16 @@ fn put_term(out: &mut Vec<u8>, term: &Term) -> Result<(), AllocError>
     Ok(())
 }
 
-/// Appends the spelling of a term: `_:` and the label, the IRI in angle brackets, or the literal in
-/// quotes with its tag or, but for xsd:string, its datatype (RDF 1.1 N-Quads, grammar).
+/// Appends the N-Quads form of a term (RDF 1.1 N-Quads, section 4):
 ///
-/// Of a literal only the quote, the backslash, LF and CR are escaped.
+/// - A blank node is `_:` and its label.
+/// - An IRI is in angle brackets.
+/// - A literal is in double quotes. Its tag follows, or its datatype if that is not xsd:string.
+///
+/// In a literal only the quote, the backslash, LF and CR are escaped.
 ///
 /// # Errors
-/// `AllocError`: a growth was refused. `out` is as it was.
+/// `AllocError` if an allocation fails. `out` is unchanged.
 pub fn write_term(term: &Term, out: &mut Vec<u8>) -> Result<(), AllocError>
     ensures appended { OnOk result (out.new.items ≡ out.old.items ++ spelling term.now) }
     ensures err { OnErr result (out.new.items ≡ out.old.items) }

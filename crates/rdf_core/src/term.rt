@@ -6,18 +6,19 @@ use std::alloc::{AllocError, Global};
 
 /// An RDF term (RDF 1.1 Concepts, sections 3.1 to 3.4).
 ///
-/// Two terms are equal where all their parts are (the law [`equality_is_identity`](crate::laws::equality_is_identity)).
-/// The order (the law [`order_is_by_parts`](crate::laws::order_is_by_parts)) is blank nodes, IRIs, literals, and
-/// among each the bytes of the texts: of a literal the lexical form, then the datatype, then the
-/// tag, where no tag comes first.
+/// Two terms are equal if and only if all their parts are equal (the law
+/// [`equality_is_identity`](crate::laws::equality_is_identity)). Blank nodes are before IRIs, and
+/// IRIs before literals (the law [`order_is_by_parts`](crate::laws::order_is_by_parts)). Terms of
+/// one kind are ordered by the bytes of their texts. Literals are ordered by lexical form, then
+/// datatype, then tag; no tag is before any tag.
 #[derive(Debug, Drop, PartialEq, Eq, PartialOrd, Ord, Hash)]
 pub enum Term {
     /// A blank node by its label, without `_:`.
     Blank(Text),
     /// An IRI by its text, without angle brackets.
     Iri(Text),
-    /// A literal. One with a language tag has the datatype `rdf:langString`, and the tag in lower
-    /// case, wherever these crates make it.
+    /// A literal. The readers of N-Quads and SPARQL give a literal with a language tag the datatype
+    /// `rdf:langString`, and its tag in lower case.
     Literal {
         lexical: Text,
         datatype: Text,
@@ -26,10 +27,10 @@ pub enum Term {
 }
 
 impl Term {
-    /// An equal term, with texts of its own.
+    /// Returns an equal term that owns its texts.
     ///
     /// # Errors
-    /// `AllocError`: a growth was refused. The term itself is unchanged.
+    /// `AllocError` if an allocation fails. The term is unchanged.
     pub fn copy(&self, alloc: Global) -> Result<Term, AllocError>
         ensures equal { IfOk result (λ term. term ≡ self.now) }
     {

@@ -1,4 +1,4 @@
-//! Texts that contracts see as their bytes in UTF-8.
+//! Texts, which contracts view as UTF-8 bytes.
 ghost use Rattle.std.specs.Prelude.{◌≡◌, IsUtf8, IfOk, Some, nat_eq, refl, string_bytes};
 ghost use Rattle.std.specs.Ordering.{nat_cmp};
 ghost use Rattle.std.specs.Hash as fed;
@@ -13,9 +13,9 @@ use std::fmt;
 use std::hash::{Hash, Hasher};
 use std::marker::Model;
 
-/// A text: what labels, IRIs, lexical forms and tags are made of.
+/// A text: a blank node label, an IRI, a lexical form or a language tag.
 ///
-/// A contract sees it as its bytes in UTF-8. Equality, order and hash go by these bytes.
+/// A contract views it as its UTF-8 bytes. Equality, order and hash use these bytes.
 #[derive(Drop)]
 pub struct Text {
     string: String,
@@ -30,7 +30,7 @@ impl Model for Text {
 }
 
 impl Text {
-    /// The text of a string; takes no memory.
+    /// Returns the text of a string. Allocates nothing.
     #[inline(always)]
     pub fn from_string(string: String) -> Text
         ensures value { result ≡ string_bytes string }
@@ -38,7 +38,7 @@ impl Text {
         Text { string }
     }
 
-    /// The string that the text was made of; takes no memory.
+    /// Returns the string of this text. Allocates nothing.
     #[inline(always)]
     pub fn into_string(self) -> String
         ensures value { string_bytes result ≡ self }
@@ -47,7 +47,7 @@ impl Text {
         string
     }
 
-    /// The text, lent.
+    /// Borrows the text as a string slice.
     #[inline(always)]
     pub fn as_str(&self) -> &str
         ensures value { result.now ≡ self.now }
@@ -55,10 +55,10 @@ impl Text {
         self.string.as_str()
     }
 
-    /// An equal text of its own.
+    /// Returns an equal text that owns its bytes.
     ///
     /// # Errors
-    /// `AllocError`: a growth was refused.
+    /// `AllocError` if an allocation fails.
     pub fn copy(&self, alloc: Global) -> Result<Text, AllocError>
         ensures value { IfOk result (λ text. text ≡ self.now) }
     {

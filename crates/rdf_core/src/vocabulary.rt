@@ -1,4 +1,4 @@
-//! The IRIs of RDF and XML Schema that these crates name (RDF 1.1 Concepts, section 5).
+//! The IRIs of RDF and XML Schema that the crates name (RDF 1.1 Concepts, section 5).
 
 /// `xsd:string`, the datatype of a literal without a suffix.
 pub const XSD_STRING: &str = "http://www.w3.org/2001/XMLSchema#string";

@@ -1,4 +1,4 @@
--- Counting with an upper bound, and the place of the first of a list that passes a test.
+-- Numbers with an upper bound, and the place of the first element that passes a test.
 use Rattle.std.proofs.Common.{◌≡◌, ℕ, suc, ◌+◌, ◌-◌, ◌*◌, ◌<◌, ◌≤◌, List, [], ◌∷◌, Option, Some, None, Bool, true, false, nat_lt, cond, length, drop, get_or, drop-cons, min, refl, ap, ◌∙◌, arith, add-one}
 use Rattle.std.proofs.lemmas.Bool.Decides.{nat_tests}
 use Rattle.std.proofs.lemmas.List.Sums.{prefix_len-le-length}
@@ -10,7 +10,7 @@ grows : (n : ℕ) (cs : List ℕ) → n ≤ number_of_digits n cs
 grows n [] = omega arith
 grows n (c ∷ cs) = omega (arith, grows (10 * n + (c - 48)) cs)
 
--- a number over the bound stays there
+-- a number above the bound is replaced by the bound, with further digits too
 saturates : (m n : ℕ) (cs : List ℕ) → n ≡ min m 18446744073709551615 → min (number_of_digits m cs) 18446744073709551615 ≡ min (number_of_digits n cs) 18446744073709551615
 saturates m n cs e = grind (arith, grows m cs, grows n cs)
 

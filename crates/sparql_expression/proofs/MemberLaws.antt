@@ -1,4 +1,4 @@
--- A list of expressions that grows at its end.
+-- A list of expressions with one more element at its end.
 use Rattle.std.proofs.Common.{◌≡◌, List, [], ◌∷◌, ◌++◌, map, refl, sym, subst}
 use Rattle.sparql_tree.specs.declared.expression.Expression.{Expression}
 use Rattle.sparql_tree.specs.ExpressionTree.{ExpressionTree, Expressions, none, then, onto, expression_of, expressions_of}
@@ -15,7 +15,7 @@ onto_pushed es (y ∷ ys) x = onto_pushed (then es (expression_of y)) ys x
 pub pushed : (xs : List Expression) (x : Expression) → expressions_of (xs ++ x ∷ []) ≡ then (expressions_of xs) (expression_of x)
 pushed xs x = onto_pushed none xs x
 
--- the members so far, under another name
+-- the members that were read, under another name
 pub members_at : {names : Names} {ts mid : List Terminal} (es fs : Expressions) → fs ≡ es
     → Left names the.members ts (the.more_members es) (λ v. v) (right_side (the.more_members es)) mid
     → Left names the.members ts (the.more_members fs) (λ v. v) (right_side (the.more_members fs)) mid

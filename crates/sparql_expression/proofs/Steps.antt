@@ -1,4 +1,5 @@
--- Reading a production from left to right: what is left of it, and what each step makes of that.
+-- The steps of a reader, from left to right. Each step relates the rest of the form that the reader
+-- has to read before it to the rest after it.
 use Rattle.std.proofs.Common.{Result, Ok, Err, ◌≡◌, ℕ, ◌<◌, List, [], ◌∷◌, length, Bool, true, false, if◌then◌else◌, refl, sym, ap, ◌∙◌, subst}
 use Rattle.sparql_lexer.specs.declared.token.Kind.{Kind}
 use Rattle.sparql_lexer.specs.Terminal.{Terminal, terminal}
@@ -18,7 +19,7 @@ use Rattle.sparql_expression.specs.declared.fault.ReadFault.TheVariants.{Syntax,
 use Rattle.sparql_expression.specs.Reading.{Answer, Reading, Reads}
 use Rattle.sparql_expression.specs.Front.{Taken, Untaken}
 
--- an answer with another value
+-- a result with another value
 abbrev pub mapped : {A B : Type 0} → (A → B) → Result (A × List Terminal) ReadFault → Result (B × List Terminal) ReadFault
 mapped g (Ok p) = Ok (g p.0, p.1)
 mapped g (Err e) = Err e
@@ -27,8 +28,9 @@ pub mapped_same : {A : Type 0} (answer : Result (A × List Terminal) ReadFault) 
 mapped_same (Ok p) = refl
 mapped_same (Err e) = refl
 
--- A reader of the symbol s stands in front of mid, and the form is what it still has to read: of s itself, or of a
--- symbol u at its end. An answer for the form is an answer for s.
+-- A reader of the symbol s has read the terminals before mid, and `form` is the rest of the form
+-- that it has to read. This rest belongs to s itself, or to a symbol u at the end of s. A result
+-- for the rest is a result for s.
 pub record Left (names : Names) (s : Symbol) (ts : List Terminal) (u : Symbol) (g : Value u → Value s) (form : Form (Value u)) (mid : List Terminal) : Type 0 where
   pub good : Good (reach u) form
   pub goes : (answer : Answer u) → Reading names u form mid answer → Reads names s ts (mapped g answer)
@@ -71,7 +73,7 @@ untaken_at : {names : Names} {u : Symbol} {c : Class} {f : Picked c → Form (Va
     → Untaken names c ts → Matches names u (take c f) ts v rest → ⊥
 untaken_at n (takes {k = k} {x = x} {ts = ts} p i m) = n.none p ts record { kind = k; text = x; first = refl; picks = i }
 
--- where no terminal of the class stands in front, nothing is derived
+-- if the first terminal is not of the class, the form derives nothing
 pub takes_nothing : {names : Names} {u : Symbol} {c : Class} {f : Picked c → Form (Value u)} {ts : List Terminal} → Untaken names c ts → Reading names u (take c f) ts (Err Syntax)
 takes_nothing n = record { is = λ v rest d b. untaken_at n d }
 
@@ -134,7 +136,7 @@ enter_goes : {names : Names} {s : Symbol} {ts : List Terminal} {u : Symbol} {g :
 enter_goes {h = h} l (Ok p) r = l.goes (Ok (h p.0, p.1)) (last_reading {h = h} l.good (Ok p) r)
 enter_goes {h = h} l (Err e) r = l.goes (Err e) (last_reading {h = h} l.good (Err e) r)
 
--- what is left is the last symbol's production
+-- the rest of the form is the production of its last symbol
 pub enter : {names : Names} {s : Symbol} {ts : List Terminal} {u : Symbol} {g : Value u → Value s} {w : Symbol} {h : Value w → Value u} {mid : List Terminal}
     → Left names s ts u g (last w h) mid → Left names s ts w (λ v. g (h v)) (right_side w) mid
 enter {w = w} l = record { good = good w; goes = λ answer r. enter_goes l answer r }
@@ -143,7 +145,7 @@ pub last_reads : {names : Names} {s : Symbol} {ts : List Terminal} {u : Symbol} 
     → Left names s ts u g (last w h) mid → Reads names w mid (Ok (a, after)) → b ≡ g (h a) → Reads names s ts (Ok (b, after))
 last_reads {names = names} {s = s} {ts = ts} {after = after} {a = a} l r e = subst (λ b. Reads names s ts (Ok (b, after))) (sym e) (enter_goes l (Ok (a, after)) r)
 
--- the same where the answer is handed on as it is
+-- the same, if the reader returns the result unchanged
 pub last_same : {names : Names} {s : Symbol} {ts : List Terminal} {u : Symbol} {g : Value u → Value s} {w : Symbol} {h : Value w → Value u} {mid : List Terminal} {answer : Answer w} {whole : Answer s}
     → Left names s ts u g (last w h) mid → Reads names w mid answer → mapped (λ v. g (h v)) answer ≡ whole → Reads names s ts whole
 last_same {names = names} {s = s} {ts = ts} {answer = answer} l r e = subst (λ a. Reads names s ts a) e (enter_goes l answer r)
@@ -170,7 +172,7 @@ pub done_behind : {names : Names} {s : Symbol} {ts : List Terminal} {u : Symbol}
 done_behind {names = names} {s = s} {ts = ts} {h = h} {mid = mid} l e =
     subst (λ b. Reads names s ts (Ok (b, mid))) (sym e) (l.goes (Ok (h (length mid), mid)) record { is = (counts, λ v rest d b. only_counted d) })
 
--- where what is left derives nothing, the whole does not
+-- if the rest of the form derives nothing, the whole form derives nothing
 pub fails : {names : Names} {s : Symbol} {ts : List Terminal} {u : Symbol} {g : Value u → Value s} {form : Form (Value u)} {mid : List Terminal}
     → Left names s ts u g form mid → Reading names u form mid (Err Syntax) → Reads names s ts (Err Syntax)
 fails l r = l.goes (Err Syntax) r
@@ -272,7 +274,7 @@ branch {b = b} {mid = mid} l (right {r = f} p) h =
 pub taken_heads : {names : Names} {c : Class} {ts after : List Terminal} {v : Picked c} → Taken names c ts v after → heads (in_class c) ts ≡ true
 taken_heads {names = names} {c = c} {v = v} t = ap (heads (in_class c)) t.first ∙ picks_in names c t.kind t.text v t.picks
 
--- the alternative whose first terminal was taken
+-- the alternative whose first terminal was read
 pub took_branch : {names : Names} {s : Symbol} {ts : List Terminal} {u : Symbol} {g : Value u → Value s} {form : Form (Value u)} {c : Class} {f : Picked c → Form (Value u)} {mid after : List Terminal} {p : Picked c}
     → Left names s ts u g form mid → Branch form (take c f) → Taken names c mid p after → Left names s ts u g (f p) after
 took_branch {f = f} l b t = took {f = f} (branch {b = take _ f} l b (taken_heads t)) t
@@ -304,7 +306,7 @@ pub passed_by : {names : Names} {s : Symbol} {ts : List Terminal} {u : Symbol} {
     → Left names s ts u g (choice l r) mid → ends l ≡ false → heads (begins l) mid ≡ false → Left names s ts u g r mid
 passed_by q e h = passed q (unheaded q.good.0 e h)
 
--- no sign, and no keyword
+-- a sign or keyword that is not the next terminal
 pub untaken_heads : {names : Names} {k : Kind} {ts : List Terminal} → Untaken names (exactly k) ts → heads (in_class (exactly k)) ts ≡ false
 untaken_heads {ts = []} n = refl
 untaken_heads {k = k} {ts = terminal l x ∷ us} n = elim (in_class (exactly k) l) as (λ b. in_class (exactly k) l ≡ b → b ≡ false) [ true ↦ λ e. absurd (n.none tt us record { kind = l; text = x; first = refl; picks = sym (is_kind k l e) }) | false ↦ λ e. refl ] refl

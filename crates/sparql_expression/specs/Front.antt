@@ -1,4 +1,4 @@
--- What stands at the front of a list of terminals.
+-- The first terminal of a list.
 use Rattle.std.specs.Prelude.{◌≡◌, ℕ, List, [], ◌∷◌, Option, Some, None}
 use Rattle.std.specs.Borrow.{Bor}
 use Rattle.sparql_lexer.specs.declared.token.Kind.{Kind}
@@ -7,14 +7,14 @@ use Rattle.sparql_lexer.specs.Terminal.{Terminal, terminal, terminals}
 use Rattle.sparql_grammar.specs.Class.{Class, Picked, Picks}
 use Rattle.sparql_grammar.specs.Values.{Names}
 
--- a terminal of the class, which stands for the value, and then these terminals
+-- the list is a terminal of the class with this value, followed by `after`
 pub record Taken (names : Names) (c : Class) (ts : List Terminal) (v : Picked c) (after : List Terminal) : Type 0 where
   pub kind : Kind
   pub text : List ℕ
   pub first : ts ≡ terminal kind text ∷ after
   pub picks : Picks names c kind text v
 
--- no terminal of the class stands in front
+-- the list does not begin with a terminal of the class
 pub record Untaken (names : Names) (c : Class) (ts : List Terminal) : Type 0 where
   pub none : (v : Picked c) (after : List Terminal) → Taken names c ts v after → ⊥
 
@@ -22,7 +22,7 @@ abbrev pub Accepts : (names : Names) (c : Class) → List Terminal → Option (P
 Accepts names c ts (Some p) = Taken names c ts p.0 p.1
 Accepts names c ts None = Untaken names c ts
 
--- what the code answers: a value and the tokens behind it, or these tokens alone
+-- the result of the code: a value and the tokens after it, or only these tokens
 abbrev pub accepted : {A : Type 0} → Option (A × Bor (List Token)) → Option (A × List Terminal)
 accepted (Some p) = Some (p.0, terminals p.1.now)
 accepted None = None
@@ -31,7 +31,7 @@ abbrev pub followed : Option (Bor (List Token)) → Option (Unit {0} × List Ter
 followed (Some after) = Some (tt, terminals after.now)
 followed None = None
 
--- the first of the tokens by its kind and its characters, and those behind it
+-- the kind and the characters of the first token, and the tokens after it
 abbrev pub IsNext : List Token → Option (Kind × Bor (List ℕ) × Bor (List Token)) → Type 0
 IsNext ts (Some p) = terminals ts ≡ terminal p.0 p.1.now ∷ terminals p.2.now
 IsNext ts None = terminals ts ≡ []

@@ -1,4 +1,4 @@
--- What the reader of a symbol answers, over the grammar of SPARQL 1.1 Query Language, section 19.8.
+-- The results of the reader of a symbol of the grammar (SPARQL 1.1 Query Language, section 19.8).
 use Rattle.std.specs.Prelude.{◌≡◌, ◌<◌, List, Result, Ok, Err}
 use Rattle.std.specs.Borrow.{Bor}
 use Rattle.sparql_lexer.specs.declared.token.Token.{Token}
@@ -12,27 +12,28 @@ use Rattle.sparql_grammar.specs.Follow.{reach, next_level}
 use Rattle.sparql_expression.specs.declared.fault.ReadFault.{ReadFault}
 use Rattle.sparql_expression.specs.declared.fault.ReadFault.TheVariants.{Syntax, Memory}
 
--- a value of the symbol and the terminals behind it, or why there is none
+-- a value of the symbol and the terminals after it, or a fault
 abbrev pub Answer : Symbol → Type 0
 Answer s = Result (Value s × List Terminal) ReadFault
 
--- What is answered is derived, and nothing else is that the terminal behind it cannot continue. Syntax is answered
--- only where nothing of this kind is derived. Memory says nothing of the text.
+-- The grammar derives the value that is returned. It derives no other value, unless the terminal
+-- after that value can continue it. Syntax is returned only if the grammar derives no value of this
+-- kind. Memory says nothing about the text.
 abbrev pub IsAnswer : (names : Names) (s : Symbol) → Form (Value s) → List Terminal → Answer s → Type 0
 IsAnswer names s form ts (Ok p) = Matches names s form ts p.0 p.1
     × ((v : Value s) (rest : List Terminal) → Matches names s form ts v rest → reach s < next_level rest → (v ≡ p.0) × (rest ≡ p.1))
 IsAnswer names s form ts (Err Syntax) = (v : Value s) (rest : List Terminal) → Matches names s form ts v rest → reach s < next_level rest → ⊥
 IsAnswer names s form ts (Err Memory) = Unit {0}
 
--- what is answered for a form of the symbol: its right side, or what is left of it
+-- the result for a form of the symbol: its right side, or a later part of it
 pub record Reading (names : Names) (s : Symbol) (form : Form (Value s)) (ts : List Terminal) (answer : Answer s) : Type 0 where
   pub is : IsAnswer names s form ts answer
 
--- what is answered for the symbol
+-- the result for the symbol
 abbrev pub Reads : Names → (s : Symbol) → List Terminal → Answer s → Type 0
 Reads names s = Reading names s (right_side s)
 
--- an answer of the code: its value as the model sees it, and the terminals of the tokens behind it
+-- a result of the code: the model of its value, and the terminals of the tokens after it
 abbrev pub seen : {A B : Type 0} → (A → B) → Result (A × Bor (List Token)) ReadFault → Result (B × List Terminal) ReadFault
 seen view (Ok p) = Ok (view p.0, terminals p.1.now)
 seen view (Err e) = Err e

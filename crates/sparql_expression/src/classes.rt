@@ -1,7 +1,7 @@
-//! Terminals of a class at the front of a list, and what they stand for.
+//! Accepts the first terminal of a list if it is of a class, and returns its value.
 //!
-//! Each call answers the value and the tokens behind it exactly where the list begins with a
-//! terminal of its class, and None everywhere else.
+//! Each call returns the value and the tokens after the terminal if the list begins with a terminal
+//! of its class, and None otherwise.
 
 ghost use Rattle.std.specs.Prelude.{◌<◌, IfOk, length};
 ghost use Rattle.std.specs.Option.{IfSome};
@@ -23,7 +23,7 @@ use sparql_lexer::{Kind, Token};
 use sparql_tree::{Comparison, Function};
 use std::alloc::{AllocError, Global};
 
-/// What stands behind `[]`, where it is the first token.
+/// Returns the tokens after [163] ANON, or None if it is not the first token.
 pub fn accept_anonymous<'t, 'a>(tokens: &'t [Token<'a>]) -> Option<&'t [Token<'a>]>
     ensures accepts { (names : Names) → Accepts names (exactly kind.Anonymous) (terminals tokens.now) (followed result) }
     ensures shorter { IfSome result (λ after. length after.now < length tokens.now) }
@@ -35,7 +35,7 @@ pub fn accept_anonymous<'t, 'a>(tokens: &'t [Token<'a>]) -> Option<&'t [Token<'a
     }
 }
 
-/// What stands behind `name:`, where it is the first token.
+/// Returns the tokens after [140] PNAME_NS, or None if it is not the first token.
 pub fn accept_namespace<'t, 'a>(tokens: &'t [Token<'a>]) -> Option<&'t [Token<'a>]>
     ensures accepts { (names : Names) → Accepts names (exactly kind.PrefixedNamespace) (terminals tokens.now) (followed result) }
     ensures shorter { IfSome result (λ after. length after.now < length tokens.now) }
@@ -47,7 +47,7 @@ pub fn accept_namespace<'t, 'a>(tokens: &'t [Token<'a>]) -> Option<&'t [Token<'a
     }
 }
 
-/// The operator at the front, and what stands behind it.
+/// Returns the comparison operator that is the first token, and the tokens after it.
 pub fn accept_comparison<'t, 'a>(tokens: &'t [Token<'a>]) -> Option<(Comparison, &'t [Token<'a>])>
     ensures accepts { (names : Names) → Accepts names the_class.comparison (terminals tokens.now) (accepted result) }
     ensures shorter { IfSome result (λ p. length p.1.now < length tokens.now) }
@@ -57,7 +57,7 @@ pub fn accept_comparison<'t, 'a>(tokens: &'t [Token<'a>]) -> Option<(Comparison,
     Some((value, after))
 }
 
-/// The function at the front, and what stands behind it.
+/// Returns the function that is the first token, and the tokens after it.
 pub fn accept_function<'t, 'a>(tokens: &'t [Token<'a>]) -> Option<(Function, &'t [Token<'a>])>
     ensures accepts { (names : Names) → Accepts names the_class.function (terminals tokens.now) (accepted result) }
     ensures shorter { IfSome result (λ p. length p.1.now < length tokens.now) }
@@ -67,8 +67,8 @@ pub fn accept_function<'t, 'a>(tokens: &'t [Token<'a>]) -> Option<(Function, &'t
     Some((value, after))
 }
 
-/// The integer without a sign at the front, and what stands behind it; at most
-/// 18446744073709551615.
+/// Returns the value of an [146] INTEGER that is the first token, and the tokens after it. A value
+/// above 18446744073709551615 is replaced by that number.
 pub fn accept_count<'t, 'a>(tokens: &'t [Token<'a>]) -> Option<(u64, &'t [Token<'a>])>
     ensures accepts { (names : Names) → Accepts names the_class.count (terminals tokens.now) (accepted result) }
     ensures shorter { IfSome result (λ p. length p.1.now < length tokens.now) }
@@ -78,10 +78,10 @@ pub fn accept_count<'t, 'a>(tokens: &'t [Token<'a>]) -> Option<(u64, &'t [Token<
     Some((value, after))
 }
 
-/// The name of the variable at the front, and what stands behind it.
+/// Returns the name of a variable that is the first token, and the tokens after it.
 ///
 /// # Errors
-/// A growth was refused.
+/// `AllocError` if an allocation fails.
 pub fn accept_variable<'t, 'a>(
     alloc: Global,
     tokens: &'t [Token<'a>],
@@ -98,10 +98,10 @@ pub fn accept_variable<'t, 'a>(
     }
 }
 
-/// The label of the blank node at the front, and what stands behind it.
+/// Returns the label of a [142] BLANK_NODE_LABEL that is the first token, and the tokens after it.
 ///
 /// # Errors
-/// A growth was refused.
+/// `AllocError` if an allocation fails.
 pub fn accept_blank<'t, 'a>(
     alloc: Global,
     tokens: &'t [Token<'a>],
@@ -118,12 +118,13 @@ pub fn accept_blank<'t, 'a>(
     }
 }
 
-/// The IRI at the front, written or by a prefixed name, and what stands behind it.
+/// Returns the IRI of an [136] iri that is the first token, and the tokens after it.
 ///
-/// `names` are the declarations of the text. An IRI with an escape that names no character is none.
+/// `names` are the prefix declarations of the text. The function returns None if an escape of the
+/// IRI denotes no character that is allowed there.
 ///
 /// # Errors
-/// A growth was refused.
+/// `AllocError` if an allocation fails.
 pub fn accept_name<'t, 'a>(
     alloc: Global,
     names: &Declarations,
@@ -141,12 +142,12 @@ pub fn accept_name<'t, 'a>(
     }
 }
 
-/// The IRI reference at the front, and what stands behind it.
+/// Returns the IRI of an [139] IRIREF that is the first token, and the tokens after it.
 ///
-/// One with an escape that names no character is none.
+/// The function returns None if an escape of the IRI denotes no character that is allowed there.
 ///
 /// # Errors
-/// A growth was refused.
+/// `AllocError` if an allocation fails.
 pub fn accept_reference<'t, 'a>(
     alloc: Global,
     tokens: &'t [Token<'a>],
@@ -163,12 +164,12 @@ pub fn accept_reference<'t, 'a>(
     }
 }
 
-/// The string at the front, and what stands behind it.
+/// Returns the value of a [135] String that is the first token, and the tokens after it.
 ///
-/// One with an escape that names no character is none.
+/// The function returns None if an escape of the string denotes no character.
 ///
 /// # Errors
-/// A growth was refused.
+/// `AllocError` if an allocation fails.
 pub fn accept_string<'t, 'a>(
     alloc: Global,
     tokens: &'t [Token<'a>],
@@ -185,10 +186,11 @@ pub fn accept_string<'t, 'a>(
     }
 }
 
-/// The language tag at the front, in lower case, and what stands behind it.
+/// Returns a [145] LANGTAG that is the first token, in lower case and without its `@`, and the
+/// tokens after it.
 ///
 /// # Errors
-/// A growth was refused.
+/// `AllocError` if an allocation fails.
 pub fn accept_language<'t, 'a>(
     alloc: Global,
     tokens: &'t [Token<'a>],
@@ -205,10 +207,10 @@ pub fn accept_language<'t, 'a>(
     }
 }
 
-/// The number at the front, as a literal, and what stands behind it.
+/// Returns the literal of a [130] NumericLiteral that is the first token, and the tokens after it.
 ///
 /// # Errors
-/// A growth was refused.
+/// `AllocError` if an allocation fails.
 pub fn accept_number<'t, 'a>(
     alloc: Global,
     tokens: &'t [Token<'a>],
@@ -225,10 +227,10 @@ pub fn accept_number<'t, 'a>(
     }
 }
 
-/// The boolean at the front, as a literal, and what stands behind it.
+/// Returns the literal of a [134] BooleanLiteral that is the first token, and the tokens after it.
 ///
 /// # Errors
-/// A growth was refused.
+/// `AllocError` if an allocation fails.
 pub fn accept_boolean<'t, 'a>(
     alloc: Global,
     tokens: &'t [Token<'a>],

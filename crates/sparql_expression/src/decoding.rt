@@ -1,4 +1,4 @@
-//! What a terminal stands for, by its kind and its characters.
+//! The value of a terminal, from its kind and its characters.
 
 ghost use Rattle.std.specs.Prelude.{◌≡◌, ◌≤◌, IfOk, length, nat_eq, position, MatchOption, None, Some, drop, string_bytes};
 ghost use lib.Utf8.{encodes};
@@ -15,7 +15,7 @@ use sparql_lexer::{Keyword, Kind, Sign, iri_value, string_value, text_of};
 use sparql_tree::{Comparison, Function};
 use std::alloc::{AllocError, Global};
 
-/// The operator of a sign.
+/// Returns the comparison operator of a sign, or None if the terminal is not one.
 pub fn comparison_of(kind: Kind) -> Option<Comparison>
     ensures { result ≡ comparison_of kind }
 {
@@ -30,7 +30,7 @@ pub fn comparison_of(kind: Kind) -> Option<Comparison>
     }
 }
 
-/// The function of a keyword.
+/// Returns the function of a keyword, or None if the terminal is not one.
 pub fn function_of(kind: Kind) -> Option<Function>
     ensures { result ≡ function_of kind }
 {
@@ -45,7 +45,7 @@ pub fn function_of(kind: Kind) -> Option<Function>
     }
 }
 
-/// The text behind so many characters.
+/// Returns the text after the first `count` characters.
 fn behind(alloc: Global, text: &[char], count: usize) -> Result<Text, AllocError>
     ensures { IfOk result (λ t. t ≡ encodes (drop count text.now)) }
 {
@@ -53,10 +53,11 @@ fn behind(alloc: Global, text: &[char], count: usize) -> Result<Text, AllocError
     Ok(Text::from_string(text_of(alloc, behind)?))
 }
 
-/// The name of a variable, without its sign.
+/// Returns the name of a variable without its `?` or `$`, or None if the terminal is not a
+/// variable.
 ///
 /// # Errors
-/// A growth was refused.
+/// `AllocError` if an allocation fails.
 pub fn variable_of(alloc: Global, kind: Kind, text: &[char]) -> Result<Option<Text>, AllocError>
     ensures { IfOk result (λ found. found ≡ variable_of kind text.now) }
 {
@@ -66,10 +67,10 @@ pub fn variable_of(alloc: Global, kind: Kind, text: &[char]) -> Result<Option<Te
     }
 }
 
-/// The label of a blank node, without `_:`.
+/// Returns the label of a [142] BLANK_NODE_LABEL without `_:`, or None if the terminal is not one.
 ///
 /// # Errors
-/// A growth was refused.
+/// `AllocError` if an allocation fails.
 pub fn blank_of(alloc: Global, kind: Kind, text: &[char]) -> Result<Option<Text>, AllocError>
     ensures { IfOk result (λ found. found ≡ blank_of kind text.now) }
 {
@@ -79,10 +80,11 @@ pub fn blank_of(alloc: Global, kind: Kind, text: &[char]) -> Result<Option<Text>
     }
 }
 
-/// The IRI of an IRI reference; None where an escape names no character that may stand there.
+/// Returns the IRI of an [139] IRIREF. Returns None if the terminal is not one, or if an escape
+/// denotes no character that is allowed there.
 ///
 /// # Errors
-/// A growth was refused.
+/// `AllocError` if an allocation fails.
 pub fn reference_of(alloc: Global, kind: Kind, text: &[char]) -> Result<Option<Text>, AllocError>
     ensures { IfOk result (λ found. found ≡ reference_of kind text.now) }
 {
@@ -98,7 +100,7 @@ fn first_colon(text: &[char]) -> Option<usize>
     text.iter().position(|c| *c == ':')
 }
 
-/// Where the first colon stands; the length, where there is none.
+/// Returns the place of the first colon, or the length if there is none.
 fn colon_at(text: &[char]) -> usize
     ensures value { result ≡ colon_at text.now }
     ensures within { result ≤ length text.now }
@@ -109,7 +111,7 @@ fn colon_at(text: &[char]) -> usize
     }
 }
 
-/// The parts of a prefixed name before and behind its first colon.
+/// Returns the parts of a prefixed name before and after its first colon.
 fn split_name(text: &[char]) -> (&[char], &[char])
     ensures prefix { result.0.now ≡ prefix_of text.now }
     ensures local { result.1.now ≡ local_of text.now }
@@ -120,18 +122,18 @@ fn split_name(text: &[char]) -> (&[char], &[char])
     (prefix, local)
 }
 
-/// The text without its backslashes.
+/// Returns the text without its backslashes.
 fn unescaped(alloc: Global, text: &[char]) -> Result<String, AllocError>
     ensures { IfOk result (λ s. string_bytes s ≡ encodes (unescaped text.now)) }
 {
     text.iter().copied().filter(|c| *c != '\\').collect(alloc)
 }
 
-/// The IRI of a prefixed name, by the declarations of the text; the name as it is written, where its
-/// prefix has no declaration.
+/// Returns the IRI of a prefixed name, from the declarations of the text. Returns the name as
+/// written if its prefix has no declaration.
 ///
 /// # Errors
-/// A growth was refused.
+/// `AllocError` if an allocation fails.
 pub fn expanded(alloc: Global, names: &Declarations, text: &[char]) -> Result<Text, AllocError>
     ensures { IfOk result (λ t. t ≡ expanded names.now text.now) }
 {
@@ -146,10 +148,11 @@ pub fn expanded(alloc: Global, names: &Declarations, text: &[char]) -> Result<Te
     Ok(Text::from_string(iri))
 }
 
-/// The IRI that is written, or that a prefixed name stands for.
+/// Returns the IRI of an [139] IRIREF or of a prefixed name. Returns None if the terminal is
+/// neither, or if an escape denotes no character that is allowed there.
 ///
 /// # Errors
-/// A growth was refused.
+/// `AllocError` if an allocation fails.
 pub fn name_of(
     alloc: Global,
     names: &Declarations,
@@ -166,10 +169,11 @@ pub fn name_of(
     }
 }
 
-/// The string between its quotes; None where an escape names no character.
+/// Returns the string between its quotes. Returns None if the terminal is not a string, or if an
+/// escape denotes no character.
 ///
 /// # Errors
-/// A growth was refused.
+/// `AllocError` if an allocation fails.
 pub fn string_of(alloc: Global, kind: Kind, text: &[char]) -> Result<Option<Text>, AllocError>
     ensures { IfOk result (λ found. found ≡ string_of kind text.now) }
 {
@@ -180,10 +184,10 @@ pub fn string_of(alloc: Global, kind: Kind, text: &[char]) -> Result<Option<Text
     }
 }
 
-/// The language tag without its sign, in lower case.
+/// Returns a language tag without its `@`, in lower case, or None if the terminal is not one.
 ///
 /// # Errors
-/// A growth was refused.
+/// `AllocError` if an allocation fails.
 pub fn language_of(alloc: Global, kind: Kind, text: &[char]) -> Result<Option<Text>, AllocError>
     ensures { IfOk result (λ found. found ≡ language_of kind text.now) }
 {
@@ -210,10 +214,11 @@ fn number_type(kind: Kind) -> Option<&'static str>
     }
 }
 
-/// The literal of a number, which keeps its text and its sign.
+/// Returns the literal of a number, whose lexical form is its text with its sign. Returns None if
+/// the terminal is not a number.
 ///
 /// # Errors
-/// A growth was refused.
+/// `AllocError` if an allocation fails.
 pub fn number_of(alloc: Global, kind: Kind, text: &[char]) -> Result<Option<Term>, AllocError>
     ensures { IfOk result (λ found. found ≡ number_of kind text.now) }
 {
@@ -241,10 +246,10 @@ fn boolean(alloc: Global, word: &str) -> Result<Term, AllocError>
     })
 }
 
-/// The literal of a boolean, in lower case.
+/// Returns the literal `true` or `false` of a boolean, or None if the terminal is not a boolean.
 ///
 /// # Errors
-/// A growth was refused.
+/// `AllocError` if an allocation fails.
 pub fn boolean_of(alloc: Global, kind: Kind) -> Result<Option<Term>, AllocError>
     ensures { IfOk result (λ found. found ≡ boolean_of kind) }
 {
@@ -266,8 +271,8 @@ fn capped(text: &[char]) -> u64
     number
 }
 
-/// The number of an integer without a sign; a greater one than there is room for counts as the
-/// greatest.
+/// Returns the value of an [146] INTEGER, or None if the terminal is not one. A value above
+/// 18446744073709551615 is replaced by that number.
 pub fn count_of(kind: Kind, text: &[char]) -> Option<u64>
     ensures { result ≡ count_of kind text.now }
 {

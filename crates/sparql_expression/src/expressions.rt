@@ -1,8 +1,8 @@
-//! Reads expressions: a function a production.
+//! Reads expressions, with a function for each production.
 //!
-//! `names` are the declarations of the text. Each reader answers the tree of the production at the
-//! front of the tokens and what stands behind it. Each of them fails with `Syntax`, where the tokens
-//! begin with no such text, and with `Memory`, where a growth was refused.
+//! `names` are the prefix declarations of the text. Each reader returns the tree of a text of its
+//! production at the start of the tokens, and the tokens after it. It fails with `Syntax` if the
+//! tokens do not begin with a text of the production, and with `Memory` if an allocation fails.
 
 ghost use Rattle.std.specs.Prelude.{◌≡◌, ◌<◌, IfOk, length};
 ghost use Rattle.sparql_lexer.specs.Terminal.{terminals};
@@ -25,12 +25,13 @@ use sparql_lexer::{Keyword, Kind, Sign, Token};
 use sparql_tree::Expression;
 use std::alloc::Global;
 
-/// Reads a whole expression: conjunctions with `||` between them.
+/// Reads a whole expression ([111] ConditionalOrExpression): conjunctions, and `||` between them.
 ///
-/// `names` are the declarations of the text.
+/// `names` are the prefix declarations of the text.
 ///
 /// # Errors
-/// `Syntax`: no expression stands at the front. `Memory`: a growth was refused.
+/// - `Syntax` if the tokens do not begin with an expression.
+/// - `Memory` if an allocation fails.
 #[cycle(expression)]
 pub fn read_disjunction<'t, 'a>(
     alloc: Global,
@@ -131,7 +132,7 @@ fn is_call(kind: Kind) -> bool
     }
 }
 
-/// Whether a call stands at the front.
+/// Returns whether the first token can begin a [121] BuiltInCall.
 pub fn is_call_next(tokens: &[Token]) -> bool
     ensures { result ≡ heads is_call (terminals tokens.now) }
 {
@@ -163,10 +164,11 @@ fn read_primary<'t, 'a>(
     Ok((make_constant(term), rest))
 }
 
-/// Reads an expression in parentheses.
+/// Reads a [120] BrackettedExpression, an expression in parentheses.
 ///
 /// # Errors
-/// `Syntax`: none stands at the front. `Memory`: a growth was refused.
+/// - `Syntax` if the tokens do not begin with one.
+/// - `Memory` if an allocation fails.
 #[cycle(expression)]
 pub fn read_bracket<'t, 'a>(
     alloc: Global,
@@ -186,10 +188,11 @@ pub fn read_bracket<'t, 'a>(
     Ok((inner, behind))
 }
 
-/// Reads a call of a function.
+/// Reads a [121] BuiltInCall, a call of a function.
 ///
 /// # Errors
-/// `Syntax`: none stands at the front. `Memory`: a growth was refused.
+/// - `Syntax` if the tokens do not begin with one.
+/// - `Memory` if an allocation fails.
 #[cycle(expression)]
 pub fn read_call<'t, 'a>(
     alloc: Global,
@@ -212,7 +215,7 @@ pub fn read_call<'t, 'a>(
     read_same_term(alloc, names, after)
 }
 
-/// Reads a variable in parentheses, behind `BOUND`.
+/// Reads a variable in parentheses, after `BOUND`.
 fn read_bound<'t, 'a>(
     alloc: Global,
     tokens: &'t [Token<'a>],
@@ -232,7 +235,7 @@ fn read_bound<'t, 'a>(
     Ok((make_bound(name), behind))
 }
 
-/// Reads two expressions in parentheses, behind `SAMETERM`.
+/// Reads two expressions in parentheses, after `sameTerm`.
 #[cycle(expression)]
 fn read_same_term<'t, 'a>(
     alloc: Global,
@@ -256,7 +259,7 @@ fn read_same_term<'t, 'a>(
     Ok((make_same_term(alloc, left, right)?, behind))
 }
 
-/// Reads the members of `IN`.
+/// Reads the [72] ExpressionList of `IN`.
 #[cycle(expression)]
 fn read_members<'t, 'a>(
     alloc: Global,

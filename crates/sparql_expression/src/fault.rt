@@ -1,16 +1,16 @@
-//! Why nothing was read.
+//! The errors of the readers.
 
 ghost use Rattle.std.specs.Prelude.{◌≡◌};
 ghost use Rattle.sparql_expression.specs.declared.fault.ReadFault.TheVariants.{Memory};
 
 use std::alloc::{AllocError, AllocFailed};
 
-/// Why a reader answers no value.
+/// The reason why a reader returns no value.
 #[derive(Debug, Drop)]
 pub enum ReadFault {
-    /// The terminals are no text of the kind.
+    /// The terminals do not begin with a text of the production.
     Syntax,
-    /// A growth was refused. It says nothing of the terminals.
+    /// Out of memory.
     Memory,
 }
 

@@ -1,4 +1,4 @@
-//! The terminal at the front of a list.
+//! The first terminal of a list.
 
 ghost use Rattle.std.specs.Prelude.{◌≡◌, ◌<◌, length};
 ghost use Rattle.std.specs.Option.{IfSome};
@@ -11,7 +11,8 @@ ghost use Rattle.sparql_expression.specs.Front.{Accepts, IsNext, accepted, follo
 
 use sparql_lexer::{Keyword, Kind, Sign, Token};
 
-/// The first token by its kind and its characters, and those behind it.
+/// Returns the kind and the characters of the first token, and the tokens after it. Returns None if
+/// there is no token.
 pub fn next<'t, 'a>(tokens: &'t [Token<'a>]) -> Option<(Kind, &'a [char], &'t [Token<'a>])>
     ensures next { IsNext tokens.now result }
     ensures shorter { IfSome result (λ p. length p.2.now < length tokens.now) }
@@ -20,7 +21,7 @@ pub fn next<'t, 'a>(tokens: &'t [Token<'a>]) -> Option<(Kind, &'a [char], &'t [T
     Some((first.kind, first.text, after))
 }
 
-/// What stands behind the sign, where it is the first token.
+/// Returns the tokens after this sign, or None if it is not the first token.
 pub fn accept<'t, 'a>(tokens: &'t [Token<'a>], sign: Sign) -> Option<&'t [Token<'a>]>
     ensures accepts { (names : Names) → Accepts names (exactly (kind.Sign sign)) (terminals tokens.now) (followed result) }
     ensures shorter { IfSome result (λ after. length after.now < length tokens.now) }
@@ -32,7 +33,7 @@ pub fn accept<'t, 'a>(tokens: &'t [Token<'a>], sign: Sign) -> Option<&'t [Token<
     }
 }
 
-/// What stands behind the keyword, where it is the first token.
+/// Returns the tokens after this keyword, or None if it is not the first token.
 pub fn accept_word<'t, 'a>(tokens: &'t [Token<'a>], word: Keyword) -> Option<&'t [Token<'a>]>
     ensures accepts { (names : Names) → Accepts names (exactly (kind.Keyword word)) (terminals tokens.now) (followed result) }
     ensures shorter { IfSome result (λ after. length after.now < length tokens.now) }

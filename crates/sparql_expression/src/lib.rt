@@ -1,22 +1,26 @@
-//! Readers of terms and expressions: tokens go in, trees and the tokens behind them come out.
+//! Readers of terms and expressions of a SPARQL query. They take tokens, and return trees and the
+//! tokens after them.
 //!
-//! [`read_disjunction`] reads an expression, [`read_bracket`] and [`read_call`] what FILTER takes
-//! without more, [`read_term`] a term. Each answers what the grammar derives at the front of the
-//! tokens, and [`ReadFault::Syntax`] only where it derives nothing there that the terminal behind
-//! it cannot continue (`Reads` of specs/Reading.antt); every answer is shorter than what was given,
-//! and tokens are lent, never copied.
+//! [`read_disjunction`] reads an expression, [`read_bracket`] and [`read_call`] the constraint of a
+//! FILTER, and [`read_term`] a constant term. Each returns a value that the grammar derives from
+//! the start of the tokens. It returns [`ReadFault::Syntax`] only if the grammar derives no value
+//! whose next terminal cannot continue it (`Reads` of specs/Reading.antt). Each of them
+//! consumes at least one token. Tokens are borrowed, never copied.
 //!
-//! For readers of what stands around expressions: [`accept`] and its like take a terminal of one
-//! class from the front, exactly where one stands there (specs/Front.antt); proofs/Steps.antt has
-//! one lemma for each step of a production (`took`, `then_read`, `skipped`, `done`, ..).
+//! Readers of larger productions use [`accept`] and its siblings. Each accepts the first terminal
+//! if and only if it is of its class (specs/Front.antt). Their proofs use proofs/Steps.antt, which
+//! has one lemma for each step of a production (`took`, `then_read`, `skipped`, `done`, ..).
 //!
 //! Standard: SPARQL 1.1 Query Language, section 19.8.
 //!
-//! To read in this order: specs/Reading.antt, specs/Front.antt, `front`, `decoding` (what a
-//! terminal stands for), `classes`, `terms`, `trees` (nodes), `expressions`. Example:
-//! `?a || ?b && ?c` is `Or(?a, And(?b, ?c))`; the test `joins_from_the_left` runs it.
+//! Reading order: specs/Reading.antt, specs/Front.antt, `front`, `decoding` (the values of
+//! terminals), `classes`, `terms`, `trees` (nodes), `expressions`.
 //!
-//! Not promised: how deep calls nest. A caller counts the brackets of a text first.
+//! Example: `?a || ?b && ?c` is `Or(?a, And(?b, ?c))`. The tests are `expressions` of the crate
+//! query_tests; `joins_from_the_left` runs this example.
+//!
+//! Not guaranteed: a limit on the depth of calls. A caller first checks how deep the brackets of a
+//! text nest.
 #![tactic(auto)]
 
 mod classes;

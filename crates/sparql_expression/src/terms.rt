@@ -1,4 +1,4 @@
-//! Reads terms.
+//! Reads constant terms: IRIs, numbers, booleans and literals.
 
 ghost use Rattle.std.specs.Prelude.{◌≡◌, ◌<◌, ◌≤◌, IfOk, length};
 ghost use Rattle.rdf_core.specs.declared.term.Term.TheVariants.{Iri};
@@ -45,12 +45,14 @@ fn plain_string(alloc: Global, lexical: Text) -> Result<Term, AllocError>
     Ok(plain(lexical, datatype))
 }
 
-/// Reads what may stand behind a string: a language tag, or a datatype.
+/// Reads the end of an [129] RDFLiteral after its string: a language tag, a datatype, or nothing.
+/// Returns the literal and the tokens after it.
 ///
-/// `names` are the declarations of the text.
+/// `names` are the prefix declarations of the text.
 ///
 /// # Errors
-/// `Syntax`: `^^` stands there without a datatype. `Memory`: a growth was refused.
+/// - `Syntax` if the tokens begin with `^^` and no IRI follows it.
+/// - `Memory` if an allocation fails.
 pub fn read_literal<'t, 'a>(
     alloc: Global,
     names: &Declarations,
@@ -72,13 +74,14 @@ pub fn read_literal<'t, 'a>(
     Ok((plain(string, datatype), behind))
 }
 
-/// Reads an IRI, a number, a boolean or a literal at the front, and answers what stands behind it
-/// too.
+/// Reads an [136] iri, [129] RDFLiteral, [130] NumericLiteral or [134] BooleanLiteral at the start
+/// of the tokens. Returns the term and the tokens after it.
 ///
-/// `names` are the declarations of the text.
+/// `names` are the prefix declarations of the text.
 ///
 /// # Errors
-/// `Syntax`: no term stands there. `Memory`: a growth was refused.
+/// - `Syntax` if the tokens do not begin with a term.
+/// - `Memory` if an allocation fails.
 pub fn read_term<'t, 'a>(
     alloc: Global,
     names: &Declarations,

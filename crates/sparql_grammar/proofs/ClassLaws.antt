@@ -1,4 +1,4 @@
--- Which kinds a class holds, and that a terminal stands for one value of it.
+-- The kinds of a class, and the uniqueness of a terminal's value in it.
 use Rattle.std.proofs.Common.{◌≡◌, ℕ, List, Option, Some, None, is_some, Bool, true, false, nat_eq, refl, sym, ap, ◌∙◌, subst, arith}
 use Rattle.std.proofs.lemmas.Bool.Decides.{nat_tests}
 use lib.Utf8.{encodes}

@@ -1,4 +1,5 @@
--- A form's first terminals, and why the productions are decided by the next terminal.
+-- The first terminals of a form, and the condition under which the next terminal decides each
+-- choice.
 use Rattle.std.proofs.Common.{◌≡◌, ℕ, suc, ◌<◌, ◌≤◌, List, [], ◌∷◌, Option, Some, None, is_some, Bool, true, false, if◌then◌else◌, nat_eq, nat_lt, refl, sym, ap, ◌∙◌, subst, arith}
 use Rattle.sparql_lexer.specs.declared.token.Kind.{Kind}
 use Rattle.sparql_lexer.specs.declared.token.Kind.TheVariants as kind
@@ -120,7 +121,7 @@ first the.modifiers k = either (is (kind.Keyword word.Limit) k) (is (kind.Keywor
 first (the.after_limit n) k = is (kind.Keyword word.Offset) k
 first (the.after_offset n) k = is (kind.Keyword word.Limit) k
 
--- the symbols that derive nothing at all, too
+-- the symbols that derive the empty list, among others
 abbrev pub nullable : Symbol → Bool
 nullable (the.more_or e) = true
 nullable (the.more_and e) = true
@@ -154,14 +155,14 @@ ends (last u g) = nullable u
 ends (choice l r) = either (ends l) (ends r)
 ends (when b f) = ends f
 
--- what may stand behind a symbol, where this form does
+-- the condition on the level of the terminal after a symbol, before this form
 abbrev pub above : Bool → ℕ → ℕ → Bool
 above b m n = if b then nat_lt m n else true
 
 abbrev pub follows : {A : Type 0} → ℕ → ℕ → Form A → Bool
 follows m n form = if every (λ k. above (begins form k) m (level k)) then above (ends form) m (suc n) else false
 
--- two forms that the next terminal tells apart
+-- two forms that the next terminal distinguishes
 abbrev pub apart_by : Bool → Bool → Bool → Bool → ℕ → ℕ → Bool
 apart_by true true ends_l ends_r m n = false
 apart_by true false ends_l ends_r m n = above ends_r m (suc n)
@@ -171,7 +172,8 @@ apart_by false false ends_l ends_r m n = true
 abbrev pub apart : {A : Type 0} → ℕ → Form A → Form A → Bool
 apart n l r = if every (λ k. apart_by (begins l k) (begins r k) (ends l) (ends r) (level k) n) then (if ends l then (if ends r then false else true) else true) else false
 
--- each choice in a form is decided by the next terminal, where what stands behind the form is of a level above n
+-- the next terminal decides each choice in a form, if the terminal after the form has a level above
+-- n
 abbrev pub Good : {A : Type 0} → ℕ → Form A → Type 0
 Good n (give v) = Unit {0}
 Good n (behind g) = Unit {0}

@@ -1,4 +1,4 @@
--- Every kind of terminal, so that a test of all kinds is computed.
+-- The list of all kinds of terminals, so that the prover can compute a test of all kinds.
 use Rattle.std.proofs.Common.{◌≡◌, ℕ, zero, suc, List, [], ◌∷◌, Option, Some, None, Bool, true, false, if◌then◌else◌, refl, sym, ap, ◌∙◌, nat_eq}
 use Rattle.sparql_lexer.specs.declared.token.Kind.{Kind}
 use Rattle.sparql_lexer.specs.declared.token.Kind.TheVariants as kind
@@ -8,7 +8,7 @@ use Rattle.sparql_lexer.specs.declared.token.Sign.TheVariants as sign
 abbrev pub kinds : List Kind
 kinds = kind.IriRef ∷ kind.Variable ∷ kind.PrefixedNamespace ∷ kind.PrefixedName ∷ kind.BlankLabel ∷ kind.Anonymous ∷ kind.LanguageTag ∷ kind.Integer ∷ kind.Decimal ∷ kind.Double ∷ kind.SignedInteger ∷ kind.SignedDecimal ∷ kind.SignedDouble ∷ kind.ShortString ∷ kind.LongString ∷ (kind.Keyword word.A) ∷ (kind.Keyword word.As) ∷ (kind.Keyword word.Bind) ∷ (kind.Keyword word.Bound) ∷ (kind.Keyword word.Datatype) ∷ (kind.Keyword word.Distinct) ∷ (kind.Keyword word.False) ∷ (kind.Keyword word.Filter) ∷ (kind.Keyword word.Graph) ∷ (kind.Keyword word.In) ∷ (kind.Keyword word.IsBlank) ∷ (kind.Keyword word.IsIri) ∷ (kind.Keyword word.IsLiteral) ∷ (kind.Keyword word.Lang) ∷ (kind.Keyword word.Limit) ∷ (kind.Keyword word.Minus) ∷ (kind.Keyword word.Not) ∷ (kind.Keyword word.Offset) ∷ (kind.Keyword word.Optional) ∷ (kind.Keyword word.Prefix) ∷ (kind.Keyword word.SameTerm) ∷ (kind.Keyword word.Select) ∷ (kind.Keyword word.Str) ∷ (kind.Keyword word.True) ∷ (kind.Keyword word.Undef) ∷ (kind.Keyword word.Union) ∷ (kind.Keyword word.Values) ∷ (kind.Keyword word.Where) ∷ kind.Word ∷ (kind.Sign sign.OpenBrace) ∷ (kind.Sign sign.CloseBrace) ∷ (kind.Sign sign.OpenParenthesis) ∷ (kind.Sign sign.CloseParenthesis) ∷ (kind.Sign sign.Dot) ∷ (kind.Sign sign.Semicolon) ∷ (kind.Sign sign.Comma) ∷ (kind.Sign sign.Star) ∷ (kind.Sign sign.Equal) ∷ (kind.Sign sign.NotEqual) ∷ (kind.Sign sign.Less) ∷ (kind.Sign sign.Greater) ∷ (kind.Sign sign.LessOrEqual) ∷ (kind.Sign sign.GreaterOrEqual) ∷ (kind.Sign sign.Not) ∷ (kind.Sign sign.And) ∷ (kind.Sign sign.Or) ∷ (kind.Sign sign.Carets) ∷ []
 
--- where a kind stands in that list
+-- the place of a kind in that list
 abbrev pub place : Kind → ℕ
 place kind.IriRef = 0
 place kind.Variable = 1

@@ -1,4 +1,5 @@
--- What a form derives begins with one of its first terminals, and is one thing at most.
+-- A text that a form derives begins with a first terminal of the form, and the form derives at most
+-- one value of it.
 use Rattle.std.proofs.Common.{◌≡◌, ℕ, suc, ◌<◌, ◌≤◌, List, [], ◌∷◌, Bool, true, false, if◌then◌else◌, nat_eq, nat_lt, refl, sym, ap, ◌∙◌, subst, arith, lit<}
 use Rattle.std.proofs.lemmas.Bool.Decides.{nat_tests}
 use Rattle.sparql_lexer.specs.declared.token.Kind.{Kind}
@@ -15,7 +16,7 @@ use Rattle.sparql_grammar.proofs.ClassLaws.{picks_in, one_value}
 use Rattle.sparql_grammar.proofs.FormLaws.{begins, ends, first, nullable, above, follows, apart_by, apart, Good}
 use Rattle.sparql_grammar.proofs.ProductionLaws.{good, first_right, nullable_right}
 
--- what stands before the rest: nothing, or a first terminal of the form
+-- the terminals before rest: none, or a list that begins with a first terminal of the form
 pub data Starts {A : Type 0} (form : Form A) (ts rest : List Terminal) : Type 0 where
   empty : ends form ≡ true → ts ≡ rest → Starts form ts rest
   headed : (k : Kind) (x : List ℕ) (us : List Terminal) → ts ≡ terminal k x ∷ us → begins form k ≡ true → Starts form ts rest
@@ -61,7 +62,7 @@ starts n g (firsts {l = l} {r = r} m) = starts_left l r (starts n g.0 m)
 starts n g (seconds {l = l} {r = r} m) = starts_right l r (starts n g.1 m)
 starts n g (whens {b = b} {f = f} h m) = starts_when b f (starts n g m)
 
--- what stands behind a part
+-- the terminals after a part
 
 both_left : (a b : Bool) → (if a then b else false) ≡ true → a ≡ true
 both_left true b h = refl
@@ -90,7 +91,7 @@ follow_from m n form ts rest f s (headed k x us h b) =
 pub follow : {ns : Names} {s : Symbol} {form : Form (Value s)} {ts rest : List Terminal} {v : Value s} (m n : ℕ) → Good n form → follows m n form ≡ true → n < next_level rest → Matches ns s form ts v rest → m < next_level ts
 follow {form = form} {ts = ts} {rest = rest} m n g f s d = follow_from m n form ts rest f s (starts n g d)
 
--- two forms that are told apart
+-- two forms that the next terminal distinguishes
 
 apart_heads : (bl br el er : Bool) (m n : ℕ) → apart_by bl br el er m n ≡ true → bl ≡ true → br ≡ true → ⊥
 apart_heads true true el er m n h a b = (cc)
@@ -132,7 +133,7 @@ apart_starts n l r h s s' (headed k x us i b) (empty e i') = too_low (apart_end-
 apart_starts n l r h s s' (headed k x us i b) (headed k' x' us' i' b') =
     apart_heads (begins l k) (begins r k) (ends l) (ends r) (level k) n (apart_at n l r h k) b (subst (λ k. begins r k ≡ true) (sym (same_kind i i')) b')
 
--- one thing at most
+-- at most one value
 
 pub record Same {A : Type 0} (v w : A) (rest rest' : List Terminal) : Type 0 where
   pub value : v ≡ w

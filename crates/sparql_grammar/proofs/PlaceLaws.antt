@@ -1,4 +1,4 @@
--- Where the declarations of a text stand, one after another.
+-- The places of the declarations of a text, one after another.
 use Rattle.std.proofs.Common.{◌≡◌, ℕ, ◌<◌, String, List, [], ◌∷◌, ◌++◌, length, reverse, Option, Some, None, Bool, true, false, cond, nat_eq, slice_get, string_bytes, refl, sym, ◌∙◌, arith, length-append}
 use Rattle.std.specs.BTreeMap.{BTreeMap, get_by_text, UpdatesBy}
 use Rattle.std.specs.Ordering.{nat_cmp}
@@ -19,7 +19,7 @@ get-append_end : {X : Type 0} (xs : List X) (x : X) → slice_get (xs ++ x ∷ [
 get-append_end [] x = refl
 get-append_end (y ∷ ys) x = get-append_end ys x
 
--- one more declaration, which is found or is not
+-- one more declaration, which has the prefix or does not have it
 place_more : (b : Bool) (ds : List Declaration) (d : Declaration) (found : Option Declaration) (place : Option ℕ)
     → IsPlace ds found place → IsPlace (ds ++ d ∷ []) (cond b (Some d) found) (cond b (Some (length ds)) place)
 place_more true ds d found place h = (omega (arith, length-append ds (d ∷ [])), sym (get-append_end ds d))

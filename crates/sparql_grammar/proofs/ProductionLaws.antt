@@ -1,4 +1,4 @@
--- The productions are decided by the next terminal.
+-- The next terminal decides each choice of the productions.
 use Rattle.std.proofs.Common.{◌≡◌, ℕ, ◌<◌, ◌≤◌, List, [], ◌∷◌, Bool, true, false, if◌then◌else◌, nat_eq, nat_lt, refl, sym, ap, ◌∙◌, subst, arith}
 use Rattle.sparql_lexer.specs.declared.token.Kind.{Kind}
 use Rattle.sparql_grammar.specs.Symbol.{Symbol, Value}

@@ -1,4 +1,4 @@
--- Classes of terminals, and what a terminal of each of them stands for (SPARQL 1.1 Query Language,
+-- Classes of terminals, and the value of a terminal of each class (SPARQL 1.1 Query Language,
 -- section 19.8, terminals).
 use Rattle.std.specs.Prelude.{◌≡◌, ℕ, List, [], ◌∷◌, Option, Some, None, drop, map, codes}
 use lib.Utf8.{encodes}
@@ -18,21 +18,21 @@ use Rattle.sparql_grammar.specs.Values.{Names, capped, expanded}
 use Rattle.std.specs.Char.{to_ascii_lowercase}
 
 pub data Class : Type 0 where
-  -- a terminal of this very kind
+  -- a terminal of exactly this kind
   exactly : Kind → Class
   comparison : Class
   function : Class
   variable : Class
   blank : Class
-  -- an IRI reference, or a name that stands for an IRI
+  -- [136] iri: an IRIREF or a prefixed name
   name : Class
-  -- an IRI reference
+  -- [139] IRIREF
   reference : Class
   string : Class
   language : Class
   number : Class
   boolean : Class
-  -- an integer without a sign
+  -- [146] INTEGER
   count : Class
 
 abbrev pub Picked : Class → Type 0
@@ -67,12 +67,12 @@ function_of (kind.Keyword word.IsBlank) = Some the_function.IsBlank
 function_of (kind.Keyword word.IsLiteral) = Some the_function.IsLiteral
 function_of _ = None
 
--- the name behind `?` or `$`
+-- the name after `?` or `$`
 abbrev pub variable_of : Kind → List ℕ → Option (List ℕ)
 variable_of kind.Variable x = Some (encodes (drop 1 x))
 variable_of _ x = None
 
--- the label behind `_:`
+-- the label after `_:`
 abbrev pub blank_of : Kind → List ℕ → Option (List ℕ)
 blank_of kind.BlankLabel x = Some (encodes (drop 2 x))
 blank_of _ x = None
@@ -81,7 +81,7 @@ abbrev pub reference_of : Kind → List ℕ → Option (List ℕ)
 reference_of kind.IriRef x = iri_value x
 reference_of _ x = None
 
--- the IRI that is written, or that a prefixed name stands for
+-- the IRI of an IRIREF or of a prefixed name
 abbrev pub name_of : Names → Kind → List ℕ → Option (List ℕ)
 name_of ns kind.IriRef x = iri_value x
 name_of ns kind.PrefixedName x = Some (expanded ns x)
@@ -93,7 +93,7 @@ string_of kind.ShortString x = string_value kind.ShortString x
 string_of kind.LongString x = string_value kind.LongString x
 string_of _ x = None
 
--- the tag behind `@`, in lower case
+-- the tag after `@`, in lower case
 abbrev pub language_of : Kind → List ℕ → Option (List ℕ)
 language_of kind.LanguageTag x = Some (map to_ascii_lowercase (encodes (drop 1 x)))
 language_of _ x = None
@@ -107,7 +107,7 @@ number_type kind.Double = Some xsd_double
 number_type kind.SignedDouble = Some xsd_double
 number_type _ = None
 
--- a literal with the text of the number, its sign kept
+-- a literal whose lexical form is the text of the number with its sign
 abbrev pub number_of : Kind → List ℕ → Option Term
 number_of k x = elim (number_type k) [ None ↦ None | Some d ↦ Some (Literal (encodes x) d None) ]
 
@@ -120,7 +120,7 @@ abbrev pub count_of : Kind → List ℕ → Option ℕ
 count_of kind.Integer x = Some (capped x)
 count_of _ x = None
 
--- a terminal of the kind, spelled by these characters, is of the class and stands for the value
+-- a terminal of the kind with these characters is in the class and has the value
 abbrev pub Picks : Names → (c : Class) → Kind → List ℕ → Picked c → Type 0
 Picks ns (exactly k) l x v = l ≡ k
 Picks ns comparison l x v = comparison_of l ≡ Some v

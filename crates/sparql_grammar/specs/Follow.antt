@@ -1,6 +1,7 @@
--- How far a terminal reaches back into what precedes it, and what a terminal may begin. The contracts of the readers in
--- sparql_expression cite `reach` and `next_level` (through `Reads`), `heads` and `is_call`; only private clauses cite
--- the rest. The grammar itself does not look ahead.
+-- The productions that a terminal can continue, and the terminals that a production may begin with.
+-- The contracts of the readers in sparql_expression use `reach` and `next_level` (through `Reads`),
+-- `heads` and `is_call`. Only private clauses use the other definitions. The grammar itself does
+-- not look ahead.
 use Rattle.std.specs.Prelude.{ℕ, List, [], ◌∷◌, Bool, true, false}
 use Rattle.sparql_lexer.specs.declared.token.Kind.{Kind}
 use Rattle.sparql_lexer.specs.declared.token.Kind.TheVariants as kind
@@ -10,9 +11,17 @@ use Rattle.sparql_lexer.specs.Terminal.{Terminal, terminal}
 use Rattle.sparql_grammar.specs.Symbol.{Symbol}
 use Rattle.sparql_grammar.specs.Symbol as the
 
--- The widest production that the terminal can continue: 1 a literal or a union, 2 a relation, 3 a
--- conjunction, 4 a disjunction, 5 a list of objects, 6 the triples of one subject, 7 a run of
--- triples, 8 a whole query; 9 none.
+-- The widest production that the terminal can continue:
+--
+-- 1  a literal, or a union
+-- 2  a relational expression
+-- 3  a conjunction
+-- 4  a disjunction
+-- 5  a list of objects
+-- 6  the triples of one subject
+-- 7  a block of triples
+-- 8  a whole query
+-- 9  none
 abbrev pub level : Kind → ℕ
 level kind.LanguageTag = 1
 level (kind.Sign sign.Carets) = 1
@@ -55,7 +64,7 @@ abbrev pub next_level : List Terminal → ℕ
 next_level [] = 9
 next_level (terminal k x ∷ ts) = level k
 
--- the level up to which terminals can continue what a symbol derives
+-- the level up to which terminals can continue the text of a symbol
 abbrev pub reach : Symbol → ℕ
 reach the.disjunction = 4
 reach (the.more_or e) = 4
@@ -92,7 +101,7 @@ reach (the.after_limit n) = 8
 reach (the.after_offset n) = 8
 reach _ = 0
 
--- the terminals that a call, a verb, and what stands at a place of a triple may begin with
+-- the terminals that a call, a verb, and a term or variable of a triple may begin with
 abbrev pub is_call : Kind → Bool
 is_call (kind.Keyword word.Str) = true
 is_call (kind.Keyword word.Lang) = true
@@ -131,7 +140,7 @@ is_place (kind.Keyword word.True) = true
 is_place (kind.Keyword word.False) = true
 is_place _ = false
 
--- whether the next terminal is one of those
+-- whether the next terminal is one of these
 abbrev pub heads : (Kind → Bool) → List Terminal → Bool
 heads p [] = false
 heads p (terminal k x ∷ ts) = p k

@@ -1,5 +1,5 @@
--- Right sides of productions. The grammar of SPARQL 1.1 Query Language, section 19.8, is written
--- down with them in Productions.antt.
+-- Right sides of productions. Productions.antt writes the grammar of SPARQL 1.1 Query Language,
+-- section 19.8, with them.
 use Rattle.std.specs.Prelude.{ℕ, Bool}
 use Rattle.sparql_grammar.specs.Class.{Class, Picked, exactly}
 use Rattle.sparql_grammar.specs.Symbol.{Symbol, Value}
@@ -8,21 +8,21 @@ use Rattle.sparql_lexer.specs.declared.token.Kind.TheVariants as kind
 use Rattle.sparql_lexer.specs.declared.token.Keyword.{Keyword}
 use Rattle.sparql_lexer.specs.declared.token.Sign.{Sign}
 
--- What may stand in a text, and which value it gives.
+-- A list of symbols and terminals, and the value of a text of this form.
 pub data Form (A : Type 0) : Type 0 where
-  -- nothing more
+  -- nothing more; the value
   give : A → Form A
-  -- nothing more, and how many terminals stand behind decides the value
+  -- nothing more; the number of the terminals that follow determines the value
   behind : (ℕ → A) → Form A
-  -- a terminal of a class, and then what its value decides
+  -- a terminal of a class, followed by a form that depends on its value
   take : (c : Class) → (Picked c → Form A) → Form A
-  -- what a symbol derives, and then what its value decides
+  -- a text of a symbol, followed by a form that depends on its value
   part : (s : Symbol) → (Value s → Form A) → Form A
-  -- what a symbol derives, and nothing more
+  -- a text of a symbol, and nothing more
   last : (s : Symbol) → (Value s → A) → Form A
-  -- the one or the other
+  -- one form or the other
   choice : Form A → Form A → Form A
-  -- the form, where a condition on the values so far holds
+  -- the form, provided that a condition on the values before it is true
   when : Bool → Form A → Form A
 
 abbrev pub this : {A : Type 0} → Kind → Form A → Form A

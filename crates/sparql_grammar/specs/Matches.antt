@@ -1,4 +1,4 @@
--- What the productions derive.
+-- The lists of terminals that the productions derive.
 use Rattle.std.specs.Prelude.{◌≡◌, ℕ, List, ◌∷◌, length, Bool, true}
 use Rattle.sparql_lexer.specs.declared.token.Kind.{Kind}
 use Rattle.sparql_lexer.specs.Terminal.{Terminal, terminal}
@@ -8,9 +8,9 @@ use Rattle.sparql_grammar.specs.Symbol.{Symbol, Value}
 use Rattle.sparql_grammar.specs.Form.{Form, give, behind, take, part, last, choice, when}
 use Rattle.sparql_grammar.specs.Productions.{right_side}
 
--- `Matches names s form ts v rest`: the list ts begins with terminals of the form, which give the
--- value v, and rest stands behind them. A symbol stands for its right side. The form is one of the
--- symbol s, or what is left of one.
+-- `Matches names s form ts v rest`: the list ts is a text of the form, whose value is v, followed
+-- by rest. A symbol is replaced by its right side. The form is the right side of the symbol s, or a
+-- later part of it.
 pub data Matches (names : Names) : (s : Symbol) → Form (Value s) → List Terminal → Value s → List Terminal → Type 0 where
   gives : {s : Symbol} {v : Value s} {ts : List Terminal} → Matches names s (give v) ts v ts
   counts : {s : Symbol} {g : ℕ → Value s} {ts : List Terminal} → Matches names s (behind g) ts (g (length ts)) ts

@@ -1,5 +1,5 @@
--- The symbols of the grammar, and what each of them gives. A symbol that continues a list or a chain
--- carries what stands before it.
+-- The symbols of the grammar, and the type of the value of each. A symbol that continues a list or
+-- a chain has the part before it as an argument.
 use Rattle.std.specs.Prelude.{ℕ, List, Bool, Option}
 use Rattle.rdf_core.specs.declared.term.Term.{Term}
 use Rattle.sparql_tree.specs.declared.group.GraphName.{GraphName}

@@ -1,4 +1,4 @@
-//! The laws of the grammar.
+//! The law of the grammar.
 
 ghost use Rattle.std.specs.Prelude.{◌≡◌, List, []};
 ghost use Rattle.sparql_lexer.specs.Terminal.{Terminal};
@@ -8,7 +8,7 @@ ghost use Rattle.sparql_grammar.specs.Symbol as the;
 ghost use Rattle.sparql_grammar.specs.Productions.{right_side};
 ghost use Rattle.sparql_grammar.specs.Matches.{Matches};
 
-/// A list of terminals is one query at most.
+/// A list of terminals is at most one query.
 pub fn one_query()
     ensures unique { (names : Names) (ts : List Terminal) (q r : Select)
         → Matches names the.query (right_side the.query) ts q []

@@ -1,21 +1,28 @@
-//! From the terminals of a SPARQL query to its tree.
+//! Defines the grammar of SELECT queries, over lists of terminals.
 //!
-//! The grammar (SPARQL 1.1 Query Language, section 19.8, without what is left out) is written down
-//! once, as a value: `right_side` of specs/Productions.antt gives each symbol its right side, and
-//! `Matches` of specs/Matches.antt is what these derive, a relation over lists of terminals that
-//! never looks ahead. [`one_query`] is the law that a list of terminals is one query at most.
+//! The grammar is a value: `right_side` of specs/Productions.antt maps each symbol to its right
+//! side. `Matches` of specs/Matches.antt is the relation that the productions derive. It relates
+//! lists of terminals to syntax trees and does not look ahead. The law [`one_query`] states that a
+//! list of terminals is at most one query.
 //!
-//! A terminal stands for what its kind and its characters say (specs/Class.antt); one whose escape
-//! names nothing stands for nothing, so no production takes it.
+//! The kind and the characters of a terminal determine its value (specs/Class.antt). A terminal
+//! whose escape denotes no character has no value, so no production accepts it.
 //!
-//! To read in this order: specs/Class.antt, specs/Symbol.antt, specs/Form.antt,
-//! specs/Productions.antt, specs/Matches.antt, then `laws`; specs/Values.antt, then `names`.
+//! The declarations of its prefix determine the IRI of a prefixed name. A name whose prefix has no
+//! declaration has itself as its value. [`Declarations`] are the declarations of a text.
+//! [`Declarations::find`] returns the last [`Declaration`] of a prefix, without a search through
+//! the list.
 //!
-//! A prefixed name stands for its IRI by the declarations that are given; without a declaration of
-//! its prefix it stands as it is written. [`Declarations`] are those of a text: a prefix finds the last
-//! one that has it, without a walk over all.
+//! Standard: SPARQL 1.1 Query Language, sections 4.1.1 and 19.8. docs/USAGE.md (the query
+//! language) has the supported part.
 //!
-//! Not there: the readers, and the refusals of a query.
+//! Reading order: specs/Class.antt, specs/Symbol.antt, specs/Form.antt, specs/Productions.antt,
+//! specs/Matches.antt, then `laws`; specs/Values.antt, then `names`.
+//!
+//! Tests: `declarations` and `productions` of the crate query_tests.
+//!
+//! Not part of this crate: the readers (`sparql_expression`, `sparql_parse`), and the rules that
+//! reject a query (`sparql_read`).
 #![tactic(auto)]
 
 mod laws;

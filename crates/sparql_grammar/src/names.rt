@@ -1,4 +1,4 @@
-//! Prefixes and what they stand for.
+//! Prefix declarations.
 
 ghost use Rattle.std.specs.Prelude.{◌≡◌, [], ◌∷◌, MatchOption, None, OnErr, OnOk, Some};
 ghost use Rattle.sparql_grammar.specs.Values.{declaration_of};
@@ -8,20 +8,22 @@ use std::alloc::{AllocError, Global};
 use std::collections::BTreeMap;
 use std::marker::Model;
 
-/// `PREFIX prefix: <iri>`
+/// A prefix declaration, `PREFIX prefix: <iri>` ([6] PrefixDecl).
 #[derive(Debug, Drop)]
 pub struct Declaration {
+    /// The prefix, without its colon.
     pub prefix: Text,
+    /// The IRI of the prefix.
     pub iri: Text,
 }
 
-/// The declarations of a text, where each prefix finds the one that holds without a walk over all.
-/// A contract sees their list, the last one of the text first.
+/// The prefix declarations of a text. A contract views them as their list, the last one of the text
+/// first. A map finds the declaration of a prefix without a search through the list.
 #[derive(Drop)]
 pub struct Declarations {
-    /// As the text has them, the first one first.
+    /// The declarations in the order of the text.
     list: Vec<Declaration>,
-    /// Where in `list` the last declaration of a prefix stands.
+    /// The place in `list` of the last declaration of each prefix.
     places: BTreeMap<String, usize>,
 }
 
@@ -38,7 +40,7 @@ impl Model for Declarations {
 }
 
 impl Declarations {
-    /// No declarations; takes no memory.
+    /// Returns an empty list of declarations. Allocates nothing.
     pub fn new(alloc: Global) -> Declarations
         ensures names { result ≡ [] }
     {
@@ -48,10 +50,11 @@ impl Declarations {
         }
     }
 
-    /// Adds the declaration that comes next in the text. From here on it holds for its prefix.
+    /// Adds the next declaration of the text. It replaces an earlier one of the same prefix in
+    /// searches.
     ///
     /// # Errors
-    /// A growth was refused. The declarations are as they were.
+    /// `AllocError` if an allocation fails. The declarations are unchanged.
     pub fn add(&mut self, declaration: Declaration) -> Result<(), AllocError>
         ensures names { OnOk result (self.new ≡ declaration ∷ self.old) }
         ensures kept { OnErr result (self.new ≡ self.old) }
@@ -64,7 +67,7 @@ impl Declarations {
         Ok(())
     }
 
-    /// The declaration that holds for a prefix: the last one of the text that has it.
+    /// Returns the last declaration of a prefix in the text, or None if the prefix has none.
     pub fn find(&self, prefix: &str) -> Option<&Declaration>
         ensures declaration { MatchOption result (declaration_of self.now prefix.now ≡ None) (λ d. declaration_of self.now prefix.now ≡ Some d.now) }
     {

@@ -1,4 +1,4 @@
--- Where no name with a colon begins.
+-- Texts in which no PNAME_NS begins.
 use Rattle.std.proofs.Common.{◌≡◌, ℕ, ◌<◌, ◌≤◌, List, [], ◌∷◌, length, Bool, true, false, ◌-◌, suc, get_or, refl, sym, ap, ◌∙◌, subst, arith, ◌⊎◌, inl, inr, nat_eq, nat_le, if◌then◌else◌}
 use Rattle.std.proofs.lemmas.Bool.Decides.{nat_tests}
 use Rattle.rdf_core.specs.Characters.{is_pn_chars_base, is_name_start, is_name_char}
@@ -40,7 +40,7 @@ le_or_lt a b = go (nat_le a b) refl
     go true e = inl (grind (arith, nat_tests))
     go false e = inr (grind (arith, nat_tests))
 
--- two runs from one place, of which a colon ends the one
+-- two runs from one place, the first of which ends before a colon
 run_meets : {ts m end r : List ℕ} → Matches (many (character is_name_or_dot)) ts m → Matches (is 58) m r → Matches (many (character is_name_or_dot)) ts end → ((t : List ℕ) → Matches (many (character is_name_or_dot)) end t → length end ≤ length t) → m ≡ end
 run_meets {m = m} {end = end} {r = r} d x e longest = go (along (sure_character is_name_or_dot) d e)
   where
@@ -48,11 +48,11 @@ run_meets {m = m} {end = end} {r = r} d x e longest = go (along (sure_character 
     go (inl a) = elim (le_or_lt (length m) (length end)) [ inl l ↦ sym (behind_same (behind a) here (let k = shorter a in omega arith)) | inr l ↦ absurd (no_colon a l x) ]
     go (inr a) = sym (behind_same here (behind a) (let k = longest m a in let l = shorter a in omega arith))
 
--- a run that another run and a colon end
+-- a run and a colon after another run
 run_colon : {ts m end r : List ℕ} → Matches (many (character is_name_or_dot)) ts m → Matches (is 58) m r → Matches (many (character is_name_or_dot)) ts end → ((t : List ℕ) → Matches (many (character is_name_or_dot)) end t → length end ≤ length t) → Nowhere (is 58) end → ⊥
 run_colon {r = r} d x e longest none = none.none r (moved (run_meets d x e longest) x)
 
--- no namespace begins in a run that no colon ends
+-- no namespace begins in a run that no colon follows
 clear_run : {p end r : List ℕ} → Matches (many (character is_name_or_dot)) p end → length end < length p → ((t : List ℕ) → Matches (many (character is_name_or_dot)) end t → length end ≤ length t) → Nowhere (is 58) end → Matches namespace p r → ⊥
 clear_run run l longest none (both (left is_nothing) x) = no_colon run l x
 clear_run no_more l longest none (both (right (both b t)) x) = absurd (omega arith)
@@ -66,7 +66,7 @@ part_is_no_dot : is_name_part 46 ≡ false
 unfolding is_name_char is_name_start is_pn_chars_base
 part_is_no_dot = refl
 
--- another character than a dot stands before the end
+-- the character before the end is not a dot
 not_dotted : (p : ℕ → Bool) {c : ℕ} {text end : List ℕ} → Behind text (c ∷ end) → Behind text (46 ∷ end) → p c ≡ true → p 46 ≡ false → ⊥
 not_dotted p b d e f = true_false (subst (λ z. p z ≡ true) (ap (λ xs. get_or xs 0 0) (behind_same b d refl)) e) f
 
@@ -100,7 +100,7 @@ last_next x c {ts = ts} {end = end} b h = elim (le_or_lt (length ts) (length end
         let i : length (c ∷ ts) - length end - 1 ≡ suc (length ts - length end - 1) = omega (arith, k) in
         rw i (next (h k))
 
--- what stands last before the end
+-- the last character before the end
 last_behind : (x : ℕ) {text end : List ℕ} → Behind text end → length end < length text → Behind text (get_or text (length text - length end - 1) x ∷ end)
 last_behind x here l = absurd (omega arith)
 last_behind x (next {c = c} b) l = last_next x c b (λ k. last_behind x b k)
@@ -108,7 +108,7 @@ last_behind x (next {c = c} b) l = last_next x c b (λ k. last_behind x b k)
 same_dot : (c : ℕ) → nat_eq c 46 ≡ true → c ≡ 46
 same_dot c f = grind (arith, nat_tests)
 
--- the character last before the end, where it is a dot
+-- the last character before the end, if it is a dot
 pub dot_behind : (x : ℕ) {text end : List ℕ} → Behind text end → length end < length text → x ≡ get_or text (length text - length end - 1) x → nat_eq x 46 ≡ true → Behind text (46 ∷ end)
 dot_behind x {text = text} {end = end} b l e f = subst (λ c. Behind text (c ∷ end)) (sym e ∙ same_dot x f) (last_behind x b l)
 
@@ -123,7 +123,7 @@ run_behind {place = place} {end = end} b l run = record { matches = from; longes
     go t (inl a) = run.longest t (many_append run.matches a)
     go t (inr a) = shorter a
 
--- a text does not stand before itself
+-- a text does not begin before itself
 pub run_start : (text : List ℕ) → IsRun text text
 run_start text l = absurd (omega (arith, l))
 
@@ -145,7 +145,7 @@ clear_namespace text end h l = record { none = λ rest d. h.none text rest here 
 pub clear_name : (text end : List ℕ) → IsClear text end → length end < length text → Nowhere prefixed_name text
 clear_name text end h l = then_none namespace local text (clear_namespace text end h l)
 
--- white space stands before the place
+-- the text after white space is a suffix of the text
 blanks_behind : (inside : Bool) (ts : List ℕ) → Behind ts (beyond inside ts)
 blanks_behind inside [] = here
 blanks_behind true (c ∷ cs) = go (is_line_end c) (blanks_behind false cs) (blanks_behind true cs)

@@ -56,7 +56,7 @@ twice : (a : Bool) → ((a || false) || false) ≡ true → a ≡ true
 twice true h = refl
 twice false h = h
 
--- letters of names are no ASCII sign or digit
+-- letters of names are not ASCII signs or digits
 
 low : (a b c : ℕ) → c ≤ 64 → 65 ≤ a → (nat_le a c && nat_le c b) ≡ false
 low a b c h k = let e : nat_le a c ≡ false = grind (arith, nat_tests) in ap (λ z. z && nat_le c b) e
@@ -103,7 +103,7 @@ base_digit c h = go (is_digit c) refl
 not_base : (n c : ℕ) → is_base c ≡ true → is_base n ≡ false → nat_eq n c ≡ false
 not_base n c h e = but is_base n e c h
 
--- a number for what each first character may begin
+-- a group number for each first character, by the terminals that may begin with it
 abbrev pub lead : ℕ → ℕ
 lead c =
     if nat_eq 60 c then 1 else if nat_eq 63 c || nat_eq 36 c then 2 else if nat_eq 95 c then 4 else if nat_eq 91 c then 5
@@ -140,7 +140,7 @@ lead_at n c m e h = subst (λ x. lead x ≡ m) (same_number n c (alone (nat_eq n
 lead_two : (n k c m : ℕ) → lead n ≡ m → lead k ≡ m → ((nat_eq n c || nat_eq k c) || false) ≡ true → lead c ≡ m
 lead_two n k c m e f h = elim (or_either (nat_eq n c) (nat_eq k c) (alone (nat_eq n c || nat_eq k c) h)) [ inl x ↦ subst (λ x. lead x ≡ m) (same_number n c x) e | inr y ↦ subst (λ x. lead x ≡ m) (same_number k c y) f ]
 
--- the group of a kind, as its first character tells it; 0 for signs
+-- the group of a kind, which its first character determines; 0 for signs
 abbrev pub group : Kind → ℕ
 group kind.IriRef = 1
 group kind.Variable = 2
@@ -169,7 +169,7 @@ lead_number : (c : ℕ) → is_digit c ≡ true ⊎ (46 ≡ c) → lead c ≡ 7
 lead_number c (inl h) = lead_digit c h
 lead_number c (inr e) = subst (λ x. lead x ≡ 7) e refl
 
--- what a namespace, a number and a word begin with
+-- the first characters of a namespace, a number and a word
 begins_name : {c : ℕ} {ts r : List ℕ} → Matches namespace (c ∷ ts) r → is_base c ≡ true ⊎ (58 ≡ c)
 begins_name {c = c} d = go (or_either (is_base c || false) (nat_eq 58 c) (first_true {a = namespace} refl d))
   where
@@ -280,7 +280,7 @@ name_signless : (c : ℕ) → is_base c ≡ true ⊎ (58 ≡ c) → (sign_of_one
 name_signless c (inl h) = base_signless c h
 name_signless c (inr e) = signless_at 58 c (refl, λ d. refl) e
 
--- an IRI is longer than its sign
+-- an IRI is longer than its first character as a sign
 iri_sign : {s : Sign} {ts r : List ℕ} → Matches iri ts r → IsSign s ts r → ⊥
 iri_sign (both (is_character e) d) (one f) = let k = strictly {a = many iri_piece ▸ is 62} refl d in absurd (omega arith)
 iri_sign (both (is_character {c = c} e) (both {mid = m} p (is_character {c = b} q))) (two {d = x} f) =

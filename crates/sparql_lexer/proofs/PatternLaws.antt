@@ -1,11 +1,12 @@
--- Laws of patterns: what they leave, how they begin, and the longest texts of patterns in a row.
+-- Laws of patterns: the text after them, their first characters, and the longest texts of
+-- sequences.
 use Rattle.std.proofs.Common.{◌≡◌, ℕ, ◌<◌, ◌≤◌, List, [], ◌∷◌, length, Bool, true, false, ◌||◌, ◌&&◌, refl, sym, ap, ◌∙◌, subst, arith, Option, Some, None, ◌⊎◌, inl, inr, nat_eq}
 use Rattle.std.proofs.lemmas.Bool.Decides.{nat_tests}
 use Rattle.std.specs.Borrow.{Bor}
 use Rattle.sparql_lexer.specs.Colonless.{Behind, here, next}
 use Rattle.sparql_lexer.specs.Pattern.{Pattern, nothing, character, ◌▸◌, ◌or◌, many, is, perhaps, Matches, is_nothing, is_character, both, left, right, no_more, one_more, EndsAt, Nowhere, Ends}
 
--- what stands at the end of a text
+-- suffixes of a text
 
 pub behind_shorter : {ts rest : List ℕ} → Behind ts rest → length rest ≤ length ts
 behind_shorter here = omega arith
@@ -33,7 +34,7 @@ behind (one_more d e) = behind_behind (behind d) (behind e)
 pub shorter : {a : Pattern} {ts rest : List ℕ} → Matches a ts rest → length rest ≤ length ts
 shorter d = behind_shorter (behind d)
 
--- how a text of a pattern begins
+-- the first character of a text of a pattern
 
 abbrev pub nullable : Pattern → Bool
 nullable nothing = true
@@ -129,7 +130,7 @@ nothing_taken (a or b) ts h = go (nullable a) (nullable b) h (nothing_taken a ts
     go false y h f g = right (g h)
 nothing_taken (many a) ts h = no_more
 
--- patterns whose texts all end at one place
+-- patterns whose texts at one place all have the same end
 
 pub record Sure (a : Pattern) : Type 0 where
   pub same : (ts r s : List ℕ) → Matches a ts r → Matches a ts s → r ≡ s
@@ -147,7 +148,7 @@ sure_then {a = a} {b = b} f g = record { same = λ ts r s d e. go d e }
     go {ts = ts} {r = r} {s = s} (both {mid = m} d e) (both {mid = m'} d' e') =
         let same = f.same ts m m' d d' in g.same m r s e (subst (λ x. Matches b x s) (sym same) e')
 
--- the two never begin at one place
+-- no place begins a text of both patterns
 pub record Apart (a b : Pattern) : Type 0 where
   pub never : (ts r s : List ℕ) → Matches a ts r → Matches b ts s → ⊥
 
@@ -168,7 +169,7 @@ sure_or {a = a} {b = b} f g apart = record { same = λ ts r s d e. go d e }
     go {ts = ts} {r = r} {s = s} (right d) (left e) = absurd (apart.never ts s r e d)
     go {ts = ts} {r = r} {s = s} (right d) (right e) = g.same ts r s d e
 
--- the longest of patterns in a row
+-- the longest text of a sequence of patterns
 
 pub then_none : (a b : Pattern) (ts : List ℕ) → Nowhere a ts → Nowhere (a ▸ b) ts
 then_none a b ts h = record { none = λ other d. go other d }
@@ -186,7 +187,7 @@ then_sure {a = a} b {ts = ts} {mid = mid} (Some p) sure d h = record { matches =
     go : (other : List ℕ) → Matches (a ▸ b) ts other → length p.now ≤ length other
     go other (both {mid = m} x y) = h.longest other (subst (λ x. Matches b x other) (sure.same ts m mid x d) y)
 
--- of a repeated pattern that is sure, one run goes on where the other ends
+-- a run of a repeated pattern continues where another run ends, if the pattern is Sure
 pub many_append : {a : Pattern} {ts mid rest : List ℕ} → Matches (many a) ts mid → Matches (many a) mid rest → Matches (many a) ts rest
 many_append no_more e = e
 many_append (one_more x d) e = one_more x (many_append d e)
@@ -197,7 +198,7 @@ along sure (one_more x d) no_more = inr (one_more x d)
 along {a = a} {ts = ts} {n = n} sure (one_more {mid = k} x d) (one_more {mid = l} y e) =
     along sure d (subst (λ z. Matches (many a) z n) (sym (sure.same ts k l x y)) e)
 
--- R takes a run of X, the longest: what begins with no X can stand behind it alone
+-- R is followed by the longest run of X; a pattern that begins with no X can follow only that run
 pub greedy_then : (X R b : Pattern) {ts mid : List ℕ} (res : Option (Bor (List ℕ))) → Sure X → nullable X ≡ false → ((ms : List ℕ) → Matches R ts ms → Matches (many X) ts ms)
     → ((c : ℕ) → first X c ≡ true → first b c ≡ false) → EndsAt R ts mid → Ends b mid res → Ends (R ▸ b) ts res
 greedy_then X R b {ts = ts} {mid = mid} res sure solid inside apart run h = finish res h
@@ -244,7 +245,7 @@ missing p ts us c is e = subst (Nowhere (character p)) (sym is) (record { none =
 pub missing_at_end : (p : ℕ → Bool) (ts : List ℕ) → ts ≡ [] → Nowhere (character p) ts
 missing_at_end p ts is = subst (Nowhere (character p)) (sym is) (record { none = λ other d. not_at_end refl d })
 
--- runs of a pattern that is sure
+-- runs of a pattern that is Sure
 
 pub run_more : (a : Pattern) {ts mid rest : List ℕ} → Sure a → Matches a ts mid → EndsAt (many a) mid rest → EndsAt (many a) ts rest
 run_more a {ts = ts} {mid = mid} {rest = rest} sure d h = record { matches = one_more d h.matches; longest = λ other e. go other e }
@@ -337,7 +338,7 @@ apart_swap f = record { never = λ ts r s d e. f.never ts s r e d }
 pub nowhere : {a b : Pattern} {ts r : List ℕ} → Apart a b → Matches a ts r → Nowhere b ts
 nowhere {ts = ts} {r = r} apart d = record { none = λ other e. apart.never ts r other d e }
 
--- pieces up to a close
+-- pieces up to the closing delimiter
 
 pub closes : (a b : Pattern) (ts r : List ℕ) → Apart b a → EndsAt b ts r → EndsAt (many a ▸ b) ts r
 closes a b ts r apart h = record { matches = both no_more h.matches; longest = λ other d. go other d }
@@ -365,7 +366,7 @@ unclosed a b ts nb na = record { none = λ other d. go other d }
     go other (both no_more y) = nb.none other y
     go other (both (one_more {mid = m} x xs) y) = na.none m x
 
--- parts with dots among them: ((part | '.')* part)?
+-- parts with dots between them: ((part | '.')* part)?
 
 abbrev pub tail : Pattern → Pattern
 tail part = perhaps (many (part or is 46) ▸ part)

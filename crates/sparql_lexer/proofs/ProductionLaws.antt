@@ -1,4 +1,4 @@
--- The parts of the productions: which end at one place, and which never begin alike.
+-- The parts of the productions: which are Sure, and which are Apart.
 use Rattle.std.proofs.Common.{◌≡◌, ℕ, ◌≤◌, List, length, Bool, true, false, ◌||◌, not, refl, sym, ap, ◌∙◌, arith, Option, Some, None, ◌⊎◌, inl, inr, nat_eq}
 use Rattle.std.proofs.lemmas.Bool.Decides.{nat_tests}
 use Rattle.std.specs.Borrow.{Bor}
@@ -85,7 +85,7 @@ two_quotes q x ts one two res apart d e h = perhaps_taken (quotes q) x ts res (n
     (spread (is q) (is q ▸ is q) x ts res (only_right (is q ▸ x) ((is q ▸ is q) ▸ x) ts res
     (then_sure x None (sure_is q) d (nowhere (apart_swap apart) e)) (regroup (is q) (is q) x ts res (then_sure (is q ▸ x) res (sure_is q) d (then_sure x res (sure_is q) e h)))))
 
--- a long piece with the quotes before it, one by one
+-- a piece of a long string with the quotes before it, one by one
 abbrev pub stepwise : ℕ → Pattern → Pattern
 stepwise q x = x or (is q ▸ (x or (is q ▸ x)))
 

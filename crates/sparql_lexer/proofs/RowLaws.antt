@@ -1,4 +1,4 @@
--- Each kind in its row, and all rows together.
+-- The kinds of each row, and all rows together.
 use Rattle.std.proofs.Common.{◌≡◌, ℕ, ◌≤◌, List, [], ◌∷◌, length, true, refl, sym, subst, arith, Option, Some, None, nat_eq}
 use Rattle.std.specs.Borrow.{Bor}
 use Rattle.sparql_lexer.specs.declared.token.Keyword.{Keyword}

@@ -1,4 +1,4 @@
--- LANGTAG describes the texts that rdf_core's test for tags accepts.
+-- LANGTAG describes the texts that the test of rdf_core accepts.
 use Rattle.std.proofs.Common.{◌≡◌, ℕ, List, [], ◌∷◌, ◌++◌, Bool, true, false, ◌||◌, ◌&&◌, eqb, refl, sym, ap, ◌∙◌, subst, arith, ◌⊎◌, inl, inr, nat_eq, nat_le}
 use Rattle.std.proofs.lemmas.Bool.Decides.{nat_tests}
 use Rattle.std.specs.Char.{is_ascii_alphabetic, is_ascii_alphanumeric}
@@ -47,9 +47,9 @@ turned false false false = refl
 letter_or_digit : (c : ℕ) → is_letter_or_digit c ≡ is_ascii_alphanumeric c
 letter_or_digit c = turned (nat_le 65 c && nat_le c 90) (nat_le 97 c && nat_le c 122) (is_digit c)
 
--- from the notation to the definition
+-- from the pattern to the definition
 
--- such a text stands before the rest, and behind the letters of a tag
+-- the text before rest, which is a list of subtags and a tail of a tag
 record TagEnd (text rest : List ℕ) : Type 0 where
   pub front : List ℕ
   pub parts : text ≡ front ++ rest
@@ -95,9 +95,9 @@ is_tag_of (both (is_character {c = s} e) (both (both (is_character {c = c} f) ru
       right = and_both (is_ascii_alphabetic c) (is_tag_tail (c ∷ r.0)) f (letter_cons c r.0 f r.2);
     }
 
--- from the definition to the notation
+-- from the definition to the pattern
 
--- a run of letters and digits, and then subtags
+-- a run of letters and digits, followed by subtags
 record Cut (front rest : List ℕ) : Type 0 where
   pub mid : List ℕ
   pub run : Matches (many (character is_letter_or_digit)) (front ++ rest) mid
@@ -135,7 +135,7 @@ tail_cut (c ∷ cs) rest h =
 hyphen_no_letter : (c : ℕ) → eqb c 45 ≡ true → is_ascii_alphabetic c ≡ false
 hyphen_no_letter c h = subst (λ (z : ℕ). is_ascii_alphabetic z ≡ false) (hyphen c h) refl
 
--- behind a letter stands what may follow it
+-- the text after the first letter of a tag is a tail of a tag
 behind_letter : (c : ℕ) (cs : List ℕ) → is_ascii_alphabetic c ≡ true → is_tag_tail (c ∷ cs) ≡ true → is_tag_tail cs ≡ true
 behind_letter c cs e h =
     elim (or_parts (is_ascii_alphabetic c && is_tag_tail cs) ((eqb c 45 && begins is_ascii_alphanumeric cs) && is_subtags cs) h) [

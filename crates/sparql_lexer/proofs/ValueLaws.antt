@@ -1,4 +1,4 @@
--- What decodes a text, from what rdf_core says of it.
+-- The functions that decode a text, by the laws of rdf_core.
 use Rattle.std.proofs.Common.{◌≡◌, ◌↔◌, ℕ, ◌-◌, List, [], ◌∷◌, ◌++◌, length, take, refl, sym, ap, ◌∙◌, arith, length-append, Option, Some, None}
 use Rattle.std.proofs.lemmas.List.{drop_at, take_at}
 use Rattle.std.specs.Prelude.{MatchOption}
@@ -29,7 +29,7 @@ decoded_as k cs (Some bytes) h =
 pub value_from : (k : Inside) (cs bytes : List ℕ) (found : Option (List ℕ)) → IsUtf8 bytes → bytes ≡ encodes cs → MatchOption found ((bs : List ℕ) → IsWritten (IsPart k) (chars bytes) bs → ⊥) (λ bs. IsWritten (IsPart k) (chars bytes) bs) → found ≡ decoded k cs
 value_from k cs bytes found u e h = decoded_as k (chars bytes) found h ∙ ap (decoded k) (sym (chars_from_encodes cs bytes u (sym e)))
 
--- The decoded bytes are those that the text writes, and none others.
+-- The decoded bytes are exactly those that the text writes.
 
 whole_some : (read : Option (List ℕ × List ℕ)) (bytes : List ℕ) → whole_of read ≡ Some bytes → (rest : List ℕ) × (read ≡ Some (bytes, rest))
 whole_some None bytes e = absurd (cc)
@@ -44,7 +44,7 @@ decoded_found k cs bytes e =
 pub decoded_is_written : (k : Inside) (cs bytes : List ℕ) → (decoded k cs ≡ Some bytes) ↔ IsWritten (IsPart k) cs bytes
 decoded_is_written k cs bytes = (decoded_found k cs bytes, λ w. sym (decoded_as k cs (Some bytes) w))
 
--- what is between n characters at each side
+-- a text without n characters on each side
 between_sides : (n : ℕ) (front body back : List ℕ) → length front ≡ n → length back ≡ n → between n (front ++ (body ++ back)) ≡ body
 between_sides n front body back f b =
     ap (λ (z : List ℕ). take (length z - n) z) (drop_at front (body ++ back) n f) ∙ take_at body back (length (body ++ back) - n) (omega (arith, length-append body back))

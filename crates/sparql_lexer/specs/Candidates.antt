@@ -1,4 +1,4 @@
--- The longest terminal among some kinds; private clauses alone cite this file.
+-- The longest terminal of some kinds. Only private clauses use these definitions.
 use Rattle.std.specs.Prelude.{◌≡◌, ◌≤◌, ℕ, List, ◌∷◌, length, Bool, true, ◌||◌, nat_eq, Option, Some, None}
 use Rattle.std.specs.Borrow.{Bor}
 use Rattle.sparql_lexer.specs.declared.token.Kind.{Kind}
@@ -8,7 +8,7 @@ use Rattle.sparql_lexer.specs.declared.token.Sign.{Sign}
 use Rattle.sparql_lexer.specs.Scan.{Reads, Longest, Unreadable}
 use Rattle.sparql_lexer.specs.Signs.{sign_of_two}
 
--- a number for each kind: all words have one, and all signs
+-- a number for each kind; all words have the same number, and so do all signs
 abbrev pub row : Kind → ℕ
 row kind.IriRef = 0
 row kind.Variable = 1
@@ -29,7 +29,8 @@ row (kind.Keyword k) = 15
 row kind.Word = 15
 row (kind.Sign s) = 16
 
--- a terminal, as long as each of these rows at the front of the text
+-- the text begins with a terminal of the kind k, and no terminal of these rows at this place is
+-- longer
 pub record BestOf (rows : ℕ → Bool) (text : List ℕ) (k : Kind) (rest : List ℕ) : Type 0 where
   pub reads : Reads k text rest
   pub longest : (l : Kind) (other : List ℕ) → rows (row l) ≡ true → Reads l text other → length rest ≤ length other
@@ -41,7 +42,8 @@ abbrev pub LongestOf : (ℕ → Bool) → List ℕ → Option (Kind × Bor (List
 LongestOf rows text None = NoneOf rows text
 LongestOf rows text (Some p) = BestOf rows text p.0 p.1.now
 
--- what the pattern describes is of the kind, and no other is in its row
+-- the pattern describes the terminals of the kind k, and no other kind of its row has other
+-- terminals
 pub record IsRow (k : Kind) (a : Pattern) : Type 0 where
   pub reads : (text rest : List ℕ) → Matches a text rest → Reads k text rest
   pub only : (l : Kind) (text rest : List ℕ) → nat_eq (row k) (row l) ≡ true → Reads l text rest → Matches a text rest
@@ -67,12 +69,12 @@ marked_rows = either (nat_eq 1) (either (nat_eq 4) (nat_eq 6))
 abbrev pub every_row : ℕ → Bool
 every_row = either name_rows (either (either number_rows signed_rows) (either (either enclosed_rows marked_rows) (nat_eq 16)))
 
--- the longest terminal at a place, and None where none can be read
+-- the longest terminal at a place, or None if there is no terminal
 abbrev pub IsLongest : List ℕ → Option (Kind × Bor (List ℕ)) → Type 0
 IsLongest place None = Unreadable place
 IsLongest place (Some p) = Longest p.0 place p.1.now
 
--- the second character of a sign, whose first is c
+-- the second character of a sign with the first character c
 abbrev pub IsSecond : ℕ → List ℕ → Option (Sign × Bor (List ℕ)) → Type 0
 IsSecond c text None = (d : ℕ) (rest : List ℕ) → text ≡ d ∷ rest → sign_of_two c d ≡ None
 IsSecond c text (Some p) = (d : ℕ) × (text ≡ d ∷ p.1.now) × (sign_of_two c d ≡ Some p.0)

@@ -1,4 +1,4 @@
--- The code's classes of characters; private clauses alone cite this file.
+-- The characters of each `Class` of the code. Only private clauses use these definitions.
 use Rattle.std.specs.Prelude.{ℕ, Bool, not, nat_eq}
 use Rattle.sparql_lexer.specs.declared.classes.Class.{Class}
 use Rattle.sparql_lexer.specs.declared.classes.Class.TheVariants as class

@@ -1,10 +1,10 @@
--- Where no name with a colon begins; private clauses alone cite this file.
+-- Texts in which no [140] PNAME_NS begins. Only private clauses use these definitions.
 use Rattle.std.specs.Prelude.{◌<◌, ℕ, List, ◌∷◌, length, Bool, ◌||◌, nat_eq}
 use Rattle.sparql_lexer.specs.Characters.{is_name_part}
 use Rattle.sparql_lexer.specs.Names.{namespace}
 use Rattle.sparql_lexer.specs.Pattern.{Matches, EndsAt, many, character}
 
--- rest stands at the end of the text
+-- the second text is a suffix of the first
 pub data Behind : List ℕ → List ℕ → Type 0 where
   here : {ts : List ℕ} → Behind ts ts
   next : {c : ℕ} {ts rest : List ℕ} → Behind ts rest → Behind (c ∷ ts) rest
@@ -12,10 +12,11 @@ pub data Behind : List ℕ → List ℕ → Type 0 where
 abbrev pub is_name_or_dot : ℕ → Bool
 is_name_or_dot c = is_name_part c || nat_eq 46 c
 
--- no namespace begins in the text before the end
+-- no PNAME_NS begins in the text before `end`
 pub record IsClear (text end : List ℕ) : Type 0 where
   pub none : (place rest : List ℕ) → Behind text place → length end < length place → Matches namespace place rest → ⊥
 
--- the name characters and dots at the front of the text end there, where the text stands before the end
+-- the run of name characters and dots that the text begins with ends at `end`, if `end` is not the
+-- whole text
 abbrev pub IsRun : List ℕ → List ℕ → Type 0
 IsRun text end = length end < length text → EndsAt (many (character is_name_or_dot)) text end

@@ -1,4 +1,4 @@
--- The code's names for groups of productions; private clauses alone cite this file.
+-- The patterns of the code's enums. Only private clauses use these definitions.
 use Rattle.sparql_lexer.specs.declared.numbers.NumberForm.{NumberForm}
 use Rattle.sparql_lexer.specs.declared.numbers.NumberForm.TheVariants as number
 use Rattle.sparql_lexer.specs.declared.enclosed.Enclosure.{Enclosure}
@@ -40,7 +40,7 @@ piece_of enclosure.LongSingle = long_piece 39
 piece_of enclosure.LongDouble = long_piece 34
 piece_of enclosure.Anonymous = character is_space or comment
 
--- behind what opens it
+-- the text after the opening delimiter
 abbrev pub inside_of : Enclosure → Pattern
 inside_of e = many (piece_of e) ▸ close_of e
 

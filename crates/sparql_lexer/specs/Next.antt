@@ -1,4 +1,4 @@
--- The first character of a text; private clauses alone cite this file.
+-- The first character of a text. Only private clauses use this definition.
 use Rattle.std.specs.Prelude.{◌≡◌, ℕ, List, [], ◌∷◌, Option, Some, None}
 use Rattle.std.specs.Borrow.{Bor}
 

@@ -1,4 +1,4 @@
--- Numbers (SPARQL 1.1 Query Language, section 19.8, INTEGER to DOUBLE_NEGATIVE).
+-- Numbers (SPARQL 1.1 Query Language, section 19.8, productions [146] INTEGER to [155] EXPONENT).
 use Rattle.std.specs.Prelude.{ℕ, Bool, ◌||◌, nat_eq}
 use Rattle.sparql_lexer.specs.Pattern.{Pattern, character, is, some, many, perhaps, ◌▸◌, ◌or◌}
 use Rattle.sparql_lexer.specs.Characters.{is_digit}
@@ -12,22 +12,22 @@ is_exponent_letter c = nat_eq 101 c || nat_eq 69 c
 abbrev pub digit : Pattern
 digit = character is_digit
 
--- INTEGER ::= [0-9]+
+-- [146] INTEGER ::= [0-9]+
 abbrev pub integer : Pattern
 integer = some digit
 
--- DECIMAL ::= [0-9]* '.' [0-9]+
+-- [147] DECIMAL ::= [0-9]* '.' [0-9]+
 abbrev pub decimal : Pattern
 decimal = many digit ▸ is 46 ▸ some digit
 
--- EXPONENT ::= [eE] [+-]? [0-9]+
+-- [155] EXPONENT ::= [eE] [+-]? [0-9]+
 abbrev pub exponent : Pattern
 exponent = character is_exponent_letter ▸ perhaps (character is_plus_or_minus) ▸ some digit
 
--- DOUBLE ::= [0-9]+ '.' [0-9]* EXPONENT | '.' ([0-9])+ EXPONENT | ([0-9])+ EXPONENT
+-- [148] DOUBLE ::= [0-9]+ '.' [0-9]* EXPONENT | '.' ([0-9])+ EXPONENT | ([0-9])+ EXPONENT
 abbrev pub double : Pattern
 double = (some digit ▸ is 46 ▸ many digit ▸ exponent) or (is 46 ▸ some digit ▸ exponent) or (some digit ▸ exponent)
 
--- with a sign before it
+-- a number after a plus or minus sign: [149] INTEGER_POSITIVE to [154] DOUBLE_NEGATIVE
 abbrev pub signed : Pattern → Pattern
 signed number = character is_plus_or_minus ▸ number

@@ -1,4 +1,5 @@
--- What the productions of terminals are written in, as the standard writes them (SPARQL 1.1 Query Language, section 19.8).
+-- The notation of the productions of terminals, as in the standard (SPARQL 1.1 Query Language,
+-- section 19.8).
 use Rattle.std.specs.Prelude.{◌≡◌, ◌≤◌, ℕ, List, ◌∷◌, length, Bool, true, nat_eq, Option, Some, None}
 use Rattle.std.specs.Borrow.{Bor}
 
@@ -6,9 +7,9 @@ infixr 30 ◌▸◌
 infixr 20 ◌or◌
 pub data Pattern : Type 0 where
   nothing : Pattern
-  -- one character that passes a test
+  -- one character for which the test returns true
   character : (ℕ → Bool) → Pattern
-  -- A B: the one, and then the other
+  -- A B: A, followed by B
   ◌▸◌ : Pattern → Pattern → Pattern
   -- A | B
   ◌or◌ : Pattern → Pattern → Pattern
@@ -26,7 +27,7 @@ some a = a ▸ many a
 abbrev pub perhaps : Pattern → Pattern
 perhaps a = nothing or a
 
--- text begins with what the pattern describes, and rest stands behind it
+-- the text is a text of the pattern followed by `rest`
 pub data Matches : Pattern → List ℕ → List ℕ → Type 0 where
   is_nothing : {text : List ℕ} → Matches nothing text text
   is_character : {p : ℕ → Bool} {c : ℕ} {rest : List ℕ} → p c ≡ true → Matches (character p) (c ∷ rest) rest
@@ -36,7 +37,7 @@ pub data Matches : Pattern → List ℕ → List ℕ → Type 0 where
   no_more : {a : Pattern} {text : List ℕ} → Matches (many a) text text
   one_more : {a : Pattern} {text mid rest : List ℕ} → Matches a text mid → Matches (many a) mid rest → Matches (many a) text rest
 
--- the longest text of a pattern at the front, by what stands behind it
+-- the longest text of the pattern that `text` begins with; `rest` is the text after it
 pub record EndsAt (a : Pattern) (text rest : List ℕ) : Type 0 where
   pub matches : Matches a text rest
   pub longest : (other : List ℕ) → Matches a text other → length rest ≤ length other
@@ -44,7 +45,7 @@ pub record EndsAt (a : Pattern) (text rest : List ℕ) : Type 0 where
 pub record Nowhere (a : Pattern) (text : List ℕ) : Type 0 where
   pub none : (other : List ℕ) → Matches a text other → ⊥
 
--- what a function answers that looks for the longest; None where there is none
+-- the result of a function that finds the longest text of a pattern, or None if there is none
 abbrev pub Ends : Pattern → List ℕ → Option (Bor (List ℕ)) → Type 0
 Ends a text None = Nowhere a text
 Ends a text (Some rest) = EndsAt a text rest.now

@@ -1,4 +1,4 @@
--- The terminals of a text: the longest at each place (SPARQL 1.1 Query Language, section 19.8).
+-- The terminals of a text, the longest at each place (SPARQL 1.1 Query Language, section 19.8).
 use Rattle.std.specs.Prelude.{◌≡◌, ◌≤◌, ℕ, List, [], ◌∷◌, length, Some, None}
 use Rattle.sparql_lexer.specs.declared.token.Kind.{Kind}
 use Rattle.sparql_lexer.specs.declared.token.Kind.TheVariants as kind
@@ -11,7 +11,7 @@ use Rattle.sparql_lexer.specs.Numbers.{integer, decimal, double, signed}
 use Rattle.sparql_lexer.specs.Signs.{IsSign}
 use Rattle.sparql_lexer.specs.Words.{IsWord, taken}
 
--- text begins with a terminal of the kind, and rest stands behind it
+-- the text is a terminal of the kind followed by `rest`
 abbrev pub Reads : Kind → List ℕ → List ℕ → Type 0
 Reads kind.IriRef = Matches iri
 Reads kind.Variable = Matches variable
@@ -40,8 +40,9 @@ pub record Longest (k : Kind) (place rest : List ℕ) : Type 0 where
 abbrev pub Unreadable : List ℕ → Type 0
 Unreadable place = (k : Kind) (rest : List ℕ) → Reads k place rest → ⊥
 
--- The terminals of a text, each the longest at its place, with white space before, between and behind them, up to
--- the first place where none can be read. The text is read whole where nothing stands there.
+-- The terminals of a text, each the longest at its place, up to the first place where there is no
+-- terminal. White space may occur before, between and after them. The third text begins at that
+-- place; it is empty if the whole text is read.
 pub data Scans : List ℕ → List Terminal → List ℕ → Type 0 where
   stops : {text place : List ℕ} → after_blanks text ≡ place → Unreadable place → Scans text [] place
   reads : {text place rest end : List ℕ} {k : Kind} {ts : List Terminal} → after_blanks text ≡ place → Longest k place rest → Scans rest ts end

@@ -1,4 +1,4 @@
--- The signs of one and of two characters.
+-- The signs of one and two characters.
 use Rattle.std.specs.Prelude.{◌≡◌, ℕ, List, ◌∷◌, Option, Some, None, nat_eq, ◌&&◌, if◌then◌else◌}
 use Rattle.sparql_lexer.specs.declared.token.Sign.{Sign}
 use Rattle.sparql_lexer.specs.declared.token.Sign.TheVariants as sign
@@ -20,7 +20,7 @@ sign_of_two c d =
     else if nat_eq 62 c && nat_eq 61 d then Some sign.GreaterOrEqual else if nat_eq 38 c && nat_eq 38 d then Some sign.And
     else if nat_eq 124 c && nat_eq 124 d then Some sign.Or else if nat_eq 94 c && nat_eq 94 d then Some sign.Carets else None
 
--- text begins with the sign, and rest stands behind it
+-- the text is the sign followed by `rest`
 pub data IsSign (s : Sign) : List ℕ → List ℕ → Type 0 where
   one : {c : ℕ} {rest : List ℕ} → sign_of_one c ≡ Some s → IsSign s (c ∷ rest) rest
   two : {c d : ℕ} {rest : List ℕ} → sign_of_two c d ≡ Some s → IsSign s (c ∷ d ∷ rest) rest

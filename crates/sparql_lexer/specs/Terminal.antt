@@ -1,9 +1,9 @@
--- The terminals of a query, apart from the code that holds them.
+-- The terminals of a query, as values of the specification.
 use Rattle.std.specs.Prelude.{ℕ, List, map}
 use Rattle.sparql_lexer.specs.declared.token.Kind.{Kind}
 use Rattle.sparql_lexer.specs.declared.token.Token.{Token}
 
--- its kind, and its characters as they stand in the text
+-- the kind of the terminal, and its characters as in the text
 pub data Terminal : Type 0 where
   terminal : Kind → List ℕ → Terminal
 

@@ -1,4 +1,5 @@
--- Which words are keywords (SPARQL 1.1 Query Language, section 19.8, note 1): in any case, but `a` in lower case alone.
+-- The keywords (SPARQL 1.1 Query Language, section 19.8, note 1). Their case does not matter,
+-- except that `a` is lower case.
 use Rattle.std.specs.Prelude.{◌≡◌, ℕ, ◌-◌, ◌&&◌, List, [], ◌∷◌, length, take, Option, Some, None, Bool, true, false, nat_eq, codes, if◌then◌else◌}
 use Rattle.std.specs.Char.{to_ascii_uppercase}
 use Rattle.sparql_lexer.specs.declared.token.Keyword.{Keyword}
@@ -6,7 +7,7 @@ use Rattle.sparql_lexer.specs.declared.token.Keyword.TheVariants as keyword
 use Rattle.sparql_lexer.specs.Pattern.{Matches}
 use Rattle.sparql_lexer.specs.Names.{word}
 
--- the same letters, where those of the keyword are capitals
+-- the word has the letters of the keyword, which is given in upper case
 abbrev pub is_spelled : List ℕ → List ℕ → Bool
 is_spelled [] [] = true
 is_spelled [] (k ∷ ks) = false
@@ -47,7 +48,7 @@ abbrev pub keyword_among : List Keyword → List ℕ → Option Keyword
 keyword_among [] w = None
 keyword_among (k ∷ ks) w = if is_spelled w (spelling_of k) then Some k else keyword_among ks w
 
--- those that are read in any case
+-- the keywords whose case does not matter
 abbrev pub in_any_case : List Keyword
 in_any_case =
     keyword.As ∷ keyword.Bind ∷ keyword.Bound ∷ keyword.Datatype ∷ keyword.Distinct ∷ keyword.False ∷ keyword.Filter
@@ -60,11 +61,11 @@ is_small_a [] = false
 is_small_a (c ∷ []) = nat_eq 97 c
 is_small_a (c ∷ d ∷ cs) = false
 
--- the keyword that a word is; None: another word, which no production takes
+-- the keyword of a word, or None if it is another word, which no production has
 unfoldable pub keyword_of : List ℕ → Option Keyword
 keyword_of w = if is_small_a w then Some keyword.A else keyword_among in_any_case w
 
--- what of the text stands before the rest
+-- the part of the text before `rest`
 abbrev pub taken : List ℕ → List ℕ → List ℕ
 taken text rest = take (length text - length rest) text
 

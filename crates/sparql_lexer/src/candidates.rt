@@ -17,7 +17,7 @@ use crate::signs::scan_sign;
 use crate::token::Kind;
 use crate::words::scan_word;
 
-/// A terminal of this kind up to this end, where there is one.
+/// Returns a terminal of this kind that ends at `end`, if there is an end.
 pub fn of_kind(kind: Kind, end: Option<&[char]>) -> Option<(Kind, &[char])>
     ensures { (a : Pattern) (text : List ℕ) → IsRow kind a → Ends a text end.entry → LongestOf (nat_eq (row kind)) text result }
 {
@@ -27,7 +27,7 @@ pub fn of_kind(kind: Kind, end: Option<&[char]>) -> Option<(Kind, &[char])>
     }
 }
 
-/// The longer of two terminals at one place.
+/// Returns the longer of two terminals at one place.
 pub fn longer<'a>(
     one: Option<(Kind, &'a [char])>,
     other: Option<(Kind, &'a [char])>,
@@ -47,7 +47,7 @@ pub fn longer<'a>(
     }
 }
 
-/// The namespace at the front, where the text does not stand before the end.
+/// Skips the [140] PNAME_NS at the start of the text, unless the text begins before `end`.
 fn skip_namespace_from<'a>(text: &'a [char], end: &[char]) -> Option<&'a [char]>
     requires { IsClear text.now end.now }
     ensures { Ends namespace text.now result }
@@ -133,8 +133,8 @@ fn scan_marked(text: &[char]) -> Option<(Kind, &[char])>
     longer(variable, longer(label, tag))
 }
 
-/// The longest terminal at the front, and what stands behind it; None where none can be read. No
-/// namespace begins before the end.
+/// Returns the kind of the longest terminal at the start of the text, and the text after it.
+/// Returns None if the text begins with no terminal. No PNAME_NS begins in the text before `end`.
 pub fn scan_terminal<'a>(text: &'a [char], end: &[char]) -> Option<(Kind, &'a [char])>
     requires { IsClear text.now end.now }
     ensures { IsLongest text.now result }

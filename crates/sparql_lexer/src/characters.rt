@@ -1,4 +1,4 @@
-//! A text as its characters, and back.
+//! Conversion between a text and its characters.
 
 ghost use Rattle.std.specs.Prelude.{◌≡◌, IfOk, string_bytes};
 ghost use Rattle.std.specs.Str.{chars};
@@ -6,20 +6,20 @@ ghost use lib.Utf8.{encodes};
 
 use std::alloc::{AllocError, Global};
 
-/// The characters of a text, in their order.
+/// Returns the characters of a text, in order.
 ///
 /// # Errors
-/// A growth was refused.
+/// `AllocError` if an allocation fails.
 pub fn characters_of(alloc: Global, text: &str) -> Result<Vec<char>, AllocError>
     ensures { IfOk result (λ v. v.items ≡ chars text.now) }
 {
     text.chars().collect(alloc)
 }
 
-/// The text of these characters.
+/// Returns the text of these characters.
 ///
 /// # Errors
-/// A growth was refused.
+/// `AllocError` if an allocation fails.
 pub fn text_of(alloc: Global, characters: &[char]) -> Result<String, AllocError>
     ensures { IfOk result (λ s. string_bytes s ≡ encodes characters.now) }
 {

@@ -1,4 +1,4 @@
-//! Classes of characters.
+//! Character classes.
 
 ghost use Rattle.std.specs.Prelude.{◌≡◌};
 ghost use Rattle.rdf_core.specs.Characters.{in_ranges};
@@ -10,7 +10,7 @@ use rdf_core::lexical::{
     is_quoted_char,
 };
 
-/// A class of characters, as the productions name them.
+/// A character class of the productions.
 #[derive(Clone, Copy, Debug)]
 pub enum Class {
     Digit,
@@ -105,7 +105,7 @@ fn is_line_end(c: char) -> bool
     c == '\r' || c == '\n'
 }
 
-/// Whether the character is of the class.
+/// Returns whether the character is in the class.
 pub fn is_member(class: Class, c: char) -> bool
     ensures { result ≡ members class c }
 {

@@ -1,4 +1,4 @@
-//! What stands at the front of a text.
+//! The start of a text: its first character, a given character, or the characters of a class.
 
 ghost use Rattle.std.specs.Prelude.{◌≡◌, Some, ℕ, List};
 ghost use Rattle.sparql_lexer.specs.Pattern.{Pattern, character, is, many, some, ◌or◌, Ends, EndsAt};
@@ -7,7 +7,7 @@ ghost use Rattle.sparql_lexer.specs.Next.{IsNext};
 
 use crate::classes::{Class, is_member};
 
-/// The first character, and what stands behind it.
+/// Returns the first character and the text after it, or None if the text is empty.
 pub fn next(text: &[char]) -> Option<(char, &[char])>
     ensures { IsNext text.now result }
 {
@@ -15,7 +15,7 @@ pub fn next(text: &[char]) -> Option<(char, &[char])>
     Some((*first, after))
 }
 
-/// What stands behind this character, where the text begins with it.
+/// Returns the text after this character, or None if the text does not begin with it.
 pub fn accept(text: &[char], wanted: char) -> Option<&[char]>
     ensures { Ends (is wanted) text.now result }
 {
@@ -23,7 +23,7 @@ pub fn accept(text: &[char], wanted: char) -> Option<&[char]>
     if first == wanted { Some(after) } else { None }
 }
 
-/// What stands behind one character of the class.
+/// Returns the text after one character of the class, or None if the text does not begin with one.
 pub fn accept_one(class: Class, text: &[char]) -> Option<&[char]>
     ensures { Ends (character (members class)) text.now result }
 {
@@ -35,7 +35,7 @@ pub fn accept_one(class: Class, text: &[char]) -> Option<&[char]>
     }
 }
 
-/// What stands behind all characters of the class at the front, perhaps none.
+/// Skips all characters of the class at the start of the text. There may be none.
 pub fn skip(class: Class, text: &[char]) -> &[char]
     ensures { EndsAt (many (character (members class))) text.now result.now }
 {
@@ -46,7 +46,7 @@ pub fn skip(class: Class, text: &[char]) -> &[char]
     rest
 }
 
-/// What stands behind all characters of the class at the front, one at least.
+/// Skips all characters of the class at the start of the text. Returns None if there are none.
 pub fn skip_some(class: Class, text: &[char]) -> Option<&[char]>
     ensures { Ends (some (character (members class))) text.now result }
 {
@@ -54,7 +54,7 @@ pub fn skip_some(class: Class, text: &[char]) -> Option<&[char]>
     Some(skip(class, after))
 }
 
-/// Of two ends the one that stands farther back.
+/// Returns the later of two ends, that is, the one with less text after it.
 pub fn farther<'a>(one: Option<&'a [char]>, other: Option<&'a [char]>) -> Option<&'a [char]>
     ensures { (a b : Pattern) (text : List ℕ) → Ends a text one.entry → Ends b text other.entry → Ends (a or b) text result }
 {

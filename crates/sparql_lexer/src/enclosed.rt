@@ -1,4 +1,4 @@
-//! Terminals with an end of their own: IRIs, strings, and the brackets of an anonymous node.
+//! Delimited terminals: IRIs, strings, and the brackets of an anonymous blank node.
 
 ghost use Rattle.std.specs.Prelude.{◌≡◌, false, nat_eq};
 ghost use Rattle.sparql_lexer.specs.Characters.{is_space, is_escape_letter};
@@ -10,7 +10,7 @@ ghost use Rattle.sparql_lexer.specs.Forms.{open_of, piece_of, close_of, inside_o
 use crate::classes::Class;
 use crate::cursor::{accept, accept_one, skip};
 
-/// What opens and closes such a terminal, and so what may stand inside.
+/// The delimiters of a terminal. They decide what is allowed between them.
 #[derive(Clone, Copy, Debug)]
 pub enum Enclosure {
     Iri,
@@ -30,7 +30,7 @@ fn skip_four_digits(text: &[char]) -> Option<&[char]>
     accept_one(Class::Hex, three)
 }
 
-/// Behind a backslash: `u` and four digits, or `U` and eight.
+/// Skips `u` and four hexadecimal digits, or `U` and eight, after a backslash.
 fn skip_numbered(text: &[char]) -> Option<&[char]>
     ensures { Ends numbered text.now result }
 {
@@ -42,7 +42,7 @@ fn skip_numbered(text: &[char]) -> Option<&[char]>
     skip_four_digits(last)
 }
 
-/// Behind a backslash: a letter that names a character, or a number.
+/// Skips the letter of an [160] ECHAR, or a [12] UCHAR of N-Quads, after its backslash.
 fn skip_escaped(text: &[char]) -> Option<&[char]>
     ensures { Ends (character is_escape_letter or numbered) text.now result }
 {
@@ -62,7 +62,7 @@ fn skip_iri_piece(text: &[char]) -> Option<&[char]>
     skip_numbered(after)
 }
 
-/// A character of the class or an escape.
+/// Skips one character of the class, or an escape.
 fn skip_string_piece(class: Class, text: &[char]) -> Option<&[char]>
     requires { members class 92 ≡ false }
     ensures { Ends (character (members class) or escape) text.now result }
@@ -74,7 +74,7 @@ fn skip_string_piece(class: Class, text: &[char]) -> Option<&[char]>
     skip_escaped(after)
 }
 
-/// The same with up to two quotes before it.
+/// Skips up to two quotes, and then one character of the class or an escape.
 fn skip_long_piece(quote: char, class: Class, text: &[char]) -> Option<&[char]>
     requires escaped { members class 92 ≡ false }
     requires quoted { members class quote ≡ false }
@@ -154,7 +154,7 @@ fn skip_piece(enclosure: Enclosure, text: &[char]) -> Option<&[char]>
     }
 }
 
-/// What stands behind the close, where what opens it was read.
+/// Skips the rest of a delimited terminal, after its opening delimiter.
 fn skip_inside(enclosure: Enclosure, text: &[char]) -> Option<&[char]>
     ensures { Ends (inside_of enclosure) text.now result }
 {
@@ -167,7 +167,7 @@ fn skip_inside(enclosure: Enclosure, text: &[char]) -> Option<&[char]>
     }
 }
 
-/// What stands behind the terminal.
+/// Returns the text after a terminal with these delimiters, or None if the text begins with none.
 pub fn skip_enclosed(enclosure: Enclosure, text: &[char]) -> Option<&[char]>
     ensures { Ends (open_of enclosure ▸ inside_of enclosure) text.now result }
 {

@@ -1,21 +1,26 @@
-//! The text of a SPARQL query as its terminals: characters go in, tokens come out.
+//! Splits the text of a SPARQL query into its terminals.
 //!
-//! [`scan_text`] is what the crate above uses. Its tokens are the one list of terminals of the text,
-//! each the longest at its place, up to the end of the text or to the first place where no terminal
-//! can be read (`Scans` of specs/Scan.antt). The laws [`one_scan`] and [`one_kind`] say that a text
-//! has one such list, and that no text is a terminal of two kinds.
+//! [`scan_text`] takes the characters of the text and returns a [`Scan`] of [`Token`]s. They are
+//! the terminals of the text, each the longest at its place (`Scans` of specs/Scan.antt). The scan
+//! ends at the end of the text, or at the first place where there is no terminal. The law
+//! [`one_scan`] states that a text has at most one list of terminals, and [`one_kind`] that no text
+//! is a terminal of two kinds.
 //!
-//! A terminal is cut first and decoded afterwards: [`iri_value`] and [`string_value`] give the text
-//! that an IRI or a string stands for, or None where an escape names no character that may stand
-//! there. The law [`values_are_written`] says that this is what the characters write, raw or as escapes, and
-//! [`one_language_tag`] that queries and N-Quads have the same language tags.
+//! [`iri_value`] and [`string_value`] decode a terminal that the scan has delimited. They return
+//! None if an escape denotes no character that is allowed there. The law [`values_are_written`]
+//! states that the value is what the characters and escapes write. The law [`one_language_tag`]
+//! states that queries and N-Quads have the same language tags.
 //!
-//! Standard: SPARQL 1.1 Query Language, section 19.8, with what is left out said in the decisions.
+//! Standard: SPARQL 1.1 Query Language, sections 19.2 (codepoint escapes), 19.3 (white space), 19.4
+//! (comments), 19.7 (string escapes) and 19.8 (grammar). docs/USAGE.md (the query language)
+//! has the supported part.
 //!
-//! To read in this order: specs/Pattern.antt (the standard's notation), then a file a family of
+//! Reading order: specs/Pattern.antt (the standard's notation), then a file for each family of
 //! terminals (Blanks, Enclosed, Names, Numbers, Words, Signs), specs/Scan.antt, `scanner`, `laws`.
 //!
-//! Not promised: how long a text takes; by design the time is linear in its length.
+//! Tests: `terminals` of the crate query_tests.
+//!
+//! Not guaranteed: the time that a scan takes. By design it is linear in the length of the text.
 #![tactic(auto)]
 
 mod candidates;

@@ -1,4 +1,4 @@
-//! Names, variables, labels and language tags.
+//! Prefixed names, variables, blank node labels and language tags.
 
 ghost use Rattle.std.specs.Prelude.{◌≡◌, ◌∷◌, Some, true, ℕ, List};
 ghost use Rattle.sparql_lexer.specs.Colonless.{Behind, IsClear, IsRun, is_name_or_dot};
@@ -10,7 +10,8 @@ ghost use Rattle.sparql_lexer.specs.Forms.{part_of};
 use crate::classes::Class;
 use crate::cursor::{accept, accept_one, skip, skip_some};
 
-/// What a name goes on with: that of a namespace or a label, or a local one.
+/// The characters that a name may have after its first: those of a prefix or a label, or those of a
+/// local name.
 #[derive(Clone, Copy, Debug)]
 pub enum Part {
     Name,
@@ -42,7 +43,8 @@ fn skip_part(part: Part, text: &[char]) -> Option<&[char]>
     }
 }
 
-/// What stands behind all parts at the front, with dots among them and not behind the last.
+/// Skips all parts at the start of the text, and the dots between them. A dot after the last part
+/// is not skipped.
 fn skip_tail(part: Part, text: &[char]) -> &[char]
     ensures { EndsAt (tail (part_of part)) text.now result.now }
 {
@@ -56,6 +58,7 @@ fn skip_tail(part: Part, text: &[char]) -> &[char]
     }
 }
 
+/// Returns the text after a [140] PNAME_NS, or None if the text begins with none.
 pub fn skip_namespace(text: &[char]) -> Option<&[char]>
     ensures { Ends namespace text.now result }
 {
@@ -83,6 +86,7 @@ fn skip_local(text: &[char]) -> Option<&[char]>
     Some(skip_tail(Part::Local, after))
 }
 
+/// Returns the text after a [141] PNAME_LN, or None if the text begins with none.
 pub fn skip_prefixed_name(text: &[char]) -> Option<&[char]>
     ensures { Ends prefixed_name text.now result }
 {
@@ -90,6 +94,7 @@ pub fn skip_prefixed_name(text: &[char]) -> Option<&[char]>
     skip_local(after)
 }
 
+/// Returns the text after a [142] BLANK_NODE_LABEL, or None if the text begins with none.
 pub fn skip_blank_label(text: &[char]) -> Option<&[char]>
     ensures { Ends blank_label text.now result }
 {
@@ -99,6 +104,7 @@ pub fn skip_blank_label(text: &[char]) -> Option<&[char]>
     Some(skip_tail(Part::Name, after))
 }
 
+/// Returns the text after a [143] VAR1 or [144] VAR2, or None if the text begins with none.
 pub fn skip_variable(text: &[char]) -> Option<&[char]>
     ensures { Ends variable text.now result }
 {
@@ -107,7 +113,7 @@ pub fn skip_variable(text: &[char]) -> Option<&[char]>
     Some(skip(Class::VariablePart, after))
 }
 
-/// ('-' [a-zA-Z0-9]+)*
+/// Skips ('-' [a-zA-Z0-9]+)*.
 fn skip_subtags(text: &[char]) -> &[char]
     ensures { EndsAt (many subtag) text.now result.now }
 {
@@ -123,6 +129,7 @@ fn skip_subtags(text: &[char]) -> &[char]
     }
 }
 
+/// Returns the text after a [145] LANGTAG, or None if the text begins with none.
 pub fn skip_language_tag(text: &[char]) -> Option<&[char]>
     ensures { Ends language_tag text.now result }
 {
@@ -131,7 +138,7 @@ pub fn skip_language_tag(text: &[char]) -> Option<&[char]>
     Some(skip_subtags(first))
 }
 
-/// Whether a dot stands last before the end.
+/// Returns whether the last character before `end` is a dot.
 fn ends_with_dot(text: &[char], end: &[char]) -> bool
     requires { Behind text.now end.now }
     ensures { result ≡ true → Behind text.now (46 ∷ end.now) }
@@ -139,12 +146,12 @@ fn ends_with_dot(text: &[char], end: &[char]) -> bool
     end.len() < text.len() && text[text.len() - end.len() - 1] == '.'
 }
 
-/// Up to where no namespace begins, given the `end` of the run of name characters and dots at the
-/// front of the text.
+/// Returns a place before which no PNAME_NS begins, given the `end` of the run of name characters
+/// and dots at the start of the text.
 ///
-/// A namespace is a name and a colon behind it, and no name ends with a dot. So where no colon
-/// stands behind the run, or a dot stands last in it, no namespace begins before its end. Otherwise
-/// one may begin at once, and the answer is the text itself.
+/// A PNAME_NS is a name followed by a colon, and no name ends with a dot. Therefore no PNAME_NS
+/// begins in the run if no colon follows it or if it ends with a dot. Otherwise one may begin at
+/// once, and the function returns the text itself.
 pub fn clear_end<'a>(text: &'a [char], end: &'a [char]) -> &'a [char]
     requires { EndsAt (many (character is_name_or_dot)) text.now end.now }
     ensures { IsClear text.now result.now }
@@ -156,11 +163,11 @@ pub fn clear_end<'a>(text: &'a [char], end: &'a [char]) -> &'a [char]
     }
 }
 
-/// The end of the run of name characters and dots at the front of a place, given the `end` of the
-/// run at an earlier place.
+/// Returns the end of the run of name characters and dots at a place, given the `end` of the run at
+/// an earlier place.
 ///
-/// A place before that end stands in the earlier run, and both runs end there. So a long run is
-/// looked through once, and not again from each terminal in it.
+/// A place before that end is in the earlier run, and both runs end at the same place. A long run
+/// is therefore scanned once, not again from each terminal in it.
 pub fn run_end<'a>(place: &'a [char], end: &'a [char]) -> &'a [char]
     ensures { (text : List ℕ) → Behind text place.now → IsRun text end.now → EndsAt (many (character is_name_or_dot)) place.now result.now }
 {

@@ -9,7 +9,7 @@ ghost use Rattle.sparql_lexer.specs.Forms.{number_of};
 use crate::classes::Class;
 use crate::cursor::{accept, accept_one, farther, skip, skip_some};
 
-/// How a number without a sign is written.
+/// The form of a number without a sign.
 #[derive(Clone, Copy, Debug)]
 pub enum NumberForm {
     Integer,
@@ -17,7 +17,7 @@ pub enum NumberForm {
     Double,
 }
 
-/// [+-]? [0-9]+
+/// Skips [+-]? [0-9]+.
 fn skip_signed_digits(text: &[char]) -> Option<&[char]>
     ensures { Ends (perhaps (character is_plus_or_minus) ▸ some digit) text.now result }
 {
@@ -27,7 +27,7 @@ fn skip_signed_digits(text: &[char]) -> Option<&[char]>
     }
 }
 
-/// [eE] [+-]? [0-9]+
+/// Skips [155] EXPONENT ::= [eE] [+-]? [0-9]+.
 fn skip_exponent(text: &[char]) -> Option<&[char]>
     ensures { Ends exponent text.now result }
 {
@@ -35,7 +35,7 @@ fn skip_exponent(text: &[char]) -> Option<&[char]>
     skip_signed_digits(after)
 }
 
-/// [0-9]* '.' [0-9]+
+/// Skips [147] DECIMAL ::= [0-9]* '.' [0-9]+.
 fn skip_decimal(text: &[char]) -> Option<&[char]>
     ensures { Ends decimal text.now result }
 {
@@ -44,7 +44,7 @@ fn skip_decimal(text: &[char]) -> Option<&[char]>
     skip_some(Class::Digit, point)
 }
 
-/// [0-9]+ '.' [0-9]* EXPONENT
+/// Skips [0-9]+ '.' [0-9]* EXPONENT, the first form of [148] DOUBLE.
 fn skip_pointed(text: &[char]) -> Option<&[char]>
     ensures { Ends (some digit ▸ is 46 ▸ many digit ▸ exponent) text.now result }
 {
@@ -54,7 +54,7 @@ fn skip_pointed(text: &[char]) -> Option<&[char]>
     skip_exponent(fraction)
 }
 
-/// '.' [0-9]+ EXPONENT
+/// Skips '.' [0-9]+ EXPONENT, the second form of [148] DOUBLE.
 fn skip_fraction(text: &[char]) -> Option<&[char]>
     ensures { Ends (is 46 ▸ some digit ▸ exponent) text.now result }
 {
@@ -63,7 +63,7 @@ fn skip_fraction(text: &[char]) -> Option<&[char]>
     skip_exponent(fraction)
 }
 
-/// [0-9]+ EXPONENT
+/// Skips [0-9]+ EXPONENT, the third form of [148] DOUBLE.
 fn skip_whole(text: &[char]) -> Option<&[char]>
     ensures { Ends (some digit ▸ exponent) text.now result }
 {
@@ -80,7 +80,7 @@ fn skip_double(text: &[char]) -> Option<&[char]>
     farther(pointed, farther(fraction, whole))
 }
 
-/// What stands behind the longest number of the form, without a sign.
+/// Returns the text after the longest number of the form without a sign, or None if there is none.
 pub fn skip_number(form: NumberForm, text: &[char]) -> Option<&[char]>
     ensures { Ends (number_of form) text.now result }
 {
@@ -91,7 +91,7 @@ pub fn skip_number(form: NumberForm, text: &[char]) -> Option<&[char]>
     }
 }
 
-/// What stands behind the longest number of the form, with a sign.
+/// Returns the text after the longest number of the form with a sign, or None if there is none.
 pub fn skip_signed(form: NumberForm, text: &[char]) -> Option<&[char]>
     ensures { Ends (signed (number_of form)) text.now result }
 {

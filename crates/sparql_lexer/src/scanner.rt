@@ -12,16 +12,16 @@ use crate::names::{clear_end, run_end};
 use crate::token::Token;
 use std::alloc::{AllocError, Global};
 
-/// The terminals of a text up to its end, or up to the first place where none can be read.
+/// The terminals of a text up to its end, or up to the first place where there is no terminal.
 #[derive(Debug, Drop)]
 pub struct Scan<'a> {
-    /// The terminals, in their order.
+    /// The terminals, in the order of the text.
     pub tokens: Vec<Token<'a>>,
-    /// What stands at that place; empty where the text was read whole.
+    /// The text from that place. It is empty if the whole text was read.
     pub rest: &'a [char],
 }
 
-/// What stands behind white space and comments.
+/// Skips white space and comments.
 fn skip_blanks(text: &[char]) -> &[char]
     ensures value { result.now ≡ after_blanks text.now }
     ensures shorter { length result.now ≤ length text.now }
@@ -41,14 +41,14 @@ fn skip_blanks(text: &[char]) -> &[char]
     rest
 }
 
-/// Splits a text into its terminals (SPARQL 1.1 Query Language, section 19.8): the longest at each
-/// place, with white space and comments between them.
+/// Splits a text into its terminals (SPARQL 1.1 Query Language, section 19.8). Each is the longest
+/// at its place; white space and comments may occur between them.
 ///
-/// `rest` is empty exactly where the whole text was read. Escapes are cut here and decoded later:
-/// a terminal whose escape names no character counts as read.
+/// `rest` is empty if and only if the whole text was read. Escapes are delimited here and decoded
+/// later, so a terminal is read even if its escape denotes no character.
 ///
 /// # Errors
-/// A growth was refused. It says nothing of the text.
+/// `AllocError` if an allocation fails.
 pub fn scan_text<'a>(alloc: Global, text: &'a [char]) -> Result<Scan<'a>, AllocError>
     ensures { IfOk result (λ scan. Scans text.now (terminals scan.tokens.items) scan.rest.now) }
 {

@@ -1,4 +1,4 @@
-//! Signs of one and of two characters.
+//! Signs of one and two characters.
 
 ghost use Rattle.std.specs.Prelude.{◌≡◌, nat_eq};
 ghost use Rattle.sparql_lexer.specs.Candidates.{LongestOf, IsSecond};
@@ -41,7 +41,7 @@ fn sign_of_two(first: char, second: char) -> Option<Sign>
     }
 }
 
-/// The second character of a sign of two, whose first was read, and what stands behind it.
+/// Reads the second character of a sign after its first. Returns the sign and the text after it.
 fn accept_second(first: char, text: &[char]) -> Option<(Sign, &[char])>
     ensures { IsSecond first text.now result }
 {
@@ -50,7 +50,7 @@ fn accept_second(first: char, text: &[char]) -> Option<(Sign, &[char])>
     Some((sign, behind))
 }
 
-/// The sign at the front, and what stands behind it.
+/// Reads the longest sign at the start of the text. Returns its kind and the text after it.
 pub fn scan_sign(text: &[char]) -> Option<(Kind, &[char])>
     ensures { LongestOf (nat_eq 16) text.now result }
 {

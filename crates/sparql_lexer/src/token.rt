@@ -23,7 +23,7 @@ pub enum Sign {
     Carets,
 }
 
-/// A word with a meaning of its own, in any case; `A` alone is the lower case `a`.
+/// A keyword. Its case does not matter, except that `A` is the lower case `a`.
 #[derive(Clone, Copy, Debug, PartialEq, Eq)]
 pub enum Keyword {
     A,
@@ -56,43 +56,52 @@ pub enum Keyword {
     Where,
 }
 
-/// Which terminal it is.
+/// The kind of a terminal.
 #[derive(Clone, Copy, Debug, PartialEq, Eq)]
 pub enum Kind {
-    /// `<http://example.org/>`
+    /// [139] IRIREF, as `<http://example.org/>`.
     IriRef,
-    /// `?name` or `$name`
+    /// [143] VAR1 or [144] VAR2, as `?name` or `$name`.
     Variable,
-    /// `name:` or `:`
+    /// [140] PNAME_NS, as `name:` or `:`.
     PrefixedNamespace,
-    /// `name:local` or `:local`
+    /// [141] PNAME_LN, as `name:local` or `:local`.
     PrefixedName,
-    /// `_:label`
+    /// [142] BLANK_NODE_LABEL, as `_:label`.
     BlankLabel,
-    /// `[ ]`
+    /// [163] ANON, as `[ ]`.
     Anonymous,
-    /// `@en-gb`
+    /// [145] LANGTAG, as `@en-gb`.
     LanguageTag,
+    /// [146] INTEGER, as `1`.
     Integer,
+    /// [147] DECIMAL, as `1.5`.
     Decimal,
+    /// [148] DOUBLE, as `1e5`.
     Double,
-    /// `+1` or `-1`
+    /// [149] INTEGER_POSITIVE or [152] INTEGER_NEGATIVE, as `+1` or `-1`.
     SignedInteger,
+    /// [150] DECIMAL_POSITIVE or [153] DECIMAL_NEGATIVE, as `+1.5` or `-1.5`.
     SignedDecimal,
+    /// [151] DOUBLE_POSITIVE or [154] DOUBLE_NEGATIVE, as `+1e5` or `-1e5`.
     SignedDouble,
-    /// In single or double quotes, one on each side.
+    /// [156] STRING_LITERAL1 or [157] STRING_LITERAL2, with one quote on each side.
     ShortString,
-    /// In single or double quotes, three on each side.
+    /// [158] STRING_LITERAL_LONG1 or [159] STRING_LITERAL_LONG2, with three quotes on each side.
     LongString,
+    /// A keyword, as `SELECT`.
     Keyword(Keyword),
-    /// A word that is no keyword.
+    /// A word that is not a keyword.
     Word,
+    /// A sign, as `{`.
     Sign(Sign),
 }
 
-/// A terminal: its kind, and its characters as they stand in the text.
+/// A terminal: its kind, and its characters as in the text.
 #[derive(Clone, Copy, Debug)]
 pub struct Token<'a> {
+    /// The kind of the terminal.
     pub kind: Kind,
+    /// The characters of the terminal, with its delimiters and escapes.
     pub text: &'a [char],
 }

@@ -1,4 +1,4 @@
-//! What the spellings of IRIs and strings stand for.
+//! The values of IRIs and strings.
 
 ghost use Rattle.std.specs.Prelude.{◌≡◌, IfOk};
 ghost use Rattle.sparql_lexer.specs.Values.{between, iri_value, quotes_of, string_value};
@@ -9,7 +9,7 @@ use rdf_core::Text;
 use rdf_core::lexical::{unescape_iri, unescape_string};
 use std::alloc::{AllocError, Global};
 
-/// The text without so many characters at each side.
+/// Returns the text without its first and last `count` characters.
 fn between(text: &[char], count: usize) -> &[char]
     ensures { result.now ≡ between count text.now }
 {
@@ -18,13 +18,13 @@ fn between(text: &[char], count: usize) -> &[char]
     inside
 }
 
-/// The IRI of an IRIREF, given as it stands in the text.
+/// Decodes the IRI of an [139] IRIREF, given with its angle brackets.
 ///
-/// None: an escape names no scalar value, or a character that may not stand raw in an IRI. Whether
-/// the IRI has a scheme is not judged.
+/// Returns None if an escape is not the number of a Unicode scalar value, or if its character may
+/// not occur unescaped in an IRI. Does not check whether the IRI has a scheme.
 ///
 /// # Errors
-/// A growth was refused.
+/// `AllocError` if an allocation fails.
 pub fn iri_value(alloc: Global, text: &[char]) -> Result<Option<Text>, AllocError>
     ensures { IfOk result (λ found. found ≡ iri_value text.now) }
 {
@@ -41,12 +41,12 @@ fn quotes_of(kind: Kind) -> usize
     }
 }
 
-/// The string of a terminal in quotes, given with its kind as it stands in the text.
+/// Decodes the string of a terminal in quotes, given with its kind and its quotes.
 ///
-/// None: an escape names no scalar value.
+/// Returns None if an escape is not the number of a Unicode scalar value.
 ///
 /// # Errors
-/// A growth was refused.
+/// `AllocError` if an allocation fails.
 pub fn string_value(alloc: Global, kind: Kind, text: &[char]) -> Result<Option<Text>, AllocError>
     ensures { IfOk result (λ found. found ≡ string_value kind text.now) }
 {

@@ -38,7 +38,7 @@ const IN_ANY_CASE: [Keyword; 27] = [
     Keyword::Where,
 ];
 
-/// How a keyword is written in capitals.
+/// Returns a keyword in upper case.
 fn spelling(keyword: Keyword) -> &'static [u8]
     ensures { result.now ≡ spelling_of keyword }
 {
@@ -74,7 +74,7 @@ fn spelling(keyword: Keyword) -> &'static [u8]
     }
 }
 
-/// Whether the word has these letters, in any case.
+/// Returns whether the word has these letters, in upper or lower case.
 fn is_spelled(word: &[char], capitals: &[u8]) -> bool
     ensures { result ≡ is_spelled word.now capitals.now }
 {
@@ -115,7 +115,8 @@ fn keyword_among(keywords: &[Keyword], word: &[char]) -> Option<Keyword>
     None
 }
 
-/// The keyword that a word is, in any case but for `a`, which is lower case alone.
+/// Returns the keyword of a word, or None if it is not a keyword. The case of a keyword does not
+/// matter, except that `a` is lower case.
 #[tactic(auto, unfolding(crate::specs::Words::keyword_of))]
 pub fn keyword(word: &[char]) -> Option<Keyword>
     ensures { result ≡ keyword_of word.now }
@@ -126,7 +127,7 @@ pub fn keyword(word: &[char]) -> Option<Keyword>
     keyword_among(&IN_ANY_CASE, word)
 }
 
-/// The word at the front, and what stands behind it.
+/// Reads the word at the start of the text. Returns its kind and the text after it.
 pub fn scan_word(text: &[char]) -> Option<(Kind, &[char])>
     ensures { LongestOf (nat_eq 15) text.now result }
 {

@@ -1,4 +1,4 @@
--- What each element of the code stands for.
+-- The element of the model for each element of the code.
 use Rattle.std.proofs.Common.{◌≡◌, map, sym, ◌∙◌, ap, Box, Vec, Global, Option}
 use Rattle.rdf_core.specs.declared.term.Term.{Term}
 use Rattle.rdf_core.specs.declared.text.Text.{Text}

@@ -1,4 +1,4 @@
--- What the look at the front of the tokens says, in either case.
+-- The conclusions from the first token, if it is of a class and if it is not.
 use Rattle.std.proofs.Common.{◌≡◌, ◌<◌, ℕ, List, length, Option, Some, None, subst}
 use Rattle.std.specs.Option.{IfSome}
 use Rattle.std.specs.Borrow.{Bor}

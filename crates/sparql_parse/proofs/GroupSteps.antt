@@ -24,7 +24,7 @@ map-push f (x ∷ es) e = ap (λ xs. f x ∷ xs) (map-push f es e)
 pub group-push : (es : List Element) (e : Element) → group_of (es ++ e ∷ []) ≡ then (group_of es) (element_of e)
 group-push es e = ap (onto none) (map-push element_of es e) ∙ onto-push none (map element_of es) (element_of e)
 
--- a run of triples, and what stands behind it
+-- a run of triples, and the terminals after it
 
 run_is : {names : Names} {es fs : GroupTree} {before after : List Terminal} → Left names (the.body es) before (the.others fs) (λ v. v) (right_side (the.others fs)) after
     → (answer : Answer (the.others fs)) → Reads names (the.others fs) after answer → Reads names (the.body es) before answer

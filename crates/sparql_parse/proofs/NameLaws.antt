@@ -1,4 +1,4 @@
--- Names of which none stands twice.
+-- Lists of names without repeats.
 use Rattle.std.proofs.Common.{◌≡◌, ℕ, List, [], ◌∷◌, Bool, true, false, ◌||◌, ◌&&◌, not, cond, if◌then◌else◌, nat_eq, refl, sym, ◌∙◌, arith}
 use Rattle.std.specs.List.{list_any}
 use Rattle.std.specs.Str.{bytes_eq}
@@ -12,11 +12,11 @@ use Rattle.sparql_grammar.specs.Values.{is_distinct}
 bytes_eq_sym : (xs ys : List ℕ) → bytes_eq xs ys ≡ bytes_eq ys xs
 bytes_eq_sym xs ys = grind (arith, bytes_eq-Decides xs ys, bytes_eq-Decides ys xs)
 
--- the set with these keys has the name
+-- the name is in the set with these keys
 abbrev pub is_key : List (List ℕ) → List ℕ → Bool
 is_key ks x = list_any (is_at (slice_cmp nat_cmp x)) ks
 
--- no name stands twice, and the set has none of them
+-- no name occurs twice, and none of them is in the set
 abbrev pub is_fresh : List (List ℕ) → List (List ℕ) → Bool
 is_fresh ks xs = not (list_any (is_key ks) xs) && is_distinct xs
 
@@ -27,7 +27,7 @@ or_four false true false d = refl
 or_four false false true d = refl
 or_four false false false d = refl
 
--- the set is given the name x
+-- the name x is added to the set
 abbrev pub IsGiven : List (List ℕ) → List ℕ → List (List ℕ) → Type 0
 IsGiven old x new = (y : List ℕ) → is_key new y ≡ cond (is_at (slice_cmp nat_cmp x) y) true (is_key old y)
 
@@ -42,7 +42,7 @@ and_apart true false c = refl
 and_apart false true c = refl
 and_apart false false c = refl
 
--- the set did not have the name that it took as a new one
+-- the set did not have the name before it was added as a new one
 is_new : (k : Bool) {b : Bool} → b ≡ not k → b ≡ true → k ≡ false
 is_new false e f = refl
 is_new true e f = sym f ∙ e

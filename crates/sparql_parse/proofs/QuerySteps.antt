@@ -1,4 +1,4 @@
--- Steps of the readers of a query's head and end.
+-- Steps of the readers of a query's start and end.
 use Rattle.std.proofs.Common.{◌≡◌, ◌<◌, ℕ, List, [], ◌∷◌, Ok, Err, refl, ap, subst, lit<}
 use Rattle.sparql_lexer.specs.declared.token.Token.{Token}
 use Rattle.sparql_lexer.specs.Terminal.{Terminal, terminals}
@@ -21,7 +21,7 @@ pub count_fails : {names : Names} {s : Symbol} {ts : List Terminal} {u : Symbol}
 count_fails Syntax l n = take_fails l n
 count_fails Memory l n = out_of_memory
 
--- the whole text, or less of it
+-- the whole text, or a part of it
 
 pub all_read : {names : Names} {ts : List Terminal} {q : Select} (rest : List Token) → rest ≡ [] → Reads names the.query ts (Ok (q, terminals rest)) → IsQuery names ts q
 all_read {names = names} {ts = ts} {q = q} rest e r = subst (λ t. Matches names the.query (right_side the.query) ts q t) (ap terminals e) r.is.0

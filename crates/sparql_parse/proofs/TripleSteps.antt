@@ -18,7 +18,7 @@ use Rattle.sparql_expression.proofs.Steps.{Left, mapped, begin, then_read, part_
 use Rattle.sparql_parse.specs.Seen.{seen_out}
 use Rattle.sparql_parse.specs.Objects.{IsObject, IsProperty, ReadsProperty}
 
--- a call that ends a reader, whatever it answers
+-- the last call of a reader, for any result
 pub tail : {names : Names} {s : Symbol} {ts : List Terminal} {u : Symbol} {g : Value u → Value s} {w : Symbol} {h : Value w → Value u} {mid : List Terminal}
     → Left names s ts u g (last w h) mid → (to : Answer w → Answer s) → ((v : Value w) (rest : List Terminal) → to (Ok (v, rest)) ≡ Ok (g (h v), rest)) → ((e : ReadFault) → to (Err e) ≡ Err e)
     → (answer : Answer w) → Reads names w mid answer → Reads names s ts (to answer)
@@ -56,7 +56,7 @@ pub behind_property : {names : Names} {s : Symbol} {ts : List Terminal} {a : Pat
     → Left names s ts (the.more_properties a vs) g (right_side (the.more_properties a vs)) after
 behind_property {a = a} {vs = vs} l h = record { good = good (the.more_properties a vs); goes = λ answer r. property_goes l h answer r }
 
--- an answer for the last symbol is one for the whole
+-- a result for the last symbol is a result for the whole
 pub whole : {names : Names} {s : Symbol} {ts : List Terminal} {u : Symbol} {g : Value u → Value s} {mid : List Terminal} {e : ReadFault}
     → Left names s ts u g (right_side u) mid → Reads names u mid (Err e) → Reads names s ts (Err e)
 whole {e = e} l r = l.goes (Err e) r
@@ -65,7 +65,7 @@ pub and_copied : (ts : List Triple) {us : List Triple} {a b a' b' : PatternTerm}
 and_copied ts {a = a} {b' = b'} o h e f =
     h ∙ ap (λ x. ts ++ record { subject = x; predicate = b'; object = o } ∷ []) e ∙ ap (λ y. ts ++ record { subject = a; predicate = y; object = o } ∷ []) f
 
--- what is left grows shorter
+-- fewer terminals are left after each step
 
 pub shorter_twice : {a b c : ℕ} → a < b → b < c → a < c
 shorter_twice h i = omega arith

@@ -1,4 +1,4 @@
--- What the readers of one object, and of what stands behind `;`, answer.
+-- The results of the reader of one object, and of the reader of the text after `;`.
 use Rattle.std.specs.Prelude.{◌≡◌, List, Result, Ok, Err}
 use Rattle.std.specs.Borrow.{Bor}
 use Rattle.sparql_lexer.specs.declared.token.Token.{Token}
@@ -11,7 +11,7 @@ use Rattle.sparql_grammar.specs.Productions.{and_triple}
 use Rattle.sparql_expression.specs.declared.fault.ReadFault.{ReadFault}
 use Rattle.sparql_expression.specs.Reading.{Answer, Reads}
 
--- an object of the subject a and the verb b, behind the triples ts
+-- an object of the subject a and the verb b, after the triples ts
 pub record IsObject (names : Names) (a b : PatternTerm) (ts us : List Triple) (before after : List Terminal) : Type 0 where
   pub object : PatternTerm
   pub reads : Reads names the.pattern_term before (Ok (object, after))
@@ -21,7 +21,8 @@ abbrev pub ReadsObject : (names : Names) (a b : PatternTerm) (ts us : List Tripl
 ReadsObject names a b ts us before (Ok after) = IsObject names a b ts us before (terminals after.now)
 ReadsObject names a b ts us before (Err e) = Reads names the.pattern_term before (Err e)
 
--- What is answered behind a property is answered behind the semicolon before it, too.
+-- A result from the terminals after a property is a result from the terminals after the semicolon
+-- before it.
 abbrev pub IsProperty : (names : Names) (a : PatternTerm) (ts us : List Triple) (before after : List Terminal) → Type 0
 IsProperty names a ts us before after = (answer : Answer (the.more_properties a us)) → Reads names (the.more_properties a us) after answer
     → Reads names (the.after_semicolon a ts) before answer

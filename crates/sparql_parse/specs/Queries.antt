@@ -1,4 +1,4 @@
--- What the reader of a query answers.
+-- The results of the reader of a query.
 use Rattle.std.specs.Prelude.{ℕ, List, [], Result, Ok, Err}
 use Rattle.std.specs.Borrow.{Bor}
 use Rattle.sparql_lexer.specs.declared.token.Token.{Token}
@@ -17,7 +17,7 @@ use Rattle.sparql_expression.specs.Front.{Taken, Untaken}
 use Rattle.sparql_grammar.specs.Class.{count}
 use Rattle.sparql_parse.specs.declared.select.Select as code
 
--- the query that the code holds
+-- the model of a query of the code
 abbrev pub select_of : code.Select → Select
 select_of q = record {
   distinct = q.distinct;
@@ -27,17 +27,18 @@ select_of q = record {
   offset = q.offset;
 }
 
--- the terminals are the query, to the last
+-- all of the terminals are the query
 abbrev pub IsQuery : (names : Names) → List Terminal → Select → Type 0
 IsQuery names ts q = Matches names the.query (right_side the.query) ts q []
 
--- A query is answered where the terminals are it, and Syntax where they are none. Memory says nothing of them.
+-- The result is a query if the terminals are this query, and Syntax if they are no query. Memory
+-- says nothing about them.
 abbrev pub IsParsed : (names : Names) → List Terminal → Result code.Select ReadFault → Type 0
 IsParsed names ts (Ok q) = IsQuery names ts (select_of q)
 IsParsed names ts (Err Syntax) = (q : Select) → IsQuery names ts q → ⊥
 IsParsed names ts (Err Memory) = Unit {0}
 
--- What is answered for the terminals behind a declaration is answered for it and them.
+-- A result from the terminals after a declaration is a result from the declaration and them.
 abbrev pub IsDeclaration : (names : Names) (before after : List Terminal) → Type 0
 IsDeclaration names before after = (answer : Answer the.query) → Reads names the.query after answer → Reads names the.declared before answer
 

@@ -1,11 +1,11 @@
--- What a reader that adds to a list answers.
+-- The results of a reader that appends to a list.
 use Rattle.std.specs.Prelude.{List, Result, Ok, Err}
 use Rattle.std.specs.Borrow.{Bor}
 use Rattle.sparql_lexer.specs.declared.token.Token.{Token}
 use Rattle.sparql_lexer.specs.Terminal.{Terminal, terminals}
 use Rattle.sparql_expression.specs.declared.fault.ReadFault.{ReadFault}
 
--- the list as it is now, and the terminals of the tokens behind
+-- the new list, and the terminals of the tokens after the ones that were read
 abbrev pub seen_out : {A : Type 0} → A → Result (Bor (List Token)) ReadFault → Result (A × List Terminal) ReadFault
 seen_out a (Ok rest) = Ok (a, terminals rest.now)
 seen_out a (Err e) = Err e

@@ -1,4 +1,4 @@
-//! Reads groups of patterns (SPARQL 1.1 Query Language, section 19.8, GroupGraphPattern).
+//! Reads groups of patterns (SPARQL 1.1 Query Language, section 19.8, [53] GroupGraphPattern).
 
 ghost use Rattle.std.specs.Prelude.{◌≡◌, ◌<◌, ◌≤◌, IfOk, length};
 ghost use Rattle.sparql_lexer.specs.Terminal.{terminals};
@@ -19,7 +19,7 @@ use sparql_lexer::{Keyword, Sign, Token};
 use sparql_tree::{Element, Expression, GraphName};
 use std::alloc::Global;
 
-/// Reads a group, and answers what stands behind it too.
+/// Reads a [53] GroupGraphPattern. Returns its elements and the tokens after it.
 #[cycle(group)]
 pub fn read_group<'t, 'a>(
     alloc: Global,
@@ -44,7 +44,7 @@ pub fn read_group<'t, 'a>(
     }
 }
 
-/// Reads the triples in front, where some stand there, and adds them to the elements.
+/// Reads a [55] TriplesBlock if the tokens begin with one, and appends its triples to the elements.
 fn read_run<'t, 'a>(
     alloc: Global,
     names: &Declarations,
@@ -63,7 +63,7 @@ fn read_run<'t, 'a>(
     Ok(rest)
 }
 
-/// What stands behind the dot in front, or all where none stands there.
+/// Returns the tokens after a dot, or all tokens if the first is not a dot.
 fn skip_dot<'t, 'a>(tokens: &'t [Token<'a>]) -> &'t [Token<'a>]
     ensures reads { IsBehindDot (terminals tokens.now) (terminals result.now) }
     ensures shorter { length result.now ≤ length tokens.now }
@@ -74,7 +74,7 @@ fn skip_dot<'t, 'a>(tokens: &'t [Token<'a>]) -> &'t [Token<'a>]
     after
 }
 
-/// Reads an element other than triples.
+/// Reads a [56] GraphPatternNotTriples, an element other than triples.
 #[cycle(group)]
 fn read_other<'t, 'a>(
     alloc: Global,
@@ -101,7 +101,7 @@ fn read_other<'t, 'a>(
     read_simple(alloc, names, tokens)
 }
 
-/// Reads groups with UNION between them.
+/// Reads a [67] GroupOrUnionGraphPattern: groups, and UNION between them.
 #[cycle(group)]
 fn read_unions<'t, 'a>(
     alloc: Global,
@@ -121,7 +121,7 @@ fn read_unions<'t, 'a>(
     Ok((left, rest))
 }
 
-/// Reads a name and the group of its graph.
+/// Reads the name and the group of a [58] GraphGraphPattern, after GRAPH.
 #[cycle(group)]
 fn read_named_graph<'t, 'a>(
     alloc: Global,
@@ -136,7 +136,7 @@ fn read_named_graph<'t, 'a>(
     Ok((Element::Graph(name, inner), behind))
 }
 
-/// Reads a variable or an IRI.
+/// Reads a [107] VarOrIri.
 fn read_graph_name<'t, 'a>(
     alloc: Global,
     names: &Declarations,
@@ -154,7 +154,7 @@ fn read_graph_name<'t, 'a>(
     Ok((GraphName::Iri(iri), after))
 }
 
-/// Reads FILTER, BIND or VALUES, and what belongs to it.
+/// Reads a [68] Filter, [60] Bind or [61] InlineData.
 fn read_simple<'t, 'a>(
     alloc: Global,
     names: &Declarations,
@@ -176,7 +176,7 @@ fn read_simple<'t, 'a>(
     read_data_block(alloc, names, after)
 }
 
-/// Reads an expression in parentheses, or a call.
+/// Reads a [69] Constraint: an expression in parentheses, or a call.
 fn read_condition<'t, 'a>(
     alloc: Global,
     names: &Declarations,
@@ -191,7 +191,7 @@ fn read_condition<'t, 'a>(
     read_call(alloc, names, tokens)
 }
 
-/// Reads what stands behind BIND.
+/// Reads the rest of a [60] Bind, after BIND.
 fn read_binding<'t, 'a>(
     alloc: Global,
     names: &Declarations,

@@ -1,22 +1,24 @@
-//! From the terminals of a SPARQL query to its tree.
+//! Reads the terminals of a SPARQL query as its syntax tree.
 //!
-//! [`parse`] takes the tokens of a whole text and what its prefixes stand for, and answers the
-//! [`Select`] that the terminals are by the grammar of the crate below (`IsParsed` of
-//! specs/Queries.antt), or `Syntax` exactly where they are no query. It is what the crate above
-//! calls, which finds the declarations first and judges the query afterwards.
+//! [`parse`] takes the tokens of a whole text and its prefix declarations. It returns the
+//! [`Select`] that the grammar of sparql_grammar derives from the terminals (`IsParsed` of
+//! specs/Queries.antt). It returns `Syntax` if and only if they are not a query. The caller,
+//! `sparql_read`, finds the declarations first, and checks the other rules for the query
+//! afterwards.
 //!
-//! Each reader is by recursive descent over a slice of tokens, a function a production or a run of
-//! them. Its clause says what is answered for one symbol of the grammar, both ways: what is
-//! answered is derived, and Syntax comes only where nothing is that the next terminal could not
-//! continue.
+//! The readers work by recursive descent over a slice of tokens, with a function for each
+//! production or group of productions. The contract of a reader is about one symbol of the grammar
+//! and has two directions. The grammar derives the value that is returned. `Syntax` is returned
+//! only if the grammar derives no value whose next terminal cannot continue it.
 //!
-//! Standard: SPARQL 1.1 Query Language, section 19.8, with what is left out said in the decisions
-//! of the grammar.
+//! Standard: SPARQL 1.1 Query Language, section 19.8. docs/USAGE.md (the query language)
+//! has the supported part.
 //!
-//! To read in this order: `triples`, `values`, `group`, `select`, `query`.
+//! Reading order: `triples`, `values`, `group`, `select`, `query`. Tests: `productions` of the
+//! crate query_tests.
 //!
-//! Not promised: how deep groups and expressions may stand in one another. The caller counts
-//! brackets before it calls.
+//! Not guaranteed: a limit on the depth of nested groups and expressions. The caller first checks
+//! how deep the brackets of the text nest.
 #![tactic(auto)]
 
 mod group;

@@ -1,4 +1,4 @@
-//! Reads a query (SPARQL 1.1 Query Language, section 19.8, QueryUnit).
+//! Reads a query (SPARQL 1.1 Query Language, section 19.8, [1] QueryUnit).
 
 ghost use Rattle.std.specs.Prelude.{◌≡◌, ◌<◌, ◌≤◌, List, [], IfOk, length, Some};
 ghost use Rattle.sparql_lexer.specs.Terminal.{terminals};
@@ -19,10 +19,11 @@ use sparql_lexer::{Keyword, Sign, Token};
 use sparql_tree::Selection;
 use std::alloc::Global;
 
-/// Reads a query from its terminals, names being what its prefixes stand for.
+/// Reads a query from all of its terminals. `names` are the prefix declarations of the text.
 ///
 /// # Errors
-/// `Syntax`: the tokens are no query. `Memory`: a growth was refused, which says nothing of them.
+/// - `Syntax` if the tokens are not a query.
+/// - `Memory` if an allocation fails.
 pub fn parse(alloc: Global, names: &Declarations, tokens: &[Token]) -> Result<Select, ReadFault>
     ensures query { IsParsed names.now (terminals tokens.now) result }
 {
@@ -34,7 +35,7 @@ pub fn parse(alloc: Global, names: &Declarations, tokens: &[Token]) -> Result<Se
     }
 }
 
-/// Reads a query with its declarations. What they declare, the names say already.
+/// Reads a [2] Query with its declarations. `names` already holds these declarations.
 fn read_query<'t, 'a>(
     alloc: Global,
     names: &Declarations,
@@ -52,7 +53,7 @@ fn read_query<'t, 'a>(
     read_select_query(alloc, names, rest)
 }
 
-/// Reads a declaration behind PREFIX.
+/// Reads the rest of a [6] PrefixDecl, after PREFIX.
 fn read_declaration<'t, 'a>(
     alloc: Global,
     tokens: &'t [Token<'a>],
@@ -69,7 +70,7 @@ fn read_declaration<'t, 'a>(
     Ok(rest)
 }
 
-/// Reads a query behind its declarations.
+/// Reads a [7] SelectQuery, after the declarations.
 fn read_select_query<'t, 'a>(
     alloc: Global,
     names: &Declarations,
@@ -86,7 +87,7 @@ fn read_select_query<'t, 'a>(
     read_selected(alloc, names, true, behind)
 }
 
-/// Reads a query behind SELECT and DISTINCT.
+/// Reads a query after SELECT and DISTINCT.
 fn read_selected<'t, 'a>(
     alloc: Global,
     names: &Declarations,
@@ -115,7 +116,7 @@ fn read_selected<'t, 'a>(
     )
 }
 
-/// Reads a query behind its selection.
+/// Reads a query after its [9] SelectClause.
 fn read_pattern<'t, 'a>(
     alloc: Global,
     names: &Declarations,
@@ -131,7 +132,7 @@ fn read_pattern<'t, 'a>(
     read_pattern_group(alloc, names, distinct, selection, after)
 }
 
-/// Reads a query behind WHERE.
+/// Reads a query after WHERE.
 fn read_pattern_group<'t, 'a>(
     alloc: Global,
     names: &Declarations,
@@ -153,7 +154,7 @@ fn read_pattern_group<'t, 'a>(
     Ok((query, rest))
 }
 
-/// Reads LIMIT and OFFSET, in either order.
+/// Reads the [25] LimitOffsetClauses, if there are any: LIMIT and OFFSET in either order.
 fn read_modifiers<'t, 'a>(
     tokens: &'t [Token<'a>],
 ) -> Result<((Option<u64>, Option<u64>), &'t [Token<'a>]), ReadFault>
@@ -178,7 +179,7 @@ fn read_modifiers<'t, 'a>(
     Ok(((None, None), tokens))
 }
 
-/// Reads a count.
+/// Reads the [146] INTEGER of LIMIT or OFFSET.
 fn read_count<'t, 'a>(tokens: &'t [Token<'a>]) -> Result<(u64, &'t [Token<'a>]), ReadFault>
     ensures reads { (names : Names) → ReadsCount names (terminals tokens.now) result }
 {

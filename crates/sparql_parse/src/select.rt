@@ -1,15 +1,18 @@
-//! What a query says, as its terminals do.
+//! The result of the parser.
 
 use sparql_tree::{Element, Selection};
 
-/// A query as it stands in its text, without the list of its variables.
+/// A query as in its text, without the list of all its variables.
 #[derive(Debug, Drop)]
 pub struct Select {
+    /// Whether the query has DISTINCT.
     pub distinct: bool,
+    /// The variables after SELECT, or `*`.
     pub selection: Selection,
-    /// The elements of the query's own group.
+    /// The elements of the query's outermost group.
     pub group: Vec<Element>,
-    /// A number over 18446744073709551615 stands as that.
+    /// The number of LIMIT. A number above 18446744073709551615 is replaced by that number.
     pub limit: Option<u64>,
+    /// The number of OFFSET. It has the same bound.
     pub offset: Option<u64>,
 }

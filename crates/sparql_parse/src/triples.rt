@@ -1,4 +1,4 @@
-//! Reads triples (SPARQL 1.1 Query Language, section 19.8, from TriplesTemplate on).
+//! Reads triples (SPARQL 1.1 Query Language, section 19.8, from [55] TriplesBlock on).
 
 ghost use Rattle.std.specs.Prelude.{◌≡◌, ◌<◌, ◌≤◌, IfOk, length};
 ghost use Rattle.sparql_lexer.specs.Terminal.{terminals};
@@ -21,7 +21,7 @@ use sparql_lexer::{Keyword, Kind, Sign, Token};
 use sparql_tree::{PatternTerm, Triple};
 use std::alloc::{AllocError, Global};
 
-/// An equal place, with texts of its own.
+/// Returns an equal term or variable that owns its texts.
 fn copy_place(alloc: Global, place: &PatternTerm) -> Result<PatternTerm, AllocError>
     ensures equal { IfOk result (λ copy. copy ≡ place.now) }
 {
@@ -32,7 +32,7 @@ fn copy_place(alloc: Global, place: &PatternTerm) -> Result<PatternTerm, AllocEr
     }
 }
 
-/// Whether what may stand at a place of a triple begins with the first of the tokens.
+/// Returns whether the first token can begin a [106] VarOrTerm.
 pub fn starts_place(tokens: &[Token]) -> bool
     ensures value { result ≡ heads is_place (terminals tokens.now) }
 {
@@ -53,7 +53,7 @@ pub fn starts_place(tokens: &[Token]) -> bool
     }
 }
 
-/// Whether a verb begins with the first of the tokens.
+/// Returns whether the first token can begin a [78] Verb.
 fn starts_verb(tokens: &[Token]) -> bool
     ensures value { result ≡ heads is_verb (terminals tokens.now) }
 {
@@ -70,7 +70,8 @@ fn starts_verb(tokens: &[Token]) -> bool
     }
 }
 
-/// The label of a `[]` with so many tokens behind it: one that stands nowhere else in the text.
+/// Returns the label of an [163] ANON with `behind` tokens after it. It occurs nowhere else in the
+/// text.
 fn anonymous_label(alloc: Global, behind: usize) -> Result<Text, AllocError>
     ensures label { IfOk result (λ label. label ≡ anonymous_label behind) }
 {
@@ -80,7 +81,7 @@ fn anonymous_label(alloc: Global, behind: usize) -> Result<Text, AllocError>
     Ok(Text::from_string(label))
 }
 
-/// Reads a variable, a blank node or a term.
+/// Reads a [106] VarOrTerm.
 fn read_pattern_term<'t, 'a>(
     alloc: Global,
     names: &Declarations,
@@ -103,7 +104,7 @@ fn read_pattern_term<'t, 'a>(
     Ok((PatternTerm::Term(term), after))
 }
 
-/// Reads a variable, an IRI or `a`.
+/// Reads a [78] Verb.
 fn read_verb<'t, 'a>(
     alloc: Global,
     names: &Declarations,
@@ -125,7 +126,7 @@ fn read_verb<'t, 'a>(
     Ok((PatternTerm::Term(Term::Iri(iri)), after))
 }
 
-/// Reads the objects of one subject and verb, and adds their triples.
+/// Reads an [79] ObjectList of one subject and verb, and appends its triples.
 fn read_objects<'t, 'a>(
     alloc: Global,
     names: &Declarations,
@@ -144,7 +145,7 @@ fn read_objects<'t, 'a>(
     Ok(rest)
 }
 
-/// Reads one object, and adds the triple.
+/// Reads one object, and appends its triple.
 fn read_object<'t, 'a>(
     alloc: Global,
     names: &Declarations,
@@ -165,7 +166,7 @@ fn read_object<'t, 'a>(
     Ok(rest)
 }
 
-/// Reads a verb and its objects, and adds the triples of this subject.
+/// Reads a verb and its objects, and appends the triples of this subject.
 fn read_property<'t, 'a>(
     alloc: Global,
     names: &Declarations,
@@ -180,7 +181,7 @@ fn read_property<'t, 'a>(
     read_objects(alloc, names, subject, &verb, triples, rest)
 }
 
-/// Reads what stands behind `;`: a verb and its objects, or nothing.
+/// Reads the text after `;`: a verb and its objects, or nothing.
 fn read_other_property<'t, 'a>(
     alloc: Global,
     names: &Declarations,
@@ -197,7 +198,7 @@ fn read_other_property<'t, 'a>(
     read_property(alloc, names, subject, triples, tokens)
 }
 
-/// Reads the triples of one subject.
+/// Reads a [75] TriplesSameSubject, and appends its triples.
 fn read_same_subject<'t, 'a>(
     alloc: Global,
     names: &Declarations,
@@ -215,7 +216,7 @@ fn read_same_subject<'t, 'a>(
     Ok(rest)
 }
 
-/// Reads a run of triples, and adds them.
+/// Reads a [55] TriplesBlock, and appends its triples.
 pub fn read_triples<'t, 'a>(
     alloc: Global,
     names: &Declarations,

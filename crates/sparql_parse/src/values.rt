@@ -1,4 +1,4 @@
-//! Reads the data of VALUES (SPARQL 1.1 Query Language, section 19.8, DataBlock).
+//! Reads the data of VALUES (SPARQL 1.1 Query Language, section 19.8, [62] DataBlock).
 
 ghost use Rattle.std.specs.Prelude.{◌≡◌, ◌<◌, ◌≤◌, map, IfOk, length};
 ghost use Rattle.sparql_lexer.specs.Terminal.{terminals};
@@ -15,7 +15,7 @@ use sparql_tree::Element;
 use std::alloc::{AllocError, Global};
 use std::collections::BTreeSet;
 
-/// Reads what stands behind VALUES.
+/// Reads a [62] DataBlock, after VALUES.
 pub fn read_data_block<'t, 'a>(
     alloc: Global,
     names: &Declarations,
@@ -34,10 +34,10 @@ pub fn read_data_block<'t, 'a>(
     read_rows(alloc, names, heading, rest)
 }
 
-/// Whether no name stands twice.
+/// Returns whether no name occurs twice.
 ///
 /// # Errors
-/// A growth was refused.
+/// `AllocError` if an allocation fails.
 fn is_distinct(alloc: Global, names: &[Text]) -> Result<bool, AllocError>
     ensures value { IfOk result (λ distinct. distinct ≡ is_distinct names.now) }
 {
@@ -50,7 +50,7 @@ fn is_distinct(alloc: Global, names: &[Text]) -> Result<bool, AllocError>
     Ok(true)
 }
 
-/// Reads the cells of one variable.
+/// Reads the values of an [63] InlineDataOneVar.
 fn read_column<'t, 'a>(
     alloc: Global,
     names: &Declarations,
@@ -75,7 +75,7 @@ fn read_column<'t, 'a>(
     }
 }
 
-/// Reads the list of the variables.
+/// Reads the list of the variables of an [64] InlineDataFull.
 fn read_heading<'t, 'a>(
     alloc: Global,
     tokens: &'t [Token<'a>],
@@ -97,7 +97,7 @@ fn read_heading<'t, 'a>(
     Ok((heading, after))
 }
 
-/// Reads the rows under a heading.
+/// Reads the rows of an [64] InlineDataFull.
 fn read_rows<'t, 'a>(
     alloc: Global,
     names: &Declarations,
@@ -147,7 +147,7 @@ fn read_row<'t, 'a>(
     }
 }
 
-/// Reads a term or UNDEF.
+/// Reads a [65] DataBlockValue: a term or UNDEF.
 fn read_cell<'t, 'a>(
     alloc: Global,
     names: &Declarations,

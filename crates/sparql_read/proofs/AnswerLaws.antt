@@ -1,4 +1,4 @@
--- A text has one answer at most, besides want of memory.
+-- A text has at most one result, apart from Memory.
 use Rattle.std.proofs.Common.{◌≡◌, ◌<◌, inl, inr, ℕ, List, [], nat_eq, cond, Result, Ok, Err, refl, sym, ap, ◌∙◌, subst, arith}
 use Rattle.std.proofs.lemmas.Bool.{cases_lt}
 use Rattle.sparql_tree.specs.QueryTree.{QueryTree}

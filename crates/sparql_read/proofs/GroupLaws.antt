@@ -22,11 +22,11 @@ pub group_more : (es : List Element) (i : ℕ) (e : Element) → i < length es �
     → group_of (take (i + 1) es) ≡ then (group_of (take i es)) (element_of e)
 group_more es i e below is = ap group_of (take_more es i e below ∙ ap (λ x. take i es ++ x ∷ []) (sym is)) ∙ group_append (take i es) (e ∷ [])
 
--- the elements behind some first ones
+-- the elements after the first i
 pub group_rest : (es : List Element) (i : ℕ) → group_of es ≡ onto (group_of (take i es)) (map element_of (drop i es))
 group_rest es i = ap group_of (sym (take-append-drop i es)) ∙ group_append (take i es) (drop i es)
 
--- what some elements of the code stand for
+-- the elements of the model for some elements of the code
 pub union_stands_for : (left : Box Element Global) (es : Vec Element Global) → element_of (views.Union left es) ≡ union (element_of left.value) (group_of es.items)
 union_stands_for left es = ap element_of (sym (variants.rolls-Union left es)) ∙ fold-roll-Element ElementTree element_step (Element-F.Union left es)
 

@@ -1,4 +1,4 @@
--- Labels of basic patterns.
+-- The labels of basic graph patterns.
 use Rattle.std.proofs.Common.{◌≡◌, ◌+◌, ◌<◌, ℕ, List, [], ◌∷◌, ◌++◌, Bool, true, false, ◌||◌, flat_map, length, take, drop, map, get_or, refl, sym, ap, ◌∙◌, subst}
 use Rattle.std.specs.Str.{bytes_eq}
 use Rattle.std.proofs.lemmas.List.{append_assoc, append-nil, take_more, take-append-drop}
@@ -42,7 +42,7 @@ pub labels_then : (xs us vs ls ms ns : List (List ℕ)) (b : Bool) → AddsLabel
 labels_then xs us vs ls ms ns true g h = (stands_append xs us vs ∙ or_both g.0 h.0, same_then ls us vs g.1 h.1)
 labels_then xs us vs ls ms ns false g h = stands_append xs us vs ∙ or_right (stands_among xs us) h
 
--- a label of one of the triples stands in an earlier pattern
+-- a label of one of the triples occurs in an earlier pattern
 pub triple_clash : (xs : List (List ℕ)) (ts : List Triple) (i : ℕ) (t : Triple) → i < length ts → t ≡ get_or ts i t → stands_among xs (triple_labels t) ≡ true → stands_among xs (labels_of ts) ≡ true
 triple_clash xs ts i t below is h =
     let e : labels_of (take (i + 1) ts) ≡ labels_of (take i ts) ++ (triple_labels t ++ []) =
@@ -53,12 +53,12 @@ triple_clash xs ts i t below is h =
     ∙ or_left (stands_among xs (labels_of (drop (i + 1) ts)))
     (ap (stands_among xs) e ∙ (stands_append xs (labels_of (take i ts)) (triple_labels t ++ []) ∙ or_right (stands_among xs (labels_of (take i ts))) (stands_append xs (triple_labels t) [] ∙ or_left false h)))))
 
--- only what stands in the earlier patterns counts
+-- the result depends only on which labels occur in the earlier patterns
 pub shares_same : {xs ys : List (List ℕ)} → HaveSame xs ys → (ps : List (List Triple)) → shares_labels xs ps ≡ shares_labels ys ps
 shares_same h [] = refl
 shares_same h (p ∷ ps) = rw (stands_same h (labels_of p), shares_same (same_front (labels_of p) h) ps) refl
 
--- patterns, and then others
+-- patterns followed by other patterns
 pub shares_append : (xs : List (List ℕ)) (ps qs : List (List Triple)) → shares_labels xs (ps ++ qs) ≡ (shares_labels xs ps || shares_labels (xs ++ flat_map labels_of ps) qs)
 shares_append xs [] qs = ap (λ ys. shares_labels ys qs) (sym (append-nil xs))
 shares_append xs (p ∷ ps) qs =
@@ -72,14 +72,14 @@ patterns_then xs {ys} {zs} ps qs g h = (
   subst (λ ls. HaveSame zs (xs ++ ls)) (sym (flat_map-append labels_of ps qs)) (same_then xs (flat_map labels_of ps) (flat_map labels_of qs) g.1 h.1),
 )
 
--- a label stands in two of the others, or in one of them and an earlier one
+-- a label occurs in two of the other patterns, or in one of them and an earlier one
 pub patterns_clash : (xs : List (List ℕ)) {ys : List (List ℕ)} (ps qs : List (List Triple)) → AddsPatterns ps true xs ys → shares_labels ys qs ≡ true → shares_labels xs (ps ++ qs) ≡ true
 patterns_clash xs {ys} ps qs g h = shares_append xs ps qs ∙ or_right (shares_labels xs ps) (sym (shares_same g.1 qs) ∙ h)
 
 pub first_clash : (xs : List (List ℕ)) (ps qs : List (List Triple)) → shares_labels xs ps ≡ true → shares_labels xs (ps ++ qs) ≡ true
 first_clash xs ps qs h = shares_append xs ps qs ∙ or_left (shares_labels (xs ++ flat_map labels_of ps) qs) h
 
--- the run before an element is one pattern more
+-- the run before an element is one more pattern
 pub run_added : {xs ls ys : List (List ℕ)} (us : List Triple) → IsRun xs ls us → HaveSame ys (xs ++ ls) → AddsPatterns (us ∷ []) true xs ys
 run_added {xs} {ls} us r h =
     (or_both r.apart refl, same_trans h (same_back xs (same_trans r.same (subst (HaveSame (labels_of us)) (sym (append-nil (labels_of us))) same_refl))))
@@ -90,7 +90,7 @@ run_starts xs = record { same = same_refl; apart = refl }
 pub nothing_added : {xs : List (List ℕ)} → AddsPatterns [] true xs xs
 nothing_added {xs} = (refl, subst (HaveSame xs) (sym (append-nil xs)) same_refl)
 
--- an element that goes on with the run
+-- an element that continues the run
 goes_on : (us : List Triple) (e : ElementTree) → ends_run e ≡ false → open_after us e ≡ us ++ run_of e
 goes_on us (triples ts) h = refl
 goes_on us (filter e) h = sym (append-nil us)
@@ -132,11 +132,11 @@ element_ends_run e true xs ls ys zs ms h a empty d = λ us r.
 element_ends_run e false xs ls ys zs ms h a empty d = λ us r.
     rw (sym h) (first_clash xs (us ∷ patterns_inside e) (open_after us e ∷ []) (patterns_clash xs (us ∷ []) (patterns_inside e) (run_added us r a) d))
 
--- the patterns of a group with one element more
+-- the patterns of a group with one more element
 closed_more : (g : GroupTree) (e : ElementTree) → closed_patterns (then g e) ≡ closed_patterns g ++ closed_by (open_pattern g) e
 closed_more g e = refl
 
--- the labels of the elements so far
+-- the labels of the elements that were visited
 pub labels_more : (es : List Element) (i : ℕ) (e : Element) (xs ys ls zs ms : List (List ℕ)) → i < length es → e ≡ get_or es i e
     → AddsPatterns (closed_patterns (group_of (take i es))) true xs ys × IsRun ys ls (open_pattern (group_of (take i es)))
     → AddsElement (element_of e) true ys ls zs ms
@@ -151,7 +151,7 @@ plain : (a : Bool) → (a || false) ≡ true → a ≡ true
 plain true h = refl
 plain false h = h
 
--- a clash in a group stays, whatever stands behind
+-- a label that occurs in two patterns of a group does so with further elements, too
 clash_goes_on : (xs : List (List ℕ)) (us : List Triple) (e : ElementTree) → shares_labels xs (us ∷ []) ≡ true → shares_labels xs (closed_by us e ++ open_after us e ∷ []) ≡ true
 clash_goes_on xs us (triples ts) h = or_left false (ap (stands_among xs) (flat_map-append triple_labels us ts) ∙ (stands_append xs (labels_of us) (labels_of ts) ∙ or_left (stands_among xs (labels_of ts)) (plain (stands_among xs (labels_of us)) h)))
 clash_goes_on xs us (filter e) h = h
@@ -194,7 +194,7 @@ labels_clash es i e xs ys ls zs ms below is h a =
 pub pattern_added : (ts : List Triple) (xs ls ms ys : List (List ℕ)) → ls ≡ [] → AddsLabels xs (labels_of ts) true ls ms → HaveSame ys (xs ++ ms) → AddsPatterns (ts ∷ []) true xs ys
 pattern_added ts xs ls ms ys empty a h = run_added {xs = xs} {ls = ms} {ys = ys} ts (record { same = subst (λ ls. HaveSame ms (ls ++ labels_of ts)) empty a.1; apart = a.0 }) h
 
--- the order of patterns does not count
+-- the order of the patterns does not matter
 plain_first : (a b : Bool) → ((a || false) || b) ≡ (a || b)
 plain_first true b = refl
 plain_first false b = refl

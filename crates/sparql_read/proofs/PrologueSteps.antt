@@ -1,4 +1,4 @@
--- The walk that gathers the declarations.
+-- The loop that collects the declarations.
 use Rattle.std.proofs.Common.{◌≡◌, ◌+◌, ◌-◌, ◌<◌, ℕ, suc, List, [], ◌∷◌, length, length-drop, take, drop, get_or, Option, refl, sym, ap, ◌∙◌, drop-cons, arith}
 use Rattle.std.proofs.lemmas.List.{take_all}
 use Rattle.sparql_lexer.specs.declared.token.Token.{Token}
@@ -17,11 +17,11 @@ declared_more (t ∷ ts) i ns below =
     let e : suc i ≡ i + 1 = omega arith in
     from_cons (drop i (t ∷ ts)) (drop (i + 1) (t ∷ ts)) (get_or (t ∷ ts) i t) ns (drop-cons (t ∷ ts) i t below ∙ ap (λ n. get_or (t ∷ ts) i t ∷ drop n (t ∷ ts)) e)
 
--- what stands from a place on
+-- the terminals from a place on
 from_place : (ts : List Token) (i : ℕ) → take (length ts - i) (drop i ts) ≡ drop i ts
 from_place ts i = take_all (length ts - i) (drop i ts) (grind (arith, length-drop))
 
--- what stands at a place is declared, or nothing is
+-- a declaration begins at a place, or none does
 pub declared_next : (ts : List Token) (i : ℕ) (old new : Names) (found : Option Declaration) → i < length ts
     → new ≡ and_declared found old → found ≡ declaration_at (terminals (take (length ts - i) (drop i ts)))
     → declared_onto new (terminals (drop (i + 1) ts)) ≡ declared_onto old (terminals (drop i ts))

@@ -1,4 +1,5 @@
--- A text has one list of terminals and one query, so what is judged of these is judged of the text.
+-- A text has one list of terminals and one query. Therefore a rule applies to the text if it
+-- applies to these.
 use Rattle.std.proofs.Common.{◌≡◌, ◌==◌, ◌<◌, ◌≤◌, ℕ, List, [], ◌∷◌, length, Bool, true, false, Result, Ok, Err, refl, sym, ap, ◌∙◌, subst, arith}
 use Rattle.std.proofs.lemmas.Bool.Decides.{nat_tests}
 use Rattle.sparql_lexer.specs.Terminal.{Terminal}
@@ -28,7 +29,7 @@ abbrev pub OneQuery : Type 0
 OneQuery = (names : Names) (ts : List Terminal) (q r : Select)
     → Matches names the.query (right_side the.query) ts q [] → Matches names the.query (right_side the.query) ts r [] → q ≡ r
 
--- what is known once a text is parsed
+-- the known facts after a text is parsed
 pub record Known (text : List ℕ) (ts : List Terminal) (s : Select) : Type 0 where
   pub one_scan : OneScan
   pub one_query : OneQuery
@@ -39,7 +40,7 @@ pub record Known (text : List ℕ) (ts : List Terminal) (s : Select) : Type 0 wh
 pub not_deep : OneScan → (text end : List ℕ) (ts : List Terminal) → Scans text ts end → is_too_deep ts ≡ false → IsTooDeep text → ⊥
 not_deep one text end ts scans e x = let m = one text end x.end ts x.terminals scans x.scans in let k = ap is_too_deep m.0 in let o = x.deep in cc
 
--- the rules of a rank below n are known not to refuse
+-- the rules of a rank below n are known not to apply
 below : (text : List ℕ) (n : ℕ) → (0 < n → Applies TooDeep text → ⊥) → (1 < n → Applies Syntax text → ⊥) → (2 < n → Applies UndefinedPrefix text → ⊥)
     → (3 < n → Applies RelativeIri text → ⊥) → (4 < n → Applies BindScope text → ⊥) → (5 < n → Applies BlankReuse text → ⊥)
     → (r : QueryFault) → rank r < n → Applies r text → ⊥
@@ -60,7 +61,7 @@ too_deep text end ts scans h = record {
   first = below text 0 (over 0 0 (omega arith)) (over 1 0 (omega arith)) (over 2 0 (omega arith)) (over 3 0 (omega arith)) (over 4 0 (omega arith)) (over 5 0 (omega arith));
 }
 
--- a text that is not read whole, or of whose terminals nothing is derived
+-- a text that is not read whole, or whose terminals derive nothing
 syntax_refused : (text : List ℕ) → (IsTooDeep text → ⊥) → ((q : QueryTree) → Derives text q → ⊥) → Answers text (Err Syntax)
 syntax_refused text deep none = record {
   applies = none;
@@ -157,7 +158,7 @@ module _ {text : List ℕ} {ts : List Terminal} {s : Select} (known : Known text
   pub allowed : Judged ts s.group (Ok tt) → Answers text (Ok (tree_of s ts))
   allowed h = record { derives = derives; allowed = none_applies h }
 
-  -- where the variables were gathered apart
+  -- the same, if the variables were collected separately
   pub allowed_as : Judged ts s.group (Ok tt) → (xs : List (List ℕ)) → xs ≡ mentioned ts
       → Answers text (Ok (record { distinct = s.distinct; selection = s.selection; group = s.group; limit = s.limit; offset = s.offset; mentioned = xs }))
   allowed_as h xs e = subst (λ ys. Answers text (Ok (record { distinct = s.distinct; selection = s.selection; group = s.group; limit = s.limit; offset = s.offset; mentioned = ys }))) (sym e) (allowed h)

@@ -1,4 +1,4 @@
--- The walk that gathers the variables in scope.
+-- The functions that collect the variables in scope.
 use Rattle.std.proofs.Common.{◌≡◌, ◌+◌, ◌<◌, ℕ, List, [], ◌∷◌, ◌++◌, Bool, true, false, ◌||◌, Some, length, take, drop, map, get_or, refl, sym, ap, ◌∙◌, subst}
 use Rattle.sparql_tree.specs.declared.group.Element.{Element}
 use Rattle.sparql_tree.specs.declared.group.GraphName.{GraphName}
@@ -47,7 +47,7 @@ stays_broken : (g : GroupTree) (es : List ElementTree) → breaks_bind_scope g �
 stays_broken g [] h = h
 stays_broken g (e ∷ es) h = stays_broken (then g e) es (first (breaks_bind_scope g) _ h)
 
--- a group that is broken behind some first elements is broken
+-- a group breaks the rule if its first elements break it
 broken : (es : List Element) (i : ℕ) → breaks_bind_scope (group_of (take i es)) ≡ true → breaks_bind_scope (group_of es) ≡ true
 broken es i h = ap breaks_bind_scope (group_rest es i) ∙ stays_broken (group_of (take i es)) (map element_of (drop i es)) h
 
@@ -71,7 +71,7 @@ pub scope_broken : (es : List Element) (i : ℕ) (e : Element) → i < length es
 scope_broken es i e below is inside =
     broken es (i + 1) (ap breaks_bind_scope (group_more es i e below is) ∙ third (breaks_bind_scope (group_of (take i es))) _ (breaks_inside (element_of e)) inside)
 
--- the group behind UNION adds its names, and then what stands before it
+-- the group after UNION adds its names, and then the left side of the UNION adds its names
 pub scope_before : (b : Bool) (e : ElementTree) (g : GroupTree) (xs ys zs : List Name) → AddsScope (group g) true xs ys → AddsScope e b ys zs → AddsScope (union e g) b xs zs
 scope_before true e g xs ys zs h k = (
   either_false k.0 h.0,

@@ -14,7 +14,7 @@ use Rattle.sparql_read.specs.NameSet.{HaveSame, is_among}
 pub bytes_eq_sym : (xs ys : List ℕ) → bytes_eq xs ys ≡ bytes_eq ys xs
 bytes_eq_sym xs ys = grind (arith, bytes_eq-Decides xs ys, bytes_eq-Decides ys xs)
 
--- what the set's own look-up finds
+-- the look-up of the set finds the names that occur in the list
 pub found_is_among : (x : List ℕ) (xs : List (List ℕ)) → list_any (is_at (slice_cmp nat_cmp x)) xs ≡ is_among x xs
 found_is_among x [] = refl
 found_is_among x (y ∷ ys) = rw (is_eq-slice_cmp x y, found_is_among x ys) refl
@@ -28,7 +28,7 @@ or_last false false = refl
 pub among_last : (x y : List ℕ) (xs : List (List ℕ)) → cond (is_at (slice_cmp nat_cmp y) x) true (list_any (is_at (slice_cmp nat_cmp x)) xs) ≡ is_among x (xs ++ y ∷ [])
 among_last x y xs = rw (is_eq-slice_cmp y x, bytes_eq_sym y x, found_is_among x xs, list_any-append (bytes_eq x) xs (y ∷ [])) (or_last (bytes_eq x y) (is_among x xs))
 
--- a name is added to a set that is seen as xs
+-- a name is added to a set whose list is xs
 pub added : {xs : List (List ℕ)} (old new : List (List ℕ)) (y : List ℕ) → old ≡ xs
     → ((x : List ℕ) → list_any (is_at (slice_cmp nat_cmp x)) new ≡ cond (is_at (slice_cmp nat_cmp y) x) true (list_any (is_at (slice_cmp nat_cmp x)) old))
     → HaveSame new (xs ++ y ∷ [])
@@ -57,7 +57,7 @@ same_front {xs} {ys} zs h = record { each = λ x. list_any-append (bytes_eq x) x
 pub same_back : {xs ys : List (List ℕ)} (zs : List (List ℕ)) → HaveSame xs ys → HaveSame (zs ++ xs) (zs ++ ys)
 same_back {xs} {ys} zs h = record { each = λ x. list_any-append (bytes_eq x) zs xs ∙ (ap (λ b. is_among x zs || b) (h.each x) ∙ sym (list_any-append (bytes_eq x) zs ys)) }
 
--- two lots of names are added, one after the other
+-- two lists of names are added, one after the other
 pub same_then : (xs us vs : List (List ℕ)) {ys zs : List (List ℕ)} → HaveSame ys (xs ++ us) → HaveSame zs (ys ++ vs) → HaveSame zs (xs ++ (us ++ vs))
 same_then xs us vs g h = record { each = λ x. h.each x ∙ ((same_front vs g).each x ∙ ap (is_among x) (append_assoc xs us vs)) }
 
@@ -71,7 +71,7 @@ or_behind : (a b c : Bool) → ((a || b) || c) ≡ ((a || c) || b)
 or_behind true b c = refl
 or_behind false b c = or_turned b c
 
--- the order of two lots of names does not count
+-- the order of two lists of names does not matter
 pub same_turned : (us vs : List (List ℕ)) → HaveSame (us ++ vs) (vs ++ us)
 same_turned us vs = record { each = λ x. list_any-append (bytes_eq x) us vs ∙ (or_turned (is_among x us) (is_among x vs) ∙ sym (list_any-append (bytes_eq x) vs us)) }
 

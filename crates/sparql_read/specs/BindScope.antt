@@ -1,4 +1,5 @@
--- BIND to a variable that is in scope (SPARQL 1.1 Query Language, sections 10.1 and 18.2.1).
+-- BIND to a variable that is already in scope (SPARQL 1.1 Query Language, sections 10.1 and
+-- 18.2.1).
 use Rattle.std.specs.Prelude.{ℕ, List, Bool, false, ◌||◌}
 use Rattle.std.specs.List.{list_any}
 use Rattle.std.specs.Str.{bytes_eq}
@@ -10,8 +11,8 @@ abbrev pub binds_among : List Name → ElementTree → Bool
 binds_among xs (bind e x) = list_any (bytes_eq x) xs
 binds_among xs _ = false
 
--- Whether somewhere in the group, at any depth, the variable of a BIND is in scope from the elements
--- before it in its own group. What stands around that group does not count.
+-- The variable of a BIND in the group, at any depth, is in scope from the elements before it in its
+-- own group. The elements around that group do not matter.
 abbrev mutual
   pub breaks_bind_scope : GroupTree → Bool
   breaks_bind_scope none = false

@@ -1,4 +1,5 @@
--- Blank labels that stand in two basic patterns (SPARQL 1.1 Query Language, section 5.1.1).
+-- Blank node labels that occur in two basic graph patterns (SPARQL 1.1 Query Language, section
+-- 5.1.1).
 use Rattle.std.specs.Prelude.{ℕ, List, [], ◌∷◌, ◌++◌, Bool, true, false, ◌||◌, flat_map, cond}
 use Rattle.std.specs.List.{list_any}
 use Rattle.std.specs.Str.{bytes_eq}
@@ -7,7 +8,7 @@ use Rattle.sparql_tree.specs.declared.group.PatternTerm.TheVariants as place
 use Rattle.sparql_tree.specs.declared.group.Triple.{Triple}
 use Rattle.sparql_tree.specs.GroupTree.{GroupTree, ElementTree, none, then, triples, group, union, optional, minus, graph, filter, bind, values}
 
--- a `[]` has a label that stands in its own triples alone
+-- a `[]` has a label that occurs only in its own triples
 abbrev pub place_labels : PatternTerm → List (List ℕ)
 place_labels (place.Variable x) = []
 place_labels (place.Blank l) = l ∷ []
@@ -16,7 +17,7 @@ place_labels (place.Term t) = []
 abbrev pub triple_labels : Triple → List (List ℕ)
 triple_labels t = place_labels t.subject ++ (place_labels t.predicate ++ place_labels t.object)
 
--- a run of triples goes on behind a FILTER, and every other element ends it
+-- a run of triples continues after a FILTER, and every other element ends it
 abbrev pub open_after : List Triple → ElementTree → List Triple
 open_after us (triples ts) = us ++ ts
 open_after us (filter e) = us
@@ -45,8 +46,8 @@ ends_run (graph i g) = true
 ends_run (bind e x) = true
 ends_run (values xs rows) = true
 
--- The basic patterns of a group but for the run at its end, and those that stand inside an element;
--- one may be empty.
+-- The basic graph patterns of a group without the run at its end, and those inside an element. A
+-- pattern may be empty.
 abbrev mutual
   pub closed_patterns : GroupTree → List (List Triple)
   closed_patterns none = []
@@ -64,19 +65,19 @@ abbrev mutual
   patterns_inside (bind e x) = []
   patterns_inside (values xs rows) = []
 
--- all basic patterns of a group, those of the groups inside it among them
+-- all basic graph patterns of a group, with those of the groups inside it
 abbrev pub basic_patterns : GroupTree → List (List Triple)
 basic_patterns g = closed_patterns g ++ open_pattern g ∷ []
 
 abbrev pub labels_of : List Triple → List (List ℕ)
 labels_of ts = flat_map triple_labels ts
 
--- a label of one of the patterns stands in an earlier one, or among these
+-- a label of one of the patterns occurs in an earlier one, or is in `before`
 abbrev pub shares_labels : List (List ℕ) → List (List Triple) → Bool
 shares_labels before [] = false
 shares_labels before (p ∷ ps) =
     list_any (λ l. list_any (bytes_eq l) before) (labels_of p) || shares_labels (before ++ labels_of p) ps
 
--- a label stands in two basic patterns
+-- a label occurs in two basic graph patterns
 abbrev pub reuses_blank : GroupTree → Bool
 reuses_blank g = shares_labels [] (basic_patterns g)

@@ -1,12 +1,13 @@
--- How deep brackets are nested in a list of terminals (our own limit).
+-- The depth of nested brackets in a list of terminals. (The limit is a choice of this project, not
+-- fixed by the standard.)
 use Rattle.std.specs.Prelude.{ℕ, ◌+◌, ◌-◌, List, [], ◌∷◌, Bool, true, false, ◌||◌, nat_lt}
 use Rattle.sparql_lexer.specs.declared.token.Kind.{Kind}
 use Rattle.sparql_lexer.specs.declared.token.Kind.TheVariants as kind
 use Rattle.sparql_lexer.specs.declared.token.Sign.TheVariants as sign
 use Rattle.sparql_lexer.specs.Terminal.{Terminal, terminal}
 
--- How many brackets are open behind a terminal, where n are open before it. A bracket that closes
--- where none is open changes nothing, and braces and parentheses count alike.
+-- The number of open brackets after a terminal, with n open brackets before it. A closing bracket
+-- changes nothing if no bracket is open. Braces and parentheses count alike.
 abbrev pub open_after : Kind → ℕ → ℕ
 open_after (kind.Sign sign.OpenBrace) n = n + 1
 open_after (kind.Sign sign.OpenParenthesis) n = n + 1
@@ -14,7 +15,7 @@ open_after (kind.Sign sign.CloseBrace) n = n - 1
 open_after (kind.Sign sign.CloseParenthesis) n = n - 1
 open_after _ n = n
 
--- whether more than 100 are open somewhere, where n are open before the terminals
+-- more than 100 brackets are open at some place, with n open brackets before the terminals
 abbrev pub goes_over : ℕ → List Terminal → Bool
 goes_over n [] = false
 goes_over n (terminal k x ∷ ts) = nat_lt 100 (open_after k n) || goes_over (open_after k n) ts

@@ -1,4 +1,5 @@
--- The query of a text (SPARQL 1.1 Query Language, section 19.8). A text is the list of its characters.
+-- The query of a text (SPARQL 1.1 Query Language, section 19.8). A text is the list of its
+-- characters.
 use Rattle.std.specs.Prelude.{◌≡◌, ℕ, List, []}
 use Rattle.sparql_lexer.specs.Terminal.{Terminal}
 use Rattle.sparql_lexer.specs.Scan.{Scans}
@@ -10,7 +11,7 @@ use Rattle.sparql_grammar.specs.Matches.{Matches}
 use Rattle.sparql_read.specs.Prologue.{declarations}
 use Rattle.sparql_read.specs.Mentioned.{mentioned}
 
--- what a list of terminals selects, with the variables that stand in it
+-- the tree of a query, with the variables that occur in its terminals
 abbrev pub tree_of : Select → List Terminal → QueryTree
 tree_of s ts = record {
   distinct = s.distinct;
@@ -21,8 +22,8 @@ tree_of s ts = record {
   mentioned = mentioned ts;
 }
 
--- The text is a list of terminals, each the longest at its place, which the productions derive under
--- the text's own declarations.
+-- The text is a list of terminals, each the longest at its place. The productions derive the query
+-- from these terminals, with the prefix declarations of the text.
 pub record Derives (text : List ℕ) (q : QueryTree) : Type 0 where
   pub terminals : List Terminal
   pub scans : Scans text terminals []

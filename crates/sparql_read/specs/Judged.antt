@@ -1,4 +1,4 @@
--- What the judging of a derived query answers. Only private clauses cite this file.
+-- The result of the check of a derived query. Only private clauses use this definition.
 use Rattle.std.specs.Prelude.{◌≡◌, List, true, false, Result, Ok, Err}
 use Rattle.sparql_lexer.specs.Terminal.{Terminal}
 use Rattle.sparql_tree.specs.GroupTree.{GroupTree}
@@ -9,7 +9,7 @@ use Rattle.sparql_read.specs.RelativeIri.{has_relative_iri}
 use Rattle.sparql_read.specs.BindScope.{breaks_bind_scope}
 use Rattle.sparql_read.specs.BlankReuse.{reuses_blank}
 
--- the first rule that refuses the query of these terminals and this group, or none
+-- the first rule that rejects the query of these terminals and this group, or none
 abbrev pub Judged : List Terminal → GroupTree → Result (Unit {0}) QueryFault → Type 0
 Judged ts g (Ok u) = (has_undefined_prefix ts ≡ false) × (has_relative_iri ts ≡ false) × (breaks_bind_scope g ≡ false) × (reuses_blank g ≡ false)
 Judged ts g (Err UndefinedPrefix) = has_undefined_prefix ts ≡ true

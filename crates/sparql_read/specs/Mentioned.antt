@@ -1,4 +1,4 @@
--- The variables of a text at each place where one stands.
+-- The variables of a text, each time that one occurs.
 use Rattle.std.specs.Prelude.{ℕ, List, [], ◌∷◌, Option, Some, None}
 use Rattle.sparql_lexer.specs.Terminal.{Terminal, terminal}
 use Rattle.sparql_grammar.specs.Class.{variable_of}

@@ -1,5 +1,5 @@
--- The declarations of a query, and its names that lack one (SPARQL 1.1 Query Language, sections 4.1.1
--- and 19.8, PrefixDecl). A text is given by its terminals.
+-- The prefix declarations of a query, and its prefixed names without a declaration (SPARQL 1.1
+-- Query Language, sections 4.1.1 and 19.8, [6] PrefixDecl). A text is given by its terminals.
 use Rattle.std.specs.Prelude.{ℕ, List, [], ◌∷◌, ◌&&◌, Bool, true, false, is_none, Option, Some, None, if◌then◌else◌}
 use Rattle.std.specs.List.{list_any}
 use lib.Utf8.{encodes}
@@ -23,18 +23,18 @@ abbrev pub is_reference : Kind → Bool
 is_reference kind.IriRef = true
 is_reference _ = false
 
--- `e:` or `e:a`
+-- [140] PNAME_NS, as `e:`, or [141] PNAME_LN, as `e:a`
 abbrev pub is_prefixed : Kind → Bool
 is_prefixed kind.PrefixedNamespace = true
 is_prefixed kind.PrefixedName = true
 is_prefixed _ = false
 
--- `PREFIX e: <iri>` of these three terminals; an IRI whose escape names nothing declares nothing
+-- `PREFIX e: <iri>` of these three terminals, or None if an escape of the IRI denotes no character
 abbrev pub declared : List ℕ → Option (List ℕ) → Option Declaration
 declared x None = None
 declared x (Some i) = Some (record { prefix = encodes (prefix_of x); iri = i })
 
--- the declaration at the head of the terminals
+-- the declaration at the start of the terminals
 abbrev pub declaration_at : List Terminal → Option Declaration
 declaration_at (terminal k w ∷ (terminal l x ∷ (terminal m i ∷ ts))) =
     if is_prefix_word k && (is_namespace l && is_reference m) then declared x (iri_value i) else None
@@ -44,8 +44,8 @@ abbrev pub and_declared : Option Declaration → Names → Names
 and_declared None ns = ns
 and_declared (Some d) ns = d ∷ ns
 
--- The declarations among the terminals, the last one first, on top of others. (In a query PREFIX
--- stands in the prologue alone.)
+-- The declarations among the terminals, the last one first, followed by others. (In a query PREFIX
+-- occurs only in the prologue.)
 abbrev pub declared_onto : Names → List Terminal → Names
 declared_onto ns [] = ns
 declared_onto ns (t ∷ ts) = declared_onto (and_declared (declaration_at (t ∷ ts)) ns) ts

@@ -1,4 +1,4 @@
--- The rules that refuse a query, and which of them is answered.
+-- The rules that reject a query, and the one that a reader returns.
 use Rattle.std.specs.Prelude.{◌≡◌, ◌<◌, ℕ, List, Bool, true, Result, Ok, Err}
 use Rattle.sparql_lexer.specs.Terminal.{Terminal}
 use Rattle.sparql_lexer.specs.Scan.{Scans}
@@ -13,20 +13,21 @@ use Rattle.sparql_read.specs.BindScope.{breaks_bind_scope}
 use Rattle.sparql_read.specs.BlankReuse.{reuses_blank}
 use Rattle.sparql_read.specs.Derives.{Derives}
 
--- brackets are nested too deep in the terminals of the text, up to the first place where none can be read
+-- brackets are nested too deep in the terminals of the text, up to the first place where there is
+-- no terminal
 pub record IsTooDeep (text : List ℕ) : Type 0 where
   pub terminals : List Terminal
   pub end : List ℕ
   pub scans : Scans text terminals end
   pub deep : is_too_deep terminals ≡ true
 
--- the text derives a query, of whose terminals and tree the test holds
+-- the text derives a query, and the test returns true for its terminals and its tree
 pub record IsQueryWith (text : List ℕ) (test : List Terminal → QueryTree → Bool) : Type 0 where
   pub query : QueryTree
   pub derives : Derives text query
   pub holds : test derives.terminals query ≡ true
 
--- the rule refuses the text
+-- the rule rejects the text
 abbrev pub Applies : QueryFault → List ℕ → Type 0
 Applies Syntax text = (q : QueryTree) → Derives text q → ⊥
 Applies UndefinedPrefix text = IsQueryWith text (λ ts q. has_undefined_prefix ts)
@@ -36,7 +37,7 @@ Applies BlankReuse text = IsQueryWith text (λ ts q. reuses_blank q.group)
 Applies TooDeep text = IsTooDeep text
 Applies Memory text = ⊥
 
--- Depth goes before all others, and these stand in their order.
+-- The rule on depth is before all others, which are in this order.
 abbrev pub rank : QueryFault → ℕ
 rank TooDeep = 0
 rank Syntax = 1
@@ -46,18 +47,18 @@ rank BindScope = 4
 rank BlankReuse = 5
 rank Memory = 6
 
--- the first of the rules that refuse the text
+-- the first of the rules that reject the text
 pub record IsRefusal (text : List ℕ) (r : QueryFault) : Type 0 where
   pub applies : Applies r text
   pub first : (s : QueryFault) → rank s < rank r → Applies s text → ⊥
 
--- no rule refuses the text, and it derives the query
+-- no rule rejects the text, and it derives the query
 pub record IsRead (text : List ℕ) (q : QueryTree) : Type 0 where
   pub derives : Derives text q
   pub allowed : (r : QueryFault) → Applies r text → ⊥
 
--- What a reader of queries answers: the query where no rule refuses the text, else the first that does.
--- Memory says nothing of the text.
+-- The result of a reader of queries: the query if no rule rejects the text, and otherwise the first
+-- rule that does. Memory says nothing about the text.
 abbrev pub Answers : List ℕ → Result QueryTree QueryFault → Type 0
 Answers text (Ok q) = IsRead text q
 Answers text (Err Memory) = Unit {0}
@@ -68,7 +69,7 @@ Answers text (Err BindScope) = IsRefusal text BindScope
 Answers text (Err BlankReuse) = IsRefusal text BlankReuse
 Answers text (Err TooDeep) = IsRefusal text TooDeep
 
--- what the code answers, as the model sees it
+-- the model of a result of the code
 abbrev pub seen : Result Query QueryFault → Result QueryTree QueryFault
 seen (Ok q) = Ok (query_of q)
 seen (Err e) = Err e

@@ -1,4 +1,4 @@
--- Relative IRIs (our own rule: a query has no base).
+-- Relative IRIs. (Their rejection is a choice of this project: a query has no base IRI.)
 use Rattle.std.specs.Prelude.{ℕ, List, Bool, false, not, Option, Some, None}
 use Rattle.std.specs.List.{list_any}
 use Rattle.rdf_core.specs.Lexical.{has_scheme}
@@ -11,10 +11,10 @@ abbrev pub lacks_scheme : Option (List ℕ) → Bool
 lacks_scheme None = false
 lacks_scheme (Some i) = not (has_scheme i)
 
--- an IRI in angle brackets whose value, with its escapes decoded, has no scheme
+-- an [139] IRIREF whose IRI, with its escapes decoded, has no scheme
 abbrev pub is_relative : Terminal → Bool
 is_relative (terminal k x) = lacks_scheme (reference_of k x)
 
--- in a declaration too
+-- some [139] IRIREF is relative, in a declaration or elsewhere
 abbrev pub has_relative_iri : List Terminal → Bool
 has_relative_iri ts = list_any is_relative ts

@@ -1,4 +1,4 @@
-//! How deep brackets are nested.
+//! The depth of nested brackets.
 
 ghost use Rattle.std.specs.Prelude.{◌≡◌, ◌≤◌};
 ghost use Rattle.sparql_lexer.specs.Terminal.{terminals};
@@ -6,10 +6,10 @@ ghost use Rattle.sparql_read.specs.Depth.{is_too_deep, open_after};
 
 use sparql_lexer::{Kind, Sign, Token};
 
-/// The most brackets that may be open at once.
+/// The maximum number of brackets that may be open at once.
 const MAX_DEPTH: usize = 100;
 
-/// How many brackets are open behind a terminal, where so many are open before it.
+/// Returns the number of open brackets after a terminal, given the number before it.
 fn open_after(kind: Kind, depth: usize) -> usize
     requires room { depth ≤ 100 }
     ensures value { result ≡ open_after kind depth }
@@ -23,8 +23,8 @@ fn open_after(kind: Kind, depth: usize) -> usize
     }
 }
 
-/// Whether brackets are nested over 100 deep: `{` and `(` add one, `}` and `)` take one away where
-/// some are open. 100 is allowed.
+/// Returns whether more than 100 brackets are open at some place. `{` and `(` open one, and `}` and
+/// `)` close one if there is one to close.
 pub fn is_too_deep(tokens: &[Token<'_>]) -> bool
     ensures value { result ≡ is_too_deep (terminals tokens.now) }
 {

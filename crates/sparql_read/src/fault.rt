@@ -1,27 +1,27 @@
-//! Why a query is refused.
+//! The reasons for which a query is rejected.
 
 ghost use Rattle.std.specs.Prelude.{◌≡◌};
 ghost use Rattle.sparql_read.specs.declared.fault.QueryFault.TheVariants as query_fault;
 
 use std::alloc::AllocError;
 
-/// The rule that refuses a query. The first that applies is answered: `TooDeep` before all others, and
-/// the others in the order in which they stand here.
+/// The rule that rejects a query. If several rules reject it, `read_query` returns the first of
+/// them: `TooDeep` is before all others, which are in the order of the variants.
 #[derive(Clone, Copy, Debug, PartialEq, Eq)]
 pub enum QueryFault {
     /// The grammar derives no query from the text.
     Syntax,
     /// A prefixed name has no declaration.
     UndefinedPrefix,
-    /// An IRI in angle brackets, in a declaration too, has no scheme.
+    /// An [139] IRIREF, in a declaration or elsewhere, has no scheme.
     RelativeIri,
-    /// The variable of a BIND is in scope from the elements before it in its group.
+    /// The variable of a BIND is already in scope from the elements before it in its group.
     BindScope,
-    /// A blank label stands in two basic patterns.
+    /// A blank node label occurs in two basic graph patterns.
     BlankReuse,
-    /// Brackets are nested over 100 deep.
+    /// More than 100 brackets are open at some place.
     TooDeep,
-    /// A growth was refused. It says nothing of the text.
+    /// Out of memory.
     Memory,
 }
 

@@ -8,10 +8,10 @@ use rdf_core::lexical::has_scheme;
 use sparql_lexer::{Kind, Token, iri_value};
 use std::alloc::{AllocError, Global};
 
-/// Whether the terminal is an IRI in angle brackets without a scheme.
+/// Returns whether the terminal is an [139] IRIREF without a scheme.
 ///
 /// # Errors
-/// A growth was refused.
+/// `AllocError` if an allocation fails.
 fn is_relative(alloc: Global, token: Token<'_>) -> Result<bool, AllocError>
     ensures value { IfOk result (λ found. found ≡ is_relative (terminal_of token.entry)) }
 {
@@ -24,10 +24,11 @@ fn is_relative(alloc: Global, token: Token<'_>) -> Result<bool, AllocError>
     }
 }
 
-/// Whether an IRI in angle brackets has no scheme once its escapes are decoded, in a declaration too.
+/// Returns whether some [139] IRIREF among the terminals has no scheme, once its escapes are
+/// decoded. The IRIs of declarations count, too.
 ///
 /// # Errors
-/// A growth was refused.
+/// `AllocError` if an allocation fails.
 pub fn has_relative_iri(alloc: Global, tokens: &[Token<'_>]) -> Result<bool, AllocError>
     ensures value { IfOk result (λ found. found ≡ has_relative_iri (terminals tokens.now)) }
 {

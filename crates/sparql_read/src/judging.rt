@@ -1,4 +1,4 @@
-//! Judges a query that the grammar derives.
+//! Checks a query that the grammar derives.
 
 ghost use Rattle.std.specs.Prelude.{◌≡◌};
 ghost use Rattle.sparql_lexer.specs.Terminal.{terminals};
@@ -16,11 +16,11 @@ use sparql_lexer::Token;
 use sparql_tree::Element;
 use std::alloc::Global;
 
-/// Judges a query by its terminals, its declarations and its own group.
+/// Checks the terminals, the declarations and the outermost group of a query.
 ///
 /// # Errors
-/// The first of `UndefinedPrefix`, `RelativeIri`, `BindScope` and `BlankReuse` that applies; `Memory`
-/// where a growth was refused.
+/// - The first of `UndefinedPrefix`, `RelativeIri`, `BindScope` and `BlankReuse` that applies.
+/// - `Memory` if an allocation fails.
 pub(crate) fn judge(
     alloc: Global,
     names: &Declarations,

@@ -1,4 +1,5 @@
-//! Blank labels and the basic patterns that they stand in (SPARQL 1.1 Query Language, section 5.1.1).
+//! Blank node labels, and the basic graph patterns in which they occur (SPARQL 1.1 Query Language,
+//! section 5.1.1).
 
 ghost use Rattle.std.specs.Prelude.{◌≡◌, [], ◌∷◌, IfOk};
 ghost use Rattle.sparql_tree.specs.GroupTree.{element_of, group_of};
@@ -10,8 +11,8 @@ use sparql_tree::{Element, PatternTerm, Triple};
 use std::alloc::{AllocError, Global};
 use std::mem::replace;
 
-/// Adds the label at a place of a triple to those of its pattern; false where it stands in an earlier
-/// pattern.
+/// Adds the label at one position of a triple to those of its pattern. Returns false if it occurs
+/// in an earlier pattern.
 fn add_place(
     alloc: Global,
     earlier: &NameSet,
@@ -49,7 +50,8 @@ fn add_triple(
     add_place(alloc, earlier, labels, &triple.object)
 }
 
-/// Adds the labels of triples to those of their pattern; false where one stands in an earlier pattern.
+/// Adds the labels of triples to those of their pattern. Returns false if one occurs in an earlier
+/// pattern.
 fn add_triples(
     alloc: Global,
     earlier: &NameSet,
@@ -66,7 +68,8 @@ fn add_triples(
     Ok(true)
 }
 
-/// Adds the labels of one basic pattern; false where one of them stands in an earlier pattern.
+/// Adds the labels of one basic graph pattern. Returns false if one of them occurs in an earlier
+/// pattern.
 fn add_pattern(alloc: Global, earlier: &mut NameSet, triples: &[Triple]) -> Result<bool, AllocError>
     ensures labels { IfOk result (λ fits. AddsPatterns (triples.now ∷ []) fits earlier.old earlier.new) }
 {
@@ -78,9 +81,9 @@ fn add_pattern(alloc: Global, earlier: &mut NameSet, triples: &[Triple]) -> Resu
     Ok(true)
 }
 
-/// Adds the labels of the basic patterns on the left side of a UNION; false where one stands in two
-/// patterns. The groups of a chain are added in a loop, from the last to the first: a long chain takes
-/// no deeper stack.
+/// Adds the labels of the basic graph patterns on the left side of a UNION. Returns false if one
+/// occurs in two patterns. A loop adds the groups of a chain from the last to the first, so that a
+/// long chain needs no deeper stack.
 #[cycle(labels)]
 fn add_left(alloc: Global, earlier: &mut NameSet, left: &Element) -> Result<bool, AllocError>
     ensures labels { IfOk result (λ fits. AddsPatterns (patterns_inside (element_of left.now)) fits earlier.old earlier.new) }
@@ -95,7 +98,8 @@ fn add_left(alloc: Global, earlier: &mut NameSet, left: &Element) -> Result<bool
     add_inside(alloc, earlier, rest)
 }
 
-/// Adds the labels of the basic patterns inside an element; false where one stands in two patterns.
+/// Adds the labels of the basic graph patterns inside an element. Returns false if one occurs in
+/// two patterns.
 #[cycle(labels)]
 fn add_inside(alloc: Global, earlier: &mut NameSet, element: &Element) -> Result<bool, AllocError>
     ensures labels { IfOk result (λ fits. AddsPatterns (patterns_inside (element_of element.now)) fits earlier.old earlier.new) }
@@ -118,7 +122,8 @@ fn add_inside(alloc: Global, earlier: &mut NameSet, element: &Element) -> Result
     }
 }
 
-/// Whether the element ends the run of triples before it: every element but FILTER and triples.
+/// Returns whether the element ends the run of triples before it. Every element except FILTER and
+/// triples does.
 fn ends_run(element: &Element) -> bool
     ensures value { result ≡ ends_run (element_of element.now) }
 {
@@ -129,7 +134,7 @@ fn ends_run(element: &Element) -> bool
     }
 }
 
-/// Adds the labels of triples that go on with the run before them.
+/// Adds the labels of triples that continue the run before them.
 fn add_run(
     alloc: Global,
     earlier: &NameSet,
@@ -144,8 +149,8 @@ fn add_run(
     }
 }
 
-/// Adds the labels of an element, where the run before it has these labels; false where one stands in
-/// two patterns.
+/// Adds the labels of an element, given the labels of the run before it. Returns false if one
+/// occurs in two patterns.
 #[cycle(labels)]
 fn add_element(
     alloc: Global,
@@ -163,7 +168,8 @@ fn add_element(
     add_run(alloc, earlier, labels, element)
 }
 
-/// Adds the labels of the basic patterns of a group; false where one stands in two patterns.
+/// Adds the labels of the basic graph patterns of a group. Returns false if one occurs in two
+/// patterns.
 #[cycle(labels)]
 fn add_group(alloc: Global, earlier: &mut NameSet, elements: &[Element]) -> Result<bool, AllocError>
     ensures labels { IfOk result (λ fits. AddsPatterns (basic_patterns (group_of elements.now)) fits earlier.old earlier.new) }
@@ -178,10 +184,11 @@ fn add_group(alloc: Global, earlier: &mut NameSet, elements: &[Element]) -> Resu
     Ok(true)
 }
 
-/// Whether a blank label stands in two basic patterns of the group, at any depth.
+/// Returns whether a blank node label occurs in two basic graph patterns of the group, at any
+/// depth.
 ///
 /// # Errors
-/// A growth was refused.
+/// `AllocError` if an allocation fails.
 pub fn reuses_blank(alloc: Global, group: &[Element]) -> Result<bool, AllocError>
     ensures value { IfOk result (λ reuses. reuses ≡ reuses_blank (group_of group.now)) }
 {

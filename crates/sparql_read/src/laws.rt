@@ -1,4 +1,5 @@
-//! The laws of what a text derives, and of what is answered.
+//! Laws of the query of a text, and of the reader's result. Each is a function without effect,
+//! whose contract is the law.
 
 ghost use Rattle.std.specs.Prelude.{◌≡◌, ℕ, List, Result, Err};
 ghost use Rattle.sparql_tree.specs.QueryTree.{QueryTree};
@@ -10,12 +11,12 @@ ghost use Rattle.sparql_read.specs.Refusal.{Answers};
 use sparql_grammar::one_query;
 use sparql_lexer::one_scan;
 
-/// A text derives one query at most, whether or not a rule refuses it.
+/// A text derives at most one query, whether or not a rule rejects it.
 pub fn one_tree()
     ensures unique { (text : List ℕ) (q r : QueryTree) → Derives text q → Derives text r → q ≡ r }
 {}
 
-/// A text has one answer at most, besides want of memory: it is one query, or refused by one rule.
+/// A text has at most one result, apart from `Memory`: one query, or one rule that rejects it.
 pub fn one_answer()
     ensures unique { (text : List ℕ) (r s : Result QueryTree QueryFault)
         → Answers text r → Answers text s

@@ -1,31 +1,36 @@
-//! From the text of a SPARQL query to its tree, or to the rule that refuses it.
+//! Reads the text of a SPARQL query.
 //!
-//! [`read_query`] is what the crate above uses: it answers the tree that the grammar derives from the
-//! text (a [`Query`], whose types this crate re-exports), or the first rule that refuses it (`Answers` of
-//! specs/Refusal.antt). The law [`one_tree`] says that
-//! a text derives one query at most, refused or not, and [`one_answer`] that one answer at most holds of a
-//! text, besides want of memory.
+//! [`read_query`] is the main call. It returns the syntax tree that the grammar derives from the
+//! text, a [`Query`], whose types this crate re-exports. If a rule rejects the text, it returns the
+//! first such rule as a [`QueryFault`] (`Answers` of specs/Refusal.antt). The law [`one_tree`]
+//! states that a text derives at most one query, rejected or not. The law [`one_answer`] states
+//! that a text has at most one result, apart from `Memory`.
 //!
-//! A text that the grammar derives may still be refused: brackets may be nested too deep
-//! ([`is_too_deep`]), a prefixed name may have no declaration ([`has_undefined_prefix`]), an IRI no
-//! scheme ([`has_relative_iri`]), a BIND may be to a variable in scope ([`breaks_bind_scope`]), and a
-//! blank label may stand in two basic patterns ([`reuses_blank`]). [`declarations_of`] gives the
-//! declarations of a text, and [`mentioned`] its variables at each place. Each answers exactly what its
-//! definition says of the terminals or of the tree.
+//! These calls check a rule each:
 //!
-//! Which of the rules is the answer of a text is specs/Refusal.antt: depth before all others, and then
-//! the first that applies.
+//! - [`is_too_deep`]: brackets are nested too deep.
+//! - [`has_undefined_prefix`]: a prefixed name has no declaration.
+//! - [`has_relative_iri`]: an IRI has no scheme.
+//! - [`breaks_bind_scope`]: a BIND is to a variable that is already in scope.
+//! - [`reuses_blank`]: a blank node label occurs in two basic graph patterns.
 //!
-//! Standard: SPARQL 1.1 Query Language, sections 4.1.1 (prefixes), 5.1.1 (blank labels), 10.1 and
-//! 18.2.1 (BIND and variable scope); the limit of depth and the refusal of relative IRIs are our own.
+//! [`declarations_of`] returns the prefix declarations of a text, and [`mentioned`] its variables,
+//! each time that one occurs. The contract of each call states that it returns the value of its
+//! definition over terminals or trees. specs/Refusal.antt defines the order of the rules: the one
+//! on depth is before all others.
 //!
-//! To read in this order: specs/Depth.antt, specs/Prologue.antt, specs/RelativeIri.antt,
-//! specs/BindScope.antt, specs/BlankReuse.antt, specs/Derives.antt, specs/Refusal.antt; then `depth`,
-//! `prologue`, `iris`, `names`, `scope`, `labels`, `judging`, `reader`, `laws`. Texts and what is
-//! answered of them: `each_rule_is_answered` of query_tests.
+//! Standard: SPARQL 1.1 Query Language, sections 4.1.1 (prefixes), 5.1.1 (blank node labels), 10.1
+//! and 18.2.1 (BIND and variable scope), 19.8 (grammar). The limit of depth and the rejection of
+//! relative IRIs are choices of this project.
 //!
-//! Not promised: how long a text takes. By design the time is that of sorting its names, and of writing
-//! the triples of the tree, each with a subject and a verb of its own.
+//! Reading order: specs/Depth.antt, specs/Prologue.antt, specs/RelativeIri.antt,
+//! specs/BindScope.antt, specs/BlankReuse.antt, specs/Derives.antt, specs/Refusal.antt; then
+//! `depth`, `prologue`, `iris`, `names`, `scope`, `labels`, `judging`, `reader`, `laws`.
+//!
+//! Tests: `texts` of the crate query_tests; `each_rule_is_answered` has a text for each rule.
+//!
+//! Not guaranteed: the time that a text takes. By design it is the time to sort its names and to
+//! write the triples of the tree, each of which owns its subject and verb.
 #![tactic(auto)]
 
 mod depth;

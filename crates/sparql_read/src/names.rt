@@ -8,7 +8,7 @@ use std::alloc::{AllocError, Global};
 use std::collections::BTreeSet;
 use std::marker::Model;
 
-/// A set of names. A contract sees them as a list, each once.
+/// A set of names. A contract views it as a list without repeats.
 #[derive(Drop)]
 pub(crate) struct NameSet {
     names: BTreeSet<Text>,
@@ -23,7 +23,7 @@ impl Model for NameSet {
 }
 
 impl NameSet {
-    /// The empty set; takes no memory.
+    /// Returns the empty set. Allocates nothing.
     pub(crate) fn new(alloc: Global) -> NameSet
         ensures value { result ≡ [] }
     {
@@ -32,7 +32,7 @@ impl NameSet {
         }
     }
 
-    /// Whether the name is in the set.
+    /// Returns whether the name is in the set.
     pub(crate) fn has(&self, name: &Text) -> bool
         ensures value { result ≡ is_among name.now self.now }
     {
@@ -42,7 +42,7 @@ impl NameSet {
     /// Adds a name.
     ///
     /// # Errors
-    /// A growth was refused.
+    /// `AllocError` if an allocation fails. The contents of the set are then unspecified.
     pub(crate) fn add(&mut self, name: Text) -> Result<(), AllocError>
         ensures names { OnOk result (HaveSame self.new (self.old ++ name ∷ [])) }
     {
@@ -53,7 +53,7 @@ impl NameSet {
     /// Adds the names of another set.
     ///
     /// # Errors
-    /// A growth was refused.
+    /// `AllocError` if an allocation fails. The contents of the set are then unspecified.
     pub(crate) fn absorb(&mut self, other: NameSet) -> Result<(), AllocError>
         ensures names { OnOk result (HaveSame self.new (self.old ++ other)) }
     {

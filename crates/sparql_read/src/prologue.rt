@@ -1,5 +1,5 @@
-//! The declarations of a query, and its names that lack one (SPARQL 1.1 Query Language, sections
-//! 4.1.1 and 19.8, PrefixDecl).
+//! The prefix declarations of a query, and its prefixed names without a declaration (SPARQL 1.1
+//! Query Language, sections 4.1.1 and 19.8, [6] PrefixDecl).
 
 ghost use Rattle.std.specs.Prelude.{◌≡◌, IfOk};
 ghost use lib.Utf8.{encodes};
@@ -49,7 +49,7 @@ fn is_prefixed(kind: Kind) -> bool
     }
 }
 
-/// What stands before the first colon of a prefixed name.
+/// Returns the part of a prefixed name before its first colon.
 fn prefix_of(name: &[char]) -> &[char]
     ensures value { result.now ≡ prefix_of name.now }
 {
@@ -60,21 +60,21 @@ fn prefix_of(name: &[char]) -> &[char]
     &name[..end]
 }
 
-/// The prefix of a name as a text.
+/// Returns the prefix of a name as a text.
 ///
 /// # Errors
-/// A growth was refused.
+/// `AllocError` if an allocation fails.
 fn prefix_text(alloc: Global, name: &[char]) -> Result<Text, AllocError>
     ensures value { IfOk result (λ prefix. prefix ≡ encodes (prefix_of name.now)) }
 {
     Ok(Text::from_string(text_of(alloc, prefix_of(name))?))
 }
 
-/// `PREFIX e: <iri>` of a namespace and an IRI reference; None where an escape of the IRI names
-/// nothing.
+/// Returns the declaration `PREFIX e: <iri>` of a [140] PNAME_NS and an [139] IRIREF, or None if an
+/// escape of the IRI denotes no character.
 ///
 /// # Errors
-/// A growth was refused.
+/// `AllocError` if an allocation fails.
 fn declare(
     alloc: Global,
     namespace: &[char],
@@ -91,10 +91,10 @@ fn declare(
     }
 }
 
-/// The declaration that begins at a terminal.
+/// Returns the declaration at the start of the terminals, or None if there is none.
 ///
 /// # Errors
-/// A growth was refused.
+/// `AllocError` if an allocation fails.
 fn declaration_at(alloc: Global, tokens: &[Token<'_>]) -> Result<Option<Declaration>, AllocError>
     ensures value { IfOk result (λ found. found ≡ declaration_at (terminals tokens.now)) }
 {
@@ -110,10 +110,11 @@ fn declaration_at(alloc: Global, tokens: &[Token<'_>]) -> Result<Option<Declarat
     declare(alloc, tokens[1].text, tokens[2].text)
 }
 
-/// The declarations of a query, given by its terminals. Of two with one prefix the last one holds.
+/// Returns the prefix declarations of a query, given its terminals. The last of two declarations of
+/// one prefix is the one that counts.
 ///
 /// # Errors
-/// A growth was refused.
+/// `AllocError` if an allocation fails.
 pub fn declarations_of(alloc: Global, tokens: &[Token<'_>]) -> Result<Declarations, AllocError>
     ensures value { IfOk result (λ names. names ≡ declarations (terminals tokens.now)) }
 {
@@ -128,7 +129,8 @@ pub fn declarations_of(alloc: Global, tokens: &[Token<'_>]) -> Result<Declaratio
 
 /// Returns whether some prefixed name among the terminals has no declaration in `names`.
 ///
-/// With the declarations of these terminals ([`declarations_of`]) this is the rule that refuses a query.
+/// With the declarations of these terminals ([`declarations_of`]) this is the rule that rejects a
+/// query with `UndefinedPrefix`.
 ///
 /// # Errors
 /// `AllocError` if an allocation fails.

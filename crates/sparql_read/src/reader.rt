@@ -21,7 +21,8 @@ use sparql_parse::{Select, parse};
 use sparql_tree::Query;
 use std::alloc::Global;
 
-/// Judges what was parsed of these terminals, which are the whole text and not nested too deep.
+/// Checks the parser's result for these terminals, which are the whole text and not nested too
+/// deep.
 fn judge_select(
     alloc: Global,
     text: &[char],
@@ -60,7 +61,7 @@ fn judge_select(
     }
 }
 
-/// The query of these terminals, which are the whole text and not nested too deep.
+/// Reads the query of these terminals, which are the whole text and not nested too deep.
 fn read_whole(alloc: Global, text: &[char], tokens: &[Token<'_>]) -> Result<Query, QueryFault>
     requires scans { Scans text.now (terminals tokens.now) [] }
     requires shallow { is_too_deep (terminals tokens.now) ≡ false }
@@ -75,8 +76,8 @@ fn read_whole(alloc: Global, text: &[char], tokens: &[Token<'_>]) -> Result<Quer
     }
 }
 
-/// The query of a text, given with its terminals up to the first place where none can be read, and
-/// what stands there.
+/// Reads the query of a text, given its terminals up to the first place where there is no terminal,
+/// and the rest of the text from there.
 fn read_terminals(
     alloc: Global,
     text: &[char],
@@ -97,11 +98,11 @@ fn read_terminals(
     }
 }
 
-/// Reads the text of a query (SPARQL 1.1 Query Language, section 19.8, SelectQuery).
+/// Reads the text of a query (SPARQL 1.1 Query Language, section 19.8, [7] SelectQuery).
 ///
 /// # Errors
-/// The first rule that refuses the text, as [`QueryFault`] orders them; `Memory` where a growth was
-/// refused, which says nothing of the text.
+/// - The first rule that rejects the text, in the order of [`QueryFault`].
+/// - `Memory` if an allocation fails. It says nothing about the text.
 pub fn read_query(alloc: Global, text: &str) -> Result<Query, QueryFault>
     ensures answers { Answers (chars text.now) (seen result) }
 {

@@ -12,7 +12,7 @@ use rdf_core::Text;
 use sparql_tree::{Element, GraphName, PatternTerm, Triple};
 use std::alloc::{AllocError, Global};
 
-/// Adds the variable at a place of a triple.
+/// Adds the variable at one position of a triple.
 fn add_place(alloc: Global, scope: &mut NameSet, place: &PatternTerm) -> Result<(), AllocError>
     ensures names { OnOk result (HaveSame scope.new (scope.old ++ place_names place.now)) }
 {
@@ -57,7 +57,7 @@ fn add_names(alloc: Global, scope: &mut NameSet, names: &[Text]) -> Result<(), A
     Ok(())
 }
 
-/// Whether the element is a BIND to a variable of the scope.
+/// Returns whether the element is a BIND to a variable that is in scope.
 fn binds_among(scope: &NameSet, element: &Element) -> bool
     ensures value { result ≡ binds_among scope.now (element_of element.now) }
 {
@@ -67,7 +67,7 @@ fn binds_among(scope: &NameSet, element: &Element) -> bool
     }
 }
 
-/// Adds the names of an inner group; false where it breaks the rule.
+/// Adds the names of an inner group. Returns false if it breaks the rule.
 #[cycle(scope)]
 fn add_group(alloc: Global, scope: &mut NameSet, elements: &[Element]) -> Result<bool, AllocError>
     ensures scope { IfOk result (λ fits. AddsScope (group (group_of elements.now)) fits scope.old scope.new) }
@@ -81,8 +81,9 @@ fn add_group(alloc: Global, scope: &mut NameSet, elements: &[Element]) -> Result
     }
 }
 
-/// Adds the names of the left side of a UNION; false where something inside it breaks the rule. The
-/// groups of a chain are added in a loop, from the last to the first: a long chain takes no deeper stack.
+/// Adds the names of the left side of a UNION. Returns false if something inside it breaks the
+/// rule. A loop adds the groups of a chain from the last to the first, so that a long chain needs
+/// no deeper stack.
 #[cycle(scope)]
 fn add_left(alloc: Global, scope: &mut NameSet, left: &Element) -> Result<bool, AllocError>
     ensures scope { IfOk result (λ fits. AddsScope (element_of left.now) fits scope.old scope.new) }
@@ -97,7 +98,7 @@ fn add_left(alloc: Global, scope: &mut NameSet, left: &Element) -> Result<bool, 
     add_element(alloc, scope, rest)
 }
 
-/// Adds the names that an element binds; false where something inside it breaks the rule.
+/// Adds the names that an element binds. Returns false if something inside it breaks the rule.
 #[cycle(scope)]
 fn add_element(alloc: Global, scope: &mut NameSet, element: &Element) -> Result<bool, AllocError>
     ensures scope { IfOk result (λ fits. AddsScope (element_of element.now) fits scope.old scope.new) }
@@ -132,8 +133,8 @@ fn add_element(alloc: Global, scope: &mut NameSet, element: &Element) -> Result<
     }
 }
 
-/// The variables in scope behind the elements, or None where a BIND is to one that is in scope from
-/// the elements before it in its group, at any depth.
+/// Returns the variables in scope after the elements. Returns None if a BIND, at any depth, is to a
+/// variable that is already in scope from the elements before it in its group.
 #[cycle(scope)]
 fn scope_of(alloc: Global, elements: &[Element]) -> Result<Option<NameSet>, AllocError>
     ensures scope { IfOk result (λ scope. IsScopeOf (group_of elements.now) scope) }
@@ -150,11 +151,11 @@ fn scope_of(alloc: Global, elements: &[Element]) -> Result<Option<NameSet>, Allo
     Ok(Some(scope))
 }
 
-/// Whether somewhere in the group, at any depth, the variable of a BIND is in scope from the elements
-/// before it in its own group.
+/// Returns whether a BIND in the group, at any depth, is to a variable that is already in scope
+/// from the elements before it in its own group.
 ///
 /// # Errors
-/// A growth was refused.
+/// `AllocError` if an allocation fails.
 pub fn breaks_bind_scope(alloc: Global, group: &[Element]) -> Result<bool, AllocError>
     ensures value { IfOk result (λ breaks. breaks ≡ breaks_bind_scope (group_of group.now)) }
 {

@@ -9,10 +9,11 @@ use rdf_core::Text;
 use sparql_lexer::{Kind, Token, text_of};
 use std::alloc::{AllocError, Global};
 
-/// The name of a variable, without its sign; None of any other terminal.
+/// Returns the name of a variable without its `?` or `$`, or None if the terminal is not a
+/// variable.
 ///
 /// # Errors
-/// A growth was refused.
+/// `AllocError` if an allocation fails.
 fn variable_of(alloc: Global, token: Token<'_>) -> Result<Option<Text>, AllocError>
     ensures value { IfOk result (λ found. found ≡ variable_of token.entry.kind token.entry.text.now) }
 {
@@ -25,11 +26,11 @@ fn variable_of(alloc: Global, token: Token<'_>) -> Result<Option<Text>, AllocErr
     }
 }
 
-/// The names of the variables among the terminals, at each place where one stands, in the order of
-/// the text.
+/// Returns the names of the variables among the terminals, each time that one occurs, in the order
+/// of the text.
 ///
 /// # Errors
-/// A growth was refused.
+/// `AllocError` if an allocation fails.
 pub fn mentioned(alloc: Global, tokens: &[Token<'_>]) -> Result<Vec<Text>, AllocError>
     ensures value { IfOk result (λ v. v.items ≡ mentioned (terminals tokens.now)) }
 {

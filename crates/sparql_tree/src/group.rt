@@ -1,5 +1,5 @@
-//! The tree of a group of patterns (SPARQL 1.1 Query Language, section 19.8, [53]
-//! `GroupGraphPattern`).
+//! The tree of a group of patterns (SPARQL 1.1 Query Language, section 19.8,
+//! [53] `GroupGraphPattern`).
 
 use crate::expression::Expression;
 use rdf_core::{Term, Text};
@@ -18,8 +18,11 @@ pub enum PatternTerm {
 /// A triple pattern. In the trees that `sparql_read` makes, its predicate is a variable or an IRI.
 #[derive(Debug, Drop)]
 pub struct Triple {
+    /// The subject.
     pub subject: PatternTerm,
+    /// The predicate.
     pub predicate: PatternTerm,
+    /// The object.
     pub object: PatternTerm,
 }
 
@@ -40,8 +43,8 @@ pub enum Element {
     Triples(Vec<Triple>),
     /// `{ .. }` ([53] `GroupGraphPattern`)
     Group(Vec<Element>),
-    /// `left UNION { .. }`, where the left side is a group or a union ([67]
-    /// `GroupOrUnionGraphPattern`)
+    /// `left UNION { .. }`, where the left side is a group or a union
+    /// ([67] `GroupOrUnionGraphPattern`)
     Union(Box<Element>, Vec<Element>),
     /// `OPTIONAL { .. }` ([57] `OptionalGraphPattern`)
     Optional(Vec<Element>),

@@ -15,14 +15,17 @@ pub enum Selection {
 /// A SELECT query as its text has it ([7] `SelectQuery`).
 #[derive(Debug, Drop)]
 pub struct Query {
+    /// Whether the query has DISTINCT.
     pub distinct: bool,
+    /// The variables after SELECT, or `*`.
     pub selection: Selection,
     /// The elements of the query's outermost group.
     pub group: Vec<Element>,
-    /// A number over 18446744073709551615 in the text is stored as 18446744073709551615.
+    /// The number of LIMIT. A number above 18446744073709551615 is replaced by that number.
     pub limit: Option<u64>,
+    /// The number of OFFSET. It has the same bound.
     pub offset: Option<u64>,
-    /// The name of each variable occurrence, in the order of the text: also of those in SELECT,
-    /// FILTER, MINUS, VALUES and BIND.
+    /// The name of each variable occurrence, in the order of the text. The occurrences in SELECT,
+    /// FILTER, MINUS, VALUES and BIND are among them.
     pub mentioned: Vec<Text>,
 }

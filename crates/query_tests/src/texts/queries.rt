@@ -19,7 +19,7 @@ pub(crate) fn query(alloc: Global, text: &str) -> Result<String, AllocError> {
     }
 }
 
-/// Each rule by itself.
+/// Each rule alone.
 const RULES: &[Case] = &[
     ("SELECT * {}", "read"),
     ("SELECT ?x { ?x <http://e/p> }", "Syntax"),
@@ -53,8 +53,9 @@ fn each_rule_is_answered(rt: HostRuntime) {
     assert!(rt; all_hold(&rt, rt.alloc(), Reader::Verdict, RULES));
 }
 
-/// Prefixes come before IRIs, IRIs before scope, and scope before labels, in the whole query: in declarations
-/// that a later one replaces, in datatypes and in the cells of VALUES too.
+/// Prefixes are checked before IRIs, IRIs before scope, and scope before labels. Each rule applies
+/// to the whole query: also to declarations that a later one replaces, to datatypes, and to the
+/// values of VALUES.
 const FIRST_RULES: &[Case] = &[
     ("SELECT ?x { ?x e:p <q> }", "UndefinedPrefix"),
     ("PREFIX e: <x> SELECT ?s { ?s e:p ?o }", "RelativeIri"),
@@ -87,7 +88,7 @@ fn the_first_rule_rejects(rt: HostRuntime) {
     assert!(rt; all_hold(&rt, rt.alloc(), Reader::Verdict, FIRST_RULES));
 }
 
-/// Depth comes before all other rules, up to the first place where no terminal can be read.
+/// Depth is checked before all other rules, up to the first place where there is no terminal.
 const DEPTH_FIRST: &[Repeated] = &[
     (100, ["SELECT * ", "{", "", "}", ""], "read"),
     (101, ["SELECT * ", "{", "", "}", ""], "TooDeep"),
@@ -109,8 +110,9 @@ fn depth_comes_before_all_other_rules(rt: HostRuntime) {
     assert!(rt; are_repeated_as(&rt, rt.alloc(), Reader::Verdict, DEPTH_FIRST));
 }
 
-/// A brace closes a parenthesis and the reverse, and a bracket that closes nothing changes nothing. `[ ]` does not
-/// count, nor do brackets in strings, IRIs and comments. A terminal with an invalid escape is still read.
+/// A brace closes a parenthesis and the reverse, and a bracket that closes nothing changes nothing.
+/// `[ ]` does not count, nor do brackets in strings, IRIs and comments. A terminal with an invalid
+/// escape is still read.
 const DEPTH_COUNTS: &[Repeated] = &[
     (101, ["SELECT * { FILTER", "{ )", "", "", ""], "Syntax"),
     (101, ["SELECT * { FILTER", "( }", "", "", ""], "Syntax"),
@@ -131,8 +133,8 @@ fn what_counts_towards_depth(rt: HostRuntime) {
     assert!(rt; are_repeated_as(&rt, rt.alloc(), Reader::Verdict, DEPTH_COUNTS));
 }
 
-/// A chain or a list is read and dropped at constant depth, however long it is. The rules apply between its first
-/// part and its last.
+/// A chain or a list of any length is read and dropped at constant depth. The rules apply to its
+/// first part and its last.
 const CHAINS: &[Repeated] = &[
     (
         100000,
@@ -221,11 +223,11 @@ fn long_chains_are_read(rt: HostRuntime) {
     assert!(rt; are_repeated_as(&rt, rt.alloc(), Reader::Verdict, CHAINS));
 }
 
-/// A query that is no query without its last bracket.
+/// A query whose proper prefixes are not queries.
 const WHOLE: &str =
     "SELECT ?n { ?s <http://e/t> <http://e/k> OPTIONAL { ?s <http://e/n> ?n FILTER(?n < 3) } }";
 
-/// Whether each proper prefix of the text is rejected, and the whole text is read.
+/// Returns whether each proper prefix of the text is rejected and the whole text is read.
 fn are_prefixes_rejected<R: Print>(rt: &R, alloc: Global, text: &str) -> bool {
     let mut prefix = String::new(alloc);
     for c in text.chars() {
@@ -244,7 +246,7 @@ fn each_prefix_of_a_query_is_rejected(rt: HostRuntime) {
     assert!(rt; are_prefixes_rejected(&rt, rt.alloc(), WHOLE));
 }
 
-/// The longest terminal is read: an IRI ends at the next `>`, a word has all letters that follow each other, and a
+/// The longest terminal is read. An IRI ends at the next `>`. A word is a longest run of letters. A
 /// dot belongs to a number if a digit or an exponent follows it.
 const LONGEST: &[Case] = &[
     ("SELECT * { FILTER(?a<=?b && ?c>=?d) }", "read"),
@@ -280,8 +282,8 @@ fn the_longest_terminal_is_read(rt: HostRuntime) {
     assert!(rt; all_hold(&rt, rt.alloc(), Reader::Verdict, LONGEST));
 }
 
-/// Escapes are allowed in IRIs and strings only, and are decoded after them. A name may contain a dot, and a blank
-/// node label no colon.
+/// Escapes are allowed only in IRIs and strings, and are decoded after these are delimited. A name
+/// may contain a dot. A blank node label may not contain a colon.
 const ESCAPES: &[Case] = &[
     ("SELECT * { ?s ?p \"\\u0022\" }", "read"),
     ("SELECT * { ?s ?p <\\u0061:b> }", "read"),
@@ -306,8 +308,9 @@ fn names_and_escapes(rt: HostRuntime) {
     assert!(rt; all_hold(&rt, rt.alloc(), Reader::Verdict, ESCAPES));
 }
 
-/// One dot may follow an element, and `;` may end a list. A literal may be a subject. FILTER has brackets or a call.
-/// Comparisons do not chain. The rows of a table have the length of its heading.
+/// One dot may follow an element, and `;` may end a list. A literal may be a subject. FILTER has an
+/// expression in brackets or a call. Comparisons do not chain. The rows of a table have the length
+/// of its heading.
 const PRODUCTIONS: &[Case] = &[
     ("SELECT * { {} . {} . FILTER(true) . ?s ?p ?o . }", "read"),
     ("SELECT * { ?s ?p ?o ; ; ?q ?r ; . }", "read"),
@@ -336,7 +339,7 @@ fn what_the_productions_derive(rt: HostRuntime) {
     assert!(rt; all_hold(&rt, rt.alloc(), Reader::Verdict, PRODUCTIONS));
 }
 
-/// What precedes a BIND in its own group counts, except FILTER and MINUS.
+/// The elements before a BIND in its own group count, except FILTER and MINUS.
 const BIND_SCOPES: &[Case] = &[
     (
         "SELECT * { BIND(1 AS ?x) OPTIONAL { BIND(2 AS ?x) } }",
@@ -373,7 +376,8 @@ fn what_is_in_scope_of_a_bind(rt: HostRuntime) {
     assert!(rt; all_hold(&rt, rt.alloc(), Reader::Verdict, BIND_SCOPES));
 }
 
-/// Every element but FILTER ends a basic graph pattern, an empty group too. `[]` is a label of its own.
+/// Every element except FILTER and triples ends a basic graph pattern, an empty group too. Each
+/// `[]` has its own label.
 const PATTERNS: &[Case] = &[
     (
         "SELECT * { _:a ?p _:a . _:a ?q [] FILTER(true) _:a ?p [] }",
@@ -408,7 +412,7 @@ fn what_ends_a_pattern(rt: HostRuntime) {
     assert!(rt; all_hold(&rt, rt.alloc(), Reader::Verdict, PATTERNS));
 }
 
-/// Prefixes are expanded, numbers have their datatype, and every place of a variable is kept.
+/// Prefixes are expanded, numbers have their datatype, and every occurrence of a variable is kept.
 const TREES: &[Case] = &[
     (
         "PREFIX e: <http://e/> SELECT ?x { e:a e:p ?x ; e:p <http://e/b> , \"x\" }",

@@ -1,4 +1,4 @@
-//! What stands inside delimiters: an IRI in angle brackets, a string in quotes.
+//! Delimited texts: an IRI in angle brackets, a string in quotes.
 
 ghost use Rattle.std.specs.Prelude.{◌≡◌, ℕ, List, [], None, Some, IfSome, IfOk, MatchOption, string_bytes};
 ghost use Rattle.std.specs.Str.{IsUtf8, chars};
@@ -31,8 +31,9 @@ fn is_close(close: Option<char>, c: char) -> bool
     }
 }
 
-/// The decoded text up to the closing sign, or up to the end where there is none, and what follows.
-/// None: it is not written as its kind must be, or the closing sign is missing.
+/// Returns the decoded text up to the closing delimiter, or up to the end if there is none, and the
+/// text after it. Returns None if the text is not valid for its kind or the closing delimiter is
+/// missing.
 fn read_parts(
     alloc: Global,
     kind: Inside,
@@ -68,7 +69,7 @@ fn read_parts(
     }
 }
 
-/// What `read_iri_ref` reads, character by character.
+/// Does the same as `read_iri_ref`, character by character.
 fn decode_iri(alloc: Global, text: &str) -> Result<Option<(Text, &str)>, AllocError>
     ensures found { IfOk result (λ found. MatchOption found
         ((bytes rest : List ℕ) → IsEnclosed IsIriPart 62 (chars text.now) bytes rest → ⊥)
@@ -81,14 +82,20 @@ fn decode_iri(alloc: Global, text: &str) -> Result<Option<(Text, &str)>, AllocEr
     }
 }
 
-/// Reads an IRI in angle brackets from behind the `<`: its decoded text, and what follows the `>`
-/// (IRIREF).
+/// Reads an IRI in angle brackets, without the opening `<` ([139] IRIREF of SPARQL, [10] IRIREF of
+/// N-Quads). Returns its decoded text, and the text after the `>`.
 ///
-/// None: no `>` ends it, a character stands there that may not, or an escape is wrong, names no
-/// scalar value, or names a character that may not stand raw. Whether it has a scheme is not judged.
+/// Returns None in these cases:
+///
+/// - There is no closing `>`.
+/// - A character occurs that must be escaped.
+/// - An escape is malformed or is not the number of a Unicode scalar value.
+/// - An escape denotes a character that may not occur unescaped.
+///
+/// Does not check whether the IRI has a scheme.
 ///
 /// # Errors
-/// `AllocError`: a growth was refused.
+/// `AllocError` if an allocation fails.
 pub fn read_iri_ref(alloc: Global, text: &str) -> Result<Option<(Text, &str)>, AllocError>
     ensures found { IfOk result (λ found. MatchOption found
         ((bytes rest : List ℕ) → IsEnclosed IsIriPart 62 (chars text.now) bytes rest → ⊥)
@@ -104,7 +111,7 @@ pub fn read_iri_ref(alloc: Global, text: &str) -> Result<Option<(Text, &str)>, A
     }
 }
 
-/// What `read_quoted` reads, character by character.
+/// Does the same as `read_quoted`, character by character.
 fn decode_quoted(alloc: Global, text: &str) -> Result<Option<(Text, &str)>, AllocError>
     ensures found { IfOk result (λ found. MatchOption found
         ((bytes rest : List ℕ) → IsEnclosed IsStringPart 34 (chars text.now) bytes rest → ⊥)
@@ -117,13 +124,18 @@ fn decode_quoted(alloc: Global, text: &str) -> Result<Option<(Text, &str)>, Allo
     }
 }
 
-/// Reads a string in double quotes from behind the opening quote: its decoded text, and what follows
-/// the closing quote (STRING_LITERAL_QUOTE of N-Quads, STRING_LITERAL2 of SPARQL).
+/// Reads a string in double quotes, without the opening quote ([11] STRING_LITERAL_QUOTE of
+/// N-Quads, [157] STRING_LITERAL2 of SPARQL). Returns its decoded text, and the text after the
+/// closing quote.
 ///
-/// None: no quote ends it, a line end stands in it, or an escape is wrong or names no scalar value.
+/// Returns None in these cases:
+///
+/// - There is no closing quote.
+/// - An LF or CR occurs before the closing quote.
+/// - An escape is malformed or is not the number of a Unicode scalar value.
 ///
 /// # Errors
-/// `AllocError`: a growth was refused.
+/// `AllocError` if an allocation fails.
 pub fn read_quoted(alloc: Global, text: &str) -> Result<Option<(Text, &str)>, AllocError>
     ensures found { IfOk result (λ found. MatchOption found
         ((bytes rest : List ℕ) → IsEnclosed IsStringPart 34 (chars text.now) bytes rest → ⊥)
@@ -139,13 +151,18 @@ pub fn read_quoted(alloc: Global, text: &str) -> Result<Option<(Text, &str)>, Al
     }
 }
 
-/// The decoded text of an IRI, given as it stands between the angle brackets.
+/// Decodes the text of an IRI, given without the angle brackets.
 ///
-/// None: a character stands there that may not, or an escape is wrong, names no scalar value, or
-/// names a character that may not stand raw. Whether it has a scheme is not judged.
+/// Returns None in these cases:
+///
+/// - A character occurs that must be escaped.
+/// - An escape is malformed or is not the number of a Unicode scalar value.
+/// - An escape denotes a character that may not occur unescaped.
+///
+/// Does not check whether the IRI has a scheme.
 ///
 /// # Errors
-/// `AllocError`: a growth was refused.
+/// `AllocError` if an allocation fails.
 pub fn unescape_iri(alloc: Global, inside: &str) -> Result<Option<Text>, AllocError>
     ensures written { IfOk result (λ found. MatchOption found
         ((bytes : List ℕ) → IsWritten IsIriPart (chars inside.now) bytes → ⊥)
@@ -157,13 +174,14 @@ pub fn unescape_iri(alloc: Global, inside: &str) -> Result<Option<Text>, AllocEr
     }
 }
 
-/// The decoded text of a string, given as it stands between its quotes, of whatever kind they are.
+/// Decodes the text of a string, given without its quotes.
 ///
-/// None: an escape is wrong or names no scalar value. Every character but the backslash stands for
-/// itself: which of them the quotes let stand raw is not judged.
+/// Every character except the backslash denotes itself. The function does not check which
+/// characters the quotes of the string allow unescaped. Returns None if an escape is malformed or
+/// is not the number of a Unicode scalar value.
 ///
 /// # Errors
-/// `AllocError`: a growth was refused.
+/// `AllocError` if an allocation fails.
 pub fn unescape_string(alloc: Global, inside: &str) -> Result<Option<Text>, AllocError>
     ensures written { IfOk result (λ found. MatchOption found
         ((bytes : List ℕ) → IsWritten IsAnyPart (chars inside.now) bytes → ⊥)

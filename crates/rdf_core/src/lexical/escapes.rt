@@ -1,4 +1,4 @@
-//! Escapes: what a backslash and what follows it mean.
+//! Escapes: the character that a backslash and the text after it denote.
 
 ghost use Rattle.std.specs.Prelude.{◌≡◌, ◌≤◌, ◌+◌, None, Some, IfSome, MatchOption, drop};
 ghost use Rattle.std.specs.Str.{IsUtf8, chars};
@@ -8,19 +8,19 @@ ghost use Rattle.rdf_core.specs.declared.lexical.escapes.Inside.TheVariants as i
 
 use crate::lexical::characters::{first_char, is_iri_char};
 
-/// What the text inside delimiters is of, and so what may stand raw in it.
+/// The kind of a delimited text. It decides which characters may occur unescaped.
 #[derive(Clone, Copy, Debug)]
 pub enum Inside {
     /// An IRI in angle brackets.
     Iri,
     /// A string in double quotes on one line.
     Quoted,
-    /// A string whatever its quotes, cut from them before.
+    /// A string with any quotes, which the caller has already removed.
     Any,
 }
 
-/// The character that a letter behind a backslash stands for (ECHAR); None where it is no such
-/// letter.
+/// Returns the character that a letter after a backslash denotes ([160] ECHAR of SPARQL, [153s] of
+/// N-Quads), or None if ECHAR has no such letter.
 pub fn echar(c: char) -> Option<char>
     ensures value { result ≡ echar c }
 {
@@ -37,7 +37,8 @@ pub fn echar(c: char) -> Option<char>
     }
 }
 
-/// The value of so many hexadecimal digits at the front, and what follows them.
+/// Returns the value of the first `count` characters, which must be hexadecimal digits, and the
+/// text after them.
 fn hex_digits(count: u32, text: &str) -> Option<(u32, &str)>
     requires { count ≤ 8 }
     ensures value { Finds (λ p. (p.0, chars p.1.now)) result (hex_at count 0 (chars text.now)) }
@@ -54,7 +55,7 @@ fn hex_digits(count: u32, text: &str) -> Option<(u32, &str)>
     Some((value, rest))
 }
 
-/// The character whose number these digits are.
+/// Returns the character whose code point the first `count` hexadecimal digits are.
 fn named_char(count: u32, text: &str) -> Option<(char, &str)>
     requires { count ≤ 8 }
     ensures { MatchOption result (scalar_of count (hex_at count 0 (chars text.now)) ≡ None)
@@ -65,7 +66,7 @@ fn named_char(count: u32, text: &str) -> Option<(char, &str)>
     Some((c, rest))
 }
 
-/// Behind a backslash: the character that a number names.
+/// Reads [12] UCHAR of N-Quads after its backslash.
 fn uchar(text: &str) -> Option<(char, &str)>
     ensures { MatchOption result (uchar_at (chars text.now) ≡ None)
         (λ p. NamesChar (uchar_at (chars text.now)) text.now p.0 p.1.now) }
@@ -80,7 +81,8 @@ fn uchar(text: &str) -> Option<(char, &str)>
     }
 }
 
-/// Behind a backslash in an IRI: the character that is meant, which may stand there raw too.
+/// Reads an escape of an IRI after its backslash. Its character must be one that may occur
+/// unescaped.
 fn iri_escape(text: &str) -> Option<(char, &str)>
     ensures { MatchOption result (escape_at inside.Iri (chars text.now) ≡ None)
         (λ p. NamesChar (escape_at inside.Iri (chars text.now)) text.now p.0 p.1.now) }
@@ -93,7 +95,7 @@ fn iri_escape(text: &str) -> Option<(char, &str)>
     }
 }
 
-/// Behind a backslash in a string: the character that is meant.
+/// Reads an escape of a string after its backslash.
 fn string_escape(text: &str) -> Option<(char, &str)>
     ensures { MatchOption result (string_escape_at (chars text.now) ≡ None)
         (λ p. NamesChar (string_escape_at (chars text.now)) text.now p.0 p.1.now) }
@@ -105,7 +107,8 @@ fn string_escape(text: &str) -> Option<(char, &str)>
     }
 }
 
-/// Behind a backslash: the character that is meant.
+/// Reads an escape after its backslash. Returns the character that it denotes and the text after
+/// it, or None if the text begins with no escape of this kind.
 #[tactic(auto, unfolding(crate::specs::LexicalReading::escape_at))]
 pub fn escape(kind: Inside, text: &str) -> Option<(char, &str)>
     ensures { MatchOption result (escape_at kind (chars text.now) ≡ None)

@@ -1,8 +1,8 @@
-//! What stands inside delimiters without an escape, found byte by byte and copied in one go.
+//! Delimited texts without an escape, found byte by byte and copied at once.
 //!
-//! The plain form of this is `read_parts`, character by character. Two things make it fast: a byte
-//! above 127 belongs to a character that may stand raw, so that bytes are as good as characters; and
-//! a run without an escape is the decoded text itself.
+//! `read_parts` is the plain form, which reads character by character. Two facts make this form
+//! faster. A byte above 127 belongs to a character that may occur unescaped, so the bytes need no
+//! decoding. A run without an escape is itself the decoded text.
 
 ghost use Rattle.std.specs.Prelude.{◌≡◌, ◌<◌, true, length, take, get_or, IfSome};
 ghost use Rattle.std.specs.List.{list_all};
@@ -28,7 +28,7 @@ fn is_string_byte(b: u8) -> bool
     !matches!(b, b'"' | b'\\' | b'\n' | b'\r')
 }
 
-/// The place of the `>` that ends an IRI without an escape.
+/// Returns the place of the `>` that ends an IRI without an escape.
 fn end_of_iri(bytes: &[u8]) -> Option<usize>
     ensures { IfSome result (λ end. (end < length bytes.now) × (get_or bytes.now end 0 ≡ 62)
         × (list_all is_iri_char (take end bytes.now) ≡ true)) }
@@ -44,7 +44,7 @@ fn end_of_iri(bytes: &[u8]) -> Option<usize>
     None
 }
 
-/// The place of the quote that ends a string without an escape.
+/// Returns the place of the quote that ends a string without an escape.
 fn end_of_string(bytes: &[u8]) -> Option<usize>
     ensures { IfSome result (λ end. (end < length bytes.now) × (get_or bytes.now end 0 ≡ 34)
         × (list_all is_string_char (take end bytes.now) ≡ true)) }
@@ -60,7 +60,8 @@ fn end_of_string(bytes: &[u8]) -> Option<usize>
     None
 }
 
-/// An IRI without an escape up to its `>`, and what follows that.
+/// Returns an IRI without an escape up to its `>`, and the text after that. Returns None if the IRI
+/// has an escape, a character that must be escaped, or no `>`.
 pub fn plain_iri(text: &str) -> Option<(&str, &str)>
     ensures { IfSome result (λ p. IsPlain inside.Iri 62 text.now p.0.now p.1.now) }
 {
@@ -68,7 +69,8 @@ pub fn plain_iri(text: &str) -> Option<(&str, &str)>
     Some((&text[..end], &text[end + 1..]))
 }
 
-/// A string without an escape up to its closing quote, and what follows that.
+/// Returns a string without an escape up to its closing quote, and the text after that. Returns
+/// None if the string has an escape, a line end, or no closing quote.
 pub fn plain_string(text: &str) -> Option<(&str, &str)>
     ensures { IfSome result (λ p. IsPlain inside.Quoted 34 text.now p.0.now p.1.now) }
 {

@@ -3,8 +3,8 @@
 ghost use Rattle.std.specs.Prelude.{◌≡◌};
 ghost use Rattle.rdf_core.specs.Lexical.{has_scheme};
 
-/// Whether an IRI begins with a scheme and a colon, so that it is not relative (RFC 3987, section
-/// 2.2): a letter, then letters, digits, `+`, `-` and `.`, then `:`.
+/// Returns whether an IRI begins with a scheme and a colon, so that it is not relative. A scheme is
+/// a letter, then letters, digits, `+`, `-` and `.` (RFC 3987, section 2.2).
 pub fn has_scheme(text: &str) -> bool
     ensures value { result ≡ has_scheme text.now }
 {

@@ -6,11 +6,11 @@ ghost use Rattle.std.specs.Char.{to_ascii_lowercase};
 use crate::text::Text;
 use std::alloc::{AllocError, Global};
 
-/// A language tag as a term holds it: in ASCII lower case (our own rule; RDF 1.1 Concepts, section
-/// 3.3, lets tags be compared in any case).
+/// Returns a language tag as a term holds it, in ASCII lower case. This is a choice of this
+/// project: RDF 1.1 Concepts, section 3.3, allows it and does not require it.
 ///
 /// # Errors
-/// `AllocError`: a growth was refused.
+/// `AllocError` if an allocation fails.
 pub fn lower_tag(alloc: Global, tag: &str) -> Result<Text, AllocError>
     ensures value { IfOk result (λ text. text ≡ map to_ascii_lowercase tag.now) }
 {

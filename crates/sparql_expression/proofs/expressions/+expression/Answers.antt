@@ -1,4 +1,5 @@
--- Each exit of a reader: what was read so far, and what the next terminal makes of it.
+-- The exits of each reader: the terminals that it has read, and the conclusion from the next
+-- terminal.
 use Rattle.std.proofs.Common.{◌≡◌, ◌<◌, ℕ, length, arith, refl, sym, ap, ◌∙◌}
 use Rattle.std.proofs.lemmas.Result.{err_from_is_err_and}
 use Rattle.sparql_lexer.specs.Terminal.{terminals}

@@ -10,7 +10,7 @@ invariant-add_group-loop-element l =
     AddsPatterns (closed_patterns (group_of (take l.element-index l.elements))) true l.initial.earlier l.earlier
     × IsRun l.earlier l.labels (open_pattern (group_of (take l.element-index l.elements)))
 
--- where the patterns of the rest are added, those of the whole left side are
+-- if the patterns of the rest are added, those of the whole left side are added
 abbrev pub invariant-add_left-groups : goal.invariant-add_left-groups
 invariant-add_left-groups l = record {
   no_deeper : size-Element l.rest ≤ size-Element l.left;

@@ -8,7 +8,7 @@ use Rattle.sparql_read.proofs.scope.+scope.Given as goal
 abbrev pub invariant-scope_of-loop-element : goal.invariant-scope_of-loop-element
 invariant-scope_of-loop-element l = IsScopeOf (group_of (take l.element-index l.elements)) (Some l.scope)
 
--- where the rest is added, the whole left side is
+-- if the names of the rest are added, those of the whole left side are added
 abbrev pub invariant-add_left-groups : goal.invariant-add_left-groups
 invariant-add_left-groups l = record {
   no_deeper : size-Element l.rest ≤ size-Element l.left;
