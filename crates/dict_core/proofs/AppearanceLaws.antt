@@ -64,7 +64,7 @@ none_left_out (x ∷ xs) = ap (λ l. x ∷ l) (none_left_out xs)
 pub appearances : (ts : List Term) → first_appearances ts ≡ insert_all term_eq [] ts
 appearances ts = sym (inserted [] ts ∙ none_left_out (first_appearances ts))
 
--- more terms behind a list of which the first appearances are known
+-- more terms after a list of which the first appearances are known
 pub insert_all-appearances : (xs ys : List Term) → insert_all term_eq (first_appearances xs) ys ≡ first_appearances (xs ++ ys)
 insert_all-appearances xs ys = ap (λ l. insert_all term_eq l ys) (appearances xs) ∙ sym (insert_all-append [] xs ys) ∙ sym (appearances (xs ++ ys))
 

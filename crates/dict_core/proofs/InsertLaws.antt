@@ -149,6 +149,6 @@ position-inserted D x = by (list_any (term_eq x) D)
     by true = refl
     by false = position-last (term_eq x) D x (own x)
 
--- the place that an insertion answers
+-- the place that an insertion returns
 pub get-inserted : (D : List Term) (x : Term) → slice_get (insert_key term_eq D x) (position_or_len (term_eq x) D) ≡ Some x
 get-inserted D x = subst (λ m. slice_get (insert_key term_eq D x) m ≡ Some x) (position-inserted D x) (at-position (insert_key term_eq D x) x (any-inserted D x))

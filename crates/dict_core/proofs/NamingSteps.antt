@@ -15,7 +15,7 @@ use Rattle.nquads_core.specs.Splitting.{DenoteAll, DenotesGraph, DenotesQuad}
 use Rattle.nquads_core.specs.declared.slices.RawStatement.{RawStatement}
 use Rattle.dict_core.specs.declared.num_quad.NumQuad.{NumQuad}
 use Rattle.dict_core.specs.declared.naming.NamingFault.{NamingFault}
-use Rattle.dict_core.specs.Naming.{AreNamed, AreNumberedStatements, IsNamedBy, IsQuadNumber, IsTermNumber}
+use Rattle.dict_core.specs.Naming.{AreNamed, AreNumberedStatements, IsAt, IsNamedBy, IsQuadNumber, IsTermNumber}
 use Rattle.dict_core.proofs.InsertLaws.{Keeps, any-from_get, get-insert_key, insert_key-present}
 use Rattle.dict_core.proofs.MergingSteps.{length_zipped, quad_named, quad_unnamed, zipped-push}
 use Rattle.dict_core.proofs.NumberingLaws.{numbered-more}
@@ -83,6 +83,17 @@ number_of_stored dict ks new numbers at d raw k named same stored alike =
     number_of_known dict raw.now (get_or numbers at d)
     (subst (λ text. IsNamedBy dict text (get_or numbers at d)) (sym (same_text raw.now k.now (sym alike)))
     (named_at dict ks numbers named at k d (subst (λ l. slice_get l at ≡ Some k) same stored)))
+
+-- a slice that is at a place has the number there
+pub place_within : (dict : List Term) (ks : List (Bor (List ℕ))) (numbers : List ℕ) (place : ℕ) (raw : List ℕ)
+    → AreNamed dict ks numbers → IsAt ks place raw → place < length numbers
+place_within dict ks numbers place raw named here = within_numbers dict ks ks numbers place here.slice named refl here.at
+
+pub number_of_place : (dict : List Term) (ks : List (Bor (List ℕ))) (numbers : List ℕ) (place d : ℕ) (raw : List ℕ)
+    → AreNamed dict ks numbers → IsAt ks place raw → IsTermNumber dict dict raw (get_or numbers place d)
+number_of_place dict ks numbers place d raw named here =
+    number_of_known dict raw (get_or numbers place d)
+    (subst (λ text. IsNamedBy dict text (get_or numbers place d)) here.same (named_at dict ks numbers named place here.slice d here.at))
 
 -- a slice that is new
 pub named_more : (old new : List Term) (raws : List (Bor (List ℕ))) (raw : Bor (List ℕ)) (numbers : List ℕ) (n : ℕ)

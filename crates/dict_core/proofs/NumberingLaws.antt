@@ -18,7 +18,7 @@ use Rattle.dict_core.specs.Numbered.{IsNumbered, renamed}
 use Rattle.dict_core.proofs.InsertLaws.{Keeps, get-insert_all}
 use Rattle.dict_core.proofs.AppearanceLaws.{insert_all-appearances, appearances_again, appearances_front}
 
--- a number that stands for a term
+-- a number that is the place of a term
 pub number_reads : (dict : List Term) (n : ℕ) (t : Term) → slice_get dict n ≡ Some t → (n < length dict) × (term_at dict n ≡ t)
 number_reads dict n t h = (slice_get_within dict n t h, get_or_from_slice_get dict n t (Blank []) h)
 
@@ -85,7 +85,7 @@ named dict (t ∷ own) [] h n below = absurd h
 named dict (t ∷ own) (m ∷ numbers) h zero below = h.0
 named dict (t ∷ own) (m ∷ numbers) h (suc n) below = named dict own numbers h.1 n (omega arith)
 
--- quads that are appended: those before read as before, and those behind read as they are to
+-- quads that are appended: those before read as before, and the new ones read as they are to
 pub numbered-append : (front back : List QuadParts) (dict merged : List Term) (numbered mine : List NumQuad)
     → IsNumbered front dict numbered → Keeps dict merged → merged ≡ first_appearances (terms_of (front ++ back))
     → AreBelow (length merged) mine → quads_at merged mine ≡ back

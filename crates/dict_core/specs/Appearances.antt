@@ -1,4 +1,4 @@
--- The terms of a document in the order in which they first appear (our own).
+-- The terms of a document in the order in which they first appear.
 use Rattle.std.specs.Prelude.{Bool, not, List, [], ◌∷◌, filter}
 use Rattle.std.specs.List.{flat_map}
 use Rattle.std.specs.Option.{option_to_list}

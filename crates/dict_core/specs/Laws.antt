@@ -1,4 +1,4 @@
--- What the laws of this crate say (our own).
+-- What the laws of this crate say.
 use Rattle.std.specs.Prelude.{◌≡◌, ◌↔◌, true, ℕ, List, ◌++◌, map}
 use Rattle.std.specs.List.{AllZip}
 use Rattle.rdf_core.specs.declared.term.Term.{Term}
@@ -17,7 +17,7 @@ EqualityIsIdentity = (a b : NumQuad) → (quad_eq a b ≡ true) ↔ (a ≡ b)
 
 -- two lists of quads that are numbered each by itself, the second dictionary absorbed into the
 -- first and the second quads renamed, are the joined list numbered: so it is no matter in which
--- groups pieces that stand in order are merged
+-- groups consecutive pieces are merged
 abbrev pub AbsorbingKeepsTheNumbering : Type 0
 AbsorbingKeepsTheNumbering =
     (front back : List QuadParts) (dict own : List Term) (numbered mine : List NumQuad)
@@ -26,7 +26,7 @@ AbsorbingKeepsTheNumbering =
     → IsNumbered (front ++ back) merged (numbered ++ map (renamed numbers) mine)
 
 -- terms that were looked up in an earlier dictionary are taken into a later one as if they had
--- been looked up there: the dictionary that comes of it is the same, and so is each number
+-- been looked up there: the new dictionary is the same, and so is each number
 abbrev pub EarlierPlacesServe : Type 0
 EarlierPlacesServe =
     (earlier later terms : List Term) (seen : List Seen) (numbers : List ℕ)

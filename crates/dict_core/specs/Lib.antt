@@ -8,3 +8,4 @@ pub mod SeenPiece
 pub mod Laws
 pub mod Inserting
 pub mod Naming
+pub mod Hashing

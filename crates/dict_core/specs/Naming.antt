@@ -24,6 +24,12 @@ pub record IsNamedBy (dict : List Term) (raw : List ℕ) (n : ℕ) : Type 0 wher
 abbrev pub AreNamed : List Term → List (Bor (List ℕ)) → List ℕ → Type 0
 AreNamed dict raws numbers = AllZip (λ raw n. IsNamedBy dict raw.now n) raws numbers
 
+-- a slice with these bytes is at this place
+pub record IsAt (raws : List (Bor (List ℕ))) (place : ℕ) (raw : List ℕ) : Type 0 where
+  pub slice : Bor (List ℕ)
+  pub at : slice_get raws place ≡ Some slice
+  pub same : slice.now ≡ raw
+
 -- a term that the slice denotes was inserted, and this is its number
 pub record IsTermNumber (old new : List Term) (raw : List ℕ) (n : ℕ) : Type 0 where
   pub term : Term

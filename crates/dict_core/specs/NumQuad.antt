@@ -7,7 +7,7 @@ use Rattle.rdf_core.specs.QuadParts.{QuadParts}
 use Rattle.dict_core.specs.declared.num_quad.NumQuad.{NumQuad}
 use Rattle.dict_core.specs.Dict.{term_at}
 
--- the quad that the numbers stand for
+-- the quad of the terms that have these numbers
 abbrev pub quad_at : List Term → NumQuad → QuadParts
 quad_at dict q = record {
   s = term_at dict q.s;
@@ -19,7 +19,7 @@ quad_at dict q = record {
 abbrev pub quads_at : List Term → List NumQuad → List QuadParts
 quads_at dict quads = map (quad_at dict) quads
 
--- each number stands for one of the first n terms
+-- each number is that of one of the first n terms
 abbrev pub IsBelow : ℕ → NumQuad → Type 0
 IsBelow n q = (q.s < n) × (q.p < n) × (q.o < n) × ForSome q.g (λ g. g < n)
 

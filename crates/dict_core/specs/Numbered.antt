@@ -1,4 +1,4 @@
--- Quads numbered by a dictionary (our own).
+-- Quads numbered by a dictionary.
 use Rattle.std.specs.Prelude.{◌≡◌, ℕ, List, length, get_or}
 use Rattle.std.specs.List.{flat_map}
 use Rattle.std.specs.Option.{option_map}
@@ -8,8 +8,8 @@ use Rattle.dict_core.specs.declared.num_quad.NumQuad.{NumQuad}
 use Rattle.dict_core.specs.NumQuad.{quads_at, AreBelow}
 use Rattle.dict_core.specs.Appearances.{terms_of, first_appearances}
 
--- the dictionary is the terms of the quads by first appearance, and no other; each number stands
--- for one of them; and the numbered quads, read through it, are the quads, in order
+-- the dictionary is the terms of the quads by first appearance, and no other; each number is that of
+-- one of them; and the numbered quads, read through it, are the quads, in order
 abbrev pub IsNumbered : List QuadParts → List Term → List NumQuad → Type 0
 IsNumbered quads dict numbered =
     (dict ≡ first_appearances (terms_of quads)) × AreBelow (length dict) numbered

@@ -1,10 +1,10 @@
--- A piece's terms, looked up in a dictionary that grows afterwards (our own).
+-- A piece's terms, looked up in a dictionary that grows afterwards.
 use Rattle.std.specs.Prelude.{◌≡◌, ℕ, List, [], ◌∷◌, slice_get, Some, Contains}
 use Rattle.rdf_core.specs.declared.term.Term.{Term}
 use Rattle.dict_core.specs.declared.seen.Seen.{Seen}
 use Rattle.dict_core.specs.declared.seen.Seen.TheVariants.{Known, New}
 
--- what a look-up of t answers: its number, or t itself where the dictionary lacks it
+-- what a look-up of t returns: its number, or t itself if the dictionary lacks it
 abbrev pub IsSeen : List Term → Term → Seen → Type 0
 IsSeen dict t (Known n) = slice_get dict n ≡ Some t
 IsSeen dict t (New u) = (u ≡ t) × ¬ (Contains dict t)

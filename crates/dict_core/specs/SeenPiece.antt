@@ -1,4 +1,4 @@
--- A piece whose terms were looked up (our own).
+-- A piece whose terms were looked up.
 use Rattle.std.specs.Prelude.{◌≡◌, List}
 use Rattle.std.specs.List.{AllZip}
 use Rattle.rdf_core.specs.declared.term.Term.{Term}
@@ -8,7 +8,7 @@ use Rattle.dict_core.specs.NumQuad.{quads_at}
 use Rattle.dict_core.specs.Appearances.{terms_of, first_appearances}
 use Rattle.dict_core.specs.Seen.{IsSeen}
 
--- the piece has the terms of these quads by first appearance, each as the look-up answers, and
+-- the piece has the terms of these quads by first appearance, each as the look-up returns it, and
 -- these quads over them
 abbrev pub IsLookedUp : List Term → List QuadParts → SeenPiece → Type 0
 IsLookedUp dict quads piece =

@@ -3,6 +3,7 @@ ghost use Rattle.std.specs.Prelude.{◌≡◌, ◌<◌, ◌^◌, [], ◌∷◌, 
 ghost use Rattle.dict_core.specs.Dict.{IsWithoutRepeats, AreNumbersOf};
 ghost use Rattle.dict_core.specs.Appearances.{first_appearances};
 
+use crate::hashing::HashState;
 use crate::inserting::insert_terms;
 use indexmap::IndexSet;
 use rdf_core::Term;
@@ -13,7 +14,7 @@ use std::marker::Model;
 /// Distinct terms, numbered from 0 in the order in which they came. A contract sees their list.
 #[derive(Drop)]
 pub struct Dict {
-    pub(crate) terms: IndexSet<Term, RandomState>,
+    pub(crate) terms: IndexSet<Term, HashState>,
 }
 
 impl Model for Dict {
@@ -31,12 +32,28 @@ impl Model for Dict {
 impl Dict {
     /// An empty dictionary. Strangers choose the terms, so the hash state comes from the runtime.
     ///
-    /// It takes no memory yet, and is never refused.
+    /// It allocates nothing yet, and does not fail.
     pub fn new(alloc: Global, state: RandomState) -> Result<Dict, AllocError>
         ensures empty { result ≡ Ok [] }
     {
         Ok(Dict {
-            terms: IndexSet::with_hasher(alloc, state),
+            terms: IndexSet::with_hasher(alloc, HashState::new(state)),
+        })
+    }
+
+    /// An empty dictionary with room for `n` terms.
+    ///
+    /// # Errors
+    /// `AllocError` if an allocation fails.
+    pub(crate) fn with_capacity(
+        alloc: Global,
+        state: HashState,
+        n: usize,
+    ) -> Result<Dict, AllocError>
+        ensures empty { IfOk result (λ dict. dict ≡ []) }
+    {
+        Ok(Dict {
+            terms: IndexSet::with_capacity_and_hasher(alloc, n, state)?,
         })
     }
 
@@ -52,8 +69,7 @@ impl Dict {
     /// The number of a term, which goes last where it was not there.
     ///
     /// # Errors
-    /// The term itself, handed back: it was not there, and a growth was refused. The dictionary is
-    /// unchanged.
+    /// The term itself, if it is new and an allocation fails. The dictionary is unchanged.
     pub fn intern(&mut self, term: Term) -> Result<u64, Term>
         ensures number { IfOk result (λ n. slice_get self.new n ≡ Some term) }
         ensures known { OnOk result (Contains self.old term → self.new ≡ self.old) }
@@ -79,11 +95,11 @@ impl Dict {
         }
     }
 
-    /// Takes in the terms of another dictionary, those that are new behind the others and in their
-    /// order, and answers the number that each of them has now, in the order of `other`.
+    /// Adds the terms of another dictionary, those that are new after the others and in their order, and
+    /// returns the number that each of them has now, in the order of `other`.
     ///
     /// # Errors
-    /// `AllocError`: a growth was refused. This dictionary is unchanged, and `other` is dropped.
+    /// `AllocError` if an allocation fails. This dictionary is unchanged, and `other` is dropped.
     pub fn absorb(&mut self, other: Dict) -> Result<Vec<u64>, AllocError>
         ensures terms { OnOk result (self.new ≡ first_appearances (self.old ++ other)) }
         ensures numbers { IfOk result (λ v. AreNumbersOf self.new other v.items) }

@@ -5,18 +5,18 @@ ghost use Rattle.rdf_core.specs.Equality.{term_eq};
 ghost use Rattle.dict_core.specs.Inserting.{places_in, places_of};
 ghost use Rattle.dict_core.specs.Seen.{new_of};
 
+use crate::hashing::HashState;
 use crate::seen::Seen;
 use indexmap::IndexSet;
 use rdf_core::Term;
 use std::alloc::{AllocError, Global};
-use std::hash::RandomState;
 
-/// Inserts the terms in turn, and answers the place of each. A refusal leaves the set as it was:
-/// the room for all is made first.
+/// Inserts the terms in turn, and returns the place of each. On error the set is unchanged: the room for
+/// all is made first.
 pub(crate) fn insert_terms(
     alloc: Global,
-    set: &mut IndexSet<Term, RandomState>,
-    terms: IndexSet<Term, RandomState>,
+    set: &mut IndexSet<Term, HashState>,
+    terms: IndexSet<Term, HashState>,
 ) -> Result<Vec<u64>, AllocError>
     ensures keys { OnOk result (set.new.keys ≡ insert_all term_eq set.old.keys terms.keys) }
     ensures places { IfOk result (λ v. v.items ≡ places_in set.old.keys terms.keys) }
@@ -34,11 +34,11 @@ pub(crate) fn insert_terms(
     Ok(places)
 }
 
-/// Inserts the new terms in turn, and answers the place of each of all. A refusal leaves the set as
-/// it was: the room for all is made first.
+/// Inserts the new terms in turn, and returns the place of each term. On error the set is unchanged: the
+/// room for all is made first.
 pub(crate) fn insert_new(
     alloc: Global,
-    set: &mut IndexSet<Term, RandomState>,
+    set: &mut IndexSet<Term, HashState>,
     seen: Vec<Seen>,
 ) -> Result<Vec<u64>, AllocError>
     ensures keys { OnOk result (set.new.keys ≡ insert_all term_eq set.old.keys (new_of seen.items)) }

@@ -6,8 +6,8 @@ pub fn equality_is_identity()
     ensures law { EqualityIsIdentity }
 {}
 
-/// Absorbing one numbered list of quads into another numbers the joined list. So pieces that stand
-/// in order may be merged in any groups.
+/// Absorbing one numbered list of quads into another numbers the joined list. So consecutive pieces may be
+/// merged in any groups.
 pub fn absorbing_keeps_the_numbering()
     ensures law { AbsorbingKeepsTheNumbering }
 {}

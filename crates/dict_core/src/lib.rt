@@ -6,19 +6,21 @@
 //! exactly the terms of the quads by first appearance, and the numbered quads, read through it, are
 //! the quads (the word `IsNumbered` of specs/Numbered.antt, which the loader above uses).
 //!
-//! For loading side by side, [`look_up`] reads a piece against a lent dictionary, and [`take_in`]
-//! adds what is new, in order; the laws of `laws` say that the outcome is the same.
+//! For loading in parallel, [`look_up`] looks the terms of a piece up in a borrowed dictionary, and
+//! [`take_in`] adds what is new, in order. The laws of `laws` say that the result is the same. The crate
+//! `loading_tests` tests both.
 //!
-//! When two terms are the same: RDF 1.1 Concepts and Abstract Syntax, section 3. The numbers are
-//! our own.
+//! When two terms are the same: RDF 1.1 Concepts and Abstract Syntax, section 3. The numbers are a choice of
+//! this project.
 //!
 //! To read in this order: `dict`, `num_quad`, `local_piece`, `numbering`, `naming`, `merging`, `seen`,
-//! `seen_piece`, `rounds`, `laws`; `inserting` is private.
+//! `seen_piece`, `rounds`, `laws`; `inserting` and `hashing` are private.
 //!
-//! Not promised: anything of the hashing but that it decides nothing of the outcome.
+//! Not promised: anything of the hashing but that no result depends on it.
 #![tactic(auto)]
 
 mod dict;
+mod hashing;
 mod inserting;
 mod laws;
 mod local_piece;

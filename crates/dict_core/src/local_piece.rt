@@ -56,10 +56,10 @@ impl LocalPiece {
 }
 
 /// Numbers the quads of a piece by themselves, in order, repeats kept. The terms are moved, not
-/// copied; how many lines the piece has is left behind.
+/// copied; the number of lines of the piece is dropped.
 ///
 /// # Errors
-/// `AllocError`: a growth was refused. The piece is dropped.
+/// `AllocError` if an allocation fails. The piece is dropped.
 pub fn number_piece(
     alloc: Global,
     state: RandomState,

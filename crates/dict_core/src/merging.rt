@@ -10,11 +10,11 @@ use crate::num_quad::NumQuad;
 use std::alloc::{AllocError, Global};
 use std::hash::RandomState;
 
-/// Merges pieces that stand in order: the dictionary has their terms by first appearance over all
-/// of them, and the quads stand in order, repeats kept. The terms are moved, not copied.
+/// Merges consecutive pieces: the dictionary has their terms by first appearance over all of them, and the
+/// quads are in order, repeats kept. The terms are moved, not copied.
 ///
 /// # Errors
-/// `AllocError`: a growth was refused. The pieces are dropped.
+/// `AllocError` if an allocation fails. The pieces are dropped.
 pub fn merge(
     alloc: Global,
     state: RandomState,
@@ -31,7 +31,7 @@ pub fn merge(
     Ok((dict, all))
 }
 
-/// Takes in one more piece.
+/// Adds one more piece.
 fn merge_piece(dict: &mut Dict, all: &mut Vec<NumQuad>, piece: LocalPiece) -> Result<(), AllocError>
     ensures numbered { OnOk result ((done : List QuadParts)
         → IsNumbered done dict.old all.old.items

@@ -1,4 +1,4 @@
-//! Pieces that are read side by side against one lent dictionary, and then taken in, in order.
+//! Pieces that are read in parallel against one borrowed dictionary, and then added, in order.
 ghost use Rattle.std.specs.Prelude.{◌≡◌, ◌++◌, List, length, map, IfOk, OnOk, OnErr};
 ghost use Rattle.std.specs.List.{AllZip};
 ghost use Rattle.rdf_core.specs.declared.term.Term.{Term};
@@ -10,6 +10,7 @@ ghost use Rattle.dict_core.specs.Appearances.{first_appearances};
 ghost use Rattle.dict_core.specs.Numbered.{IsNumbered};
 
 use crate::dict::Dict;
+use crate::hashing::HashState;
 use crate::inserting::insert_new;
 use crate::local_piece::LocalPiece;
 use crate::merging::append_renamed;
@@ -19,13 +20,12 @@ use crate::seen_piece::SeenPiece;
 use indexmap::IndexSet;
 use rdf_core::Term;
 use std::alloc::{AllocError, Global};
-use std::hash::RandomState;
 
-/// Looks each term of a piece up in a dictionary, which is only lent, so that many pieces may be
-/// looked up at once. The terms that it lacks are moved into the answer.
+/// Looks each term of a piece up in a dictionary, which is only borrowed, so that many pieces may be
+/// looked up at once. The terms that it lacks are moved into the result.
 ///
 /// # Errors
-/// `AllocError`: a growth was refused. The piece is dropped.
+/// `AllocError` if an allocation fails. The piece is dropped.
 pub fn look_up(alloc: Global, dict: &Dict, piece: LocalPiece) -> Result<SeenPiece, AllocError>
     ensures looked_up { IfOk result (λ seen. IsLookedUp dict.now piece seen) }
 {
@@ -38,7 +38,7 @@ pub fn look_up(alloc: Global, dict: &Dict, piece: LocalPiece) -> Result<SeenPiec
 fn look_up_terms(
     alloc: Global,
     dict: &Dict,
-    terms: IndexSet<Term, RandomState>,
+    terms: IndexSet<Term, HashState>,
 ) -> Result<Vec<Seen>, AllocError>
     ensures seen { IfOk result (λ v. AllZip (IsSeen dict.now) terms.keys v.items) }
 {
@@ -58,13 +58,13 @@ fn look_up_term(dict: &Dict, term: Term) -> Seen
     }
 }
 
-/// Takes a piece in behind those that are there: the terms that are new go behind the others, and
-/// its quads, renamed, behind the quads.
+/// Adds a piece after those that are there: its new terms after the other terms, and its quads, renamed,
+/// after the other quads.
 ///
 /// The piece may have been looked up in an earlier state of the dictionary.
 ///
 /// # Errors
-/// `AllocError`: a growth was refused. Dictionary and list are unchanged, and the piece is dropped.
+/// `AllocError` if an allocation fails. Dictionary and list are unchanged, and the piece is dropped.
 pub fn take_in(
     alloc: Global,
     dict: &mut Dict,

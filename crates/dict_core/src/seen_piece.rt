@@ -8,9 +8,9 @@ use crate::seen::Seen;
 /// A piece's distinct terms, each looked up in a dictionary, and its quads over their places.
 #[derive(Drop)]
 pub struct SeenPiece {
-    /// The piece's terms by first appearance, as the look-ups answered.
+    /// The piece's terms by first appearance, as the look-ups returned them.
     pub seen: Vec<Seen>,
-    /// The piece's quads; a number n stands for the n-th of `seen`.
+    /// The piece's quads; a number n is the place of a term in `seen`.
     pub quads: Vec<NumQuad>,
     pub ghost below: { AreBelow (length seen.items) quads.items },
 }

@@ -1,4 +1,4 @@
--- A term is read back from its spelling.
+-- A term round-trips through its N-Quads form.
 use Rattle.std.proofs.Common.{◌≡◌, ℕ, suc, ◌≤◌, ◌<◌, Bool, true, false, eqb, List, [], ◌∷◌, ◌++◌, length, map, Option, Some, None, refl, sym, ap, subst, ◌∙◌, append_assoc, append-nil, get_or, lit<, arith, inl, inr}
 use Rattle.std.specs.Prelude.{◌&&◌, ◌||◌}
 use Rattle.std.specs.List.{flat_map}
@@ -39,7 +39,7 @@ use Rattle.nquads_core.proofs.Meaning.{OneLine}
 use Rattle.nquads_core.proofs.RunLaws.{or_parts}
 use Rattle.nquads_core.proofs.Followed.{label_followed, primary_followed, tag_followed}
 
--- ---- what stands behind an object
+-- ---- what follows an object
 
 abbrev End : List ℕ
 End = 32 ∷ 46 ∷ []
@@ -470,7 +470,7 @@ good_node (Literal lex dt tag) h g = absurd cc
 
 -- ---- the line
 
--- the characters of terms with a blank behind each
+-- the characters of terms with a blank after each
 blank_utf8 : (S bytes : List ℕ) (t : Term) (h : Written t) → bytes ≡ encode_utf8_all S → spelling t ++ 32 ∷ bytes ≡ encode_utf8_all (h.S ++ 32 ∷ S)
 blank_utf8 S bytes t h e =
     sym (encodes-append h.S (32 ∷ S) ∙ ap (λ (y : List ℕ). encode_utf8_all h.S ++ y) (enc_cons 32 S (lit< tt) ∙ ap (λ (y : List ℕ). 32 ∷ y) (sym e)) ∙ ap (λ (y : List ℕ). y ++ 32 ∷ bytes) (sym h.utf8))
@@ -587,7 +587,7 @@ line_spelled s text o g a good c d =
       derives = r.derives;
     }
 
--- a term that occurs in a quad that some line spells
+-- a term that occurs in the quad of some line
 good_of : (t : Term) → IsSpelled t → GoodTerm t
 good_of t h = term_good h.0 h.1 t h.2 h.3
 

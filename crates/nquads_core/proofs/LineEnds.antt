@@ -4,7 +4,7 @@ use Rattle.std.proofs.lemmas.List.{append_assoc}
 use Rattle.nquads_core.specs.Lines.{onto_first, begins_with_lf, lines}
 use Rattle.nquads_core.specs.Laws.{LinesJoin}
 
--- such a text has a line, and so its first line is not that of what follows
+-- the list has a line, so its first line is not that of the lines after it
 abbrev IsSome : List (List ℕ) → Type 0
 IsSome ls = (line : List ℕ) × (others : List (List ℕ)) × (ls ≡ line ∷ others)
 

@@ -1,4 +1,4 @@
--- A line is read exactly where it spells something.
+-- A line is read exactly if it is well-formed: a statement, or blanks and a comment.
 use Rattle.std.proofs.Common.{◌≡◌, ℕ, Bool, true, false, eqb, List, [], ◌∷◌, ◌++◌, Option, Some, None, refl, sym, ap, subst, ◌∙◌, inl, inr, ◌⊎◌}
 use Rattle.std.proofs.lemmas.Bool.{eqb-true}
 use Rattle.std.proofs.lemmas.Option.{same_Some}
@@ -134,7 +134,7 @@ run_end : (cs : List ℕ) (ks : List Terminal) (rest : List ℕ) → Run cs ks r
 run_end cs [] rest r s = subst (λ (y : List ℕ). IsEnd y) (sym r) s
 run_end cs (k ∷ ks) rest r s = (r.0, r.1, run_end r.0 ks rest r.2 s)
 
--- ---- what is read is spelled so
+-- ---- what is read is in the line
 
 node_subject : (k : Terminal) (t : Term) → node_of k ≡ Some t → Subject (k ∷ []) t
 node_subject (iri_ref text) t e = subst (λ (y : Term). Subject (iri_ref text ∷ []) y) (same_Some (Iri text) t e) iri_subject
@@ -155,7 +155,7 @@ iri_is dot text e = absurd (none_some text e)
 iri_predicate_is : (k : Terminal) (text : List ℕ) → iri_of k ≡ Some text → Predicate (k ∷ []) (Iri text)
 iri_predicate_is k text e = rw (iri_is k text e) iri_predicate
 
--- the object's other terminals, and the first one behind the object
+-- the object's other terminals, and the first terminal after the object
 record ReadObject (k : Terminal) (cs : List ℕ) (x : Term × (Terminal × List ℕ)) : Type 0 where
   others : List Terminal
   object : Object (k ∷ others) x.0
@@ -273,7 +273,7 @@ line_sound cs y e =
       | inr h ↦ statement_sound cs y (rw h at e)
     ]
 
--- ---- what is spelled so is read
+-- ---- what is in the line is read
 
 -- not what goes on with a literal
 abbrev behind_object : Terminal → Bool

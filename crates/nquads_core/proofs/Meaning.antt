@@ -1,4 +1,4 @@
--- A line spells at most one thing.
+-- A line has at most one meaning.
 use Rattle.std.proofs.Common.{◌≡◌, ◌≢◌, ℕ, ◌<◌, List, length, Option, None, Some, Result, Ok, Err, IfOk, slice_index, ◌≤◌, true, arith, refl, sym, ap, subst, ◌∙◌}
 use Rattle.nquads_core.specs.declared.fault.LineFault.{LineFault}
 use Rattle.nquads_core.specs.declared.fault.LineFault.TheVariants.{Bad, Memory}

@@ -12,7 +12,7 @@ use Rattle.rdf_core.specs.Characters.{begins}
 use Rattle.nquads_core.specs.Reading.{skip_blanks, take_dot, label_tail_at, label_at, subtags_at, tag_tail_at, tag_at}
 use Rattle.rdf_core.proofs.EscapeSteps.{eqb_no, which}
 
--- what the characters tell of the bytes
+-- what the characters say of the bytes
 pub front_of : (text rest front : List ℕ) → IsUtf8 text → IsUtf8 rest → chars text ≡ front ++ chars rest → text ≡ encode_utf8_all front ++ rest
 front_of text rest front u v e =
     sym (encodes-chars text u) ∙ ap encode_utf8_all e ∙ encodes-append front (chars rest) ∙ ap (λ (t : List ℕ). encode_utf8_all front ++ t) (encodes-chars rest v)
@@ -78,7 +78,7 @@ unfolding label_tail_at
 label_parts [] = refl
 label_parts (c ∷ cs) = parts_cases (is_label_char c) (eqb c 46) c cs (label_tail_at cs).0 (label_tail_at cs).1 (label_parts cs)
 
--- good follows the last character of the label so far, and dots stand between it and rest
+-- good follows the last character of the label so far, and between it and rest are dots
 pub record LabelTail (good rest text : List ℕ) : Type 0 where
   pub good_utf8 : IsUtf8 good
   pub rest_utf8 : IsUtf8 rest

@@ -1,4 +1,4 @@
--- What slices denote, a line spells that has a blank after each of them.
+-- A line with a blank after each slice holds the statement that the slices denote.
 use Rattle.std.proofs.Common.{◌≡◌, ℕ, true, List, [], ◌∷◌, ◌++◌, Option, Some, None, refl, sym, ap, subst, ◌∙◌, append_assoc}
 use Rattle.std.specs.Prelude.{option_copied}
 use Rattle.std.specs.Str.{IsUtf8, chars}

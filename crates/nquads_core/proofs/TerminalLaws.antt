@@ -1,4 +1,4 @@
--- A terminal is read exactly where one stands, and it is the longest.
+-- A terminal is read exactly where the text has one, and it is the longest.
 use Rattle.std.proofs.Common.{◌≡◌, ℕ, ◌≤◌, true, eqb, List, [], ◌∷◌, ◌++◌, length, map, drop, Option, Some, None, refl, sym, ap, subst, ◌∙◌, append_assoc, length-append, arith, inl, inr}
 use Rattle.std.specs.Str.{encode_utf8_all}
 use Rattle.std.specs.Char.{is_ascii_alphabetic, to_ascii_lowercase}
@@ -40,7 +40,7 @@ after_some c (d ∷ cs) rest e =
     let g = cond_is {A = List ℕ} (eqb d c) (Some cs) rest e in
     rw (eqb-true d c g.0, same_Some cs rest g.1) refl
 
--- ---- what is read stands there
+-- ---- the text has what is read
 
 pub record Took (cs : List ℕ) (k : Terminal) (rest : List ℕ) : Type 0 where
   pub word : List ℕ
@@ -147,7 +147,7 @@ terminal_takes (c ∷ cs) k rest e =
       ]
     ]
 
--- ---- what stands there is read, or more than that
+-- ---- what the text has is read, or more than that
 
 -- From a text that begins with the terminal k, some terminal is read that is no shorter; where it is no longer, it is k.
 pub record Reaches (cs : List ℕ) (k : Terminal) (behind : List ℕ) : Type 0 where

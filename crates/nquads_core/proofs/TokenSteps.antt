@@ -36,7 +36,7 @@ pub string_missing : (cs : List ℕ) → ((bytes rest : List ℕ) → IsEnclosed
 unfolding string_at
 string_missing cs h = enclosed_missing Quoted 34 cs h
 
--- ---- what was found, where a match tells which
+-- ---- what was found, by the cases of a match
 
 pub match_some : {X : Type 0} (P : Type 0) (Q : X → Type 0) (found : Option X) (x : X) → found ≡ Some x → MatchOption found P Q → Q x
 match_some {X} P Q found x e h = subst (λ (y : Option X). MatchOption y P Q) e h

@@ -1,4 +1,4 @@
--- What a call of a device does to its count of failures, where it tells one.
+-- What a call of a device does to its count of failures, if the device exposes one.
 -- (What it does to its bytes is said by std's words on known bytes.)
 use Rattle.std.specs.Prelude.{◌≡◌, ℕ, ◌+◌, ◌^◌, ◌-◌, min, ⊤, Option, Some, None, Result, MatchResult}
 

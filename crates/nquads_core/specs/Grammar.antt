@@ -1,4 +1,4 @@
--- What a line of N-Quads spells (RDF 1.1 N-Quads, grammar).
+-- Which statement a line of N-Quads holds (RDF 1.1 N-Quads, grammar).
 use Rattle.std.specs.Prelude.{◌≡◌, ◌≢◌, ℕ, ◌<◌, true, ◌⊎◌, List, [], ◌∷◌, ◌++◌, length, Option, Some, None, slice_index}
 use Rattle.std.specs.Str.{IsUtf8, chars}
 use Rattle.rdf_core.specs.declared.term.Term.{Term}
@@ -25,24 +25,24 @@ pub record Begins (text : List ℕ) (k : Terminal) (rest : List ℕ) : Type 0 wh
   pub terminal : IsTerminal word k
   pub longest : IsLongest word rest
 
--- The text is a list of terminals, each the longest at its place, with blanks before, between and behind, and perhaps a comment.
+-- The text is a list of terminals, each the longest at its place, with blanks before, between and after them, and perhaps a comment.
 abbrev pub Splits : List ℕ → List Terminal → Type 0
 Splits text [] = IsEnd text
 Splits text (k ∷ ks) = (rest : List ℕ) × Begins text k rest × Splits rest ks
 
 -- ---- productions: lists of terminals, and the term that each derives
 
--- subject ::= IRIREF | BLANK_NODE_LABEL
+-- [3] subject ::= IRIREF | BLANK_NODE_LABEL
 pub data Subject : List Terminal → Term → Type 0 where
   iri_subject : {text : List ℕ} → Subject (iri_ref text ∷ []) (Iri text)
   blank_subject : {label : List ℕ} → Subject (blank_label label ∷ []) (Blank label)
 
--- predicate ::= IRIREF
+-- [4] predicate ::= IRIREF
 pub data Predicate : List Terminal → Term → Type 0 where
   iri_predicate : {text : List ℕ} → Predicate (iri_ref text ∷ []) (Iri text)
 
--- object ::= IRIREF | BLANK_NODE_LABEL | literal, and
--- literal ::= STRING_LITERAL_QUOTE ('^^' IRIREF | LANGTAG)?
+-- [5] object ::= IRIREF | BLANK_NODE_LABEL | literal, and
+-- [7] literal ::= STRING_LITERAL_QUOTE ('^^' IRIREF | LANGTAG)?
 pub data Object : List Terminal → Term → Type 0 where
   iri_object : {text : List ℕ} → Object (iri_ref text ∷ []) (Iri text)
   blank_object : {label : List ℕ} → Object (blank_label label ∷ []) (Blank label)
@@ -50,13 +50,13 @@ pub data Object : List Terminal → Term → Type 0 where
   typed_object : {lexical datatype : List ℕ} → Object (quoted lexical ∷ carets ∷ iri_ref datatype ∷ []) (Literal lexical datatype None)
   tagged_object : {lexical tag : List ℕ} → Object (quoted lexical ∷ lang_tag tag ∷ []) (Literal lexical rdf_lang_string (Some tag))
 
--- graphLabel ::= IRIREF | BLANK_NODE_LABEL, or none
+-- [6] graphLabel ::= IRIREF | BLANK_NODE_LABEL, or none
 pub data GraphLabel : List Terminal → Option Term → Type 0 where
   no_graph : GraphLabel [] None
   iri_graph : {text : List ℕ} → GraphLabel (iri_ref text ∷ []) (Some (Iri text))
   blank_graph : {label : List ℕ} → GraphLabel (blank_label label ∷ []) (Some (Blank label))
 
--- statement ::= subject predicate object graphLabel? '.'
+-- [2] statement ::= subject predicate object graphLabel? '.'
 pub record Statement (ks : List Terminal) (q : QuadParts) : Type 0 where
   pub s : List Terminal
   pub p : List Terminal
@@ -68,12 +68,12 @@ pub record Statement (ks : List Terminal) (q : QuadParts) : Type 0 where
   pub object : Object o q.o
   pub graph : GraphLabel g q.g
 
--- statement?
+-- statement?, as in [1] nquadsDoc ::= statement? (EOL statement)* EOL?
 abbrev pub Derives : List Terminal → Option QuadParts → Type 0
 Derives ks None = ks ≡ []
 Derives ks (Some q) = Statement ks q
 
--- The line, without its line end (LF is 10, CR is 13), spells the quad, or nothing but blanks and a comment.
+-- The line, without its line end (LF is 10, CR is 13), holds the statement of this quad, or nothing but blanks and a comment.
 pub record Spells (line : List ℕ) (q : Option QuadParts) : Type 0 where
   pub utf8 : IsUtf8 line
   pub one_line : (i : ℕ) → i < length line → (slice_index line i ≢ 10) × (slice_index line i ≢ 13)
@@ -81,6 +81,6 @@ pub record Spells (line : List ℕ) (q : Option QuadParts) : Type 0 where
   pub splits : Splits (chars line) terminals
   pub derives : Derives terminals q
 
--- the line spells nothing
+-- the line is malformed
 abbrev pub IsBad : List ℕ → Type 0
 IsBad line = (q : Option QuadParts) → Spells line q → ⊥

@@ -1,4 +1,4 @@
--- What the laws on lines and documents say (our own).
+-- What the laws on lines and documents say (laws of this project, not of the standard).
 use Rattle.std.specs.Prelude.{◌≡◌, ◌⊎◌, ℕ, true, List, ◌++◌, Option, Some, None, codes}
 use Rattle.rdf_core.specs.declared.term.Term.{Term}
 use Rattle.rdf_core.specs.QuadFacts.{is_graph_name, is_iri, is_node}
@@ -8,7 +8,7 @@ use Rattle.rdf_core.specs.Spelling.{spelling}
 use Rattle.nquads_core.specs.Grammar.{Spells}
 use Rattle.nquads_core.specs.Lines.{lines, EndsLine}
 
--- a line spells at most one thing
+-- a line has at most one meaning
 abbrev pub OneMeaning : Type 0
 OneMeaning = (line : List ℕ) (q r : Option QuadParts) → Spells line q → Spells line r → q ≡ r
 
@@ -20,22 +20,22 @@ LinesJoin = (a b : List ℕ) → EndsLine a → lines (a ++ b) ≡ lines a ++ li
 abbrev pub Occurs : Term → QuadParts → Type 0
 Occurs t q = (t ≡ q.s) ⊎ ((t ≡ q.p) ⊎ ((t ≡ q.o) ⊎ (q.g ≡ Some t)))
 
--- a line whose object is this spelling
+-- a line whose object is the N-Quads form of this term
 abbrev pub object_line : Term → List ℕ
 object_line t = codes "<a:> <a:> " ++ (spelling t ++ codes " .")
 
 abbrev pub with_object : Term → QuadParts
 with_object t = record { s = Iri (codes "a:"); p = Iri (codes "a:"); o = t; g = None }
 
--- a term that some line spells is read back from its spelling
+-- a term of some line round-trips through its N-Quads form
 abbrev pub ReadsBack : Type 0
 ReadsBack = (line : List ℕ) (q : QuadParts) (t : Term) → Spells line (Some q) → Occurs t q → Spells (object_line t) (Some (with_object t))
 
--- some line spells a quad in which the term occurs
+-- the term occurs in the quad of some line
 abbrev pub IsSpelled : Term → Type 0
 IsSpelled t = (line : List ℕ) × (q : QuadParts) × Spells line (Some q) × Occurs t q
 
--- some line spells each of the four terms, and each may be in its place
+-- each of the four terms occurs in the quad of some line, and each may be in its place
 pub record IsSpellable (q : QuadParts) : Type 0 where
   pub subject : IsSpelled q.s
   pub predicate : IsSpelled q.p

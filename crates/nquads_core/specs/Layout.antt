@@ -1,9 +1,10 @@
 -- How a line is laid out that is split into slices: a blank after each, then a dot. Only private clauses cite
--- these words; what is promised stands in Splitting. A space is 32, a dot 46.
+-- these words; what is promised is in Splitting. A space is 32, a dot 46.
 use Rattle.std.specs.Prelude.{◌≡◌, ◌≢◌, ℕ, ◌<◌, List, ◌∷◌, ◌++◌, length, Option, Some, None, option_copied, option_to_list, slice_index}
 use Rattle.std.specs.Str.{chars}
 use Rattle.nquads_core.specs.declared.slices.RawStatement.{RawStatement}
 use Rattle.nquads_core.specs.Grammar.{IsEnd}
+use Rattle.nquads_core.specs.Lines.{lines}
 
 -- the slice of a graph label, if there is one, and then the rest
 abbrev pub graph_then : Option (List ℕ) → List ℕ → List ℕ
@@ -33,3 +34,7 @@ IsOneLine line = (i : ℕ) → i < length line → (slice_index line i ≢ 10) �
 -- no byte is CR
 abbrev pub HasNoCr : List ℕ → Type 0
 HasNoCr text = (i : ℕ) → i < length text → slice_index text i ≢ 13
+
+-- the text is one line and then the lines of the rest
+abbrev pub IsLineAfter : List ℕ → List ℕ → Type 0
+IsLineAfter text rest = (line : List ℕ) × (lines text ≡ line ∷ lines rest)

@@ -1,4 +1,4 @@
--- The lines of a document (RDF 1.1 N-Quads, grammar: EOL). LF is 10, CR is 13.
+-- The lines of a document (RDF 1.1 N-Quads, grammar: [8] EOL ::= [#xD#xA]+). LF is 10, CR is 13.
 use Rattle.std.specs.Prelude.{◌≡◌, ℕ, Bool, false, ◌⊎◌, List, [], ◌∷◌, ◌++◌, ◌==◌, if◌then◌else◌}
 
 -- put a byte at the front of the first line
@@ -18,6 +18,6 @@ lines (b ∷ bytes) =
     else if b == 13 then (if begins_with_lf bytes then lines bytes else [] ∷ lines bytes)
     else onto_first b (lines bytes)
 
--- empty, or LF stands at the end
+-- empty, or LF is at the end
 abbrev pub EndsLine : List ℕ → Type 0
 EndsLine bytes = (bytes ≡ []) ⊎ ((front : List ℕ) × (bytes ≡ front ++ 10 ∷ []))

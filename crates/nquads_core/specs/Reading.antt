@@ -1,5 +1,5 @@
--- Reading a line from left to right: what stands at the front of a text, and the rest. None: no such thing
--- stands there. Only private clauses cite these words; what is promised stands in Grammar.
+-- Reading a line from left to right: what is at the front of a text, and the rest. None if something else is
+-- there. Only private clauses cite these words; what is promised is in Grammar.
 use Rattle.std.specs.Prelude.{◌≡◌, ℕ, Bool, true, false, ◌&&◌, ◌||◌, List, [], ◌∷◌, map, Option, Some, None, Result, Ok, Err, ◌==◌, if◌then◌else◌}
 use Rattle.std.specs.Char.{is_ascii_alphabetic, is_ascii_alphanumeric, to_ascii_lowercase}
 use Rattle.std.specs.Str.{encode_utf8_all}
@@ -34,11 +34,11 @@ None >>= f = None
 abbrev pub if_scheme : List ℕ × List ℕ → Option (List ℕ × List ℕ)
 if_scheme x = if has_scheme x.0 then Some x else None
 
--- behind <
+-- after <
 unfoldable pub iri_at : List ℕ → Option (List ℕ × List ℕ)
 iri_at cs = with_bytes [] (parts_at Iri (Some 62) 0 cs) >>= if_scheme
 
--- behind a quote
+-- after a quote
 unfoldable pub string_at : List ℕ → Option (List ℕ × List ℕ)
 string_at cs = with_bytes [] (parts_at Quoted (Some 34) 0 cs)
 
@@ -47,19 +47,19 @@ abbrev pub take_dot : ℕ → List ℕ → List ℕ → List ℕ → List ℕ ×
 take_dot c cs [] rest = ([], c ∷ cs)
 take_dot c cs (x ∷ xs) rest = (c ∷ x ∷ xs, rest)
 
--- behind the first character of a label: its other characters, and what follows
+-- after the first character of a label: its other characters, and what follows
 unfoldable pub label_tail_at : List ℕ → List ℕ × List ℕ
 label_tail_at [] = ([], [])
 label_tail_at (c ∷ cs) =
     if is_label_char c then (c ∷ (label_tail_at cs).0, (label_tail_at cs).1)
     else if c == 46 then take_dot c cs (label_tail_at cs).0 (label_tail_at cs).1 else ([], c ∷ cs)
 
--- behind _:
+-- after _:
 unfoldable pub label_at : List ℕ → Option (List ℕ × List ℕ)
 label_at [] = None
 label_at (c ∷ cs) = if is_label_start c then Some (encode_utf8_all (c ∷ (label_tail_at cs).0), (label_tail_at cs).1) else None
 
--- behind a character of a subtag
+-- after a character of a subtag
 unfoldable pub subtags_at : List ℕ → List ℕ × List ℕ
 subtags_at [] = ([], [])
 subtags_at (c ∷ cs) =
@@ -71,11 +71,11 @@ tag_tail_at (c ∷ cs) =
     if is_ascii_alphabetic c then (c ∷ (tag_tail_at cs).0, (tag_tail_at cs).1)
     else if c == 45 && begins is_ascii_alphanumeric cs then (c ∷ (subtags_at cs).0, (subtags_at cs).1) else ([], c ∷ cs)
 
--- behind @
+-- after @
 unfoldable pub tag_at : List ℕ → Option (List ℕ × List ℕ)
 tag_at cs = if begins is_ascii_alphabetic cs then Some (map to_ascii_lowercase (tag_tail_at cs).0, (tag_tail_at cs).1) else None
 
--- the rest behind this character
+-- the rest after this character
 abbrev pub after_char : ℕ → List ℕ → Option (List ℕ)
 after_char c [] = None
 after_char c (d ∷ cs) = if d == c then Some cs else None
@@ -130,7 +130,7 @@ iri_of (lang_tag tag) = None
 iri_of carets = None
 iri_of dot = None
 
--- what a literal's quotes and the terminals behind it make, and the first terminal behind the object with what follows that
+-- the literal of a string and the terminals after it, the first terminal after the object, and what follows that
 abbrev pub literal_of : List ℕ → Terminal × List ℕ → Option (Term × (Terminal × List ℕ))
 literal_of lexical (carets, rest) = do
   d ← next rest

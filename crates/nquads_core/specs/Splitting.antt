@@ -30,7 +30,7 @@ abbrev pub DenoteAll : List RawStatement → List QuadParts → Type 0
 DenoteAll [] quads = quads ≡ []
 DenoteAll (raw ∷ raws) quads = (q : QuadParts) × (more : List QuadParts) × (quads ≡ q ∷ more) × DenotesQuad raw q × DenoteAll raws more
 
--- The statements are those of these lines: the lines spell all quads that the statements denote. Of slices that
+-- The statements are those of these lines: the lines hold the quads that the statements denote. Of slices that
 -- denote no term nothing is said.
 abbrev pub AreStatements : List (List ℕ) → List RawStatement → Type 0
 AreStatements lines raws = (quads : List QuadParts) → DenoteAll raws quads → SpellAll lines quads

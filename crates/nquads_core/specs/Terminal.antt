@@ -1,4 +1,4 @@
--- The terminals of N-Quads: which texts they are, and what each stands for (RDF 1.1 N-Quads, grammar).
+-- The terminals of N-Quads: which texts they are, and what each denotes (RDF 1.1 N-Quads, grammar).
 -- A text is a list of characters.
 use Rattle.std.specs.Prelude.{◌≡◌, ℕ, ◌≤◌, Bool, true, false, ◌&&◌, ◌||◌, List, [], ◌∷◌, ◌++◌, length, map, ◌==◌}
 use Rattle.std.specs.Char.{to_ascii_lowercase}
@@ -7,24 +7,24 @@ use Rattle.rdf_core.specs.Characters.{is_label_start, is_label_char}
 use Rattle.rdf_core.specs.Escapes.{IsIriPart, IsStringPart, Writes}
 use Rattle.rdf_core.specs.Lexical.{is_tag, has_scheme}
 
--- what stands between terminals: spaces and tabs
+-- what may be between terminals: spaces and tabs
 abbrev pub is_blank : ℕ → Bool
 is_blank c = c == 32 || c == 9
 
--- BLANK_NODE_LABEL behind its first character: ((PN_CHARS | '.')* PN_CHARS)?
+-- [141s] BLANK_NODE_LABEL after its first character: ((PN_CHARS | '.')* PN_CHARS)?
 abbrev pub is_label_tail : List ℕ → Bool
 is_label_tail [] = true
 is_label_tail (c ∷ []) = is_label_char c
 is_label_tail (c ∷ d ∷ cs) = (is_label_char c || c == 46) && is_label_tail (d ∷ cs)
 
--- BLANK_NODE_LABEL behind _: is (PN_CHARS_U | [0-9]) ((PN_CHARS | '.')* PN_CHARS)?
+-- [141s] BLANK_NODE_LABEL after _: is (PN_CHARS_U | [0-9]) ((PN_CHARS | '.')* PN_CHARS)?
 abbrev pub is_label : List ℕ → Bool
 is_label [] = false
 is_label (c ∷ cs) = is_label_start c && is_label_tail cs
 
 -- ---- terminals
 
--- A terminal by its kind, with the bytes of what it stands for.
+-- A terminal by its kind, with the bytes of what it denotes.
 pub data Terminal : Type 0 where
   iri_ref : List ℕ → Terminal
   blank_label : List ℕ → Terminal
@@ -33,7 +33,7 @@ pub data Terminal : Type 0 where
   carets : Terminal
   dot : Terminal
 
--- IRIREF ::= '<' ([^#x00-#x20<>"{}|^`\] | UCHAR)* '>'; the IRI has a scheme (our own rule)
+-- [10] IRIREF ::= '<' ([^#x00-#x20<>"{}|^`\] | UCHAR)* '>'; that the IRI has a scheme is a rule of this project
 pub record IsIriRef (text bytes : List ℕ) : Type 0 where
   pub body : List ℕ
   pub chars : List ℕ
@@ -42,7 +42,7 @@ pub record IsIriRef (text bytes : List ℕ) : Type 0 where
   pub utf8 : bytes ≡ encode_utf8_all chars
   pub scheme : has_scheme bytes ≡ true
 
--- STRING_LITERAL_QUOTE ::= '"' ([^#x22#x5C#xA#xD] | ECHAR | UCHAR)* '"'
+-- [11] STRING_LITERAL_QUOTE ::= '"' ([^#x22#x5C#xA#xD] | ECHAR | UCHAR)* '"'
 pub record IsQuoted (text bytes : List ℕ) : Type 0 where
   pub body : List ℕ
   pub chars : List ℕ
@@ -50,14 +50,14 @@ pub record IsQuoted (text bytes : List ℕ) : Type 0 where
   pub writes : Writes IsStringPart body chars
   pub utf8 : bytes ≡ encode_utf8_all chars
 
--- BLANK_NODE_LABEL ::= '_:' and a label
+-- [141s] BLANK_NODE_LABEL ::= '_:' and a label
 pub record IsBlankLabel (text bytes : List ℕ) : Type 0 where
   pub label : List ℕ
   pub parts : text ≡ 95 ∷ 58 ∷ label
   pub right : is_label label ≡ true
   pub utf8 : bytes ≡ encode_utf8_all label
 
--- LANGTAG ::= '@' and a tag; tags are kept in lower case (our own rule)
+-- [144s] LANGTAG ::= '@' and a tag; that tags are kept in lower case is a rule of this project
 pub record IsLangTag (text bytes : List ℕ) : Type 0 where
   pub tag : List ℕ
   pub parts : text ≡ 64 ∷ tag

@@ -12,16 +12,16 @@ pub struct DeviceFailed;
 
 /// What bytes are read from.
 ///
-/// A source may tell two things to contracts: the bytes that it has left, and how many of its
-/// calls failed. What it does not tell is `None`, and then nothing is said of it.
+/// A source may expose two things to contracts: the bytes that it has left, and how many of its
+/// calls failed. What it does not expose is `None`, and contracts say nothing of it.
 pub trait Source {
-    /// The bytes that are left, where they are told.
+    /// The bytes that are left, if they are exposed.
     ghost left: { Self → Option (List ℕ) };
 
-    /// How many calls failed, where it is told.
+    /// How many calls failed, if the count is exposed.
     ghost failures: { Self → Option ℕ };
 
-    /// Puts the next bytes at the front of the buffer, and answers how many these are: never more
+    /// Puts the next bytes at the front of the buffer, and returns how many these are: never more
     /// than the buffer holds, and into a buffer that is not empty 0 only at the end.
     ///
     /// # Errors
@@ -35,19 +35,19 @@ pub trait Source {
 
 /// What bytes are written to.
 ///
-/// A sink may tell three things to contracts: the bytes that it holds, how many of its calls
+/// A sink may expose three things to contracts: the bytes that it holds, how many of its calls
 /// failed, and what a call may answer and leave.
 pub trait Sink {
-    /// The bytes that were written, where they are told.
+    /// The bytes that were written, if they are exposed.
     ghost held: { Self → Option (List ℕ) };
 
-    /// How many calls failed, where it is told.
+    /// How many calls failed, if the count is exposed.
     ghost failures: { Self → Option ℕ };
 
-    /// What a write of these bytes may answer and leave. Where it is not told, anything.
+    /// What a write of these bytes may return, and the sink after it. If it is not exposed, anything.
     ghost write_gives: { Self → List ℕ → Result ℕ DeviceFailed → Self → Type 0 } = { λ _ _ _ _. Unit {0} };
 
-    /// Takes bytes from the front of the text, and answers how many. It may take none.
+    /// Takes bytes from the front of the text, and returns how many. It may take none.
     ///
     /// # Errors
     /// `DeviceFailed`: the sink failed. No byte was taken, and the count of failures rose by one
@@ -59,8 +59,8 @@ pub trait Sink {
         ensures gives { write_gives self.old bytes.now result self.new };
 }
 
-/// A reader or a writer of std as a device. It tells the bytes that the reader or the writer
-/// tells, and no count of failures. Any error of theirs is `DeviceFailed`.
+/// A reader or a writer of std as a device. It exposes the bytes that the reader or the writer
+/// exposes, and no count of failures. Any error of theirs is `DeviceFailed`.
 #[derive(Drop)]
 pub struct Device<T> {
     pub inner: T,

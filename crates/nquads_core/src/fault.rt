@@ -6,21 +6,21 @@ ghost use Rattle.nquads_core.specs.declared.fault.PieceFault.TheVariants as piec
 
 use std::alloc::{AllocError, AllocFailed};
 
-/// Why [`read_line`](crate::read_line) gives no answer.
+/// Why [`read_line`](crate::read_line) returns nothing.
 #[derive(Clone, Copy, Debug, PartialEq, Eq)]
 pub enum LineFault {
-    /// The line spells nothing.
+    /// The line is malformed.
     Bad,
-    /// A growth was refused. It says nothing of the line.
+    /// Out of memory.
     Memory,
 }
 
-/// Why [`read_piece`](crate::read_piece) gives no answer.
+/// Why [`read_piece`](crate::read_piece) returns nothing.
 #[derive(Clone, Copy, Debug, PartialEq, Eq)]
 pub enum PieceFault {
-    /// The first line that spells nothing, counted from 0 in the piece.
+    /// The first malformed line, counted from 0 in the piece.
     BadLine(u64),
-    /// A growth was refused. It says nothing of the piece.
+    /// Out of memory.
     Memory,
 }
 

@@ -3,7 +3,7 @@
 
 ghost use Rattle.nquads_core.specs.Laws.{LinesJoin, LinesReadBack, OneMeaning, QuadsReadBack, ReadsBack};
 
-/// A line spells at most one thing.
+/// A line has at most one meaning: one quad, or no statement.
 pub fn one_meaning()
     ensures law { OneMeaning }
 {}
@@ -14,13 +14,13 @@ pub fn lines_join()
     ensures law { LinesJoin }
 {}
 
-/// A term of a quad that some line spells is read back from its spelling, as the object of a line.
+/// A term of the quad of some line round-trips through its N-Quads form as the object of a line.
 pub fn reads_back()
     ensures law { ReadsBack }
 {}
 
 /// A quad round-trips through its N-Quads form: its terms as `write_term` writes them, with a space after each, and
-/// a dot. This holds for every subject, predicate, object and graph name that lines can spell, and so for the quad
+/// a dot. This holds for every subject, predicate, object and graph name that lines can hold, and so for the quad
 /// of every line.
 pub fn quads_read_back()
     ensures quads { QuadsReadBack }

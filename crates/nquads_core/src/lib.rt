@@ -1,14 +1,14 @@
 //! N-Quads: from the bytes of a document to its quads, and the devices that bytes come from and go
 //! to.
 //!
-//! [`read_piece`] takes whole lines of a document and gives their quads in order, or the first line
-//! that spells nothing. The crates above use its clauses `quads`, `lines` and `bad_line`.
+//! [`read_piece`] takes whole lines of a document and returns their quads in order, or the first malformed
+//! line. The crates above use its clauses `quads`, `lines` and `bad_line`.
 //! [`split_piece`] only splits the statements into slices of the document, and [`read_term`] reads the
 //! term of a slice; these two are sound, and `read_piece` reads what they do not accept.
 //!
-//! Standard: RDF 1.1 N-Quads (Recommendation of 2014), grammar, with four rules of our own: a CR that
-//! no LF follows ends a line too; an IRI has a scheme, and no escape in it names a character that
-//! could not stand there raw; a line with a byte order mark is bad; tags are kept in lower case.
+//! Standard: RDF 1.1 N-Quads (Recommendation of 2014), grammar, with four rules of this project: a CR that
+//! no LF follows ends a line too; an IRI has a scheme, and no escape in it names a character that may not
+//! occur there without an escape; a line with a byte order mark is malformed; tags are kept in lower case.
 //!
 //! To read in this order: `fault`, `token` (the terminals), `statement` (the productions), `line`,
 //! `piece`, `slices`, `raw_term`, `laws`; and apart from these `device` and `transfer`.
@@ -16,7 +16,7 @@
 //! ```text
 //! let piece = read_piece(alloc, b"<http://e/a> <http://e/p> \"x\"@en-GB.\n")?;
 //! ```
-//! gives one quad and one line; the tests read such tables of lines.
+//! returns one quad and one line. The crates `line_tests` and `loading_tests` run tables of lines like this one.
 //!
 //! Not promised: full checking of IRIs, or that a language tag is registered.
 #![tactic(auto)]

@@ -11,13 +11,13 @@ use memchr::memchr2;
 use rdf_core::Quad;
 use std::alloc::Global;
 
-/// Reads one line of an N-Quads document, given without its line end (RDF 1.1 N-Quads, grammar).
+/// Reads one line of an N-Quads document, given without its line end (RDF 1.1 N-Quads, [2] `statement`).
 ///
-/// Ok is the quad that the line spells, or None for blanks and perhaps a comment.
+/// Ok is the quad of the line's statement, or None for blanks and perhaps a comment.
 ///
 /// # Errors
-/// - `Bad`: the line spells nothing. A line that is not UTF-8, or that holds LF or CR, is one.
-/// - `Memory`: a growth was refused. It says nothing of the line.
+/// - `Bad` if the line is malformed. A line that is not UTF-8, or that contains LF or CR, is malformed.
+/// - `Memory` if an allocation fails.
 pub fn read_line(alloc: Global, line: &[u8]) -> Result<Option<Quad>, LineFault>
     ensures spells { IfOk result (λ quad. Spells line.now (option_map parts_of quad)) }
     ensures bad { (result ≡ Err Bad) → IsBad line.now }

@@ -98,7 +98,7 @@ fn whole_term(alloc: Global, raw: &str) -> Result<Term, LineFault>
 }
 
 /// Reads the term that a slice of a line denotes: an IRI, a blank node label, or a literal with its
-/// language tag or datatype, with no blank before, inside or after it (RDF 1.1 N-Quads, grammar).
+/// language tag or datatype, with no blank before, inside or after it (RDF 1.1 N-Quads, [5] `object`).
 ///
 /// `None` if the slice is not exactly one such term.
 ///

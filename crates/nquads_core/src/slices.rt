@@ -149,13 +149,13 @@ fn add_line<'a>(line: &'a str, statements: &mut Vec<RawStatement<'a>>) -> Result
 }
 
 /// Splits a piece of an N-Quads document into the slices of its statements, in order, with repeats (RDF
-/// 1.1 N-Quads, grammar). A line without a statement has no slices.
+/// 1.1 N-Quads, [1] `nquadsDoc`). A line without a statement has no slices.
 ///
-/// If each slice denotes a term that is allowed at its place, the lines of the piece spell the quads of
+/// If each slice denotes a term that is allowed at its place, the lines of the piece hold the quads of
 /// these terms: [`read_piece`](crate::read_piece) would read the same quads.
 ///
 /// `None` if the piece is not UTF-8, contains a CR, or has a line that is not a blank line, a comment, or
-/// a statement with one space after each term. Such a piece may be valid; read it with `read_piece`.
+/// a statement with one space after each term. The piece may still be valid; read it with `read_piece`.
 ///
 /// # Errors
 /// `AllocError` if an allocation fails.

@@ -1,4 +1,4 @@
-//! The statement of a line: a function a production (RDF 1.1 N-Quads, grammar).
+//! The statement of a line: a function for each production (RDF 1.1 N-Quads, grammar).
 
 ghost use Rattle.std.specs.Prelude.{◌≡◌, [], ◌∷◌, Option, Some, None, true, IfSome, option_map, MatchResult, IfOk, string_bytes};
 ghost use Rattle.std.specs.Str.{chars};
@@ -47,7 +47,7 @@ pub fn rdf_lang_string(alloc: Global) -> Result<Text, AllocError>
     Ok(Text::from_string(String::from_str(alloc, RDF_LANG_STRING)?))
 }
 
-/// A literal, the first terminal behind it, and what follows that.
+/// A literal, the first terminal after it, and what follows that ([7] `literal`).
 fn literal_of(
     alloc: Global,
     lexical: Text,
@@ -92,7 +92,7 @@ fn literal_of(
     }
 }
 
-/// An object, the first terminal behind it, and what follows that.
+/// An object, the first terminal after it, and what follows that ([5] `object`).
 fn object_of(
     alloc: Global,
     object: Token,
@@ -109,7 +109,7 @@ fn object_of(
     }
 }
 
-/// The graph label where there is one, and what follows the dot.
+/// The graph label if there is one, and what follows the dot ([6] `graphLabel`).
 fn graph_of(alloc: Global, token: Token, rest: &str) -> Result<(Option<Term>, &str), LineFault>
     ensures found { Gives (λ x. (x.0, chars x.1.now)) result (graph_of (token_view token, chars rest.now)) }
     ensures name { IfOk result (λ x. is_graph_name x.0 ≡ true) }
@@ -142,7 +142,7 @@ fn graph_of(alloc: Global, token: Token, rest: &str) -> Result<(Option<Term>, &s
     }
 }
 
-/// The quad of a text that holds a statement.
+/// The quad of a text that holds a statement ([2] `statement`).
 #[tactic(auto, unfolding(crate::specs::Reading::statement_at))]
 fn statement(alloc: Global, text: &str) -> Result<Quad, LineFault>
     ensures { Gives (λ q. Some (parts_of q)) result (statement_at (chars text.now)) }
@@ -170,7 +170,7 @@ fn statement(alloc: Global, text: &str) -> Result<Quad, LineFault>
     })
 }
 
-/// The quad of a text, or None where nothing but blanks and a comment stands there.
+/// The quad of a text, or None if it has nothing but blanks and a comment.
 #[tactic(auto, unfolding(crate::specs::Reading::line_at))]
 pub fn read_text(alloc: Global, text: &str) -> Result<Option<Quad>, LineFault>
     ensures { Gives (λ q. option_map parts_of q) result (line_at (chars text.now)) }

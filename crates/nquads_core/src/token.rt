@@ -17,7 +17,7 @@ use rdf_core::lexical::{
 };
 use std::alloc::Global;
 
-/// A terminal, with what it stands for.
+/// A terminal, with what it denotes.
 #[derive(Debug, Drop)]
 pub enum Token {
     Iri(Text),
@@ -34,7 +34,7 @@ fn is_blank(c: char) -> bool
     c == ' ' || c == '\t'
 }
 
-/// What stands before `rest`, with which the text ends.
+/// The part of the text before `rest`, with which the text ends.
 fn text_before<'a>(text: &'a str, rest: &str) -> &'a str
     requires { (front : List ℕ) × (text.now ≡ front ++ rest.now) }
     ensures { text.now ≡ result.now ++ rest.now }
@@ -56,7 +56,7 @@ pub fn skip_blanks(text: &str) -> &str
     rest
 }
 
-/// What follows a label, behind its first character.
+/// What follows a label, after its first character.
 fn skip_label_tail(text: &str) -> &str
     ensures { chars result.now ≡ (label_tail_at (chars text.now)).1 }
 {
@@ -75,7 +75,7 @@ fn skip_label_tail(text: &str) -> &str
     good
 }
 
-/// Behind `_:`: the label, and what follows it.
+/// After `_:`: the label, and what follows it ([141s] `BLANK_NODE_LABEL`).
 fn read_label(alloc: Global, text: &str) -> Result<(Text, &str), LineFault>
     ensures { Gives (λ x. (x.0, chars x.1.now)) result (label_at (chars text.now)) }
 {
@@ -112,7 +112,7 @@ fn is_subtag_char(c: char, after: &str) -> bool
     c.is_ascii_alphanumeric() || is_hyphen(c, after)
 }
 
-/// What follows the subtags, behind a character of one.
+/// What follows the subtags, after a character of one.
 fn skip_subtags(text: &str) -> &str
     ensures { chars result.now ≡ (subtags_at (chars text.now)).1 }
 {
@@ -143,7 +143,7 @@ fn skip_tag(text: &str) -> &str
     rest
 }
 
-/// Behind `@`: the tag in lower case, and what follows it.
+/// After `@`: the tag in lower case, and what follows it ([144s] `LANGTAG`).
 fn read_tag(alloc: Global, text: &str) -> Result<(Text, &str), LineFault>
     ensures { Gives (λ x. (x.0, chars x.1.now)) result (tag_at (chars text.now)) }
 {
@@ -158,7 +158,7 @@ fn read_tag(alloc: Global, text: &str) -> Result<(Text, &str), LineFault>
     Ok((tag, rest))
 }
 
-/// Behind `<`: the IRI, which has a scheme, and what follows the `>`.
+/// After `<`: the IRI, which has a scheme, and what follows the `>` ([10] `IRIREF`).
 fn read_iri(alloc: Global, text: &str) -> Result<(Text, &str), LineFault>
     ensures value { Gives (λ x. (x.0, chars x.1.now)) result (iri_at (chars text.now)) }
 {
@@ -174,7 +174,7 @@ fn read_iri(alloc: Global, text: &str) -> Result<(Text, &str), LineFault>
     }
 }
 
-/// Behind a quote: the string, and what follows the closing quote.
+/// After a quote: the string, and what follows the closing quote ([11] `STRING_LITERAL_QUOTE`).
 fn read_string(alloc: Global, text: &str) -> Result<(Text, &str), LineFault>
     ensures value { Gives (λ x. (x.0, chars x.1.now)) result (string_at (chars text.now)) }
 {
@@ -239,7 +239,7 @@ pub fn token_at(alloc: Global, text: &str) -> Result<(Token, &str), LineFault>
     token_from(alloc, c, after)
 }
 
-/// The next terminal, behind blanks, and what follows it.
+/// The next terminal, after blanks, and what follows it.
 pub fn next_token(alloc: Global, text: &str) -> Result<(Token, &str), LineFault>
     ensures { Gives (λ x. (token_view x.0, chars x.1.now)) result (next (chars text.now)) }
 {

@@ -17,8 +17,8 @@ pub enum ReadFault {
 /// All bytes that the reader has left.
 ///
 /// # Errors
-/// - `Read`: the reader failed in this call. Bytes before that may have been taken from it.
-/// - `Memory`: a growth was refused. Bytes may have been taken from the reader.
+/// - `Read` if the reader fails in this call. Bytes before that may have been taken from it.
+/// - `Memory` if an allocation fails. Bytes may have been taken from the reader.
 pub fn read_to_end<S: Source>(alloc: Global, reader: &mut S) -> Result<Vec<u8>, ReadFault>
     ensures bytes { IfOk result (λ bytes. Consumes (S.left reader.old) (S.left reader.new) bytes.items) }
     ensures at_end { OnOk result (IsAtEnd (S.left reader.new)) }
@@ -35,11 +35,11 @@ pub fn read_to_end<S: Source>(alloc: Global, reader: &mut S) -> Result<Vec<u8>, 
     }
 }
 
-/// Appends what one read gives, and answers how many bytes that are: 0 only at the end.
+/// Appends the bytes of one read, and returns how many there are: 0 only at the end.
 ///
 /// # Errors
-/// - `Read`: the reader failed in this call. `bytes` is unchanged.
-/// - `Memory`: a growth was refused. `bytes` is unchanged, and bytes may have been taken from the
+/// - `Read` if the reader fails in this call. `bytes` is unchanged.
+/// - `Memory` if an allocation fails. `bytes` is unchanged, and bytes may have been taken from the
 ///   reader.
 pub fn read_more<S: Source>(reader: &mut S, bytes: &mut Vec<u8>) -> Result<usize, ReadFault>
     ensures more { IfOk result
@@ -58,7 +58,7 @@ pub fn read_more<S: Source>(reader: &mut S, bytes: &mut Vec<u8>) -> Result<usize
     Ok(n)
 }
 
-/// Writes the whole text, by as many writes as the writer wants.
+/// Writes the whole text, by as many writes as the writer needs.
 ///
 /// # Errors
 /// `DeviceFailed`: the writer failed in this call, or took no byte of a text that was not empty. Where
