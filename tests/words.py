@@ -22,8 +22,9 @@ ROOT = os.path.dirname(os.path.dirname(os.path.abspath(__file__)))
 CLEAN = [
     "CHANGELOG.md", "CONTRIBUTING.md", "bench/*.md", "docs/COMPARISON.md", "docs/CONTRACTS.md", "docs/COST.md", "docs/DECISIONS.md", "docs/DEFINITIONS.md",
     "docs/RECIPES.md", "docs/THEOREM.md", "docs/USAGE.md", "docs/decisions/*.md", "docs/definitions/*.md",
-    "crates/algebra_model/*", "crates/line_tests/*", "crates/loading_tests/*", "crates/piece_board/*", "crates/result_json/*", "crates/row_core/*",
-    "crates/row_join/*", "crates/row_pattern/*", "crates/row_tests/*", "crates/sparql_tree/*", "crates/spq_command/*",
+    "crates/algebra_model/*", "crates/line_tests/*", "crates/loading_tests/*", "crates/piece_board/*", "crates/program_tests/*",
+    "crates/query_warnings/*", "crates/report_tests/*", "crates/result_json/*", "crates/row_core/*", "crates/row_join/*", "crates/row_pattern/*",
+    "crates/row_tests/*", "crates/sparql_tree/*", "crates/spq/*", "crates/spq_command/*", "crates/spq_core/*", "crates/spq_report/*",
     "bench/*.c", "bench/*.py", "bench/*.rs", "bench/*.sh", "tests/*.c", "tests/*.py", "tests/*.sh",
 ]
 # Each private word, as a regular expression, and what to write.

@@ -70,7 +70,7 @@ fn answered<R: Threads + Wait + RandomSource + Print>(
     Some(by_lines(rt, alloc, doc, query, workers, gate))
 }
 
-/// Whether a query has this outcome, at once or at a second try, and then each piece that entered the gate has left
+/// Whether a query has this result, at once or at a second try, and then each piece that entered the gate has left
 /// it.
 fn comes_to<R: Threads + Wait + RandomSource + Print>(
     rt: &R,
@@ -91,7 +91,7 @@ fn comes_to<R: Threads + Wait + RandomSource + Print>(
     is_wanted && gate.is_balanced()
 }
 
-/// Whether a query has this outcome with one worker and with two.
+/// Whether a query has this result with one worker and with two.
 fn has_outcome<R: Threads + Wait + RandomSource + Print>(
     rt: &R,
     alloc: Global,

@@ -1,4 +1,4 @@
-//! That workers run at the same time, and that no outcome depends on which of them was first.
+//! That workers run at the same time, and that no result depends on which of them was first.
 ghost use Rattle.std.specs.Prelude.{◌≤◌};
 
 use super::asking::json;
@@ -129,7 +129,7 @@ fn load_fault<R: Threads + Wait + RandomSource>(
     Ok(load(rt, alloc, doc, &cuts, workers, gate).err())
 }
 
-/// Whether line 3 is named where line 4 is found first, when the document is loaded and when a query is answered.
+/// Whether line 3 is named where line 4 is found first, when the document is loaded and when a query is evaluated.
 fn names_line_3<R: Threads + Wait + RandomSource>(
     rt: &R,
     alloc: Global,
