@@ -7,17 +7,17 @@
 //! its own shows how far a long run is.
 #![tactic(auto)]
 
+use nquads_core::{Sink, Source};
 use spq_core::{Notes, Ran, RunFault, finish, run_words};
-use spq_report::{Account, Console, Input, NoMeter, Output, Terminals, report};
+use spq_report::{Account, Console, Input, Meter, NoMeter, Output, Terminals, report};
+use std::alloc::Global;
 use std::io::{ErrorKind, IsTerminal, Stderr, Stdin, Stdout};
 use std::process::ExitCode;
+use std::random::RandomSource;
+use std::sync::Wait;
+use std::thread::Threads;
+use std::time::Clock;
 use std::{env, thread};
-
-/// The console of the program.
-type Shown = Console<HostRuntime, HostRuntime, Stderr>;
-
-/// The result of the words over the devices of the program.
-type RanHere<'m> = Ran<Input<'m, Stdin, Shown>, Output<'m, Stdout, Shown>>;
 
 /// The words of the command line.
 fn words_of(rt: &HostRuntime) -> Result<Vec<String>, RunFault> {
@@ -61,7 +61,12 @@ fn end_without_words(rt: &HostRuntime, fault: RunFault, terminals: Terminals) ->
 }
 
 /// Ends a program whose words were run.
-fn end(rt: &HostRuntime, words: &[String], ran: &mut RanHere<'_>, terminals: Terminals) -> u8 {
+fn end<M: Meter>(
+    rt: &HostRuntime,
+    words: &[String],
+    ran: &mut Ran<Input<'_, Stdin, M>, Output<'_, Stdout, M>>,
+    terminals: Terminals,
+) -> u8 {
     let write_error = ran.writer.error;
     let status = finish(&ran.done, &mut ran.writer);
     let account = Account {
@@ -75,22 +80,27 @@ fn end(rt: &HostRuntime, words: &[String], ran: &mut RanHere<'_>, terminals: Ter
     status
 }
 
-/// Runs words over the devices of the program.
-fn run_here<'m>(rt: &HostRuntime, words: &[String], console: &'m Shown) -> RanHere<'m> {
-    let reader = Input::new(rt.stdin(), console);
-    let writer = Output::new(rt.stdout(), console);
-    let ran = run_words(rt, rt.alloc(), words, reader, writer, console);
-    console.end();
-    ran
-}
-
-/// Runs words as `run_here` does. At a terminal, a thread of its own shows how far the run is, if it can be started.
-fn run_watched<'m>(rt: &HostRuntime, words: &[String], console: &'m Shown) -> RanHere<'m> {
-    thread::scope(thread::scope_env(), rt, |scope| {
+/// Runs words. At a terminal, a thread of its own shows how far the run is, if it can be started.
+fn run_watched<
+    'r,
+    R: Threads + Wait + RandomSource + Clock + Sync,
+    S: Source + Send + Drop,
+    K: Sink + Send + Drop,
+>(
+    rt: &'r R,
+    alloc: Global,
+    words: &[String],
+    reader: S,
+    writer: K,
+    console: &Console<&'r R, &'r R, Stderr>,
+) -> Ran<S, K> {
+    thread::scope(thread::scope_env(), rt, move |scope| {
         if console.is_watched() {
-            let _watch = scope.spawn(|| console.watch(rt));
+            let _watch = scope.spawn(move || console.watch(rt));
         }
-        run_here(rt, words, console)
+        let ran = run_words(rt, alloc, words, reader, writer, console);
+        console.end();
+        ran
     })
 }
 
@@ -100,7 +110,9 @@ fn main(rt: HostRuntime) -> ExitCode {
         Ok(words) => words,
         Err(fault) => return ExitCode::from(end_without_words(&rt, fault, terminals)),
     };
-    let console = Console::new(rt, rt, rt.stderr(), terminals);
-    let mut ran = run_watched(&rt, &words, &console);
+    let console = Console::new(&rt, &rt, rt.stderr(), terminals);
+    let reader = Input::new(rt.stdin(), &console);
+    let writer = Output::new(rt.stdout(), &console);
+    let mut ran = run_watched(&rt, rt.alloc(), &words, reader, writer, &console);
     ExitCode::from(end(&rt, &words, &mut ran, terminals))
 }

@@ -44,7 +44,7 @@ impl<'m, T, M> Input<'m, T, M> {
     /// Returns a source that has had no error.
     pub fn new(inner: T, meter: &'m M) -> Input<'m, T, M>
         ensures inner { result.inner ≡ inner }
-        ensures meter { result.meter ≡ meter }
+        ensures meter { result.meter.now ≡ meter.now }
         ensures error { result.error ≡ None }
         ensures open { result.is_over ≡ false }
     {
@@ -97,7 +97,7 @@ impl<'m, T, M> Output<'m, T, M> {
     /// Returns a sink that has had no error.
     pub fn new(inner: T, meter: &'m M) -> Output<'m, T, M>
         ensures inner { result.inner ≡ inner }
-        ensures meter { result.meter ≡ meter }
+        ensures meter { result.meter.now ≡ meter.now }
         ensures error { result.error ≡ None }
     {
         Output {
