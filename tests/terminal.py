@@ -11,6 +11,11 @@ import tty
 CLEAR = "\r\x1b[K"
 
 
+def left_of(shown):
+    """What is left at a terminal that showed this: of each line what follows the last time that it was cleared."""
+    return "\n".join(line.rpartition(CLEAR)[2] for line in shown.split("\n"))
+
+
 class Terminal:
     """A pseudo-terminal and what it has shown. It passes each byte on as it is, and reads input line by line."""
 

@@ -99,7 +99,7 @@ def run(page, found, spq):
         script += "".join(f"echo '{MARK}'\n{command.text}\n" for command in found)
         words = dict(os.environ, PATH=os.path.join(room, "bin") + os.pathsep + os.environ["PATH"], HOME=room)
         shown = terminal.run(["bash"], lambda source, _: source.write(script.encode()), ("output", "error"), cwd=place, env=words)[1]
-    parts = shown.decode(errors="replace").split(MARK + "\n")[1:]
+    parts = terminal.left_of(shown.decode(errors="replace")).split(MARK + "\n")[1:]
     if len(parts) != len(found):
         sys.exit(f"{page}: {len(parts)} of {len(found)} commands ran")
     for command, printed in zip(found, parts):
