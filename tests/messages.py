@@ -10,14 +10,14 @@ Python 3 standard library, and cc for two cases that replace calls of the C libr
 """
 import argparse
 import os
-import pty
+import re
 import resource
-import select
 import subprocess
 import sys
 import tempfile
-import termios
-import tty
+import time
+
+import terminal
 
 HERE = os.path.dirname(os.path.abspath(__file__))
 ROOT = os.path.dirname(HERE)
@@ -29,6 +29,10 @@ Usage: spq select --query TEXT [--rows N] [--workers N] [--piece BYTES] < FILE
        spq terms [--workers N] [--piece BYTES] < FILE
 
 For more information, try '--help'.
+"""
+NO_QUERY_THREAD = """error: worker
+spq: the thread of the query could not be started
+hint: see the limits of the system on threads and memory: ulimit -u, ulimit -v
 """
 
 
@@ -43,6 +47,106 @@ class Case:
 def failed(name, words, given, status, line, said, **how):
     """A run that ends with this line on standard output, which standard error has again."""
     return Case(name, words, given, status, line + "\n", None if said is None else line + "\n" + said, **how)
+
+
+# Malformed lines: the line, the column of its place, the reason, and the hint if there is one. The column is that of the
+# first character that no line of the grammar can have there (RDF 1.1 N-Quads, section 4).
+TURTLE = "this looks like Turtle; N-Quads has no prefixes and no abbreviations: write each term in full"
+CUT_OFF = "the document ends inside its last line: truncated?"
+LINES = [
+    ('"x" <a:p> <a:o> .', 1, "a subject must be an IRI or a blank node, found a literal", None),
+    ('<a:s> "x" <a:o> .', 7, "a predicate must be an IRI, found a literal", None),
+    ("<a:s> _:p <a:o> .", 7, "a predicate must be an IRI, found a blank node", None),
+    ("<a:s> <a:p> .", 13, "missing object: expected an IRI, a blank node or a literal, found '.'", None),
+    ("<a:s> <a:p> <a:o>", 18, "missing '.' at the end of the statement", None),
+    ("<a:s> <a:p> <a:o> . <a:s>", 21, "text after the '.' that ends the statement: found an IRI", None),
+    ("<a:s> <a:p> <a:o", 17, "the IRI is not closed: expected '>', found the end of the line", None),
+    ('<a:s> <a:p> "abc .', 19, "the literal is not closed: expected '\"', found the end of the line", "write a line break inside a literal as \\n"),
+    ('<a:s> <a:p> "a\\qb" .', 16, "unknown escape: found 'q' after '\\'", "write a backslash as \\\\ in a literal, and as %5C in an IRI"),
+    ('<a:s> <a:p> "\\uD800" .', 17, "this escape is for a surrogate (U+D800 to U+DFFF), which is no character", None),
+    ("<http://e/a b> <a:p> <a:o> .", 12, "a space is not allowed in an IRI", "write a space in an IRI as %20"),
+    ("<a:\\u0020> <a:p> <a:o> .", 9, "this escape is for a character that is not allowed here in an IRI", None),
+    ("</s> <a:p> <a:o> .", 2, "an IRI must begin with a scheme, such as 'http:', found '/'",
+     "N-Quads has no relative IRIs: write the whole IRI, as <http://example.org/name>"),
+    ('<a:s> <a:p> "x"@1 .', 17, "a language tag must begin with a letter, found '1'", None),
+    ("_:-a <a:p> <a:o> .", 3, "a blank node label must begin with a letter, a digit, '_' or ':', found '-'", None),
+    ('<a:s> <a:p> "x"^^ .', 19, "expected a datatype (an IRI) after '^^', found '.'", None),
+    ("@prefix e: <http://e/> .", 1, "expected a subject (an IRI or a blank node), found '@'", TURTLE),
+    ("@base <http://e/> .", 1, "expected a subject (an IRI or a blank node), found '@'", TURTLE),
+    ("PREFIX e: <http://e/>", 1, "expected a subject (an IRI or a blank node), found 'P'", TURTLE),
+    ("e:s <a:p> <a:o> .", 1, "expected a subject (an IRI or a blank node), found 'e'", TURTLE),
+    ("<a:s> e:p <a:o> .", 7, "expected a predicate (an IRI), found 'e'", TURTLE),
+    ("<a:s> <a:p> e:o .", 13, "expected an object (an IRI, a blank node or a literal), found 'e'", TURTLE),
+    ("<< <a:s> <a:p> <a:o> >> <a:p> <a:o> .", 2, "'<<': quoted triples (RDF-star) are not supported", None),
+]
+# Bytes that are no line of text: the bytes, the place, the reason, what is shown of them, and the hint.
+BYTES = [
+    (b'<a:s> <a:p> "caf\xe9" .\n', "byte 17", "invalid UTF-8: byte 0xE9", '<a:s> <a:p> "caf\ufffd" .\n                ^',
+     "if the input is Latin-1, convert it: iconv -f LATIN1 -t UTF-8 FILE | spq check"),
+    (b"\xef\xbb\xbf<a:s> <a:p> <a:o> .\n", "column 1", "a byte order mark (U+FEFF) at the beginning of a line",
+     "\ufffd<a:s> <a:p> <a:o> .\n^", "leave the mark out: tail -c +4 FILE | spq check"),
+    (b"\xff\xfe<\0a\0:\0s\0>\0\n\0", "byte 1", "the input looks like UTF-16; N-Quads is UTF-8",
+     "\ufffd\ufffd<\u2400a\u2400:\u2400s\u2400>\u2400\n^", "convert it: iconv -f UTF-16 -t UTF-8 FILE | spq check"),
+    (b"\x1f\x8b\x08\0\n", "byte 1", "the input looks like gzip", "\u241f\ufffd\u2408\u2400\n^", "unpack it: zcat FILE | spq check"),
+    (b"\xfd7zXZ\0\n", "byte 1", "the input looks like xz", "\ufffd7zXZ\u2400\n^", "unpack it: xzcat FILE | spq check"),
+    (b"\x28\xb5\x2f\xfd\0\n", "byte 1", "the input looks like zstd", "(\ufffd/\ufffd\u2400\n^", "unpack it: zstdcat FILE | spq check"),
+]
+# Rejected queries: the query, the column of its place, the reason, and the hint. The place is the first terminal after
+# which no query goes on (SPARQL 1.1 Query Language, section 19.8), and for the other rules the terminal that breaks one.
+VERB = "expected a verb (an IRI, a prefixed name, a variable or 'a'), found "
+TERM = "expected a term (an IRI, a prefixed name, a variable, a blank node or a literal), found "
+ITEM = "expected a term (an IRI, a prefixed name, a variable, a blank node or a literal), '{', '}' or a pattern (such as OPTIONAL or FILTER), found "
+OPERATOR = "expected an operator (such as '=' or '&&') or ')', found "
+AFTER_GROUP = "expected LIMIT, OFFSET or the end of the query, found "
+COUNTS = "COUNT, GROUP BY and other aggregates are not supported; select the rows and count them, for instance with jq '.results.bindings | length'"
+PATHS = "property paths are not supported; write a path of fixed length as triples, as in ?x <p> ?y . ?y <q> ?z"
+FUNCTIONS = "REGEX and functions on strings, numbers and dates are not supported; select the values and filter the results, for instance with jq"
+ARITHMETIC = "arithmetic is not supported; select the values and compute with the results, for instance with jq"
+QUERIES = {
+    "error: query syntax": [
+        ("SELECT * { ?s }", 15, VERB + "'}'", None),
+        ("SELECT * { ?s ?p ?o } ORDER BY ?s", 23, AFTER_GROUP + "'ORDER'", "ORDER BY is not supported; rows are always ordered by the selected variables"),
+        ("SELECT (COUNT(*) AS ?n) { ?s ?p ?o }", 8, "expected a variable, '*' or DISTINCT, found '('", COUNTS),
+        ("SELECT ?s { ?s ?p ?o } GROUP BY ?s", 24, AFTER_GROUP + "'GROUP'", COUNTS),
+        ("SELECT * { ?s <a:p>/<a:q> ?o }", 20, TERM + "'/'", PATHS),
+        ("SELECT * { ?s <a:p>+ ?o }", 20, TERM + "'+'", PATHS),
+        ("SELECT * { ?s ^<a:p> ?o }", 15, VERB + "'^'", PATHS),
+        ("SELECT * { ?s (<a:p>|<a:q>) ?o }", 15, VERB + "'('", PATHS),
+        ('SELECT * { ?s ?p ?o FILTER REGEX(?o, "x") }', 28, "expected '(' or a function (such as BOUND), found 'REGEX'", FUNCTIONS),
+        ("SELECT * { ?s ?p ?o FILTER(STRLEN(?o) > 1) }", 28, "expected an expression, found 'STRLEN'", FUNCTIONS),
+        ("SELECT * { ?s ?p ?o FILTER(?o + 1 > 2) }", 31, OPERATOR + "'+'", ARITHMETIC),
+        ("SELECT * { ?s ?p ?o FILTER(?o * 2 > 2) }", 31, OPERATOR + "'*'", ARITHMETIC),
+        ("SELECT * FROM <a:g> { ?s ?p ?o }", 10, "expected '{' or WHERE, found 'FROM'",
+         "FROM is not supported; the dataset is standard input, and GRAPH <name> { .. } selects a graph"),
+        ("BASE <http://e/> SELECT * { ?s ?p ?o }", 1, "expected PREFIX or SELECT, found 'BASE'", "BASE is not supported; write whole IRIs, or declare a prefix"),
+        ("ASK { ?s ?p ?o }", 1, "expected PREFIX or SELECT, found 'ASK'", "ASK is not supported; write SELECT * { .. } LIMIT 1"),
+        ("CONSTRUCT { ?s ?p ?o } WHERE { ?s ?p ?o }", 1, "expected PREFIX or SELECT, found 'CONSTRUCT'",
+         "CONSTRUCT is not supported; write SELECT with the variables of the template"),
+        ("SELECT * { { SELECT ?s { ?s ?p ?o } } }", 14, ITEM + "'SELECT'", "subqueries are not supported; write the patterns of the subquery into the group"),
+        ("SELECT * { ?s ?p ?o FILTER EXISTS { ?s ?p ?q } }", 28, "expected '(' or a function (such as BOUND), found 'EXISTS'",
+         "EXISTS is not supported; write its pattern into the group, and SELECT DISTINCT"),
+        ("SELECT * { ?s ?p ?o FILTER NOT EXISTS { ?s ?p ?q } }", 28, "expected '(' or a function (such as BOUND), found 'NOT'",
+         "NOT EXISTS is not supported; write MINUS { .. }"),
+        ("SELECT * { ?s ?p ?o FILTER(?o<1900&&?o>1800) }", 30, OPERATOR + "'<1900&&?o>'", "this is read as an IRI; write a space after '<'"),
+    ],
+    "error: query prefix": [
+        ("SELECT * { ?s e:p ?o }", 15, "the prefix 'e:' is not declared", "declare it before SELECT, as in PREFIX ex: <http://example.org/>")],
+    "error: query relative iri": [
+        ("SELECT * { ?s <p> ?o }", 15, "the IRI '<p>' is relative: it has no scheme", "there is no BASE: write the whole IRI, as <http://example.org/name>")],
+    "error: query bind": [
+        ("SELECT * { ?s ?p ?o BIND(1 AS ?o) }", 31, "BIND to '?o', which the group already binds at line 1, column 18", "write another variable after AS")],
+    "error: query blank label": [
+        ("SELECT * { _:a ?p ?o { _:a ?q ?r } }", 24, "the blank node label '_:a' is in another basic graph pattern too, at line 1, column 12",
+         "write a variable in place of the label")],
+}
+
+
+def message(place, reason, shown, hint):
+    return f"spq: {place}: {reason}\n{shown}\n" + (f"hint: {hint}\n" if hint else "")
+
+
+def under(line, column):
+    return line + "\n" + " " * (column - 1) + "^"
 
 
 def query(name, text, line, said):
@@ -82,6 +186,30 @@ def lines():
     yield failed(
         "a long line with a late mistake", ["check"], long + b"\n", 1, "error: line 1",
         "spq: line 1: this is not a line of N-Quads\n")
+
+
+def reasons_of_lines():
+    """Each reason for a malformed line."""
+    for line, column, reason, hint in LINES:
+        yield failed(f"the line {line}", ["check"], line.encode() + b"\n", 1, "error: line 1",
+                     message(f"line 1, column {column}", reason, under(line, column), hint))
+    for given, place, reason, shown, hint in BYTES:
+        yield failed(f"the bytes {given}", ["check"], given, 1, "error: line 1", message(f"line 1, {place}", reason, shown, hint))
+    for line in ('<a:s> <a:p> "abc', "<a:s> <a:p> <a:o> <a:g>"):
+        reason = "the literal is not closed: expected '\"', found the end of the line" if '"' in line else "missing '.' at the end of the statement"
+        yield failed(f"the end of a document in {line}", ["check"], line.encode(), 1, "error: line 1",
+                     message(f"line 1, column {len(line) + 1}", reason, under(line, len(line) + 1), CUT_OFF))
+
+
+def reasons_of_queries():
+    """Each reason for a rejected query, and each hint for a feature that is left out."""
+    for line, table in QUERIES.items():
+        for text, column, reason, hint in table:
+            yield query(f"the query {text}", text, line, message(f"query, line 1, column {column}", reason, under(text, column), hint))
+    # The line is cut round the place: 39 brackets before it and 39 after it.
+    brackets = "SELECT * " + "{" * 101 + "}" * 101
+    yield query("101 brackets", brackets, "error: query depth", message(
+        "query, line 1, column 110", "brackets are nested over 100 deep at '{'", "\u2026" + "{" * 40 + "}" * 38 + "\u2026\n" + " " * 40 + "^", None))
 
 
 def queries():
@@ -126,15 +254,16 @@ def memory():
     """Allocations and threads that fail."""
     line = "error: memory"
     cost = "hint: docs/COST.md says how much memory a document and a query take\n"
+    stages = ["reading the command line", "reading the document", "sorting the document", "joining the rows of the query", "printing the result"]
+    yield Case("each allocation of a query", ["select", "--workers", "1", "--query", "SELECT ?o { ?s ?p ?o . ?s ?q ?o }"], STATEMENT, 4, line + "\n",
+               [f"{line}\nspq: out of memory while {stage}\n{cost}" for stage in stages], growths=True)
     many = b"".join(b"<http://e/%d> <http://e/p> \"%d\" .\n" % (n, n) for n in range(200000))
     yield failed("memory while a document is read", ["check", "--workers", "1"], many, 4, line,
                  "spq: out of memory while reading the document\n" + cost, memory=20 << 20)
     # Threads have stacks, which count.
     yield failed("a worker", ["check", "--workers", "64", "--piece", "1"], STATEMENT * 200, 4, "error: worker",
                  "spq: a thread could not be started: 64 workers were asked for\nhint: use --workers 1\n", start=1)
-    yield failed("the thread of a query", ["select", "--workers", "1", "--query", "SELECT * {}"], STATEMENT, 4, "error: worker",
-                 "spq: the thread of the query could not be started\n"
-                 "hint: see the limits of the system on threads and memory: ulimit -u, ulimit -v\n", start=1)
+    yield Case("the thread of a query", ["select", "--workers", "1", "--query", "SELECT * {}"], STATEMENT, 4, "error: worker\n", NO_QUERY_THREAD, start=1)
     yield failed("a rejected query where no thread starts", ["select", "--query", "SELECT"], STATEMENT, 2, "error: query syntax", None, start=1)
 
 
@@ -191,6 +320,8 @@ class Runner:
         words = dict(os.environ)
         if "start" in how:
             words.update(LD_PRELOAD=self.refusals, REFUSE_START=str(how["start"]))
+        if "growth" in how:
+            words.update(LD_PRELOAD=self.refusals, REFUSE_GROWTH=str(how["growth"]))
         output = subprocess.PIPE
         if how.get("output") == "closed":
             read, output = os.pipe()
@@ -207,10 +338,30 @@ class Runner:
                 os.close(1)
         ran = subprocess.run([self.program, *case.words], stdin=self.source(case), stdout=output, stderr=subprocess.PIPE,
                              env=words, preexec_fn=before, timeout=20)
-        return ran.returncode, ran.stdout or b"", ran.stderr.replace(b"refused\n", b"", 1) if "start" in how else ran.stderr
+        self.has_failed = "LD_PRELOAD" in words and b"refused\n" in ran.stderr
+        return ran.returncode, ran.stdout or b"", ran.stderr.replace(b"refused\n", b"", 1) if self.has_failed else ran.stderr
+
+    def wrong_of_allocations(self, case):
+        """What is wrong if the allocations of a run fail, one by one, until none is left to fail. (A run ends with status 0
+        if the allocation is for a warning. The start of a thread allocates, too.)"""
+        missing = set(case.said)
+        for growth in range(1, 5000):
+            status, printed, said = self.run(Case(case.name, case.words, case.given, 0, None, None, growth=growth))
+            if not self.has_failed:
+                return f"never said {missing}" if missing else ""
+            if status == 0:
+                continue
+            if status == 4 and said.decode() == NO_QUERY_THREAD:
+                continue
+            if (status, printed.decode()) != (case.status, case.printed) or said.decode() not in case.said:
+                return f"allocation {growth}: status {status}, standard output {printed!r}, standard error {said!r}"
+            missing.discard(said.decode())
+        return "no end of allocations"
 
     def wrong(self, case):
         """What is wrong of a case, or nothing."""
+        if "growths" in case.how:
+            return self.wrong_of_allocations(case)
         status, printed, said = self.run(case)
         printed, said = printed.decode(errors="replace"), said.decode(errors="replace")
         if status != case.status:
@@ -223,41 +374,96 @@ class Runner:
             return f"standard error\n{said[:1500]}\nhas not {case.how}"
         return ""
 
-    def at_a_terminal(self, words, typed):
-        """What a terminal shows of a run with all three devices at it."""
-        leader, follower = pty.openpty()
-        tty.setraw(follower)
-        attributes = termios.tcgetattr(follower)
-        attributes[3] |= termios.ICANON
-        termios.tcsetattr(follower, termios.TCSANOW, attributes)
-        process = subprocess.Popen([self.program, *words], stdin=follower, stdout=follower, stderr=follower, close_fds=True)
-        os.close(follower)
-        os.write(leader, typed)
-        shown = b""
-        while select.select([leader], [], [], 10)[0]:
-            try:
-                part = os.read(leader, 65536)
-            except OSError:
-                break
-            if not part:
-                break
-            shown += part
-        try:
-            status = process.wait(timeout=10)
-        except subprocess.TimeoutExpired:
-            process.kill()
-            status = process.wait()
-        os.close(leader)
-        return status, shown.decode(errors="replace")
+
+def begins_with(text):
+    return re.escape(text) + ".*"
 
 
-def terminal_cases(runner):
+def at_the_keyboard(program):
+    """Runs with all three devices at a terminal: the name, the words, what is typed, the status, and the pattern of
+    what is shown."""
     notice = "spq: N-Quads is read from the terminal; end it with Ctrl-D\n"
-    yield "a check", runner.at_a_terminal(["check"], STATEMENT + b"\x04"), (0, notice + "ok 1 quads 3 terms 0 graphs\n")
-    yield "a malformed line", runner.at_a_terminal(["check"], b".\n\x04"), (
-        1, notice + "error: line 1\nspq: line 1, column 1: expected a subject (an IRI or a blank node), found '.'\n.\n^\n")
-    yield "a rejected query", runner.at_a_terminal(["select", "--query", "SELECT"], b""), (
-        2, "error: query syntax\nspq: query, line 1, column 7: ")
+    cases = [
+        ("a check", ["check"], STATEMENT + b"\x04", 0, begins_with(notice + "ok 1 quads 3 terms 0 graphs\n")),
+        ("a malformed line", ["check"], b".\n\x04", 1, begins_with(
+            notice + "error: line 1\nspq: line 1, column 1: expected a subject (an IRI or a blank node), found '.'\n.\n^\n")),
+        ("a rejected query", ["select", "--query", "SELECT"], b"", 2, begins_with("error: query syntax\nspq: query, line 1, column 7: ")),
+    ]
+    for name, words, typed, status, pattern in cases:
+        def run(words=words, typed=typed):
+            return terminal.run([program, *words], None, ("input", "output", "error"), typed, 10)
+        yield "at a terminal, " + name, run, status, pattern, {}
+
+
+def slow(document):
+    """Gives a document, and its end once a line of progress is shown."""
+    def give(source, screen):
+        source.write(document)
+        source.flush()
+        screen.wait_for(b", reading")
+    return give
+
+
+def slow_blindly(source, _screen):
+    """Gives a document that takes more than a second."""
+    source.write(STATEMENT)
+    source.flush()
+    time.sleep(1.5)
+
+
+def progress(stages):
+    """The pattern of lines of progress that show these stages, and are cleared."""
+    lines = (f"({re.escape(terminal.CLEAR)}spq: 0 MB read, [0-9]+ statements a second, {stage})+" for stage in stages)
+    return "".join(lines) + re.escape(terminal.CLEAR)
+
+
+def with_progress(program):
+    """Runs of which standard error is a terminal and standard input is none."""
+    select = ["select", "--workers", "1", "--query", "SELECT ?o { ?s ?p ?o }"]
+    rows = '{"head":{"vars":["o"]},"results":{"bindings":[{"o":{"type":"uri","value":"http://e/b"}}]}}\n'
+    counts = "ok 1 quads 3 terms 0 graphs\n"
+    error, both = ("error",), ("output", "error")
+    four = progress(["reading", "indexing", "evaluating", "printing"])
+    three = progress(["reading", "indexing", "printing"])
+    cases = [
+        ("a query", select, slow(STATEMENT), error, 0, four, {"output": rows}),
+        ("a query with two workers", ["select", "--query", "SELECT ?o { ?s ?p ?o }"], slow(STATEMENT), error, 0, four, {"output": rows}),
+        ("a query that is shown at the terminal", select, slow(STATEMENT), both, 0, four + re.escape(rows), {}),
+        ("a check", ["check"], slow(STATEMENT), error, 0, three, {"output": counts}),
+        ("a check that is shown at the terminal", ["check"], slow(STATEMENT), both, 0, three + re.escape(counts), {}),
+        ("a malformed line", ["check"], slow(STATEMENT + b".\n"), both, 1,
+         progress(["reading", "indexing"]) + begins_with("error: line 2\nspq: line 2, column 1: "), {}),
+        ("a warning", ["select", "--query", "SELECT ?o ?x { ?s ?p ?o }"], slow(STATEMENT), error, 0,
+         four + re.escape("spq: warning: ?x is selected and occurs nowhere in the pattern\n"), {}),
+        ("a rejected query", ["select", "--query", "SELECT"], slow_blindly, both, 2, begins_with("error: query syntax\nspq: query, "), {}),
+        ("standard error is no terminal", select, slow_blindly, ("output",), 0, re.escape(rows), {"error": ""}),
+    ]
+    for name, words, give, at, status, pattern, pipes in cases:
+        def run(words=words, give=give, at=at):
+            return terminal.run([program, *words], give, at, seconds=30)
+        yield "progress, " + name, run, status, pattern, pipes
+
+    def run_fast():
+        # A run that takes more than a second on a busy machine may show a line.
+        for _ in range(5):
+            ran = terminal.run([program, "check"], lambda source, _: source.write(STATEMENT), both, seconds=30)
+            if ran[1].decode() == counts:
+                break
+        return ran
+    yield "progress, less than a second", run_fast, 0, re.escape(counts), {}
+
+
+def wrong_at_a_terminal(run, status, pattern, pipes):
+    """What is wrong of a run at a terminal, or nothing."""
+    ended, shown, came = run()
+    shown, came = shown.decode(errors="replace"), {name: text.decode(errors="replace") for name, text in came.items()}
+    if ended != status:
+        return f"status {ended}, not {status}; shown {shown[:500]!r}"
+    if not re.fullmatch(pattern, shown, re.S):
+        return f"shown\n{shown[:1500]!r}\nnot\n{pattern!r}"
+    if any(came[name] != text for name, text in pipes.items()):
+        return f"came {came}, not {pipes}"
+    return ""
 
 
 def main():
@@ -270,7 +476,7 @@ def main():
     count = bad = 0
     with tempfile.TemporaryDirectory() as room:
         runner = Runner(given.program, room)
-        for kind in (lines, queries, command_lines, devices, memory, warnings, silent):
+        for kind in (lines, reasons_of_lines, queries, reasons_of_queries, command_lines, devices, memory, warnings, silent):
             for case in kind():
                 if given.only not in case.name:
                     continue
@@ -279,13 +485,15 @@ def main():
                 if wrong:
                     bad += 1
                     print(f"{case.name}: {wrong}", flush=True)
-        for name, (status, shown), (wanted, begins) in terminal_cases(runner):
-            if given.only not in name:
-                continue
-            count += 1
-            if status != wanted or not shown.startswith(begins):
-                bad += 1
-                print(f"at a terminal, {name}: status {status}, not {wanted}\n{shown}\nnot\n{begins}")
+        for kind in (at_the_keyboard, with_progress):
+            for name, *case in kind(runner.program):
+                if given.only not in name:
+                    continue
+                count += 1
+                wrong = wrong_at_a_terminal(*case)
+                if wrong:
+                    bad += 1
+                    print(f"{name}: {wrong}", flush=True)
     print(f"{count - bad} of {count} cases say what they have to")
     sys.exit(1 if bad else 0)
 

@@ -15,14 +15,13 @@ reason that its row says. Python 3 standard library only.
 import argparse
 import glob
 import os
-import pty
 import re
 import shutil
 import subprocess
 import sys
 import tempfile
-import threading
-import tty
+
+import terminal
 
 HERE = os.path.dirname(os.path.abspath(__file__))
 ROOT = os.path.dirname(HERE)
@@ -47,33 +46,6 @@ def commands(lines):
         elif inside:
             found[-1].shown.append(line)
     return found
-
-
-def at_a_terminal(command, script, place, words):
-    """What a terminal shows of a command that reads this script."""
-    leader, follower = pty.openpty()
-    tty.setraw(follower)
-    process = subprocess.Popen(command, stdin=subprocess.PIPE, stdout=follower, stderr=follower, cwd=place, env=words)
-    os.close(follower)
-
-    def give():
-        process.stdin.write(script)
-        process.stdin.close()
-    giver = threading.Thread(target=give)
-    giver.start()
-    shown = b""
-    while True:
-        try:
-            part = os.read(leader, 65536)
-        except OSError:
-            break
-        if not part:
-            break
-        shown += part
-    giver.join()
-    process.wait(timeout=600)
-    os.close(leader)
-    return shown
 
 
 def cell_text(cell):
@@ -126,8 +98,8 @@ def run(page, found, spq):
         script = 'jq() { command jq -M "$@"; }\n'
         script += "".join(f"echo '{MARK}'\n{command.text}\n" for command in found)
         words = dict(os.environ, PATH=os.path.join(room, "bin") + os.pathsep + os.environ["PATH"], HOME=room)
-        shown = at_a_terminal(["bash"], script.encode(), place, words)
-    parts = shown.decode(errors="replace").split(MARK + "\n")[1:]
+        shown = terminal.run(["bash"], lambda source, _: source.write(script.encode()), ("output", "error"), cwd=place, env=words)[1]
+    parts = terminal.left_of(shown.decode(errors="replace")).split(MARK + "\n")[1:]
     if len(parts) != len(found):
         sys.exit(f"{page}: {len(parts)} of {len(found)} commands ran")
     for command, printed in zip(found, parts):

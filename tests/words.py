@@ -26,11 +26,11 @@ CLEAN = [
     "crates/algebra_model/*", "crates/algebra_tests/*", "crates/command_help/*", "crates/diagnosis_tests/*", "crates/dict_core/*",
     "crates/evaluation_tests/*", "crates/excerpt/*", "crates/line_diagnosis/*", "crates/line_tests/*", "crates/loading_tests/*",
     "crates/nquads_core/*", "crates/piece_board/*", "crates/piece_cuts/*", "crates/piece_pool/*", "crates/plain_eval/*", "crates/pool_time/*",
-    "crates/program_tests/*", "crates/query_diagnosis/*", "crates/query_laws/*", "crates/query_tests/*", "crates/rdf_core/*", "crates/report_tests/*",
-    "crates/result_json/*", "crates/row_core/*", "crates/row_join/*", "crates/row_pattern/*", "crates/row_pieces/*", "crates/row_tests/*",
-    "crates/sparql_algebra/*", "crates/sparql_eval/*", "crates/sparql_expression/*", "crates/sparql_grammar/*", "crates/sparql_lexer/*",
-    "crates/sparql_parse/*", "crates/sparql_read/*", "crates/sparql_tree/*", "crates/spq_command/*", "crates/term_values/*", "crates/test_fixtures/*",
-    "crates/worker_tests/*",
+    "crates/program_tests/*", "crates/query_diagnosis/*", "crates/query_laws/*", "crates/query_tests/*", "crates/query_warnings/*",
+    "crates/rdf_core/*", "crates/report_tests/*", "crates/result_json/*", "crates/row_core/*", "crates/row_join/*", "crates/row_pattern/*",
+    "crates/row_pieces/*", "crates/row_tests/*", "crates/sparql_algebra/*", "crates/sparql_eval/*", "crates/sparql_expression/*",
+    "crates/sparql_grammar/*", "crates/sparql_lexer/*", "crates/sparql_parse/*", "crates/sparql_read/*", "crates/sparql_tree/*", "crates/spq/*",
+    "crates/spq_command/*", "crates/spq_core/*", "crates/spq_report/*", "crates/term_values/*", "crates/test_fixtures/*", "crates/worker_tests/*",
     "bench/*.c", "bench/*.py", "bench/*.rs", "bench/*.sh", "tests/*.c", "tests/*.py", "tests/*.sh",
 ]
 # Each private word, as a regular expression, and what to write.

@@ -1,4 +1,4 @@
--- What of a query and of a term decides a warning (our own).
+-- What of a query and of a term decides a warning (a choice of this project).
 use Rattle.std.specs.Prelude.{◌≡◌, ℕ, Bool, true, false, List, codes}
 use Rattle.std.specs.List.{list_any}
 use Rattle.std.specs.Str.{bytes_eq}

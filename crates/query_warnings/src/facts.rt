@@ -75,7 +75,7 @@ pub struct Facts {
 }
 
 impl Facts {
-    /// Nothing that a warning tells.
+    /// No facts, and so no warning.
     pub const NONE: Facts = Facts {
         double: false,
         float: false,

@@ -1,6 +1,6 @@
 //! Messages on standard error for arguments and a document.
 
-use spq_core::run_words;
+use spq_core::{NoProgress, run_words};
 use spq_report::{Account, Input, NoMeter, Output, report};
 use std::alloc::{AllocError, Global};
 use std::random::RandomSource;
@@ -24,9 +24,9 @@ fn said<R: Threads + Wait + RandomSource + Sync>(
     doc: &str,
 ) -> Result<String, AllocError> {
     let words = words_of(alloc, line)?;
-    let reader = Input::new(doc.as_bytes(), NoMeter);
-    let writer = Output::new(Vec::new(alloc));
-    let ran = run_words(rt, alloc, &words, reader, writer);
+    let reader = Input::new(doc.as_bytes(), &NoMeter);
+    let writer = Output::new(Vec::new(alloc), &NoMeter);
+    let ran = run_words(rt, alloc, &words, reader, writer, &NoProgress);
     let account = Account {
         words: Some(&words),
         notes: &ran.notes,

@@ -1,16 +1,23 @@
-//! spq: answers SPARQL SELECT over an N-Quads document, checks one, and lists its terms.
+//! spq: evaluates SPARQL SELECT over an N-Quads document, checks one, and lists its terms.
 //!
-//! The document comes on standard input, and the output goes to standard output, a fault's line
-//! too. The exit status is 0, or that of the fault. All that is promised is promised by `run_words`
+//! The document comes on standard input, and the output goes to standard output, also the line of a
+//! fault. The exit status is 0, or that of the fault. All that is promised is promised by `run_words`
 //! and `finish` of `spq_core`; here they meet the words of the command line and the two devices.
-//! Then `report` of `spq_report` says on standard error why a run failed and where.
+//! Then `report` of `spq_report` says on standard error why a run failed and where. At a terminal, a thread of
+//! its own shows how far a long run is.
 #![tactic(auto)]
 
+use nquads_core::{Sink, Source};
 use spq_core::{Notes, Ran, RunFault, finish, run_words};
-use spq_report::{Account, Console, Input, Output, Terminals, report};
-use std::env;
+use spq_report::{Account, Console, Input, Meter, NoMeter, Output, Terminals, report};
+use std::alloc::Global;
 use std::io::{ErrorKind, IsTerminal, Stderr, Stdin, Stdout};
 use std::process::ExitCode;
+use std::random::RandomSource;
+use std::sync::Wait;
+use std::thread::Threads;
+use std::time::Clock;
+use std::{env, thread};
 
 /// The words of the command line.
 fn words_of(rt: &HostRuntime) -> Result<Vec<String>, RunFault> {
@@ -39,7 +46,7 @@ fn terminals_of(rt: &HostRuntime) -> Terminals {
 
 /// Ends a program whose words could not be taken.
 fn end_without_words(rt: &HostRuntime, fault: RunFault, terminals: Terminals) -> u8 {
-    let mut writer = Output::new(rt.stdout());
+    let mut writer = Output::new(rt.stdout(), &NoMeter);
     let done = Err(fault);
     let status = finish(&done, &mut writer);
     let account = Account {
@@ -54,13 +61,12 @@ fn end_without_words(rt: &HostRuntime, fault: RunFault, terminals: Terminals) ->
 }
 
 /// Ends a program whose words were run.
-fn end(
+fn end<M: Meter>(
     rt: &HostRuntime,
     words: &[String],
-    ran: &mut Ran<Input<Stdin, Console<HostRuntime, Stderr>>, Output<Stdout>>,
+    ran: &mut Ran<Input<'_, Stdin, M>, Output<'_, Stdout, M>>,
     terminals: Terminals,
 ) -> u8 {
-    ran.reader.meter.clear();
     let write_error = ran.writer.error;
     let status = finish(&ran.done, &mut ran.writer);
     let account = Account {
@@ -74,14 +80,39 @@ fn end(
     status
 }
 
+/// Runs words. At a terminal, a thread of its own shows how far the run is, if it can be started.
+fn run_watched<
+    'r,
+    R: Threads + Wait + RandomSource + Clock + Sync,
+    S: Source + Send + Drop,
+    K: Sink + Send + Drop,
+>(
+    rt: &'r R,
+    alloc: Global,
+    words: &[String],
+    reader: S,
+    writer: K,
+    console: &Console<&'r R, &'r R, Stderr>,
+) -> Ran<S, K> {
+    thread::scope(thread::scope_env(), rt, move |scope| {
+        if console.is_watched() {
+            let _watch = scope.spawn(move || console.watch(rt));
+        }
+        let ran = run_words(rt, alloc, words, reader, writer, console);
+        console.end();
+        ran
+    })
+}
+
 fn main(rt: HostRuntime) -> ExitCode {
     let terminals = terminals_of(&rt);
     let words = match words_of(&rt) {
         Ok(words) => words,
         Err(fault) => return ExitCode::from(end_without_words(&rt, fault, terminals)),
     };
-    let reader = Input::new(rt.stdin(), Console::new(rt, rt.stderr(), terminals));
-    let writer = Output::new(rt.stdout());
-    let mut ran = run_words(&rt, rt.alloc(), &words, reader, writer);
+    let console = Console::new(&rt, &rt, rt.stderr(), terminals);
+    let reader = Input::new(rt.stdin(), &console);
+    let writer = Output::new(rt.stdout(), &console);
+    let mut ran = run_watched(&rt, rt.alloc(), &words, reader, writer, &console);
     ExitCode::from(end(&rt, &words, &mut ran, terminals))
 }

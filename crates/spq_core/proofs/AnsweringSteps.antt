@@ -40,7 +40,7 @@ projected_from : (b : Bool) (vs : List ℕ) (A : Algebra) → projected (distinc
 projected_from true vs A = refl
 projected_from false vs A = refl
 
--- the numbers of the projected variables stand on top of the plan
+-- the projected variables of the plan are those of the query
 pub projected_is : (q : QueryTree) → projected (translate q).algebra ≡ projection q
 projected_is q = projected_from q.distinct (projection q) (translate_group (names_of q) q.group)
 
@@ -99,7 +99,7 @@ answered set one q doc store bytes l e = record {
   printed = e ∙ ap (json (selected_names q)) (same_rows set one q (quads_at store.dict store.index) l.quads l.dataset);
 }
 
--- the same of bytes that were joined of lent blocks
+-- the same of bytes that were joined from borrowed blocks
 pub answered_in_blocks : DatasetIsSet → BagHasOneList → (q : QueryTree) (doc : List ℕ) (store : StoreView) (bytes : List ℕ) (lent blocks : List (Vec ℕ Global)) → IsLoaded (lines doc) store
     → bytes ≡ joined_blocks lent → lent ≡ blocks → joined_blocks blocks ≡ json (selected_names q) (rows q (quads_at store.dict store.index)) → IsJsonOf doc q bytes
 answered_in_blocks set one q doc store bytes lent blocks l j v e = answered set one q doc store bytes l (j ∙ ap joined_blocks v ∙ e)

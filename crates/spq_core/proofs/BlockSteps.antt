@@ -1,4 +1,4 @@
--- A beginning of blocks that lie one behind the other.
+-- A prefix of blocks that follow each other.
 use Rattle.std.proofs.Common.{◌≡◌, ℕ, suc, ◌<◌, List, ◌∷◌, ◌++◌, length, get_or, take, drop, Option, Result, Vec, Global, sym, ap, ◌∙◌, subst}
 use Rattle.std.specs.Io.KnownBytes.{Appends}
 use Rattle.std.proofs.Math.Seq.{drop-cons}
@@ -11,7 +11,7 @@ use Rattle.nquads_core.specs.declared.device.DeviceFailed.{DeviceFailed}
 use Rattle.spq_core.specs.Run.{WriterFailed}
 use Rattle.spq_core.proofs.ReportSteps.{back_begun, back_failed, front_begun, front_failed}
 
--- what lies before a block, the block, and what lies behind it
+-- the blocks before a block, the block, and the blocks after it
 joined_split : (blocks : List (Vec ℕ Global)) (i : ℕ) (block : Vec ℕ Global) → i < length blocks → block ≡ get_or blocks i block
     → joined_blocks blocks ≡ joined_blocks (take i blocks) ++ (block.items ++ joined_blocks (drop (suc i) blocks))
 joined_split blocks i block low at =

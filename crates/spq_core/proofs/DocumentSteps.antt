@@ -1,4 +1,4 @@
--- What is told of a document that was read in blocks and loaded.
+-- What follows for a document that was read in blocks and loaded.
 use Rattle.std.proofs.Common.{◌≡◌, ℕ, List, length, map, Option, Vec, Global, sym, ap, ◌∙◌, subst}
 use Rattle.std.proofs.lemmas.List.{length-map}
 use Rattle.std.proofs.lemmas.List.Sorted.{length_permutation}

@@ -1,4 +1,4 @@
--- Document and text have one outcome.
+-- A document and a query text have one result.
 use Rattle.std.proofs.Common.{◌≡◌, ℕ, zero, suc, ◌+◌, List, [], ◌∷◌, ◌++◌, Result, Ok, Err, refl, sym, ap, ◌∙◌, subst}
 use Rattle.std.specs.Prelude.{option_to_list}
 use Rattle.std.specs.Str.{chars}
@@ -76,7 +76,7 @@ one_bad_line (l ∷ ls) (suc m) (suc n) h k = ap (λ (x : ℕ). suc x) (one_bad_
 same_bad_line : (doc : List ℕ) (m n : ℕ) → IsBadLine doc m → IsBadLine doc n → m ≡ n
 same_bad_line doc m n h k = h.2 ∙ (λ i. one_bad_line (lines doc) h.0 k.0 h.1 k.1 i + 1) ∙ sym k.2
 
--- ---- the outcome
+-- ---- the result
 
 pub one_outcome : OneAnswer → OneMeaning → OneOutcome
 one_outcome answer meaning doc text (Ok a) (Ok b) h k =

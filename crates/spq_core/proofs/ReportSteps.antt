@@ -1,4 +1,4 @@
--- A beginning of two texts, one behind the other.
+-- A prefix of two texts that follow each other.
 use Rattle.std.proofs.Common.{◌⊎◌, inl, inr, ℕ, ◌+◌, ◌^◌, ◌-◌, ◌≤◌, List, [], ◌++◌, length, min, take, drop, Option, None, Some, Result, sym, ap, ◌∙◌, subst, arith, append_assoc, append-nil, length-drop}
 use Rattle.std.proofs.Math.Seq.{take-append-add}
 use Rattle.std.proofs.lemmas.List.{take-append-le, take-append-drop, length-append}

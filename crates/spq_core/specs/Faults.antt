@@ -1,5 +1,5 @@
--- What a fault says of document and query. Memory says nothing, and a refused worker nothing of the
--- document.
+-- What a fault says of document and query. `Memory` says nothing, and `WorkerRefused` says nothing of
+-- the document.
 use Rattle.std.specs.Prelude.{ℕ, List, ⊤, Err}
 use Rattle.std.specs.Str.{chars}
 use Rattle.dataset_load.specs.declared.fault.LoadFault.{LoadFault}
@@ -12,29 +12,29 @@ use Rattle.spq_core.specs.Outcome.{IsOutcome, bad_line, query}
 use Rattle.spq_core.specs.declared.fault.Fault.{Fault}
 use Rattle.spq_core.specs.declared.fault.Fault.TheVariants.{Query, BadLine, WorkerRefused, Memory}
 
--- The outcome of document and text is this refusal. The text is judged before any worker starts, so
--- where a worker was refused it is a query.
+-- Document and text have this fault as their result. The text is checked before any worker starts, so if
+-- a worker could not be started, the text is a query.
 abbrev pub IsFaultOf : List ℕ → List ℕ → Fault → Type 0
 IsFaultOf doc text (Query f) = IsOutcome doc text (Err (query f))
 IsFaultOf doc text (BadLine n) = IsOutcome doc text (Err (bad_line n))
 IsFaultOf doc text WorkerRefused = (q : QueryTree) × IsRead (chars text) q
 IsFaultOf doc text Memory = ⊤
 
--- of the first step, which judges the text
+-- a fault of the first step, which checks the text
 abbrev pub IsFaultOfReading : List ℕ → Fault → Type 0
 IsFaultOfReading text (Query f) = IsRefusal (chars text) f
 IsFaultOfReading text (BadLine n) = ⊥
 IsFaultOfReading text WorkerRefused = ⊥
 IsFaultOfReading text Memory = ⊤
 
--- any fault but a refused worker
+-- any fault except `WorkerRefused`
 abbrev pub IsNoRefusedWorker : Fault → Type 0
 IsNoRefusedWorker (Query f) = ⊤
 IsNoRefusedWorker (BadLine n) = ⊤
 IsNoRefusedWorker WorkerRefused = ⊥
 IsNoRefusedWorker Memory = ⊤
 
--- what loading and evaluation refuse is refused under the same name
+-- a fault of loading or evaluation, under the same name
 abbrev pub fault_of_loading : LoadFault → Fault
 fault_of_loading (load.BadLine n) = BadLine n
 fault_of_loading load.WorkerRefused = WorkerRefused

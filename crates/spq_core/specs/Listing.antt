@@ -1,4 +1,4 @@
--- What `check` and `terms` print (our own).
+-- What `check` and `terms` print (a choice of this project).
 use Rattle.std.specs.Prelude.{ℕ, List, ◌++◌, flat_map, codes, decimal, length}
 use Rattle.rdf_core.specs.declared.term.Term.{Term}
 use Rattle.rdf_core.specs.QuadParts.{QuadParts}
@@ -8,7 +8,7 @@ use Rattle.algebra_model.specs.Dataset.{names}
 use Rattle.dict_core.specs.Appearances.{terms_of, first_appearances}
 use Rattle.quad_index.specs.Laws.{same_parts}
 
--- so many quads, terms and graph names
+-- the line with these numbers of quads, terms and graph names
 abbrev pub counts_line : ℕ → ℕ → ℕ → List ℕ
 counts_line quads terms graphs =
     codes "ok " ++ (decimal quads ++ (codes " quads " ++ (decimal terms ++ (codes " terms " ++ (decimal graphs ++ codes " graphs\n")))))

@@ -1,4 +1,4 @@
--- What a query over a document must give: the answer, or why there is none. The query is judged
+-- What a query over a document must give: the result, or why there is none. The query is checked
 -- before the document.
 use Rattle.std.specs.Prelude.{◌≡◌, ℕ, ◌+◌, List, length, Option, None, unwrap_or, Result, Ok, Err}
 use Rattle.std.specs.Str.{chars}
@@ -16,11 +16,11 @@ use Rattle.algebra_model.specs.RowOrder.{sorted_rows}
 use Rattle.algebra_model.specs.Sorted.{slice}
 use Rattle.result_json.specs.Results.{json}
 
--- why a query has no answer
+-- why a query has no result
 pub data Refusal : Type 0 where
-  -- this is the first rule that refuses the text of the query
+  -- this is the first rule that rejects the text of the query
   query : QueryFault → Refusal
-  -- the line, counted from 1, is the first that spells nothing
+  -- the line, counted from 1, is the first malformed line
   bad_line : ℕ → Refusal
 
 -- The rows of a query over the quads of a dataset (SPARQL 1.1 Query Language, sections 18.2 and
@@ -33,27 +33,27 @@ rows q quads =
     (sorted_rows (projection q) (eval (length (names_of q)) quads None (translate q).algebra))
 
 -- The bytes are the JSON of the query's rows over the dataset of the document, which is the set of the
--- quads that its lines spell.
+-- statements of its lines.
 pub record IsJsonOf (doc : List ℕ) (query : QueryTree) (bytes : List ℕ) : Type 0 where
   pub quads : List QuadParts
   pub spelled : SpellAll (lines doc) quads
   pub printed : bytes ≡ json (selected_names query) (rows query quads)
 
--- no rule refuses the text, and the bytes are the JSON of the query that it derives
+-- no rule rejects the text, and the bytes are the JSON of the query that it is
 pub record IsAnswer (doc text bytes : List ℕ) : Type 0 where
   pub query : QueryTree
   pub read : IsRead (chars text) query
   pub answered : IsJsonOf doc query bytes
 
--- line n of the document, counted from 1, is the first that spells nothing
+-- line n of the document, counted from 1, is the first malformed line
 abbrev pub IsBadLine : List ℕ → ℕ → Type 0
 IsBadLine doc n = (k : ℕ) × IsFirstBad (lines doc) k × (n ≡ k + 1)
 
--- no rule refuses the text, and line n is bad
+-- no rule rejects the text, and line n is the first malformed line
 abbrev pub IsRefusedAt : List ℕ → List ℕ → ℕ → Type 0
 IsRefusedAt doc text n = ((query : QueryTree) × IsRead (chars text) query) × IsBadLine doc n
 
--- the outcome of document and text
+-- the result of document and text
 abbrev pub IsOutcome : List ℕ → List ℕ → Result (List ℕ) Refusal → Type 0
 IsOutcome doc text (Ok bytes) = IsAnswer doc text bytes
 IsOutcome doc text (Err (query fault)) = IsRefusal (chars text) fault

@@ -8,7 +8,7 @@ use Rattle.spq_core.specs.Outcome.{Refusal, query, bad_line, IsBadLine, IsOutcom
 use Rattle.spq_command.specs.declared.command.Command.{Command}
 use Rattle.spq_command.specs.declared.command.Command.TheVariants.{Select, Check, Terms}
 
--- what a command asks for; how it is to be done is left out
+-- what a command requests, without how it is done
 pub data Request : Type 0 where
   select : List ℕ → Request
   check : Request
@@ -19,13 +19,13 @@ request_of (Select text reading rows) = select text
 request_of (Check reading) = check
 request_of (Terms reading) = terms
 
--- every line spells a quad or nothing, and this is the text of the quads
+-- every line is well-formed, and this is the text of their statements
 pub record IsTextOf (text_of : List QuadParts → List ℕ) (doc text : List ℕ) : Type 0 where
   pub quads : List QuadParts
   pub spelled : SpellAll (lines doc) quads
   pub printed : text ≡ text_of quads
 
--- the text of the quads, or the first bad line
+-- the text of the quads, or the first malformed line
 abbrev pub IsListing : (List QuadParts → List ℕ) → List ℕ → Result (List ℕ) Refusal → Type 0
 IsListing text_of doc (Ok text) = IsTextOf text_of doc text
 IsListing text_of doc (Err (query f)) = ⊥

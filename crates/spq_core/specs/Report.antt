@@ -11,7 +11,7 @@ use Rattle.spq_core.specs.Run.{WriterFailed}
 use Rattle.spq_core.specs.declared.program.RunFault.{RunFault}
 use Rattle.spq_core.specs.declared.program.RunFault.TheVariants.{Query, BadLine, WorkerRefused, Memory, Read, Write, Line}
 
--- the line of a query that a rule refuses
+-- the line of a rejected query
 abbrev pub query_line : QueryFault → List ℕ
 query_line Syntax = codes "error: query syntax\n"
 query_line UndefinedPrefix = codes "error: query prefix\n"
@@ -48,13 +48,13 @@ status_of Memory = 4
 status_of Read = 5
 status_of Write = 5
 
--- 0 where nothing was refused, and else the status of the fault
+-- 0 if there was no fault, and otherwise the status of the fault
 abbrev pub exit_status : {T : Type 0} → Result T RunFault → ℕ
 exit_status (Ok v) = 0
 exit_status (Err fault) = status_of fault
 
--- The whole text was written and no call of the writer failed, or the writer failed behind a
--- beginning of it.
+-- The whole text was written and no call of the writer failed, or the writer failed after a prefix of
+-- it.
 abbrev pub WroteOrFailed : {K : Type 0} → (K → List ℕ → Result ℕ DeviceFailed → K → Type 0) → Option ℕ → Option ℕ → K → Option (List ℕ) → Option (List ℕ) → List ℕ → Type 0
 WroteOrFailed gives fails fails' writer' held held' text =
     (Appends held held' text × Stays fails fails') ⊎ (WroteBeginning held held' text × WriterFailed gives fails fails' text writer')

@@ -1,4 +1,4 @@
--- What a run did, and what is left where it was refused.
+-- What a run did, and what it leaves on each error.
 use Rattle.std.specs.Prelude.{◌≡◌, ◌⊎◌, ◌<◌, ◌++◌, ℕ, List, length, ⊤, Option, Result, Ok, Err, IfOk, OnOk, OnErr, Vec}
 use Rattle.std.specs.Global.{Global}
 use Rattle.std.specs.Str.{chars}
@@ -30,12 +30,12 @@ run_fault_of (fault.BadLine n) = BadLine n
 run_fault_of fault.WorkerRefused = WorkerRefused
 run_fault_of fault.Memory = Memory
 
--- words that are no command are no command line, and want of memory keeps its name
+-- words that are no command are no command line, and `Memory` keeps its name
 abbrev pub fault_of_words : CommandFault → RunFault
 fault_of_words words.Line = Line
 fault_of_words words.Memory = Memory
 
--- The command is done by one worker, which is the caller itself.
+-- The command is done with one worker, which is the caller itself.
 abbrev pub IsByOneWorker : Command → Type 0
 IsByOneWorker (Select text reading rows) = reading.workers ≡ 1
 IsByOneWorker (Check reading) = reading.workers ≡ 1
@@ -54,14 +54,14 @@ pub record IsDone (request : Request) (left left' held held' : Option (List ℕ)
   pub composed : IsComposed request left left' text
   pub written : Appends held held' text
 
--- The reader was read to its end, and this line is the output's refusal for what was read.
+-- The reader was read to its end, and this line is the first malformed line of what was read.
 pub record IsBadLineOf (request : Request) (left left' : Option (List ℕ)) (line : ℕ) : Type 0 where
   pub doc : List ℕ
   pub consumed : Consumes left left' doc
   pub at_end : IsAtEnd left'
   pub output : IsOutput request doc (Err (bad_line line))
 
--- The command selects, and this is the first rule that refuses the text of its query.
+-- The command selects, and this is the first rule that rejects the text of its query.
 abbrev pub IsQueryOf : Request → QueryFault → Type 0
 IsQueryOf (select text) f = IsRefusal (chars text) f
 IsQueryOf check f = ⊥

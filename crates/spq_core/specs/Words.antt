@@ -9,7 +9,7 @@ use Rattle.spq_core.specs.Run.{IsAnswerable, IsByOneWorker, IsRun}
 use Rattle.spq_core.specs.declared.program.RunFault.{RunFault}
 use Rattle.spq_core.specs.declared.program.RunFault.TheVariants.{Query, BadLine, WorkerRefused, Memory, Read, Write, Line}
 
--- The words are no command, or a growth was refused, which says nothing of the words.
+-- The words are no command, or an allocation failed, which says nothing of the words.
 abbrev pub IsRefusedOf : List (List ℕ) → RunFault → Type 0
 IsRefusedOf words (Query f) = ⊥
 IsRefusedOf words (BadLine n) = ⊥
@@ -28,7 +28,7 @@ pub record IsNotRun {S K T : Type 0} (words : List (List ℕ)) (reader reader' :
   pub unread : reader' ≡ reader
   pub unwritten : writer' ≡ writer
 
--- The command is no query, and is done by one worker, which is the caller itself.
+-- The command is `check` or `terms`, with one worker, which is the caller itself.
 abbrev pub IsDoneAlone : Command → Type 0
 IsDoneAlone (Select text reading rows) = ⊥
 IsDoneAlone (Check reading) = reading.workers ≡ 1

@@ -1,4 +1,4 @@
-//! The answer of a query over a document.
+//! The result of a query over a document.
 ghost use Rattle.std.specs.Prelude.{◌≡◌, ◌-◌, ◌^◌, IfOk, IfErr, OnOk, Ok, length, min};
 ghost use Rattle.std.specs.Str.{chars};
 ghost use Rattle.piece_cuts.specs.Cuts.{AreCuts};
@@ -15,7 +15,7 @@ ghost use Rattle.spq_core.specs.Outcome.{IsOutcome, rows};
 ghost use Rattle.result_json.specs.Results.{joined_blocks, json};
 
 use crate::fault::Fault;
-use crate::notes::{Notes, Stage};
+use crate::notes::{Log, NoProgress, Progress, Stage};
 use algebra_model::laws::{a_bag_has_one_sorted_list, a_dataset_is_a_set};
 use dataset_load::{Store, load};
 use piece_cuts::Cuts;
@@ -31,11 +31,11 @@ use std::random::RandomSource;
 use std::sync::Wait;
 use std::thread::Threads;
 
-/// The query that a text is.
+/// Parses the text of a query.
 ///
 /// # Errors
-/// - `Query(fault)`: this is the first rule that refuses the text; never `QueryFault::Memory`.
-/// - `Memory`: a growth was refused. It says nothing of the text.
+/// - `Query(fault)` if this is the first rule that rejects the text. It is never `QueryFault::Memory`.
+/// - `Memory` if an allocation fails. It says nothing of the text.
 pub fn judged(alloc: Global, text: &str) -> Result<Query, Fault>
     ensures query { IfOk result (λ q. IsRead (chars text.now) (query_of q)) }
     ensures refused { IfErr result (IsFaultOfReading text.now) }
@@ -62,14 +62,14 @@ pub fn check_query(alloc: Global, text: &str) -> Result<(), Fault>
 }
 
 /// Returns the JSON of a query's rows over a loaded dataset, in blocks that follow each other.
-pub fn answer_query<R: Threads + Wait + RandomSource, G: Gate + Sync>(
+pub fn answer_query<R: Threads + Wait + RandomSource, G: Gate + Sync, P: Progress>(
     rt: &R,
     alloc: Global,
     store: Store,
     query: &Query,
     how: &How,
     gate: &G,
-    notes: &mut Notes,
+    log: &mut Log<'_, P>,
 ) -> Result<Vec<Vec<u8>>, EvalFault>
     requires how { IsRunnable how.now }
     ensures answer { IfOk result (λ blocks. joined_blocks blocks.items
@@ -77,15 +77,15 @@ pub fn answer_query<R: Threads + Wait + RandomSource, G: Gate + Sync>(
         (rows (query_of query.now) (quads_at store.dict store.index))) }
     ensures one_worker { HasOneWorker how.now → IfErr result (λ fault. fault ≡ Memory) }
 {
-    notes.stage = Stage::Joining;
+    log.begin(Stage::Joining);
     let plan = translate(alloc, query)?;
-    answer_plan(rt, alloc, store, query, &plan, how, gate, notes)
+    answer_plan(rt, alloc, store, query, &plan, how, gate, log)
 }
 
 /// Evaluates the plan of a query over a loaded dataset, and prints its rows.
 ///
 /// The plan is only borrowed here: a function that owns a tree pays for its drop at each of its exits.
-fn answer_plan<R: Threads + Wait + RandomSource, G: Gate + Sync>(
+fn answer_plan<R: Threads + Wait + RandomSource, G: Gate + Sync, P: Progress>(
     rt: &R,
     alloc: Global,
     store: Store,
@@ -93,7 +93,7 @@ fn answer_plan<R: Threads + Wait + RandomSource, G: Gate + Sync>(
     plan: &Plan,
     how: &How,
     gate: &G,
-    notes: &mut Notes,
+    log: &mut Log<'_, P>,
 ) -> Result<Vec<Vec<u8>>, EvalFault>
     requires names { plan.now.names.items ≡ names_of (query_of query.now) }
     requires tree { algebra_of plan.now.tree ≡ (translate (query_of query.now)).algebra }
@@ -107,8 +107,8 @@ fn answer_plan<R: Threads + Wait + RandomSource, G: Gate + Sync>(
     let (dict, index) = store.into_parts();
     let (rows, dict) = evaluate(rt, alloc, dict, &index, plan, how, gate)?;
     drop(index);
-    notes.is_empty = rows.len() == 0;
-    notes.stage = Stage::Printing;
+    log.evaluated(rows.len() == 0);
+    log.begin(Stage::Printing);
     let table = Table {
         names: &plan.names,
         listed: plan.projected(),
@@ -121,7 +121,7 @@ fn answer_plan<R: Threads + Wait + RandomSource, G: Gate + Sync>(
     Ok(blocks)
 }
 
-/// How many bytes the blocks have, for the room that is made at once, or as many as there can be.
+/// Returns the number of bytes of the blocks, or `usize::MAX` if there are more.
 fn count_bytes(blocks: &[Vec<u8>]) -> usize
     ensures count { result ≡ min (length (joined_blocks blocks.now)) (2 ^ 64 - 1) }
 {
@@ -132,7 +132,7 @@ fn count_bytes(blocks: &[Vec<u8>]) -> usize
     count
 }
 
-/// The bytes of the blocks, one block behind the other.
+/// Concatenates the blocks.
 fn joined(alloc: Global, blocks: &[Vec<u8>]) -> Result<Vec<u8>, AllocError>
     ensures joined { IfOk result (λ bytes. bytes.items ≡ joined_blocks blocks.now) }
 {
@@ -143,21 +143,20 @@ fn joined(alloc: Global, blocks: &[Vec<u8>]) -> Result<Vec<u8>, AllocError>
     Ok(bytes)
 }
 
-/// The answer of a query over a document that is cut into pieces, as JSON (SPARQL 1.1 Query
-/// Language, sections 17 to 19; SPARQL 1.1 Query Results JSON Format). The query is judged before the
-/// document. Neither the cut, nor `how` and the gate change the outcome.
+/// Evaluates a query over a document that is cut into pieces, and returns the result as JSON (SPARQL 1.1 Query
+/// Language, sections 17 to 19; SPARQL 1.1 Query Results JSON Format). The query is checked before the
+/// document. The cuts, `how` and the gate do not change the result.
 ///
 /// # Requires
 /// `cuts` are cuts of this document, and `how` keeps its limits.
 ///
 /// # Errors
-/// - `Query(fault)`: this is the first rule that refuses the text; never `QueryFault::Memory`.
-/// - `BadLine(n)`: the text is a query, and line n of the document, counted from 1, is the first
-///   that spells nothing.
-/// - `WorkerRefused`: the text is a query, and the start of a worker was refused. Those that were started
-///   have been joined. It says nothing of the document, and never comes of one worker, which is the
-///   caller itself.
-/// - `Memory`: a growth was refused. It says nothing of query and document.
+/// - `Query(fault)` if this is the first rule that rejects the text. It is never `QueryFault::Memory`.
+/// - `BadLine(n)` if the text is a query, and line n of the document, counted from 1, is the first
+///   malformed line.
+/// - `WorkerRefused` if the text is a query, and a worker thread could not be started. Those that were
+///   started have been joined. With one worker no thread is started, so it cannot occur.
+/// - `Memory` if an allocation fails. It says nothing of query and document.
 pub fn answer<R: Threads + Wait + RandomSource, G: Gate + Sync>(
     rt: &R,
     alloc: Global,
@@ -177,8 +176,8 @@ pub fn answer<R: Threads + Wait + RandomSource, G: Gate + Sync>(
     a_bag_has_one_sorted_list();
     let query = judged(alloc, query)?;
     let store = load(rt, alloc, doc, cuts, how.workers, gate)?;
-    let mut notes = Notes::new();
-    let blocks = answer_query(rt, alloc, store, &query, how, gate, &mut notes)?;
+    let mut log = Log::new(&NoProgress);
+    let blocks = answer_query(rt, alloc, store, &query, how, gate, &mut log)?;
     let bytes = joined(alloc, &blocks)?;
     Ok(bytes)
 }

@@ -1,21 +1,21 @@
-//! Why there is no answer.
+//! Why there is no result.
 
 use dataset_load::LoadFault;
 use row_pieces::EvalFault;
 use sparql_read::QueryFault;
 use std::alloc::AllocError;
 
-/// Why there is no answer.
+/// Why there is no result.
 #[derive(Clone, Copy, Debug, PartialEq, Eq)]
 pub enum Fault {
-    /// The first rule that refuses the query; never its `Memory`.
+    /// The first rule that rejects the query. It is never `QueryFault::Memory`.
     Query(QueryFault),
-    /// The line, counted from 1, is the first that spells nothing.
+    /// The line, counted from 1, is the first malformed line.
     BadLine(u128),
-    /// The start of a worker was refused. Those that were started have been joined. The text is a query,
-    /// and it says nothing of the document.
+    /// A worker thread could not be started. Those that were started have been joined. The text is a query.
+    /// This says nothing of the document.
     WorkerRefused,
-    /// A growth was refused. It says nothing of query and document.
+    /// Out of memory. This says nothing of query and document.
     Memory,
 }
 

@@ -1,12 +1,12 @@
-//! The laws of outcomes.
+//! The laws of results.
 
 ghost use Rattle.spq_core.specs.Laws.{OneOutcome, OneOutput};
 
 use nquads_core::laws::one_meaning;
 use sparql_read::one_answer;
 
-/// A document and the text of a query have one outcome at most: either the bytes of one answer, or
-/// one refusal.
+/// Proves that a document and the text of a query have at most one result: either some bytes, or a reason
+/// why there are none.
 pub fn one_outcome()
     ensures law { OneOutcome }
 {
@@ -14,8 +14,8 @@ pub fn one_outcome()
     one_answer();
 }
 
-/// What is asked for and a document have one output at most: of a query its outcome, of `check` and
-/// `terms` one text, or the line of the fault.
+/// Proves that a request and a document have at most one output: the result of a query, the text of `check`
+/// or `terms`, or the line of the fault.
 pub fn one_output()
     ensures law { OneOutput }
 {

@@ -1,24 +1,25 @@
 //! spq: SPARQL SELECT over an N-Quads document, from bytes to JSON.
 //!
-//! Bytes of a document and the text of a query go in; the JSON of the solutions comes out, or the
-//! reason why there is none. The main promise stands on [`answer`]: every result but `Memory` and
-//! `WorkerRefused` is the outcome of document and query (`IsOutcome` of specs/Outcome.antt): the
-//! query is judged first, then the document, and the bytes are the JSON of the algebra's solutions
-//! over the dataset, with their repeats, in order. No cut, worker or gate stands in it, and document
-//! and query have one outcome at most (`one_outcome` of [`laws`]). [`run`] says the same of a command
-//! over a reader and a writer, and what a refusal leaves; a command has one output for a document at
-//! most (`one_output`). [`run_words`] says it of the words of a command line, and [`finish`] how the
-//! program ends.
+//! The input is a document and the text of a query. The result is the JSON of the solutions, or the reason why
+//! there is none. [`answer`] has the main contract: every result but `Memory` and `WorkerRefused` is the one that
+//! the standards prescribe (`IsOutcome` of specs/Outcome.antt). The query is checked first, then the document, and
+//! the bytes are the JSON of the algebra's solutions over the dataset, with their repeats, in order. No cut, worker
+//! or gate occurs in the definition, and document and query have at most one result (`one_outcome` of [`laws`]).
+//!
+//! [`run`] says the same of a command over a reader and a writer, and what is left on each error. A command has at
+//! most one output for a document (`one_output`). [`run_words`] says it of the words of a command line, and
+//! [`finish`] how the program ends. [`Notes`] and [`Progress`] are for messages to people, and no clause depends
+//! on them.
 //!
 //! Standards: SPARQL 1.1 Query Language, sections 17 to 19; SPARQL 1.1 Query Results JSON Format;
 //! RDF 1.1 N-Quads.
 //!
-//! To read in this order: `fault`, `answering` (the outcome), `listing` (what is told of a dataset),
-//! `program` (`run`), `words` (a command line, and the thread of a query), `report` (lines and
-//! statuses of faults, and the end), `laws`.
+//! To read in this order: `fault`, `notes`, `answering` (the result of a query), `listing` (what `check` and `terms`
+//! print), `program` (`run`), `words` (a command line, and the thread of a query), `report` (lines and statuses of
+//! faults, and the end), `laws`.
 //!
 //! Example: the document `<http://e/a> <http://e/p> "x" .` and the query
-//! `SELECT ?o { <http://e/a> <http://e/p> ?o }` give
+//! `SELECT ?o { <http://e/a> <http://e/p> ?o }` have the result
 //! `{"head":{"vars":["o"]},"results":{"bindings":[{"o":{"type":"literal","value":"x"}}]}}`; the test
 //! `patterns_are_answered` of program_tests runs such examples.
 //!
@@ -37,8 +38,8 @@ mod words;
 
 pub use answering::answer;
 pub use fault::Fault;
-pub use notes::{Notes, Stage};
-pub use program::{RunFault, run, run_noted};
+pub use notes::{NoProgress, Notes, Progress, Stage};
+pub use program::{RunFault, run};
 pub use report::{finish, status, write_fault};
 pub use words::{Ran, run_words};
 

@@ -1,4 +1,4 @@
-//! What a run notes for messages to people, besides what it returns. No clause and no output depends on it.
+//! What a run notes for messages to people, in addition to what it returns. No clause and no output depends on it.
 
 use dataset_load::{Line, LoadNotes, Store};
 use query_warnings::{Facts, facts_of, text_compares};
@@ -19,10 +19,24 @@ pub enum Stage {
     Printing,
 }
 
+/// What a run calls as it begins its stages.
+pub trait Progress {
+    /// This stage begins. (A run does not call this for `Sorting`: the end of the reader begins it.)
+    fn begin(&self, stage: Stage);
+}
+
+/// A `Progress` that does nothing.
+#[derive(Clone, Copy, Debug)]
+pub struct NoProgress;
+
+impl Progress for NoProgress {
+    fn begin(&self, _stage: Stage) {}
+}
+
 /// What a run has noted.
 #[derive(Debug, Drop)]
 pub struct Notes {
-    /// What it was doing last.
+    /// The last stage that began.
     pub stage: Stage,
     /// The malformed line that it returned the number of, if there was memory for it.
     pub line: Option<Line>,
@@ -33,7 +47,7 @@ pub struct Notes {
 }
 
 impl Notes {
-    /// Nothing yet.
+    /// Returns the notes of a run that has not begun.
     pub fn new() -> Notes {
         Notes {
             stage: Stage::Checking,
@@ -42,20 +56,48 @@ impl Notes {
             is_empty: false,
         }
     }
+}
+
+/// The notes of a run, and the progress that it calls.
+#[derive(Drop)]
+pub(crate) struct Log<'p, P> {
+    pub(crate) notes: Notes,
+    pub(crate) progress: &'p P,
+}
+
+impl<'p, P: Progress> Log<'p, P> {
+    /// Returns a log with no notes.
+    pub(crate) fn new(progress: &'p P) -> Log<'p, P> {
+        Log {
+            notes: Notes::new(),
+            progress,
+        }
+    }
+
+    /// Notes that a stage begins.
+    pub(crate) fn begin(&mut self, stage: Stage) {
+        self.notes.stage = stage;
+        self.progress.begin(stage);
+    }
 
     /// Notes what loading the document noted.
     pub(crate) fn loaded(&mut self, loading: LoadNotes) {
         let LoadNotes { line, is_read } = loading;
         if is_read {
-            self.stage = Stage::Sorting;
+            self.notes.stage = Stage::Sorting;
         }
-        self.line = line;
+        self.notes.line = line;
     }
 
     /// Notes what a query and its dataset show together. Without memory for the terminals of the query, none of
     /// its comparisons are noted.
     pub(crate) fn queried(&mut self, alloc: Global, text: &str, store: &Store) {
         let compares = text_compares(alloc, text).unwrap_or(false);
-        self.facts = facts_of(compares, store);
+        self.notes.facts = facts_of(compares, store);
+    }
+
+    /// Notes whether the query had no rows.
+    pub(crate) fn evaluated(&mut self, is_empty: bool) {
+        self.notes.is_empty = is_empty;
     }
 }

@@ -13,7 +13,7 @@ ghost use Rattle.spq_core.specs.declared.program.RunFault.TheVariants.{Memory, W
 use crate::answering::{answer_query, judged};
 use crate::fault::Fault;
 use crate::listing::{counts_text, terms_text};
-use crate::notes::{Notes, Stage};
+use crate::notes::{Log, NoProgress, Progress, Stage};
 use algebra_model::laws::{a_bag_has_one_sorted_list, a_dataset_is_a_set};
 use dataset_load::{LoadNotes, ReaderFault, Store, load_reader};
 use nquads_core::{DeviceFailed, Sink, Source, write_all};
@@ -27,20 +27,20 @@ use std::sync::Wait;
 use std::thread::Threads;
 use thiserror::Error;
 
-/// Why the program did not do what it was told to.
+/// Why a command was not done.
 #[derive(Clone, Copy, Debug, Drop, Error, PartialEq, Eq)]
 pub enum RunFault {
-    /// The first rule that refuses the query. `run` never answers its `Memory`.
-    #[error("the query is refused")]
+    /// The first rule that rejects the query. `run` never returns its `Memory`.
+    #[error("the query is rejected")]
     Query(QueryFault),
-    /// The line of the document, counted from 1, is the first that spells nothing.
-    #[error("line {0} is bad")]
+    /// The line of the document, counted from 1, is the first malformed line.
+    #[error("line {0} is malformed")]
     BadLine(u128),
-    /// The start of a worker was refused. Those that were started have been joined.
-    #[error("the start of a worker was refused")]
+    /// A worker thread could not be started. Those that were started have been joined.
+    #[error("a worker thread could not be started")]
     WorkerRefused,
-    /// A growth was refused.
-    #[error("a growth was refused")]
+    /// Out of memory.
+    #[error("out of memory")]
     Memory,
     /// The reader failed.
     #[error("the reader failed")]
@@ -48,8 +48,8 @@ pub enum RunFault {
     /// The writer failed, or took no byte of a text that was not empty.
     #[error("the writer failed")]
     Write,
-    /// The command line is none of the program's. `run` never answers this.
-    #[error("the command line is none of the program's")]
+    /// The words are not a valid command line. `run` never returns this.
+    #[error("the command line is not valid")]
     Line,
 }
 
@@ -95,16 +95,16 @@ impl From<CommandFault> for RunFault {
 }
 
 /// Loads the rest of the reader as a dataset.
-fn load_document<R: Threads + Wait + RandomSource, S: Source>(
+fn load_document<R: Threads + Wait + RandomSource, S: Source, P: Progress>(
     rt: &R,
     alloc: Global,
     reading: Reading,
     reader: &mut S,
-    notes: &mut Notes,
+    log: &mut Log<'_, P>,
 ) -> Result<Store, RunFault>
     ensures { IsLoading S.left S.failures (reading.workers ≡ 1) reader.old reader.new result }
 {
-    notes.stage = Stage::Reading;
+    log.begin(Stage::Reading);
     let workers = reading.workers;
     let mut loading = LoadNotes::new();
     let loaded = load_reader(
@@ -116,7 +116,7 @@ fn load_document<R: Threads + Wait + RandomSource, S: Source>(
         &OpenGate,
         &mut loading,
     );
-    notes.loaded(loading);
+    log.loaded(loading);
     match loaded {
         Ok(store) => Ok(store),
         Err(ReaderFault::BadLine(line)) => Err(RunFault::BadLine(line)),
@@ -127,15 +127,15 @@ fn load_document<R: Threads + Wait + RandomSource, S: Source>(
 }
 
 /// Evaluates a query over the rest of the reader, and returns the result in blocks that follow each
-/// other. Checks the query before it reads. (A piece of no rows is taken as one of one row.)
-fn selected<R: Threads + Wait + RandomSource, S: Source>(
+/// other. Checks the query before it reads. (A task has at least one row.)
+fn selected<R: Threads + Wait + RandomSource, S: Source, P: Progress>(
     rt: &R,
     alloc: Global,
     query: &str,
     reading: Reading,
     rows: usize,
     reader: &mut S,
-    notes: &mut Notes,
+    log: &mut Log<'_, P>,
 ) -> Result<Vec<Vec<u8>>, RunFault>
     ensures { IsComposing S.left S.failures (select query.now) (reading.workers ≡ 1)
         reader.old reader.new result }
@@ -147,13 +147,13 @@ fn selected<R: Threads + Wait + RandomSource, S: Source>(
         Ok(query) => query,
         Err(fault) => return Err(RunFault::from(fault)),
     };
-    let store = load_document(rt, alloc, reading, reader, notes)?;
-    notes.queried(alloc, text, &store);
+    let store = load_document(rt, alloc, reading, reader, log)?;
+    log.queried(alloc, text, &store);
     let how = How {
         workers: reading.workers,
         rows: rows.max(1),
     };
-    match answer_query(rt, alloc, store, &query, &how, &OpenGate, notes) {
+    match answer_query(rt, alloc, store, &query, &how, &OpenGate, log) {
         Ok(blocks) => Ok(blocks),
         Err(EvalFault::WorkerRefused) => Err(RunFault::WorkerRefused),
         Err(EvalFault::Memory) => Err(RunFault::Memory),
@@ -190,45 +190,45 @@ fn terms_block(alloc: Global, store: &Store) -> Result<Vec<Vec<u8>>, RunFault>
 ///
 /// The dataset is only borrowed after it is loaded: a function that owns one pays for its drop at each
 /// of its exits.
-fn checked<R: Threads + Wait + RandomSource, S: Source>(
+fn checked<R: Threads + Wait + RandomSource, S: Source, P: Progress>(
     rt: &R,
     alloc: Global,
     reading: Reading,
     reader: &mut S,
-    notes: &mut Notes,
+    log: &mut Log<'_, P>,
 ) -> Result<Vec<Vec<u8>>, RunFault>
     ensures { IsComposing S.left S.failures check (reading.workers ≡ 1)
         reader.old reader.new result }
 {
-    let store = load_document(rt, alloc, reading, reader, notes)?;
-    notes.stage = Stage::Printing;
+    let store = load_document(rt, alloc, reading, reader, log)?;
+    log.begin(Stage::Printing);
     counts_block(alloc, &store)
 }
 
 /// Lists the terms of the document that is the rest of the reader.
-fn listed<R: Threads + Wait + RandomSource, S: Source>(
+fn listed<R: Threads + Wait + RandomSource, S: Source, P: Progress>(
     rt: &R,
     alloc: Global,
     reading: Reading,
     reader: &mut S,
-    notes: &mut Notes,
+    log: &mut Log<'_, P>,
 ) -> Result<Vec<Vec<u8>>, RunFault>
     ensures { IsComposing S.left S.failures terms (reading.workers ≡ 1)
         reader.old reader.new result }
 {
-    let store = load_document(rt, alloc, reading, reader, notes)?;
-    notes.stage = Stage::Printing;
+    let store = load_document(rt, alloc, reading, reader, log)?;
+    log.begin(Stage::Printing);
     terms_block(alloc, &store)
 }
 
 /// Composes the whole output of a command, before anything is written: blocks that follow each other.
 /// They are not joined, since they are written one by one.
-fn composed<R: Threads + Wait + RandomSource, S: Source>(
+fn composed<R: Threads + Wait + RandomSource, S: Source, P: Progress>(
     rt: &R,
     alloc: Global,
     command: &Command,
     reader: &mut S,
-    notes: &mut Notes,
+    log: &mut Log<'_, P>,
 ) -> Result<Vec<Vec<u8>>, RunFault>
     ensures { IsComposing S.left S.failures (request_of command.now) (IsByOneWorker command.now)
         reader.old reader.new result }
@@ -238,9 +238,9 @@ fn composed<R: Threads + Wait + RandomSource, S: Source>(
             query,
             reading,
             rows,
-        } => selected(rt, alloc, query.as_str(), *reading, *rows, reader, notes),
-        Command::Check { reading } => checked(rt, alloc, *reading, reader, notes),
-        Command::Terms { reading } => listed(rt, alloc, *reading, reader, notes),
+        } => selected(rt, alloc, query.as_str(), *reading, *rows, reader, log),
+        Command::Check { reading } => checked(rt, alloc, *reading, reader, log),
+        Command::Terms { reading } => listed(rt, alloc, *reading, reader, log),
     }
 }
 
@@ -313,28 +313,28 @@ pub fn run<R: Threads + Wait + RandomSource, S: Source, K: Sink>(
     ensures answerable { result ≡ Err WorkerRefused → IsAnswerable (request_of command.now) }
     ensures one_worker { IsByOneWorker command.now → result ≡ Err WorkerRefused → ⊥ }
 {
-    let mut notes = Notes::new();
-    run_noted(rt, alloc, command, reader, writer, &mut notes)
+    let mut log = Log::new(&NoProgress);
+    run_noted(rt, alloc, command, reader, writer, &mut log)
 }
 
-/// Runs a command as [`run`] does, and notes what messages about it show.
+/// Runs a command as [`run`] does, with a log of what messages about it show.
 ///
 /// # Errors
 /// As `run`.
-pub fn run_noted<R: Threads + Wait + RandomSource, S: Source, K: Sink>(
+pub(crate) fn run_noted<R: Threads + Wait + RandomSource, S: Source, K: Sink, P: Progress>(
     rt: &R,
     alloc: Global,
     command: &Command,
     reader: &mut S,
     writer: &mut K,
-    notes: &mut Notes,
+    log: &mut Log<'_, P>,
 ) -> Result<(), RunFault>
     ensures run { IsRun S.left S.failures K.held K.failures K.write_gives (request_of command.now)
         reader.old reader.new writer.old writer.new result }
     ensures answerable { result ≡ Err WorkerRefused → IsAnswerable (request_of command.now) }
     ensures one_worker { IsByOneWorker command.now → result ≡ Err WorkerRefused → ⊥ }
 {
-    let blocks = composed(rt, alloc, command, reader, notes)?;
+    let blocks = composed(rt, alloc, command, reader, log)?;
     match write_blocks(writer, &blocks) {
         Ok(()) => Ok(()),
         Err(_failed) => Err(RunFault::Write),

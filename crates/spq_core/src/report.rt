@@ -1,4 +1,4 @@
-//! What is told of a fault: its line and its status.
+//! The line of a fault, and the status with which the program ends.
 ghost use Rattle.std.specs.Prelude.{◌≡◌, ◌++◌, codes, decimal, IfErr, OnErr, OnOk};
 ghost use Rattle.std.specs.Io.KnownBytes.{Appends};
 ghost use Rattle.nquads_core.specs.Device.{Stays};
@@ -11,8 +11,8 @@ use itoa::Buffer;
 use nquads_core::{DeviceFailed, Sink};
 use sparql_read::QueryFault;
 
-/// The status with which the program ends after a fault: 1 for a bad line, 2 for a query, 3 for the
-/// command line, 4 for want of memory or of a worker, 5 for a reader or a writer. (0 is for no fault.)
+/// Returns the status with which the program ends after a fault: 1 for a malformed line, 2 for a query, 3 for the
+/// command line, 4 for memory or a worker, 5 for a reader or a writer. (0 is for no fault.)
 pub fn status(fault: &RunFault) -> u8
     ensures status { result ≡ status_of fault.now }
 {
@@ -34,7 +34,7 @@ pub fn status(fault: &RunFault) -> u8
     }
 }
 
-/// The line of a query that a rule refuses.
+/// Returns the line of a rejected query.
 fn line_of(fault: &QueryFault) -> &'static [u8]
     ensures line { result.now ≡ query_line fault.now }
 {
@@ -49,7 +49,7 @@ fn line_of(fault: &QueryFault) -> &'static [u8]
     }
 }
 
-/// Writes one text behind another.
+/// Writes two texts, one after the other.
 fn write_both<K: Sink>(writer: &mut K, front: &[u8], back: &[u8]) -> Result<(), DeviceFailed>
     ensures written { OnOk result
         (Appends (K.held writer.old) (K.held writer.new) (front.now ++ back.now)) }
@@ -79,7 +79,7 @@ fn write_number<K: Sink>(writer: &mut K, line: u128) -> Result<(), DeviceFailed>
     write_both(writer, buffer.format(line).as_bytes(), b"\n")
 }
 
-/// Writes the line of a bad line.
+/// Writes the line for a malformed line.
 fn write_bad_line<K: Sink>(writer: &mut K, line: u128) -> Result<(), DeviceFailed>
     ensures written { OnOk result
         (Appends (K.held writer.old) (K.held writer.new)
@@ -98,7 +98,7 @@ fn write_bad_line<K: Sink>(writer: &mut K, line: u128) -> Result<(), DeviceFaile
     }
 }
 
-/// Writes the line of a query that a rule refuses.
+/// Writes the line of a rejected query.
 fn write_query_fault<K: Sink>(writer: &mut K, fault: &QueryFault) -> Result<(), DeviceFailed>
     ensures written { OnOk result
         (Appends (K.held writer.old) (K.held writer.new) (query_line fault.now)) }
@@ -140,11 +140,11 @@ pub fn write_fault<K: Sink>(fault: &RunFault, writer: &mut K) -> Result<(), Devi
     }
 }
 
-/// Ends what was done: answers the status with which the program ends, 0 where nothing was refused
-/// and else that of the fault, and tries once to write the fault's line.
+/// Returns the status with which the program ends, 0 without a fault and otherwise that of the fault, and tries
+/// once to write the fault's line.
 ///
-/// It cannot fail. Where nothing was refused, the writer is as it was. Where the writer fails, a
-/// beginning of the line was written, and the status is still that of the fault.
+/// This cannot fail. Without a fault, the writer is unchanged. If the writer fails, a prefix of the line was
+/// written, and the status is still that of the fault.
 pub fn finish<K: Sink>(done: &Result<(), RunFault>, writer: &mut K) -> u8
     ensures status { result ≡ exit_status done.now }
     ensures silent { OnOk done.now (writer.new ≡ writer.old) }

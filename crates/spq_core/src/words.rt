@@ -7,7 +7,7 @@ ghost use Rattle.spq_core.specs.Words.{IsDoneAlone, IsNotRun, IsRunOf};
 ghost use Rattle.spq_core.specs.declared.program.RunFault.TheVariants.{WorkerRefused};
 
 use crate::answering::check_query;
-use crate::notes::Notes;
+use crate::notes::{Log, Notes, Progress};
 use crate::program::{RunFault, run_noted};
 use core::thread::Stack;
 use nquads_core::{Sink, Source};
@@ -20,14 +20,14 @@ use std::sync::atomic::{AtomicBool, Ordering};
 use std::thread;
 use std::thread::{Promise, Scope, Threads};
 
-/// The bytes of stack for a query of no length.
+/// The bytes of stack for an empty query.
 const LEAST_STACK: usize = 8 * 1024 * 1024;
 
 /// The bytes of stack for each byte of a query. A part of a chain that is as short as can be, `{}`,
 /// is walked in less than what its two bytes get.
 const STACK_PER_BYTE: usize = 4 * 1024;
 
-/// What came of the words of a command line, and the reader and the writer that were passed with them.
+/// The result of the words of a command line, and the reader and the writer that were passed with them.
 #[derive(Drop)]
 pub struct Ran<S, K> {
     /// Nothing, or why the words were not done.
@@ -79,12 +79,13 @@ fn stack_for(query: &str) -> usize
 }
 
 /// Runs a command on the caller's thread.
-fn run_here<R: Threads + Wait + RandomSource, S: Source, K: Sink>(
+fn run_here<R: Threads + Wait + RandomSource, S: Source, K: Sink, P: Progress>(
     rt: &R,
     alloc: Global,
     command: &Command,
     reader: S,
     writer: K,
+    progress: &P,
 ) -> Ran<S, K>
     ensures run { IsRun S.left S.failures K.held K.failures K.write_gives
         (request_of command.now) reader result.reader writer result.writer result.done }
@@ -93,24 +94,25 @@ fn run_here<R: Threads + Wait + RandomSource, S: Source, K: Sink>(
     ensures one_worker { IsByOneWorker command.now → result.done ≡ Err WorkerRefused → ⊥ }
 {
     let (mut left, mut held) = (reader, writer);
-    let mut notes = Notes::new();
-    let done = run_noted(rt, alloc, command, &mut left, &mut held, &mut notes);
+    let mut log = Log::new(progress);
+    let done = run_noted(rt, alloc, command, &mut left, &mut held, &mut log);
     Ran {
         done,
         reader: left,
         writer: held,
-        notes,
+        notes: log.notes,
     }
 }
 
-/// Runs a command, or hands the reader and the writer back where its thread was refused.
-fn run_if_started<R: Threads + Wait + RandomSource, S: Source, K: Sink>(
+/// Runs a command, or returns the reader and the writer if its thread could not be started.
+fn run_if_started<R: Threads + Wait + RandomSource, S: Source, K: Sink, P: Progress>(
     rt: &R,
     alloc: Global,
     command: &Command,
     refused: &AtomicBool,
     reader: S,
     writer: K,
+    progress: &P,
 ) -> Ran<S, K>
     ensures run { IsRun S.left S.failures K.held K.failures K.write_gives
         (request_of command.now) reader result.reader writer result.writer result.done }
@@ -125,17 +127,18 @@ fn run_if_started<R: Threads + Wait + RandomSource, S: Source, K: Sink>(
             notes: Notes::new(),
         };
     }
-    run_here(rt, alloc, command, reader, writer)
+    run_here(rt, alloc, command, reader, writer, progress)
 }
 
-/// Starts a thread of a scope that runs a command, and joins it. Where the start is refused, nothing
-/// is read or written.
+/// Starts a thread of a scope that runs a command, and joins it. If it cannot be started, nothing is read or
+/// written.
 fn start_and_join<
     's,
     E,
     R: Threads + Wait + RandomSource + Sync,
     S: Source + Send + Drop + 's,
     K: Sink + Send + Drop + 's,
+    P: Progress + Sync + 's,
 >(
     rt: &'s R,
     scope: &Scope<'s, E>,
@@ -145,6 +148,7 @@ fn start_and_join<
     refused: &'s AtomicBool,
     reader: S,
     writer: K,
+    progress: &'s P,
 ) -> Ran<S, K>
     ensures run { IsRun S.left S.failures K.held K.failures K.write_gives
         (request_of command.now) reader result.reader writer result.writer result.done }
@@ -157,7 +161,7 @@ fn start_and_join<
         writer: Snapshot::of(&writer),
     };
     let stack = Stack::new().stack_size(stack);
-    let worker = move || run_if_started(rt, alloc, command, refused, reader, writer);
+    let worker = move || run_if_started(rt, alloc, command, refused, reader, writer, progress);
     match stack.spawn_scoped_with(scope, promise, worker) {
         Ok(thread) => thread.join(rt),
         Err(unstarted) => {
@@ -167,12 +171,21 @@ fn start_and_join<
     }
 }
 
-/// Runs a command on a thread of its own, with a stack of so many bytes.
+/// Runs a command on a thread of its own, with a stack of this number of bytes.
 fn run_apart<
     R: Threads + Wait + RandomSource + Sync,
     S: Source + Send + Drop,
     K: Sink + Send + Drop,
->(rt: &R, alloc: Global, command: &Command, stack: usize, reader: S, writer: K) -> Ran<S, K>
+    P: Progress + Sync,
+>(
+    rt: &R,
+    alloc: Global,
+    command: &Command,
+    stack: usize,
+    reader: S,
+    writer: K,
+    progress: &P,
+) -> Ran<S, K>
     ensures run { IsRun S.left S.failures K.held K.failures K.write_gives
         (request_of command.now) reader result.reader writer result.writer result.done }
     ensures unread { IsByOneWorker command.now
@@ -189,7 +202,11 @@ fn run_apart<
                 result.done }
             ensures unread { IsByOneWorker command.entry.now
                 → result.done ≡ Err WorkerRefused → result.reader ≡ reader }
-        { start_and_join(rt, scope, alloc, command, stack, refused, reader, writer) },
+        {
+            start_and_join(
+                rt, scope, alloc, command, stack, refused, reader, writer, progress,
+            )
+        },
     )
 }
 
@@ -198,7 +215,16 @@ fn run_select<
     R: Threads + Wait + RandomSource + Sync,
     S: Source + Send + Drop,
     K: Sink + Send + Drop,
->(rt: &R, alloc: Global, command: &Command, query: &str, reader: S, writer: K) -> Ran<S, K>
+    P: Progress + Sync,
+>(
+    rt: &R,
+    alloc: Global,
+    command: &Command,
+    query: &str,
+    reader: S,
+    writer: K,
+    progress: &P,
+) -> Ran<S, K>
     requires query { request_of command.now ≡ select query.now }
     ensures run { IsRun S.left S.failures K.held K.failures K.write_gives
         (request_of command.now) reader result.reader writer result.writer result.done }
@@ -207,7 +233,15 @@ fn run_select<
     ensures answerable { result.done ≡ Err WorkerRefused → IsAnswerable (select query.now) }
 {
     match check_query(alloc, query) {
-        Ok(()) => run_apart(rt, alloc, command, stack_for(query), reader, writer),
+        Ok(()) => run_apart(
+            rt,
+            alloc,
+            command,
+            stack_for(query),
+            reader,
+            writer,
+            progress,
+        ),
         Err(rejected) => Ran::not_run(RunFault::from(rejected), reader, writer),
     }
 }
@@ -217,7 +251,8 @@ fn run_command<
     R: Threads + Wait + RandomSource + Sync,
     S: Source + Send + Drop,
     K: Sink + Send + Drop,
->(rt: &R, alloc: Global, command: &Command, reader: S, writer: K) -> Ran<S, K>
+    P: Progress + Sync,
+>(rt: &R, alloc: Global, command: &Command, reader: S, writer: K, progress: &P) -> Ran<S, K>
     ensures run { IsRun S.left S.failures K.held K.failures K.write_gives
         (request_of command.now) reader result.reader writer result.writer result.done }
     ensures alone { IsDoneAlone command.now → result.done ≡ Err WorkerRefused → ⊥ }
@@ -227,10 +262,10 @@ fn run_command<
 {
     match command {
         Command::Select { query, .. } => {
-            run_select(rt, alloc, command, query.as_str(), reader, writer)
+            run_select(rt, alloc, command, query.as_str(), reader, writer, progress)
         }
         Command::Check { .. } | Command::Terms { .. } => {
-            run_here(rt, alloc, command, reader, writer)
+            run_here(rt, alloc, command, reader, writer, progress)
         }
     }
 }
@@ -254,14 +289,15 @@ pub fn run_words<
     R: Threads + Wait + RandomSource + Sync,
     S: Source + Send + Drop,
     K: Sink + Send + Drop,
->(rt: &R, alloc: Global, words: &[String], reader: S, writer: K) -> Ran<S, K>
+    P: Progress + Sync,
+>(rt: &R, alloc: Global, words: &[String], reader: S, writer: K, progress: &P) -> Ran<S, K>
     ensures run { IsRunOf S.left S.failures K.held K.failures K.write_gives
         (map string_bytes words.now) reader result.reader writer result.writer result.done
         ⊎ IsNotRun (map string_bytes words.now) reader result.reader writer result.writer
         result.done }
 {
     match read_command(alloc, words) {
-        Ok(command) => run_command(rt, alloc, &command, reader, writer),
+        Ok(command) => run_command(rt, alloc, &command, reader, writer, progress),
         Err(fault) => Ran::not_run(RunFault::from(fault), reader, writer),
     }
 }

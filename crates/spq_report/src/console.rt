@@ -1,17 +1,20 @@
-//! What is shown at a terminal while a document is read.
+//! What is shown at a terminal of a run that takes more than a second.
 
 use crate::devices::Meter;
+use spq_core::{Progress, Stage};
 use std::io;
 use std::io::Write;
-use std::time::{Clock, Instant};
+use std::sync::{Condvar, Mutex, Wait};
+use std::time::{Clock, Duration, Instant};
 
-/// How many milliseconds a run takes before anything is shown of it, and between two lines.
-const BEFORE: u128 = 1000;
+/// The milliseconds that a run takes before anything is shown of it.
+const BEFORE: u64 = 1000;
 
-const BETWEEN: u128 = 200;
+/// The milliseconds after which the line is written again.
+const BETWEEN: u64 = 200;
 
-/// After how many bytes of a document its loading takes longer than that.
-const LONG: u64 = 100_000_000;
+/// What begins a line that replaces the one before.
+const CLEAR: &[u8] = b"\r\x1b[K";
 
 /// Which devices of a program are terminals.
 #[derive(Clone, Copy, Debug)]
@@ -21,78 +24,140 @@ pub struct Terminals {
     pub error: bool,
 }
 
-/// A meter that says that a terminal is read, and that shows at a terminal how far a document is read: one
-/// line, which is written anew and cleared at the end.
+/// How far a run is, and the terminal that shows it.
 #[derive(Drop)]
-pub struct Console<C, W> {
-    clock: C,
+struct Screen<W> {
     out: W,
-    terminals: Terminals,
-    is_begun: bool,
-    start: Option<Instant>,
-    /// When a line was shown last, in milliseconds after the start.
-    last: Option<u128>,
+    stage: Stage,
     bytes: u64,
     lines: u64,
+    /// The milliseconds after which the end was read.
+    read_in: Option<u128>,
+    /// Whether a read has begun.
+    is_begun: bool,
+    /// Whether a line is shown.
+    is_shown: bool,
+    /// Whether nothing more is to be shown.
+    is_over: bool,
 }
 
-impl<C: Clock, W: Write> Console<C, W> {
-    /// Returns a meter that has shown nothing.
-    pub fn new(clock: C, out: W, terminals: Terminals) -> Console<C, W> {
-        Console {
-            clock,
-            out,
-            terminals,
-            is_begun: false,
-            start: None,
-            last: None,
-            bytes: 0,
-            lines: 0,
-        }
+/// Returns the name of a stage that is shown.
+fn name_of(stage: Stage) -> Option<&'static str> {
+    match stage {
+        Stage::Checking => None,
+        Stage::Reading => Some("reading"),
+        Stage::Sorting => Some("indexing"),
+        Stage::Joining => Some("evaluating"),
+        Stage::Printing => Some("printing"),
     }
+}
 
-    /// The milliseconds since the first read; None if the clock fails.
-    fn elapsed(&self) -> Option<u128> {
-        let start = self.start?;
-        let time = start.elapsed(&self.clock).ok()?;
-        Some(time.as_millis())
-    }
-
-    /// Shows how far the document is read.
-    fn show(&mut self, millis: u128, is_end: bool) -> io::Result<()> {
+impl<W: Write> Screen<W> {
+    /// Writes the line for this time after the start.
+    fn draw(&mut self, millis: u128) -> io::Result<()> {
+        let Some(stage) = name_of(self.stage) else {
+            return Ok(());
+        };
+        self.is_shown = true;
         let megabytes = self.bytes / 1_000_000;
-        if is_end {
-            return write!(self.out, "\r\x1b[Kspq: {megabytes} MB read, loading");
-        }
-        let rate = (self.lines as u128).saturating_mul(1000) / millis.max(1);
+        let time = self.read_in.unwrap_or(millis);
+        let rate = (self.lines as u128).saturating_mul(1000) / time.max(1);
+        self.out.write_all(CLEAR)?;
         write!(
             self.out,
-            "\r\x1b[Kspq: {megabytes} MB read, {rate} statements a second"
+            "spq: {megabytes} MB read, {rate} statements a second, {stage}"
         )
     }
 
-    /// Shows how far the document is read, if it is time to.
-    fn show_in_time(&mut self, is_end: bool) {
-        let Some(millis) = self.elapsed() else {
-            return;
+    /// Clears the line, and shows no other.
+    fn end(&mut self) {
+        if self.is_shown {
+            let _cleared = self.out.write_all(CLEAR);
+        }
+        self.is_shown = false;
+        self.is_over = true;
+    }
+}
+
+/// A meter that says that a terminal is read, and that shows at a terminal how far a run is: one line, which is
+/// written again in its place and cleared at the end. Threads may share it.
+#[derive(Drop)]
+pub struct Console<R, C, W> {
+    rt: R,
+    clock: C,
+    terminals: Terminals,
+    start: Option<Instant>,
+    screen: Mutex<Screen<W>>,
+    ended: Condvar,
+}
+
+impl<R: Wait, C: Clock, W: Write> Console<R, C, W> {
+    /// Returns a console that has shown nothing, of a run that begins now.
+    pub fn new(rt: R, clock: C, out: W, terminals: Terminals) -> Console<R, C, W> {
+        let start = Instant::now(&clock).ok();
+        let screen = Screen {
+            out,
+            stage: Stage::Checking,
+            bytes: 0,
+            lines: 0,
+            read_in: None,
+            is_begun: false,
+            is_shown: false,
+            is_over: false,
         };
-        let is_long = millis >= BEFORE || (is_end && self.bytes >= LONG);
-        let is_due = match self.last {
-            Some(last) => is_end || millis >= last.saturating_add(BETWEEN),
-            None => true,
-        };
-        if is_long && is_due {
-            self.last = Some(millis);
-            let _shown = self.show(millis, is_end);
+        Console {
+            rt,
+            clock,
+            terminals,
+            start,
+            screen: Mutex::new(screen),
+            ended: Condvar::new(),
         }
     }
 
-    /// Clears the line, if one is shown.
-    pub fn clear(&mut self) {
-        if self.last.is_some() {
-            self.last = None;
-            let _cleared = self.out.write_all(b"\r\x1b[K");
+    /// Returns whether anything may be shown: standard error is a terminal, and nobody types at standard input.
+    pub fn is_watched(&self) -> bool {
+        self.terminals.error && !self.terminals.input
+    }
+
+    /// The milliseconds since the start; None if the clock fails.
+    fn elapsed(&self) -> Option<u128> {
+        let time = self.start?.elapsed(&self.clock).ok()?;
+        Some(time.as_millis())
+    }
+
+    /// Shows how far the run is, if it has taken more than a second and has not ended.
+    pub fn show(&self) {
+        let Some(millis) = self.elapsed() else {
+            return;
+        };
+        let mut screen = self.screen.lock(&self.rt);
+        if millis >= BEFORE as u128 && !screen.is_over {
+            let _shown = screen.draw(millis);
         }
+    }
+
+    /// Shows how far the run is, again and again until it ends.
+    pub fn watch<T: Wait + Clock>(&self, rt: &T) {
+        let mut time = Duration::from_millis(BEFORE);
+        for _ in self.rt.forever() {
+            let screen = self.screen.lock(rt);
+            let (screen, _ended) = self
+                .ended
+                .wait_timeout_while(rt, screen, time, |screen| !screen.is_over);
+            if screen.is_over {
+                return;
+            }
+            drop(screen);
+            self.show();
+            time = Duration::from_millis(BETWEEN);
+        }
+    }
+
+    /// Clears the line, and shows no other.
+    pub fn end(&self) {
+        self.screen.lock(&self.rt).end();
+        self.ended.notify_all();
     }
 }
 
@@ -107,26 +172,56 @@ fn line_feeds(bytes: &[u8]) -> u64 {
     count
 }
 
-impl<C: Clock, W: Write> Meter for Console<C, W> {
-    fn begins(&mut self) {
-        if self.is_begun {
+impl<R: Wait, C: Clock, W: Write> Progress for Console<R, C, W> {
+    fn begin(&self, stage: Stage) {
+        if !self.is_watched() {
             return;
         }
-        self.is_begun = true;
-        self.start = Instant::now(&self.clock).ok();
-        if self.terminals.input {
-            let _told = self.out.write_all(
+        let millis = self.elapsed();
+        let mut screen = self.screen.lock(&self.rt);
+        screen.stage = stage;
+        if screen.is_shown {
+            if let Some(millis) = millis {
+                let _shown = screen.draw(millis);
+            }
+        }
+    }
+}
+
+impl<R: Wait, C: Clock, W: Write> Meter for Console<R, C, W> {
+    fn begins(&self) {
+        if !self.terminals.input {
+            return;
+        }
+        let mut screen = self.screen.lock(&self.rt);
+        if !screen.is_begun {
+            screen.is_begun = true;
+            let _told = screen.out.write_all(
                 b"spq: N-Quads is read from the terminal; end it with Ctrl-D\n",
             );
         }
     }
 
-    fn gave(&mut self, bytes: &[u8]) {
-        if !self.terminals.error || self.terminals.input {
+    fn gave(&self, bytes: &[u8]) {
+        if !self.is_watched() {
             return;
         }
-        self.bytes = self.bytes.saturating_add(bytes.len() as u64);
-        self.lines = self.lines.saturating_add(line_feeds(bytes));
-        self.show_in_time(bytes.is_empty());
+        if bytes.is_empty() {
+            let millis = self.elapsed();
+            self.screen.lock(&self.rt).read_in = millis;
+            self.begin(Stage::Sorting);
+            return;
+        }
+        let lines = line_feeds(bytes);
+        let mut screen = self.screen.lock(&self.rt);
+        screen.bytes = screen.bytes.saturating_add(bytes.len() as u64);
+        screen.lines = screen.lines.saturating_add(lines);
+    }
+
+    /// A line of progress must not be in the middle of the output.
+    fn writes(&self) {
+        if self.terminals.output && self.is_watched() {
+            self.end();
+        }
     }
 }

@@ -1,46 +1,52 @@
 //! The devices of a run, which keep the system's errors.
-ghost use Rattle.std.specs.Prelude.{◌≡◌, None};
+ghost use Rattle.std.specs.Prelude.{◌≡◌, None, false};
 
 use nquads_core::{DeviceFailed, Sink, Source};
 use std::io::{Error, Read, Write};
 
-/// What is told of the reads of an [`Input`], as they happen.
+/// What an [`Input`] and an [`Output`] call as they read and write.
 pub trait Meter {
     /// A read is about to begin.
-    fn begins(&mut self);
+    fn begins(&self);
 
     /// A read gave these bytes; none at the end.
-    fn gave(&mut self, bytes: &[u8]);
+    fn gave(&self, bytes: &[u8]);
+
+    /// A write is about to begin.
+    fn writes(&self);
 }
 
-/// A meter that shows nothing.
-#[derive(Drop)]
+/// A meter that does nothing.
+#[derive(Clone, Copy, Debug)]
 pub struct NoMeter;
 
 impl Meter for NoMeter {
-    fn begins(&mut self) {}
+    fn begins(&self) {}
 
-    fn gave(&mut self, _bytes: &[u8]) {}
+    fn gave(&self, _bytes: &[u8]) {}
+
+    fn writes(&self) {}
 }
 
-/// A reader of std as a source. It keeps the first error of the reader, and tells a meter what it reads. After the end
-/// was read it reads no more: at a terminal each further read would wait for another end.
+/// A reader of std as a source. It keeps the first error of the reader, and calls a meter. After the end was read it
+/// reads no more: at a terminal each further read would wait for another end.
 #[derive(Drop)]
-pub struct Input<T, M> {
+pub struct Input<'m, T, M> {
     pub inner: T,
-    pub meter: M,
+    pub meter: &'m M,
     /// The first error of a read.
     pub error: Option<Error>,
     /// Whether the end was read.
     pub is_over: bool,
 }
 
-impl<T, M> Input<T, M> {
+impl<'m, T, M> Input<'m, T, M> {
     /// Returns a source that has had no error.
-    pub fn new(inner: T, meter: M) -> Input<T, M>
+    pub fn new(inner: T, meter: &'m M) -> Input<'m, T, M>
         ensures inner { result.inner ≡ inner }
-        ensures meter { result.meter ≡ meter }
+        ensures meter { result.meter.now ≡ meter.now }
         ensures error { result.error ≡ None }
+        ensures open { result.is_over ≡ false }
     {
         Input {
             inner,
@@ -51,7 +57,7 @@ impl<T, M> Input<T, M> {
     }
 }
 
-impl<T: Read, M: Meter> Source for Input<T, M> {
+impl<'m, T: Read, M: Meter> Source for Input<'m, T, M> {
     ghost use Rattle.std.specs.Prelude.{None};
     ghost use Rattle.spq_report.specs.Devices.{left_of};
 
@@ -78,25 +84,31 @@ impl<T: Read, M: Meter> Source for Input<T, M> {
     }
 }
 
-/// A writer of std as a sink. It keeps the first error of the writer.
+/// A writer of std as a sink. It keeps the first error of the writer, and calls a meter.
 #[derive(Drop)]
-pub struct Output<T> {
+pub struct Output<'m, T, M> {
     pub inner: T,
+    pub meter: &'m M,
     /// The first error of a write.
     pub error: Option<Error>,
 }
 
-impl<T> Output<T> {
+impl<'m, T, M> Output<'m, T, M> {
     /// Returns a sink that has had no error.
-    pub fn new(inner: T) -> Output<T>
+    pub fn new(inner: T, meter: &'m M) -> Output<'m, T, M>
         ensures inner { result.inner ≡ inner }
+        ensures meter { result.meter.now ≡ meter.now }
         ensures error { result.error ≡ None }
     {
-        Output { inner, error: None }
+        Output {
+            inner,
+            meter,
+            error: None,
+        }
     }
 }
 
-impl<T: Write> Sink for Output<T> {
+impl<'m, T: Write, M: Meter> Sink for Output<'m, T, M> {
     ghost use Rattle.std.specs.Prelude.{None};
 
     ghost held = { λ d. T.contents d.inner };
@@ -104,6 +116,7 @@ impl<T: Write> Sink for Output<T> {
     ghost failures = { λ _. None };
 
     fn write(&mut self, bytes: &[u8]) -> Result<usize, DeviceFailed> {
+        self.meter.writes();
         match self.inner.write(bytes) {
             Ok(count) => Ok(count),
             Err(error) => {

@@ -65,7 +65,7 @@ pub fn rejected<W: Write>(out: &mut W, alloc: Global, account: &Account<'_>) -> 
     }
 }
 
-/// Writes the message about words that are no command, or the help that they ask for.
+/// Writes the message about words that are no command, or the help that they request.
 pub fn no_command<W: Write>(
     out: &mut W,
     alloc: Global,
@@ -93,7 +93,7 @@ pub fn no_memory<W: Write>(out: &mut W, stage: Stage) -> io::Result<()> {
     out.write_all(b"hint: docs/COST.md says how much memory a document and a query take\n")
 }
 
-/// How many workers a command asks for, and whether it is a query.
+/// Returns the number of workers of a command, and whether it is a query.
 fn workers_of(command: &Command) -> (usize, bool) {
     match command {
         Command::Select { reading, .. } => (reading.workers, true),

@@ -6,10 +6,11 @@
 //! the warnings, and otherwise nothing. docs/DIAGNOSTICS.md lists the messages.
 //!
 //! [`Input`] and [`Output`] are the devices of a run. They keep the first error of the system, whose text the
-//! message shows, and an `Input` tells a [`Meter`] what it reads.
+//! message shows, and call a [`Meter`] as they read and write. [`Console`] is the meter of the program: at a
+//! terminal it shows how far a run is that takes more than a second.
 //!
-//! To read in this order: `devices`, `console` (what a terminal shows while a document is read), `account` (what a
-//! message is made of), `failures` (a message for each fault), `warnings`, `reports`. The tests in report_tests run tables of messages.
+//! To read in this order: `devices`, `console` (what a terminal shows of a run), `account` (what a message is made of),
+//! `failures` (a message for each fault), `warnings`, `reports`. The tests in report_tests run tables of messages.
 //!
 //! Not promised: that standard error takes the message.
 #![tactic(auto)]

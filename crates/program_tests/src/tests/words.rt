@@ -2,7 +2,7 @@
 
 use super::asking::{CHUNK, print_difference};
 use sparql_read::QueryFault;
-use spq_core::{RunFault, run_words};
+use spq_core::{NoProgress, RunFault, run_words};
 use std::alloc::{AllocError, Global};
 use std::random::RandomSource;
 use std::sync::Wait;
@@ -34,7 +34,7 @@ fn end_so<R: Threads + Wait + RandomSource + Sync + Print>(
     };
     let reader = SliceSource::new(STATEMENT, CHUNK);
     let writer = VecSink::new(alloc, 1000);
-    let ran = run_words(rt, alloc, &words, reader, writer);
+    let ran = run_words(rt, alloc, &words, reader, writer, &NoProgress);
     if ran.done != done || ran.writer.bytes.as_slice() != expected {
         let _ = println!(rt; "expected {done:?}, got {:?}", ran.done);
         print_difference(rt, expected, &ran.writer.bytes);
