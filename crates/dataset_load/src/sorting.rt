@@ -1,4 +1,4 @@
-//! The three lists of an index, sorted side by side.
+//! The three lists of an index, sorted in parallel.
 ghost use Rattle.std.specs.Prelude.{◌≡◌, ◌≤◌, ◌∷◌, [], length, IfOk, IfErr, IsPermutation};
 ghost use Rattle.algebra_model.specs.Bag.{without_repeats};
 ghost use Rattle.dict_core.specs.Equality.{quad_eq};
@@ -55,7 +55,7 @@ fn order_at(i: u64) -> SortOrder
 /// The index of these quads: a statement that is repeated counts once.
 ///
 /// # Errors
-/// `WorkerRefused`, `Memory`: as in a pool. The first never comes of one worker.
+/// `WorkerRefused` and `Memory` as in a pool. With one worker the first cannot occur.
 pub(crate) fn sorted_index<R: Threads + Wait>(
     rt: &R,
     alloc: Global,

@@ -5,7 +5,7 @@
 ghost use Rattle.std.specs.Prelude.{◌≡◌, true, map, All, IfOk, IfSome, IsPermutation, IsSorted};
 ghost use Rattle.algebra_model.specs.Bag.{IsWithoutRepeats, without_repeats};
 ghost use Rattle.dict_core.proofs.NumQuadLaws.{quad_eq};
-ghost use Rattle.quad_index.specs.Packed.{IsSmall, key_of, quad_of};
+ghost use Rattle.quad_index.specs.Packed.{IsSmall, graph_key_of, key_of, quad_of};
 ghost use Rattle.quad_index.specs.SortOrder.{order_cmp};
 
 use crate::sort_order::SortOrder;
@@ -40,7 +40,7 @@ pub(crate) fn packed_list(
 }
 
 /// The keys of the quads, or `None` if a number is too large for its place.
-fn keys_of(
+pub(crate) fn keys_of(
     alloc: Global,
     quads: &[NumQuad],
     order: SortOrder,
@@ -82,6 +82,13 @@ fn key_of(order: SortOrder, quad: &NumQuad) -> u128
     ((g * PLACE + a as u128) * PLACE + b as u128) * PLACE + c as u128
 }
 
+/// The place of the graph name in a key: 0 if there is none.
+pub(crate) fn graph_key_of(key: u128) -> u64
+    ensures graph { result ≡ graph_key_of key }
+{
+    (key / PLACE / PLACE / PLACE) as u64
+}
+
 /// The quads that have these keys.
 fn quads_of(alloc: Global, keys: &[u128], order: SortOrder) -> Result<Vec<NumQuad>, AllocError>
     ensures quads { IfOk result (λ quads. quads.items ≡ map (quad_of order) keys.now) }
@@ -95,7 +102,7 @@ fn quad_of(order: SortOrder, key: u128) -> NumQuad
     let a = (key / PLACE / PLACE % PLACE) as u64;
     let b = (key / PLACE % PLACE) as u64;
     let c = (key % PLACE) as u64;
-    let g = match (key / PLACE / PLACE / PLACE) as u64 {
+    let g = match graph_key_of(key) {
         0 => None,
         g => Some(g - 1),
     };

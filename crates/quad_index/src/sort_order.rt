@@ -23,10 +23,10 @@ pub enum SortOrder {
 /// The quads in this order, each once.
 ///
 /// Lists of the same quads in the three orders make an index by `Index::of_lists`, so that they may
-/// be sorted side by side.
+/// be sorted in parallel.
 ///
 /// # Errors
-/// `AllocError`: a growth was refused. The quads, which are lent, are unchanged.
+/// `AllocError` if an allocation fails.
 pub fn sorted_list(
     alloc: Global,
     quads: &[NumQuad],

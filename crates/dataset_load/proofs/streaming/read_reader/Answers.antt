@@ -1,5 +1,5 @@
 use Rattle.dataset_load.proofs.StreamingSteps.{bad_from, part_both}
-use Rattle.dataset_load.proofs.streaming.load_reader.Goals as goal
+use Rattle.dataset_load.proofs.streaming.read_reader.Goals as goal
 
 pub returns-in-Ok-skip_rest-clause-bad_line : goal.returns-in-Ok-skip_rest-clause-bad_line
 returns-in-Ok-skip_rest-clause-bad_line g c =
