@@ -1,5 +1,5 @@
 -- Pieces that are read in parallel, and then added. Only private clauses cite these words.
-use Rattle.std.specs.Prelude.{◌≡◌, ℕ, zero, suc, ◌+◌, ◌==◌, List, [], ◌∷◌, length, IsSorted, IsPermutation, if◌then◌else◌}
+use Rattle.std.specs.Prelude.{◌≡◌, ℕ, zero, suc, ◌+◌, ◌<◌, ◌==◌, List, [], ◌∷◌, length, slice_index_or, IsSorted, IsPermutation, if◌then◌else◌}
 use Rattle.std.specs.List.{AllZip}
 use Rattle.rdf_core.specs.declared.term.Term.{Term}
 use Rattle.rdf_core.specs.QuadParts.{QuadParts}
@@ -53,6 +53,11 @@ pub record IsSortedList (order : SortOrder) (quads list : List NumQuad) : Type 0
   pub sorted : IsSorted (order_cmp order) list
   pub each_once : IsPermutation (without_repeats quad_eq quads) list
   pub distinct : IsWithoutRepeats quad_eq list
+
+-- the quads in the three orders, each once
+pub record AreSortedLists (quads : List NumQuad) (lists : List (List NumQuad)) : Type 0 where
+  pub three : length lists ≡ 3
+  pub each : (i : ℕ) → i < 3 → IsSortedList (order_at i) quads (slice_index_or lists i [])
 
 -- No lines are all valid and have a first malformed line.
 pub not_both : (ls : List (List ℕ)) (quads : List QuadParts) (k : ℕ) → SpellAll ls quads → IsFirstBad ls k → ⊥

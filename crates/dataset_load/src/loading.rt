@@ -113,7 +113,7 @@ pub(crate) fn store_of<R: Threads + Wait>(
     ensures one_worker { workers ≡ 1 → IfErr result IsNoRefusedWorker }
 {
     let Numbered { dict, quads, .. } = so_far;
-    let index = sorted_index(rt, alloc, quads.as_slice(), workers)?;
+    let index = sorted_index(rt, alloc, quads, workers)?;
     Ok(Store::of_parts(dict, index))
 }
 

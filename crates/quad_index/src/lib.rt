@@ -2,7 +2,7 @@
 //!
 //! An [`Index`] is seen as the list of its quads, in which each quad is once.
 //! [`Index::build`] makes it of a list with repeats; [`sorted_list`] and [`Index::of_lists`] do the
-//! same in parts, so that the three lists may be sorted in parallel. [`count_quads`] counts what an index would
+//! same in parts, so that the three lists may be sorted in parallel. A [`PackedList`] takes less memory meanwhile. [`count_quads`] counts what an index would
 //! have, and builds none. [`Index::scan`] returns exactly
 //! the quads of one graph that have the given numbers at the given places, each once: its contract
 //! says that the slice is, in some order, the quads of the index that agree. The evaluator above uses this
@@ -26,4 +26,5 @@ mod sort_order;
 pub use counting::{IndexCounts, count_quads};
 pub use index::Index;
 pub use laws::{index_counts_the_quads, index_names_the_graphs, index_reads_the_quads};
+pub use packed::PackedList;
 pub use sort_order::{SortOrder, sorted_list};

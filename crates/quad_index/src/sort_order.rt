@@ -4,7 +4,7 @@ ghost use Rattle.algebra_model.specs.Bag.{IsWithoutRepeats, without_repeats};
 ghost use Rattle.dict_core.specs.Equality.{quad_eq};
 ghost use Rattle.quad_index.specs.SortOrder.{order_cmp};
 
-use crate::packed::packed_list;
+use crate::packed::PackedList;
 use dict_core::NumQuad;
 use std::alloc::{AllocError, Global};
 
@@ -37,8 +37,8 @@ pub fn sorted_list(
         (λ list. IsPermutation (without_repeats quad_eq quads.now) list.items) }
     ensures distinct { IfOk result (λ list. IsWithoutRepeats quad_eq list.items) }
 {
-    match packed_list(alloc, quads, order)? {
-        Some(list) => Ok(list),
+    match PackedList::of(alloc, quads, order)? {
+        Some(list) => list.quads(alloc),
         None => plain_list(alloc, quads, order),
     }
 }
