@@ -22,7 +22,7 @@ ROOT = os.path.dirname(os.path.dirname(os.path.abspath(__file__)))
 CLEAN = [
     "CHANGELOG.md", "CONTRIBUTING.md", "bench/*.md", "docs/COMPARISON.md", "docs/CONTRACTS.md", "docs/COST.md", "docs/DECISIONS.md", "docs/DEFINITIONS.md",
     "docs/RECIPES.md", "docs/THEOREM.md", "docs/USAGE.md", "docs/decisions/*.md", "docs/definitions/*.md",
-    "crates/algebra_model/*", "crates/line_tests/*", "crates/loading_tests/*", "crates/piece_board/*", "crates/result_json/*", "crates/row_core/*",
+    "crates/algebra_model/*", "crates/dataset_load/*", "crates/line_tests/*", "crates/loading_tests/*", "crates/piece_board/*", "crates/quad_index/*", "crates/result_json/*", "crates/row_core/*",
     "crates/row_join/*", "crates/row_pattern/*", "crates/row_tests/*", "crates/sparql_tree/*", "crates/spq_command/*",
     "bench/*.c", "bench/*.py", "bench/*.rs", "bench/*.sh", "tests/*.c", "tests/*.py", "tests/*.sh",
 ]

@@ -108,11 +108,7 @@ impl<'l> Job for UnpackedLists<'l> {
 }
 
 /// The quads of the list with this number, and none after the last list.
-fn unpacked_list(
-    alloc: Global,
-    lists: &[PackedList],
-    i: u64,
-) -> Result<Vec<NumQuad>, AllocError>
+fn unpacked_list(alloc: Global, lists: &[PackedList], i: u64) -> Result<Vec<NumQuad>, AllocError>
     ensures list { IfOk result (λ list. list.items ≡ slice_index_or lists.now i []) }
 {
     if i < lists.len() as u64 {
@@ -169,10 +165,7 @@ fn packed_lists<R: Threads + Wait>(
 }
 
 /// The values, or `None` if one of them is `None`.
-fn all_found<T: Drop>(
-    alloc: Global,
-    found: Vec<Option<T>>,
-) -> Result<Option<Vec<T>>, AllocError>
+fn all_found<T: Drop>(alloc: Global, found: Vec<Option<T>>) -> Result<Option<Vec<T>>, AllocError>
     ensures values { IfOk result
         (λ all. IfSome all (λ values. map Some values.items ≡ found.items)) }
 {

@@ -130,7 +130,11 @@ fn are_right<R: Threads + Wait + RandomSource + Print>(
     requires workers { (1 ≤ workers) × (workers ≤ 64) }
 {
     for (name, doc, all, terms) in DOCUMENTS {
-        let expected = if matches!(call, Call::Terms) { *terms } else { *all };
+        let expected = if matches!(call, Call::Terms) {
+            *terms
+        } else {
+            *all
+        };
         let found = streamed(rt, alloc, call, *doc, size, workers);
         if !holds(rt, *name, expected, found) {
             return false;

@@ -137,11 +137,7 @@ impl Blocks {
 ///
 /// # Errors
 /// `AllocError` if an allocation fails.
-fn take_front(
-    kept: &mut Vec<u8>,
-    place: usize,
-    buffer: Vec<u8>,
-) -> Result<Vec<u8>, AllocError>
+fn take_front(kept: &mut Vec<u8>, place: usize, buffer: Vec<u8>) -> Result<Vec<u8>, AllocError>
     requires inside { place ≤ length kept.old.items }
     ensures front { IfOk result (λ block. block.items ≡ take place kept.old.items) }
     ensures rest { OnOk result (kept.new.items ≡ drop place kept.old.items) }

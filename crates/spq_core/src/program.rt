@@ -16,9 +16,7 @@ use crate::fault::Fault;
 use crate::listing::{counts_text, terms_text};
 use crate::notes::{Notes, Stage};
 use algebra_model::laws::{a_bag_has_one_sorted_list, a_dataset_is_a_set};
-use dataset_load::{
-    Counted, LoadNotes, ReaderFault, Store, count_reader, load_reader, load_terms,
-};
+use dataset_load::{Counted, LoadNotes, ReaderFault, Store, count_reader, load_reader, load_terms};
 use dict_core::Dict;
 use nquads_core::{DeviceFailed, Sink, Source, write_all};
 use piece_pool::OpenGate;

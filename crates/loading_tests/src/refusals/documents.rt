@@ -7,8 +7,7 @@ ghost use Rattle.std.specs.Prelude.{◌≤◌};
 
 use crate::documents::{BAD, Counts, GRAPHS, NUMBERED, REPEATED, TAGGED, TWO_LINES, TYPED, counts};
 use dataset_load::{
-    LoadFault, LoadNotes, ReaderFault, count_reader, load, load_blocks, load_reader,
-    read_blocks,
+    LoadFault, LoadNotes, ReaderFault, count_reader, load, load_blocks, load_reader, read_blocks,
 };
 use nquads_core::{Device, ReadFault};
 use piece_cuts::Cuts;
