@@ -4,4 +4,5 @@ mod LoadingSteps
 mod SortingSteps
 mod ReaderSteps
 mod StreamingSteps
+mod CountingSteps
 pub mod LineSteps

@@ -1,4 +1,4 @@
--- Lines of a document that lies in pieces, and what they spell.
+-- Lines of a document that is split into pieces, and the statements in them.
 use Rattle.std.proofs.Common.{◌≡◌, ℕ, zero, suc, ◌+◌, List, [], ◌∷◌, ◌++◌, length, refl, sym, ap, ◌∙◌, subst, append_assoc, append-nil, arith}
 use Rattle.std.specs.Prelude.{option_to_list}
 use Rattle.rdf_core.specs.QuadParts.{QuadParts}
@@ -12,7 +12,7 @@ spell-append [] ys qs rs a b = subst (λ (q : List QuadParts). SpellAll ys (q ++
 spell-append (x ∷ xs) ys qs rs a b =
     (a.0, a.1 ++ rs, a.2, ap (λ (q : List QuadParts). q ++ rs) a.3 ∙ append_assoc (option_to_list a.0) a.1 rs, spell-append xs ys a.1 rs a.4 b)
 
--- the first bad line of what stands behind lines that spell quads
+-- the first malformed line of what follows valid lines
 pub bad_behind : (xs ys : List (List ℕ)) (qs : List QuadParts) (k : ℕ) → SpellAll xs qs → IsFirstBad ys k → IsFirstBad (xs ++ ys) (length xs + k)
 bad_behind [] ys qs k a b = let e : k ≡ 0 + k = omega arith in subst (λ (n : ℕ). IsFirstBad ys n) e b
 bad_behind (x ∷ xs) ys qs k a b =

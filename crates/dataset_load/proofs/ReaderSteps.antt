@@ -92,7 +92,7 @@ read_all (Some xs) (Some ys) None done kept kept' size h k e = absurd k
 read_all (Some xs) (Some ys) (Some zs) done kept kept' size h k e =
     h ∙ ap (λ bs. done ++ bs) k ∙ ap (λ bs. done ++ bs) (sym e)
 
--- behind a first piece that does not end with a line feed there is nothing
+-- nothing follows a first piece that does not end with a line feed
 pub nothing_behind : (size : ℕ) (text rest : List ℕ) (block : Vec ℕ Global) → IsFirstPiece size text block.items rest
     → ¬ EndsWithLineFeed block.items → rest ≡ []
 nothing_behind size text rest block first unended =
@@ -125,7 +125,7 @@ none_at_end left (inr end) = end
 
 -- ---- the blocks are the pieces
 
--- blocks of what is kept and left, behind those that were read, are the blocks of what there was
+-- the blocks that were read, followed by those of what is kept and left, are the blocks of what there was
 abbrev pub IsCutSo : ℕ → Option (List ℕ) → Option (List ℕ) → List (List ℕ) → List ℕ → Type 0
 IsCutSo size left left' done kept =
     BothKnown left left' (λ xs ys. (rest : List (List ℕ)) → AreBlocksOf size (kept ++ ys) rest → AreBlocksOf size xs (done ++ rest))

@@ -24,7 +24,7 @@ use Rattle.dataset_load.specs.declared.fault.LoadFault.{LoadFault}
 use Rattle.dataset_load.specs.declared.fault.LoadFault.TheVariants.{BadLine, WorkerRefused, Memory}
 use Rattle.dataset_load.proofs.LineLaws.{spell-append, bad_behind, bad_before}
 
--- what the pieces of a round spell, that each was looked up, and how many lines they have
+-- the quads of the pieces of a round, that each was looked up, and how many lines they have
 pub record AreRead (dict : List Term) (ps : List (List ℕ)) (reads : List ReadPiece) : Type 0 where
   pub each : List (List QuadParts)
   pub spelled : SpellAll (all_lines ps) (numbering.joined each)
@@ -47,7 +47,7 @@ pieces_read dict (p ∷ ps) (o ∷ os) e h =
       count = (λ i. first.count i + rest.count i) ∙ sym (length-append (lines p) (all_lines ps));
     }
 
--- the first bad line of pieces, by the least piece that has one
+-- the first malformed line of pieces, by the least piece that has one
 pub bad_piece : (ps : List (List ℕ)) (p line : ℕ) → p < length ps
     → ((i : ℕ) → i < p → (qs : List QuadParts) × SpellAll (lines (slice_index_or ps i [])) qs)
     → IsFirstBad (lines (slice_index_or ps p [])) line
@@ -63,9 +63,9 @@ bad_piece (x ∷ xs) (suc p) line low h b =
     let e : length (lines x) + (length (all_lines (take p xs)) + line) ≡ length (lines x ++ all_lines (take p xs)) + line = omega arith in
     subst (λ (n : ℕ). IsFirstBad (lines x ++ all_lines xs) n) e (bad_behind (lines x) (all_lines xs) first.0 _ first.1 rest)
 
--- ---- a round behind lines that were read
+-- ---- a round after lines that were read
 
--- the quads of a round, behind those of the lines before
+-- the quads of a round, after those of the lines before
 pub round_numbered : (before : List (List ℕ)) (round : List (Bor (List ℕ))) (dict dict' : List Term) (numbered numbered' : List NumQuad) (reads : List ReadPiece)
     → AreNumbered before dict numbered → AreRead dict (texts round) reads
     → ((done : List QuadParts) (each : List (List QuadParts)) → IsNumbered done dict numbered → AreLookedUp dict each reads → IsNumbered (done ++ numbering.joined each) dict' numbered')
@@ -83,7 +83,7 @@ round_read round dict reads count each =
     let m : length (texts round) ≡ length round = length-map round (λ (piece : Bor (List ℕ)). piece.now) in
     pieces_read dict (texts round) reads (count ∙ sym m) (λ i d low. each i d (omega arith))
 
--- the line of a round that is the first bad one, behind lines that spell quads
+-- the first malformed line of a round, after valid lines
 pub round_bad : (before : List (List ℕ)) (round : List (Bor (List ℕ))) (dict old : List Term) (numbered : List NumQuad) (count p line n : ℕ)
     → AreNumbered before old numbered → count ≡ length before → p < length round
     → ((i : ℕ) → i < p → (read : ReadPiece) × IsRead dict (text_at round i) read)
@@ -115,7 +115,7 @@ pub lines_to : (all : List (Bor (List ℕ))) (from to : ℕ) → from ≤ to
     → all_lines (texts (take from all)) ++ all_lines (texts (slice_range all from to)) ≡ all_lines (texts (take to all))
 lines_to all from to rising = sym (lines_more (take from all) (slice_range all from to)) ∙ ap (λ (ps : List (Bor (List ℕ))). all_lines (texts ps)) (take_to all from to rising)
 
--- a bad line of a round is one of the whole
+-- a malformed line of a round is one of the whole
 pub bad_of_all : (all : List (Bor (List ℕ))) (from to n : ℕ) → from ≤ to
     → IsBadLine (all_lines (texts (take from all)) ++ all_lines (texts (slice_range all from to))) n
     → IsBadLine (all_lines (texts all)) n
@@ -154,7 +154,7 @@ total_more (r ∷ reads) (suc i) d low =
 -- ---- the loop over the pieces of a round
 
 -- the pieces that are left were looked up in the dictionary of the round's start, and with their
--- quads behind those that are numbered it is all of them
+-- quads after those that are numbered it is all of them
 pub record AreTaken (old dict : List Term) (numbers : List NumQuad) (left : List ReadPiece) (all : List QuadParts) : Type 0 where
   pub done : List QuadParts
   pub each : List (List QuadParts)

@@ -1,6 +1,7 @@
 -- The three lists of an index.
-use Rattle.std.proofs.Common.{◌≡◌, ℕ, ◌<◌, List, [], ◌∷◌, subst, arith, IsPermutation}
-use Rattle.std.specs.Prelude.{Vec}
+use Rattle.std.proofs.Common.{◌≡◌, ℕ, zero, suc, ◌<◌, List, [], ◌∷◌, length, map, Option, Some, None, refl, sym, ap, ◌∙◌, subst, arith, IsPermutation}
+use Rattle.std.specs.Prelude.{Vec, IfSome}
+use Rattle.std.proofs.lemmas.List.{length-map}
 use Rattle.std.specs.Global.{Global}
 use Rattle.std.specs.List.{slice_index_or}
 use Rattle.dict_core.specs.declared.num_quad.NumQuad.{NumQuad}
@@ -8,7 +9,7 @@ use Rattle.quad_index.specs.declared.sort_order.SortOrder.TheVariants.{Gspo, Gpo
 use Rattle.quad_index.proofs.ReadingLaws.{same_once}
 use Rattle.dict_core.proofs.NumQuadLaws.{quad_eq}
 use Rattle.algebra_model.specs.Bag.{without_repeats}
-use Rattle.dataset_load.specs.Reading.{IsSortedList, order_at}
+use Rattle.dataset_load.specs.Reading.{AreSortedLists, IsSortedList, order_at}
 
 pub record AreSorted (quads gspo gpos gosp : List NumQuad) : Type 0 where
   pub first : IsSortedList Gspo quads gspo
@@ -32,3 +33,34 @@ three_sorted quads lists a b c each e =
       same_second = same_once (without_repeats quad_eq quads) a.items b.items p.each_once q.each_once;
       same_third = same_once (without_repeats quad_eq quads) a.items c.items p.each_once r.each_once;
     }
+
+-- the lists that were unpacked
+pub unpacked : (quads : List NumQuad) (lists : List (List NumQuad)) (outs : List (Vec NumQuad Global)) → AreSortedLists quads lists
+    → ((i : ℕ) (d : Vec NumQuad Global) → i < 3 → (slice_index_or outs i d).items ≡ slice_index_or lists i [])
+    → (i : ℕ) (d : Vec NumQuad Global) → i < 3 → IsSortedList (order_at i) quads (slice_index_or outs i d).items
+unpacked quads lists outs are same i d low = subst (λ (list : List NumQuad). IsSortedList (order_at i) quads list) (sym (same i d low)) (are.each i low)
+
+some_at : (quads : List NumQuad) (lists : List (List NumQuad)) (found : List (Option (List NumQuad))) → map Some lists ≡ found
+    → ((i : ℕ) (d : Option (List NumQuad)) → i < 3 → IfSome (slice_index_or found i d) (IsSortedList (order_at i) quads))
+    → (i : ℕ) → i < 3 → i < length lists → IsSortedList (order_at i) quads (slice_index_or lists i [])
+some_at quads lists found same each i low inside =
+    subst (λ (o : Option (List NumQuad)). IfSome o (IsSortedList (order_at i) quads)) (at lists i inside)
+    (subst (λ (f : List (Option (List NumQuad))). IfSome (slice_index_or f i (Some [])) (IsSortedList (order_at i) quads)) (sym same) (each i (Some []) low))
+  where
+    at : (ls : List (List NumQuad)) (k : ℕ) → k < length ls → slice_index_or (map Some ls) k (Some []) ≡ Some (slice_index_or ls k [])
+    at [] k h = absurd (omega (arith, h))
+    at (l ∷ ls) zero h = refl
+    at (l ∷ ls) (suc k) h = at ls k (omega (arith, h))
+
+-- the lists that were packed
+packed : (quads : List NumQuad) (lists : List (List NumQuad)) (found : List (Option (List NumQuad))) → map Some lists ≡ found → length found ≡ 3
+    → ((i : ℕ) (d : Option (List NumQuad)) → i < 3 → IfSome (slice_index_or found i d) (IsSortedList (order_at i) quads)) → AreSortedLists quads lists
+packed quads lists found same count each =
+    let n : length lists ≡ 3 = sym (length-map lists Some) ∙ ap length same ∙ count in
+    record { three = n; each = λ i low. some_at quads lists found same each i low (omega (arith, n, low)) }
+
+pub packed_found : (quads : List NumQuad) (found : List (Option (List NumQuad))) (all : Option (Vec (List NumQuad) Global)) → length found ≡ 3
+    → ((i : ℕ) (d : Option (List NumQuad)) → i < 3 → IfSome (slice_index_or found i d) (IsSortedList (order_at i) quads))
+    → IfSome all (λ values. map Some values.items ≡ found) → IfSome all (λ lists. AreSortedLists quads lists.items)
+packed_found quads found None count each same = tt
+packed_found quads found (Some lists) count each same = packed quads lists.items found same count each

@@ -56,7 +56,7 @@ rest_last (Some xs) (Some ys) (Some zs) kept0 kept kept' done done' size block h
     round_step (Some xs) (Some ys) (Some zs) kept0 kept kept' done done' size block h k e
     ∙ ap (λ bs. done' ++ bs) (nothing_behind size (kept ++ ys) (kept' ++ zs) block k.1 unended) ∙ ap (λ bs. done' ++ bs) (sym end)
 
--- behind what was read before
+-- after what was read before
 pub in_round : (a b c : Option (List ℕ)) (done kept kept' bytes : List ℕ) → IsReadIn a b done kept → TakesRound b c kept kept' bytes → IsReadIn a c (done ++ bytes) kept'
 in_round None b c done kept kept' bytes h k = tt
 in_round (Some xs) None c done kept kept' bytes h k = absurd h

@@ -5,19 +5,19 @@ use Rattle.piece_pool.specs.declared.pool.PoolFault.TheVariants as pool
 use Rattle.dataset_load.specs.declared.fault.LoadFault.{LoadFault}
 use Rattle.dataset_load.specs.declared.fault.LoadFault.TheVariants.{BadLine, WorkerRefused, Memory}
 
--- P of the line, if it is a bad line; a refusal says nothing of the document
+-- P of the line, if the fault is a malformed line.
 abbrev pub IfBadLine : (ℕ → Type 0) → LoadFault → Type 0
 IfBadLine P (BadLine n) = P n
 IfBadLine P WorkerRefused = ⊤
 IfBadLine P Memory = ⊤
 
--- any fault but a refused worker
+-- Any fault but a worker that could not be started.
 abbrev pub IsNoRefusedWorker : LoadFault → Type 0
 IsNoRefusedWorker (BadLine n) = ⊤
 IsNoRefusedWorker WorkerRefused = ⊥
 IsNoRefusedWorker Memory = ⊤
 
--- what the pool refuses is refused under the same name
+-- the fault of a pool, under the same name
 abbrev pub load_fault_of : PoolFault → LoadFault
 load_fault_of pool.WorkerRefused = WorkerRefused
 load_fault_of pool.Memory = Memory

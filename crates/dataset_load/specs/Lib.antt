@@ -6,3 +6,4 @@ pub mod Reading
 pub mod ReaderFault
 pub mod Streaming
 pub mod Found
+pub mod Counted

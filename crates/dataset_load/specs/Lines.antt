@@ -1,5 +1,4 @@
--- The lines of a document that lies in pieces (our own; RDF 1.1 N-Quads, grammar, EOL, for what ends
--- a line).
+-- The lines of a document that is split into pieces. RDF 1.1 N-Quads, grammar, EOL, says what ends a line.
 use Rattle.std.specs.Prelude.{◌≡◌, ℕ, ◌+◌, ◌<◌, List, [], length, map, slice_index_or, Vec}
 use Rattle.std.specs.Global.{Global}
 use Rattle.std.specs.List.{flat_map}
@@ -8,14 +7,14 @@ use Rattle.nquads_core.specs.Lines.{lines, EndsLine}
 use Rattle.piece_cuts.specs.Cuts.{AreEveryFrom}
 use Rattle.piece_cuts.specs.Laws.{pieces_of}
 
--- the bytes of pieces that are lent, and of blocks
+-- the bytes of borrowed pieces, and of blocks
 abbrev pub texts : List (Bor (List ℕ)) → List (List ℕ)
 texts pieces = map (λ piece. piece.now) pieces
 
 abbrev pub block_texts : List (Vec ℕ Global) → List (List ℕ)
 block_texts blocks = map (λ block. block.items) blocks
 
--- all pieces, one behind the other
+-- all pieces, one after the other
 abbrev pub joined : List (List ℕ) → List ℕ
 joined pieces = flat_map (λ piece. piece) pieces
 
@@ -41,6 +40,6 @@ AreBlocksOf size text blocks =
 abbrev pub all_lines : List (List ℕ) → List (List ℕ)
 all_lines pieces = flat_map lines pieces
 
--- piece i, and no bytes behind the last one
+-- piece i, and no bytes after the last one
 abbrev pub text_at : List (Bor (List ℕ)) → ℕ → List ℕ
 text_at pieces i = slice_index_or (texts pieces) i []

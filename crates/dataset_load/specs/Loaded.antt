@@ -1,4 +1,4 @@
--- What loading a document comes to: its dataset (RDF 1.1 Concepts, section 4), or its first bad line
+-- The result of loading a document: its dataset (RDF 1.1 Concepts, section 4), or its first malformed line
 -- (RDF 1.1 N-Quads, grammar).
 use Rattle.std.specs.Prelude.{◌≡◌, ◌+◌, ℕ, List, map, IsPermutation}
 use Rattle.rdf_core.specs.QuadParts.{QuadParts}
@@ -11,7 +11,7 @@ use Rattle.dict_core.specs.Appearances.{terms_of, first_appearances}
 use Rattle.quad_index.specs.Laws.{same_parts}
 use Rattle.dataset_load.specs.Store.{StoreView, names_in}
 
--- Every line spells a quad or nothing. The terms of the store are the terms of these quads by first
+-- Every line is valid, and these are its quads. The terms of the store are the terms of these quads by first
 -- appearance; its numbered quads, read through the terms, are the set of the quads, each once; and
 -- the graph names in it are the names of the graphs, each once.
 pub record IsLoaded (lines : List (List ℕ)) (store : StoreView) : Type 0 where
@@ -22,6 +22,6 @@ pub record IsLoaded (lines : List (List ℕ)) (store : StoreView) : Type 0 where
   pub each_once : IsPermutation (without_repeats same_parts quads) (quads_at store.dict store.index)
   pub graphs : IsPermutation (names quads) (map (term_at store.dict) (names_in store.index))
 
--- line n, counted from 1, is the first that spells nothing
+-- line n, counted from 1, is the first that is malformed
 abbrev pub IsBadLine : List (List ℕ) → ℕ → Type 0
 IsBadLine lines n = (k : ℕ) × IsFirstBad lines k × (n ≡ k + 1)

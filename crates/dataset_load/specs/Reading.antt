@@ -1,5 +1,5 @@
--- Pieces that are read side by side, and then taken in. Only private clauses cite these words.
-use Rattle.std.specs.Prelude.{◌≡◌, ℕ, zero, suc, ◌+◌, ◌==◌, List, [], ◌∷◌, length, IsSorted, IsPermutation, if◌then◌else◌}
+-- Pieces that are read in parallel, and then added. Only private clauses cite these words.
+use Rattle.std.specs.Prelude.{◌≡◌, ℕ, zero, suc, ◌+◌, ◌<◌, ◌==◌, List, [], ◌∷◌, length, slice_index_or, IsSorted, IsPermutation, if◌then◌else◌}
 use Rattle.std.specs.List.{AllZip}
 use Rattle.rdf_core.specs.declared.term.Term.{Term}
 use Rattle.rdf_core.specs.QuadParts.{QuadParts}
@@ -16,7 +16,7 @@ use Rattle.quad_index.specs.SortOrder.{order_cmp}
 use Rattle.dataset_load.specs.declared.numbered.Numbered.{Numbered}
 use Rattle.dataset_load.specs.declared.read_piece.ReadPiece.{ReadPiece}
 
--- the lines of the bytes spell quads, these were looked up in the dictionary, and the lines are
+-- the lines of the bytes are valid, their quads were looked up in the dictionary, and the lines are
 -- counted
 pub record IsRead (dict : List Term) (bytes : List ℕ) (read : ReadPiece) : Type 0 where
   pub quads : List QuadParts
@@ -33,7 +33,7 @@ abbrev pub line_total : List ReadPiece → ℕ
 line_total [] = 0
 line_total (read ∷ reads) = read.lines + line_total reads
 
--- the lines spell quads, and these are numbered
+-- the lines are valid, and their quads are numbered
 pub record AreNumbered (lines : List (List ℕ)) (dict : List Term) (numbers : List NumQuad) : Type 0 where
   pub quads : List QuadParts
   pub spelled : SpellAll lines quads
@@ -54,7 +54,12 @@ pub record IsSortedList (order : SortOrder) (quads list : List NumQuad) : Type 0
   pub each_once : IsPermutation (without_repeats quad_eq quads) list
   pub distinct : IsWithoutRepeats quad_eq list
 
--- No lines both spell quads and have a first bad line.
+-- the quads in the three orders, each once
+pub record AreSortedLists (quads : List NumQuad) (lists : List (List NumQuad)) : Type 0 where
+  pub three : length lists ≡ 3
+  pub each : (i : ℕ) → i < 3 → IsSortedList (order_at i) quads (slice_index_or lists i [])
+
+-- No lines are all valid and have a first malformed line.
 pub not_both : (ls : List (List ℕ)) (quads : List QuadParts) (k : ℕ) → SpellAll ls quads → IsFirstBad ls k → ⊥
 not_both [] quads k s b = b
 not_both (l ∷ ls) quads zero s b = b s.0 s.2

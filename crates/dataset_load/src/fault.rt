@@ -5,12 +5,11 @@ use std::alloc::{AllocError, AllocFailed};
 /// Why a document is not loaded.
 #[derive(Clone, Copy, Debug, PartialEq, Eq)]
 pub enum LoadFault {
-    /// The line, counted from 1, is the first that spells nothing.
+    /// The line, counted from 1, is the first that is malformed.
     BadLine(u128),
-    /// The start of a worker was refused. Those that were started have been joined. It says nothing
-    /// of the document.
+    /// A worker thread could not be started. Those that were started have been joined.
     WorkerRefused,
-    /// A growth was refused. It says nothing of the document.
+    /// Out of memory.
     Memory,
 }
 

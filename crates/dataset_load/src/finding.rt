@@ -80,7 +80,7 @@ fn line_of(blocks: &[Vec<u8>], k: u128) -> Option<(&[u8], bool)>
     None
 }
 
-/// The first bytes of a line, at most so many.
+/// The first bytes of a line, at most `most`.
 fn beginning(line: &[u8], most: usize) -> &[u8]
     ensures value { result.now ≡ take most line.now }
 {

@@ -1,21 +1,23 @@
 //! From a document to its dataset: bytes of N-Quads go in, and out comes a [`Store`], or the first
-//! bad line.
+//! malformed line.
 //!
-//! [`load`] reads a document that is cut into pieces, [`load_blocks`] one that lies in blocks, by so
-//! many workers side by side. The crates above use one contract of both: the terms of the store are
-//! the distinct terms of the document by first appearance, its index, read through them, is the set of
-//! the quads that the lines spell (`IsLoaded`), and a fault names the first line that spells nothing
-//! (`IsBadLine`), both in specs/Loaded.antt. No clause names a worker, a cut or a gate.
+//! [`load`] reads a document that is cut into pieces, and [`load_blocks`] one that is split into blocks, both in
+//! parallel. The crates above use one contract of both: the terms of the store are the distinct terms of the
+//! document by first appearance, its index, read through them, is the set of the document's quads
+//! (`IsLoaded`), and a fault names the first malformed line (`IsBadLine`), both in specs/Loaded.antt. No
+//! clause names a worker, a cut or a gate.
 //!
 //! Standards: RDF 1.1 N-Quads, grammar; RDF 1.1 Concepts and Abstract Syntax, section 4.
 //!
 //! [`load_reader`] loads the rest of a reader: it is [`read_blocks`] followed by [`load_blocks`], but only
 //! the blocks of one round are in memory at a time (`IsLoadedFrom`, `IsBadLineFrom` in
-//! specs/Streaming.antt).
+//! specs/Streaming.antt). [`count_reader`] returns only the dictionary and the counts of that store, and
+//! [`load_terms`] only the dictionary. Neither builds an index (`IsCountedFrom`, `AreTermsFrom` in
+//! specs/Counted.antt).
 //!
 //! To read in this order: `fault`, `store`, `read_piece` and `reading` (one piece), `numbered` and
 //! `rounds` (all pieces), `sorting` (the lists of the index), `loading`, `reader` (blocks of a reader),
-//! `reader_fault`, `streaming`.
+//! `reader_fault`, `counted`, `streaming`.
 //!
 //! ```text
 //! let cuts = Cuts::every(alloc, doc, 65536)?;
@@ -28,6 +30,7 @@
 //! call returns (it joins its workers).
 #![tactic(auto)]
 
+mod counted;
 mod fault;
 mod finding;
 mod load_notes;
@@ -42,6 +45,7 @@ mod sorting;
 mod store;
 mod streaming;
 
+pub use counted::Counted;
 pub use fault::LoadFault;
 pub use finding::{Line, line_at};
 pub use load_notes::LoadNotes;
@@ -49,4 +53,4 @@ pub use loading::{load, load_blocks};
 pub use reader::read_blocks;
 pub use reader_fault::ReaderFault;
 pub use store::Store;
-pub use streaming::load_reader;
+pub use streaming::{count_reader, load_reader, load_terms};

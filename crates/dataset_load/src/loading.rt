@@ -23,8 +23,8 @@ use std::thread::Threads;
 
 /// Loads a document that is cut into pieces: its terms by first appearance, within a quad subject,
 /// predicate, object, graph name, and an index of the set of its quads (RDF 1.1 N-Quads; RDF 1.1
-/// Concepts, section 4). Workers read the pieces side by side, and one worker is the caller itself; neither
-/// the cut, nor their number, nor the gate changes the outcome.
+/// Concepts, section 4). Workers read the pieces in parallel, and one worker is the caller itself. Neither
+/// the cuts, nor their number, nor the gate changes the result.
 ///
 /// The gate sees pieces by their place in a round, from 0 on anew in each: a round ends at the first
 /// piece with which it has 8 MiB and 16 pieces for each worker, at 2^20 pieces, or at the end of the
@@ -34,10 +34,10 @@ use std::thread::Threads;
 /// `cuts` are cuts of this document, and `workers` is 1 to 64.
 ///
 /// # Errors
-/// - `BadLine(n)`: line n of the document, counted from 1, is the first that spells nothing.
-/// - `WorkerRefused`: the start of a worker was refused. Those that were started have been joined. It never
-///   comes of one worker.
-/// - `Memory`: a growth was refused.
+/// - `BadLine(n)` if line n of the document, counted from 1, is the first that is malformed.
+/// - `WorkerRefused` if a worker thread could not be started. Those that were started have been joined.
+///   With one worker no thread is started, so this cannot occur.
+/// - `Memory` if an allocation fails.
 pub fn load<R: Threads + Wait + RandomSource, G: Gate + Sync>(
     rt: &R,
     alloc: Global,
@@ -56,13 +56,13 @@ pub fn load<R: Threads + Wait + RandomSource, G: Gate + Sync>(
     load_pieces(rt, alloc, pieces.as_slice(), workers, gate)
 }
 
-/// Loads a document that lies in blocks of whole lines, as `load` does; its bytes are not joined.
+/// Loads a document that is split into blocks of whole lines, as `load` does. Its bytes are not joined.
 ///
 /// # Requires
 /// Each block but the last is empty or ends with a line feed, and `workers` is 1 to 64.
 ///
 /// # Errors
-/// As `load`, of the blocks joined.
+/// As `load`, for the joined blocks.
 pub fn load_blocks<R: Threads + Wait + RandomSource, G: Gate + Sync>(
     rt: &R,
     alloc: Global,
@@ -113,7 +113,7 @@ pub(crate) fn store_of<R: Threads + Wait>(
     ensures one_worker { workers ≡ 1 → IfErr result IsNoRefusedWorker }
 {
     let Numbered { dict, quads, .. } = so_far;
-    let index = sorted_index(rt, alloc, quads.as_slice(), workers)?;
+    let index = sorted_index(rt, alloc, quads, workers)?;
     Ok(Store::of_parts(dict, index))
 }
 

@@ -12,15 +12,15 @@ use piece_cuts::laws::first_piece_then_the_rest;
 use piece_cuts::{BlockState, Blocks};
 use std::alloc::Global;
 
-/// All bytes that a reader has left, in blocks of whole lines: the pieces of `Cuts::every` with this
-/// size, each of at least `size` bytes but the last. No bytes, no block. The bytes are not joined.
+/// Reads all bytes that a reader has left, in blocks of whole lines. The blocks are the pieces of `Cuts::every`
+/// with this size: each but the last has at least `size` bytes. The bytes are not joined.
 ///
 /// # Requires
 /// `size` is 1 or more.
 ///
 /// # Errors
-/// - `Read`: the reader failed in this call. Bytes before that may have been taken from it.
-/// - `Memory`: a growth was refused. Bytes may have been taken from the reader.
+/// - `Read` if the reader fails. Bytes before that may have been taken from it.
+/// - `Memory` if an allocation fails. Bytes may have been taken from the reader.
 pub fn read_blocks<S: Source>(
     alloc: Global,
     size: usize,

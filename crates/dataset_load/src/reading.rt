@@ -42,7 +42,7 @@ impl<'d> Job for Round<'d> {
     ghost exclusive = { λ job i out line read bad. not_both _ _ _ read.spelled bad };
 }
 
-/// The piece of this number, and no bytes behind the last one.
+/// The piece of this number, and no bytes after the last one.
 fn piece_at<'d>(pieces: &[&'d [u8]], i: u64) -> &'d [u8]
     ensures bytes { result.now ≡ text_at pieces.now i }
 {

@@ -1,7 +1,7 @@
 //! All pieces of a document, read in rounds.
 //!
 //! In a round each piece is read by itself and looked up in the dictionary of the rounds before,
-//! which is lent to all workers. Then one thread takes in, in order, only what is new.
+//! which all workers borrow. Then one thread adds, in order, only what is new.
 ghost use Rattle.std.specs.Prelude.{◌≡◌, ◌+◌, ◌-◌, ◌*◌, ◌<◌, ◌≤◌, ◌^◌, ◌++◌, List, length, true, slice_range, take, IfOk, IfErr, OnOk};
 ghost use Rattle.rdf_core.specs.QuadParts.{QuadParts};
 ghost use Rattle.nquads_core.specs.Lines.{lines};
@@ -26,13 +26,13 @@ use std::hash::RandomState;
 use std::sync::Wait;
 use std::thread::Threads;
 
-/// A round has at least so many pieces for each worker, where there are as many.
+/// The least number of pieces of a round for each worker, except in the last round.
 const PIECES_A_WORKER: usize = 16;
 
-/// A round ends behind the piece that makes it at least so long.
+/// The least number of bytes of a round, except in the last round.
 const BYTES_A_ROUND: usize = 8 << 20;
 
-/// A round has at most so many pieces.
+/// The largest number of pieces of a round.
 pub(crate) const PIECES_A_ROUND: usize = 1 << 20;
 
 /// Reads all pieces, round by round: their terms by first appearance, and their quads by number, in
@@ -147,7 +147,7 @@ fn round_end(pieces: &[&[u8]], from: usize, workers: usize) -> usize
     from + most
 }
 
-/// Whether a round of so many pieces and bytes is long enough.
+/// Whether a round with this number of pieces and bytes is long enough.
 pub(crate) fn is_full(pieces: usize, bytes: usize, workers: usize) -> bool
     requires workers { (1 ≤ workers) × (workers ≤ 64) }
     ensures some { result ≡ true → 1 ≤ pieces }
@@ -187,7 +187,7 @@ fn take_in_round(
     Ok(())
 }
 
-/// Takes the pieces of a round in, one after the other.
+/// Adds the pieces of a round, one after the other.
 fn take_in_all(
     alloc: Global,
     dict: &mut Dict,

@@ -1,15 +1,15 @@
-//! The three lists of an index, sorted side by side.
-ghost use Rattle.std.specs.Prelude.{◌≡◌, ◌≤◌, ◌∷◌, [], length, IfOk, IfErr, IsPermutation};
+//! The three lists of an index, sorted in parallel.
+ghost use Rattle.std.specs.Prelude.{◌≡◌, ◌≤◌, ◌∷◌, [], length, map, slice_index_or, IfOk, IfErr, IfSome, IsPermutation, Some};
 ghost use Rattle.algebra_model.specs.Bag.{without_repeats};
 ghost use Rattle.dict_core.specs.Equality.{quad_eq};
 ghost use Rattle.dataset_load.specs.Fault.{IfBadLine, IsNoRefusedWorker};
-ghost use Rattle.dataset_load.specs.Reading.{IsSortedList, order_at};
+ghost use Rattle.dataset_load.specs.Reading.{AreSortedLists, IsSortedList, order_at};
 
 use crate::fault::LoadFault;
 use dict_core::NumQuad;
 use piece_pool::{Job, JobFault, OpenGate, Outcome, run_all};
-use quad_index::{Index, SortOrder, sorted_list};
-use std::alloc::Global;
+use quad_index::{Index, PackedList, SortOrder, sorted_list};
+use std::alloc::{AllocError, Global};
 use std::sync::Wait;
 use std::thread::Threads;
 
@@ -52,11 +52,159 @@ fn order_at(i: u64) -> SortOrder
     }
 }
 
-/// The index of these quads: a statement that is repeated counts once.
+/// Three pieces of work: the quads in each of the orders of an index, packed.
+#[derive(Drop)]
+struct PackedLists<'q> {
+    quads: &'q [NumQuad],
+}
+
+impl<'q> Job for PackedLists<'q> {
+    ghost use Rattle.std.specs.Prelude.{IfSome};
+    ghost use Rattle.dataset_load.specs.Reading.{IsSortedList, order_at};
+
+    type Out = Option<PackedList>;
+
+    type Fault = ();
+
+    ghost answers = { λ job i out. IfSome out (IsSortedList (order_at i) job.quads.now) };
+
+    ghost faults = { λ _ _ _. ⊥ };
+
+    fn run(&self, alloc: Global, i: u64) -> Result<Option<PackedList>, JobFault<()>> {
+        match PackedList::of(alloc, self.quads, order_at(i)) {
+            Ok(found) => Ok(found),
+            Err(_) => Err(JobFault::Memory),
+        }
+    }
+
+    ghost exclusive = { λ _ _ _ _ _ absurd. absurd };
+}
+
+/// Three pieces of work: the lists of an index that are packed.
+#[derive(Drop)]
+struct UnpackedLists<'l> {
+    lists: &'l [PackedList],
+}
+
+impl<'l> Job for UnpackedLists<'l> {
+    ghost use Rattle.std.specs.Prelude.{◌≡◌, [], slice_index_or};
+
+    type Out = Vec<NumQuad>;
+
+    type Fault = ();
+
+    ghost answers = { λ job i out. out.items ≡ slice_index_or job.lists.now i [] };
+
+    ghost faults = { λ _ _ _. ⊥ };
+
+    fn run(&self, alloc: Global, i: u64) -> Result<Vec<NumQuad>, JobFault<()>> {
+        match unpacked_list(alloc, self.lists, i) {
+            Ok(quads) => Ok(quads),
+            Err(_) => Err(JobFault::Memory),
+        }
+    }
+
+    ghost exclusive = { λ _ _ _ _ _ absurd. absurd };
+}
+
+/// The quads of the list with this number, and none after the last list.
+fn unpacked_list(alloc: Global, lists: &[PackedList], i: u64) -> Result<Vec<NumQuad>, AllocError>
+    ensures list { IfOk result (λ list. list.items ≡ slice_index_or lists.now i []) }
+{
+    if i < lists.len() as u64 {
+        lists[i as usize].quads(alloc)
+    } else {
+        Ok(Vec::new(alloc))
+    }
+}
+
+/// The index of these quads: a statement that is repeated counts once. The quads are freed before the lists of the
+/// index are made, so that at most one copy of the quads is in memory with them.
 ///
 /// # Errors
-/// `WorkerRefused`, `Memory`: as in a pool. The first never comes of one worker.
+/// `WorkerRefused` and `Memory` as in a pool. With one worker the first cannot occur.
 pub(crate) fn sorted_index<R: Threads + Wait>(
+    rt: &R,
+    alloc: Global,
+    quads: Vec<NumQuad>,
+    workers: usize,
+) -> Result<Index, LoadFault>
+    requires workers { (1 ≤ workers) × (workers ≤ 64) }
+    ensures each_once { IfOk result
+        (λ index. IsPermutation (without_repeats quad_eq quads.items) index) }
+    ensures refused { IfErr result (IfBadLine (λ _. ⊥)) }
+    ensures one_worker { workers ≡ 1 → IfErr result IsNoRefusedWorker }
+{
+    match packed_lists(rt, alloc, quads.as_slice(), workers)? {
+        Some(lists) => {
+            drop(quads);
+            unpacked_index(rt, alloc, lists.as_slice(), workers)
+        }
+        None => plain_index(rt, alloc, quads.as_slice(), workers),
+    }
+}
+
+/// The packed lists of these quads, or `None` if a number of a quad is too large.
+fn packed_lists<R: Threads + Wait>(
+    rt: &R,
+    alloc: Global,
+    quads: &[NumQuad],
+    workers: usize,
+) -> Result<Option<Vec<PackedList>>, LoadFault>
+    requires workers { (1 ≤ workers) × (workers ≤ 64) }
+    ensures lists { IfOk result
+        (λ found. IfSome found (λ lists. AreSortedLists quads.now lists.items)) }
+    ensures refused { IfErr result (IfBadLine (λ _. ⊥)) }
+    ensures one_worker { workers ≡ 1 → IfErr result IsNoRefusedWorker }
+{
+    let job = PackedLists { quads };
+    match run_all(rt, alloc, workers, 3, &job, &OpenGate)? {
+        Outcome::All(found) => Ok(all_found(alloc, found)?),
+        Outcome::First { .. } => unreachable!(),
+    }
+}
+
+/// The values, or `None` if one of them is `None`.
+fn all_found<T: Drop>(alloc: Global, found: Vec<Option<T>>) -> Result<Option<Vec<T>>, AllocError>
+    ensures values { IfOk result
+        (λ all. IfSome all (λ values. map Some values.items ≡ found.items)) }
+{
+    let mut values = Vec::with_capacity(alloc, found.len())?;
+    for value in found {
+        let Some(value) = value else {
+            return Ok(None);
+        };
+        values.push_reserved(value);
+    }
+    Ok(Some(values))
+}
+
+/// The index of these lists.
+fn unpacked_index<R: Threads + Wait>(
+    rt: &R,
+    alloc: Global,
+    lists: &[PackedList],
+    workers: usize,
+) -> Result<Index, LoadFault>
+    requires workers { (1 ≤ workers) × (workers ≤ 64) }
+    requires lists { (quads : _) × AreSortedLists quads lists.now }
+    ensures each_once { IfOk result (λ index. (quads : _) → AreSortedLists quads lists.now
+        → IsPermutation (without_repeats quad_eq quads) index) }
+    ensures refused { IfErr result (IfBadLine (λ _. ⊥)) }
+    ensures one_worker { workers ≡ 1 → IfErr result IsNoRefusedWorker }
+{
+    let job = UnpackedLists { lists };
+    match run_all(rt, alloc, workers, 3, &job, &OpenGate)? {
+        Outcome::All(lists) => {
+            let (gspo, gpos, gosp) = three(lists);
+            Ok(Index::of_lists(alloc, gspo, gpos, gosp)?)
+        }
+        Outcome::First { .. } => unreachable!(),
+    }
+}
+
+/// The index of quads of any numbers.
+fn plain_index<R: Threads + Wait>(
     rt: &R,
     alloc: Global,
     quads: &[NumQuad],

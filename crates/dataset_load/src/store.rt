@@ -8,7 +8,7 @@ use quad_index::Index;
 use std::marker::Model;
 
 /// A dataset: its terms, numbered by first appearance, and an index of its quads of numbers. A
-/// contract sees the terms and the numbered quads. Each number in the index stands for a term.
+/// contract sees the terms and the numbered quads. Each number in the index is the number of a term.
 #[derive(Drop)]
 pub struct Store {
     dict: Dict,

@@ -2,6 +2,7 @@
 ghost use Rattle.std.specs.Prelude.{◌≡◌, ◌+◌, ◌*◌, ◌≤◌, ◌^◌, ◌++◌, [], false, length, true, IfErr, IfOk, Ok, OnErr, OnOk};
 ghost use Rattle.std.specs.Io.KnownBytes.{IsAtEnd};
 ghost use Rattle.nquads_core.specs.Transfer.{CountsRead, IsReadInPart};
+ghost use Rattle.dataset_load.specs.Counted.{AreTermsFrom, IsCountedFrom};
 ghost use Rattle.dataset_load.specs.Fault.{IfBadLine, IsNoRefusedWorker};
 ghost use Rattle.dataset_load.specs.Lines.{all_lines, block_texts};
 ghost use Rattle.dataset_load.specs.Loaded.{IsBadLine};
@@ -9,6 +10,7 @@ ghost use Rattle.dataset_load.specs.Reading.{HasRead};
 ghost use Rattle.dataset_load.specs.ReaderFault.{CountsLoading, IfBadLineRead, IsNoLackingWorker};
 ghost use Rattle.dataset_load.specs.Streaming.{IsBadLineFrom, IsBadSoFar, IsLoadedFrom, IsReadFrom, IsReadUpTo};
 
+use crate::counted::{Counted, counted_of};
 use crate::fault::LoadFault;
 use crate::load_notes::{LoadNotes, Rounds};
 use crate::loading::{hash_state, lent_blocks, store_of};
@@ -17,6 +19,7 @@ use crate::reader::fill_round;
 use crate::reader_fault::ReaderFault;
 use crate::rounds::add_round;
 use crate::store::Store;
+use dict_core::Dict;
 use nquads_core::{ReadFault, Source};
 use piece_cuts::{BlockState, Blocks};
 use piece_pool::Gate;
@@ -62,11 +65,91 @@ pub fn load_reader<R: Threads + Wait + RandomSource, S: Source, G: Gate + Sync>(
     ensures count { CountsLoading (S.failures reader.old) (S.failures reader.new) result }
     ensures one_worker { workers ≡ 1 → IfErr result IsNoLackingWorker }
 {
+    let so_far = read_reader(rt, alloc, size, reader, workers, gate, notes)?;
+    Ok(store_of(rt, alloc, so_far, workers)?)
+}
+
+/// Counts the distinct quads and graph names of the rest of a reader, and returns its terms. It reads as
+/// [`load_reader`] does, but no index is built.
+///
+/// # Requires
+/// `size` is 1 or more, and `workers` is 1 to 64.
+///
+/// # Errors
+/// As `load_reader`.
+pub fn count_reader<R: Threads + Wait + RandomSource, S: Source, G: Gate + Sync>(
+    rt: &R,
+    alloc: Global,
+    size: usize,
+    reader: &mut S,
+    workers: usize,
+    gate: &G,
+    notes: &mut LoadNotes,
+) -> Result<Counted, ReaderFault>
+    requires some { 1 ≤ size }
+    requires workers { (1 ≤ workers) × (workers ≤ 64) }
+    ensures counted { IfOk result (IsCountedFrom (S.left reader.old) (S.left reader.new)) }
+    ensures bad_line { IfErr result
+        (IfBadLineRead (IsBadLineFrom (S.left reader.old) (S.left reader.new))) }
+    ensures taken { OnErr result (IsReadInPart (S.left reader.old) (S.left reader.new)) }
+    ensures count { CountsLoading (S.failures reader.old) (S.failures reader.new) result }
+    ensures one_worker { workers ≡ 1 → IfErr result IsNoLackingWorker }
+{
+    let so_far = read_reader(rt, alloc, size, reader, workers, gate, notes)?;
+    Ok(counted_of(alloc, so_far)?)
+}
+
+/// Returns the dictionary of the rest of a reader, which it reads as [`load_reader`] does. No quads are sorted.
+///
+/// # Requires
+/// `size` is 1 or more, and `workers` is 1 to 64.
+///
+/// # Errors
+/// As `load_reader`.
+pub fn load_terms<R: Threads + Wait + RandomSource, S: Source, G: Gate + Sync>(
+    rt: &R,
+    alloc: Global,
+    size: usize,
+    reader: &mut S,
+    workers: usize,
+    gate: &G,
+    notes: &mut LoadNotes,
+) -> Result<Dict, ReaderFault>
+    requires some { 1 ≤ size }
+    requires workers { (1 ≤ workers) × (workers ≤ 64) }
+    ensures terms { IfOk result (AreTermsFrom (S.left reader.old) (S.left reader.new)) }
+    ensures bad_line { IfErr result
+        (IfBadLineRead (IsBadLineFrom (S.left reader.old) (S.left reader.new))) }
+    ensures taken { OnErr result (IsReadInPart (S.left reader.old) (S.left reader.new)) }
+    ensures count { CountsLoading (S.failures reader.old) (S.failures reader.new) result }
+    ensures one_worker { workers ≡ 1 → IfErr result IsNoLackingWorker }
+{
+    let so_far = read_reader(rt, alloc, size, reader, workers, gate, notes)?;
+    let Numbered { dict, .. } = so_far;
+    Ok(dict)
+}
+
+/// Reads a reader to its end, and numbers the quads of its lines.
+fn read_reader<R: Threads + Wait + RandomSource, S: Source, G: Gate + Sync>(
+    rt: &R,
+    alloc: Global,
+    size: usize,
+    reader: &mut S,
+    workers: usize,
+    gate: &G,
+    notes: &mut LoadNotes,
+) -> Result<Numbered, ReaderFault>
+    requires some { 1 ≤ size }
+    requires workers { (1 ≤ workers) × (workers ≤ 64) }
+    ensures read { IfOk result (IsReadFrom (S.left reader.old) (S.left reader.new)) }
+    ensures bad_line { IfErr result
+        (IfBadLineRead (IsBadLineFrom (S.left reader.old) (S.left reader.new))) }
+    ensures taken { OnErr result (IsReadInPart (S.left reader.old) (S.left reader.new)) }
+    ensures count { CountsLoading (S.failures reader.old) (S.failures reader.new) result }
+    ensures one_worker { workers ≡ 1 → IfErr result IsNoLackingWorker }
+{
     match number_reader(rt, alloc, size, reader, workers, gate, notes) {
-        Ok(so_far) => match store_of(rt, alloc, so_far, workers) {
-            Ok(store) => Ok(store),
-            Err(fault) => Err(ReaderFault::from(fault)),
-        },
+        Ok(so_far) => Ok(so_far),
         Err(ReaderFault::BadLine(line)) => match skip_rest(reader) {
             Ok(()) => Err(ReaderFault::BadLine(line)),
             Err(fault) => Err(ReaderFault::from(fault)),
@@ -181,6 +264,7 @@ fn number_round<R: Threads + Wait, S: Source, G: Gate + Sync>(
     let mut round = Vec::new(alloc);
     let is_last = fill_round(&mut round, blocks, reader, workers)?;
     add_blocks(rt, alloc, state, so_far, round.as_slice(), workers, rounds)?;
+    blocks.reuse(round);
     Ok(is_last)
 }
 

@@ -3,15 +3,17 @@ ghost use Rattle.std.specs.Prelude.{◌≤◌};
 
 use crate::cases::holds;
 use crate::documents::{BAD, GRAPHS, REPEATED, TWO_LINES};
-use dataset_load::{LoadFault, LoadNotes, ReaderFault, Store, load, load_reader};
-use nquads_core::Device;
+use dataset_load::{
+    LoadFault, LoadNotes, ReaderFault, Store, count_reader, load, load_reader, load_terms,
+};
+use nquads_core::{Device, Source};
 use piece_cuts::Cuts;
 use piece_pool::OpenGate;
 use std::alloc::{AllocError, AllocGlobal, Global};
 use std::random::RandomSource;
 use std::sync::Wait;
 use std::thread::Threads;
-use test_fixtures::Counter;
+use test_fixtures::{Counter, SliceSource};
 
 /// Returns the counts of quads, terms and graph names.
 fn counts(loaded: Result<Store, ReaderFault>) -> Result<(u64, u64, u64), ReaderFault> {
@@ -27,11 +29,47 @@ fn noted(alloc: Global, notes: &LoadNotes) -> Result<String, AllocError> {
     }
 }
 
-/// Loads the document from a reader, in blocks of at least `size` bytes, and prints what is found: the counts or the
-/// fault, whether all lines were read, and the malformed line.
+/// What is called with a reader.
+#[derive(Clone, Copy)]
+enum Call {
+    Load,
+    Count,
+    Terms,
+}
+
+/// Reads a reader, in blocks of at least `size` bytes, and returns the counts of quads, terms and graph names that the
+/// call reports. `load_terms` reports the terms alone.
+fn counts_of<R: Threads + Wait + RandomSource, S: Source>(
+    rt: &R,
+    alloc: Global,
+    call: Call,
+    reader: &mut S,
+    size: usize,
+    workers: usize,
+    notes: &mut LoadNotes,
+) -> Result<(u64, u64, u64), ReaderFault>
+    requires size { 1 ≤ size }
+    requires workers { (1 ≤ workers) × (workers ≤ 64) }
+{
+    match call {
+        Call::Load => counts(load_reader(rt, alloc, size, reader, workers, &OpenGate, notes)),
+        Call::Count => {
+            let counted = count_reader(rt, alloc, size, reader, workers, &OpenGate, notes)?;
+            Ok((counted.quads, counted.dict.len() as u64, counted.graphs))
+        }
+        Call::Terms => {
+            let dict = load_terms(rt, alloc, size, reader, workers, &OpenGate, notes)?;
+            Ok((0, dict.len() as u64, 0))
+        }
+    }
+}
+
+/// Reads the document from a reader, and prints what is found: the counts or the fault, whether all lines were read,
+/// and the malformed line.
 fn streamed<R: Threads + Wait + RandomSource>(
     rt: &R,
     alloc: Global,
+    call: Call,
     doc: &[u8],
     size: usize,
     workers: usize,
@@ -41,37 +79,64 @@ fn streamed<R: Threads + Wait + RandomSource>(
 {
     let mut reader = Device { inner: doc };
     let mut notes = LoadNotes::new();
-    let found = counts(load_reader(rt, alloc, size, &mut reader, workers, &OpenGate, &mut notes));
+    let found = counts_of(rt, alloc, call, &mut reader, size, workers, &mut notes);
     let line = noted(alloc, &notes)?;
     format!(in alloc; "{found:?}, {}, {line}", notes.is_read)
 }
 
-/// Documents, and what is found when each is loaded from a reader.
-const DOCUMENTS: &[(&str, &[u8], &str)] = &[
-    ("a repeated statement", REPEATED, "Ok((2, 4, 0)), true, "),
-    ("two graphs", GRAPHS, "Ok((3, 7, 2)), true, "),
-    ("escapes", TWO_LINES, "Ok((2, 5, 0)), true, "),
+/// Documents, what is found when each is loaded or counted from a reader, and when its terms are loaded.
+const DOCUMENTS: &[(&str, &[u8], &str, &str)] = &[
+    (
+        "a repeated statement",
+        REPEATED,
+        "Ok((2, 4, 0)), true, ",
+        "Ok((0, 4, 0)), true, ",
+    ),
+    (
+        "two graphs",
+        GRAPHS,
+        "Ok((3, 7, 2)), true, ",
+        "Ok((0, 7, 0)), true, ",
+    ),
+    (
+        "escapes",
+        TWO_LINES,
+        "Ok((2, 5, 0)), true, ",
+        "Ok((0, 5, 0)), true, ",
+    ),
     (
         "a malformed line",
         BAD,
         "Err(BadLine(3)), false, <http://e/a> <http://e/p> .",
+        "Err(BadLine(3)), false, <http://e/a> <http://e/p> .",
     ),
-    ("the empty document", b"", "Ok((0, 0, 0)), true, "),
+    (
+        "the empty document",
+        b"",
+        "Ok((0, 0, 0)), true, ",
+        "Ok((0, 0, 0)), true, ",
+    ),
 ];
 
-/// Returns whether each document is loaded as expected.
+/// Returns whether each document is read as expected.
 fn are_right<R: Threads + Wait + RandomSource + Print>(
     rt: &R,
     alloc: Global,
+    call: Call,
     size: usize,
     workers: usize,
 ) -> bool
     requires size { 1 ≤ size }
     requires workers { (1 ≤ workers) × (workers ≤ 64) }
 {
-    for (name, doc, expected) in DOCUMENTS {
-        let found = streamed(rt, alloc, *doc, size, workers);
-        if !holds(rt, *name, *expected, found) {
+    for (name, doc, all, terms) in DOCUMENTS {
+        let expected = if matches!(call, Call::Terms) {
+            *terms
+        } else {
+            *all
+        };
+        let found = streamed(rt, alloc, call, *doc, size, workers);
+        if !holds(rt, *name, expected, found) {
             return false;
         }
     }
@@ -81,10 +146,12 @@ fn are_right<R: Threads + Wait + RandomSource + Print>(
 #[test]
 fn a_reader_loads_as_the_document(rt: HostRuntime) {
     for (size, workers) in [(1, 1), (1, 2), (65536, 4)] {
-        assert!(rt;
-            are_right(&rt, rt.alloc(), size, workers),
-            "blocks of {size} bytes, {workers} workers"
-        );
+        for call in [Call::Load, Call::Count, Call::Terms] {
+            assert!(rt;
+                are_right(&rt, rt.alloc(), call, size, workers),
+                "blocks of {size} bytes, {workers} workers"
+            );
+        }
     }
 }
 
@@ -151,4 +218,43 @@ fn rounds_count_lines_and_pieces_of_the_document(rt: HostRuntime) {
     );
     let expected = "Err(BadLine(145)), 145, 10440";
     assert!(rt; holds(&rt, "pieces", expected, two_rounds_of_pieces(&rt, alloc)));
+}
+
+/// Reads the document of two rounds from a reader that fails once this number of bytes was read, and prints the fault and
+/// the number of calls that failed. The first line is malformed if `is_bad`.
+fn failing<R: Threads + Wait + RandomSource>(
+    rt: &R,
+    alloc: Global,
+    call: Call,
+    until: usize,
+    is_bad: bool,
+) -> Result<String, AllocError> {
+    let mut doc = two_rounds(alloc)?;
+    if is_bad && !doc.is_empty() {
+        doc[0] = b'x';
+    }
+    let mut reader = SliceSource::failing_after(doc.as_slice(), 8192, until);
+    let mut notes = LoadNotes::new();
+    let found = counts_of(rt, alloc, call, &mut reader, 65536, 2, &mut notes);
+    format!(in alloc; "{found:?}, {}", reader.failed)
+}
+
+/// A reader fails in the first round, between the rounds, in the second round, or after a malformed line, when the rest is read
+/// and dropped.
+const FAILURES: &[(&str, usize, bool)] = &[
+    ("the first read", 0, false),
+    ("the first round", 1 << 20, false),
+    ("between the rounds", 8 << 20, false),
+    ("the second round", (8 << 20) + 8192, false),
+    ("after a malformed line", (8 << 20) + 8192, true),
+];
+
+#[test]
+fn a_failing_reader_is_reported(rt: HostRuntime) {
+    for (name, until, is_bad) in FAILURES {
+        for call in [Call::Load, Call::Count, Call::Terms] {
+            let found = failing(&rt, rt.alloc(), call, *until, *is_bad);
+            assert!(rt; holds(&rt, *name, "Err(Read), 1", found), "{name}");
+        }
+    }
 }

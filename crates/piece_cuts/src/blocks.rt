@@ -1,5 +1,5 @@
 //! A document that is read in blocks.
-ghost use Rattle.std.specs.Prelude.{◌≡◌, ◌≢◌, ◌≤◌, ◌⊎◌, [], IfOk, MatchOption, OnErr};
+ghost use Rattle.std.specs.Prelude.{◌≡◌, ◌≢◌, ◌≤◌, ◌⊎◌, [], drop, length, take, IfOk, MatchOption, OnErr, OnOk};
 ghost use Rattle.std.specs.Io.KnownBytes.{IsAtEnd};
 ghost use Rattle.nquads_core.specs.Transfer.{CountsRead, IsReadInPart};
 ghost use Rattle.piece_cuts.specs.Blocks.{Grows, IsClear};
@@ -33,6 +33,7 @@ pub struct Blocks {
     alloc: Global,
     size: usize,
     kept: Vec<u8>,
+    spare: Vec<Vec<u8>>,
     state: BlockState,
 }
 
@@ -67,6 +68,7 @@ impl Blocks {
             alloc,
             size,
             kept: Vec::new(alloc),
+            spare: Vec::new(alloc),
             state: BlockState::Reading,
         })
     }
@@ -106,12 +108,11 @@ impl Blocks {
         }
         match first_cut(reader, &mut self.kept, self.size) {
             Ok(Some(place)) => {
-                let Ok(rest) = self.kept.split_off(place) else {
+                let buffer = self.spare.pop().unwrap_or(Vec::new(self.alloc));
+                let Ok(block) = take_front(&mut self.kept, place, buffer) else {
                     self.state = BlockState::Failed(ReadFault::Memory);
                     return Err(ReadFault::Memory);
                 };
-                let mut block = mem::replace(&mut self.kept, rest);
-                block.shrink_to_fit();
                 Ok(Some(block))
             }
             Ok(None) => {
@@ -128,6 +129,33 @@ impl Blocks {
             }
         }
     }
+
+    /// Uses the memory of these blocks for blocks to come. Their bytes are lost.
+    pub fn reuse(&mut self, blocks: Vec<Vec<u8>>)
+        ensures same { self.new ≡ self.old }
+    {
+        self.spare = blocks;
+    }
+}
+
+/// Takes the first bytes. The bytes after them are moved into the buffer, which is then the one that is kept.
+///
+/// # Errors
+/// `AllocError` if an allocation fails.
+fn take_front(kept: &mut Vec<u8>, place: usize, buffer: Vec<u8>) -> Result<Vec<u8>, AllocError>
+    requires inside { place ≤ length kept.old.items }
+    ensures front { IfOk result (λ block. block.items ≡ take place kept.old.items) }
+    ensures rest { OnOk result (kept.new.items ≡ drop place kept.old.items) }
+{
+    let mut rest = buffer;
+    rest.clear();
+    rest.extend_from_slice(&kept[place..])?;
+    let mut block = mem::replace(kept, rest);
+    block.truncate(place);
+    if block.len() < block.capacity() / 4 {
+        block.shrink_to_fit();
+    }
+    Ok(block)
 }
 
 /// Reads until the buffer has a first cut, or to the end of the reader. Bytes are searched once,

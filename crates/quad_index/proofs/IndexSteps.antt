@@ -51,7 +51,7 @@ push_front n ms h first (suc k) d low high =
     let next : suc (k + 1) ≡ suc k + 1 = omega arith in
     subst (λ j. is_lt (nat_cmp (get_or (n ∷ ms) j d) (get_or ms k d)) ≡ false) next (h k d (omega arith) (omega arith))
 
--- the first name behind a quad that has one
+-- the first name after a quad that has one
 first_name : (q : NumQuad) (n : ℕ) → q.g ≡ Some n → (qs : List NumQuad) → All (λ r. is_lt (by_g r q) ≡ false) qs
     → (d : ℕ) → 0 < length (graph_names qs) → is_lt (nat_cmp (get_or (graph_names qs) 0 d) n) ≡ false
 first_name q n e [] h d inside = absurd (omega arith)

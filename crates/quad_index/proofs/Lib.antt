@@ -4,3 +4,4 @@ pub mod RangeLaws
 pub mod PackedLaws
 pub mod IndexSteps
 pub mod ReadingLaws
+pub mod CountingLaws

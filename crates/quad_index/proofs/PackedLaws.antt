@@ -181,7 +181,7 @@ module _ (order : SortOrder) where
   dedup-mapped [] all = refl
   dedup-mapped (k ∷ ks) all = dedup_from-mapped k ks (All-head (IsKey order) k ks all) (All-tail (IsKey order) k ks all)
 
-  -- what comes of sorting the keys
+  -- the result of sorting the keys
   pub record IsPackedList (quads list : List NumQuad) : Type 0 where
     pub sorted : IsSorted (order_cmp order) list
     pub each_once : IsPermutation (without_repeats quad_eq quads) list

@@ -1,5 +1,5 @@
--- Two binary searches in a sorted list give the elements that an order does not tell apart from the
--- wanted one.
+-- Two binary searches in a sorted list give the elements that an order does not distinguish from a given
+-- one.
 use Rattle.std.proofs.Common.{◌≡◌, ℕ, suc, ◌+◌, ◌-◌, ◌<◌, ◌≤◌, Bool, true, false, cond, List, [], ◌∷◌, ◌++◌, length, get_or, take, drop, filter, IsSorted, refl, sym, ap, ◌∙◌, subst, true≢false, length-take, length-drop, arith}
 use Rattle.std.specs.List.{AllWithin}
 use Rattle.std.specs.List.Sorted.{IsNonDecreasingBy, IsPartitionedBy, IsPartitionPoint}
@@ -97,7 +97,7 @@ module _ {X : Type 0} where
         ∙ ap (filter p) (sym (take-append-drop count rest)) ∙ filter-append p (take count rest) (drop count rest)
         ∙ (λ i. middle i ++ back i) ∙ append-nil (take count rest))
 
--- what is left behind a place, as a slice says it
+-- what is left after a place, as a slice says it
 pub rest_is : {X : Type 0} (xs : List X) (n : ℕ) → take (length xs - n) (drop n xs) ≡ drop n xs
 rest_is xs n = ap (λ m. take m (drop n xs)) (sym (length-drop n xs)) ∙ take-length (drop n xs)
 

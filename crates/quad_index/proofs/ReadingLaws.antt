@@ -89,7 +89,7 @@ index_reads quads dict numbered index h once = (
   index-All (IsBelow (length dict)) numbered index once h.1,
 )
 
--- ---- a map that tells apart what a list has keeps its elements once
+-- ---- a map that is injective on a list keeps its elements once
 
 module _ {X Y : Type 0} (same : X → X → Bool) (decides : (x y : X) → Decides (same x y) (x ≡ y)) (same' : Y → Y → Bool) (decides' : (x y : Y) → Decides (same' x y) (x ≡ y))
     (f : X → Y) (P : X → Type 0) (apart : (x y : X) → P x → P y → f x ≡ f y → x ≡ y) where
@@ -118,7 +118,7 @@ module _ {X Y : Type 0} (same : X → X → Bool) (decides : (x y : X) → Decid
       (alike_from_set (map f xs) (map f (without_repeats same xs))
       (set_of_map f xs (without_repeats same xs) (λ x. (contains_once same decides xs x, once_contains same decides xs x)))))
 
--- ---- a dictionary tells its numbers apart
+-- ---- distinct numbers of a dictionary have distinct terms
 
 appearances_once : (ts : List Term) → first_appearances ts ≡ without_repeats term_eq ts
 appearances_once [] = refl

@@ -1,5 +1,5 @@
 -- The orders of quads are orders, a list in one of them is in each of its beginnings, and quads that
--- an order does not tell apart agree on its places.
+-- an order does not distinguish agree on its places.
 use Rattle.std.proofs.Common.{◌≡◌, ℕ, ◌<◌, Bool, true, false, cond, ◌&&◌, Option, None, Some, List, nat_eq, nat_lt, eqb-true, ltb-true, IsSorted, refl, sym, ap, ◌∙◌, true≢false, unwrap_or, arith}
 use Rattle.std.specs.Option.{option_cmp, option_eq}
 use Rattle.std.specs.Ordering.{is_eq, is_lt, nat_cmp, ordering_then, eq_by_cmp}
@@ -215,7 +215,7 @@ places_same x y g s p o = λ i. record {
   o = eqb-true x.o y.o o i;
 }
 
--- three places behind the graph, in whatever order
+-- three places after the graph, in any order
 module _ (x y : NumQuad) (a b c : Ordering) (A B C : Bool) (at_a : is_eq a ≡ A) (at_b : is_eq b ≡ B) (at_c : is_eq c ≡ C) where
   all_true : is_eq (ordering_then (ordering_then (ordering_then (by_g x y) a) b) c) ≡ true → (option_eq nat_eq x.g y.g ≡ true) × (A ≡ true) × (B ≡ true) × (C ≡ true)
   all_true h =

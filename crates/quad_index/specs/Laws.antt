@@ -18,7 +18,7 @@ use Rattle.quad_index.specs.Matching.{graph_names}
 abbrev pub same_parts : QuadParts → QuadParts → Bool
 same_parts a b = option_eq term_eq a.g b.g && (term_eq a.s b.s && (term_eq a.p b.p && term_eq a.o b.o))
 
--- the quads of the index, read as quads of terms, are the quads, and each number in it stands for a
+-- the quads of the index, read as quads of terms, are the quads, and each number in it is the number of a
 -- term
 abbrev pub IndexReadsTheQuads : Type 0
 IndexReadsTheQuads =

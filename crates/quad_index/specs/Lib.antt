@@ -3,3 +3,4 @@ pub mod Matching
 pub mod Indexed
 pub mod Laws
 pub mod Packed
+pub mod Counting

@@ -1,4 +1,4 @@
--- A quad whose numbers are small as one number (own): four places of 32 bits, the graph name in the highest,
+-- A quad whose numbers are small as one number: four places of 32 bits, the graph name in the highest,
 -- so that the order of the numbers is the order of the quads. Only private clauses cite these words.
 use Rattle.std.specs.Prelude.{ℕ, zero, suc, ◌+◌, ◌*◌, ◌/◌, ◌%◌, ◌^◌, ◌<◌, Option, None, Some}
 use Rattle.std.specs.Option.{ForSome}
@@ -22,7 +22,11 @@ abbrev pub graph_of : ℕ → Option ℕ
 graph_of zero = None
 graph_of (suc g) = Some g
 
--- one more place behind the others
+-- the place of the graph name in a key
+abbrev pub graph_key_of : ℕ → ℕ
+graph_key_of key = key / 2 ^ 32 / 2 ^ 32 / 2 ^ 32
+
+-- one more place after the others
 abbrev pub with_place : ℕ → ℕ → ℕ
 with_place front place = front * 2 ^ 32 + place
 
@@ -44,5 +48,5 @@ quad_of_places Gosp g a b c = record { g = g; s = b; p = c; o = a }
 -- the quad that has this key
 abbrev pub quad_of : SortOrder → ℕ → NumQuad
 quad_of order key =
-    quad_of_places order (graph_of (key / 2 ^ 32 / 2 ^ 32 / 2 ^ 32)) (key / 2 ^ 32 / 2 ^ 32 % 2 ^ 32)
+    quad_of_places order (graph_of (graph_key_of key)) (key / 2 ^ 32 / 2 ^ 32 % 2 ^ 32)
     (key / 2 ^ 32 % 2 ^ 32) (key % 2 ^ 32)

@@ -1,4 +1,4 @@
--- The orders of the lists of an index (our own): by the graph name, where no name comes first, and
+-- The orders of the lists of an index: by the graph name, where no name comes first, and
 -- then by the other places one after the other, as the letters of the order's name say. A shorter
 -- name compares fewer places.
 use Rattle.std.specs.Ordering.{nat_cmp, ordering_then}

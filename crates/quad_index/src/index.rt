@@ -15,8 +15,8 @@ use dict_core::NumQuad;
 use std::alloc::{AllocError, Global};
 use std::marker::Model;
 
-/// A set of numbered quads that is quick to look into. A contract sees it as the list of its quads,
-/// in which no quad stands twice.
+/// A set of numbered quads that is quick to search. A contract sees it as the list of its quads, in which each
+/// quad is once.
 #[derive(Drop)]
 pub struct Index {
     gspo: Vec<NumQuad>,
@@ -42,7 +42,7 @@ impl Index {
     /// The index of these quads: a statement that is repeated counts once.
     ///
     /// # Errors
-    /// `AllocError`: a growth was refused. The list is dropped.
+    /// `AllocError` if an allocation fails. The list is dropped.
     pub fn build(alloc: Global, quads: Vec<NumQuad>) -> Result<Index, AllocError>
         ensures each_once { IfOk result
             (λ index. IsPermutation (without_repeats quad_eq quads.items) index) }
@@ -62,7 +62,7 @@ impl Index {
     /// The lists hold the same quads, each once, and each list is sorted in its own order.
     ///
     /// # Errors
-    /// `AllocError`: a growth was refused. The lists are dropped.
+    /// `AllocError` if an allocation fails. The lists are dropped.
     pub fn of_lists(
         alloc: Global,
         gspo: Vec<NumQuad>,
@@ -87,7 +87,7 @@ impl Index {
     }
 
     /// The quads of one graph, None for the default graph, that have the given numbers at the given
-    /// places: each once, in one of the orders of the index. The slice is lent, nothing is copied.
+    /// places: each once, in one of the orders of the index. The slice is borrowed, and nothing is copied.
     pub fn scan(&self, g: Option<u64>, s: Option<u64>, p: Option<u64>, o: Option<u64>) -> &[NumQuad]
         ensures quads { IsPermutation (filter (agrees g s p o) self.now) result.now }
     {
@@ -134,7 +134,7 @@ fn wanted(g: Option<u64>, s: Option<u64>, p: Option<u64>, o: Option<u64>) -> Num
 }
 
 /// The graph names of sorted quads, each once.
-fn names_of(alloc: Global, quads: &[NumQuad]) -> Result<Vec<u64>, AllocError>
+pub(crate) fn names_of(alloc: Global, quads: &[NumQuad]) -> Result<Vec<u64>, AllocError>
     ensures names { IfOk result (λ names. names.items ≡ dedup nat_eq (graph_names quads.now)) }
 {
     let mut names = repeated_names(alloc, quads)?;

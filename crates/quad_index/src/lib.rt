@@ -1,19 +1,21 @@
 //! An index of numbered quads: the set of the quads in three sorted lists.
 //!
-//! An [`Index`] is seen as the list of its quads, in which no quad stands twice.
+//! An [`Index`] is seen as the list of its quads, in which each quad is once.
 //! [`Index::build`] makes it of a list with repeats; [`sorted_list`] and [`Index::of_lists`] do the
-//! same in parts, so that the three lists may be sorted side by side. [`Index::scan`] lends exactly
+//! same in parts, so that the three lists may be sorted in parallel. A [`PackedList`] takes less memory meanwhile. [`count_quads`] counts what an index would
+//! have, and builds none. [`Index::scan`] returns exactly
 //! the quads of one graph that have the given numbers at the given places, each once: its contract
-//! says that the slice is, in some order, the quads of the index that agree. That is what the
-//! evaluator above uses. The laws of `laws` say what an index is when its numbers are read as terms.
+//! says that the slice is, in some order, the quads of the index that agree. The evaluator above uses this
+//! contract. The laws of `laws` say what an index is when its numbers are read as terms.
 //!
-//! The notion of a dataset as a set of quads: RDF 1.1 Concepts, section 4. The orders are our own.
+//! The notion of a dataset as a set of quads: RDF 1.1 Concepts, section 4. The orders are a choice of this project.
 //!
-//! To read in this order: `sort_order`, `packed`, `prefix`, `range`, `index`, `laws`.
+//! To read in this order: `sort_order`, `packed`, `prefix`, `range`, `index`, `counting`, `laws`.
 //!
-//! Not promised: in which order a scan gives its quads.
+//! Not promised: in which order a scan returns its quads.
 #![tactic(auto)]
 
+mod counting;
 mod index;
 mod laws;
 mod packed;
@@ -21,6 +23,8 @@ mod prefix;
 mod range;
 mod sort_order;
 
+pub use counting::{IndexCounts, count_quads};
 pub use index::Index;
 pub use laws::{index_counts_the_quads, index_names_the_graphs, index_reads_the_quads};
+pub use packed::PackedList;
 pub use sort_order::{SortOrder, sorted_list};

@@ -5,42 +5,72 @@
 ghost use Rattle.std.specs.Prelude.{◌≡◌, true, map, All, IfOk, IfSome, IsPermutation, IsSorted};
 ghost use Rattle.algebra_model.specs.Bag.{IsWithoutRepeats, without_repeats};
 ghost use Rattle.dict_core.proofs.NumQuadLaws.{quad_eq};
-ghost use Rattle.quad_index.specs.Packed.{IsSmall, key_of, quad_of};
+ghost use Rattle.quad_index.specs.Packed.{IsSmall, graph_key_of, key_of, quad_of};
 ghost use Rattle.quad_index.specs.SortOrder.{order_cmp};
 
 use crate::sort_order::SortOrder;
 use dict_core::NumQuad;
 use std::alloc::{AllocError, Global};
+use std::marker::Model;
 
 /// One more than the largest number of a place.
 const PLACE: u128 = 1 << 32;
 
-/// The quads in this order, each once, or `None` if a number is too large for its place.
-///
-/// # Errors
-/// `AllocError` if an allocation fails.
-pub(crate) fn packed_list(
-    alloc: Global,
-    quads: &[NumQuad],
+/// A sorted list of quads, each once, as packed keys: 16 bytes for each quad. A contract sees the list of the quads.
+#[derive(Drop)]
+pub struct PackedList {
+    keys: Vec<u128>,
     order: SortOrder,
-) -> Result<Option<Vec<NumQuad>>, AllocError>
-    ensures sorted { IfOk result
-        (λ found. IfSome found (λ list. IsSorted (order_cmp order) list.items)) }
-    ensures each_once { IfOk result (λ found. IfSome found
-        (λ list. IsPermutation (without_repeats quad_eq quads.now) list.items)) }
-    ensures distinct { IfOk result
-        (λ found. IfSome found (λ list. IsWithoutRepeats quad_eq list.items)) }
-{
-    let Some(mut keys) = keys_of(alloc, quads, order)? else {
-        return Ok(None);
-    };
-    keys.sort()?;
-    keys.dedup();
-    Ok(Some(quads_of(alloc, keys.as_slice(), order)?))
+}
+
+impl Model for PackedList {
+    ghost use Rattle.std.specs.Prelude.{List, map};
+    ghost use Rattle.dict_core.specs.declared.num_quad.NumQuad.{NumQuad};
+    ghost use Rattle.quad_index.specs.Packed.{quad_of};
+
+    ghost Value = { List NumQuad };
+
+    ghost view = { λ list. map (quad_of list.order) list.keys.items };
+}
+
+impl PackedList {
+    /// Packs the quads in this order, each once. Returns `None` if a number of a quad is 2^32 - 1 or more.
+    ///
+    /// # Errors
+    /// `AllocError` if an allocation fails.
+    pub fn of(
+        alloc: Global,
+        quads: &[NumQuad],
+        order: SortOrder,
+    ) -> Result<Option<PackedList>, AllocError>
+        ensures sorted { IfOk result
+            (λ found. IfSome found (λ list. IsSorted (order_cmp order) list)) }
+        ensures each_once { IfOk result (λ found. IfSome found
+            (λ list. IsPermutation (without_repeats quad_eq quads.now) list)) }
+        ensures distinct { IfOk result
+            (λ found. IfSome found (λ list. IsWithoutRepeats quad_eq list)) }
+    {
+        let Some(mut keys) = keys_of(alloc, quads, order)? else {
+            return Ok(None);
+        };
+        keys.sort()?;
+        keys.dedup();
+        Ok(Some(PackedList { keys, order }))
+    }
+
+    /// Returns the quads.
+    ///
+    /// # Errors
+    /// `AllocError` if an allocation fails.
+    pub fn quads(&self, alloc: Global) -> Result<Vec<NumQuad>, AllocError>
+        ensures quads { IfOk result (λ quads. quads.items ≡ self.now) }
+    {
+        quads_of(alloc, self.keys.as_slice(), self.order)
+    }
 }
 
 /// The keys of the quads, or `None` if a number is too large for its place.
-fn keys_of(
+pub(crate) fn keys_of(
     alloc: Global,
     quads: &[NumQuad],
     order: SortOrder,
@@ -82,6 +112,13 @@ fn key_of(order: SortOrder, quad: &NumQuad) -> u128
     ((g * PLACE + a as u128) * PLACE + b as u128) * PLACE + c as u128
 }
 
+/// The place of the graph name in a key: 0 if there is none.
+pub(crate) fn graph_key_of(key: u128) -> u64
+    ensures graph { result ≡ graph_key_of key }
+{
+    (key / PLACE / PLACE / PLACE) as u64
+}
+
 /// The quads that have these keys.
 fn quads_of(alloc: Global, keys: &[u128], order: SortOrder) -> Result<Vec<NumQuad>, AllocError>
     ensures quads { IfOk result (λ quads. quads.items ≡ map (quad_of order) keys.now) }
@@ -95,7 +132,7 @@ fn quad_of(order: SortOrder, key: u128) -> NumQuad
     let a = (key / PLACE / PLACE % PLACE) as u64;
     let b = (key / PLACE % PLACE) as u64;
     let c = (key % PLACE) as u64;
-    let g = match (key / PLACE / PLACE / PLACE) as u64 {
+    let g = match graph_key_of(key) {
         0 => None,
         g => Some(g - 1),
     };

@@ -1,6 +1,6 @@
 //! The beginnings of the three orders: the places that a scan compares.
 
-/// The graph, and the other places that are compared behind it.
+/// The graph, and the other places that are compared after it.
 #[derive(Debug, Clone, Copy, PartialEq, Eq)]
 pub(crate) enum Prefix {
     G,

@@ -7,7 +7,7 @@ use crate::prefix::Prefix;
 use dict_core::NumQuad;
 use std::cmp::Ordering;
 
-/// The quads that agree with the wanted one on these places: two binary searches.
+/// The quads that agree with this one on these places: two binary searches.
 #[inline(always)]
 pub(crate) fn range<'a>(list: &'a [NumQuad], by: Prefix, wanted: NumQuad) -> &'a [NumQuad]
     requires sorted { IsSorted (prefix_cmp by) list.now }

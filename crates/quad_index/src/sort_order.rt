@@ -4,7 +4,7 @@ ghost use Rattle.algebra_model.specs.Bag.{IsWithoutRepeats, without_repeats};
 ghost use Rattle.dict_core.specs.Equality.{quad_eq};
 ghost use Rattle.quad_index.specs.SortOrder.{order_cmp};
 
-use crate::packed::packed_list;
+use crate::packed::PackedList;
 use dict_core::NumQuad;
 use std::alloc::{AllocError, Global};
 
@@ -23,10 +23,10 @@ pub enum SortOrder {
 /// The quads in this order, each once.
 ///
 /// Lists of the same quads in the three orders make an index by `Index::of_lists`, so that they may
-/// be sorted side by side.
+/// be sorted in parallel.
 ///
 /// # Errors
-/// `AllocError`: a growth was refused. The quads, which are lent, are unchanged.
+/// `AllocError` if an allocation fails.
 pub fn sorted_list(
     alloc: Global,
     quads: &[NumQuad],
@@ -37,8 +37,8 @@ pub fn sorted_list(
         (λ list. IsPermutation (without_repeats quad_eq quads.now) list.items) }
     ensures distinct { IfOk result (λ list. IsWithoutRepeats quad_eq list.items) }
 {
-    match packed_list(alloc, quads, order)? {
-        Some(list) => Ok(list),
+    match PackedList::of(alloc, quads, order)? {
+        Some(list) => list.quads(alloc),
         None => plain_list(alloc, quads, order),
     }
 }

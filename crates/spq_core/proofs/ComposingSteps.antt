@@ -1,9 +1,12 @@
 -- How composing an output follows from loading a document, and a run from composing.
-use Rattle.std.proofs.Common.{◌≡◌, inr, ℕ, List, Option, Result, Ok, Err, Vec, Global, length, refl}
+use Rattle.std.proofs.Common.{◌≡◌, inr, ℕ, List, Option, Result, Ok, Err, Vec, Global, length, refl, ◌∙◌}
 use Rattle.std.specs.Result.{IfOk, IfErr}
 use Rattle.nquads_core.specs.declared.device.DeviceFailed.{DeviceFailed}
 use Rattle.nquads_core.specs.Transfer.{IsReadInPart}
-use Rattle.dataset_load.specs.Store.{StoreView, names_in}
+use Rattle.rdf_core.specs.declared.term.Term.{Term}
+use Rattle.dataset_load.specs.declared.counted.Counted.{Counted}
+use Rattle.dataset_load.specs.Store.{StoreView}
+use Rattle.dataset_load.specs.Counted.{AreTermsFrom, IsCountedFrom}
 use Rattle.result_json.specs.Results.{joined_blocks}
 use Rattle.spq_core.specs.Output.{Request, check, terms}
 use Rattle.spq_core.specs.Listing.{counts_line, term_lines}
@@ -12,72 +15,76 @@ use Rattle.spq_core.proofs.DocumentSteps.{composed_check, composed_terms}
 use Rattle.spq_core.specs.declared.program.RunFault.{RunFault}
 use Rattle.spq_core.specs.declared.program.RunFault.TheVariants.{Memory}
 
-part_loaded : (left left' : Option (List ℕ)) (store : StoreView) → IsLoadedFrom left left' store → IsReadInPart left left'
+pub part_loaded : (left left' : Option (List ℕ)) (store : StoreView) → IsLoadedFrom left left' store → IsReadInPart left left'
 part_loaded left left' store h = record { taken = h.doc; consumed = h.consumed }
 
--- a document that was not loaded gives no output
-pub not_loaded : {S : Type 0} (left : S → Option (List ℕ)) (failures : S → Option ℕ) (request : Request) (alone : Type 0) (reader reader' : S) (f : RunFault) → IsAnswerable request
-    → ((n : ℕ) → IsBadLineFrom (left reader) (left reader') n → IsBadLineOf request (left reader) (left reader') n)
-    → IsLoading left failures alone reader reader' (Err f) → IsComposing left failures request alone reader reader' (Err f)
-not_loaded left failures request alone reader reader' f answerable bad h = record {
-  composed = tt;
-  query = λ q e. absurd (h.query q (cc));
-  judged_first = inr answerable;
-  answerable = λ e. answerable;
-  bad_line = λ n e. bad n (h.bad_line n (cc));
-  taken = h.taken;
-  read = λ e. h.read (cc);
-  unfailed = λ other. h.unfailed (λ e. other (cc));
-  write = λ e. h.write (cc);
-  line = λ e. h.line (cc);
-  one_worker = λ a e. h.one_worker a (cc);
-}
+module _ {S T : Type 0} (left : S → Option (List ℕ)) (failures : S → Option ℕ) (loads : Option (List ℕ) → Option (List ℕ) → T → Type 0) (request : Request) (alone : Type 0) (reader reader' : S) where
+  -- a document that was not loaded gives no output
+  pub not_loaded : (f : RunFault) → IsAnswerable request → ((n : ℕ) → IsBadLineFrom (left reader) (left reader') n → IsBadLineOf request (left reader) (left reader') n)
+      → IsLoading left failures loads alone reader reader' (Err f) → IsComposing left failures request alone reader reader' (Err f)
+  not_loaded f answerable bad h = record {
+    composed = tt;
+    query = λ q e. absurd (h.query q (cc));
+    judged_first = inr answerable;
+    answerable = λ e. answerable;
+    bad_line = λ n e. bad n (h.bad_line n (cc));
+    taken = h.taken;
+    read = λ e. h.read (cc);
+    unfailed = λ other. h.unfailed (λ e. other (cc));
+    write = λ e. h.write (cc);
+    line = λ e. h.line (cc);
+    one_worker = λ a e. h.one_worker a (cc);
+  }
 
--- of a document that was loaded an output is composed, or memory runs out
-pub loaded : {S : Type 0} (left : S → Option (List ℕ)) (failures : S → Option ℕ) (request : Request) (alone : Type 0) (reader reader' : S) (store : StoreView) → IsAnswerable request
-    → IsLoading left failures alone reader reader' (Ok store) → (result : Result (Vec (Vec ℕ Global) Global) RunFault)
-    → IfOk result (λ blocks. IsComposed request (left reader) (left reader') (joined_blocks blocks.items)) → IfErr result (λ f. f ≡ Memory) → IsComposing left failures request alone reader reader' result
-loaded left failures request alone reader reader' store answerable h (Ok blocks) c m = record {
-  composed = c;
-  query = λ q e. absurd (cc);
-  judged_first = tt;
-  answerable = λ e. answerable;
-  bad_line = λ n e. absurd (cc);
-  taken = tt;
-  read = λ e. absurd (cc);
-  unfailed = λ other. h.unfailed (λ e. cc);
-  write = λ e. cc;
-  line = λ e. cc;
-  one_worker = λ a e. cc;
-}
-loaded left failures request alone reader reader' store answerable h (Err f) c m = record {
-  composed = tt;
-  query = λ q e. absurd (cc);
-  judged_first = inr answerable;
-  answerable = λ e. answerable;
-  bad_line = λ n e. absurd (cc);
-  taken = part_loaded (left reader) (left reader') store h.loaded;
-  read = λ e. absurd (cc);
-  unfailed = λ other. h.unfailed (λ e. cc);
-  write = λ e. cc;
-  line = λ e. cc;
-  one_worker = λ a e. cc;
-}
+  -- of a document that was loaded an output is composed, or memory runs out
+  pub loaded : (value : T) → IsAnswerable request → IsReadInPart (left reader) (left reader') → IsLoading left failures loads alone reader reader' (Ok value)
+      → (result : Result (Vec (Vec ℕ Global) Global) RunFault)
+      → IfOk result (λ blocks. IsComposed request (left reader) (left reader') (joined_blocks blocks.items)) → IfErr result (λ f. f ≡ Memory) → IsComposing left failures request alone reader reader' result
+  loaded value answerable part h (Ok blocks) c m = record {
+    composed = c;
+    query = λ q e. absurd (cc);
+    judged_first = tt;
+    answerable = λ e. answerable;
+    bad_line = λ n e. absurd (cc);
+    taken = tt;
+    read = λ e. absurd (cc);
+    unfailed = λ other. h.unfailed (λ e. cc);
+    write = λ e. cc;
+    line = λ e. cc;
+    one_worker = λ a e. cc;
+  }
+  loaded value answerable part h (Err f) c m = record {
+    composed = tt;
+    query = λ q e. absurd (cc);
+    judged_first = inr answerable;
+    answerable = λ e. answerable;
+    bad_line = λ n e. absurd (cc);
+    taken = part;
+    read = λ e. absurd (cc);
+    unfailed = λ other. h.unfailed (λ e. cc);
+    write = λ e. cc;
+    line = λ e. cc;
+    one_worker = λ a e. cc;
+  }
 
-pub counted : {S : Type 0} (left : S → Option (List ℕ)) (failures : S → Option ℕ) (alone : Type 0) (reader reader' : S) (store : StoreView)
-    → IsLoading left failures alone reader reader' (Ok store) → (result : Result (Vec (Vec ℕ Global) Global) RunFault)
-    → IfOk result (λ blocks. joined_blocks blocks.items ≡ counts_line (length store.index) (length store.dict) (length (names_in store.index))) → IfErr result (λ f. f ≡ Memory)
-    → IsComposing left failures check alone reader reader' result
-counted left failures alone reader reader' store h (Ok blocks) e m =
-    loaded left failures check alone reader reader' store tt h (Ok blocks) (composed_check (left reader) (left reader') store (joined_blocks blocks.items) h.loaded e) tt
-counted left failures alone reader reader' store h (Err f) e m = loaded left failures check alone reader reader' store tt h (Err f) tt m
+module _ {S : Type 0} (left : S → Option (List ℕ)) (failures : S → Option ℕ) (alone : Type 0) (reader reader' : S) where
+  pub counted : (counts : Counted) → IsLoading left failures IsCountedFrom alone reader reader' (Ok counts) → (result : Result (Vec (Vec ℕ Global) Global) RunFault)
+      → IfOk result (λ blocks. joined_blocks blocks.items ≡ counts_line counts.quads (length counts.dict) counts.graphs) → IfErr result (λ f. f ≡ Memory)
+      → IsComposing left failures check alone reader reader' result
+  counted counts h (Ok blocks) e m =
+      loaded left failures IsCountedFrom check alone reader reader' counts tt (part_loaded (left reader) (left reader') h.loaded.store h.loaded.loaded) h (Ok blocks)
+      (composed_check (left reader) (left reader') h.loaded.store (joined_blocks blocks.items) h.loaded.loaded
+      (e ∙ (λ i. counts_line (h.loaded.counts.quads i) (length (h.loaded.counts.terms i)) (h.loaded.counts.graphs i)))) tt
+  counted counts h (Err f) e m =
+      loaded left failures IsCountedFrom check alone reader reader' counts tt (part_loaded (left reader) (left reader') h.loaded.store h.loaded.loaded) h (Err f) tt m
 
-pub listed : {S : Type 0} (left : S → Option (List ℕ)) (failures : S → Option ℕ) (alone : Type 0) (reader reader' : S) (store : StoreView)
-    → IsLoading left failures alone reader reader' (Ok store) → (result : Result (Vec (Vec ℕ Global) Global) RunFault)
-    → IfOk result (λ blocks. joined_blocks blocks.items ≡ term_lines store.dict) → IfErr result (λ f. f ≡ Memory) → IsComposing left failures terms alone reader reader' result
-listed left failures alone reader reader' store h (Ok blocks) e m =
-    loaded left failures terms alone reader reader' store tt h (Ok blocks) (composed_terms (left reader) (left reader') store store.dict (joined_blocks blocks.items) h.loaded refl e) tt
-listed left failures alone reader reader' store h (Err f) e m = loaded left failures terms alone reader reader' store tt h (Err f) tt m
+  pub listed : (dict : List Term) → IsLoading left failures AreTermsFrom alone reader reader' (Ok dict) → (result : Result (Vec (Vec ℕ Global) Global) RunFault)
+      → IfOk result (λ blocks. joined_blocks blocks.items ≡ term_lines dict) → IfErr result (λ f. f ≡ Memory) → IsComposing left failures terms alone reader reader' result
+  listed dict h (Ok blocks) e m =
+      loaded left failures AreTermsFrom terms alone reader reader' dict tt (part_loaded (left reader) (left reader') h.loaded.store h.loaded.loaded) h (Ok blocks)
+      (composed_terms (left reader) (left reader') h.loaded.store dict (joined_blocks blocks.items) h.loaded.loaded h.loaded.same e) tt
+  listed dict h (Err f) e m =
+      loaded left failures AreTermsFrom terms alone reader reader' dict tt (part_loaded (left reader) (left reader') h.loaded.store h.loaded.loaded) h (Err f) tt m
 
 -- where no output was composed, nothing is written
 pub not_composed : {S K T : Type 0} (left : S → Option (List ℕ)) (failures : S → Option ℕ) (held : K → Option (List ℕ)) (write_failures : K → Option ℕ)

@@ -7,7 +7,8 @@ use Rattle.nquads_core.specs.Device.{Rises, Stays}
 use Rattle.nquads_core.specs.Transfer.{IsReadInPart, WroteBeginning}
 use Rattle.nquads_core.specs.declared.device.DeviceFailed.{DeviceFailed}
 use Rattle.nquads_core.specs.Lines.{lines}
-use Rattle.dataset_load.specs.Store.{StoreView}
+use Rattle.dataset_load.specs.declared.reader_fault.ReaderFault.{ReaderFault}
+use Rattle.dataset_load.specs.declared.reader_fault.ReaderFault.TheVariants as reading
 pub use Rattle.dataset_load.specs.Streaming.{IsBadLineFrom, IsLoadedFrom}
 use Rattle.spq_command.specs.declared.command.Command.{Command}
 use Rattle.spq_command.specs.declared.command.Command.TheVariants.{Select, Check, Terms}
@@ -99,12 +100,22 @@ pub record IsWrittenInPart {K : Type 0} (request : Request) (left left' : Option
   pub part : WroteBeginning (held writer) (held writer') text
   pub failed : WriterFailed write_gives (write_failures writer) (write_failures writer') text writer'
 
+-- The fault of a load, under the same name.
+abbrev pub run_result_of : {T : Type 0} → Result T ReaderFault → Result T RunFault
+run_result_of (Ok value) = Ok value
+run_result_of (Err (reading.BadLine n)) = Err (BadLine n)
+run_result_of (Err reading.WorkerRefused) = Err WorkerRefused
+run_result_of (Err reading.Memory) = Err Memory
+run_result_of (Err reading.Read) = Err Read
+
 -- What loading the document of a reader returned, and what it did to the reader. What the reader
--- exposes comes first: the bytes that are left, and the count of its failures. `alone` says that one
--- worker loads, which is the caller.
-pub record IsLoading {S : Type 0} (left : S → Option (List ℕ)) (read_failures : S → Option ℕ)
-    (alone : Type 0) (reader reader' : S) (result : Result StoreView RunFault) : Type 0 where
-  pub loaded : IfOk result (IsLoadedFrom (left reader) (left reader'))
+-- exposes comes first: the bytes that are left, and the count of its failures. Then comes what a value is
+-- of the bytes that were read: a dataset, its counts or its terms. `alone` says that one worker loads,
+-- which is the caller.
+pub record IsLoading {S T : Type 0} (left : S → Option (List ℕ)) (read_failures : S → Option ℕ)
+    (loads : Option (List ℕ) → Option (List ℕ) → T → Type 0) (alone : Type 0) (reader reader' : S)
+    (result : Result T RunFault) : Type 0 where
+  pub loaded : IfOk result (loads (left reader) (left reader'))
   pub bad_line : (n : ℕ) → result ≡ Err (BadLine n) → IsBadLineFrom (left reader) (left reader') n
   pub taken : OnErr result (IsReadInPart (left reader) (left reader'))
   pub read : result ≡ Err Read → Rises (read_failures reader) (read_failures reader')

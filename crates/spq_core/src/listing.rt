@@ -1,9 +1,8 @@
 //! What `check` and `terms` print of a dataset.
 ghost use Rattle.std.specs.Prelude.{◌≡◌, ◌++◌, IfOk, OnOk, decimal, length};
-ghost use Rattle.dataset_load.specs.Store.{names_in};
 ghost use Rattle.spq_core.specs.Listing.{counts_line, term_lines};
 
-use dataset_load::Store;
+use dataset_load::Counted;
 use dict_core::Dict;
 use itoa::Buffer;
 use rdf_core::write_term;
@@ -17,17 +16,17 @@ fn push_number(text: &mut Vec<u8>, n: u64) -> Result<(), AllocError>
 }
 
 /// How many distinct quads, terms and graph names there are, as one line.
-pub fn counts_text(alloc: Global, store: &Store) -> Result<Vec<u8>, AllocError>
+pub fn counts_text(alloc: Global, counted: &Counted) -> Result<Vec<u8>, AllocError>
     ensures text { IfOk result (λ text. text.items ≡ counts_line
-        (length store.now.index) (length store.now.dict) (length (names_in store.now.index))) }
+        counted.now.quads (length counted.now.dict) counted.now.graphs) }
 {
     let mut text = Vec::new(alloc);
     text.extend_from_slice(b"ok ")?;
-    push_number(&mut text, store.quads())?;
+    push_number(&mut text, counted.quads)?;
     text.extend_from_slice(b" quads ")?;
-    push_number(&mut text, store.terms())?;
+    push_number(&mut text, counted.dict.len() as u64)?;
     text.extend_from_slice(b" terms ")?;
-    push_number(&mut text, store.graphs())?;
+    push_number(&mut text, counted.graphs)?;
     text.extend_from_slice(b" graphs\n")?;
     Ok(text)
 }

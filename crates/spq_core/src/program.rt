@@ -3,11 +3,12 @@ ghost use Rattle.std.specs.Prelude.{◌≡◌, Err, IfErr, IfOk, OnErr, OnOk, le
 ghost use Rattle.std.specs.Io.KnownBytes.{Appends};
 ghost use Rattle.nquads_core.specs.Device.{Stays};
 ghost use Rattle.nquads_core.specs.Transfer.{WroteBeginning};
-ghost use Rattle.dataset_load.specs.Store.{names_in};
+ghost use Rattle.dataset_load.specs.Counted.{AreTermsFrom, IsCountedFrom};
+ghost use Rattle.dataset_load.specs.Streaming.{IsLoadedFrom};
 ghost use Rattle.result_json.specs.Results.{joined_blocks};
 ghost use Rattle.spq_core.specs.Output.{check, request_of, select, terms};
 ghost use Rattle.spq_core.specs.Listing.{counts_line, term_lines};
-ghost use Rattle.spq_core.specs.Run.{IsAnswerable, IsByOneWorker, IsComposing, IsLoading, IsRun, WriterFailed};
+ghost use Rattle.spq_core.specs.Run.{IsAnswerable, IsByOneWorker, IsComposing, IsLoading, IsRun, WriterFailed, run_result_of};
 ghost use Rattle.spq_core.specs.declared.program.RunFault.TheVariants.{Memory, WorkerRefused};
 
 use crate::answering::{answer_query, judged};
@@ -15,13 +16,15 @@ use crate::fault::Fault;
 use crate::listing::{counts_text, terms_text};
 use crate::notes::{Log, NoProgress, Progress, Stage};
 use algebra_model::laws::{a_bag_has_one_sorted_list, a_dataset_is_a_set};
-use dataset_load::{LoadNotes, ReaderFault, Store, load_reader};
+use dataset_load::{Counted, LoadNotes, ReaderFault, Store, count_reader, load_reader, load_terms};
+use dict_core::Dict;
 use nquads_core::{DeviceFailed, Sink, Source, write_all};
 use piece_pool::OpenGate;
 use row_pieces::{EvalFault, How};
 use sparql_read::QueryFault;
 use spq_command::{Command, CommandFault, Reading};
 use std::alloc::{AllocError, Global};
+use std::mem;
 use std::random::RandomSource;
 use std::sync::Wait;
 use std::thread::Threads;
@@ -94,6 +97,24 @@ impl From<CommandFault> for RunFault {
     }
 }
 
+/// Ends the loading of a document: notes what it noted, and returns what it returned.
+fn finished<T: Drop, P: Progress>(
+    log: &mut Log<'_, P>,
+    loading: LoadNotes,
+    loaded: Result<T, ReaderFault>,
+) -> Result<T, RunFault>
+    ensures loaded { result ≡ run_result_of loaded }
+{
+    log.loaded(loading);
+    match loaded {
+        Ok(value) => Ok(value),
+        Err(ReaderFault::BadLine(line)) => Err(RunFault::BadLine(line)),
+        Err(ReaderFault::WorkerRefused) => Err(RunFault::WorkerRefused),
+        Err(ReaderFault::Memory) => Err(RunFault::Memory),
+        Err(ReaderFault::Read) => Err(RunFault::Read),
+    }
+}
+
 /// Loads the rest of the reader as a dataset.
 fn load_document<R: Threads + Wait + RandomSource, S: Source, P: Progress>(
     rt: &R,
@@ -102,28 +123,50 @@ fn load_document<R: Threads + Wait + RandomSource, S: Source, P: Progress>(
     reader: &mut S,
     log: &mut Log<'_, P>,
 ) -> Result<Store, RunFault>
-    ensures { IsLoading S.left S.failures (reading.workers ≡ 1) reader.old reader.new result }
+    ensures { IsLoading S.left S.failures IsLoadedFrom (reading.workers ≡ 1)
+        reader.old reader.new result }
 {
     log.begin(Stage::Reading);
-    let workers = reading.workers;
+    let (size, workers) = (reading.piece, reading.workers);
     let mut loading = LoadNotes::new();
-    let loaded = load_reader(
-        rt,
-        alloc,
-        reading.piece,
-        reader,
-        workers,
-        &OpenGate,
-        &mut loading,
-    );
-    log.loaded(loading);
-    match loaded {
-        Ok(store) => Ok(store),
-        Err(ReaderFault::BadLine(line)) => Err(RunFault::BadLine(line)),
-        Err(ReaderFault::WorkerRefused) => Err(RunFault::WorkerRefused),
-        Err(ReaderFault::Memory) => Err(RunFault::Memory),
-        Err(ReaderFault::Read) => Err(RunFault::Read),
-    }
+    let loaded = load_reader(rt, alloc, size, reader, workers, &OpenGate, &mut loading);
+    finished(log, loading, loaded)
+}
+
+/// Counts the quads and graph names of the rest of the reader, and returns its terms.
+fn count_document<R: Threads + Wait + RandomSource, S: Source, P: Progress>(
+    rt: &R,
+    alloc: Global,
+    reading: Reading,
+    reader: &mut S,
+    log: &mut Log<'_, P>,
+) -> Result<Counted, RunFault>
+    ensures { IsLoading S.left S.failures IsCountedFrom (reading.workers ≡ 1)
+        reader.old reader.new result }
+{
+    log.begin(Stage::Reading);
+    let (size, workers) = (reading.piece, reading.workers);
+    let mut loading = LoadNotes::new();
+    let counted = count_reader(rt, alloc, size, reader, workers, &OpenGate, &mut loading);
+    finished(log, loading, counted)
+}
+
+/// Loads the terms of the rest of the reader.
+fn load_document_terms<R: Threads + Wait + RandomSource, S: Source, P: Progress>(
+    rt: &R,
+    alloc: Global,
+    reading: Reading,
+    reader: &mut S,
+    log: &mut Log<'_, P>,
+) -> Result<Dict, RunFault>
+    ensures { IsLoading S.left S.failures AreTermsFrom (reading.workers ≡ 1)
+        reader.old reader.new result }
+{
+    log.begin(Stage::Reading);
+    let (size, workers) = (reading.piece, reading.workers);
+    let mut loading = LoadNotes::new();
+    let loaded = load_terms(rt, alloc, size, reader, workers, &OpenGate, &mut loading);
+    finished(log, loading, loaded)
 }
 
 /// Evaluates a query over the rest of the reader, and returns the result in blocks that follow each
@@ -167,29 +210,29 @@ fn one_block(alloc: Global, text: Vec<u8>) -> Result<Vec<Vec<u8>>, AllocError>
     Ok(vec![in alloc; text]?)
 }
 
-/// Counts the quads, terms and graphs of a dataset, as one block.
-fn counts_block(alloc: Global, store: &Store) -> Result<Vec<Vec<u8>>, RunFault>
+/// Prints the counts of a dataset, as one block.
+fn counts_block(alloc: Global, counted: &Counted) -> Result<Vec<Vec<u8>>, RunFault>
     ensures text { IfOk result (λ blocks. joined_blocks blocks.items ≡ counts_line
-        (length store.now.index) (length store.now.dict) (length (names_in store.now.index))) }
+        counted.now.quads (length counted.now.dict) counted.now.graphs) }
     ensures memory { IfErr result (λ fault. fault ≡ Memory) }
 {
-    let text = counts_text(alloc, store)?;
+    let text = counts_text(alloc, counted)?;
     Ok(one_block(alloc, text)?)
 }
 
 /// Lists the terms of a dataset, as one block.
-fn terms_block(alloc: Global, store: &Store) -> Result<Vec<Vec<u8>>, RunFault>
-    ensures text { IfOk result (λ blocks. joined_blocks blocks.items ≡ term_lines store.now.dict) }
+fn terms_block(alloc: Global, dict: &Dict) -> Result<Vec<Vec<u8>>, RunFault>
+    ensures text { IfOk result (λ blocks. joined_blocks blocks.items ≡ term_lines dict.now) }
     ensures memory { IfErr result (λ fault. fault ≡ Memory) }
 {
-    let text = terms_text(alloc, store.dict())?;
+    let text = terms_text(alloc, dict)?;
     Ok(one_block(alloc, text)?)
 }
 
 /// Counts the quads, terms and graphs of the document that is the rest of the reader.
 ///
-/// The dataset is only borrowed after it is loaded: a function that owns one pays for its drop at each
-/// of its exits.
+/// The memory of the terms is left to the end of the process: freeing them one by one takes longer than sorting
+/// the quads.
 fn checked<R: Threads + Wait + RandomSource, S: Source, P: Progress>(
     rt: &R,
     alloc: Global,
@@ -200,12 +243,16 @@ fn checked<R: Threads + Wait + RandomSource, S: Source, P: Progress>(
     ensures { IsComposing S.left S.failures check (reading.workers ≡ 1)
         reader.old reader.new result }
 {
-    let store = load_document(rt, alloc, reading, reader, log)?;
+    let counted = count_document(rt, alloc, reading, reader, log)?;
     log.begin(Stage::Printing);
-    counts_block(alloc, &store)
+    let blocks = counts_block(alloc, &counted);
+    mem::forget(counted);
+    blocks
 }
 
 /// Lists the terms of the document that is the rest of the reader.
+///
+/// The memory of the terms is left to the end of the process, as in `checked`.
 fn listed<R: Threads + Wait + RandomSource, S: Source, P: Progress>(
     rt: &R,
     alloc: Global,
@@ -216,9 +263,11 @@ fn listed<R: Threads + Wait + RandomSource, S: Source, P: Progress>(
     ensures { IsComposing S.left S.failures terms (reading.workers ≡ 1)
         reader.old reader.new result }
 {
-    let store = load_document(rt, alloc, reading, reader, log)?;
+    let dict = load_document_terms(rt, alloc, reading, reader, log)?;
     log.begin(Stage::Printing);
-    terms_block(alloc, &store)
+    let blocks = terms_block(alloc, &dict);
+    mem::forget(dict);
+    blocks
 }
 
 /// Composes the whole output of a command, before anything is written: blocks that follow each other.

@@ -6,7 +6,9 @@
 ghost use Rattle.std.specs.Prelude.{◌≤◌};
 
 use crate::documents::{BAD, Counts, GRAPHS, NUMBERED, REPEATED, TAGGED, TWO_LINES, TYPED, counts};
-use dataset_load::{LoadFault, load, load_blocks, read_blocks};
+use dataset_load::{
+    LoadFault, LoadNotes, ReaderFault, count_reader, load, load_blocks, load_reader, read_blocks,
+};
 use nquads_core::{Device, ReadFault};
 use piece_cuts::Cuts;
 use piece_pool::Gate;
@@ -78,6 +80,52 @@ fn by_blocks<R: Threads + Wait + RandomSource>(
     }
 }
 
+/// Returns the fault of a load in place of the fault of a reader.
+fn load_fault(fault: ReaderFault) -> LoadFault {
+    match fault {
+        ReaderFault::BadLine(line) => LoadFault::BadLine(line),
+        ReaderFault::WorkerRefused => LoadFault::WorkerRefused,
+        ReaderFault::Memory => LoadFault::Memory,
+        ReaderFault::Read => LoadFault::BadLine(0),
+    }
+}
+
+/// Loads the document from a reader, and returns its counts.
+fn by_reader<R: Threads + Wait + RandomSource>(
+    rt: &R,
+    alloc: Global,
+    doc: &[u8],
+    workers: usize,
+    gate: &Passages,
+) -> Counts
+    requires workers { (1 ≤ workers) × (workers ≤ 64) }
+{
+    let mut reader = Device { inner: doc };
+    let mut notes = LoadNotes::new();
+    match load_reader(rt, alloc, 1, &mut reader, workers, gate, &mut notes) {
+        Ok(store) => Ok((store.quads(), store.terms(), store.graphs())),
+        Err(fault) => Err(load_fault(fault)),
+    }
+}
+
+/// Counts the document from a reader.
+fn by_counting<R: Threads + Wait + RandomSource>(
+    rt: &R,
+    alloc: Global,
+    doc: &[u8],
+    workers: usize,
+    gate: &Passages,
+) -> Counts
+    requires workers { (1 ≤ workers) × (workers ≤ 64) }
+{
+    let mut reader = Device { inner: doc };
+    let mut notes = LoadNotes::new();
+    match count_reader(rt, alloc, 1, &mut reader, workers, gate, &mut notes) {
+        Ok(counted) => Ok((counted.quads, counted.dict.len() as u64, counted.graphs)),
+        Err(fault) => Err(load_fault(fault)),
+    }
+}
+
 /// Returns whether an allocation or the start of a worker thread failed. Prints it, for the script to see.
 fn is_refused<R: Print>(rt: &R, counts: &Counts) -> bool {
     let what = match counts {
@@ -132,7 +180,49 @@ fn blocks_come_to<R: Threads + Wait + RandomSource + Print>(
     given == want && gate.is_balanced()
 }
 
-/// Does both, with one worker and with two.
+/// Does the same with the document from a reader.
+fn reader_comes_to<R: Threads + Wait + RandomSource + Print>(
+    rt: &R,
+    alloc: Global,
+    doc: &[u8],
+    workers: usize,
+    want: Counts,
+) -> bool
+    requires workers { (1 ≤ workers) × (workers ≤ 64) }
+{
+    let gate = Passages::none();
+    let mut given = by_reader(rt, alloc, doc, workers, &gate);
+    if is_refused(rt, &given) {
+        if !gate.is_balanced() {
+            return false;
+        }
+        given = by_reader(rt, alloc, doc, workers, &gate);
+    }
+    given == want && gate.is_balanced()
+}
+
+/// Does the same with a document that is counted.
+fn counting_comes_to<R: Threads + Wait + RandomSource + Print>(
+    rt: &R,
+    alloc: Global,
+    doc: &[u8],
+    workers: usize,
+    want: Counts,
+) -> bool
+    requires workers { (1 ≤ workers) × (workers ≤ 64) }
+{
+    let gate = Passages::none();
+    let mut given = by_counting(rt, alloc, doc, workers, &gate);
+    if is_refused(rt, &given) {
+        if !gate.is_balanced() {
+            return false;
+        }
+        given = by_counting(rt, alloc, doc, workers, &gate);
+    }
+    given == want && gate.is_balanced()
+}
+
+/// Does each of these, with one worker and with two.
 fn comes_to<R: Threads + Wait + RandomSource + Print>(
     rt: &R,
     alloc: Global,
@@ -144,6 +234,12 @@ fn comes_to<R: Threads + Wait + RandomSource + Print>(
             return false;
         }
         if !blocks_come_to(rt, alloc, doc, workers, want) {
+            return false;
+        }
+        if !reader_comes_to(rt, alloc, doc, workers, want) {
+            return false;
+        }
+        if !counting_comes_to(rt, alloc, doc, workers, want) {
             return false;
         }
     }

@@ -16,9 +16,9 @@ returns-in_err-add_blocks-clause-bad_line g c =
 pub returns-clause-more : goal.returns-clause-more
 returns-clause-more g c = λ is start was.
     let filled = c.in_ok-is_last.ensures in
-    up_to_more start (g.S.Source.left c.args.reader.now) (g.S.Source.left c.fill_round.new.reader) c.args.blocks.now.kept c.args.so_far.now (block_texts c.fill_round.new.round.items) was
+    rw c.reuse.ensures.same (up_to_more start (g.S.Source.left c.args.reader.now) (g.S.Source.left c.fill_round.new.reader) c.args.blocks.now.kept c.args.so_far.now (block_texts c.fill_round.new.round.items) was
     c.fill_round.new.blocks.kept c.add_blocks.new.so_far (filled.bytes (ok_no c.in_ok-is_last.is_last is)) (filled.each_ends (ok_no c.in_ok-is_last.is_last is))
-    (rw c.as_slice.ensures.value at c.in_ok-add_blocks.ensures.numbered)
+    (rw c.as_slice.ensures.value at c.in_ok-add_blocks.ensures.numbered))
 
 pub returns-clause-last : goal.returns-clause-last
 returns-clause-last g c = λ is start was.

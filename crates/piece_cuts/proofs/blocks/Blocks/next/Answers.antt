@@ -1,4 +1,4 @@
-use Rattle.std.proofs.Common.{ap, ◌∙◌, inl}
+use Rattle.std.proofs.Common.{ap, inl}
 use Rattle.piece_cuts.proofs.BlockSteps.{BothKnown-cut, BothKnown-block, ends_whole}
 use Rattle.piece_cuts.proofs.blocks.Blocks.next.Goals as goal
 
@@ -8,13 +8,10 @@ returns-in-Ok-clause-block g c e =
     let size = ap (λ v. v.size) c.self.view_is in
     let grows = c.in-Ok-Some.ensures.grows in
     let cut = rw c.in-Ok-Some.field-0-is at c.in-Ok-Some.ensures.cut in
-    let front = c.in-Ok.ensures.items in
-    let tail = c.in-Ok.ensures.tail in
     let all = BothKnown-cut _ _ _ _ _ _ c.self.invariant grows cut in
-    let block = c.shrink_to_fit.ensures.items ∙ ap (λ v. v.items) c.replace-block.ensures.value ∙ front in
-    BothKnown-block _ _ _ _ _ _ _ _ _ c.shrink_to_fit.new.self size kept block (ap (λ v. v.items) c.replace-block.ensures.after ∙ tail) all
+    BothKnown-block _ _ _ _ _ _ _ _ _ c.in-Ok.block size kept c.in-Ok.ensures.front c.in-Ok.ensures.rest all
 
 pub returns-in-Ok-clause-last : goal.returns-in-Ok-clause-last
 returns-in-Ok-clause-last g c e =
     let cut = rw c.in-Ok-Some.field-0-is at c.in-Ok-Some.ensures.cut in
-    inl (ends_whole _ c.shrink_to_fit.new.self.items _ _ cut (c.shrink_to_fit.ensures.items ∙ ap (λ v. v.items) c.replace-block.ensures.value ∙ c.in-Ok.ensures.items))
+    inl (ends_whole _ c.in-Ok.block.items _ _ cut c.in-Ok.ensures.front)

@@ -3,7 +3,7 @@ use Rattle.algebra_model.specs.Bag.{without_repeats}
 use Rattle.dict_core.specs.declared.num_quad.NumQuad.{NumQuad}
 use Rattle.dict_core.proofs.NumQuadLaws.{quad_eq}
 use Rattle.dataset_load.proofs.SortingSteps.{three_sorted}
-use Rattle.dataset_load.proofs.sorting.sorted_index.Goals as goal
+use Rattle.dataset_load.proofs.sorting.plain_index.Goals as goal
 
 pub of_lists-requires-clause-sorted_gspo : goal.of_lists-requires-clause-sorted_gspo
 of_lists-requires-clause-sorted_gspo g c =

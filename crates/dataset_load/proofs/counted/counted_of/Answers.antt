@@ -1,0 +1,8 @@
+use Rattle.std.proofs.Common.{refl}
+use Rattle.dataset_load.proofs.CountingSteps.{counted_lines}
+use Rattle.dataset_load.proofs.counted.counted_of.Goals as goal
+
+pub returns : goal.returns
+returns c = record {
+  counted = λ lines read. counted_lines lines c.args.so_far c.args.so_far.quads.items _ _ read refl c.in_ok-counts.ensures.counts refl refl refl;
+}

@@ -1,0 +1,79 @@
+//! The counts of an index that is not built.
+ghost use Rattle.std.specs.Prelude.{◌≡◌, ◌≤◌, length, IfOk};
+ghost use Rattle.quad_index.specs.Counting.{IsCountOf, IsCountOfKeys, names_after};
+
+use crate::index::names_of;
+use crate::packed::{graph_key_of, keys_of};
+use crate::sort_order::{SortOrder, sort_once};
+use dict_core::NumQuad;
+use std::alloc::{AllocError, Global};
+
+/// How many quads an index has, and how many graph names.
+#[derive(Debug, Clone, Copy, PartialEq, Eq)]
+pub struct IndexCounts {
+    /// The number of distinct quads.
+    pub quads: u64,
+    /// The number of distinct graph names.
+    pub graphs: u64,
+}
+
+/// Counts the quads and the graph names of the index of these quads. A repeated quad counts once.
+///
+/// The index is not built: one list of packed keys is sorted in place, and the quads are freed before.
+///
+/// # Errors
+/// `AllocError` if an allocation fails. The list is dropped.
+pub fn count_quads(alloc: Global, quads: Vec<NumQuad>) -> Result<IndexCounts, AllocError>
+    ensures counts { IfOk result (IsCountOf quads.items) }
+{
+    match keys_of(alloc, quads.as_slice(), SortOrder::Gspo)? {
+        Some(keys) => {
+            drop(quads);
+            count_keys(keys)
+        }
+        None => count_plain(alloc, quads),
+    }
+}
+
+/// Counts the quads and the graph names of these keys, in the first order.
+fn count_keys(keys: Vec<u128>) -> Result<IndexCounts, AllocError>
+    ensures counts { IfOk result (IsCountOfKeys keys.items) }
+{
+    let mut keys = keys;
+    keys.sort()?;
+    keys.dedup();
+    Ok(IndexCounts {
+        quads: keys.len() as u64,
+        graphs: count_graphs(keys.as_slice()),
+    })
+}
+
+/// Counts the graph names of sorted keys. No graph name is 0.
+fn count_graphs(keys: &[u128]) -> u64
+    ensures names { result ≡ names_after 0 keys.now }
+    ensures few { result ≤ length keys.now }
+{
+    let mut count = 0;
+    let mut last = 0;
+    for key in keys {
+        let name = graph_key_of(*key);
+        if name != 0 && name != last {
+            count += 1;
+            last = name;
+        }
+    }
+    count
+}
+
+/// Counts the quads and the graph names of quads of any numbers.
+fn count_plain(alloc: Global, quads: Vec<NumQuad>) -> Result<IndexCounts, AllocError>
+    ensures counts { IfOk result (IsCountOf quads.items) }
+{
+    let mut list = quads;
+    sort_once(&mut list, SortOrder::Gspo);
+    let names = names_of(alloc, list.as_slice())?;
+    Ok(IndexCounts {
+        quads: list.len() as u64,
+        graphs: names.len() as u64,
+    })
+}

@@ -1,0 +1,10 @@
+use Rattle.std.proofs.Common.{◌≡◌}
+use Rattle.dataset_load.specs.Streaming.{IsLoadedFrom}
+use Rattle.spq_core.proofs.LoadingSteps.{finished}
+use Rattle.spq_core.proofs.program.load_document.Goals as goal
+
+pub returns : goal.returns
+returns g c =
+    let done = c.load_reader.ensures in
+    finished g.S.Source.left g.S.Source.failures IsLoadedFrom (c.args.reading.workers ≡ 1) c.args.reader.now c.load_reader.new.reader c.load_reader.result c.finished.result c.finished.ensures.loaded
+    done.loaded done.bad_line done.taken done.count done.one_worker

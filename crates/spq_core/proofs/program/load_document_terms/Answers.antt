@@ -1,0 +1,10 @@
+use Rattle.std.proofs.Common.{◌≡◌}
+use Rattle.dataset_load.specs.Counted.{AreTermsFrom}
+use Rattle.spq_core.proofs.LoadingSteps.{finished}
+use Rattle.spq_core.proofs.program.load_document_terms.Goals as goal
+
+pub returns : goal.returns
+returns g c =
+    let done = c.load_terms.ensures in
+    finished g.S.Source.left g.S.Source.failures AreTermsFrom (c.args.reading.workers ≡ 1) c.args.reader.now c.load_terms.new.reader c.load_terms.result c.finished.result c.finished.ensures.loaded
+    done.terms done.bad_line done.taken done.count done.one_worker
