@@ -7,7 +7,7 @@ use Rattle.algebra_model.specs.Bag.{IsSameBag, IsWithoutRepeats}
 use Rattle.algebra_model.specs.Solution.{Solution}
 use Rattle.algebra_model.specs.Bgp.{Triple, PatternTerm, TriplePattern, variable, label, constant, bgp, same_triple_by}
 use Rattle.algebra_model.specs.Solve.{solve, IsBelow, AreBelow}
-use Rattle.algebra_model.specs.Reading.{Each, EachBound, EachOfTriple, EachOfPattern, read_row, read_pattern_term, read_triple}
+use Rattle.algebra_model.specs.Renaming.{Each, EachBound, EachOfTriple, EachOfPattern, read_row, read_pattern_term, read_triple}
 use Rattle.algebra_model.proofs.BgpLaws.{solve-bgp}
 use Rattle.algebra_model.proofs.ReadingLaws.{solve-read, solve-bound}
 use Rattle.algebra_model.proofs.RangeLaws.{Each-IsSameBag, Each-map, unbound-bound}

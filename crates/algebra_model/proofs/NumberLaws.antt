@@ -5,7 +5,7 @@ use Rattle.std.specs.Cmp.{both_ways}
 use Rattle.rdf_core.specs.declared.term.Term.{Term}
 use Rattle.rdf_core.proofs.TermLaws.{term_eq, term_decides}
 use Rattle.algebra_model.specs.Solution.{Solution}
-use Rattle.algebra_model.specs.Reading.{Each, EachBound}
+use Rattle.algebra_model.specs.Renaming.{Each, EachBound}
 use Rattle.algebra_model.specs.Laws.{IsReading}
 
 -- two numbers represent one term exactly if they are equal

@@ -5,7 +5,7 @@ use Rattle.std.specs.List.{list_any}
 use Rattle.std.proofs.lemmas.List.{map-append, map-set}
 use Rattle.algebra_model.specs.Solution.{Solution, same_solution, merge}
 use Rattle.algebra_model.specs.Operators.{join, left_join, distinct, extend, bind, project, restrict, table, table_row}
-use Rattle.algebra_model.specs.Reading.{Each, EachBound, read_row}
+use Rattle.algebra_model.specs.Renaming.{Each, EachBound, read_row}
 use Rattle.algebra_model.specs.Solve.{alone}
 use Rattle.algebra_model.proofs.ReadingLaws.{merge-read, is_compatible-read, join-read, filter-read}
 use Rattle.algebra_model.proofs.RangeLaws.{merge-bound, join-bound, Each-without_repeats}

@@ -5,7 +5,7 @@ use Rattle.std.proofs.lemmas.List.Sorted.{Contains-permutation, IsPermutation-sy
 use Rattle.algebra_model.specs.Bag.{IsSameBag, without_repeats}
 use Rattle.algebra_model.specs.Solution.{Solution, is_compatible, merge}
 use Rattle.algebra_model.specs.Operators.{join, merges, left_join, minus, share, extend, bind, project, restrict, table, table_row}
-use Rattle.algebra_model.specs.Reading.{Each, EachBound}
+use Rattle.algebra_model.specs.Renaming.{Each, EachBound}
 use Rattle.algebra_model.specs.Solve.{alone}
 
 module _ {X : Type 0} (P : X → Type 0) where

@@ -4,7 +4,7 @@ use Rattle.std.specs.List.{list_all, cons_option}
 use Rattle.std.proofs.lemmas.List.{map-append, map-set}
 use Rattle.algebra_model.specs.Solution.{Solution, is_compatible, merge}
 use Rattle.algebra_model.specs.Bgp.{Triple, PatternTerm, TriplePattern, variable, label, constant}
-use Rattle.algebra_model.specs.Reading.{Each, EachBound, EachConstant, EachOfTriple, EachOfPattern, read_row, read_pattern_term, read_triple}
+use Rattle.algebra_model.specs.Renaming.{Each, EachBound, EachConstant, EachOfTriple, EachOfPattern, read_row, read_pattern_term, read_triple}
 use Rattle.algebra_model.specs.Operators.{join, merges, minus, share}
 use Rattle.algebra_model.proofs.RangeLaws.{Each-flat_map}
 use Rattle.algebra_model.specs.Solve.{solve, bind_by, bind_slot, bind_pattern_term, then_bind, extend_by}

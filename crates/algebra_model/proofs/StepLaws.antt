@@ -8,7 +8,7 @@ use Rattle.algebra_model.specs.Solution.{Solution, same_solution}
 use Rattle.algebra_model.specs.Bgp.{Triple, TriplePattern, bgp, same_triple_by}
 use Rattle.algebra_model.specs.Operators.{join, left_join, minus, distinct, extend, project, table}
 use Rattle.algebra_model.specs.Eval.{named}
-use Rattle.algebra_model.specs.Reading.{Each, EachBound, EachOfTriple, EachOfPattern, read_row, read_triple, read_pattern}
+use Rattle.algebra_model.specs.Renaming.{Each, EachBound, EachOfTriple, EachOfPattern, read_row, read_triple, read_pattern}
 use Rattle.algebra_model.specs.Solve.{AreBelow}
 use Rattle.algebra_model.proofs.BagLaws.{IsPermutation-flat_map}
 use Rattle.algebra_model.proofs.BgpLaws.{solution_decides}

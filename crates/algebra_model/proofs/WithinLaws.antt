@@ -9,7 +9,7 @@ use Rattle.rdf_core.specs.declared.term.Term.{Term}
 use Rattle.algebra_model.specs.Solution.{Solution}
 use Rattle.algebra_model.specs.Bgp.{Triple, PatternTerm, TriplePattern, variable, label, constant, image, is_in, takes_to, every_map, occurs, occurring, terms, bgp}
 use Rattle.algebra_model.specs.Algebra.{is_below, is_triple_below}
-use Rattle.algebra_model.specs.Reading.{read_pattern_term, read_pattern}
+use Rattle.algebra_model.specs.Renaming.{read_pattern_term, read_pattern}
 use Rattle.algebra_model.specs.Solve.{IsBelow, AreBelow}
 
 below : (w l : ℕ) (n : PatternTerm Term) → is_below w l n ≡ true → IsBelow w (w + l) n

@@ -13,7 +13,7 @@ use Rattle.algebra_model.specs.Algebra.{Algebra}
 use Rattle.algebra_model.specs.Eval.{eval}
 use Rattle.algebra_model.specs.Sorted.{IsRising}
 use Rattle.algebra_model.specs.RowOrder.{cells, cells_cmp, row_cmp, sorted_rows}
-use Rattle.algebra_model.specs.Reading.{Each, EachBound, EachOfTriple, EachOfPattern, read_row, read_triple, read_pattern}
+use Rattle.algebra_model.specs.Renaming.{Each, EachBound, EachOfTriple, EachOfPattern, read_row, read_triple, read_pattern}
 use Rattle.algebra_model.specs.Solve.{solve, extend_by, agrees_with, AreBelow, left_row}
 use Rattle.algebra_model.specs.Keys.{is_keyed, same_key, candidates}
 use Rattle.algebra_model.specs.Pieces.{joined}

@@ -13,7 +13,7 @@ pub mod Algebra
 pub mod Eval
 pub mod Sorted
 pub mod RowOrder
-pub mod Reading
+pub mod Renaming
 pub mod Solve
 pub mod Keys
 pub mod Pieces

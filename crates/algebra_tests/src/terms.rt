@@ -3,7 +3,7 @@
 use nquads_core::{PieceFault, read_piece};
 use rdf_core::vocabulary::XSD_STRING;
 use rdf_core::{Quad, Term, Text};
-use sparql_expression::{ReadFault, read_term};
+use sparql_expression::{ParseFault, read_term};
 use sparql_grammar::{Declaration, Declarations};
 use sparql_lexer::{Token, characters_of, scan_text};
 use std::alloc::{AllocError, Global};
@@ -43,8 +43,8 @@ fn read_tokens(alloc: Global, tokens: &[Token<'_>]) -> Result<Option<Term>, Allo
                 Ok(None)
             }
         }
-        Err(ReadFault::Syntax) => Ok(None),
-        Err(ReadFault::Memory) => Err(AllocError),
+        Err(ParseFault::Syntax) => Ok(None),
+        Err(ParseFault::Memory) => Err(AllocError),
     }
 }
 

@@ -12,7 +12,7 @@ use Rattle.dataset_load.specs.declared.numbered.Numbered.{Numbered}
 use Rattle.dataset_load.specs.declared.counted.Counted.{Counted}
 use Rattle.dataset_load.specs.Counted.{AreTermsFrom, IsCounted, IsCountedFrom}
 use Rattle.dataset_load.specs.Loaded.{IsLoaded}
-use Rattle.dataset_load.specs.Reading.{AreNumbered, HasRead}
+use Rattle.dataset_load.specs.Rounds.{AreNumbered, HasRead}
 use Rattle.dataset_load.specs.Streaming.{IsReadFrom}
 use Rattle.dataset_load.proofs.LoadingSteps.{loaded, same_slice}
 

@@ -22,7 +22,7 @@ use Rattle.quad_index.proofs.ReadingLaws.{index_reads, index_counts, index_names
 use Rattle.dataset_load.specs.Lines.{all_lines, AreWholeLines}
 use Rattle.dataset_load.specs.Store.{names_in}
 use Rattle.dataset_load.specs.Loaded.{IsLoaded}
-use Rattle.dataset_load.specs.Reading.{AreNumbered}
+use Rattle.dataset_load.specs.Rounds.{AreNumbered}
 use Rattle.dataset_load.proofs.LineLaws.{lines_of_pieces}
 
 module _ (doc places : List ℕ) (pieces : ArePiecesOf doc places) where

@@ -7,7 +7,7 @@ use Rattle.std.proofs.lemmas.Grind.{flat_map-append}
 use Rattle.rdf_core.specs.declared.term.Term.{Term}
 use Rattle.rdf_core.specs.QuadParts.{QuadParts}
 use Rattle.nquads_core.specs.Lines.{lines}
-use Rattle.nquads_core.specs.Pieces.{SpellAll, IsFirstBad}
+use Rattle.nquads_core.specs.Pieces.{HaveStatements, IsFirstMalformed, IsBadLine}
 use Rattle.dict_core.specs.SeenPiece.{IsLookedUp}
 use Rattle.dict_core.specs.Numbered as numbering
 use Rattle.dict_core.specs.Numbered.{IsNumbered}
@@ -16,8 +16,7 @@ use Rattle.dict_core.specs.declared.num_quad.NumQuad.{NumQuad}
 use Rattle.std.specs.Borrow.{Bor}
 use Rattle.dataset_load.specs.declared.read_piece.ReadPiece.{ReadPiece}
 use Rattle.dataset_load.specs.Lines.{all_lines, texts, text_at}
-use Rattle.dataset_load.specs.Loaded.{IsBadLine}
-use Rattle.dataset_load.specs.Reading.{AreLookedUp, AreNumbered, HasRead, IsRead, line_total}
+use Rattle.dataset_load.specs.Rounds.{AreLookedUp, AreNumbered, HasRead, IsReadPiece, line_total}
 use Rattle.dataset_load.specs.Fault.{IfBadLine}
 use Rattle.dataset_load.specs.declared.numbered.Numbered.{Numbered}
 use Rattle.dataset_load.specs.declared.fault.LoadFault.{LoadFault}
@@ -27,18 +26,18 @@ use Rattle.dataset_load.proofs.LineLaws.{spell-append, bad_behind, bad_before}
 -- the quads of the pieces of a round, that each was looked up, and how many lines they have
 pub record AreRead (dict : List Term) (ps : List (List ℕ)) (reads : List ReadPiece) : Type 0 where
   pub each : List (List QuadParts)
-  pub spelled : SpellAll (all_lines ps) (numbering.joined each)
+  pub spelled : HaveStatements (all_lines ps) (numbering.joined each)
   pub looked_up : AreLookedUp dict each reads
   pub count : line_total reads ≡ length (all_lines ps)
 
 pub pieces_read : (dict : List Term) (ps : List (List ℕ)) (reads : List ReadPiece) → length reads ≡ length ps
-    → ((i : ℕ) (d : ReadPiece) → i < length ps → IsRead dict (slice_index_or ps i []) (slice_index_or reads i d))
+    → ((i : ℕ) (d : ReadPiece) → i < length ps → IsReadPiece dict (slice_index_or ps i []) (slice_index_or reads i d))
     → AreRead dict ps reads
 pieces_read dict [] [] e h = record { each = []; spelled = refl; looked_up = tt; count = refl }
 pieces_read dict [] (o ∷ os) e h = absurd (omega arith)
 pieces_read dict (p ∷ ps) [] e h = absurd (omega arith)
 pieces_read dict (p ∷ ps) (o ∷ os) e h =
-    let first : IsRead dict p o = h 0 o (omega arith) in
+    let first : IsReadPiece dict p o = h 0 o (omega arith) in
     let rest : AreRead dict ps os = pieces_read dict ps os (omega arith) (λ i d low. h (suc i) d (omega arith)) in
     record {
       each = first.quads ∷ rest.each;
@@ -49,19 +48,19 @@ pieces_read dict (p ∷ ps) (o ∷ os) e h =
 
 -- the first malformed line of pieces, by the least piece that has one
 pub bad_piece : (ps : List (List ℕ)) (p line : ℕ) → p < length ps
-    → ((i : ℕ) → i < p → (qs : List QuadParts) × SpellAll (lines (slice_index_or ps i [])) qs)
-    → IsFirstBad (lines (slice_index_or ps p [])) line
-    → IsFirstBad (all_lines ps) (length (all_lines (take p ps)) + line)
+    → ((i : ℕ) → i < p → (qs : List QuadParts) × HaveStatements (lines (slice_index_or ps i [])) qs)
+    → IsFirstMalformed (lines (slice_index_or ps p [])) line
+    → IsFirstMalformed (all_lines ps) (length (all_lines (take p ps)) + line)
 bad_piece [] p line low h b = absurd (omega arith)
 bad_piece (x ∷ xs) zero line low h b =
     let e : line ≡ 0 + line = omega arith in
-    subst (λ (n : ℕ). IsFirstBad (lines x ++ all_lines xs) n) e (bad_before (lines x) (all_lines xs) line b)
+    subst (λ (n : ℕ). IsFirstMalformed (lines x ++ all_lines xs) n) e (bad_before (lines x) (all_lines xs) line b)
 bad_piece (x ∷ xs) (suc p) line low h b =
     let first = h 0 (omega arith) in
     let rest = bad_piece xs p line (omega arith) (λ i less. h (suc i) (omega arith)) b in
     let l = length-append (lines x) (all_lines (take p xs)) in
     let e : length (lines x) + (length (all_lines (take p xs)) + line) ≡ length (lines x ++ all_lines (take p xs)) + line = omega arith in
-    subst (λ (n : ℕ). IsFirstBad (lines x ++ all_lines xs) n) e (bad_behind (lines x) (all_lines xs) first.0 _ first.1 rest)
+    subst (λ (n : ℕ). IsFirstMalformed (lines x ++ all_lines xs) n) e (bad_behind (lines x) (all_lines xs) first.0 _ first.1 rest)
 
 -- ---- a round after lines that were read
 
@@ -77,7 +76,7 @@ round_numbered before round dict dict' numbered numbered' reads was r taken = re
 }
 
 pub round_read : (round : List (Bor (List ℕ))) (dict : List Term) (reads : List ReadPiece) → length reads ≡ length round
-    → ((i : ℕ) (d : ReadPiece) → i < length round → IsRead dict (text_at round i) (slice_index_or reads i d))
+    → ((i : ℕ) (d : ReadPiece) → i < length round → IsReadPiece dict (text_at round i) (slice_index_or reads i d))
     → AreRead dict (texts round) reads
 round_read round dict reads count each =
     let m : length (texts round) ≡ length round = length-map round (λ (piece : Bor (List ℕ)). piece.now) in
@@ -86,8 +85,8 @@ round_read round dict reads count each =
 -- the first malformed line of a round, after valid lines
 pub round_bad : (before : List (List ℕ)) (round : List (Bor (List ℕ))) (dict old : List Term) (numbered : List NumQuad) (count p line n : ℕ)
     → AreNumbered before old numbered → count ≡ length before → p < length round
-    → ((i : ℕ) → i < p → (read : ReadPiece) × IsRead dict (text_at round i) read)
-    → IsFirstBad (lines (text_at round p)) line
+    → ((i : ℕ) → i < p → (read : ReadPiece) × IsReadPiece dict (text_at round i) read)
+    → IsFirstMalformed (lines (text_at round p)) line
     → n ≡ count + (length (all_lines (texts (take p round))) + line + 1)
     → IsBadLine (before ++ all_lines (texts round)) n
 round_bad before round dict old numbered count p line n was counted low answered bad value =
@@ -122,9 +121,9 @@ pub bad_of_all : (all : List (Bor (List ℕ))) (from to n : ℕ) → from ≤ to
 bad_of_all all from to n rising bad =
     let whole : all_lines (texts all) ≡ all_lines (texts (take to all)) ++ all_lines (texts (drop to all)) =
     ap (λ (ps : List (Bor (List ℕ))). all_lines (texts ps)) (sym (take-append-drop to all)) ∙ lines_more (take to all) (drop to all) in
-    let b = subst (λ (ls : List (List ℕ)). IsFirstBad ls bad.0) (lines_to all from to rising) bad.1 in (
+    let b = subst (λ (ls : List (List ℕ)). IsFirstMalformed ls bad.0) (lines_to all from to rising) bad.1 in (
       bad.0,
-      subst (λ (ls : List (List ℕ)). IsFirstBad ls bad.0) (sym whole) (bad_before (all_lines (texts (take to all))) (all_lines (texts (drop to all))) bad.0 b),
+      subst (λ (ls : List (List ℕ)). IsFirstMalformed ls bad.0) (sym whole) (bad_before (all_lines (texts (take to all))) (all_lines (texts (drop to all))) bad.0 b),
       bad.2,
     )
 

@@ -9,7 +9,7 @@ use Rattle.quad_index.specs.declared.sort_order.SortOrder.TheVariants.{Gspo, Gpo
 use Rattle.quad_index.proofs.ReadingLaws.{same_once}
 use Rattle.dict_core.proofs.NumQuadLaws.{quad_eq}
 use Rattle.algebra_model.specs.Bag.{without_repeats}
-use Rattle.dataset_load.specs.Reading.{AreSortedLists, IsSortedList, order_at}
+use Rattle.dataset_load.specs.Rounds.{AreSortedLists, IsSortedList, order_at}
 
 pub record AreSorted (quads gspo gpos gosp : List NumQuad) : Type 0 where
   pub first : IsSortedList Gspo quads gspo

@@ -10,14 +10,15 @@ use Rattle.piece_cuts.specs.Blocks.{GivesKnownBlock}
 use Rattle.piece_cuts.specs.Laws.{EndsWithLineFeed}
 use Rattle.dataset_load.specs.declared.numbered.Numbered.{Numbered}
 use Rattle.nquads_core.specs.declared.transfer.ReadFault.{ReadFault}
+use Rattle.nquads_core.specs.Pieces.{IsBadLine}
 use Rattle.dataset_load.specs.declared.reader_fault.ReaderFault.{ReaderFault}
 use Rattle.dataset_load.specs.declared.fault.LoadFault.{LoadFault}
 use Rattle.dataset_load.specs.declared.fault.LoadFault.TheVariants.{BadLine, WorkerRefused, Memory}
 use Rattle.dataset_load.specs.Fault.{IfBadLine}
 use Rattle.dataset_load.specs.Lines.{AreWholeLines, EachEnds, all_lines, joined}
-use Rattle.dataset_load.specs.Loaded.{IsBadLine, IsLoaded}
+use Rattle.dataset_load.specs.Loaded.{IsLoaded}
 use Rattle.dataset_load.specs.Store.{StoreView}
-use Rattle.dataset_load.specs.Reading.{HasRead}
+use Rattle.dataset_load.specs.Rounds.{HasRead}
 use Rattle.dataset_load.specs.ReaderFault.{IfBadLineRead, fault_of_load}
 use Rattle.dataset_load.specs.Streaming.{IsBadLineFrom, IsBadSoFar, IsLoadedFrom, IsReadFrom, IsReadIn, IsReadUpTo, TakesRest, TakesRound}
 use Rattle.dataset_load.proofs.LineLaws.{bad_before, lines_of_pieces}

@@ -12,10 +12,10 @@ IfBadLine P WorkerRefused = ⊤
 IfBadLine P Memory = ⊤
 
 -- Any fault but a worker that could not be started.
-abbrev pub IsNoRefusedWorker : LoadFault → Type 0
-IsNoRefusedWorker (BadLine n) = ⊤
-IsNoRefusedWorker WorkerRefused = ⊥
-IsNoRefusedWorker Memory = ⊤
+abbrev pub IsOneWorkerLoadFault : LoadFault → Type 0
+IsOneWorkerLoadFault (BadLine n) = ⊤
+IsOneWorkerLoadFault WorkerRefused = ⊥
+IsOneWorkerLoadFault Memory = ⊤
 
 -- the fault of a pool, under the same name
 abbrev pub load_fault_of : PoolFault → LoadFault

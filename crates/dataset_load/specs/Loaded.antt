@@ -1,8 +1,8 @@
 -- The result of loading a document: its dataset (RDF 1.1 Concepts, section 4), or its first malformed line
 -- (RDF 1.1 N-Quads, grammar).
-use Rattle.std.specs.Prelude.{◌≡◌, ◌+◌, ℕ, List, map, IsPermutation}
+use Rattle.std.specs.Prelude.{◌≡◌, ℕ, List, map, IsPermutation}
 use Rattle.rdf_core.specs.QuadParts.{QuadParts}
-use Rattle.nquads_core.specs.Pieces.{SpellAll, IsFirstBad}
+use Rattle.nquads_core.specs.Pieces.{HaveStatements}
 use Rattle.algebra_model.specs.Bag.{IsSameSet, without_repeats}
 use Rattle.algebra_model.specs.Dataset.{names}
 use Rattle.dict_core.specs.Dict.{term_at}
@@ -16,12 +16,8 @@ use Rattle.dataset_load.specs.Store.{StoreView, names_in}
 -- the graph names in it are the names of the graphs, each once.
 pub record IsLoaded (lines : List (List ℕ)) (store : StoreView) : Type 0 where
   pub quads : List QuadParts
-  pub spelled : SpellAll lines quads
+  pub spelled : HaveStatements lines quads
   pub terms : store.dict ≡ first_appearances (terms_of quads)
   pub dataset : IsSameSet (quads_at store.dict store.index) quads
   pub each_once : IsPermutation (without_repeats same_parts quads) (quads_at store.dict store.index)
   pub graphs : IsPermutation (names quads) (map (term_at store.dict) (names_in store.index))
-
--- line n, counted from 1, is the first that is malformed
-abbrev pub IsBadLine : List (List ℕ) → ℕ → Type 0
-IsBadLine lines n = (k : ℕ) × IsFirstBad lines k × (n ≡ k + 1)

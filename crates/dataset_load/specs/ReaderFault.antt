@@ -16,11 +16,11 @@ IfBadLineRead P Memory = ⊤
 IfBadLineRead P Read = ⊤
 
 -- Any fault but a worker that could not be started.
-abbrev pub IsNoLackingWorker : ReaderFault → Type 0
-IsNoLackingWorker (BadLine n) = ⊤
-IsNoLackingWorker WorkerRefused = ⊥
-IsNoLackingWorker Memory = ⊤
-IsNoLackingWorker Read = ⊤
+abbrev pub IsOneWorkerReaderFault : ReaderFault → Type 0
+IsOneWorkerReaderFault (BadLine n) = ⊤
+IsOneWorkerReaderFault WorkerRefused = ⊥
+IsOneWorkerReaderFault Memory = ⊤
+IsOneWorkerReaderFault Read = ⊤
 
 -- The count of failures rises exactly if the reader failed.
 abbrev pub CountsLoading : {T : Type 0} → Option ℕ → Option ℕ → Result T ReaderFault → Type 0

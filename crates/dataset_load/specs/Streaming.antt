@@ -2,11 +2,12 @@
 use Rattle.std.specs.Prelude.{◌≡◌, ℕ, List, ◌++◌, ◌⊎◌, Option}
 use Rattle.std.specs.Io.KnownBytes.{Consumes, IsAtEnd}
 use Rattle.nquads_core.specs.Lines.{lines, EndsLine}
+use Rattle.nquads_core.specs.Pieces.{IsBadLine}
 use Rattle.piece_cuts.specs.Blocks.{BothKnown}
 use Rattle.dataset_load.specs.declared.numbered.Numbered.{Numbered}
 use Rattle.dataset_load.specs.Store.{StoreView}
-use Rattle.dataset_load.specs.Loaded.{IsBadLine, IsLoaded}
-use Rattle.dataset_load.specs.Reading.{HasRead}
+use Rattle.dataset_load.specs.Loaded.{IsLoaded}
+use Rattle.dataset_load.specs.Rounds.{HasRead}
 
 -- The reader was read to its end, and this is the dataset of what was read.
 pub record IsLoadedFrom (left left' : Option (List ℕ)) (store : StoreView) : Type 0 where

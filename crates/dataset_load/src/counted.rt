@@ -1,6 +1,6 @@
 //! The counts of a dataset of which no index is built.
 ghost use Rattle.std.specs.Prelude.{IfOk};
-ghost use Rattle.dataset_load.specs.Reading.{HasRead};
+ghost use Rattle.dataset_load.specs.Rounds.{HasRead};
 ghost use Rattle.dataset_load.specs.Counted.{IsCounted};
 
 use crate::numbered::Numbered;

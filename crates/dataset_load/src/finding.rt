@@ -2,7 +2,7 @@
 ghost use Rattle.std.specs.Prelude.{◌≡◌, ◌<◌, ◌≤◌, ◌∷◌, ◌-◌, IfSome, Some, length, take};
 ghost use Rattle.std.specs.List.{slice_get};
 ghost use Rattle.nquads_core.specs.Lines.{begins_with_lf, lines};
-ghost use Rattle.dataset_load.specs.Found.{IsLineOf, all_lines};
+ghost use Rattle.dataset_load.specs.Found.{IsLineOf, block_lines};
 
 use memchr::memchr2;
 use nquads_core::count_lines;
@@ -67,7 +67,7 @@ fn line_in(text: &[u8], k: u128) -> Option<(&[u8], bool)>
 
 /// Line k of the blocks, counted from 0, and whether its block ends with its bytes.
 fn line_of(blocks: &[Vec<u8>], k: u128) -> Option<(&[u8], bool)>
-    ensures line { IfSome result (λ found. slice_get (all_lines blocks.now) k ≡ Some found.0.now) }
+    ensures line { IfSome result (λ found. slice_get (block_lines blocks.now) k ≡ Some found.0.now) }
 {
     let mut left = k;
     for block in blocks {

@@ -4,7 +4,7 @@
 //! [`load`] reads a document that is cut into pieces, and [`load_blocks`] one that is split into blocks, both in
 //! parallel. The crates above use one contract of both: the terms of the store are the distinct terms of the
 //! document by first appearance, its index, read through them, is the set of the document's quads
-//! (`IsLoaded`), and a fault names the first malformed line (`IsBadLine`), both in specs/Loaded.antt. No
+//! (`IsLoaded`), and a fault names the first malformed line (`IsBadLine` of nquads_core). No
 //! clause names a worker, a cut or a gate.
 //!
 //! Standards: RDF 1.1 N-Quads, grammar; RDF 1.1 Concepts and Abstract Syntax, section 4.
@@ -15,7 +15,7 @@
 //! [`load_terms`] only the dictionary. Neither builds an index (`IsCountedFrom`, `AreTermsFrom` in
 //! specs/Counted.antt).
 //!
-//! To read in this order: `fault`, `store`, `read_piece` and `reading` (one piece), `numbered` and
+//! To read in this order: `fault`, `store`, `read_piece` and `round_job` (one piece), `numbered` and
 //! `rounds` (all pieces), `sorting` (the lists of the index), `loading`, `reader` (blocks of a reader),
 //! `reader_fault`, `counted`, `streaming`.
 //!
@@ -39,7 +39,7 @@ mod numbered;
 mod read_piece;
 mod reader;
 mod reader_fault;
-mod reading;
+mod round_job;
 mod rounds;
 mod sorting;
 mod store;

@@ -1,11 +1,13 @@
 //! From a document to a store.
 ghost use Rattle.std.specs.Prelude.{◌≡◌, ◌≤◌, IfOk, IfErr};
 ghost use Rattle.nquads_core.specs.Lines.{lines};
+ghost use Rattle.nquads_core.specs.Pieces.{IsBadLine};
+ghost use Rattle.piece_pool.specs.Limits.{most_workers};
 ghost use Rattle.piece_cuts.specs.Cuts.{AreCuts};
-ghost use Rattle.dataset_load.specs.Fault.{IfBadLine, IsNoRefusedWorker};
+ghost use Rattle.dataset_load.specs.Fault.{IfBadLine, IsOneWorkerLoadFault};
 ghost use Rattle.dataset_load.specs.Lines.{all_lines, AreWholeLines, block_texts, joined, texts};
-ghost use Rattle.dataset_load.specs.Loaded.{IsBadLine, IsLoaded};
-ghost use Rattle.dataset_load.specs.Reading.{HasRead};
+ghost use Rattle.dataset_load.specs.Loaded.{IsLoaded};
+ghost use Rattle.dataset_load.specs.Rounds.{HasRead};
 
 use crate::fault::LoadFault;
 use crate::numbered::Numbered;
@@ -47,10 +49,10 @@ pub fn load<R: Threads + Wait + RandomSource, G: Gate + Sync>(
     gate: &G,
 ) -> Result<Store, LoadFault>
     requires fits { AreCuts doc.now cuts.now }
-    requires workers { (1 ≤ workers) × (workers ≤ 64) }
+    requires workers { (1 ≤ workers) × (workers ≤ most_workers) }
     ensures loaded { IfOk result (IsLoaded (lines doc.now)) }
     ensures bad_line { IfErr result (IfBadLine (IsBadLine (lines doc.now))) }
-    ensures one_worker { workers ≡ 1 → IfErr result IsNoRefusedWorker }
+    ensures one_worker { workers ≡ 1 → IfErr result IsOneWorkerLoadFault }
 {
     let pieces = pieces_of(alloc, doc, cuts)?;
     load_pieces(rt, alloc, pieces.as_slice(), workers, gate)
@@ -71,13 +73,13 @@ pub fn load_blocks<R: Threads + Wait + RandomSource, G: Gate + Sync>(
     gate: &G,
 ) -> Result<Store, LoadFault>
     requires whole_lines { AreWholeLines (block_texts blocks.now) }
-    requires workers { (1 ≤ workers) × (workers ≤ 64) }
+    requires workers { (1 ≤ workers) × (workers ≤ most_workers) }
     ensures loaded { IfOk result (IsLoaded (lines (joined (block_texts blocks.now)))) }
     ensures bad_line { IfErr result
         (IfBadLine (IsBadLine (lines (joined (block_texts blocks.now))))) }
-    ensures one_worker { workers ≡ 1 → IfErr result IsNoRefusedWorker }
+    ensures one_worker { workers ≡ 1 → IfErr result IsOneWorkerLoadFault }
 {
-    let pieces = lent_blocks(alloc, blocks)?;
+    let pieces = borrowed_blocks(alloc, blocks)?;
     load_pieces(rt, alloc, pieces.as_slice(), workers, gate)
 }
 
@@ -89,10 +91,10 @@ fn load_pieces<R: Threads + Wait + RandomSource, G: Gate + Sync>(
     workers: usize,
     gate: &G,
 ) -> Result<Store, LoadFault>
-    requires workers { (1 ≤ workers) × (workers ≤ 64) }
+    requires workers { (1 ≤ workers) × (workers ≤ most_workers) }
     ensures loaded { IfOk result (IsLoaded (all_lines (texts pieces.now))) }
     ensures bad_line { IfErr result (IfBadLine (IsBadLine (all_lines (texts pieces.now)))) }
-    ensures one_worker { workers ≡ 1 → IfErr result IsNoRefusedWorker }
+    ensures one_worker { workers ≡ 1 → IfErr result IsOneWorkerLoadFault }
 {
     let state = hash_state(rt)?;
     let so_far = number_pieces(rt, alloc, state, pieces, workers, gate)?;
@@ -106,11 +108,11 @@ pub(crate) fn store_of<R: Threads + Wait>(
     so_far: Numbered,
     workers: usize,
 ) -> Result<Store, LoadFault>
-    requires workers { (1 ≤ workers) × (workers ≤ 64) }
+    requires workers { (1 ≤ workers) × (workers ≤ most_workers) }
     requires read { (lines : _) × HasRead so_far lines }
     ensures loaded { IfOk result (λ store. (lines : _) → HasRead so_far lines → IsLoaded lines store) }
     ensures refused { IfErr result (IfBadLine (λ _. ⊥)) }
-    ensures one_worker { workers ≡ 1 → IfErr result IsNoRefusedWorker }
+    ensures one_worker { workers ≡ 1 → IfErr result IsOneWorkerLoadFault }
 {
     let Numbered { dict, quads, .. } = so_far;
     let index = sorted_index(rt, alloc, quads, workers)?;
@@ -139,7 +141,7 @@ fn pieces_of<'d>(alloc: Global, doc: &'d [u8], cuts: &Cuts) -> Result<Vec<&'d [u
 }
 
 /// The bytes of the blocks, in order.
-pub(crate) fn lent_blocks(alloc: Global, blocks: &[Vec<u8>]) -> Result<Vec<&[u8]>, AllocError>
+pub(crate) fn borrowed_blocks(alloc: Global, blocks: &[Vec<u8>]) -> Result<Vec<&[u8]>, AllocError>
     ensures texts { IfOk result (λ v. texts v.items ≡ block_texts blocks.now) }
 {
     let mut pieces = Vec::new(alloc);

@@ -15,7 +15,7 @@ pub(crate) struct Numbered {
 
 impl Numbered {
     ghost use Rattle.std.specs.Prelude.{IfOk, [], ◌≡◌};
-    ghost use Rattle.dataset_load.specs.Reading.{HasRead};
+    ghost use Rattle.dataset_load.specs.Rounds.{HasRead};
 
     /// Nothing was read yet. Strangers choose the terms, so the hash state comes from the runtime.
     ///

@@ -2,6 +2,7 @@
 ghost use Rattle.std.specs.Prelude.{◌≡◌, ◌≤◌, ◌^◌, [], false, length, true, IfOk, IfSome, Ok, OnErr, OnOk};
 ghost use Rattle.std.specs.Io.KnownBytes.{Consumes, IsAtEnd};
 ghost use Rattle.nquads_core.specs.Transfer.{CountsRead, IsReadInPart};
+ghost use Rattle.piece_pool.specs.Limits.{most_workers};
 ghost use Rattle.piece_cuts.specs.Laws.{EndsWithLineFeed};
 ghost use Rattle.dataset_load.specs.Lines.{AreBlocksOf, AreWholeLines, EachEnds, block_texts, joined};
 ghost use Rattle.dataset_load.specs.Streaming.{IsReadIn, TakesRest, TakesRound};
@@ -69,7 +70,7 @@ pub(crate) fn fill_round<S: Source>(
     workers: usize,
 ) -> Result<bool, ReadFault>
     requires empty { round.old.items ≡ [] }
-    requires workers { (1 ≤ workers) × (workers ≤ 64) }
+    requires workers { (1 ≤ workers) × (workers ≤ most_workers) }
     requires reading { blocks.old.state ≡ BlockState.Reading }
     ensures few { length round.new.items ≤ 2 ^ 20 }
     ensures whole_lines { OnOk result (AreWholeLines (block_texts round.new.items)) }

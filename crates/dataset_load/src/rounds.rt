@@ -5,20 +5,20 @@
 ghost use Rattle.std.specs.Prelude.{◌≡◌, ◌+◌, ◌-◌, ◌*◌, ◌<◌, ◌≤◌, ◌^◌, ◌++◌, List, length, true, slice_range, take, IfOk, IfErr, OnOk};
 ghost use Rattle.rdf_core.specs.QuadParts.{QuadParts};
 ghost use Rattle.nquads_core.specs.Lines.{lines};
-ghost use Rattle.nquads_core.specs.Pieces.{IsFirstBad};
-ghost use Rattle.piece_pool.specs.Outcome.{IsOutcome};
+ghost use Rattle.nquads_core.specs.Pieces.{IsFirstMalformed, IsBadLine};
+ghost use Rattle.piece_pool.specs.Limits.{most_pieces, most_workers};
+ghost use Rattle.piece_pool.specs.Outcome.{IsPoolOutcome};
 ghost use Rattle.piece_pool.specs.declared.pool.PoolFault.TheVariants.{Memory};
 ghost use Rattle.dict_core.specs.Numbered.{IsNumbered, joined};
-ghost use Rattle.dataset_load.specs.Fault.{IfBadLine, IsNoRefusedWorker};
+ghost use Rattle.dataset_load.specs.Fault.{IfBadLine, IsOneWorkerLoadFault};
 ghost use Rattle.dataset_load.specs.Lines.{all_lines, text_at, texts};
-ghost use Rattle.dataset_load.specs.Loaded.{IsBadLine};
-ghost use Rattle.dataset_load.specs.Reading.{AreLookedUp, HasRead, IsRead, line_total};
+ghost use Rattle.dataset_load.specs.Rounds.{AreLookedUp, HasRead, IsReadPiece, line_total};
 
 use crate::fault::LoadFault;
 use crate::numbered::Numbered;
 use crate::read_piece::ReadPiece;
-use crate::reading::Round;
-use dict_core::{Dict, NumQuad, take_in};
+use crate::round_job::Round;
+use dict_core::{Dict, NumQuad, add_piece};
 use nquads_core::count_lines;
 use piece_pool::{Gate, OffsetGate, Outcome, PoolFault, run_all};
 use std::alloc::{AllocError, Global};
@@ -49,10 +49,10 @@ pub(crate) fn number_pieces<R: Threads + Wait, G: Gate + Sync>(
     workers: usize,
     gate: &G,
 ) -> Result<Numbered, LoadFault>
-    requires workers { (1 ≤ workers) × (workers ≤ 64) }
+    requires workers { (1 ≤ workers) × (workers ≤ most_workers) }
     ensures numbered { IfOk result (λ so_far. HasRead so_far (all_lines (texts pieces.now))) }
     ensures bad_line { IfErr result (IfBadLine (IsBadLine (all_lines (texts pieces.now)))) }
-    ensures one_worker { workers ≡ 1 → IfErr result IsNoRefusedWorker }
+    ensures one_worker { workers ≡ 1 → IfErr result IsOneWorkerLoadFault }
 {
     let mut so_far = Numbered::new(alloc, state)?;
     let mut from = 0;
@@ -82,7 +82,7 @@ pub(crate) fn add_round<R: Threads + Wait, G: Gate + Sync>(
     workers: usize,
     gate: &G,
 ) -> Result<(), LoadFault>
-    requires workers { (1 ≤ workers) × (workers ≤ 64) }
+    requires workers { (1 ≤ workers) × (workers ≤ most_workers) }
     requires pieces { length pieces.now ≤ 2 ^ 20 }
     requires countable { so_far.old.lines ≤ 2 ^ 127 }
     ensures numbered { OnOk result ((before : _) → HasRead so_far.old before
@@ -91,11 +91,11 @@ pub(crate) fn add_round<R: Threads + Wait, G: Gate + Sync>(
         (so_far.new.lines ≤ so_far.old.lines + length pieces.now * (2 ^ 64 - 1)) }
     ensures bad_line { IfErr result (IfBadLine (λ n. (before : _) → HasRead so_far.old before
         → IsBadLine (before ++ all_lines (texts pieces.now)) n)) }
-    ensures one_worker { workers ≡ 1 → IfErr result IsNoRefusedWorker }
+    ensures one_worker { workers ≡ 1 → IfErr result IsOneWorkerLoadFault }
 {
     let outcome = read_round(rt, alloc, state, pieces, &so_far.dict, workers, gate)?;
     match outcome {
-        Outcome::All(read) => Ok(take_in_round(alloc, so_far, read)?),
+        Outcome::All(read) => Ok(add_read_pieces(alloc, so_far, read)?),
         Outcome::First { piece, fault } => {
             let line = so_far.lines + line_number(pieces, piece as usize, fault);
             Err(LoadFault::BadLine(line))
@@ -113,11 +113,11 @@ fn read_round<R: Threads + Wait, G: Gate + Sync>(
     workers: usize,
     gate: &G,
 ) -> Result<Outcome<ReadPiece, u64>, PoolFault>
-    requires workers { (1 ≤ workers) × (workers ≤ 64) }
-    requires pieces { length pieces.now ≤ 2 ^ 62 }
+    requires workers { (1 ≤ workers) × (workers ≤ most_workers) }
+    requires pieces { length pieces.now ≤ most_pieces }
     ensures outcome { IfOk result
-        (IsOutcome (λ i out. IsRead dict.now (text_at pieces.now i) out)
-        (λ i line. IsFirstBad (lines (text_at pieces.now i)) line) (length pieces.now)) }
+        (IsPoolOutcome (λ i out. IsReadPiece dict.now (text_at pieces.now i) out)
+        (λ i line. IsFirstMalformed (lines (text_at pieces.now i)) line) (length pieces.now)) }
     ensures one_worker { workers ≡ 1 → IfErr result (λ fault. fault ≡ Memory) }
 {
     let job = Round {
@@ -131,7 +131,7 @@ fn read_round<R: Threads + Wait, G: Gate + Sync>(
 /// Where the round that begins at `from` ends.
 fn round_end(pieces: &[&[u8]], from: usize, workers: usize) -> usize
     requires from { from < length pieces.now }
-    requires workers { (1 ≤ workers) × (workers ≤ 64) }
+    requires workers { (1 ≤ workers) × (workers ≤ most_workers) }
     ensures some { from < result }
     ensures within { result ≤ length pieces.now }
     ensures small { result ≤ from + 2 ^ 20 }
@@ -149,7 +149,7 @@ fn round_end(pieces: &[&[u8]], from: usize, workers: usize) -> usize
 
 /// Whether a round with this number of pieces and bytes is long enough.
 pub(crate) fn is_full(pieces: usize, bytes: usize, workers: usize) -> bool
-    requires workers { (1 ≤ workers) × (workers ≤ 64) }
+    requires workers { (1 ≤ workers) × (workers ≤ most_workers) }
     ensures some { result ≡ true → 1 ≤ pieces }
 {
     pieces >= PIECES_A_WORKER * workers && bytes >= BYTES_A_ROUND
@@ -165,7 +165,7 @@ fn part<'p, 'd>(pieces: &'p [&'d [u8]], from: usize, to: usize) -> &'p [&'d [u8]
 }
 
 /// Adds the pieces of a round to what was read before.
-fn take_in_round(
+fn add_read_pieces(
     alloc: Global,
     so_far: &mut Numbered,
     pieces: Vec<ReadPiece>,
@@ -182,13 +182,13 @@ fn take_in_round(
         (so_far.new.lines ≤ so_far.old.lines + length pieces.items * (2 ^ 64 - 1)) }
 {
     let lines = count_read(pieces.as_slice());
-    take_in_all(alloc, &mut so_far.dict, &mut so_far.quads, pieces)?;
+    add_pieces(alloc, &mut so_far.dict, &mut so_far.quads, pieces)?;
     so_far.lines += lines;
     Ok(())
 }
 
 /// Adds the pieces of a round, one after the other.
-fn take_in_all(
+fn add_pieces(
     alloc: Global,
     dict: &mut Dict,
     quads: &mut Vec<NumQuad>,
@@ -200,7 +200,7 @@ fn take_in_all(
         → IsNumbered (done ++ joined each) dict.new quads.new.items) }
 {
     for piece in pieces {
-        take_in(alloc, dict, quads, piece.seen)?;
+        add_piece(alloc, dict, quads, piece.seen)?;
     }
     Ok(())
 }

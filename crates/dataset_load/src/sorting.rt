@@ -1,9 +1,10 @@
 //! The three lists of an index, sorted in parallel.
 ghost use Rattle.std.specs.Prelude.{◌≡◌, ◌≤◌, ◌∷◌, [], length, map, slice_index_or, IfOk, IfErr, IfSome, IsPermutation, Some};
+ghost use Rattle.piece_pool.specs.Limits.{most_workers};
 ghost use Rattle.algebra_model.specs.Bag.{without_repeats};
 ghost use Rattle.dict_core.specs.Equality.{quad_eq};
-ghost use Rattle.dataset_load.specs.Fault.{IfBadLine, IsNoRefusedWorker};
-ghost use Rattle.dataset_load.specs.Reading.{AreSortedLists, IsSortedList, order_at};
+ghost use Rattle.dataset_load.specs.Fault.{IfBadLine, IsOneWorkerLoadFault};
+ghost use Rattle.dataset_load.specs.Rounds.{AreSortedLists, IsSortedList, order_at};
 
 use crate::fault::LoadFault;
 use dict_core::NumQuad;
@@ -20,7 +21,7 @@ struct SortedLists<'q> {
 }
 
 impl<'q> Job for SortedLists<'q> {
-    ghost use Rattle.dataset_load.specs.Reading.{IsSortedList, order_at};
+    ghost use Rattle.dataset_load.specs.Rounds.{IsSortedList, order_at};
 
     type Out = Vec<NumQuad>;
 
@@ -60,7 +61,7 @@ struct PackedLists<'q> {
 
 impl<'q> Job for PackedLists<'q> {
     ghost use Rattle.std.specs.Prelude.{IfSome};
-    ghost use Rattle.dataset_load.specs.Reading.{IsSortedList, order_at};
+    ghost use Rattle.dataset_load.specs.Rounds.{IsSortedList, order_at};
 
     type Out = Option<PackedList>;
 
@@ -129,11 +130,11 @@ pub(crate) fn sorted_index<R: Threads + Wait>(
     quads: Vec<NumQuad>,
     workers: usize,
 ) -> Result<Index, LoadFault>
-    requires workers { (1 ≤ workers) × (workers ≤ 64) }
+    requires workers { (1 ≤ workers) × (workers ≤ most_workers) }
     ensures each_once { IfOk result
         (λ index. IsPermutation (without_repeats quad_eq quads.items) index) }
     ensures refused { IfErr result (IfBadLine (λ _. ⊥)) }
-    ensures one_worker { workers ≡ 1 → IfErr result IsNoRefusedWorker }
+    ensures one_worker { workers ≡ 1 → IfErr result IsOneWorkerLoadFault }
 {
     match packed_lists(rt, alloc, quads.as_slice(), workers)? {
         Some(lists) => {
@@ -151,11 +152,11 @@ fn packed_lists<R: Threads + Wait>(
     quads: &[NumQuad],
     workers: usize,
 ) -> Result<Option<Vec<PackedList>>, LoadFault>
-    requires workers { (1 ≤ workers) × (workers ≤ 64) }
+    requires workers { (1 ≤ workers) × (workers ≤ most_workers) }
     ensures lists { IfOk result
         (λ found. IfSome found (λ lists. AreSortedLists quads.now lists.items)) }
     ensures refused { IfErr result (IfBadLine (λ _. ⊥)) }
-    ensures one_worker { workers ≡ 1 → IfErr result IsNoRefusedWorker }
+    ensures one_worker { workers ≡ 1 → IfErr result IsOneWorkerLoadFault }
 {
     let job = PackedLists { quads };
     match run_all(rt, alloc, workers, 3, &job, &OpenGate)? {
@@ -186,12 +187,12 @@ fn unpacked_index<R: Threads + Wait>(
     lists: &[PackedList],
     workers: usize,
 ) -> Result<Index, LoadFault>
-    requires workers { (1 ≤ workers) × (workers ≤ 64) }
+    requires workers { (1 ≤ workers) × (workers ≤ most_workers) }
     requires lists { (quads : _) × AreSortedLists quads lists.now }
     ensures each_once { IfOk result (λ index. (quads : _) → AreSortedLists quads lists.now
         → IsPermutation (without_repeats quad_eq quads) index) }
     ensures refused { IfErr result (IfBadLine (λ _. ⊥)) }
-    ensures one_worker { workers ≡ 1 → IfErr result IsNoRefusedWorker }
+    ensures one_worker { workers ≡ 1 → IfErr result IsOneWorkerLoadFault }
 {
     let job = UnpackedLists { lists };
     match run_all(rt, alloc, workers, 3, &job, &OpenGate)? {
@@ -210,11 +211,11 @@ fn plain_index<R: Threads + Wait>(
     quads: &[NumQuad],
     workers: usize,
 ) -> Result<Index, LoadFault>
-    requires workers { (1 ≤ workers) × (workers ≤ 64) }
+    requires workers { (1 ≤ workers) × (workers ≤ most_workers) }
     ensures each_once { IfOk result
         (λ index. IsPermutation (without_repeats quad_eq quads.now) index) }
     ensures refused { IfErr result (IfBadLine (λ _. ⊥)) }
-    ensures one_worker { workers ≡ 1 → IfErr result IsNoRefusedWorker }
+    ensures one_worker { workers ≡ 1 → IfErr result IsOneWorkerLoadFault }
 {
     let job = SortedLists { quads };
     match run_all(rt, alloc, workers, 3, &job, &OpenGate)? {

@@ -1,19 +1,20 @@
 //! Loading the rest of a reader, round by round, so that the document is never held as a whole.
-ghost use Rattle.std.specs.Prelude.{◌≡◌, ◌+◌, ◌*◌, ◌≤◌, ◌^◌, ◌++◌, [], false, length, true, IfErr, IfOk, Ok, OnErr, OnOk};
+ghost use Rattle.std.specs.Prelude.{◌≡◌, ◌+◌, ◌≤◌, ◌^◌, ◌++◌, [], false, length, true, IfErr, IfOk, Ok, OnErr, OnOk};
 ghost use Rattle.std.specs.Io.KnownBytes.{IsAtEnd};
 ghost use Rattle.nquads_core.specs.Transfer.{CountsRead, IsReadInPart};
+ghost use Rattle.nquads_core.specs.Pieces.{IsBadLine};
+ghost use Rattle.piece_pool.specs.Limits.{most_workers};
 ghost use Rattle.dataset_load.specs.Counted.{AreTermsFrom, IsCountedFrom};
-ghost use Rattle.dataset_load.specs.Fault.{IfBadLine, IsNoRefusedWorker};
+ghost use Rattle.dataset_load.specs.Fault.{IfBadLine, IsOneWorkerLoadFault};
 ghost use Rattle.dataset_load.specs.Lines.{all_lines, block_texts};
-ghost use Rattle.dataset_load.specs.Loaded.{IsBadLine};
-ghost use Rattle.dataset_load.specs.Reading.{HasRead};
-ghost use Rattle.dataset_load.specs.ReaderFault.{CountsLoading, IfBadLineRead, IsNoLackingWorker};
+ghost use Rattle.dataset_load.specs.Rounds.{HasRead};
+ghost use Rattle.dataset_load.specs.ReaderFault.{CountsLoading, IfBadLineRead, IsOneWorkerReaderFault};
 ghost use Rattle.dataset_load.specs.Streaming.{IsBadLineFrom, IsBadSoFar, IsLoadedFrom, IsReadFrom, IsReadUpTo};
 
 use crate::counted::{Counted, counted_of};
 use crate::fault::LoadFault;
 use crate::load_notes::{LoadNotes, Rounds};
-use crate::loading::{hash_state, lent_blocks, store_of};
+use crate::loading::{borrowed_blocks, hash_state, store_of};
 use crate::numbered::Numbered;
 use crate::reader::fill_round;
 use crate::reader_fault::ReaderFault;
@@ -57,13 +58,13 @@ pub fn load_reader<R: Threads + Wait + RandomSource, S: Source, G: Gate + Sync>(
     notes: &mut LoadNotes,
 ) -> Result<Store, ReaderFault>
     requires some { 1 ≤ size }
-    requires workers { (1 ≤ workers) × (workers ≤ 64) }
+    requires workers { (1 ≤ workers) × (workers ≤ most_workers) }
     ensures loaded { IfOk result (IsLoadedFrom (S.left reader.old) (S.left reader.new)) }
     ensures bad_line { IfErr result
         (IfBadLineRead (IsBadLineFrom (S.left reader.old) (S.left reader.new))) }
     ensures taken { OnErr result (IsReadInPart (S.left reader.old) (S.left reader.new)) }
     ensures count { CountsLoading (S.failures reader.old) (S.failures reader.new) result }
-    ensures one_worker { workers ≡ 1 → IfErr result IsNoLackingWorker }
+    ensures one_worker { workers ≡ 1 → IfErr result IsOneWorkerReaderFault }
 {
     let so_far = read_reader(rt, alloc, size, reader, workers, gate, notes)?;
     Ok(store_of(rt, alloc, so_far, workers)?)
@@ -87,13 +88,13 @@ pub fn count_reader<R: Threads + Wait + RandomSource, S: Source, G: Gate + Sync>
     notes: &mut LoadNotes,
 ) -> Result<Counted, ReaderFault>
     requires some { 1 ≤ size }
-    requires workers { (1 ≤ workers) × (workers ≤ 64) }
+    requires workers { (1 ≤ workers) × (workers ≤ most_workers) }
     ensures counted { IfOk result (IsCountedFrom (S.left reader.old) (S.left reader.new)) }
     ensures bad_line { IfErr result
         (IfBadLineRead (IsBadLineFrom (S.left reader.old) (S.left reader.new))) }
     ensures taken { OnErr result (IsReadInPart (S.left reader.old) (S.left reader.new)) }
     ensures count { CountsLoading (S.failures reader.old) (S.failures reader.new) result }
-    ensures one_worker { workers ≡ 1 → IfErr result IsNoLackingWorker }
+    ensures one_worker { workers ≡ 1 → IfErr result IsOneWorkerReaderFault }
 {
     let so_far = read_reader(rt, alloc, size, reader, workers, gate, notes)?;
     Ok(counted_of(alloc, so_far)?)
@@ -116,13 +117,13 @@ pub fn load_terms<R: Threads + Wait + RandomSource, S: Source, G: Gate + Sync>(
     notes: &mut LoadNotes,
 ) -> Result<Dict, ReaderFault>
     requires some { 1 ≤ size }
-    requires workers { (1 ≤ workers) × (workers ≤ 64) }
+    requires workers { (1 ≤ workers) × (workers ≤ most_workers) }
     ensures terms { IfOk result (AreTermsFrom (S.left reader.old) (S.left reader.new)) }
     ensures bad_line { IfErr result
         (IfBadLineRead (IsBadLineFrom (S.left reader.old) (S.left reader.new))) }
     ensures taken { OnErr result (IsReadInPart (S.left reader.old) (S.left reader.new)) }
     ensures count { CountsLoading (S.failures reader.old) (S.failures reader.new) result }
-    ensures one_worker { workers ≡ 1 → IfErr result IsNoLackingWorker }
+    ensures one_worker { workers ≡ 1 → IfErr result IsOneWorkerReaderFault }
 {
     let so_far = read_reader(rt, alloc, size, reader, workers, gate, notes)?;
     let Numbered { dict, .. } = so_far;
@@ -140,13 +141,13 @@ fn read_reader<R: Threads + Wait + RandomSource, S: Source, G: Gate + Sync>(
     notes: &mut LoadNotes,
 ) -> Result<Numbered, ReaderFault>
     requires some { 1 ≤ size }
-    requires workers { (1 ≤ workers) × (workers ≤ 64) }
+    requires workers { (1 ≤ workers) × (workers ≤ most_workers) }
     ensures read { IfOk result (IsReadFrom (S.left reader.old) (S.left reader.new)) }
     ensures bad_line { IfErr result
         (IfBadLineRead (IsBadLineFrom (S.left reader.old) (S.left reader.new))) }
     ensures taken { OnErr result (IsReadInPart (S.left reader.old) (S.left reader.new)) }
     ensures count { CountsLoading (S.failures reader.old) (S.failures reader.new) result }
-    ensures one_worker { workers ≡ 1 → IfErr result IsNoLackingWorker }
+    ensures one_worker { workers ≡ 1 → IfErr result IsOneWorkerReaderFault }
 {
     match number_reader(rt, alloc, size, reader, workers, gate, notes) {
         Ok(so_far) => Ok(so_far),
@@ -170,13 +171,13 @@ fn number_reader<R: Threads + Wait + RandomSource, S: Source, G: Gate + Sync>(
     notes: &mut LoadNotes,
 ) -> Result<Numbered, ReaderFault>
     requires some { 1 ≤ size }
-    requires workers { (1 ≤ workers) × (workers ≤ 64) }
+    requires workers { (1 ≤ workers) × (workers ≤ most_workers) }
     ensures read { IfOk result (IsReadFrom (S.left reader.old) (S.left reader.new)) }
     ensures bad_line { IfErr result
         (IfBadLineRead (IsBadSoFar (S.left reader.old) (S.left reader.new))) }
     ensures taken { OnErr result (IsReadInPart (S.left reader.old) (S.left reader.new)) }
     ensures count { CountsLoading (S.failures reader.old) (S.failures reader.new) result }
-    ensures one_worker { workers ≡ 1 → IfErr result IsNoLackingWorker }
+    ensures one_worker { workers ≡ 1 → IfErr result IsOneWorkerReaderFault }
 {
     let state = hash_state(rt)?;
     let mut so_far = Numbered::new(alloc, state)?;
@@ -210,7 +211,7 @@ fn number_rounds<R: Threads + Wait, S: Source, G: Gate + Sync>(
     workers: usize,
     rounds: &mut Rounds<'_, G>,
 ) -> Result<(), ReaderFault>
-    requires workers { (1 ≤ workers) × (workers ≤ 64) }
+    requires workers { (1 ≤ workers) × (workers ≤ most_workers) }
     requires reading { blocks.old.state ≡ BlockState.Reading }
     requires none { so_far.old.lines ≡ 0 }
     requires start { IsReadUpTo (S.left reader.old) (S.left reader.old) blocks.old.kept so_far.old }
@@ -219,7 +220,7 @@ fn number_rounds<R: Threads + Wait, S: Source, G: Gate + Sync>(
         (IfBadLineRead (IsBadSoFar (S.left reader.old) (S.left reader.new))) }
     ensures taken { OnErr result (IsReadInPart (S.left reader.old) (S.left reader.new)) }
     ensures count { CountsLoading (S.failures reader.old) (S.failures reader.new) result }
-    ensures one_worker { workers ≡ 1 → IfErr result IsNoLackingWorker }
+    ensures one_worker { workers ≡ 1 → IfErr result IsOneWorkerReaderFault }
 {
     for _ in 0..MOST_ROUNDS {
         if number_round(rt, alloc, state, so_far, blocks, reader, workers, rounds)? {
@@ -241,7 +242,7 @@ fn number_round<R: Threads + Wait, S: Source, G: Gate + Sync>(
     workers: usize,
     rounds: &mut Rounds<'_, G>,
 ) -> Result<bool, ReaderFault>
-    requires workers { (1 ≤ workers) × (workers ≤ 64) }
+    requires workers { (1 ≤ workers) × (workers ≤ most_workers) }
     requires reading { blocks.old.state ≡ BlockState.Reading }
     requires countable { so_far.old.lines ≤ 2 ^ 127 }
     ensures reading { result ≡ Ok false → blocks.new.state ≡ BlockState.Reading }
@@ -259,7 +260,7 @@ fn number_round<R: Threads + Wait, S: Source, G: Gate + Sync>(
         → IsReadUpTo start (S.left reader.old) blocks.old.kept so_far.old
         → IsReadInPart start (S.left reader.new)) }
     ensures count { CountsLoading (S.failures reader.old) (S.failures reader.new) result }
-    ensures one_worker { workers ≡ 1 → IfErr result IsNoLackingWorker }
+    ensures one_worker { workers ≡ 1 → IfErr result IsOneWorkerReaderFault }
 {
     let mut round = Vec::new(alloc);
     let is_last = fill_round(&mut round, blocks, reader, workers)?;
@@ -278,7 +279,7 @@ fn add_blocks<R: Threads + Wait, G: Gate + Sync>(
     workers: usize,
     rounds: &mut Rounds<'_, G>,
 ) -> Result<(), LoadFault>
-    requires workers { (1 ≤ workers) × (workers ≤ 64) }
+    requires workers { (1 ≤ workers) × (workers ≤ most_workers) }
     requires blocks { length blocks.now ≤ 2 ^ 20 }
     requires countable { so_far.old.lines ≤ 2 ^ 127 }
     ensures numbered { OnOk result ((before : _) → HasRead so_far.old before
@@ -286,9 +287,9 @@ fn add_blocks<R: Threads + Wait, G: Gate + Sync>(
     ensures counted { OnOk result (so_far.new.lines ≤ so_far.old.lines + 2 ^ 84) }
     ensures bad_line { IfErr result (IfBadLine (λ n. (before : _) → HasRead so_far.old before
         → IsBadLine (before ++ all_lines (block_texts blocks.now)) n)) }
-    ensures one_worker { workers ≡ 1 → IfErr result IsNoRefusedWorker }
+    ensures one_worker { workers ≡ 1 → IfErr result IsOneWorkerLoadFault }
 {
-    let pieces = lent_blocks(alloc, blocks)?;
+    let pieces = borrowed_blocks(alloc, blocks)?;
     let before = so_far.lines;
     let gate = rounds.offset_gate();
     let added = add_round(rt, alloc, state, so_far, pieces.as_slice(), workers, &gate);

@@ -7,7 +7,7 @@ use Rattle.std.specs.List.{list_any}
 use Rattle.indexmap.specs.IndexSet.{insert_all}
 use Rattle.rdf_core.specs.declared.term.Term.{Term}
 use Rattle.rdf_core.proofs.TermLaws.{term_eq, term_eq_laws}
-use Rattle.dict_core.specs.Dict.{IsWithoutRepeats}
+use Rattle.dict_core.specs.Dict.{AreDistinct}
 use Rattle.dict_core.specs.Appearances.{first_appearances, differs_from}
 use Rattle.dict_core.proofs.InsertLaws.{same, insert_all-append, insert_all-insert_all}
 
@@ -102,12 +102,12 @@ differs t u apart = by (term_eq t u) refl
     by false e = refl
 
 -- a list without repeats is its own first appearances
-pub appearances_of_distinct : (ks : List Term) → IsWithoutRepeats ks → first_appearances ks ≡ ks
+pub appearances_of_distinct : (ks : List Term) → AreDistinct ks → first_appearances ks ≡ ks
 appearances_of_distinct [] apart = refl
 appearances_of_distinct (k ∷ ks) apart =
     ap (λ l. k ∷ filter (differs_from k) l) (appearances_of_distinct ks (λ i j d before within. apart (suc i) (suc j) d (omega arith) (omega arith)))
     ∙ ap (λ l. k ∷ l) (all_pass (differs_from k) ks (λ j d below. differs k (get_or ks j d) (apart 0 (suc j) d (omega arith) (omega arith))))
 
 -- absorbing into a list without repeats
-pub absorbed_terms : (ks ls : List Term) → IsWithoutRepeats ks → insert_all term_eq ks ls ≡ first_appearances (ks ++ ls)
+pub absorbed_terms : (ks ls : List Term) → AreDistinct ks → insert_all term_eq ks ls ≡ first_appearances (ks ++ ls)
 absorbed_terms ks ls apart = ap (λ l. insert_all term_eq l ls) (sym (appearances_of_distinct ks apart)) ∙ insert_all-appearances ks ls

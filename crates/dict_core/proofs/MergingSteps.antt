@@ -9,7 +9,7 @@ use Rattle.rdf_core.specs.QuadParts.{QuadParts}
 use Rattle.rdf_core.proofs.TermLaws.{term_eq, term_decides, term_eq_laws}
 use Rattle.dict_core.specs.declared.num_quad.NumQuad.{NumQuad}
 use Rattle.dict_core.specs.declared.seen.Seen.{Seen}
-use Rattle.dict_core.specs.Dict.{IsWithoutRepeats, AreNumbersOf, IsGrown}
+use Rattle.dict_core.specs.Dict.{AreDistinct, AreNumbersOf, IsGrown}
 use Rattle.dict_core.specs.NumQuad.{quad_at, quads_at, IsBelow, AreBelow}
 use Rattle.dict_core.specs.Appearances.{terms_of, first_appearances}
 use Rattle.dict_core.specs.Numbered.{IsNumbered, joined, renamed}
@@ -90,7 +90,7 @@ merged_piece done back piece dict own grown all new mine numbers slice b back_is
 
 -- a piece that was looked up and is taken in
 pub taken_in : (earlier dict grown : List Term) (done quads : List QuadParts) (all new mine : List NumQuad) (seen : List Seen) (numbers slice : List ℕ)
-    → IsWithoutRepeats dict → IsGrown earlier dict → AllZip (IsSeen earlier) (first_appearances (terms_of quads)) seen
+    → AreDistinct dict → IsGrown earlier dict → AllZip (IsSeen earlier) (first_appearances (terms_of quads)) seen
     → quads_at (first_appearances (terms_of quads)) mine ≡ quads → AreBelow (length seen) mine → IsNumbered done dict all
     → grown ≡ insert_all term_eq dict (new_of seen) → numbers ≡ places_of dict seen → slice ≡ numbers
     → new ≡ all ++ map (renamed slice) mine → IsNumbered (done ++ quads) grown new
@@ -107,7 +107,7 @@ taken_in earlier dict grown done quads all new mine seen numbers slice apart sin
 
 -- what `absorb` says, from what the insertions say of the fields
 pub absorbed_keys : (inside old more other new : List Term) (r : Result (Vec ℕ Global) AllocError)
-    → inside ≡ old → more ≡ other → IsWithoutRepeats inside → OnOk r (new ≡ insert_all term_eq inside more) → OnOk r (new ≡ first_appearances (old ++ other))
+    → inside ≡ old → more ≡ other → AreDistinct inside → OnOk r (new ≡ insert_all term_eq inside more) → OnOk r (new ≡ first_appearances (old ++ other))
 absorbed_keys inside old more other new (Ok v) old_is other_is apart keys = keys ∙ absorbed_terms inside more apart ∙ (λ i. first_appearances (old_is i ++ other_is i))
 absorbed_keys inside old more other new (Err e) old_is other_is apart keys = tt
 

@@ -14,8 +14,8 @@ use Rattle.rdf_core.proofs.TermLaws.{term_eq}
 use Rattle.nquads_core.specs.Splitting.{DenoteAll, DenotesGraph, DenotesQuad}
 use Rattle.nquads_core.specs.declared.slices.RawStatement.{RawStatement}
 use Rattle.dict_core.specs.declared.num_quad.NumQuad.{NumQuad}
-use Rattle.dict_core.specs.declared.naming.NamingFault.{NamingFault}
-use Rattle.dict_core.specs.Naming.{AreNamed, AreNumberedStatements, IsAt, IsNamedBy, IsQuadNumber, IsTermNumber}
+use Rattle.dict_core.specs.declared.slice_numbers.NamingFault.{NamingFault}
+use Rattle.dict_core.specs.SliceNumbers.{AreNamed, AreNumberedStatements, IsAt, IsNamedBy, IsQuadNumber, IsTermNumber}
 use Rattle.dict_core.proofs.InsertLaws.{Keeps, any-from_get, get-insert_key, insert_key-present}
 use Rattle.dict_core.proofs.MergingSteps.{length_zipped, quad_named, quad_unnamed, zipped-push}
 use Rattle.dict_core.proofs.NumberingLaws.{numbered-more}

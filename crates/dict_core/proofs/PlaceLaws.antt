@@ -6,7 +6,7 @@ use Rattle.rdf_core.specs.declared.term.Term.{Term}
 use Rattle.rdf_core.proofs.TermLaws.{term_eq}
 use Rattle.dict_core.specs.declared.seen.Seen.{Seen}
 use Rattle.dict_core.specs.declared.seen.Seen.TheVariants.{Known, New}
-use Rattle.dict_core.specs.Dict.{IsWithoutRepeats, AreNumbersOf, IsGrown}
+use Rattle.dict_core.specs.Dict.{AreDistinct, AreNumbersOf, IsGrown}
 use Rattle.dict_core.specs.Appearances.{first_appearances}
 use Rattle.dict_core.specs.Seen.{IsSeen, IsNumberFor, new_of}
 use Rattle.dict_core.specs.Inserting.{places_in, places_of}
@@ -56,7 +56,7 @@ same_numbers earlier merged keeps (t ∷ ts) (New u ∷ seen) (m ∷ numbers) h 
 
 -- the law 'earlier places serve'
 pub places_serve : (earlier later terms : List Term) (seen : List Seen) (numbers : List ℕ)
-    → IsWithoutRepeats later → IsGrown earlier later → AllZip (IsSeen earlier) terms seen
+    → AreDistinct later → IsGrown earlier later → AllZip (IsSeen earlier) terms seen
     → AllZip (IsNumberFor (first_appearances (later ++ new_of seen))) seen numbers
     → (first_appearances (later ++ new_of seen) ≡ first_appearances (later ++ terms)) × AreNumbersOf (first_appearances (later ++ new_of seen)) terms numbers
 places_serve earlier later terms seen numbers apart grown looked named =

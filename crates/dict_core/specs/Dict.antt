@@ -6,8 +6,8 @@ use Rattle.rdf_core.specs.declared.term.Term.{Term}
 use Rattle.rdf_core.specs.declared.term.Term.TheVariants.{Blank}
 
 -- no term occurs twice
-abbrev pub IsWithoutRepeats : List Term → Type 0
-IsWithoutRepeats terms = AllPairs (λ x y. x ≢ y) terms
+abbrev pub AreDistinct : List Term → Type 0
+AreDistinct terms = AllPairs (λ x y. x ≢ y) terms
 
 -- the term of a number; the blank node without a label if the number is past the end and is that of
 -- no term

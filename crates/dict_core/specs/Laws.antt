@@ -5,15 +5,15 @@ use Rattle.rdf_core.specs.declared.term.Term.{Term}
 use Rattle.rdf_core.specs.QuadParts.{QuadParts}
 use Rattle.dict_core.specs.declared.num_quad.NumQuad.{NumQuad}
 use Rattle.dict_core.specs.declared.seen.Seen.{Seen}
-use Rattle.dict_core.specs.Dict.{IsWithoutRepeats, AreNumbersOf, IsGrown}
+use Rattle.dict_core.specs.Dict.{AreDistinct, AreNumbersOf, IsGrown}
 use Rattle.dict_core.specs.Appearances.{first_appearances}
 use Rattle.dict_core.specs.Equality.{quad_eq}
 use Rattle.dict_core.specs.Numbered.{IsNumbered, renamed}
 use Rattle.dict_core.specs.Seen.{IsSeen, IsNumberFor, new_of}
 
 -- two quads of numbers are equal by `==` exactly if they are the same
-abbrev pub EqualityIsIdentity : Type 0
-EqualityIsIdentity = (a b : NumQuad) → (quad_eq a b ≡ true) ↔ (a ≡ b)
+abbrev pub QuadEqualityIsIdentity : Type 0
+QuadEqualityIsIdentity = (a b : NumQuad) → (quad_eq a b ≡ true) ↔ (a ≡ b)
 
 -- two lists of quads that are numbered each by itself, the second dictionary absorbed into the
 -- first and the second quads renamed, are the joined list numbered: so it is no matter in which
@@ -30,7 +30,7 @@ AbsorbingKeepsTheNumbering =
 abbrev pub EarlierPlacesServe : Type 0
 EarlierPlacesServe =
     (earlier later terms : List Term) (seen : List Seen) (numbers : List ℕ)
-    → IsWithoutRepeats later → IsGrown earlier later → AllZip (IsSeen earlier) terms seen
+    → AreDistinct later → IsGrown earlier later → AllZip (IsSeen earlier) terms seen
     → let merged = first_appearances (later ++ new_of seen) in
     AllZip (IsNumberFor merged) seen numbers
     → (merged ≡ first_appearances (later ++ terms)) × AreNumbersOf merged terms numbers

@@ -7,5 +7,5 @@ pub mod Seen
 pub mod SeenPiece
 pub mod Laws
 pub mod Inserting
-pub mod Naming
+pub mod SliceNumbers
 pub mod Hashing

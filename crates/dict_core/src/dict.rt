@@ -1,6 +1,6 @@
 //! The dictionary.
 ghost use Rattle.std.specs.Prelude.{◌≡◌, ◌<◌, ◌^◌, [], ◌∷◌, ◌++◌, length, slice_get, Some, Ok, Contains, IfOk, IfErr, OnOk, OnErr, MatchOption};
-ghost use Rattle.dict_core.specs.Dict.{IsWithoutRepeats, AreNumbersOf};
+ghost use Rattle.dict_core.specs.Dict.{AreDistinct, AreNumbersOf};
 ghost use Rattle.dict_core.specs.Appearances.{first_appearances};
 
 use crate::hashing::HashState;
@@ -20,13 +20,13 @@ pub struct Dict {
 impl Model for Dict {
     ghost use Rattle.std.specs.Prelude.{List};
     ghost use Rattle.rdf_core.specs.declared.term.Term.{Term};
-    ghost use Rattle.dict_core.specs.Dict.{IsWithoutRepeats};
+    ghost use Rattle.dict_core.specs.Dict.{AreDistinct};
 
     ghost Value = { List Term };
 
     ghost view = { λ d. d.terms.keys };
 
-    ghost invariant = { λ d. IsWithoutRepeats d.terms.keys };
+    ghost invariant = { λ d. AreDistinct d.terms.keys };
 }
 
 impl Dict {
@@ -61,7 +61,7 @@ impl Dict {
     pub fn len(&self) -> usize
         ensures value { result ≡ length self.now }
         ensures small { result < 2 ^ 63 }
-        ensures distinct { IsWithoutRepeats self.now }
+        ensures distinct { AreDistinct self.now }
     {
         self.terms.len()
     }

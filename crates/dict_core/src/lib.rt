@@ -7,13 +7,13 @@
 //! the quads (the word `IsNumbered` of specs/Numbered.antt, which the loader above uses).
 //!
 //! For loading in parallel, [`look_up`] looks the terms of a piece up in a borrowed dictionary, and
-//! [`take_in`] adds what is new, in order. The laws of `laws` say that the result is the same. The crate
+//! [`add_piece`] adds what is new, in order. The laws of `laws` say that the result is the same. The crate
 //! `loading_tests` tests both.
 //!
 //! When two terms are the same: RDF 1.1 Concepts and Abstract Syntax, section 3. The numbers are a choice of
 //! this project.
 //!
-//! To read in this order: `dict`, `num_quad`, `local_piece`, `numbering`, `naming`, `merging`, `seen`,
+//! To read in this order: `dict`, `num_quad`, `local_piece`, `numbering`, `slice_numbers`, `merging`, `seen`,
 //! `seen_piece`, `rounds`, `laws`; `inserting` and `hashing` are private.
 //!
 //! Not promised: anything of the hashing but that no result depends on it.
@@ -25,12 +25,12 @@ mod inserting;
 mod laws;
 mod local_piece;
 mod merging;
-mod naming;
 mod num_quad;
 mod numbering;
 mod rounds;
 mod seen;
 mod seen_piece;
+mod slice_numbers;
 
 pub use dict::Dict;
 pub use laws::{absorbing_keeps_the_numbering, earlier_places_serve, equality_is_identity};
@@ -38,6 +38,6 @@ pub use local_piece::{LocalPiece, number_piece};
 pub use merging::merge;
 pub use num_quad::NumQuad;
 pub use numbering::number_lines;
-pub use rounds::{look_up, take_in};
+pub use rounds::{add_piece, look_up};
 pub use seen::Seen;
 pub use seen_piece::SeenPiece;

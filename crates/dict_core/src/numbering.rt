@@ -1,11 +1,11 @@
 //! The lines of a piece, read and numbered.
 ghost use Rattle.std.specs.Prelude.{◌≡◌, ℕ, IfOk, IfErr};
 ghost use Rattle.nquads_core.specs.Lines.{lines};
-ghost use Rattle.nquads_core.specs.Pieces.{SpellAll, IsFirstBad};
+ghost use Rattle.nquads_core.specs.Pieces.{HaveStatements, IsFirstMalformed};
 ghost use Rattle.nquads_core.specs.declared.fault.PieceFault.TheVariants.{BadLine};
 
 use crate::local_piece::{LocalPiece, number_piece};
-use crate::naming::{NamingFault, number_statements};
+use crate::slice_numbers::{NamingFault, number_statements};
 use nquads_core::{PieceFault, read_piece, split_piece};
 use std::alloc::Global;
 use std::hash::RandomState;
@@ -24,9 +24,9 @@ pub fn number_lines(
     state: RandomState,
     bytes: &[u8],
 ) -> Result<LocalPiece, PieceFault>
-    ensures quads { IfOk result (λ local. SpellAll (lines bytes.now) local) }
+    ensures quads { IfOk result (λ local. HaveStatements (lines bytes.now) local) }
     ensures bad_line { IfErr result
-        (λ fault. (k : ℕ) → fault ≡ BadLine k → IsFirstBad (lines bytes.now) k) }
+        (λ fault. (k : ℕ) → fault ≡ BadLine k → IsFirstMalformed (lines bytes.now) k) }
 {
     match number_split(alloc, state, bytes) {
         Ok(local) => Ok(local),
@@ -37,7 +37,7 @@ pub fn number_lines(
 
 /// Numbers a piece by its slices.
 fn number_split(alloc: Global, state: RandomState, bytes: &[u8]) -> Result<LocalPiece, NamingFault>
-    ensures quads { IfOk result (λ local. SpellAll (lines bytes.now) local) }
+    ensures quads { IfOk result (λ local. HaveStatements (lines bytes.now) local) }
 {
     match split_piece(alloc, bytes)? {
         Some(raws) => number_statements(alloc, state, raws.as_slice()),
@@ -47,9 +47,9 @@ fn number_split(alloc: Global, state: RandomState, bytes: &[u8]) -> Result<Local
 
 /// Numbers a piece quad by quad.
 fn number_read(alloc: Global, state: RandomState, bytes: &[u8]) -> Result<LocalPiece, PieceFault>
-    ensures quads { IfOk result (λ local. SpellAll (lines bytes.now) local) }
+    ensures quads { IfOk result (λ local. HaveStatements (lines bytes.now) local) }
     ensures bad_line { IfErr result
-        (λ fault. (k : ℕ) → fault ≡ BadLine k → IsFirstBad (lines bytes.now) k) }
+        (λ fault. (k : ℕ) → fault ≡ BadLine k → IsFirstMalformed (lines bytes.now) k) }
 {
     let piece = match read_piece(alloc, bytes) {
         Ok(piece) => piece,

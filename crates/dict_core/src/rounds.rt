@@ -65,7 +65,7 @@ fn look_up_term(dict: &Dict, term: Term) -> Seen
 ///
 /// # Errors
 /// `AllocError` if an allocation fails. Dictionary and list are unchanged, and the piece is dropped.
-pub fn take_in(
+pub fn add_piece(
     alloc: Global,
     dict: &mut Dict,
     all: &mut Vec<NumQuad>,

@@ -1,7 +1,7 @@
 -- Rows that tests create.
 use Rattle.std.proofs.Common.{◌≡◌, ℕ, List, [], ◌∷◌, ◌++◌, Option, None, Some, sym, subst}
 use Rattle.rdf_core.specs.declared.term.Term.{Term}
-use Rattle.algebra_model.specs.Reading.{Each}
+use Rattle.algebra_model.specs.Renaming.{Each}
 use Rattle.algebra_model.specs.Solution.{Solution}
 use Rattle.algebra_model.proofs.RangeLaws.{Each-append}
 use Rattle.sparql_eval.specs.Numbered.{IsKnownCell}

@@ -8,7 +8,7 @@ use crate::plans::{evaluated, plainly, plan_of};
 use crate::ways::{in_one_piece, row_by_row};
 use row_pieces::EvalFault;
 use sparql_algebra::Plan;
-use sparql_expression::ReadFault;
+use sparql_expression::ParseFault;
 use sparql_grammar::Declarations;
 use sparql_lexer::{characters_of, scan_text};
 use sparql_parse::{Select, parse};
@@ -194,7 +194,7 @@ fn query_of(select: Select, mentioned: Vec<rdf_core::Text>) -> Query {
 }
 
 /// Parses a query, without the rules that follow the grammar.
-fn parsed(alloc: Global, text: &str) -> Result<Query, ReadFault> {
+fn parsed(alloc: Global, text: &str) -> Result<Query, ParseFault> {
     let characters = characters_of(alloc, text)?;
     let scan = scan_text(alloc, &characters)?;
     let names = Declarations::new(alloc);
@@ -234,8 +234,8 @@ fn agreement<R: RandomSource + Threads + Wait>(
 ) -> Result<String, EvalFault> {
     match parsed(alloc, text) {
         Ok(query) => planned(rt, alloc, document, &query),
-        Err(ReadFault::Syntax) => Ok(String::from_str(alloc, "no query")?),
-        Err(ReadFault::Memory) => Err(EvalFault::Memory),
+        Err(ParseFault::Syntax) => Ok(String::from_str(alloc, "no query")?),
+        Err(ParseFault::Memory) => Err(EvalFault::Memory),
     }
 }
 

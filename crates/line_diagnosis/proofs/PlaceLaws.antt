@@ -2,8 +2,8 @@
 use Rattle.std.proofs.Common.{◌≡◌, ℕ, ◌<◌, ◌≤◌, ◌++◌, List, [], ◌∷◌, length, take, refl, inl, arith, rules, None, subst, sym, Bool, true, false}
 use Rattle.std.specs.Str.{IsUtf8, chars}
 use Rattle.std.proofs.lemmas.Str.{chars-nil}
-use Rattle.nquads_core.specs.Grammar.{Spells, IsBad, IsEnd, Splits}
-use Rattle.line_diagnosis.specs.Place.{IsWellFormed, IsBeginning, IsPlace}
+use Rattle.nquads_core.specs.Grammar.{HasStatement, IsMalformed, IsEnd, Splits}
+use Rattle.line_diagnosis.specs.Place.{IsWellFormed, IsLinePrefix, IsPlace}
 
 empty_end : IsEnd []
 empty_end = record { blanks = []; comment = []; parts = refl; all_blank = refl; hash = inl refl }
@@ -25,5 +25,5 @@ pub first_place : (line : List ℕ) → IsPlace line 0
 first_place line = record { in_line = omega arith; beginning = record { rest = []; whole = empty_line } }
 
 -- a line that was read is not malformed, so there is nothing to prove
-pub unread_bad : (line : List ℕ) → false ≡ true → IsBad line
+pub unread_bad : (line : List ℕ) → false ≡ true → IsMalformed line
 unread_bad line e = λ q s. let no : ⊥ = cc in no

@@ -2,8 +2,8 @@
 
 ghost use Rattle.std.specs.Prelude.{◌≡◌, ◌<◌, ◌^◌, true, false, length, IfOk, IfNone, IfSome, OnSome};
 ghost use Rattle.std.specs.Str.{IsUtf8};
-ghost use Rattle.nquads_core.specs.Grammar.{IsBad};
-ghost use Rattle.line_diagnosis.specs.Place.{IsBeginning, IsWellFormed};
+ghost use Rattle.nquads_core.specs.Grammar.{IsMalformed};
+ghost use Rattle.line_diagnosis.specs.Place.{IsLinePrefix, IsWellFormed};
 ghost use Rattle.line_diagnosis.specs.Column.{column_of};
 ghost use Rattle.line_diagnosis.specs.Explained.{IsExplained};
 ghost use Rattle.line_diagnosis.specs.declared.diagnosis.Counted.TheVariants.{Characters};
@@ -185,7 +185,7 @@ fn refined(line: &[u8], offset: usize, reason: Reason) -> Reason {
 
 /// Returns whether a line is malformed.
 fn is_malformed(alloc: Global, line: &[u8]) -> Result<bool, AllocError>
-    ensures bad { IfOk result (λ found. found ≡ true → IsBad line.now) }
+    ensures bad { IfOk result (λ found. found ≡ true → IsMalformed line.now) }
     ensures well_formed { IfOk result (λ found. found ≡ false → IsWellFormed line.now) }
 {
     match read_line(alloc, line) {
@@ -197,7 +197,7 @@ fn is_malformed(alloc: Global, line: &[u8]) -> Result<bool, AllocError>
 
 /// Returns whether the line of these bytes and this end is well-formed.
 fn is_beginning(alloc: Global, front: &[u8], end: &str) -> Result<bool, AllocError>
-    ensures { IfOk result (λ found. found ≡ true → IsBeginning front.now) }
+    ensures { IfOk result (λ found. found ≡ true → IsLinePrefix front.now) }
 {
     let mut line = Vec::from_slice(alloc, front)?;
     line.extend_from_slice(end.as_bytes())?;
@@ -260,7 +260,7 @@ fn explain(alloc: Global, line: &[u8]) -> Result<Diagnosis, AllocError>
 /// `AllocError` if an allocation fails.
 pub fn diagnose(alloc: Global, line: &[u8]) -> Result<Option<Diagnosis>, AllocError>
     ensures well_formed { IfOk result (λ found. IfNone found (IsWellFormed line.now)) }
-    ensures bad { IfOk result (λ found. OnSome found (IsBad line.now)) }
+    ensures bad { IfOk result (λ found. OnSome found (IsMalformed line.now)) }
     ensures explained { IfOk result (λ found. IfSome found (IsExplained line.now)) }
 {
     if !is_malformed(alloc, line)? {

@@ -3,8 +3,8 @@
 
 use crate::cases::holds;
 use dict_core::{
-    Dict, LocalPiece, NumQuad, Seen, SeenPiece, absorbing_keeps_the_numbering,
-    earlier_places_serve, look_up, merge, number_piece, take_in,
+    Dict, LocalPiece, NumQuad, Seen, SeenPiece, absorbing_keeps_the_numbering, add_piece,
+    earlier_places_serve, look_up, merge, number_piece,
 };
 use nquads_core::read_piece;
 use rdf_core::{Term, Text};
@@ -340,8 +340,8 @@ fn add_two(
     ) else {
         return Err(AllocError);
     };
-    take_in(alloc, dict, quads, second)?;
-    take_in(alloc, dict, quads, third)
+    add_piece(alloc, dict, quads, second)?;
+    add_piece(alloc, dict, quads, third)
 }
 
 /// Prints the dictionary and the quads of three pieces, of which two are looked up and then added.

@@ -14,17 +14,17 @@ use Rattle.rdf_core.specs.declared.term.Term.{Term}
 use Rattle.rdf_core.specs.QuadParts.{QuadParts}
 use Rattle.rdf_core.specs.QuadFacts.{is_graph_name, is_iri, is_node}
 use Rattle.rdf_core.specs.declared.term.Term.TheVariants.{Blank, Iri, Literal}
-use Rattle.rdf_core.specs.Spelling.{spelling, suffix, escaped}
+use Rattle.rdf_core.specs.Serialization.{serialization, suffix, escaped}
 use Rattle.rdf_core.specs.declared.lexical.escapes.Inside.TheVariants.{Iri}
 use Rattle.rdf_core.specs.Characters.{is_iri_char, is_label_start, is_label_char, is_name_start, is_pn_chars_base, all_pass}
 use Rattle.rdf_core.specs.Characters.{begins}
 use Rattle.rdf_core.specs.Escapes.{IsIriPart, IsStringPart, Writes}
 use Rattle.rdf_core.specs.Lexical.{is_tag, is_tag_tail, is_subtags, has_scheme}
 use Rattle.nquads_core.specs.Terminal.{Terminal, iri_ref, blank_label, quoted, lang_tag, carets, dot, is_label, is_label_tail}
-use Rattle.nquads_core.specs.Reading.{iri_at, string_at, terminal_at, skip_blanks, next, node_of, literal_of, object_of, graph_of, whole, is_end, statement_at, line_at}
-use Rattle.nquads_core.specs.Grammar.{Spells, Subject, iri_subject, blank_subject, Predicate, iri_predicate, GraphLabel, no_graph, iri_graph, blank_graph}
+use Rattle.nquads_core.specs.LineParser.{iri_at, string_at, terminal_at, skip_blanks, next, node_of, literal_of, object_of, graph_of, whole, is_end, statement_at, line_at}
+use Rattle.nquads_core.specs.Grammar.{HasStatement, Subject, iri_subject, blank_subject, Predicate, iri_predicate, GraphLabel, no_graph, iri_graph, blank_graph}
 use Rattle.rdf_core.specs.Vocabulary.{xsd_string, rdf_lang_string}
-use Rattle.nquads_core.specs.Laws.{IsSpelled, LinesReadBack, QuadsReadBack, ReadsBack, line_end, quad_line}
+use Rattle.nquads_core.specs.Laws.{IsNQuadsTerm, LinesReadBack, QuadsReadBack, ReadsBack, line_end, quad_line}
 use Rattle.std.specs.Str.{bytes_eq}
 use Rattle.std.proofs.lemmas.Slice.Eq.{bytes_eq-Decides}
 use lib.Utf8.{scalar}
@@ -280,7 +280,7 @@ enc_cons c cs h = rw (encode_ascii c h) refl
 record Written (t : Term) : Type 0 where
   S : List ℕ
   scalars : all_scalars S ≡ true
-  utf8 : spelling t ≡ encode_utf8_all S
+  utf8 : serialization t ≡ encode_utf8_all S
   plain : NonePass is_line_end S
 
 -- what follows a term in a line: a blank, and then a terminal that continues no literal
@@ -471,7 +471,7 @@ good_node (Literal lex dt tag) h g = absurd cc
 -- ---- the line
 
 -- the characters of terms with a blank after each
-blank_utf8 : (S bytes : List ℕ) (t : Term) (h : Written t) → bytes ≡ encode_utf8_all S → spelling t ++ 32 ∷ bytes ≡ encode_utf8_all (h.S ++ 32 ∷ S)
+blank_utf8 : (S bytes : List ℕ) (t : Term) (h : Written t) → bytes ≡ encode_utf8_all S → serialization t ++ 32 ∷ bytes ≡ encode_utf8_all (h.S ++ 32 ∷ S)
 blank_utf8 S bytes t h e =
     sym (encodes-append h.S (32 ∷ S) ∙ ap (λ (y : List ℕ). encode_utf8_all h.S ++ y) (enc_cons 32 S (lit< tt) ∙ ap (λ (y : List ℕ). 32 ∷ y) (sym e)) ∙ ap (λ (y : List ℕ). y ++ 32 ∷ bytes) (sym h.utf8))
 
@@ -561,7 +561,7 @@ one_line_of line cs e n = λ i l. (
 )
 
 line_spelled : (s : Term) (text : List ℕ) (o : Term) (g : Option Term) → IsNode s → GoodIri text → IsWritten o → IsLineEnd g
-    → Spells (quad_line (record { s = s; p = Iri text; o = o; g = g })) (Some (record { s = s; p = Iri text; o = o; g = g }))
+    → HasStatement (quad_line (record { s = s; p = Iri text; o = o; g = g })) (Some (record { s = s; p = Iri text; o = o; g = g }))
 unfolding iri_node
 line_spelled s text o g a good c d =
     let q : QuadParts = record { s = s; p = Iri text; o = o; g = g } in
@@ -569,8 +569,8 @@ line_spelled s text o g a good c d =
     let S2 : List ℕ = c.form.S ++ 32 ∷ d.S in
     let S1 : List ℕ = b.form.S ++ 32 ∷ S2 in
     let S0 : List ℕ = a.form.S ++ 32 ∷ S1 in
-    let bytes2 : List ℕ = spelling o ++ 32 ∷ line_end g in
-    let bytes1 : List ℕ = spelling (Iri text) ++ 32 ∷ bytes2 in
+    let bytes2 : List ℕ = serialization o ++ 32 ∷ line_end g in
+    let bytes1 : List ℕ = serialization (Iri text) ++ 32 ∷ bytes2 in
     let e : encode_utf8_all S0 ≡ quad_line q = sym (blank_utf8 S1 bytes1 s a.form (blank_utf8 S2 bytes2 (Iri text) b.form (blank_utf8 d.S (line_end g) o c.form d.utf8))) in
     let sc : all_scalars S0 ≡ true = blank_scalars S1 s a.form (blank_scalars S2 (Iri text) b.form (blank_scalars d.S o c.form d.scalars)) in
     let n = blank_none S1 s a.form (blank_none S2 (Iri text) b.form (blank_none d.S o c.form d.plain)) in
@@ -588,11 +588,11 @@ line_spelled s text o g a good c d =
     }
 
 -- a term that occurs in the quad of some line
-good_of : (t : Term) → IsSpelled t → GoodTerm t
+good_of : (t : Term) → IsNQuadsTerm t → GoodTerm t
 good_of t h = term_good h.0 h.1 t h.2 h.3
 
 predicate_spelled : (s p o : Term) (g : Option Term) → IsNode s → is_iri p ≡ true → GoodTerm p → IsWritten o → IsLineEnd g
-    → Spells (quad_line (record { s = s; p = p; o = o; g = g })) (Some (record { s = s; p = p; o = o; g = g }))
+    → HasStatement (quad_line (record { s = s; p = p; o = o; g = g })) (Some (record { s = s; p = p; o = o; g = g }))
 predicate_spelled s (Iri text) o g a i good c d = line_spelled s text o g a good c d
 predicate_spelled s (Blank label) o g a i good c d = absurd cc
 predicate_spelled s (Literal lex dt tag) o g a i good c d = absurd cc

@@ -9,7 +9,7 @@ use Rattle.rdf_core.specs.Lexical.{is_tag, is_tag_tail, is_subtags}
 use Rattle.rdf_core.proofs.EscapeSteps.{which}
 use Rattle.rdf_core.proofs.EscapeLaws.{and_parts}
 use Rattle.nquads_core.specs.Terminal.{is_label, is_label_tail}
-use Rattle.nquads_core.specs.Reading.{label_tail_at, label_at, subtags_at, tag_tail_at, tag_at}
+use Rattle.nquads_core.specs.LineParser.{label_tail_at, label_at, subtags_at, tag_tail_at, tag_at}
 use Rattle.nquads_core.proofs.RunLaws.{or_no, or_parts, begins_more}
 
 -- ---- labels

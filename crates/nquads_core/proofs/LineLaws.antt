@@ -9,8 +9,8 @@ use Rattle.rdf_core.specs.Characters.{all_pass}
 use Rattle.nquads_core.specs.Terminal.{is_blank}
 use Rattle.nquads_core.specs.Terminal.{Terminal, iri_ref, blank_label, quoted, lang_tag, carets, dot}
 use Rattle.rdf_core.specs.Vocabulary.{xsd_string, rdf_lang_string}
-use Rattle.nquads_core.specs.Grammar.{IsEnd, Begins, Splits, Subject, iri_subject, blank_subject, Predicate, iri_predicate, Object, iri_object, blank_object, plain_object, typed_object, tagged_object, GraphLabel, no_graph, iri_graph, blank_graph, Statement, Derives}
-use Rattle.nquads_core.specs.Reading.{◌>>=◌, terminal_at, skip_blanks, is_end, next, node_of, iri_of, literal_of, object_of, graph_dot, graph_of, whole, statement_at, line_at}
+use Rattle.nquads_core.specs.Grammar.{IsEnd, Begins, Splits, Subject, iri_subject, blank_subject, Predicate, iri_predicate, Object, iri_object, blank_object, plain_object, typed_object, tagged_object, GraphLabel, no_graph, iri_graph, blank_graph, Statement, OptionalStatement}
+use Rattle.nquads_core.specs.LineParser.{◌>>=◌, terminal_at, skip_blanks, is_end, next, node_of, iri_of, literal_of, object_of, graph_dot, graph_of, whole, statement_at, line_at}
 use Rattle.rdf_core.proofs.EscapeSteps.{cond_is}
 use Rattle.rdf_core.proofs.EscapeSteps.{which}
 use Rattle.rdf_core.proofs.EscapeLaws.{and_is, and_parts, none_some}
@@ -223,7 +223,7 @@ graph_sound (carets, rest) cs x b e = absurd (none_some x e)
 pub record Reads (cs : List ℕ) (q : Option QuadParts) : Type 0 where
   pub terminals : List Terminal
   pub splits : Splits cs terminals
-  pub derives : Derives terminals q
+  pub derives : OptionalStatement terminals q
 
 whole_some : (q : QuadParts) (rest : List ℕ) (y : Option QuadParts) → whole q rest ≡ Some y → (is_end (skip_blanks rest) ≡ true) × (Some q ≡ y)
 whole_some q rest y e =
@@ -388,7 +388,7 @@ statement_next cs ks q h st =
     let s = subject_again st.subject cs (st.p ++ (st.o ++ (st.g ++ (dot ∷ [])))) (subst (Splits cs) st.parts h) in
     not_end (skip_blanks cs) (s.k, s.rest) s.is
 
-pub line_again : (cs : List ℕ) (ks : List Terminal) (y : Option QuadParts) → Splits cs ks → Derives ks y → line_at cs ≡ Some y
+pub line_again : (cs : List ℕ) (ks : List Terminal) (y : Option QuadParts) → Splits cs ks → OptionalStatement ks y → line_at cs ≡ Some y
 unfolding line_at
 line_again cs ks None h d = rw (end_again cs (subst (Splits cs) d h)) refl
 line_again cs ks (Some q) h d = rw (statement_next cs ks q h d) (statement_again cs ks q h d)

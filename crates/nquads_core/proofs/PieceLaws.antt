@@ -4,9 +4,9 @@ use Rattle.std.specs.Prelude.{option_to_list}
 use Rattle.rdf_core.specs.QuadParts.{QuadParts}
 use Rattle.nquads_core.specs.declared.fault.PieceFault.TheVariants.{BadLine}
 use Rattle.memchr.specs.Find.{is_byte2}
-use Rattle.nquads_core.specs.Grammar.{Spells, IsBad}
+use Rattle.nquads_core.specs.Grammar.{HasStatement, IsMalformed}
 use Rattle.nquads_core.specs.Lines.{lines, onto_first, begins_with_lf}
-use Rattle.nquads_core.specs.Pieces.{SpellAll, IsFirstBad}
+use Rattle.nquads_core.specs.Pieces.{HaveStatements, IsFirstMalformed}
 use Rattle.std.proofs.lemmas.List.{take-append-drop, drop_more, take_all}
 use Rattle.std.proofs.lemmas.Bool.{eqb-true}
 use Rattle.rdf_core.proofs.EscapeSteps.{eqb_no}
@@ -50,12 +50,12 @@ line_crlf front rest h = plain_front front (13 ∷ 10 ∷ rest) (lines rest) h [
 
 -- ---- quads of lines
 
-pub spell_more : (ls : List (List ℕ)) (quads : List QuadParts) (line : List ℕ) (q : Option QuadParts) → SpellAll ls quads → Spells line q → SpellAll (ls ++ line ∷ []) (quads ++ option_to_list q)
+pub spell_more : (ls : List (List ℕ)) (quads : List QuadParts) (line : List ℕ) (q : Option QuadParts) → HaveStatements ls quads → HasStatement line q → HaveStatements (ls ++ line ∷ []) (quads ++ option_to_list q)
 spell_more [] quads line q h s = (q, [], s, rw h (sym (append-nil (option_to_list q))), refl)
 spell_more (l ∷ ls) quads line q h s =
     (h.0, h.1 ++ option_to_list q, h.2, rw h.3 (append_assoc (option_to_list h.0) h.1 (option_to_list q)), spell_more ls h.1 line q h.4 s)
 
-pub bad_behind : (ls : List (List ℕ)) (quads : List QuadParts) (line : List ℕ) (more : List (List ℕ)) → SpellAll ls quads → IsBad line → IsFirstBad (ls ++ line ∷ more) (length ls)
+pub bad_behind : (ls : List (List ℕ)) (quads : List QuadParts) (line : List ℕ) (more : List (List ℕ)) → HaveStatements ls quads → IsMalformed line → IsFirstMalformed (ls ++ line ∷ more) (length ls)
 bad_behind [] quads line more h b = b
 bad_behind (l ∷ ls) quads line more h b = ((h.0, h.2), bad_behind ls h.1 line more h.4 b)
 
@@ -63,11 +63,11 @@ bad_behind (l ∷ ls) quads line more h b = ((h.0, h.2), bad_behind ls h.1 line 
 pub record ReadLines (quads : List QuadParts) (count : ℕ) (rest all : List ℕ) : Type 0 where
   pub before : List (List ℕ)
   pub parts : lines all ≡ before ++ lines rest
-  pub spell : SpellAll before quads
+  pub spell : HaveStatements before quads
   pub number : length before ≡ count
   pub short : count + length rest ≤ length all
 
-pub one_more : (quads quads' : List QuadParts) (count : ℕ) (rest all line after : List ℕ) (q : Option QuadParts) → ReadLines quads count rest all → lines rest ≡ line ∷ lines after → length after < length rest → Spells line q → quads' ≡ quads ++ option_to_list q → ReadLines quads' (count + 1) after all
+pub one_more : (quads quads' : List QuadParts) (count : ℕ) (rest all line after : List ℕ) (q : Option QuadParts) → ReadLines quads count rest all → lines rest ≡ line ∷ lines after → length after < length rest → HasStatement line q → quads' ≡ quads ++ option_to_list q → ReadLines quads' (count + 1) after all
 one_more quads quads' count rest all line after q h e l s k =
     record {
       before = h.before ++ line ∷ [];
@@ -80,21 +80,21 @@ one_more quads quads' count rest all line after q h e l s k =
 same_place : (n k : ℕ) → BadLine n ≡ BadLine k → n ≡ k
 same_place n k e = cc
 
-pub bad_here : (quads : List QuadParts) (count : ℕ) (rest all line after : List ℕ) → ReadLines quads count rest all → lines rest ≡ line ∷ lines after → IsBad line → IsFirstBad (lines all) count
+pub bad_here : (quads : List QuadParts) (count : ℕ) (rest all line after : List ℕ) → ReadLines quads count rest all → lines rest ≡ line ∷ lines after → IsMalformed line → IsFirstMalformed (lines all) count
 bad_here quads count rest all line after h e b =
     rw (h.parts, e, ← h.number) (bad_behind h.before quads line (lines after) h.spell b)
 
-pub bad_line : (quads : List QuadParts) (count : ℕ) (rest all line after : List ℕ) → ReadLines quads count rest all → lines rest ≡ line ∷ lines after → IsBad line → (k : ℕ) → BadLine count ≡ BadLine k → IsFirstBad (lines all) k
-bad_line quads count rest all line after h e b k same = subst (λ (y : ℕ). IsFirstBad (lines all) y) (same_place count k same) (bad_here quads count rest all line after h e b)
+pub bad_line : (quads : List QuadParts) (count : ℕ) (rest all line after : List ℕ) → ReadLines quads count rest all → lines rest ≡ line ∷ lines after → IsMalformed line → (k : ℕ) → BadLine count ≡ BadLine k → IsFirstMalformed (lines all) k
+bad_line quads count rest all line after h e b k same = subst (λ (y : ℕ). IsFirstMalformed (lines all) y) (same_place count k same) (bad_here quads count rest all line after h e b)
 
 pub lines_nil : lines [] ≡ []
 unfolding lines
 lines_nil = refl
 
-pub all_read : (quads : List QuadParts) (count : ℕ) (rest all : List ℕ) → ReadLines quads count rest all → rest ≡ [] → SpellAll (lines all) quads × (count ≡ length (lines all))
+pub all_read : (quads : List QuadParts) (count : ℕ) (rest all : List ℕ) → ReadLines quads count rest all → rest ≡ [] → HaveStatements (lines all) quads × (count ≡ length (lines all))
 all_read quads count rest all h e =
     let whole : lines all ≡ h.before = h.parts ∙ ap (λ (y : List (List ℕ)). h.before ++ y) (ap lines e ∙ lines_nil) ∙ append-nil h.before in
-    (subst (λ (y : List (List ℕ)). SpellAll y quads) (sym whole) h.spell, sym h.number ∙ ap (λ (y : List (List ℕ)). length y) (sym whole))
+    (subst (λ (y : List (List ℕ)). HaveStatements y quads) (sym whole) h.spell, sym h.number ∙ ap (λ (y : List (List ℕ)). length y) (sym whole))
 
 -- ---- the first line end
 

@@ -7,7 +7,7 @@ use Rattle.rdf_core.specs.Characters.{is_label_char}
 use Rattle.rdf_core.specs.Characters.{begins}
 use Rattle.rdf_core.specs.Lexical.{is_subtags, is_tag_tail}
 use Rattle.nquads_core.specs.Terminal.{is_label_tail}
-use Rattle.nquads_core.specs.Reading.{take_dot, label_tail_at, subtags_at, tag_tail_at}
+use Rattle.nquads_core.specs.LineParser.{take_dot, label_tail_at, subtags_at, tag_tail_at}
 use Rattle.nquads_core.proofs.Runs.{take_dot_some}
 use Rattle.rdf_core.proofs.EscapeSteps.{which}
 use Rattle.rdf_core.proofs.EscapeLaws.{and_is, and_parts}

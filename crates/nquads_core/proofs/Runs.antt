@@ -9,7 +9,7 @@ use Rattle.std.proofs.lemmas.Str.{encodes-chars, encodes-append, encode_ascii}
 use Rattle.rdf_core.specs.Characters.{is_label_start, is_label_char, is_name_start, is_pn_chars_base}
 use Rattle.nquads_core.specs.Terminal.{is_blank}
 use Rattle.rdf_core.specs.Characters.{begins}
-use Rattle.nquads_core.specs.Reading.{skip_blanks, take_dot, label_tail_at, label_at, subtags_at, tag_tail_at, tag_at}
+use Rattle.nquads_core.specs.LineParser.{skip_blanks, take_dot, label_tail_at, label_at, subtags_at, tag_tail_at, tag_at}
 use Rattle.rdf_core.proofs.EscapeSteps.{eqb_no, which}
 
 -- what the characters say of the bytes

@@ -9,11 +9,11 @@ use Rattle.rdf_core.specs.QuadParts.{QuadParts}
 use Rattle.rdf_core.specs.QuadFacts.{is_node, is_iri, is_graph_name}
 use Rattle.nquads_core.specs.declared.slices.RawStatement.{RawStatement}
 use Rattle.nquads_core.specs.Terminal.{Terminal, iri_ref, blank_label, quoted, lang_tag, carets, dot, IsTerminal, IsBlankLabel, IsLangTag}
-use Rattle.nquads_core.specs.Grammar.{IsEnd, Begins, Splits, Subject, iri_subject, blank_subject, Predicate, iri_predicate, Object, iri_object, blank_object, plain_object, typed_object, tagged_object, GraphLabel, no_graph, iri_graph, blank_graph, Spells}
+use Rattle.nquads_core.specs.Grammar.{IsEnd, Begins, Splits, Subject, iri_subject, blank_subject, Predicate, iri_predicate, Object, iri_object, blank_object, plain_object, typed_object, tagged_object, GraphLabel, no_graph, iri_graph, blank_graph, HasStatement}
 use Rattle.nquads_core.specs.Slices.{Joins, Denotes}
 use Rattle.nquads_core.specs.Splitting.{DenotesGraph, DenotesQuad}
 use Rattle.nquads_core.specs.Layout.{graph_then, IsLaidOut, IsOneLine}
-use Rattle.nquads_core.specs.Reading.{terminal_at}
+use Rattle.nquads_core.specs.LineParser.{terminal_at}
 use Rattle.nquads_core.proofs.TerminalLaws.{iri_stands, string_stands, at_carets, at_dot, took_longest}
 use Rattle.nquads_core.proofs.Followed.{label_followed, tag_followed}
 use Rattle.nquads_core.proofs.LineLaws.{Run, run_then}
@@ -147,10 +147,10 @@ graph_splits (Some raw) (Some name) tail d n h =
 
 -- ---- the line
 
-pub blank_spells : (line : List ℕ) → IsUtf8 line → IsOneLine line → IsEnd (chars line) → Spells line None
+pub blank_spells : (line : List ℕ) → IsUtf8 line → IsOneLine line → IsEnd (chars line) → HasStatement line None
 blank_spells line u o h = record { utf8 = u; one_line = o; terminals = []; splits = h; derives = refl }
 
-pub statement_spells : (line : List ℕ) (raw : RawStatement) (q : QuadParts) → IsUtf8 line → IsOneLine line → IsLaidOut line raw → DenotesQuad raw q → Spells line (Some q)
+pub statement_spells : (line : List ℕ) (raw : RawStatement) (q : QuadParts) → IsUtf8 line → IsOneLine line → IsLaidOut line raw → DenotesQuad raw q → HasStatement line (Some q)
 statement_spells line raw q u o h d =
     let graph = option_copied raw.graph in
     let from_graph = graph_then graph (46 ∷ h.tail) in

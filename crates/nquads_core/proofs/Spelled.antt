@@ -11,7 +11,7 @@ use Rattle.rdf_core.specs.Escapes.{IsIriPart, IsStringPart, Writes}
 use Rattle.rdf_core.specs.Lexical.{is_tag, has_scheme}
 use Rattle.nquads_core.specs.Terminal.{Terminal, iri_ref, blank_label, quoted, lang_tag, carets, dot, IsTerminal, is_label}
 use Rattle.rdf_core.specs.Vocabulary.{xsd_string, rdf_lang_string}
-use Rattle.nquads_core.specs.Grammar.{Splits, Subject, iri_subject, blank_subject, Predicate, iri_predicate, Object, iri_object, blank_object, plain_object, typed_object, tagged_object, GraphLabel, no_graph, iri_graph, blank_graph, Spells}
+use Rattle.nquads_core.specs.Grammar.{Splits, Subject, iri_subject, blank_subject, Predicate, iri_predicate, Object, iri_object, blank_object, plain_object, typed_object, tagged_object, GraphLabel, no_graph, iri_graph, blank_graph, HasStatement}
 use Rattle.nquads_core.specs.Laws.{Occurs}
 use Rattle.rdf_core.proofs.EscapeLaws.{and_is, and_parts, none_some}
 use Rattle.std.proofs.lemmas.Option.{same_Some}
@@ -143,7 +143,7 @@ graph_good no_graph t e more h = absurd (none_some t e)
 graph_good (iri_graph {text}) t e more h = subst GoodTerm (same_Some (Iri text) t e) h.0
 graph_good (blank_graph {label}) t e more h = subst GoodTerm (same_Some (Blank label) t e) h.0
 
-pub term_good : (line : List ℕ) (q : QuadParts) (t : Term) → Spells line (Some q) → Occurs t q → GoodTerm t
+pub term_good : (line : List ℕ) (q : QuadParts) (t : Term) → HasStatement line (Some q) → Occurs t q → GoodTerm t
 term_good line q t s o =
     let st = s.derives in
     let good = all_good (chars line) s.terminals (scalars-chars line s.utf8) s.splits in

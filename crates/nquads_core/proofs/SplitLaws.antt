@@ -5,7 +5,7 @@ use Rattle.std.specs.Str.{IsUtf8}
 use Rattle.rdf_core.specs.QuadParts.{QuadParts}
 use Rattle.nquads_core.specs.declared.slices.RawStatement.{RawStatement}
 use Rattle.nquads_core.specs.Lines.{lines}
-use Rattle.nquads_core.specs.Pieces.{SpellAll}
+use Rattle.nquads_core.specs.Pieces.{HaveStatements}
 use Rattle.nquads_core.specs.Splitting.{DenotesQuad, DenoteAll, AreStatements}
 use Rattle.nquads_core.specs.Layout.{IsLine, Adds, IsOneLine}
 use Rattle.nquads_core.proofs.PieceLaws.{spell_more, lines_nil}
@@ -27,10 +27,10 @@ denote_last (r ∷ raws) raw quads d =
 line_more : (before : List (List ℕ)) (line : List ℕ) (raws : List RawStatement) (statement : Option RawStatement) → IsUtf8 line → IsOneLine line → IsLine line statement → AreStatements before raws → AreStatements (before ++ line ∷ []) (raws ++ option_to_list statement)
 line_more before line raws None u o h s = λ quads d.
     let old = s quads (subst (λ (y : List RawStatement). DenoteAll y quads) (append-nil raws) d) in
-    subst (SpellAll (before ++ line ∷ [])) (append-nil quads) (spell_more before quads line None old (blank_spells line u o h))
+    subst (HaveStatements (before ++ line ∷ [])) (append-nil quads) (spell_more before quads line None old (blank_spells line u o h))
 line_more before line raws (Some raw) u o h s = λ quads d.
     let p = denote_last raws raw quads d in
-    subst (SpellAll (before ++ line ∷ [])) (sym p.parts) (spell_more before p.front line (Some p.q) (s p.front p.others) (statement_spells line raw p.q u o h p.last))
+    subst (HaveStatements (before ++ line ∷ [])) (sym p.parts) (spell_more before p.front line (Some p.q) (s p.front p.others) (statement_spells line raw p.q u o h p.last))
 
 -- the lines before the rest are split into these statements
 pub record SplitLines (raws : List RawStatement) (rest all : List ℕ) : Type 0 where

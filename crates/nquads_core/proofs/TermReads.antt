@@ -10,7 +10,7 @@ use Rattle.rdf_core.proofs.EscapeLaws.{none_some}
 use Rattle.nquads_core.specs.Terminal.{Terminal, iri_ref, blank_label, quoted, lang_tag, carets, dot}
 use Rattle.nquads_core.specs.Grammar.{Object, iri_object, blank_object, plain_object, typed_object, tagged_object}
 use Rattle.nquads_core.specs.Slices.{Joins, Denotes}
-use Rattle.nquads_core.specs.Reading.{terminal_at, iri_of, is_over, alone, suffix_alone, literal_alone, object_alone, term_at}
+use Rattle.nquads_core.specs.LineParser.{terminal_at, iri_of, is_over, alone, suffix_alone, literal_alone, object_alone, term_at}
 use Rattle.nquads_core.proofs.TerminalLaws.{bind_some, terminal_takes}
 use Rattle.nquads_core.proofs.LineLaws.{iri_is}
 

@@ -10,7 +10,7 @@ use Rattle.rdf_core.specs.declared.lexical.escapes.Inside.TheVariants.{Iri, Quot
 use Rattle.rdf_core.specs.Characters.{begins}
 use Rattle.rdf_core.specs.Lexical.{is_tag, is_tag_tail, has_scheme}
 use Rattle.nquads_core.specs.Terminal.{Terminal, iri_ref, blank_label, quoted, lang_tag, carets, dot, IsTerminal, IsIriRef, IsQuoted, IsLongest, is_label, is_label_tail}
-use Rattle.nquads_core.specs.Reading.{◌>>=◌, if_scheme, iri_at, string_at, label_tail_at, label_at, tag_tail_at, tag_at, after_char, as_terminal, sign, terminal_at}
+use Rattle.nquads_core.specs.LineParser.{◌>>=◌, if_scheme, iri_at, string_at, label_tail_at, label_at, tag_tail_at, tag_at, after_char, as_terminal, sign, terminal_at}
 use Rattle.rdf_core.proofs.EscapeSteps.{cond_is}
 use Rattle.nquads_core.proofs.Runs.{label_parts, primary_parts}
 use Rattle.rdf_core.proofs.EscapeSteps.{which}

@@ -6,7 +6,7 @@ use Rattle.rdf_core.specs.Lexical.{has_scheme}
 use Rattle.rdf_core.specs.LexicalReading.{parts_at, with_bytes}
 use Rattle.rdf_core.specs.declared.lexical.escapes.Inside.TheVariants.{Iri, Quoted}
 use Rattle.rdf_core.proofs.EnclosedLaws.{iri_apart, quoted_apart, enclosed_again, enclosed_missing}
-use Rattle.nquads_core.specs.Reading.{iri_at, string_at}
+use Rattle.nquads_core.specs.LineParser.{iri_at, string_at}
 
 pub iri_body_again : (cs body rest : List ℕ) → Writes IsIriPart body cs → with_bytes [] (parts_at Iri (Some 62) 0 (body ++ 62 ∷ rest)) ≡ Some (encode_utf8_all cs, rest)
 iri_body_again cs body rest w =

@@ -69,18 +69,18 @@ pub record Statement (ks : List Terminal) (q : QuadParts) : Type 0 where
   pub graph : GraphLabel g q.g
 
 -- statement?, as in [1] nquadsDoc ::= statement? (EOL statement)* EOL?
-abbrev pub Derives : List Terminal → Option QuadParts → Type 0
-Derives ks None = ks ≡ []
-Derives ks (Some q) = Statement ks q
+abbrev pub OptionalStatement : List Terminal → Option QuadParts → Type 0
+OptionalStatement ks None = ks ≡ []
+OptionalStatement ks (Some q) = Statement ks q
 
 -- The line, without its line end (LF is 10, CR is 13), holds the statement of this quad, or nothing but blanks and a comment.
-pub record Spells (line : List ℕ) (q : Option QuadParts) : Type 0 where
+pub record HasStatement (line : List ℕ) (q : Option QuadParts) : Type 0 where
   pub utf8 : IsUtf8 line
   pub one_line : (i : ℕ) → i < length line → (slice_index line i ≢ 10) × (slice_index line i ≢ 13)
   pub terminals : List Terminal
   pub splits : Splits (chars line) terminals
-  pub derives : Derives terminals q
+  pub derives : OptionalStatement terminals q
 
 -- the line is malformed
-abbrev pub IsBad : List ℕ → Type 0
-IsBad line = (q : Option QuadParts) → Spells line q → ⊥
+abbrev pub IsMalformed : List ℕ → Type 0
+IsMalformed line = (q : Option QuadParts) → HasStatement line q → ⊥

@@ -4,13 +4,13 @@ use Rattle.rdf_core.specs.declared.term.Term.{Term}
 use Rattle.rdf_core.specs.QuadFacts.{is_graph_name, is_iri, is_node}
 use Rattle.rdf_core.specs.QuadParts.{QuadParts}
 use Rattle.rdf_core.specs.declared.term.Term.TheVariants.{Iri}
-use Rattle.rdf_core.specs.Spelling.{spelling}
-use Rattle.nquads_core.specs.Grammar.{Spells}
+use Rattle.rdf_core.specs.Serialization.{serialization}
+use Rattle.nquads_core.specs.Grammar.{HasStatement}
 use Rattle.nquads_core.specs.Lines.{lines, EndsLine}
 
 -- a line has at most one meaning
 abbrev pub OneMeaning : Type 0
-OneMeaning = (line : List ℕ) (q r : Option QuadParts) → Spells line q → Spells line r → q ≡ r
+OneMeaning = (line : List ℕ) (q r : Option QuadParts) → HasStatement line q → HasStatement line r → q ≡ r
 
 -- the lines of whole lines, and then those of what follows, are the lines of both together
 abbrev pub LinesJoin : Type 0
@@ -22,25 +22,25 @@ Occurs t q = (t ≡ q.s) ⊎ ((t ≡ q.p) ⊎ ((t ≡ q.o) ⊎ (q.g ≡ Some t))
 
 -- a line whose object is the N-Quads form of this term
 abbrev pub object_line : Term → List ℕ
-object_line t = codes "<a:> <a:> " ++ (spelling t ++ codes " .")
+object_line t = codes "<a:> <a:> " ++ (serialization t ++ codes " .")
 
 abbrev pub with_object : Term → QuadParts
 with_object t = record { s = Iri (codes "a:"); p = Iri (codes "a:"); o = t; g = None }
 
 -- a term of some line round-trips through its N-Quads form
 abbrev pub ReadsBack : Type 0
-ReadsBack = (line : List ℕ) (q : QuadParts) (t : Term) → Spells line (Some q) → Occurs t q → Spells (object_line t) (Some (with_object t))
+ReadsBack = (line : List ℕ) (q : QuadParts) (t : Term) → HasStatement line (Some q) → Occurs t q → HasStatement (object_line t) (Some (with_object t))
 
 -- the term occurs in the quad of some line
-abbrev pub IsSpelled : Term → Type 0
-IsSpelled t = (line : List ℕ) × (q : QuadParts) × Spells line (Some q) × Occurs t q
+abbrev pub IsNQuadsTerm : Term → Type 0
+IsNQuadsTerm t = (line : List ℕ) × (q : QuadParts) × HasStatement line (Some q) × Occurs t q
 
 -- each of the four terms occurs in the quad of some line, and each may be in its place
-pub record IsSpellable (q : QuadParts) : Type 0 where
-  pub subject : IsSpelled q.s
-  pub predicate : IsSpelled q.p
-  pub object : IsSpelled q.o
-  pub graph : (t : Term) → q.g ≡ Some t → IsSpelled t
+pub record IsNQuadsQuad (q : QuadParts) : Type 0 where
+  pub subject : IsNQuadsTerm q.s
+  pub predicate : IsNQuadsTerm q.p
+  pub object : IsNQuadsTerm q.o
+  pub graph : (t : Term) → q.g ≡ Some t → IsNQuadsTerm t
   pub is_subject : is_node q.s ≡ true
   pub is_predicate : is_iri q.p ≡ true
   pub is_graph : is_graph_name q.g ≡ true
@@ -48,16 +48,16 @@ pub record IsSpellable (q : QuadParts) : Type 0 where
 -- the graph name, if there is one, and the dot
 abbrev pub line_end : Option Term → List ℕ
 line_end None = codes "."
-line_end (Some t) = spelling t ++ codes " ."
+line_end (Some t) = serialization t ++ codes " ."
 
 -- the terms of the quad in their N-Quads form, with a space after each, and the dot
 abbrev pub quad_line : QuadParts → List ℕ
-quad_line q = spelling q.s ++ (codes " " ++ (spelling q.p ++ (codes " " ++ (spelling q.o ++ (codes " " ++ line_end q.g)))))
+quad_line q = serialization q.s ++ (codes " " ++ (serialization q.p ++ (codes " " ++ (serialization q.o ++ (codes " " ++ line_end q.g)))))
 
 -- a quad round-trips through this line
 abbrev pub QuadsReadBack : Type 0
-QuadsReadBack = (q : QuadParts) → IsSpellable q → Spells (quad_line q) (Some q)
+QuadsReadBack = (q : QuadParts) → IsNQuadsQuad q → HasStatement (quad_line q) (Some q)
 
 -- so does the quad of every line
 abbrev pub LinesReadBack : Type 0
-LinesReadBack = (line : List ℕ) (q : QuadParts) → Spells line (Some q) → Spells (quad_line q) (Some q)
+LinesReadBack = (line : List ℕ) (q : QuadParts) → HasStatement line (Some q) → HasStatement (quad_line q) (Some q)

@@ -5,7 +5,7 @@ pub mod Pieces
 pub mod Slices
 pub mod Splitting
 pub mod Laws
-pub mod Reading
+pub mod LineParser
 pub mod Layout
 pub mod Views
 pub mod Device

@@ -5,7 +5,7 @@ use Rattle.rdf_core.specs.QuadParts.{QuadParts}
 use Rattle.rdf_core.specs.QuadFacts.{is_node, is_iri, is_graph_name}
 use Rattle.nquads_core.specs.declared.slices.RawStatement.{RawStatement}
 use Rattle.nquads_core.specs.Slices.{Denotes}
-use Rattle.nquads_core.specs.Pieces.{SpellAll}
+use Rattle.nquads_core.specs.Pieces.{HaveStatements}
 
 -- The slice of the graph label denotes the graph name; no slice, no graph name.
 abbrev pub DenotesGraph : Option (List ℕ) → Option Term → Type 0
@@ -33,4 +33,4 @@ DenoteAll (raw ∷ raws) quads = (q : QuadParts) × (more : List QuadParts) × (
 -- The statements are those of these lines: the lines hold the quads that the statements denote. Of slices that
 -- denote no term nothing is said.
 abbrev pub AreStatements : List (List ℕ) → List RawStatement → Type 0
-AreStatements lines raws = (quads : List QuadParts) → DenoteAll raws quads → SpellAll lines quads
+AreStatements lines raws = (quads : List QuadParts) → DenoteAll raws quads → HaveStatements lines quads

@@ -2,7 +2,7 @@
 
 ghost use Rattle.std.specs.Prelude.{◌≡◌, Err, IfOk, option_map};
 ghost use Rattle.rdf_core.specs.QuadParts.{parts_of};
-ghost use Rattle.nquads_core.specs.Grammar.{Spells, IsBad};
+ghost use Rattle.nquads_core.specs.Grammar.{HasStatement, IsMalformed};
 ghost use Rattle.nquads_core.specs.declared.fault.LineFault.TheVariants.{Bad};
 
 use crate::fault::LineFault;
@@ -19,8 +19,8 @@ use std::alloc::Global;
 /// - `Bad` if the line is malformed. A line that is not UTF-8, or that contains LF or CR, is malformed.
 /// - `Memory` if an allocation fails.
 pub fn read_line(alloc: Global, line: &[u8]) -> Result<Option<Quad>, LineFault>
-    ensures spells { IfOk result (λ quad. Spells line.now (option_map parts_of quad)) }
-    ensures bad { (result ≡ Err Bad) → IsBad line.now }
+    ensures spells { IfOk result (λ quad. HasStatement line.now (option_map parts_of quad)) }
+    ensures bad { (result ≡ Err Bad) → IsMalformed line.now }
 {
     if let Some(_) = memchr2(b'\n', b'\r', line) {
         return Err(LineFault::Bad);

@@ -4,7 +4,7 @@ ghost use Rattle.std.specs.Prelude.{◌≡◌, ◌<◌, ◌∷◌, ◌+◌, ◌+
 ghost use Rattle.rdf_core.specs.QuadParts.{parts_of};
 ghost use Rattle.nquads_core.specs.Lines.{begins_with_lf, lines};
 ghost use Rattle.nquads_core.specs.Layout.{HasNoCr, IsLineAfter};
-ghost use Rattle.nquads_core.specs.Pieces.{SpellAll, IsFirstBad};
+ghost use Rattle.nquads_core.specs.Pieces.{HaveStatements, IsFirstMalformed};
 ghost use Rattle.nquads_core.specs.declared.fault.PieceFault.TheVariants.{BadLine};
 
 use crate::fault::{LineFault, PieceFault};
@@ -70,10 +70,10 @@ fn add(quads: &mut Vec<Quad>, quad: Option<Quad>) -> Result<(), AllocFailed<Quad
 /// - `Memory` if an allocation fails.
 pub fn read_piece(alloc: Global, bytes: &[u8]) -> Result<Piece, PieceFault>
     ensures quads { IfOk result
-        (λ piece. SpellAll (lines bytes.now) (map parts_of piece.quads.items)) }
+        (λ piece. HaveStatements (lines bytes.now) (map parts_of piece.quads.items)) }
     ensures lines { IfOk result (λ piece. piece.lines ≡ length (lines bytes.now)) }
     ensures bad_line { IfErr result
-        (λ fault. (k : ℕ) → fault ≡ BadLine k → IsFirstBad (lines bytes.now) k) }
+        (λ fault. (k : ℕ) → fault ≡ BadLine k → IsFirstMalformed (lines bytes.now) k) }
 {
     let mut quads = Vec::new(alloc);
     let mut count = 0u64;

@@ -2,7 +2,7 @@
 
 ghost use Rattle.std.specs.Prelude.{◌≡◌, IfOk, IfSome};
 ghost use Rattle.std.specs.Str.{chars};
-ghost use Rattle.nquads_core.specs.Reading.{Gives, alone, is_over, suffix_alone, literal_alone, object_alone, term_at};
+ghost use Rattle.nquads_core.specs.LineParser.{Gives, alone, is_over, suffix_alone, literal_alone, object_alone, term_at};
 ghost use Rattle.nquads_core.specs.Slices.{Denotes};
 ghost use Rattle.nquads_core.specs.Views.{token_view};
 
@@ -89,7 +89,7 @@ fn object_alone(alloc: Global, token: Token, rest: &str) -> Result<Term, LineFau
     }
 }
 
-#[tactic(auto, unfolding(crate::specs::Reading::term_at))]
+#[tactic(auto, unfolding(crate::specs::LineParser::term_at))]
 fn whole_term(alloc: Global, raw: &str) -> Result<Term, LineFault>
     ensures { Gives (λ t. t) result (term_at (chars raw.now)) }
 {

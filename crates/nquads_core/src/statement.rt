@@ -5,7 +5,7 @@ ghost use Rattle.std.specs.Str.{chars};
 ghost use Rattle.rdf_core.specs.QuadParts.{parts_of};
 ghost use Rattle.rdf_core.specs.QuadFacts.{is_node, is_graph_name};
 ghost use Rattle.rdf_core.specs.Vocabulary.{xsd_string, rdf_lang_string};
-ghost use Rattle.nquads_core.specs.Reading.{Gives, node_of, iri_of, literal_of, object_of, graph_of, statement_at, line_at};
+ghost use Rattle.nquads_core.specs.LineParser.{Gives, node_of, iri_of, literal_of, object_of, graph_of, statement_at, line_at};
 ghost use Rattle.rdf_core.specs.LexicalReading.{Finds};
 ghost use Rattle.nquads_core.specs.Views.{token_view};
 
@@ -143,7 +143,7 @@ fn graph_of(alloc: Global, token: Token, rest: &str) -> Result<(Option<Term>, &s
 }
 
 /// The quad of a text that holds a statement ([2] `statement`).
-#[tactic(auto, unfolding(crate::specs::Reading::statement_at))]
+#[tactic(auto, unfolding(crate::specs::LineParser::statement_at))]
 fn statement(alloc: Global, text: &str) -> Result<Quad, LineFault>
     ensures { Gives (λ q. Some (parts_of q)) result (statement_at (chars text.now)) }
 {
@@ -171,7 +171,7 @@ fn statement(alloc: Global, text: &str) -> Result<Quad, LineFault>
 }
 
 /// The quad of a text, or None if it has nothing but blanks and a comment.
-#[tactic(auto, unfolding(crate::specs::Reading::line_at))]
+#[tactic(auto, unfolding(crate::specs::LineParser::line_at))]
 pub fn read_text(alloc: Global, text: &str) -> Result<Option<Quad>, LineFault>
     ensures { Gives (λ q. option_map parts_of q) result (line_at (chars text.now)) }
 {

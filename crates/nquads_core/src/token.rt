@@ -7,7 +7,7 @@ ghost use Rattle.rdf_core.specs.Characters.{is_label_start, is_label_char, begin
 ghost use Rattle.rdf_core.specs.Lexical.{has_scheme};
 ghost use Rattle.rdf_core.specs.LexicalReading.{Finds};
 ghost use Rattle.nquads_core.specs.Terminal.{is_blank};
-ghost use Rattle.nquads_core.specs.Reading.{Gives, next, is_end, iri_at, string_at, label_tail_at, label_at, subtags_at, tag_tail_at, tag_at, after_char, terminal_at, skip_blanks};
+ghost use Rattle.nquads_core.specs.LineParser.{Gives, next, is_end, iri_at, string_at, label_tail_at, label_at, subtags_at, tag_tail_at, tag_at, after_char, terminal_at, skip_blanks};
 ghost use Rattle.nquads_core.specs.Views.{token_view};
 
 use crate::fault::LineFault;
@@ -193,7 +193,7 @@ fn after_char(expected: char, text: &str) -> Option<&str>
 }
 
 /// The terminal that begins with this character, and what follows it.
-#[tactic(auto, unfolding(crate::specs::Reading::terminal_at))]
+#[tactic(auto, unfolding(crate::specs::LineParser::terminal_at))]
 fn token_from(alloc: Global, c: char, after: &str) -> Result<(Token, &str), LineFault>
     ensures { Gives (λ x. (token_view x.0, chars x.1.now)) result (terminal_at (c ∷ chars after.now)) }
 {
@@ -229,7 +229,7 @@ fn token_from(alloc: Global, c: char, after: &str) -> Result<(Token, &str), Line
 }
 
 /// The terminal at the front, and what follows it.
-#[tactic(auto, unfolding(crate::specs::Reading::terminal_at))]
+#[tactic(auto, unfolding(crate::specs::LineParser::terminal_at))]
 pub fn token_at(alloc: Global, text: &str) -> Result<(Token, &str), LineFault>
     ensures { Gives (λ x. (token_view x.0, chars x.1.now)) result (terminal_at (chars text.now)) }
 {

@@ -6,7 +6,7 @@ use mathlib.Core.Option.{some, some-injective, some-ne-none}
 use lib.ListN.{get_elem?}
 use Rattle.piece_board.specs.declared.history.History.{History}
 use Rattle.piece_board.specs.Counts.{times}
-use Rattle.piece_board.specs.Protocol.{fresh, with_draw, with_end, with_report, with_seen, after_draw, BoardState, opening, Event, draw, report, look, change, IsLast, Admits, after, run, IsRun}
+use Rattle.piece_board.specs.Protocol.{fresh, with_draw, with_end, with_report, with_seen, after_draw, BoardState, opening, Event, draw, report, look, change, IsLast, Admits, after, run, AdmitsAll}
 use Rattle.piece_board.specs.Rule.{HistoryClaims, CountedClaims}
 use Rattle.piece_board.proofs.CountLaws.{one, one_is, times_push}
 use Rattle.piece_board.proofs.StepLaws.{each_set, draws, reports, looks}
@@ -61,12 +61,12 @@ steps n k c (report s i) g a = let live = g.1 s a.0 a.1 in subst (λ rs. Counted
 steps n k c (look s) g a = let live = g.1 s a.0 a.1 in subst (λ rs. CountedClaims n k c.next c.least rs × Single rs) (change_is s (with_seen c.least) c.histories a.0 a.1)
     (looks n k c.next c.least c.histories g.0 s a.0 a.1, each_set (λ (u : History). u.seats ≡ 1) c.histories s (with_seen c.least a.0) g.1 live)
 
-pub keeps_on : (n k : ℕ) (c : BoardState) (es : List Event) → Good n k c → IsRun c es → Good n k (run c es)
+pub keeps_on : (n k : ℕ) (c : BoardState) (es : List Event) → Good n k c → AdmitsAll c es → Good n k (run c es)
 keeps_on n k c [] g r = g
 keeps_on n k c (e ∷ es) g r = keeps_on n k (after c e) es (steps n k c e g r.0) r.1
 
-pub all_runs : (n k : ℕ) (es : List Event) → IsRun (opening n k) es → CountedClaims n k (run (opening n k) es).next (run (opening n k) es).least (run (opening n k) es).histories
+pub all_runs : (n k : ℕ) (es : List Event) → AdmitsAll (opening n k) es → CountedClaims n k (run (opening n k) es).next (run (opening n k) es).least (run (opening n k) es).histories
 all_runs n k es r = (keeps_on n k (opening n k) es (opens n k, λ s u e. ap (λ (v : History). v.seats) (sym (replicated k (fresh n 1) s u e))) r).0
 
-pub all_single : (n k : ℕ) (es : List Event) → IsRun (opening n k) es → Single (run (opening n k) es).histories
+pub all_single : (n k : ℕ) (es : List Event) → AdmitsAll (opening n k) es → Single (run (opening n k) es).histories
 all_single n k es r = (keeps_on n k (opening n k) es (opens n k, λ s u e. ap (λ (v : History). v.seats) (sym (replicated k (fresh n 1) s u e))) r).1

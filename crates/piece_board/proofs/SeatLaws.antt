@@ -5,7 +5,7 @@ use Rattle.atomic_table.specs.Table.{State}
 use Rattle.piece_board.specs.declared.history.History.{History}
 use Rattle.piece_board.specs.declared.rule.Size.{Size}
 use Rattle.piece_board.specs.Counts.{times}
-use Rattle.piece_board.specs.Protocol.{BoardState, Event, opening, run, IsRun}
+use Rattle.piece_board.specs.Protocol.{BoardState, Event, opening, run, AdmitsAll}
 use Rattle.piece_board.specs.Claims.{finished, IsReported, Claims}
 use Rattle.piece_board.specs.Rule.{reported, CountedClaims, KeepsRule}
 use Rattle.piece_board.specs.Laws.{AreSingle}
@@ -40,7 +40,7 @@ module _ (n k next least : ℕ) (histories : List History) (fits : n ≤ 2 ^ 62)
     reported_once = λ s r at x. let a = (h.each s r at).among x in let b = at_le (λ (u : History). times x u.draws) histories s r at in let d = h.once x in omega arith;
   }
 
-pub all_claims : (n k : ℕ) (es : List Event) → n ≤ 2 ^ 62 → k ≤ 64 → IsRun (opening n k) es
+pub all_claims : (n k : ℕ) (es : List Event) → n ≤ 2 ^ 62 → k ≤ 64 → AdmitsAll (opening n k) es
     → let c = run (opening n k) es in Claims n k c.next c.least c.histories × AreSingle c.histories
 all_claims n k es fits few r = let c : BoardState = run (opening n k) es in (claims n k c.next c.least c.histories fits few (all_runs n k es r), all_single n k es r)
 

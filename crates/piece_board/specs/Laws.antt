@@ -1,9 +1,10 @@
 -- The laws of runs and of the rule, as statements.
-use Rattle.std.specs.Prelude.{◌≡◌, ℕ, ◌≤◌, ◌^◌, List, slice_index}
+use Rattle.std.specs.Prelude.{◌≡◌, ℕ, ◌≤◌, List, slice_index}
+use Rattle.piece_board.specs.Limits.{most_seats, most_pieces}
 use Rattle.atomic_table.specs.Table.{State}
 use Rattle.piece_board.specs.declared.history.History.{History}
 use Rattle.piece_board.specs.declared.rule.Size.{Size}
-use Rattle.piece_board.specs.Protocol.{BoardState, Event, opening, run, IsRun}
+use Rattle.piece_board.specs.Protocol.{BoardState, Event, opening, run, AdmitsAll}
 use Rattle.piece_board.specs.Claims.{IsSeat, Claims}
 use Rattle.piece_board.specs.Rule.{KeepsRule}
 
@@ -19,7 +20,7 @@ ClaimsHold n k b = Claims n k b.next b.least b.histories × AreSingle b.historie
 -- events
 abbrev pub RunsKeepClaims : Type 0
 RunsKeepClaims =
-    (n k : ℕ) (events : List Event) → n ≤ 2 ^ 62 → k ≤ 64 → IsRun (opening n k) events
+    (n k : ℕ) (events : List Event) → n ≤ most_pieces → k ≤ most_seats → AdmitsAll (opening n k) events
     → ClaimsHold n k (run (opening n k) events)
 
 -- every state of the table between any two steps of running threads

@@ -1,3 +1,4 @@
+pub mod Limits
 pub mod Counts
 pub mod Protocol
 pub mod Claims

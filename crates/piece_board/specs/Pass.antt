@@ -1,7 +1,8 @@
 -- A pass as contracts describe it: the history of its seat, its last draw if that is neither
 -- reported nor skipped, and its skips, which no word of the board shows. A choice of this project
 -- (not fixed by a standard).
-use Rattle.std.specs.Prelude.{◌≡◌, ℕ, ◌+◌, ◌<◌, ◌≤◌, ◌^◌, Option, Some, None, length, ltb, IfSome, cond}
+use Rattle.std.specs.Prelude.{◌≡◌, ℕ, ◌+◌, ◌<◌, ◌≤◌, Option, Some, None, length, ltb, IfSome, cond}
+use Rattle.piece_board.specs.Limits.{most_pieces}
 use Rattle.atomic_table.specs.Seated.{TableId}
 use Rattle.piece_board.specs.declared.history.History.{History}
 use Rattle.piece_board.specs.Counts.{times}
@@ -70,7 +71,7 @@ count_of (Some i) = 1
 -- skips and its last draw are at most as many as its draws.
 pub record PassFacts (p : PassView) : Type 0 where
   pub single : p.history.seats ≡ 1
-  pub pieces_fit : p.history.pieces ≤ 2 ^ 62
+  pub pieces_fit : p.history.pieces ≤ most_pieces
   pub once : DrawsOnce p.history
   pub among : (x : ℕ) → times x p.history.reports ≤ times x p.history.draws
   pub last_is :

@@ -116,6 +116,6 @@ run b [] = b
 run b (e ∷ es) = run (after b e) es
 
 -- each event is admitted in its state
-abbrev pub IsRun : BoardState → List Event → Type 0
-IsRun b [] = Unit {0}
-IsRun b (e ∷ es) = Admits b e × IsRun (after b e) es
+abbrev pub AdmitsAll : BoardState → List Event → Type 0
+AdmitsAll b [] = Unit {0}
+AdmitsAll b (e ∷ es) = Admits b e × AdmitsAll (after b e) es

@@ -1,7 +1,8 @@
 -- The rule of the board's table: the claims as equations on counts, which each step preserves, what
 -- each step returns, and how seats are split and joined. The law `the_rule_is_the_claims` states
 -- that the rule is the claims seat by seat. A choice of this project (not fixed by a standard).
-use Rattle.std.specs.Prelude.{◌≡◌, ◌⊎◌, ℕ, ◌-◌, ◌+◌, ◌<◌, ◌≤◌, ◌^◌, min, List, [], ◌++◌, length, slice_index, sum_by}
+use Rattle.std.specs.Prelude.{◌≡◌, ◌⊎◌, ℕ, ◌-◌, ◌+◌, ◌<◌, ◌≤◌, min, List, [], ◌++◌, length, slice_index, sum_by}
+use Rattle.piece_board.specs.Limits.{most_seats, most_pieces}
 use mathlib.Core.Option.{some}
 use lib.ListN.{get_elem?}
 use Rattle.atomic_table.specs.Table.{State, Me, Step}
@@ -46,8 +47,8 @@ pub record CountedClaims (n k next least : ℕ) (histories : List History) : Typ
 -- the rule: word 0 is the next number to draw, word 1 the least report, and a view is a history
 pub record KeepsRule (size : Size) (s : State (Unit {0}) History) : Type 0 where
   pub words : length s.words ≡ 2
-  pub pieces_fit : size.pieces ≤ 2 ^ 62
-  pub seats_fit : size.seats ≤ 64
+  pub pieces_fit : size.pieces ≤ most_pieces
+  pub seats_fit : size.seats ≤ most_seats
   pub kept :
       CountedClaims size.pieces size.seats (slice_index s.words 0) (slice_index s.words 1) s.views
 

@@ -1,5 +1,6 @@
 //! The board that workers share.
 ghost use Rattle.std.specs.Prelude.{◌≡◌, ℕ, ◌<◌, ◌≤◌, ◌^◌, ◌+◌, ◌-◌, min, [], Some, OnSome, IfSome, IfOk, vec_len, length, All};
+ghost use Rattle.piece_board.specs.Limits.{most_seats, most_pieces};
 ghost use Rattle.piece_board.specs.Counts.{times};
 ghost use Rattle.piece_board.specs.Protocol.{fresh};
 ghost use Rattle.piece_board.specs.Rule.{DrawsOnce};
@@ -81,8 +82,8 @@ impl Board {
     /// # Errors
     /// `Memory` if an allocation fails. Everything allocated before is freed.
     pub fn open(alloc: Global, n: u64, seats: usize) -> Result<(Board, Vec<Pass>), BoardFault>
-        requires pieces { n ≤ 2 ^ 62 }
-        requires seats { (1 ≤ seats) × (seats ≤ 64) }
+        requires pieces { n ≤ most_pieces }
+        requires seats { (1 ≤ seats) × (seats ≤ most_seats) }
         ensures board { IfOk result (λ opened. (opened.0.pieces ≡ n) × (opened.0.seats ≡ seats)) }
         ensures count { IfOk result (λ opened. vec_len opened.1 ≡ seats) }
         ensures unused { IfOk result
@@ -241,7 +242,7 @@ fn deal(
     seats: usize,
 ) -> Result<Vec<Pass>, AllocError>
     requires seat { (seat.table_id ≡ shared.now.table_id) × (seat.me ≡ (fresh pieces seats, [])) }
-    requires size { (0 < shared.now.table_id.words) × (0 < seats) × (pieces ≤ 2 ^ 62) }
+    requires size { (0 < shared.now.table_id.words) × (0 < seats) × (pieces ≤ most_pieces) }
     ensures count { IfOk result (λ passes. vec_len passes ≡ seats) }
     ensures unused { IfOk result
         (λ passes. All (λ p. p ≡ unused shared.now.table_id pieces) passes.items) }

@@ -1,5 +1,6 @@
 //! One worker's pass to a board.
-ghost use Rattle.std.specs.Prelude.{◌≡◌, ◌<◌, ◌≤◌, ◌^◌, [], Some, MatchBool};
+ghost use Rattle.std.specs.Prelude.{◌≡◌, ◌<◌, ◌≤◌, [], Some, MatchBool};
+ghost use Rattle.piece_board.specs.Limits.{most_pieces};
 ghost use Rattle.piece_board.specs.Protocol.{fresh};
 ghost use Rattle.piece_board.specs.Pass.{unused, after_skipping};
 
@@ -49,7 +50,7 @@ impl Model for Pass {
 
 impl Pass {
     pub(crate) fn new(seat: Seat<(), History>, pieces: u64) -> Pass
-        requires seat { (seat.me ≡ (fresh pieces 1, [])) × (pieces ≤ 2 ^ 62) }
+        requires seat { (seat.me ≡ (fresh pieces 1, [])) × (pieces ≤ most_pieces) }
         ensures unused { result ≡ unused seat.table_id pieces }
     {
         Pass {

@@ -4,7 +4,7 @@ use Rattle.std.proofs.lemmas.List.{append-nil, take-append-drop, get_or_append_l
 use Rattle.nquads_core.specs.Transfer.{ReadsMore}
 use Rattle.nquads_core.proofs.TransferSteps.{Consumes-more, Consumes-start}
 use Rattle.piece_cuts.specs.Cuts.{IsNextCut, HasNoNextCut}
-use Rattle.piece_cuts.specs.Blocks.{IsFirstPiece, BothKnown, GivesBlock, Grows, IsClear}
+use Rattle.piece_cuts.specs.Blocks.{IsFirstPiece, BothKnown, GivesBlock, Grows, HasNoCutUpTo}
 
 pub Grows-start : (a : Option (List ℕ)) (xs : List ℕ) → Grows a a xs xs
 Grows-start a xs = record { added = []; appended = sym (append-nil xs); consumed = Consumes-start a }
@@ -64,14 +64,14 @@ BothKnown-block (Some xs) None size size' kept kept' front tail tail' b s k f t 
 BothKnown-block (Some xs) (Some ys) size size' kept kept' front tail tail' b s k f t h = rw (← s, ← k, f, t) h
 
 -- nothing is searched before the size
-pub IsClear-start : (bytes : List ℕ) (size : ℕ) → IsClear bytes size size
-IsClear-start bytes size q from below = absurd (omega arith)
+pub HasNoCutUpTo-start : (bytes : List ℕ) (size : ℕ) → HasNoCutUpTo bytes size size
+HasNoCutUpTo-start bytes size q from below = absurd (omega arith)
 
 -- if there is no cut after this place, all bytes are clear, and they stay clear if bytes are
 -- appended
-pub IsClear-more : (bytes more all : List ℕ) (size searched : ℕ) → 1 ≤ size → IsClear bytes size searched
-    → HasNoNextCut bytes searched 0 → all ≡ bytes ++ more → IsClear all size (max searched (length bytes))
-IsClear-more bytes more all size searched some clear none e q from below =
+pub HasNoCutUpTo-more : (bytes more all : List ℕ) (size searched : ℕ) → 1 ≤ size → HasNoCutUpTo bytes size searched
+    → HasNoNextCut bytes searched 0 → all ≡ bytes ++ more → HasNoCutUpTo all size (max searched (length bytes))
+HasNoCutUpTo-more bytes more all size searched some clear none e q from below =
     let old = by (which q searched) in
     let l = length-append bytes more in
     let la = ap length e in
@@ -85,7 +85,7 @@ IsClear-more bytes more all size searched some clear none e q from below =
     by (inr high) = (omega arith, none q (omega arith) (omega arith))
 
 -- a cut found after this place is the first one
-pub IsNextCut-clear : (bytes : List ℕ) (size searched place : ℕ) → size ≤ searched → IsClear bytes size searched
+pub IsNextCut-clear : (bytes : List ℕ) (size searched place : ℕ) → size ≤ searched → HasNoCutUpTo bytes size searched
     → IsNextCut bytes searched 0 place → IsNextCut bytes size 0 place
 IsNextCut-clear bytes size searched place l clear h = record {
   cut = h.cut;
@@ -101,7 +101,7 @@ IsNextCut-clear bytes size searched place l clear h = record {
     by q far below (inr high) = h.least q (omega (arith, high)) below
 
 -- and if there is none, there is none at all
-pub HasNoNextCut-clear : (bytes : List ℕ) (size searched : ℕ) → IsClear bytes size searched
+pub HasNoNextCut-clear : (bytes : List ℕ) (size searched : ℕ) → HasNoCutUpTo bytes size searched
     → HasNoNextCut bytes searched 0 → HasNoNextCut bytes size 0
 HasNoNextCut-clear bytes size searched clear none q far below = by (which q searched)
   where

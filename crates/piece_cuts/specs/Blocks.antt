@@ -52,6 +52,6 @@ pub record Grows (left left' : Option (List ℕ)) (old new : List ℕ) : Type 0 
   pub consumed : Consumes left left' added
 
 -- all bytes before this place are there, and no cut is from the size on and before this place
-abbrev pub IsClear : List ℕ → ℕ → ℕ → Type 0
-IsClear bytes size searched =
+abbrev pub HasNoCutUpTo : List ℕ → ℕ → ℕ → Type 0
+HasNoCutUpTo bytes size searched =
     (q : ℕ) → size ≤ q → q < searched → (q ≤ length bytes) × (slice_index bytes (q - 1) ≢ 10)

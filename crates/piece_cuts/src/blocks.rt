@@ -2,7 +2,7 @@
 ghost use Rattle.std.specs.Prelude.{◌≡◌, ◌≢◌, ◌≤◌, ◌⊎◌, [], drop, length, take, IfOk, MatchOption, OnErr, OnOk};
 ghost use Rattle.std.specs.Io.KnownBytes.{IsAtEnd};
 ghost use Rattle.nquads_core.specs.Transfer.{CountsRead, IsReadInPart};
-ghost use Rattle.piece_cuts.specs.Blocks.{Grows, IsClear};
+ghost use Rattle.piece_cuts.specs.Blocks.{Grows, HasNoCutUpTo};
 ghost use Rattle.piece_cuts.specs.Cuts.{IsNextCut, HasNoNextCut};
 
 use crate::places::next_cut;

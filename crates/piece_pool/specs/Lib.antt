@@ -1,3 +1,4 @@
+pub mod Limits
 pub mod Job
 pub mod Worked
 pub mod Outcome

@@ -20,8 +20,8 @@ pub record IsFirstFault {Out Fault : Type 0} (answers : ℕ → Out → Type 0)
   pub least : (i : ℕ) (other : Fault) → i < piece → ¬ faults i other
 
 -- the outputs of all pieces below n, or the least faulty piece
-abbrev pub IsOutcome :
+abbrev pub IsPoolOutcome :
     {Out Fault : Type 0} → (ℕ → Out → Type 0) → (ℕ → Fault → Type 0) → ℕ
     → Outcome Out Fault → Type 0
-IsOutcome answers faults n (Every outs) = AnswersEach answers faults n outs.items
-IsOutcome answers faults n (First piece fault) = IsFirstFault answers faults n piece fault
+IsPoolOutcome answers faults n (Every outs) = AnswersEach answers faults n outs.items
+IsPoolOutcome answers faults n (First piece fault) = IsFirstFault answers faults n piece fault

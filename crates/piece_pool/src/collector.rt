@@ -1,7 +1,7 @@
 //! Combines what the workers return.
 ghost use Rattle.std.specs.Prelude.{◌≡◌, ℕ, ◌<◌, ◌≤◌, IfOk, OnOk, map, IsSome, IsSomeAnd, Some, None, All, Contains, false, vec_len, slice_index_or};
 ghost use Rattle.piece_pool.specs.Worked.{IsWorked, numbers_of};
-ghost use Rattle.piece_pool.specs.Outcome.{IsOutcome};
+ghost use Rattle.piece_pool.specs.Outcome.{IsPoolOutcome};
 ghost use Rattle.piece_pool.specs.Collected.{IsCollected};
 
 use crate::job::Job;
@@ -47,7 +47,7 @@ where
     requires all { vec_len works ≡ board.seats }
     requires works { All (IsWorked (J.answers job.now) (J.faults job.now) board) works.items }
     ensures stopped { OnOk result (All (λ w. w.stopped ≡ false) works.items) }
-    ensures outcome { IfOk result (IsOutcome (J.answers job.now) (J.faults job.now) board.pieces) }
+    ensures outcome { IfOk result (IsPoolOutcome (J.answers job.now) (J.faults job.now) board.pieces) }
 {
     let Collected {
         passes,

@@ -1,8 +1,9 @@
 //! Starting and joining the workers.
-ghost use Rattle.std.specs.Prelude.{◌≡◌, ◌≤◌, ◌^◌, IfOk, IfErr, All, vec_len};
+ghost use Rattle.std.specs.Prelude.{◌≡◌, ◌≤◌, IfOk, IfErr, All, vec_len};
+ghost use Rattle.piece_pool.specs.Limits.{most_pieces, most_workers};
 ghost use Rattle.piece_board.specs.Pass.{unused};
 ghost use Rattle.piece_pool.specs.Worked.{IsWorked};
-ghost use Rattle.piece_pool.specs.Outcome.{IsOutcome};
+ghost use Rattle.piece_pool.specs.Outcome.{IsPoolOutcome};
 ghost use Rattle.piece_pool.specs.declared.pool.PoolFault.TheVariants.{Memory};
 
 use crate::collector::{Outcome, gather};
@@ -94,9 +95,9 @@ pub fn run_pieces<R: Threads + Wait, J: Job + Sync, G: Gate + Sync>(
 where
     J::Out: Send + Drop,
     J::Fault: Send + Drop,
-    requires workers { (1 ≤ workers) × (workers ≤ 64) }
-    requires pieces { n ≤ 2 ^ 62 }
-    ensures outcome { IfOk result (IsOutcome (J.answers job.now) (J.faults job.now) n) }
+    requires workers { (1 ≤ workers) × (workers ≤ most_workers) }
+    requires pieces { n ≤ most_pieces }
+    ensures outcome { IfOk result (IsPoolOutcome (J.answers job.now) (J.faults job.now) n) }
     ensures idle { n ≡ 0 → IfErr result (λ fault. fault ≡ Memory) }
 {
     if n == 0 {

@@ -1,7 +1,8 @@
 //! Runs the pieces of a job in parallel, or on the caller's thread if there is nothing to share.
-ghost use Rattle.std.specs.Prelude.{◌≡◌, ◌≤◌, ◌^◌, All, IfErr, IfOk, vec_len};
+ghost use Rattle.std.specs.Prelude.{◌≡◌, ◌≤◌, All, IfErr, IfOk, vec_len};
+ghost use Rattle.piece_pool.specs.Limits.{most_pieces, most_workers};
 ghost use Rattle.piece_board.specs.Pass.{unused};
-ghost use Rattle.piece_pool.specs.Outcome.{IsOutcome};
+ghost use Rattle.piece_pool.specs.Outcome.{IsPoolOutcome};
 ghost use Rattle.piece_pool.specs.Worked.{IsWorked};
 ghost use Rattle.piece_pool.specs.declared.pool.PoolFault.TheVariants.{Memory};
 
@@ -39,9 +40,9 @@ pub fn run_all<R: Threads + Wait, J: Job + Sync, G: Gate + Sync>(
 where
     J::Out: Send + Drop,
     J::Fault: Send + Drop,
-    requires workers { (1 ≤ workers) × (workers ≤ 64) }
-    requires pieces { n ≤ 2 ^ 62 }
-    ensures outcome { IfOk result (IsOutcome (J.answers job.now) (J.faults job.now) n) }
+    requires workers { (1 ≤ workers) × (workers ≤ most_workers) }
+    requires pieces { n ≤ most_pieces }
+    ensures outcome { IfOk result (IsPoolOutcome (J.answers job.now) (J.faults job.now) n) }
     ensures alone { n ≤ 1 → IfErr result (λ fault. fault ≡ Memory) }
     ensures one_worker { workers ≡ 1 → IfErr result (λ fault. fault ≡ Memory) }
 {
@@ -68,8 +69,8 @@ pub(crate) fn run_alone<J: Job, G: Gate>(
 where
     J::Out: Drop,
     J::Fault: Drop,
-    requires pieces { n ≤ 2 ^ 62 }
-    ensures outcome { IfOk result (IsOutcome (J.answers job.now) (J.faults job.now) n) }
+    requires pieces { n ≤ most_pieces }
+    ensures outcome { IfOk result (IsPoolOutcome (J.answers job.now) (J.faults job.now) n) }
 {
     let Ok((board, passes)) = Board::open(alloc, n, 1) else {
         return Err(AllocError);

@@ -1,5 +1,6 @@
 //! Draws from one board with one, two and four threads.
-ghost use Rattle.std.specs.Prelude.{◌≡◌, ◌≤◌, ◌^◌, ◌+◌, All, IfOk, IfSome, OnSome, vec_len};
+ghost use Rattle.std.specs.Prelude.{◌≡◌, ◌≤◌, ◌+◌, All, IfOk, IfSome, OnSome, vec_len};
+ghost use Rattle.piece_board.specs.Limits.{most_seats, most_pieces};
 ghost use Rattle.piece_board.specs.Board.{IsPassOf};
 ghost use Rattle.pool_time.specs.Open.{IsOpen};
 
@@ -17,7 +18,7 @@ pub fn measure<R: Clock + Print + Threads + Sync>(
     timed: bool,
     n: u64,
 ) -> io::Result<()>
-    requires pieces { n ≤ 2 ^ 62 }
+    requires pieces { n ≤ most_pieces }
 {
     let (drawn, time) = by_one(rt, alloc, n)?;
     show(rt, "1 thread", drawn, time, timed)?;
@@ -97,7 +98,7 @@ fn take(board: &Board, passes: &mut Vec<Pass>) -> Option<Pass>
 }
 
 fn by_one<R: Clock>(rt: &R, alloc: Global, n: u64) -> io::Result<(u64, Duration)>
-    requires pieces { n ≤ 2 ^ 62 }
+    requires pieces { n ≤ most_pieces }
 {
     let (board, mut passes) = opened(alloc, n, 1)?;
     let Some(a) = take(&board, &mut passes) else {
@@ -111,7 +112,7 @@ fn by_one<R: Clock>(rt: &R, alloc: Global, n: u64) -> io::Result<(u64, Duration)
 }
 
 fn by_two<R: Clock + Threads + Sync>(rt: &R, alloc: Global, n: u64) -> io::Result<(u64, Duration)>
-    requires pieces { n ≤ 2 ^ 62 }
+    requires pieces { n ≤ most_pieces }
 {
     let (board, mut passes) = opened(alloc, n, 2)?;
     let (Some(a), Some(b)) = (take(&board, &mut passes), take(&board, &mut passes)) else {
@@ -126,7 +127,7 @@ fn by_two<R: Clock + Threads + Sync>(rt: &R, alloc: Global, n: u64) -> io::Resul
 }
 
 fn by_four<R: Clock + Threads + Sync>(rt: &R, alloc: Global, n: u64) -> io::Result<(u64, Duration)>
-    requires pieces { n ≤ 2 ^ 62 }
+    requires pieces { n ≤ most_pieces }
 {
     let (board, mut passes) = opened(alloc, n, 4)?;
     let (Some(a), Some(b)) = (take(&board, &mut passes), take(&board, &mut passes)) else {
@@ -146,8 +147,8 @@ fn by_four<R: Clock + Threads + Sync>(rt: &R, alloc: Global, n: u64) -> io::Resu
 }
 
 fn opened(alloc: Global, n: u64, seats: usize) -> io::Result<(Board, Vec<Pass>)>
-    requires pieces { n ≤ 2 ^ 62 }
-    requires seats { (1 ≤ seats) × (seats ≤ 64) }
+    requires pieces { n ≤ most_pieces }
+    requires seats { (1 ≤ seats) × (seats ≤ most_seats) }
     ensures board { IfOk result (λ t. t.0.seats ≡ seats) }
     ensures count { IfOk result (λ t. vec_len t.1 ≡ seats) }
     ensures open { IfOk result (λ t. All (λ p. IsOpen t.0 p) t.1.items) }

@@ -1,6 +1,7 @@
 //! `run_pieces` with one, two and four workers: over many pieces that do nothing, and over few that
 //! compute.
 ghost use Rattle.std.specs.Prelude.{◌≤◌};
+ghost use Rattle.piece_pool.specs.Limits.{most_workers};
 
 use piece_pool::{Job, JobFault, OpenGate, Outcome, PoolFault, run_pieces};
 use std::alloc::Global;
@@ -69,7 +70,7 @@ fn time_job<R: Clock + Print + Threads + Wait>(
     pieces: u64,
     job: &Steps,
 ) -> io::Result<()>
-    requires workers { (1 ≤ workers) × (workers ≤ 64) }
+    requires workers { (1 ≤ workers) × (workers ≤ most_workers) }
     requires pieces { pieces ≤ 100000 }
 {
     let start = Instant::now(rt)?;

@@ -1,2 +1,2 @@
-pub mod Beginning
-pub mod Rejected
+pub mod QueryPrefix
+pub mod Accepted

@@ -2,8 +2,8 @@
 
 ghost use Rattle.std.specs.Prelude.{◌≡◌, IfOk, IfNone, IfSome};
 ghost use Rattle.std.specs.Str.{chars};
-ghost use Rattle.sparql_read.specs.Refusal.{IsRefusal};
-ghost use Rattle.query_diagnosis.specs.Rejected.{IsReadText};
+ghost use Rattle.sparql_read.specs.Rejection.{IsRejectedBy};
+ghost use Rattle.query_diagnosis.specs.Accepted.{IsAcceptedText};
 
 use crate::expected::push_expected;
 use crate::hint::Hint;
@@ -318,8 +318,8 @@ fn explain(alloc: Global, text: &str, fault: QueryFault) -> Result<Diagnosis, Al
 
 /// Returns the rule that rejects a text, or None if no rule does.
 fn fault_of(alloc: Global, text: &str) -> Result<Option<QueryFault>, AllocError>
-    ensures read { IfOk result (λ found. IfNone found (IsReadText (chars text.now))) }
-    ensures rejected { IfOk result (λ found. IfSome found (IsRefusal (chars text.now))) }
+    ensures read { IfOk result (λ found. IfNone found (IsAcceptedText (chars text.now))) }
+    ensures rejected { IfOk result (λ found. IfSome found (IsRejectedBy (chars text.now))) }
 {
     match read_query(alloc, text) {
         Ok(_) => Ok(None),
@@ -339,9 +339,9 @@ fn fault_of(alloc: Global, text: &str) -> Result<Option<QueryFault>, AllocError>
 /// # Errors
 /// `AllocError` if an allocation fails.
 pub fn diagnose(alloc: Global, text: &str) -> Result<Option<Diagnosis>, AllocError>
-    ensures read { IfOk result (λ found. IfNone found (IsReadText (chars text.now))) }
+    ensures read { IfOk result (λ found. IfNone found (IsAcceptedText (chars text.now))) }
     ensures rejected { IfOk result
-        (λ found. IfSome found (λ d. IsRefusal (chars text.now) d.fault)) }
+        (λ found. IfSome found (λ d. IsRejectedBy (chars text.now) d.fault)) }
 {
     let Some(fault) = fault_of(alloc, text)? else {
         return Ok(None);

@@ -4,7 +4,7 @@
 //! sparql_read reads, and otherwise a [`Diagnosis`] with the same fault. The place of a syntax
 //! error is that of the first terminal after which no query continues. Two facts define it:
 //!
-//! - Some query begins with the terminals before the place (`IsBeginning` of specs/Beginning.antt).
+//! - Some query begins with the terminals before the place (`IsQueryPrefix` of specs/QueryPrefix.antt).
 //!   This is proved.
 //! - No query begins with these terminals and the one at the place. This is not proved; the tests
 //!   run every query that is read through the same machine.
@@ -15,7 +15,7 @@
 //! Standard: SPARQL 1.1 Query Language, section 19.8 (grammar), and sections 4.1.1, 5.1.1 and 10.1
 //! for the rules on prefixes, blank node labels and BIND.
 //!
-//! Reading order: specs/Beginning.antt; `symbol`, `steps`, `expressions` (the grammar as a
+//! Reading order: specs/QueryPrefix.antt; `symbol`, `steps`, `expressions` (the grammar as a
 //! machine), `machine`, `completion`; `expected` (the terminals that may come, as text); `places`,
 //! `rules`; `hint`, `diagnosis`, `reports`.
 //!

@@ -2,12 +2,12 @@
 
 ghost use Rattle.std.specs.Prelude.{◌≡◌, ◌≤◌, length, take, true, IfOk, IfSome};
 ghost use Rattle.sparql_lexer.specs.Terminal.{terminals};
-ghost use Rattle.query_diagnosis.specs.Beginning.{IsBeginning, IsSomeQuery};
+ghost use Rattle.query_diagnosis.specs.QueryPrefix.{IsQueryPrefix, IsSomeQuery};
 
 use crate::completion::completion;
 use crate::steps::{is_string, step};
 use crate::symbol::{Step, Symbol};
-use sparql_expression::ReadFault;
+use sparql_expression::ParseFault;
 use sparql_lexer::{Kind, Sign, Token, iri_value, string_value};
 use sparql_parse::parse;
 use sparql_read::declarations_of;
@@ -192,8 +192,8 @@ fn is_query(alloc: Global, tokens: &[Token<'_>]) -> Result<bool, AllocError>
     let names = declarations_of(alloc, tokens)?;
     match parse(alloc, &names, tokens) {
         Ok(_) => Ok(true),
-        Err(ReadFault::Syntax) => Ok(false),
-        Err(ReadFault::Memory) => Err(AllocError),
+        Err(ParseFault::Syntax) => Ok(false),
+        Err(ParseFault::Memory) => Err(AllocError),
     }
 }
 
@@ -203,7 +203,7 @@ fn is_beginning<'a>(
     front: &[Token<'a>],
     end: &[Token<'a>],
 ) -> Result<bool, AllocError>
-    ensures beginning { IfOk result (λ found. found ≡ true → IsBeginning (terminals front.now)) }
+    ensures beginning { IfOk result (λ found. found ≡ true → IsQueryPrefix (terminals front.now)) }
 {
     let mut tokens = Vec::from_slice(alloc, front)?;
     tokens.extend_from_slice(end)?;
@@ -222,7 +222,7 @@ fn is_beginning<'a>(
 pub fn stop_of(alloc: Global, tokens: &[Token<'_>]) -> Result<Option<Stop>, AllocError>
     ensures place { IfOk result (λ stop. IfSome stop (λ s. s.at ≤ length tokens.now)) }
     ensures beginning { IfOk result (λ stop.
-        IfSome stop (λ s. IsBeginning (terminals (take s.at tokens.now)))) }
+        IfSome stop (λ s. IsQueryPrefix (terminals (take s.at tokens.now)))) }
 {
     let mut machine = Machine::new(alloc)?;
     let mut cause = Cause::Kind;

@@ -6,7 +6,7 @@ use Rattle.sparql_tree.specs.GroupTree.{GroupTree, ElementTree, none, then, trip
 use Rattle.sparql_tree.specs.QueryTree.{QueryTree}
 use Rattle.sparql_grammar.specs.Class.{Picked}
 use Rattle.sparql_grammar.specs.Form.{Form, give, behind, take, part, last, choice, when}
-use Rattle.sparql_grammar.specs.Matches.{Matches, gives, counts, takes, parts, lasts, firsts, seconds, whens}
+use Rattle.sparql_grammar.specs.Derivation.{Derivation, gives, counts, takes, parts, lasts, firsts, seconds, whens}
 use Rattle.sparql_grammar.specs.Productions.{right_side}
 use Rattle.sparql_grammar.specs.Symbol as the
 use Rattle.sparql_grammar.specs.Symbol.{Symbol, Value}
@@ -86,7 +86,7 @@ Fine P (choice l r) = Fine P l × Fine P r
 Fine P (when b f) = Fine P f
 
 sound : {names : Names} {s : Symbol} {form : Form (Value s)} {ts rest : List Terminal} {v : Value s}
-    → Matches names s form ts v rest → ((u : Symbol) → Carried u → Fine (Given u) (right_side u)) → Fine (Given s) form → Given s v
+    → Derivation names s form ts v rest → ((u : Symbol) → Carried u → Fine (Given u) (right_side u)) → Fine (Given s) form → Given s v
 sound gives R h = h
 sound (counts {ts = ts}) R h = h (length ts)
 sound (takes p k d) R h = sound d R (h p)

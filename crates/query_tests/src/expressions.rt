@@ -2,7 +2,7 @@
 use crate::cases::{Case, Reader, all_hold};
 use crate::declarations::declare;
 use rdf_core::{Term, write_term};
-use sparql_expression::{ReadFault, read_disjunction, read_term};
+use sparql_expression::{ParseFault, read_disjunction, read_term};
 use sparql_grammar::Declarations;
 use sparql_lexer::{Token, characters_of, scan_text};
 use std::alloc::{AllocError, AllocGlobal, Global};
@@ -20,8 +20,8 @@ fn tree(alloc: Global, tokens: &[Token<'_>]) -> Result<String, AllocError> {
     let names = declarations(alloc)?;
     match read_disjunction(alloc, &names, tokens) {
         Ok((found, rest)) => format!(in alloc; "{found:?} {}", rest.len()),
-        Err(ReadFault::Syntax) => String::from_str(alloc, "syntax"),
-        Err(ReadFault::Memory) => Err(AllocError),
+        Err(ParseFault::Syntax) => String::from_str(alloc, "syntax"),
+        Err(ParseFault::Memory) => Err(AllocError),
     }
 }
 
@@ -47,8 +47,8 @@ fn front_term(alloc: Global, tokens: &[Token<'_>]) -> Result<String, AllocError>
     let names = declarations(alloc)?;
     match read_term(alloc, &names, tokens) {
         Ok((found, _)) => serialized(alloc, &found),
-        Err(ReadFault::Syntax) => String::from_str(alloc, "syntax"),
-        Err(ReadFault::Memory) => Err(AllocError),
+        Err(ParseFault::Syntax) => String::from_str(alloc, "syntax"),
+        Err(ParseFault::Memory) => Err(AllocError),
     }
 }
 

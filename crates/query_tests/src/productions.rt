@@ -1,13 +1,13 @@
 //! Texts and their queries, by example.
 use crate::cases::{Case, Reader, all_hold, holds, numbered};
-use sparql_expression::ReadFault;
+use sparql_expression::ParseFault;
 use sparql_grammar::Declarations;
 use sparql_lexer::{characters_of, scan_text};
 use sparql_parse::{Select, parse};
 use std::alloc::{AllocError, AllocGlobal, Global};
 
 /// Parses the text, without the declarations of its prologue.
-pub(crate) fn parsed(alloc: Global, text: &str) -> Result<Select, ReadFault> {
+pub(crate) fn parsed(alloc: Global, text: &str) -> Result<Select, ParseFault> {
     let characters = characters_of(alloc, text)?;
     let scan = scan_text(alloc, &characters)?;
     let names = Declarations::new(alloc);
@@ -18,8 +18,8 @@ pub(crate) fn parsed(alloc: Global, text: &str) -> Result<Select, ReadFault> {
 pub(crate) fn select(alloc: Global, text: &str) -> Result<String, AllocError> {
     match parsed(alloc, text) {
         Ok(query) => format!(in alloc; "{query:?}"),
-        Err(ReadFault::Syntax) => String::from_str(alloc, "Syntax"),
-        Err(ReadFault::Memory) => Err(AllocError),
+        Err(ParseFault::Syntax) => String::from_str(alloc, "Syntax"),
+        Err(ParseFault::Memory) => Err(AllocError),
     }
 }
 
@@ -27,8 +27,8 @@ pub(crate) fn select(alloc: Global, text: &str) -> Result<String, AllocError> {
 pub(crate) fn is_read(alloc: Global, text: &str) -> Result<String, AllocError> {
     match parsed(alloc, text) {
         Ok(_query) => String::from_str(alloc, "read"),
-        Err(ReadFault::Syntax) => String::from_str(alloc, "Syntax"),
-        Err(ReadFault::Memory) => Err(AllocError),
+        Err(ParseFault::Syntax) => String::from_str(alloc, "Syntax"),
+        Err(ParseFault::Memory) => Err(AllocError),
     }
 }
 

@@ -2,7 +2,7 @@
 use crate::cases::{Case, Reader, Repeated, all_hold, are_repeated_as, holds, numbered};
 use crate::declarations::iri_of;
 use crate::productions::parsed;
-use sparql_expression::ReadFault;
+use sparql_expression::ParseFault;
 use sparql_lexer::{characters_of, scan_text};
 use sparql_read::{
     breaks_bind_scope, declarations_of, has_relative_iri, has_undefined_prefix, is_too_deep,
@@ -234,8 +234,8 @@ fn group_scope(alloc: Global, group: &[Element]) -> Result<String, AllocError> {
 pub(crate) fn scope(alloc: Global, text: &str) -> Result<String, AllocError> {
     match parsed(alloc, text) {
         Ok(query) => group_scope(alloc, &query.group),
-        Err(ReadFault::Syntax) => String::from_str(alloc, "Syntax"),
-        Err(ReadFault::Memory) => Err(AllocError),
+        Err(ParseFault::Syntax) => String::from_str(alloc, "Syntax"),
+        Err(ParseFault::Memory) => Err(AllocError),
     }
 }
 

@@ -4,9 +4,9 @@ ghost use Rattle.std.specs.List.{list_any};
 ghost use Rattle.std.specs.Str.{chars};
 ghost use Rattle.quad_index.specs.Matching.{agrees};
 ghost use Rattle.dataset_load.specs.Store.{names_in};
-ghost use Rattle.query_warnings.specs.Asked.{ComparesIn, date, date_time, double, float, is_literal_of};
+ghost use Rattle.query_warnings.specs.QueryFeatures.{ComparesIn, date, date_time, double, float, is_literal_of};
 
-use crate::asked::compares;
+use crate::query_features::compares;
 use dataset_load::Store;
 use dict_core::Dict;
 use rdf_core::Term;

@@ -4,20 +4,20 @@
 //! the query's text. Each function only borrows, and changes no result.
 //!
 //! - Comparisons with literals of some datatypes ([`Datatype`]) are errors here, so FILTER drops their rows.
-//!   [`facts_of`] names a datatype exactly if the query compares (`is_comparing` of specs/Asked.antt) and some
+//!   [`facts_of`] names a datatype exactly if the query compares (`is_comparing` of specs/QueryFeatures.antt) and some
 //!   term of the dictionary is a literal of it (`is_literal_of`).
 //! - A selected variable may occur nowhere in the pattern ([`unused`]).
 //! - All quads may be in named graphs ([`Facts`]), and the query without GRAPH ([`has_graph`]).
 //!
 //! Standard: SPARQL 1.1 Query Language, sections 17.3 (comparisons), 13 (the default graph).
 //!
-//! To read in this order: specs/Asked.antt, `asked` (the query), `facts` (the dataset).
+//! To read in this order: specs/QueryFeatures.antt, `query_features` (the query), `facts` (the dataset).
 //!
 //! Not promised: that a row was dropped.
 #![tactic(auto)]
 
-mod asked;
 mod facts;
+mod query_features;
 
-pub use asked::{compares, has_graph, unused};
 pub use facts::{Datatype, Facts, facts_of, text_compares};
+pub use query_features::{compares, has_graph, unused};

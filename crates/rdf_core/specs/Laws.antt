@@ -5,8 +5,8 @@ use Rattle.rdf_core.specs.Equality.{derived_cmp, term_eq}
 use Rattle.rdf_core.specs.Order.{term_cmp}
 
 -- `==` returns true for two terms if and only if they are the same
-abbrev pub EqualityIsIdentity : Type 0
-EqualityIsIdentity = (a b : Term) → (term_eq a b ≡ true) ↔ (a ≡ b)
+abbrev pub TermEqualityIsIdentity : Type 0
+TermEqualityIsIdentity = (a b : Term) → (term_eq a b ≡ true) ↔ (a ≡ b)
 
 -- `cmp` is `term_cmp` of Order
 abbrev pub OrderIsByParts : Type 0

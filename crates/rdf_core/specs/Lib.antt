@@ -4,7 +4,7 @@ pub mod Equality
 pub mod Laws
 pub mod QuadFacts
 pub mod QuadParts
-pub mod Spelling
+pub mod Serialization
 pub mod Characters
 pub mod Escapes
 pub mod Lexical

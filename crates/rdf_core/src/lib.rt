@@ -12,7 +12,7 @@
 //! Standards: RDF 1.1 Concepts and Abstract Syntax, sections 3 to 5; RDF 1.1 N-Quads, section 4;
 //! SPARQL 1.1 Query Language, section 19.8, for the shared lexical forms.
 //!
-//! Reading order: `vocabulary` (IRIs of the standards), `text`, `term`, `quad`, `spelling` (the
+//! Reading order: `vocabulary` (IRIs of the standards), `text`, `term`, `quad`, `serialization` (the
 //! N-Quads form of a term), `laws`, `lexical` (the lexical forms that N-Quads and SPARQL share).
 //!
 //! Tests: `terms` and `lexical` of the crate line_tests.
@@ -24,12 +24,12 @@
 pub mod laws;
 pub mod lexical;
 mod quad;
-mod spelling;
+mod serialization;
 mod term;
 mod text;
 pub mod vocabulary;
 
 pub use quad::{Quad, is_iri, is_node};
-pub use spelling::write_term;
+pub use serialization::write_term;
 pub use term::Term;
 pub use text::Text;

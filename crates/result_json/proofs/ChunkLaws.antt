@@ -4,7 +4,7 @@ use Rattle.std.proofs.lemmas.List.{map-append, take-map, take_at, drop_at, lengt
 use Rattle.std.proofs.lemmas.Option.{slice_get-get_or, slice_get_past}
 use Rattle.rdf_core.specs.declared.term.Term.{Term}
 use Rattle.rdf_core.specs.declared.term.Term.TheVariants.{Blank}
-use Rattle.algebra_model.specs.Reading.{Each, EachBound, read_row}
+use Rattle.algebra_model.specs.Renaming.{Each, EachBound, read_row}
 use Rattle.algebra_model.specs.RowOrder.{cells}
 use Rattle.algebra_model.specs.Solution.{Solution}
 use Rattle.algebra_model.proofs.ReadingLaws.{bound_at}

@@ -12,7 +12,7 @@ use Rattle.std.proofs.lemmas.Option.{slice_get-get_or, get_or_from_slice_get, sl
 use Rattle.rdf_core.specs.declared.term.Term.{Term}
 use Rattle.rdf_core.specs.declared.term.Term.TheVariants.{Blank}
 use Rattle.rdf_core.specs.Order.{term_cmp}
-use Rattle.algebra_model.specs.Reading.{Each}
+use Rattle.algebra_model.specs.Renaming.{Each}
 use Rattle.algebra_model.specs.RowOrder.{cells_cmp}
 use Rattle.algebra_model.specs.Sorted.{sorted_list}
 use Rattle.algebra_model.proofs.RangeLaws.{Each-IsSameBag}

@@ -9,8 +9,8 @@ use Rattle.std.proofs.lemmas.Option.{slice_get-get_or, get_or_from_slice_get, sl
 use Rattle.rdf_core.specs.declared.term.Term.{Term}
 use Rattle.rdf_core.specs.declared.term.Term.TheVariants.{Blank}
 use Rattle.rdf_core.specs.Order.{term_cmp}
-use Rattle.algebra_model.specs.Reading.{Each}
-use Rattle.dict_core.specs.Dict.{IsWithoutRepeats}
+use Rattle.algebra_model.specs.Renaming.{Each}
+use Rattle.dict_core.specs.Dict.{AreDistinct}
 use Rattle.result_json.proofs.SliceLaws.{Each-from_all}
 use Rattle.result_json.specs.Ranks.{ranked_cell, Entry, terms_of, numbers_of, HasRank, IsCovered, IsEntry, IsMarked, IsRank, IsRankTable}
 
@@ -62,7 +62,7 @@ module _ (C : Term → Term → Ordering) (is : (x y : Term) → C x y ≡ term_
 
 -- ---- the meaning of the ranks
 
-same_number : (dict : List Term) → IsWithoutRepeats dict → (a b : ℕ) (t : Term) → slice_get dict a ≡ Some t → slice_get dict b ≡ Some t → a ≡ b
+same_number : (dict : List Term) → AreDistinct dict → (a b : ℕ) (t : Term) → slice_get dict a ≡ Some t → slice_get dict b ≡ Some t → a ≡ b
 same_number dict once a b t e f =
     let la : a < length dict = slice_get_within dict a t e in
     let lb : b < length dict = slice_get_within dict b t f in
@@ -71,7 +71,7 @@ same_number dict once a b t e f =
     let q : b < a → ⊥ = λ l. once b a (Blank []) l la (sym same) in
     omega arith
 
-module _ (dict : List Term) (once : IsWithoutRepeats dict) (entries : List Entry) (is : All (IsEntry dict) entries) (table : List ℕ) (wide : length table ≡ length dict) (ranks : IsRankTable (numbers_of entries) table) where
+module _ (dict : List Term) (once : AreDistinct dict) (entries : List Entry) (is : All (IsEntry dict) entries) (table : List ℕ) (wide : length table ≡ length dict) (ranks : IsRankTable (numbers_of entries) table) where
   counts : length (numbers_of entries) ≡ length entries
   counts = length-map entries (λ e. e.1)
 

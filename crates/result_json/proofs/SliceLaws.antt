@@ -4,7 +4,7 @@ use Rattle.std.proofs.lemmas.List.{map-append, take-map, take_all, drop_all}
 use Rattle.std.proofs.lemmas.List.Concat.{flat_map-append}
 use Rattle.std.proofs.lemmas.List.Elements.{All-head, All-tail}
 use Rattle.row_core.proofs.TurnLaws.{take_more_get}
-use Rattle.algebra_model.specs.Reading.{Each}
+use Rattle.algebra_model.specs.Renaming.{Each}
 use Rattle.algebra_model.specs.Sorted.{slice}
 
 pub drop-map : {X Y : Type 0} (f : X → Y) (n : ℕ) (xs : List X) → drop n (map f xs) ≡ map f (drop n xs)

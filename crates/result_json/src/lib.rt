@@ -22,7 +22,7 @@
 //!
 //! Reading order: `printing`, `coding` (cells as numbers), `ranking` (numbers as ranks),
 //! `pair_order` (rows of two ranks), `ranked_row` and `row_order`, `values` (texts as JSON strings,
-//! and terms as objects), `term_texts`, `columns`, `ahead` (texts of several rows at once),
+//! and terms as objects), `term_texts`, `columns`, `prefetch` (texts of several rows at once),
 //! `row_texts`, `row_blocks` (rows in parallel), `results`. Tests: `json` of the crate row_tests.
 //!
 //! Example: one variable `o` and the rows `"x"` and `<http://e/a>` give
@@ -32,10 +32,10 @@
 //! Not guaranteed: that memory suffices, and speed.
 #![tactic(auto)]
 
-mod ahead;
 mod coding;
 mod columns;
 mod pair_order;
+mod prefetch;
 mod printing;
 mod ranked_row;
 mod ranking;

@@ -1,11 +1,11 @@
 //! Rows of numbers as JSON.
 ghost use Rattle.std.specs.Prelude.{◌≡◌, ◌<◌, length, map, IfErr, IfOk};
-ghost use Rattle.algebra_model.specs.Reading.{Each, EachBound, read_row};
+ghost use Rattle.algebra_model.specs.Renaming.{Each, EachBound, read_row};
 ghost use Rattle.algebra_model.specs.RowOrder.{sorted_rows};
 ghost use Rattle.algebra_model.specs.Sorted.{slice};
 ghost use Rattle.dict_core.specs.Dict.{term_at};
 ghost use Rattle.row_pieces.specs.How.{HasOneWorker, IsRunnable};
-ghost use Rattle.row_pieces.specs.declared.how.EvalFault.TheVariants.{Memory};
+ghost use Rattle.row_pieces.specs.declared.fault.EvalFault.TheVariants.{Memory};
 ghost use Rattle.result_json.specs.Results.{joined_blocks, json, listed_names};
 
 use crate::coding::listed_codes;

@@ -1,7 +1,7 @@
 //! Terms by rank: the distinct terms of a result are sorted, and rows are then compared by numbers.
 ghost use Rattle.std.specs.Prelude.{◌≡◌, ◌<◌, true, get_or, length, map, slice_get, slice_set, All, IfOk, IsSorted};
 ghost use Rattle.rdf_core.specs.Order.{term_cmp};
-ghost use Rattle.algebra_model.specs.Reading.{Each};
+ghost use Rattle.algebra_model.specs.Renaming.{Each};
 ghost use Rattle.result_json.specs.Ranks.{ranked_cell, terms_of, numbers_of, IsCovered, IsEntry, IsMarked, IsRank, IsRankTable};
 
 use dict_core::Dict;

@@ -2,7 +2,7 @@
 //! concatenated: the head, the rows piece by piece, and the tail.
 ghost use Rattle.std.specs.Prelude.{◌≡◌, ◌++◌, codes, length, map, IfErr, IfOk, OnOk};
 ghost use Rattle.row_pieces.specs.How.{HasOneWorker, IsRunnable};
-ghost use Rattle.row_pieces.specs.declared.how.EvalFault.TheVariants.{Memory};
+ghost use Rattle.row_pieces.specs.declared.fault.EvalFault.TheVariants.{Memory};
 ghost use Rattle.result_json.specs.RankedRows.{ranks_of};
 ghost use Rattle.result_json.specs.Ranks.{ranked_row};
 ghost use Rattle.result_json.specs.Results.{joined_blocks, json, listed_names, separated, string_text};

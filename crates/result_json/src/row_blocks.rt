@@ -4,7 +4,7 @@
 ghost use Rattle.std.specs.Prelude.{◌≡◌, IfErr, IfOk};
 ghost use Rattle.row_pieces.specs.How.{HasOneWorker, IsRunnable};
 ghost use Rattle.row_pieces.specs.Pieces.{piece_of};
-ghost use Rattle.row_pieces.specs.declared.how.EvalFault.TheVariants.{Memory};
+ghost use Rattle.row_pieces.specs.declared.fault.EvalFault.TheVariants.{Memory};
 ghost use Rattle.result_json.specs.Results.{joined_blocks, separated};
 ghost use Rattle.result_json.specs.Texts.{comma_texts, row_texts};
 
@@ -19,14 +19,14 @@ use std::thread::Threads;
 
 /// The rows of a result in pieces of `size` rows.
 #[derive(Drop)]
-struct RowPieces<'a, 't> {
+struct RowBlocks<'a, 't> {
     columns: &'a [(Vec<u8>, usize)],
     texts: &'a TermTexts<'t>,
     rows: &'a [RankedRow<'t>],
     size: usize,
 }
 
-impl<'a, 't> Job for RowPieces<'a, 't> {
+impl<'a, 't> Job for RowBlocks<'a, 't> {
     ghost use Rattle.std.specs.Prelude.{◌≡◌};
     ghost use Rattle.result_json.specs.Texts.{piece_text};
 
@@ -124,7 +124,7 @@ pub(crate) fn row_blocks<R: Threads + Wait, G: Gate + Sync>(
 {
     let size = piece_size(rows.len(), how.rows);
     let pieces = rows.len().div_ceil(size) as u64;
-    let job = RowPieces {
+    let job = RowBlocks {
         columns,
         texts,
         rows,

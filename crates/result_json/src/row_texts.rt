@@ -7,7 +7,7 @@ ghost use Rattle.std.specs.Prelude.{◌≡◌, ◌++◌, ◌||◌, drop, is_some
 ghost use Rattle.result_json.specs.Ranks.{ranked_cell};
 ghost use Rattle.result_json.specs.Texts.{all_texts, begun_column, begun_member, begun_row, comma_texts, places_of, row_texts, IsAhead, IsRowAhead};
 
-use crate::ahead::{looked_up, text_at};
+use crate::prefetch::{looked_up, text_at};
 use crate::ranked_row::RankedRow;
 use crate::term_texts::TermTexts;
 use std::alloc::{AllocError, Global};

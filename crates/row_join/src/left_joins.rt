@@ -6,7 +6,7 @@ ghost use Rattle.algebra_model.specs.Solve.{alone};
 ghost use Rattle.row_join.specs.Numbers.{passes, all_pass};
 ghost use Rattle.row_join.specs.Places.{rows_at};
 ghost use Rattle.row_pieces.specs.How.{IsRunnable, HasOneWorker};
-ghost use Rattle.row_pieces.specs.declared.how.EvalFault.TheVariants.{Memory};
+ghost use Rattle.row_pieces.specs.declared.fault.EvalFault.TheVariants.{Memory};
 
 use crate::left_rows::{Buffers, Pairing, pair_rows};
 use crate::right_side::RightSide;

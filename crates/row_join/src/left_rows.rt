@@ -4,7 +4,7 @@ ghost use Rattle.algebra_model.specs.Bag.{IsSameBag};
 ghost use Rattle.algebra_model.specs.Solution.{Solution};
 ghost use Rattle.row_join.specs.Numbers.{passes, all_pass};
 ghost use Rattle.row_pieces.specs.How.{IsRunnable, HasOneWorker};
-ghost use Rattle.row_pieces.specs.declared.how.EvalFault.TheVariants.{Memory};
+ghost use Rattle.row_pieces.specs.declared.fault.EvalFault.TheVariants.{Memory};
 
 use crate::right_side::RightSide;
 use piece_pool::Gate;

@@ -22,7 +22,7 @@
 //!
 //! Reading order: `keyed` (over `groups`, the hash table), `key_choice` (the variables of the key),
 //! `right_side` (the keyed rows, and the candidates for a left row), `left_rows` (the loop over the
-//! left rows, in pieces), `joins`, `left_joins`, `differences`.
+//! left rows, in pieces), `joins`, `left_joins`, `minus_operator`.
 //!
 //! ```text
 //! join((?s: 1), (?s: 2) ; (?s: 1, ?o: 7), (?o: 9))
@@ -33,16 +33,16 @@
 //! Not guaranteed: the order of the rows, which variables make the key, how much memory is taken.
 #![tactic(auto)]
 
-mod differences;
 mod groups;
 mod joins;
 mod key_choice;
 mod keyed;
 mod left_joins;
 mod left_rows;
+mod minus_operator;
 mod right_side;
 
-pub use differences::minus;
 pub use joins::join;
 pub use keyed::Keyed;
 pub use left_joins::{RowTest, left_join};
+pub use minus_operator::minus;

@@ -12,7 +12,7 @@ use Rattle.algebra_model.specs.Solution.{Solution}
 use Rattle.algebra_model.specs.Bgp.{Triple, TriplePattern, bgp}
 use Rattle.algebra_model.specs.Dataset as dataset
 use Rattle.algebra_model.specs.Laws.{IsReading, AreInRange, read}
-use Rattle.algebra_model.specs.Reading.{Each, EachBound, EachOfTriple, EachOfPattern, read_triple, read_pattern}
+use Rattle.algebra_model.specs.Renaming.{Each, EachBound, EachOfTriple, EachOfPattern, read_triple, read_pattern}
 use Rattle.algebra_model.specs.Solve as solve
 use Rattle.algebra_model.proofs.BgpReadingLaws.{bgp-bound}
 use Rattle.algebra_model.proofs.NumberLaws.{reading_tells}

@@ -10,7 +10,7 @@ use Rattle.quad_index.specs.Matching.{is_at, agrees}
 use Rattle.algebra_model.specs.Bag.{IsSameBag, IsWithoutRepeats}
 use Rattle.algebra_model.specs.Solution.{Solution, agree}
 use Rattle.algebra_model.specs.Bgp.{Triple, image, occurring, same_triple_by}
-use Rattle.algebra_model.specs.Reading.{Each, EachOfTriple}
+use Rattle.algebra_model.specs.Renaming.{Each, EachOfTriple}
 use Rattle.algebra_model.specs.Solve.{extend_by, agrees_with}
 use Rattle.algebra_model.proofs.TestLaws.{option_decides}
 use Rattle.algebra_model.proofs.PatternLaws.{extend_by-scan}

@@ -13,7 +13,7 @@ use Rattle.algebra_model.specs.Bag.{IsSameBag, IsWithoutRepeats}
 use Rattle.algebra_model.specs.Pieces.{joined}
 use Rattle.algebra_model.specs.Solution.{Solution, same_solution}
 use Rattle.algebra_model.specs.Bgp.{Triple, TriplePattern, image, bgp, occurring, same_triple_by}
-use Rattle.algebra_model.specs.Reading.{Each, EachBound}
+use Rattle.algebra_model.specs.Renaming.{Each, EachBound}
 use Rattle.algebra_model.specs.Solve.{bind_pattern_term, extend_by, solve, AreBelow}
 use Rattle.algebra_model.proofs.BagLaws.{IsPermutation-flat_map}
 use Rattle.algebra_model.proofs.BgpLaws.{solution_decides}

@@ -7,7 +7,7 @@ use Rattle.std.proofs.lemmas.Bool.Decides.{Decides-eqb}
 use Rattle.algebra_model.specs.Bag.{IsSameBag, IsWithoutRepeats}
 use Rattle.algebra_model.specs.Solution.{Solution}
 use Rattle.algebra_model.specs.Bgp.{Triple, PatternTerm, TriplePattern, variable, label, constant, image, is_at, occurs, is_in, every_map, terms, bgp, same_triple_by}
-use Rattle.algebra_model.specs.Reading.{Each}
+use Rattle.algebra_model.specs.Renaming.{Each}
 use Rattle.algebra_model.specs.Solve.{bind_pattern_term, then_bind, extend_by, solve, IsBelow, IsTripleBelow, AreBelow}
 use Rattle.algebra_model.proofs.BgpLaws.{solve-bgp}
 use Rattle.algebra_model.proofs.PatternLaws.{bgp-pattern_order}

@@ -10,7 +10,7 @@ use Rattle.algebra_model.specs.Solution.{Solution}
 use Rattle.algebra_model.specs.Bgp.{TriplePattern, bgp}
 use Rattle.algebra_model.specs.Dataset.{graph}
 use Rattle.algebra_model.specs.Laws.{IsReading, AreInRange, read}
-use Rattle.algebra_model.specs.Reading.{Each, EachOfPattern, read_pattern}
+use Rattle.algebra_model.specs.Renaming.{Each, EachOfPattern, read_pattern}
 use Rattle.algebra_model.specs.Solve as solve
 use Rattle.dict_core.specs.declared.num_quad.NumQuad.{NumQuad}
 use Rattle.dict_core.specs.Dict.{term_at}

@@ -2,11 +2,11 @@
 ghost use Rattle.std.specs.Prelude.{◌≡◌, ℕ, ◌+◌, ◌≤◌, ◌∷◌, [], nat_eq, map, replicate, None, IfErr, IfOk, Contains};
 ghost use Rattle.algebra_model.specs.Bag.{IsSameBag, IsWithoutRepeats};
 ghost use Rattle.algebra_model.specs.Bgp.{bgp, occurring};
-ghost use Rattle.algebra_model.specs.Reading.{Each, EachBound};
+ghost use Rattle.algebra_model.specs.Renaming.{Each, EachBound};
 ghost use Rattle.algebra_model.specs.Solve.{AreBelow};
 ghost use Rattle.dict_core.specs.Equality.{quad_eq};
 ghost use Rattle.row_pieces.specs.How.{IsRunnable, HasOneWorker};
-ghost use Rattle.row_pieces.specs.declared.how.EvalFault.TheVariants.{Memory};
+ghost use Rattle.row_pieces.specs.declared.fault.EvalFault.TheVariants.{Memory};
 ghost use Rattle.row_pattern.specs.Numbered.{pattern_of, triple_of, triples_of};
 ghost use Rattle.row_pattern.specs.Steps.{solutions_from, solutions_over};
 

@@ -1,2 +1,3 @@
 pub mod How
+pub mod Fault
 pub mod Pieces

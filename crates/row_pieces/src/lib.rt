@@ -15,10 +15,15 @@
 //! ```
 //!
 //! Not guaranteed: the order of the rows, and which worker runs which piece.
+//!
+//! [`How`] is how an evaluation is run: the number of workers, and how many rows a task has at most.
+//! [`EvalFault`] is why it has no result. The crate sparql_eval re-exports both.
 #![tactic(auto)]
 
+mod fault;
 mod how;
 mod pieces;
 
-pub use how::{EvalFault, How};
+pub use fault::EvalFault;
+pub use how::How;
 pub use pieces::{RowWork, over_pieces, piece_size};

@@ -1,13 +1,15 @@
 //! Operators over pieces of a list. Each element gives rows by itself, however the list is split.
 ghost use Rattle.std.specs.Int.{div_ceil};
 ghost use Rattle.std.specs.List.{flat_map};
-ghost use Rattle.std.specs.Prelude.{◌≡◌, ◌≤◌, ◌^◌, ℕ, List, length, IfOk, IfErr, All, take, drop, ◌-◌, ◌*◌};
+ghost use Rattle.std.specs.Prelude.{◌≡◌, ◌≤◌, ℕ, List, length, IfOk, IfErr, All, take, drop, ◌-◌};
+ghost use Rattle.piece_pool.specs.Limits.{most_pieces};
 ghost use Rattle.algebra_model.specs.Solution.{Solution};
 ghost use Rattle.row_pieces.specs.How.{IsRunnable, HasOneWorker};
 ghost use Rattle.row_pieces.specs.Pieces.{AreRowsOf, piece_of};
-ghost use Rattle.row_pieces.specs.declared.how.EvalFault.TheVariants.{Memory};
+ghost use Rattle.row_pieces.specs.declared.fault.EvalFault.TheVariants.{Memory};
 
-use crate::how::{EvalFault, How};
+use crate::fault::EvalFault;
+use crate::how::How;
 use piece_pool::{Gate, Job, JobFault, Outcome, run_all};
 use row_core::Rows;
 use std::alloc::{AllocError, Global};
@@ -112,8 +114,8 @@ pub fn over_pieces<R: Threads + Wait, W: RowWork + Sync, G: Gate + Sync>(
 pub fn piece_size(count: usize, rows: usize) -> usize
     requires { 1 ≤ rows }
     ensures some { 1 ≤ result }
-    ensures few { div_ceil count result ≤ 2 ^ 62 }
-    ensures asked { count ≤ 2 ^ 62 → result ≡ rows }
+    ensures few { div_ceil count result ≤ most_pieces }
+    ensures asked { count ≤ most_pieces → result ≡ rows }
     ensures least { rows ≤ result }
 {
     if count > 1 << 62 { rows.max(4) } else { rows }

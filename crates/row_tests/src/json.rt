@@ -1,8 +1,9 @@
 //! Worked examples of the results. The expected documents are written by hand from the format, with
 //! `'` for `"`.
 ghost use Rattle.std.specs.Prelude.{◌≡◌, ◌∷◌, ◌<◌, ◌≤◌, [], length, IfOk};
+ghost use Rattle.piece_pool.specs.Limits.{most_workers};
 ghost use Rattle.row_pieces.specs.How.{IsRunnable};
-ghost use Rattle.algebra_model.specs.Reading.{Each, EachBound};
+ghost use Rattle.algebra_model.specs.Renaming.{Each, EachBound};
 
 use crate::cells::{Pair, pairs};
 use dict_core::Dict;
@@ -164,7 +165,7 @@ fn printed<R: RandomSource + Threads + Wait>(
     workers: usize,
     rows: usize,
 ) -> Result<String, EvalFault>
-    requires how { (1 ≤ workers) × (workers ≤ 64) × (1 ≤ rows) }
+    requires how { (1 ≤ workers) × (workers ≤ most_workers) × (1 ≤ rows) }
 {
     let dict = dict_of(rt, alloc)?;
     let cells = pairs(alloc, selection.rows)?;

@@ -1,6 +1,7 @@
 //! The number of elements in a piece, the names of faults, and jobs of zero, one and more pieces.
 //! The tests of the operators run `over_pieces`.
-ghost use Rattle.std.specs.Prelude.{◌≤◌, ◌^◌};
+ghost use Rattle.std.specs.Prelude.{◌≤◌};
+ghost use Rattle.piece_pool.specs.Limits.{most_pieces, most_workers};
 
 use piece_pool::{Outcome, PoolFault, run_all};
 use row_pieces::{EvalFault, piece_size};
@@ -49,8 +50,8 @@ fn told<R: Threads + Wait>(
     n: u64,
     sound: u64,
 ) -> Result<String, AllocError>
-    requires workers { (1 ≤ workers) × (workers ≤ 64) }
-    requires pieces { n ≤ 2 ^ 62 }
+    requires workers { (1 ≤ workers) × (workers ≤ most_workers) }
+    requires pieces { n ≤ most_pieces }
 {
     let gate = Counter::new();
     let job = Numbers::sound_below(sound);

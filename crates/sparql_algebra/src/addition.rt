@@ -7,8 +7,8 @@ ghost use Rattle.sparql_algebra.specs.ExpressionOf.{expression_of};
 ghost use Rattle.sparql_algebra.specs.PartOf.{part_of};
 ghost use Rattle.sparql_algebra.specs.Translation.{behind, closed};
 
+use crate::constructors;
 use crate::expression::Expr;
-use crate::making;
 use crate::names::Names;
 use crate::operator::Operator;
 use crate::part::Part;
@@ -66,7 +66,7 @@ fn with_join<'a>(
         ≡ behind (part_of part.entry) (Join (closed names.now (part_of part.entry)) (algebra_of right.value))) }
 {
     let (left, filters) = part.close(alloc, names)?;
-    Ok(Part::behind(alloc, making::join(alloc, left, right)?, filters))
+    Ok(Part::behind(alloc, constructors::join(alloc, left, right)?, filters))
 }
 
 fn with_optional<'a>(
@@ -80,7 +80,7 @@ fn with_optional<'a>(
         (LeftJoin (closed names.now (part_of part.entry)) (algebra_of right.value) (expression_of condition.value))) }
 {
     let (left, filters) = part.close(alloc, names)?;
-    let made = making::left_join(alloc, left, right, condition)?;
+    let made = constructors::left_join(alloc, left, right, condition)?;
     Ok(Part::behind(alloc, made, filters))
 }
 
@@ -94,7 +94,7 @@ fn with_minus<'a>(
         ≡ behind (part_of part.entry) (Minus (closed names.now (part_of part.entry)) (algebra_of right.value))) }
 {
     let (left, filters) = part.close(alloc, names)?;
-    Ok(Part::behind(alloc, making::minus(alloc, left, right)?, filters))
+    Ok(Part::behind(alloc, constructors::minus(alloc, left, right)?, filters))
 }
 
 fn with_extend<'a>(
@@ -110,7 +110,7 @@ fn with_extend<'a>(
     let (inner, filters) = part.close(alloc, names)?;
     Ok(Part::behind(
         alloc,
-        making::extend(alloc, variable, value, inner)?,
+        constructors::extend(alloc, variable, value, inner)?,
         filters,
     ))
 }

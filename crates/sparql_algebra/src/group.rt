@@ -9,8 +9,8 @@ ghost use Rattle.sparql_algebra.specs.PartOf.{part_of};
 ghost use Rattle.sparql_algebra.specs.Translation.{Part as GroupPart, add_element, group_part, translate_graph_name, translate_group, translate_side};
 
 use crate::addition::{Addition, with_addition};
+use crate::constructors;
 use crate::conversion::convert_boxed;
-use crate::making;
 use crate::names::Names;
 use crate::operator::{self, Operator};
 use crate::part::Part;
@@ -120,7 +120,7 @@ fn convert_side(alloc: Global, names: &Names, side: &Element) -> Result<Box<Oper
         | Element::Graph(_, _)
         | Element::Filter(_)
         | Element::Bind(_, _)
-        | Element::Values(_, _) => making::empty_pattern(alloc),
+        | Element::Values(_, _) => constructors::empty_pattern(alloc),
     }
 }
 
@@ -136,7 +136,7 @@ fn convert_union(
         ≡ Union (algebra_of left.value) (translate_group names.now (group_of right.now))) }
 {
     let right = convert_group(alloc, names, right)?;
-    making::union(alloc, left, right)
+    constructors::union(alloc, left, right)
 }
 
 /// Translates `GRAPH name { group }` ([58] `GraphGraphPattern`).
@@ -152,7 +152,7 @@ fn convert_graph(
 {
     let name = convert_graph_name(alloc, names, name)?;
     let inner = convert_group(alloc, names, group)?;
-    making::graph(alloc, name, inner)
+    constructors::graph(alloc, name, inner)
 }
 
 fn convert_graph_name(

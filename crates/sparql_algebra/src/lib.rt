@@ -17,7 +17,7 @@
 //!
 //! Reading order: `operator`, `plan`, `expression` (the trees); `lookup`, `held`, `evaluation`
 //! (expressions over a row); `names`, `naming` (the variables of a query and their numbers);
-//! `conversion`, `pattern`, `table`, `making`, `part`, `addition`, `group`, `translation` (a query,
+//! `conversion`, `pattern`, `table`, `constructors`, `part`, `addition`, `group`, `translation` (a query,
 //! element by element). Comparisons and effective boolean values are in the crate term_values.
 //! Tests: the crate algebra_tests.
 //!
@@ -31,13 +31,13 @@
 #![tactic(auto)]
 
 mod addition;
+mod constructors;
 mod conversion;
 mod evaluation;
 mod expression;
 mod group;
 mod held;
 mod lookup;
-mod making;
 mod names;
 mod naming;
 mod operator;

@@ -6,8 +6,8 @@ ghost use Rattle.sparql_algebra.specs.ExpressionOf.{expression_of};
 ghost use Rattle.sparql_algebra.specs.PartOf.{part_of};
 ghost use Rattle.sparql_algebra.specs.Translation.{closed, condition_of, empty_pattern, finished, joined_filters};
 
+use crate::constructors;
 use crate::expression::Expr;
-use crate::making;
 use crate::names::Names;
 use crate::operator::Operator;
 use crate::pattern::basic_pattern;
@@ -32,7 +32,7 @@ impl<'a> Part<'a> {
             part_of part ≡ record { before = empty_pattern; triples = []; filters = None }) }
     {
         Ok(Part {
-            before: making::empty_pattern(alloc)?,
+            before: constructors::empty_pattern(alloc)?,
             triples: Vec::new(alloc),
             filters: None,
         })
@@ -98,7 +98,7 @@ impl<'a> Part<'a> {
             return Ok((before, filters));
         }
         let pattern = basic_pattern(alloc, names, &triples)?;
-        Ok((making::join(alloc, before, pattern)?, filters))
+        Ok((constructors::join(alloc, before, pattern)?, filters))
     }
 
     /// Translates the whole group: the filters are applied at its end.
@@ -108,7 +108,7 @@ impl<'a> Part<'a> {
     {
         let (inner, filters) = self.close(alloc, names)?;
         match filters {
-            Some(condition) => making::filter(alloc, condition, inner),
+            Some(condition) => constructors::filter(alloc, condition, inner),
             None => Ok(inner),
         }
     }

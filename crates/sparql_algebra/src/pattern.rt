@@ -5,7 +5,7 @@ ghost use Rattle.indexmap.specs.IndexSet.{insert_all};
 ghost use Rattle.sparql_algebra.specs.AlgebraOf.{algebra_of, pattern_term_of, triple_pattern_of};
 ghost use Rattle.sparql_algebra.specs.Translation.{blank_names, labels_of, translate_pattern, translate_place, translate_triple, triple_blanks};
 
-use crate::making::boxed;
+use crate::constructors::boxed;
 use crate::names::Names;
 use crate::operator::{self, Operator};
 use sparql_tree::{PatternTerm, Triple};

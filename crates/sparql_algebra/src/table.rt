@@ -4,7 +4,7 @@ ghost use Rattle.algebra_model.specs.Algebra.{Table};
 ghost use Rattle.sparql_algebra.specs.AlgebraOf.{algebra_of};
 ghost use Rattle.sparql_algebra.specs.Names.{number_of};
 
-use crate::making::boxed;
+use crate::constructors::boxed;
 use crate::names::Names;
 use crate::operator::Operator;
 use rdf_core::{Term, Text};

@@ -7,8 +7,8 @@ ghost use Rattle.sparql_algebra.specs.AlgebraOf.{algebra_of};
 ghost use Rattle.sparql_algebra.specs.Names.{is_name_among, names_of, number_of};
 ghost use Rattle.sparql_algebra.specs.Translation.{distinct_where, projection, translate, translate_group};
 
+use crate::constructors;
 use crate::group::convert_group;
-use crate::making;
 use crate::names::Names;
 use crate::naming::{note_list, query_names, scope};
 use crate::operator::Operator;
@@ -44,9 +44,9 @@ fn convert_query(alloc: Global, names: &Names, query: &Query) -> Result<Box<Oper
 {
     let variables = projected_numbers(alloc, names, query)?;
     let inner = convert_group(alloc, names, &query.group)?;
-    let projected = making::project(alloc, variables, inner)?;
+    let projected = constructors::project(alloc, variables, inner)?;
     if query.distinct {
-        making::distinct(alloc, projected)
+        constructors::distinct(alloc, projected)
     } else {
         Ok(projected)
     }

@@ -10,7 +10,7 @@ use Rattle.algebra_model.specs.Dataset.{names}
 use Rattle.algebra_model.specs.Eval.{eval}
 use Rattle.algebra_model.specs.Expression.{Expression, val}
 use Rattle.algebra_model.specs.Solution.{Solution}
-use Rattle.dict_core.specs.Dict.{IsGrown, IsWithoutRepeats, term_at}
+use Rattle.dict_core.specs.Dict.{IsGrown, AreDistinct, term_at}
 use Rattle.dict_core.specs.NumQuad.{AreBelow, quads_at}
 use Rattle.dict_core.specs.declared.num_quad.NumQuad.{NumQuad}
 use Rattle.quad_index.specs.Matching.{graph_names}
@@ -85,7 +85,7 @@ module _ (terms : List Term) (index : List NumQuad) (w : ℕ) (A : Algebra) wher
   WantedIn i t = InSomeGraph (quads_at terms index) i (λ h. IsComputed w (quads_at terms index) h A t)
 
   -- in one of the named graphs, after the graphs before it
-  module _ (once : IsWithoutRepeats terms) (below : AreBelow (length terms) index) (graphs : List ℕ) (are : IsPermutation (without_repeats nat_eq (graph_names index)) graphs) where
+  module _ (once : AreDistinct terms) (below : AreBelow (length terms) index) (graphs : List ℕ) (are : IsPermutation (without_repeats nat_eq (graph_names index)) graphs) where
     wanted_in_each : (v k n : ℕ) → slice_get graphs k ≡ Some n → (t : Term) → Wanted terms index w (Some n) A t → WantedIn (each_graph v) t
     wanted_in_each v k n at t m =
         let named = map (term_at terms) graphs in

@@ -12,10 +12,10 @@ use Rattle.algebra_model.proofs.RepeatLaws.{any-map, any-without_repeats_is}
 use Rattle.std.proofs.lemmas.List.{map-append}
 use Rattle.rdf_core.specs.declared.term.Term.{Term}
 use Rattle.rdf_core.proofs.TermLaws.{term_eq}
-use Rattle.algebra_model.specs.Reading.{Each}
+use Rattle.algebra_model.specs.Renaming.{Each}
 use Rattle.algebra_model.proofs.OperatorReadingLaws.{distinct-read}
 use Rattle.algebra_model.proofs.RangeLaws.{Each-without_repeats}
-use Rattle.dict_core.specs.Dict.{IsWithoutRepeats, term_at}
+use Rattle.dict_core.specs.Dict.{AreDistinct, term_at}
 use Rattle.row_core.specs.RowList.{RowList}
 use Rattle.row_core.proofs.TurnLaws.{take_more_get}
 use Rattle.sparql_eval.specs.Evaluated.{AreKnown, IsEvaluated}
@@ -76,7 +76,7 @@ chosen x y b e = ap (λ c. cond c x y) (sym e)
 pub other : {X : Type 0} (x y : X) (b : Bool) → b ≡ false → y ≡ cond b x y
 other x y b e = ap (λ c. cond c x y) (sym e)
 
-pub distinct_evaluated : (terms : List Term) → IsWithoutRepeats terms → (rows made : RowList) → AreKnown terms rows → made.width ≡ rows.width → made.rows ≡ distinct nat_eq rows.rows → IsEvaluated terms rows.width (distinct term_eq (map (read_by terms) rows.rows)) made terms
+pub distinct_evaluated : (terms : List Term) → AreDistinct terms → (rows made : RowList) → AreKnown terms rows → made.width ≡ rows.width → made.rows ≡ distinct nat_eq rows.rows → IsEvaluated terms rows.width (distinct term_eq (map (read_by terms) rows.rows)) made terms
 distinct_evaluated terms once rows made known wide e =
     evaluated terms rows.width (distinct term_eq (map (read_by terms) rows.rows)) made wide
     (subst (Each (Known terms)) (sym e) (Each-without_repeats (Known terms) (same_solution nat_eq) rows.rows known))

@@ -2,7 +2,7 @@
 use Rattle.std.proofs.Common.{◌≡◌, ℕ, zero, suc, ◌+◌, ◌<◌, true, false, not, List, [], ◌∷◌, ◌++◌, length, set, take, map, get_or, slice_get, Option, None, Some, is_some, option_map, refl, sym, ap, ◌∙◌, add-one}
 use Rattle.rdf_core.specs.declared.term.Term.{Term}
 use Rattle.algebra_model.specs.Operators.{bind, extend}
-use Rattle.algebra_model.specs.Reading.{Each}
+use Rattle.algebra_model.specs.Renaming.{Each}
 use Rattle.algebra_model.specs.Solution.{Solution}
 use Rattle.algebra_model.proofs.RangeLaws.{OfOption, bind-bound}
 use Rattle.dict_core.specs.Dict.{IsGrown, term_at}

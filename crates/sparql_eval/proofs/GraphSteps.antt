@@ -17,12 +17,12 @@ use Rattle.rdf_core.proofs.TermLaws.{term_eq, term_decides}
 use Rattle.algebra_model.specs.Bag.{without_repeats}
 use Rattle.algebra_model.specs.Dataset.{names}
 use Rattle.algebra_model.specs.Operators.{join}
-use Rattle.algebra_model.specs.Reading.{Each}
+use Rattle.algebra_model.specs.Renaming.{Each}
 use Rattle.algebra_model.specs.Solution.{Solution, is_compatible, merge}
 use Rattle.algebra_model.proofs.RangeLaws.{Each-IsSameBag, Each-without_repeats}
 use Rattle.algebra_model.proofs.RepeatLaws.{any-map}
 use Rattle.algebra_model.proofs.SetLaws.{alike_from_set, set_from_permutation}
-use Rattle.dict_core.specs.Dict.{IsWithoutRepeats, term_at}
+use Rattle.dict_core.specs.Dict.{AreDistinct, term_at}
 use Rattle.dict_core.specs.NumQuad.{AreBelow, IsBelow, quads_at}
 use Rattle.dict_core.specs.declared.num_quad.NumQuad.{NumQuad}
 use Rattle.quad_index.specs.Matching.{graph_names}
@@ -87,7 +87,7 @@ all_of : (P : ℕ → Type 0) (xs : List ℕ) → Each P xs → All P xs
 all_of P [] h = λ k d low. absurd (omega arith)
 all_of P (x ∷ xs) h = All-cons P x xs h.0 (all_of P xs h.1)
 
-module _ (terms : List Term) (once : IsWithoutRepeats terms) (index : List NumQuad) (below : AreBelow (length terms) index) (graphs : List ℕ) (are : IsPermutation (without_repeats nat_eq (graph_names index)) graphs) where
+module _ (terms : List Term) (once : AreDistinct terms) (index : List NumQuad) (below : AreBelow (length terms) index) (graphs : List ℕ) (are : IsPermutation (without_repeats nat_eq (graph_names index)) graphs) where
   pub graph_below : Each (λ g. g < length terms) graphs
   graph_below = Each-IsSameBag (λ g. g < length terms) (without_repeats nat_eq (graph_names index)) graphs are (Each-without_repeats (λ g. g < length terms) nat_eq (graph_names index) (names_below (length terms) index below))
 
@@ -127,7 +127,7 @@ module _ (terms : List Term) (once : IsWithoutRepeats terms) (index : List NumQu
       by false e = e
 
 -- a term that the dictionary lacks is not the name of a graph
-pub name_absent : (terms : List Term) → IsWithoutRepeats terms → (index : List NumQuad) → AreBelow (length terms) index → (t : Term) → (Contains terms t → ⊥) → list_any (term_eq t) (names (quads_at terms index)) ≡ false
+pub name_absent : (terms : List Term) → AreDistinct terms → (index : List NumQuad) → AreBelow (length terms) index → (t : Term) → (Contains terms t → ⊥) → list_any (term_eq t) (names (quads_at terms index)) ≡ false
 name_absent terms once index below t lacks =
     let graphs = without_repeats nat_eq (graph_names index) in
     let are = IsPermutation-refl graphs in

@@ -8,12 +8,12 @@ use Rattle.rdf_core.proofs.TermLaws.{term_eq}
 use Rattle.algebra_model.specs.Bag.{IsSameBag}
 use Rattle.algebra_model.specs.Expression.{Expression, holds}
 use Rattle.algebra_model.specs.Operators.{join, left_join, minus}
-use Rattle.algebra_model.specs.Reading.{Each}
+use Rattle.algebra_model.specs.Renaming.{Each}
 use Rattle.algebra_model.specs.Solution.{Solution}
 use Rattle.algebra_model.proofs.OperatorReadingLaws.{left_join-read}
 use Rattle.algebra_model.proofs.RangeLaws.{Each-IsSameBag, join-bound, left_join-bound, minus-bound}
 use Rattle.algebra_model.proofs.ReadingLaws.{join-read, minus-read}
-use Rattle.dict_core.specs.Dict.{IsWithoutRepeats, term_at}
+use Rattle.dict_core.specs.Dict.{AreDistinct, term_at}
 use Rattle.row_core.specs.RowList.{RowList}
 use Rattle.row_join.specs.Numbers.{passes, all_pass}
 use Rattle.sparql_eval.specs.Evaluated.{AreKnown, IsEvaluated}
@@ -29,7 +29,7 @@ at_numbers terms w N A made wide bag known read = record {
   bag = subst (IsSameBag (map (read_by terms) made.rows)) (sym read) (IsPermutation-map (read_by terms) made.rows N bag);
 }
 
-module _ (terms : List Term) (once : IsWithoutRepeats terms) (left right made : RowList) (knownL : AreKnown terms left) (knownR : AreKnown terms right) (wide : made.width ≡ left.width) where
+module _ (terms : List Term) (once : AreDistinct terms) (left right made : RowList) (knownL : AreKnown terms left) (knownR : AreKnown terms right) (wide : made.width ≡ left.width) where
   pub joined : IsSameBag made.rows (join nat_eq left.rows right.rows) → IsEvaluated terms left.width (join term_eq (map (read_by terms) left.rows) (map (read_by terms) right.rows)) made terms
   joined bag =
       at_numbers terms left.width (join nat_eq left.rows right.rows) (join term_eq (map (read_by terms) left.rows) (map (read_by terms) right.rows)) made wide bag

@@ -10,12 +10,12 @@ use Rattle.algebra_model.specs.Bag.{IsSameBag, without_repeats}
 use Rattle.algebra_model.specs.Dataset.{names}
 use Rattle.algebra_model.specs.Eval.{named}
 use Rattle.algebra_model.specs.Operators.{join}
-use Rattle.algebra_model.specs.Reading.{Each}
+use Rattle.algebra_model.specs.Renaming.{Each}
 use Rattle.algebra_model.specs.Solution.{Solution}
 use Rattle.algebra_model.proofs.CongruenceLaws.{join-IsSameBag}
 use Rattle.algebra_model.proofs.RangeLaws.{Each-append, join-bound}
 use Rattle.algebra_model.proofs.ReadingLaws.{join-read}
-use Rattle.dict_core.specs.Dict.{IsGrown, IsWithoutRepeats, term_at}
+use Rattle.dict_core.specs.Dict.{IsGrown, AreDistinct, term_at}
 use Rattle.dict_core.specs.NumQuad.{AreBelow, quads_at}
 use Rattle.dict_core.specs.declared.num_quad.NumQuad.{NumQuad}
 use Rattle.quad_index.specs.Matching.{graph_names}
@@ -36,7 +36,7 @@ use Rattle.sparql_eval.proofs.GraphSteps.{graph_below, names_read}
 
 -- ---- one more graph
 
-module _ (terms now later : List Term) (once : IsWithoutRepeats later) (g : IsGrown terms now) (g' : IsGrown now later) (h : IsGrown terms later) (w v : ℕ) (P : Term → List (Solution Term)) where
+module _ (terms now later : List Term) (once : AreDistinct later) (g : IsGrown terms now) (g' : IsGrown now later) (h : IsGrown terms later) (w v : ℕ) (P : Term → List (Solution Term)) where
   abbrev in_graph : Term → List (Solution Term)
   in_graph i = join term_eq (P i) (named w v i)
 
@@ -90,7 +90,7 @@ module _ (terms : List Term) (D : List NumQuad) (w : ℕ) (t : Term) (tree : Ope
 
 -- ---- each graph
 
-module _ (terms : List Term) (once : IsWithoutRepeats terms) (index : List NumQuad) (below : AreBelow (length terms) index) (graphs : List ℕ) (are : IsPermutation (without_repeats nat_eq (graph_names index)) graphs) where
+module _ (terms : List Term) (once : AreDistinct terms) (index : List NumQuad) (below : AreBelow (length terms) index) (graphs : List ℕ) (are : IsPermutation (without_repeats nat_eq (graph_names index)) graphs) where
   pub graph_known : (k n : ℕ) → slice_get graphs k ≡ Some n → n < length terms
   graph_known k n at = Each-at (λ g. g < length terms) graphs k n (graph_below terms once index below graphs are) at
 

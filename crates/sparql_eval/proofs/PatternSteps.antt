@@ -11,7 +11,7 @@ use Rattle.algebra_model.specs.Algebra.{is_triple_below}
 use Rattle.algebra_model.specs.Bag.{IsSameBag, IsWithoutRepeats}
 use Rattle.algebra_model.specs.Bgp.{PatternTerm, TriplePattern, constant, bgp, occurring}
 use Rattle.algebra_model.specs.Dataset.{graph, triple_of}
-use Rattle.algebra_model.specs.Reading.{Each, EachOfPattern, read_pattern}
+use Rattle.algebra_model.specs.Renaming.{Each, EachOfPattern, read_pattern}
 use Rattle.algebra_model.specs.Solve as solve
 use Rattle.algebra_model.proofs.WithinLaws.{are_below, are_below-unread, bgp-absent, has_term, is_the_term}
 use Rattle.algebra_model.proofs.RangeLaws.{Each-append}
@@ -61,7 +61,7 @@ lacking terms w l P D g below h made wide none =
     let empty = bgp-absent term_eq term_decides w l h.0 P (graph (quads_at terms D) g) (not_occurring terms h.0 h.1 D below g) h.2 in
     evaluated terms w _ made wide (subst (Each (Known terms)) (sym none) tt) (ap (map (read_by terms)) none ∙ sym empty)
 
-pub solved : RowsReadAsSolutions → (terms : List Term) → dict.IsWithoutRepeats terms → (w l : ℕ) (P : List (TriplePattern Term)) (N : List (TriplePattern ℕ)) (D : List NumQuad) (g : Option ℕ) → IsWithoutRepeats quad_eq D → AreBelow (length terms) D → ForSome g (λ x. x < length terms)
+pub solved : RowsReadAsSolutions → (terms : List Term) → dict.AreDistinct terms → (w l : ℕ) (P : List (TriplePattern Term)) (N : List (TriplePattern ℕ)) (D : List NumQuad) (g : Option ℕ) → IsWithoutRepeats quad_eq D → AreBelow (length terms) D → ForSome g (λ x. x < length terms)
     → list_all (is_triple_below w l) P ≡ true → ArePatternsOf terms P N → (made : RowList) → made.width ≡ w → IsSameBag made.rows (bgp nat_eq w l N (triples_of g D))
     → IsEvaluated terms w (bgp term_eq w l P (graph (quads_at terms D) (option_map (term_at terms) g))) made terms
 solved law terms once w l P N D g distinct below named within h made wide bag =

@@ -6,7 +6,7 @@ use Rattle.algebra_model.specs.Solution.{Solution}
 use Rattle.algebra_model.specs.Operators.{project, restrict}
 use Rattle.rdf_core.specs.declared.term.Term.{Term}
 use Rattle.rdf_core.proofs.TermLaws.{term_eq}
-use Rattle.algebra_model.specs.Reading.{Each}
+use Rattle.algebra_model.specs.Renaming.{Each}
 use Rattle.algebra_model.proofs.OperatorReadingLaws.{project-read}
 use Rattle.algebra_model.proofs.RangeLaws.{project-bound}
 use Rattle.dict_core.specs.Dict.{term_at}

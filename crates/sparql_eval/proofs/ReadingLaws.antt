@@ -14,9 +14,9 @@ use Rattle.rdf_core.specs.declared.term.Term.TheVariants.{Blank}
 use Rattle.rdf_core.proofs.TermLaws.{term_eq}
 use Rattle.algebra_model.specs.Solution.{Solution}
 use Rattle.algebra_model.specs.Laws.{IsReading}
-use Rattle.algebra_model.specs.Reading.{Each, EachBound, read_row}
+use Rattle.algebra_model.specs.Renaming.{Each, EachBound, read_row}
 use Rattle.algebra_model.proofs.NumberLaws.{reading_tells}
-use Rattle.dict_core.specs.Dict.{IsWithoutRepeats, IsGrown, term_at}
+use Rattle.dict_core.specs.Dict.{AreDistinct, IsGrown, term_at}
 use Rattle.dict_core.proofs.InsertLaws.{get-grown, grown}
 use Rattle.dict_core.proofs.NumberingLaws.{number_reads, get-below}
 
@@ -53,14 +53,14 @@ module _ (terms terms' : List Term) (grown : IsGrown terms terms') where
       ((r.0, rs.0), λ i. r.1 i ∷ rs.1 i)
 
 -- different numbers have different terms
-pub apart : (terms : List Term) → IsWithoutRepeats terms → IsReading (length terms) (term_at terms)
+pub apart : (terms : List Term) → AreDistinct terms → IsReading (length terms) (term_at terms)
 apart terms h x y low high e =
     let p : x < y → ⊥ = λ l. h x y (Blank []) l high e in
     let q : y < x → ⊥ = λ l. h y x (Blank []) l low (sym e) in
     omega arith
 
 -- so two numbers are equal exactly if their terms are equal
-pub tells : (terms : List Term) → IsWithoutRepeats terms → (x y : ℕ) → x < length terms → y < length terms → term_eq (term_at terms x) (term_at terms y) ≡ nat_eq x y
+pub tells : (terms : List Term) → AreDistinct terms → (x y : ℕ) → x < length terms → y < length terms → term_eq (term_at terms x) (term_at terms y) ≡ nat_eq x y
 tells terms h = reading_tells (length terms) (term_at terms) (apart terms h)
 
 -- a term that was added

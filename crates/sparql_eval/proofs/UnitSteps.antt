@@ -4,7 +4,7 @@ use Rattle.std.specs.List.{list_all}
 use Rattle.std.proofs.lemmas.List.{length-map}
 use Rattle.rdf_core.specs.declared.term.Term.{Term}
 use Rattle.algebra_model.specs.Operators.{join, merges}
-use Rattle.algebra_model.specs.Reading.{read_row}
+use Rattle.algebra_model.specs.Renaming.{read_row}
 use Rattle.algebra_model.specs.Solution.{Solution, is_compatible, merge}
 use Rattle.row_core.specs.RowList.{RowList}
 use Rattle.dict_core.specs.Dict.{term_at}

@@ -9,10 +9,10 @@ use Rattle.std.proofs.lemmas.List.Elements.{Contains-append_left, Contains-appen
 use Rattle.std.specs.List.{flat_map}
 use Rattle.rdf_core.specs.declared.term.Term.{Term}
 use Rattle.algebra_model.specs.Expression.{Expression, val}
-use Rattle.algebra_model.specs.Reading.{Each}
+use Rattle.algebra_model.specs.Renaming.{Each}
 use Rattle.algebra_model.specs.Solution.{Solution}
 use Rattle.algebra_model.proofs.RangeLaws.{Each-append}
-use Rattle.dict_core.specs.Dict.{AreNumbersOf, IsGrown, IsWithoutRepeats, term_at}
+use Rattle.dict_core.specs.Dict.{AreNumbersOf, IsGrown, AreDistinct, term_at}
 use Rattle.dict_core.specs.Appearances.{first_appearances}
 use Rattle.dict_core.proofs.AppearanceLaws.{absorbed_terms}
 use Rattle.dict_core.proofs.InsertLaws.{grown}
@@ -139,7 +139,7 @@ one_piece n size pieces p h e =
 -- ---- the numbers of values
 
 -- a dictionary that merged another
-pub absorbed_grown : (old own new : List Term) → IsWithoutRepeats old → new ≡ first_appearances (old ++ own) → IsGrown old new
+pub absorbed_grown : (old own new : List Term) → AreDistinct old → new ≡ first_appearances (old ++ own) → IsGrown old new
 absorbed_grown old own new apart e = subst (IsGrown old) (absorbed_terms old own apart ∙ sym e) (grown old own)
 
 pub own_known : (new own : List Term) (numbers : List ℕ) → AreNumbersOf new own numbers → (k : ℕ) → k < length own → (k < length numbers) × (slice_get new (get_or numbers k 0) ≡ Some (term_at own k))

@@ -5,7 +5,7 @@ use Rattle.std.specs.List.{list_any}
 use Rattle.rdf_core.specs.declared.term.Term.{Term}
 use Rattle.rdf_core.specs.Equality.{term_eq}
 use Rattle.algebra_model.specs.Bgp.{PatternTerm, TriplePattern}
-use Rattle.algebra_model.specs.Reading.{Each, EachConstant, EachOfPattern, read_pattern_term, read_pattern}
+use Rattle.algebra_model.specs.Renaming.{Each, EachConstant, EachOfPattern, read_pattern_term, read_pattern}
 use Rattle.algebra_model.proofs.WithinLaws.{is_the_term, has_term}
 use Rattle.dict_core.specs.Dict.{term_at}
 

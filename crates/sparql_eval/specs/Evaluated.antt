@@ -4,7 +4,7 @@ use Rattle.std.specs.Prelude.{◌≡◌, ℕ, ◌<◌, List, length, map}
 use Rattle.rdf_core.specs.declared.term.Term.{Term}
 use Rattle.algebra_model.specs.Bag.{IsSameBag}
 use Rattle.algebra_model.specs.Solution.{Solution}
-use Rattle.algebra_model.specs.Reading.{Each, EachBound, read_row}
+use Rattle.algebra_model.specs.Renaming.{Each, EachBound, read_row}
 use Rattle.dict_core.specs.Dict.{term_at, IsGrown}
 use Rattle.row_core.specs.RowList.{RowList}
 

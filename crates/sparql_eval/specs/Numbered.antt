@@ -3,7 +3,7 @@
 use Rattle.std.specs.Prelude.{◌≡◌, ℕ, ◌<◌, List, length, get_or, slice_get, Option, Some, None}
 use Rattle.rdf_core.specs.declared.term.Term.{Term}
 use Rattle.algebra_model.specs.Solution.{Solution}
-use Rattle.algebra_model.specs.Reading.{EachBound}
+use Rattle.algebra_model.specs.Renaming.{EachBound}
 
 abbrev pub IsKnownCell : List Term → Option ℕ → Type 0
 IsKnownCell terms None = Unit {0}

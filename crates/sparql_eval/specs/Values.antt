@@ -5,7 +5,7 @@ use Rattle.std.specs.List.{flat_map}
 use Rattle.rdf_core.specs.declared.term.Term.{Term}
 use Rattle.algebra_model.specs.Expression.{Expression, val}
 use Rattle.algebra_model.specs.Operators.{bind}
-use Rattle.algebra_model.specs.Reading.{Each, read_row}
+use Rattle.algebra_model.specs.Renaming.{Each, read_row}
 use Rattle.algebra_model.specs.Solution.{Solution}
 use Rattle.dict_core.specs.Dict.{term_at}
 use Rattle.sparql_eval.specs.declared.piece_values.PieceValue.{PieceValue}

@@ -5,9 +5,9 @@ ghost use Rattle.rdf_core.specs.Equality.{term_eq};
 ghost use Rattle.algebra_model.specs.Operators.{distinct};
 ghost use Rattle.algebra_model.specs.Solution.{same_solution};
 ghost use Rattle.sparql_eval.specs.Evaluated.{AreKnown, IsEvaluated, solutions_of};
-ghost use Rattle.row_pieces.specs.declared.how.EvalFault.TheVariants.{Memory};
+ghost use Rattle.row_pieces.specs.declared.fault.EvalFault.TheVariants.{Memory};
 
-use crate::answers::with_dict;
+use crate::operator_result::with_dict;
 use dict_core::Dict;
 use indexmap::IndexSet;
 use row_core::Rows;

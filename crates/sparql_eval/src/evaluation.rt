@@ -4,7 +4,7 @@ ghost use Rattle.algebra_model.specs.Algebra.{is_name_below, is_within};
 ghost use Rattle.algebra_model.specs.Eval.{eval, in_graphs};
 ghost use Rattle.dict_core.specs.NumQuad.{AreBelow, quads_at};
 ghost use Rattle.row_pieces.specs.How.{IsRunnable, HasOneWorker};
-ghost use Rattle.row_pieces.specs.declared.how.EvalFault.TheVariants.{Memory};
+ghost use Rattle.row_pieces.specs.declared.fault.EvalFault.TheVariants.{Memory};
 ghost use Rattle.sparql_algebra.specs.AlgebraOf.{algebra_of, graph_name_of};
 ghost use Rattle.sparql_eval.specs.Computed.{InSomeGraph, IsComputed, TakesOnly};
 ghost use Rattle.sparql_eval.specs.Evaluated.{IsEvaluated};

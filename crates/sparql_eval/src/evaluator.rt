@@ -11,7 +11,7 @@ ghost use Rattle.algebra_model.specs.Operators.{distinct, extend, join, left_joi
 ghost use Rattle.dict_core.specs.Dict.{term_at};
 ghost use Rattle.dict_core.specs.NumQuad.{AreBelow, quads_at};
 ghost use Rattle.row_pieces.specs.How.{IsRunnable, HasOneWorker};
-ghost use Rattle.row_pieces.specs.declared.how.EvalFault.TheVariants.{Memory};
+ghost use Rattle.row_pieces.specs.declared.fault.EvalFault.TheVariants.{Memory};
 ghost use Rattle.sparql_algebra.specs.AlgebraOf.{algebra_of, graph_name_of, triple_pattern_of};
 ghost use Rattle.sparql_algebra.specs.ExpressionOf.{expression_of};
 ghost use Rattle.sparql_eval.specs.Computed.{InSomeGraph, IsComputed, IsValue, TakesOnly};

@@ -2,13 +2,13 @@
 ghost use Rattle.std.specs.Prelude.{◌≡◌, ◌≤◌, filter, length, IfErr, IfOk};
 ghost use Rattle.algebra_model.specs.Expression.{holds};
 ghost use Rattle.row_pieces.specs.How.{IsRunnable, HasOneWorker};
-ghost use Rattle.row_pieces.specs.declared.how.EvalFault.TheVariants.{Memory};
+ghost use Rattle.row_pieces.specs.declared.fault.EvalFault.TheVariants.{Memory};
 ghost use Rattle.sparql_algebra.specs.ExpressionOf.{expression_of};
 ghost use Rattle.sparql_eval.specs.Evaluated.{AreKnown, IsEvaluated, solutions_of};
 ghost use Rattle.sparql_eval.specs.Numbered.{AreKnownAt};
 
-use crate::answers::with_dict;
-use crate::reading::ReadRow;
+use crate::operator_result::with_dict;
+use crate::read_row::ReadRow;
 use dict_core::Dict;
 use piece_pool::Gate;
 use row_core::Rows;

@@ -6,12 +6,12 @@ ghost use Rattle.rdf_core.specs.Equality.{term_eq};
 ghost use Rattle.algebra_model.specs.Expression.{holds};
 ghost use Rattle.algebra_model.specs.Operators.{join, left_join, minus};
 ghost use Rattle.row_pieces.specs.How.{IsRunnable, HasOneWorker};
-ghost use Rattle.row_pieces.specs.declared.how.EvalFault.TheVariants.{Memory};
+ghost use Rattle.row_pieces.specs.declared.fault.EvalFault.TheVariants.{Memory};
 ghost use Rattle.sparql_algebra.specs.ExpressionOf.{expression_of};
 ghost use Rattle.sparql_eval.specs.Evaluated.{AreKnown, IsEvaluated, solutions_of};
 
-use crate::answers::with_dict;
-use crate::reading::ReadRow;
+use crate::operator_result::with_dict;
+use crate::read_row::ReadRow;
 use dict_core::Dict;
 use piece_pool::Gate;
 use row_core::Rows;
@@ -270,7 +270,7 @@ struct Condition<'a> {
 impl<'a> RowTest for Condition<'a> {
     ghost use Rattle.std.specs.Prelude.{length, nat_lt};
     ghost use Rattle.algebra_model.specs.Expression.{holds};
-    ghost use Rattle.algebra_model.specs.Reading.{read_row};
+    ghost use Rattle.algebra_model.specs.Renaming.{read_row};
     ghost use Rattle.dict_core.specs.Dict.{term_at};
     ghost use Rattle.sparql_algebra.specs.ExpressionOf.{expression_of};
 

@@ -19,8 +19,8 @@
 //! Standard: SPARQL 1.1 Query Language, sections 18.5 and 18.6. The crate algebra_model states its
 //! definitions.
 //!
-//! Reading order: `copying`, `unions`, `projections`, `distinctness` (rows alone); `answers` (rows
-//! with a dictionary); `numbering`, `tables` (terms added to the dictionary); `reading`, `filters`,
+//! Reading order: `appending`, `unions`, `projections`, `distinctness` (rows alone); `operator_result` (rows
+//! with a dictionary); `numbering`, `tables` (terms added to the dictionary); `read_row`, `filters`,
 //! `piece_values`, `values`, `extensions` (expressions); `patterns`, `graphs` (the index); `joins`
 //! (two lists of rows); `evaluator`, `evaluation` (a plan). Tests: the crate evaluation_tests.
 //!
@@ -32,8 +32,7 @@
 //! Not guaranteed: the order of the rows, and which numbers computed terms get.
 #![tactic(auto)]
 
-mod answers;
-mod copying;
+mod appending;
 mod distinctness;
 mod evaluation;
 mod evaluator;
@@ -42,10 +41,11 @@ mod filters;
 mod graphs;
 mod joins;
 mod numbering;
+mod operator_result;
 mod patterns;
 mod piece_values;
 mod projections;
-mod reading;
+mod read_row;
 mod tables;
 mod unions;
 mod values;

@@ -10,12 +10,12 @@ ghost use Rattle.dict_core.specs.Dict.{term_at};
 ghost use Rattle.dict_core.specs.NumQuad.{AreBelow, quads_at};
 ghost use Rattle.row_pattern.specs.Numbered.{pattern_of, pattern_term_of as number_term_of};
 ghost use Rattle.row_pieces.specs.How.{IsRunnable, HasOneWorker};
-ghost use Rattle.row_pieces.specs.declared.how.EvalFault.TheVariants.{Memory};
+ghost use Rattle.row_pieces.specs.declared.fault.EvalFault.TheVariants.{Memory};
 ghost use Rattle.sparql_algebra.specs.AlgebraOf.{pattern_term_of, triple_pattern_of};
 ghost use Rattle.sparql_eval.specs.Constants.{ArePatternsOf, IsPatternOf, IsPatternTermOf, LacksSome, LacksTerm, LacksTriple};
 ghost use Rattle.sparql_eval.specs.Evaluated.{IsEvaluated};
 
-use crate::answers::with_dict;
+use crate::operator_result::with_dict;
 use dict_core::Dict;
 use piece_pool::Gate;
 use quad_index::Index;

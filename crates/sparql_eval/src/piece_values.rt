@@ -1,7 +1,7 @@
 //! The values of a piece of rows, and the numbers that the dictionary gives them.
 ghost use Rattle.std.specs.Prelude.{◌≡◌, ◌++◌, Contains, length, map, IfOk, OnOk};
 ghost use Rattle.std.specs.List.{flat_map};
-ghost use Rattle.algebra_model.specs.Reading.{Each, read_row};
+ghost use Rattle.algebra_model.specs.Renaming.{Each, read_row};
 ghost use Rattle.dict_core.specs.Dict.{IsGrown, term_at};
 ghost use Rattle.sparql_eval.specs.Computed.{TakesOnly};
 ghost use Rattle.sparql_eval.specs.Numbered.{IsKnownRow};

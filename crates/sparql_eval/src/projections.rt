@@ -3,9 +3,9 @@ ghost use Rattle.std.specs.Prelude.{◌≡◌, ℕ, ◌<◌, ◌==◌, Bool, fal
 ghost use Rattle.std.specs.List.{list_any};
 ghost use Rattle.algebra_model.specs.Operators.{project, restrict};
 ghost use Rattle.sparql_eval.specs.Evaluated.{AreKnown, IsEvaluated, solutions_of};
-ghost use Rattle.row_pieces.specs.declared.how.EvalFault.TheVariants.{Memory};
+ghost use Rattle.row_pieces.specs.declared.fault.EvalFault.TheVariants.{Memory};
 
-use crate::answers::with_dict;
+use crate::operator_result::with_dict;
 use dict_core::Dict;
 use row_core::Rows;
 use row_pieces::EvalFault;

@@ -3,14 +3,14 @@
 ghost use Rattle.std.specs.Prelude.{◌≡◌, ◌<◌, All, Contains, Some, length, map, option_map, take, IfErr, IfOk, OnOk};
 ghost use Rattle.dict_core.specs.Dict.{IsGrown, term_at};
 ghost use Rattle.algebra_model.specs.Operators.{table, table_row};
-ghost use Rattle.algebra_model.specs.Reading.{read_row};
+ghost use Rattle.algebra_model.specs.Renaming.{read_row};
 ghost use Rattle.sparql_eval.specs.Computed.{IsCell, TakesOnly};
 ghost use Rattle.sparql_eval.specs.Evaluated.{IsEvaluated};
 ghost use Rattle.sparql_eval.specs.Numbered.{IsKnownCell, IsKnownRow};
-ghost use Rattle.row_pieces.specs.declared.how.EvalFault.TheVariants.{Memory};
+ghost use Rattle.row_pieces.specs.declared.fault.EvalFault.TheVariants.{Memory};
 
-use crate::answers::with_dict;
 use crate::numbering::number_of_term;
+use crate::operator_result::with_dict;
 use dict_core::Dict;
 use rdf_core::Term;
 use row_core::Rows;

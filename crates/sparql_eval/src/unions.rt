@@ -1,9 +1,9 @@
 //! Union (SPARQL 1.1 Query Language, section 18.5).
 ghost use Rattle.std.specs.Prelude.{◌≡◌, ◌++◌, IfErr, IfOk};
 ghost use Rattle.sparql_eval.specs.Evaluated.{AreKnown, IsEvaluated, solutions_of};
-ghost use Rattle.row_pieces.specs.declared.how.EvalFault.TheVariants.{Memory};
+ghost use Rattle.row_pieces.specs.declared.fault.EvalFault.TheVariants.{Memory};
 
-use crate::copying::add_rows;
+use crate::appending::add_rows;
 use dict_core::Dict;
 use row_core::Rows;
 use row_pieces::EvalFault;

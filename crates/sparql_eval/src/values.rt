@@ -1,10 +1,10 @@
 //! The values of an expression, computed in parallel over pieces of rows.
 ghost use Rattle.std.specs.Prelude.{◌≡◌, ◌≤◌, ◌-◌, [], Some, length, take, drop, IfErr, IfOk, OnOk};
 ghost use Rattle.algebra_model.specs.Expression.{val};
-ghost use Rattle.algebra_model.specs.Reading.{read_row};
+ghost use Rattle.algebra_model.specs.Renaming.{read_row};
 ghost use Rattle.dict_core.specs.Dict.{IsGrown, term_at};
 ghost use Rattle.row_pieces.specs.How.{IsRunnable, HasOneWorker};
-ghost use Rattle.row_pieces.specs.declared.how.EvalFault.TheVariants.{Memory};
+ghost use Rattle.row_pieces.specs.declared.fault.EvalFault.TheVariants.{Memory};
 ghost use Rattle.sparql_algebra.specs.ExpressionOf.{expression_of};
 ghost use Rattle.sparql_eval.specs.Computed.{TakesOnly};
 ghost use Rattle.sparql_eval.specs.Evaluated.{AreKnown};
@@ -13,7 +13,7 @@ ghost use Rattle.sparql_eval.specs.Values.{AreAllValues, ArePieceValues, AreValu
 
 use crate::numbering::number_new;
 use crate::piece_values::{PieceValue, PieceValues};
-use crate::reading::ReadRow;
+use crate::read_row::ReadRow;
 use dict_core::Dict;
 use piece_pool::{Gate, Job, JobFault, Outcome, run_all};
 use rdf_core::Term;

@@ -32,6 +32,6 @@ followed (Some after) = Some (tt, terminals after.now)
 followed None = None
 
 -- the kind and the characters of the first token, and the tokens after it
-abbrev pub IsNext : List Token → Option (Kind × Bor (List ℕ) × Bor (List Token)) → Type 0
-IsNext ts (Some p) = terminals ts ≡ terminal p.0 p.1.now ∷ terminals p.2.now
-IsNext ts None = terminals ts ≡ []
+abbrev pub IsNextToken : List Token → Option (Kind × Bor (List ℕ) × Bor (List Token)) → Type 0
+IsNextToken ts (Some p) = terminals ts ≡ terminal p.0 p.1.now ∷ terminals p.2.now
+IsNextToken ts None = terminals ts ≡ []

@@ -1,2 +1,2 @@
-pub mod Reading
+pub mod ParseResult
 pub mod Front

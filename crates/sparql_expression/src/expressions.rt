@@ -10,16 +10,16 @@ ghost use Rattle.sparql_tree.specs.ExpressionTree.{expression_of, expressions_of
 ghost use Rattle.sparql_grammar.specs.Follow.{heads, is_call};
 ghost use Rattle.sparql_grammar.specs.Symbol as the;
 ghost use Rattle.sparql_grammar.specs.Values.{Names};
-ghost use Rattle.sparql_expression.specs.Reading.{Reads, seen};
+ghost use Rattle.sparql_expression.specs.ParseResult.{Parses, seen};
 
-use crate::classes::{accept_comparison, accept_function, accept_variable};
-use crate::fault::ReadFault;
-use crate::front::{accept, accept_word, next};
-use crate::terms::read_term;
-use crate::trees::{
+use crate::constructors::{
     make_and, make_bound, make_call, make_comparison, make_constant, make_in, make_not, make_or,
     make_same_term, make_variable,
 };
+use crate::fault::ParseFault;
+use crate::terms::read_term;
+use crate::tokens::classes::{accept_comparison, accept_function, accept_variable};
+use crate::tokens::front::{accept, accept_word, next};
 use sparql_grammar::Declarations;
 use sparql_lexer::{Keyword, Kind, Sign, Token};
 use sparql_tree::Expression;
@@ -37,8 +37,8 @@ pub fn read_disjunction<'t, 'a>(
     alloc: Global,
     names: &Declarations,
     tokens: &'t [Token<'a>],
-) -> Result<(Expression, &'t [Token<'a>]), ReadFault>
-    ensures reads { Reads names.now the.disjunction (terminals tokens.now) (seen expression_of result) }
+) -> Result<(Expression, &'t [Token<'a>]), ParseFault>
+    ensures reads { Parses names.now the.disjunction (terminals tokens.now) (seen expression_of result) }
     ensures shorter { IfOk result (λ p. length p.1.now < length tokens.now) }
 {
     let (mut left, mut rest) = read_conjunction(alloc, names, tokens)?;
@@ -55,8 +55,8 @@ fn read_conjunction<'t, 'a>(
     alloc: Global,
     names: &Declarations,
     tokens: &'t [Token<'a>],
-) -> Result<(Expression, &'t [Token<'a>]), ReadFault>
-    ensures reads { Reads names.now the.conjunction (terminals tokens.now) (seen expression_of result) }
+) -> Result<(Expression, &'t [Token<'a>]), ParseFault>
+    ensures reads { Parses names.now the.conjunction (terminals tokens.now) (seen expression_of result) }
     ensures shorter { IfOk result (λ p. length p.1.now < length tokens.now) }
 {
     let (mut left, mut rest) = read_relation(alloc, names, tokens)?;
@@ -73,8 +73,8 @@ fn read_relation<'t, 'a>(
     alloc: Global,
     names: &Declarations,
     tokens: &'t [Token<'a>],
-) -> Result<(Expression, &'t [Token<'a>]), ReadFault>
-    ensures reads { Reads names.now the.relation (terminals tokens.now) (seen expression_of result) }
+) -> Result<(Expression, &'t [Token<'a>]), ParseFault>
+    ensures reads { Parses names.now the.relation (terminals tokens.now) (seen expression_of result) }
     ensures shorter { IfOk result (λ p. length p.1.now < length tokens.now) }
 {
     let (left, rest) = read_unary(alloc, names, tokens)?;
@@ -90,7 +90,7 @@ fn read_relation<'t, 'a>(
         return Ok((left, rest));
     };
     let Some(after) = accept_word(denied, Keyword::In) else {
-        return Err(ReadFault::Syntax);
+        return Err(ParseFault::Syntax);
     };
     let (members, behind) = read_members(alloc, names, after)?;
     let inner = make_in(alloc, left, members)?;
@@ -102,8 +102,8 @@ fn read_unary<'t, 'a>(
     alloc: Global,
     names: &Declarations,
     tokens: &'t [Token<'a>],
-) -> Result<(Expression, &'t [Token<'a>]), ReadFault>
-    ensures reads { Reads names.now the.unary (terminals tokens.now) (seen expression_of result) }
+) -> Result<(Expression, &'t [Token<'a>]), ParseFault>
+    ensures reads { Parses names.now the.unary (terminals tokens.now) (seen expression_of result) }
     ensures shorter { IfOk result (λ p. length p.1.now < length tokens.now) }
 {
     let Some(after) = accept(tokens, Sign::Not) else {
@@ -147,8 +147,8 @@ fn read_primary<'t, 'a>(
     alloc: Global,
     names: &Declarations,
     tokens: &'t [Token<'a>],
-) -> Result<(Expression, &'t [Token<'a>]), ReadFault>
-    ensures reads { Reads names.now the.primary (terminals tokens.now) (seen expression_of result) }
+) -> Result<(Expression, &'t [Token<'a>]), ParseFault>
+    ensures reads { Parses names.now the.primary (terminals tokens.now) (seen expression_of result) }
     ensures shorter { IfOk result (λ p. length p.1.now < length tokens.now) }
 {
     if let Some(_after) = accept(tokens, Sign::OpenParenthesis) {
@@ -174,16 +174,16 @@ pub fn read_bracket<'t, 'a>(
     alloc: Global,
     names: &Declarations,
     tokens: &'t [Token<'a>],
-) -> Result<(Expression, &'t [Token<'a>]), ReadFault>
-    ensures reads { Reads names.now the.bracket (terminals tokens.now) (seen expression_of result) }
+) -> Result<(Expression, &'t [Token<'a>]), ParseFault>
+    ensures reads { Parses names.now the.bracket (terminals tokens.now) (seen expression_of result) }
     ensures shorter { IfOk result (λ p. length p.1.now < length tokens.now) }
 {
     let Some(after) = accept(tokens, Sign::OpenParenthesis) else {
-        return Err(ReadFault::Syntax);
+        return Err(ParseFault::Syntax);
     };
     let (inner, rest) = read_disjunction(alloc, names, after)?;
     let Some(behind) = accept(rest, Sign::CloseParenthesis) else {
-        return Err(ReadFault::Syntax);
+        return Err(ParseFault::Syntax);
     };
     Ok((inner, behind))
 }
@@ -198,8 +198,8 @@ pub fn read_call<'t, 'a>(
     alloc: Global,
     names: &Declarations,
     tokens: &'t [Token<'a>],
-) -> Result<(Expression, &'t [Token<'a>]), ReadFault>
-    ensures reads { Reads names.now the.call (terminals tokens.now) (seen expression_of result) }
+) -> Result<(Expression, &'t [Token<'a>]), ParseFault>
+    ensures reads { Parses names.now the.call (terminals tokens.now) (seen expression_of result) }
     ensures shorter { IfOk result (λ p. length p.1.now < length tokens.now) }
 {
     if let Some((function, after)) = accept_function(tokens) {
@@ -210,7 +210,7 @@ pub fn read_call<'t, 'a>(
         return read_bound(alloc, after);
     }
     let Some(after) = accept_word(tokens, Keyword::SameTerm) else {
-        return Err(ReadFault::Syntax);
+        return Err(ParseFault::Syntax);
     };
     read_same_term(alloc, names, after)
 }
@@ -219,18 +219,18 @@ pub fn read_call<'t, 'a>(
 fn read_bound<'t, 'a>(
     alloc: Global,
     tokens: &'t [Token<'a>],
-) -> Result<(Expression, &'t [Token<'a>]), ReadFault>
-    ensures reads { (names : Names) → Reads names the.bound (terminals tokens.now) (seen expression_of result) }
+) -> Result<(Expression, &'t [Token<'a>]), ParseFault>
+    ensures reads { (names : Names) → Parses names the.bound (terminals tokens.now) (seen expression_of result) }
     ensures shorter { IfOk result (λ p. length p.1.now < length tokens.now) }
 {
     let Some(after) = accept(tokens, Sign::OpenParenthesis) else {
-        return Err(ReadFault::Syntax);
+        return Err(ParseFault::Syntax);
     };
     let Some((name, rest)) = accept_variable(alloc, after)? else {
-        return Err(ReadFault::Syntax);
+        return Err(ParseFault::Syntax);
     };
     let Some(behind) = accept(rest, Sign::CloseParenthesis) else {
-        return Err(ReadFault::Syntax);
+        return Err(ParseFault::Syntax);
     };
     Ok((make_bound(name), behind))
 }
@@ -241,20 +241,20 @@ fn read_same_term<'t, 'a>(
     alloc: Global,
     names: &Declarations,
     tokens: &'t [Token<'a>],
-) -> Result<(Expression, &'t [Token<'a>]), ReadFault>
-    ensures reads { Reads names.now the.same_term (terminals tokens.now) (seen expression_of result) }
+) -> Result<(Expression, &'t [Token<'a>]), ParseFault>
+    ensures reads { Parses names.now the.same_term (terminals tokens.now) (seen expression_of result) }
     ensures shorter { IfOk result (λ p. length p.1.now < length tokens.now) }
 {
     let Some(after) = accept(tokens, Sign::OpenParenthesis) else {
-        return Err(ReadFault::Syntax);
+        return Err(ParseFault::Syntax);
     };
     let (left, middle) = read_disjunction(alloc, names, after)?;
     let Some(second) = accept(middle, Sign::Comma) else {
-        return Err(ReadFault::Syntax);
+        return Err(ParseFault::Syntax);
     };
     let (right, rest) = read_disjunction(alloc, names, second)?;
     let Some(behind) = accept(rest, Sign::CloseParenthesis) else {
-        return Err(ReadFault::Syntax);
+        return Err(ParseFault::Syntax);
     };
     Ok((make_same_term(alloc, left, right)?, behind))
 }
@@ -265,12 +265,12 @@ fn read_members<'t, 'a>(
     alloc: Global,
     names: &Declarations,
     tokens: &'t [Token<'a>],
-) -> Result<(Vec<Expression>, &'t [Token<'a>]), ReadFault>
-    ensures reads { Reads names.now the.members (terminals tokens.now) (seen (λ es. expressions_of es.items) result) }
+) -> Result<(Vec<Expression>, &'t [Token<'a>]), ParseFault>
+    ensures reads { Parses names.now the.members (terminals tokens.now) (seen (λ es. expressions_of es.items) result) }
     ensures shorter { IfOk result (λ p. length p.1.now < length tokens.now) }
 {
     let Some(mut rest) = accept(tokens, Sign::OpenParenthesis) else {
-        return Err(ReadFault::Syntax);
+        return Err(ParseFault::Syntax);
     };
     let mut members = Vec::new(alloc);
     if let Some(behind) = accept(rest, Sign::CloseParenthesis) {
@@ -281,7 +281,7 @@ fn read_members<'t, 'a>(
         members.push(member)?;
         let Some(after) = accept(end, Sign::Comma) else {
             let Some(behind) = accept(end, Sign::CloseParenthesis) else {
-                return Err(ReadFault::Syntax);
+                return Err(ParseFault::Syntax);
             };
             return Ok((members, behind));
         };

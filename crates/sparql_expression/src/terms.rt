@@ -6,11 +6,13 @@ ghost use Rattle.sparql_lexer.specs.Terminal.{terminals};
 ghost use Rattle.sparql_grammar.specs.Productions.{plain, tagged};
 ghost use Rattle.rdf_core.specs.Vocabulary.{xsd_string};
 ghost use Rattle.sparql_grammar.specs.Symbol as the;
-ghost use Rattle.sparql_expression.specs.Reading.{Reads, seen};
+ghost use Rattle.sparql_expression.specs.ParseResult.{Parses, seen};
 
-use crate::classes::{accept_boolean, accept_language, accept_name, accept_number, accept_string};
-use crate::fault::ReadFault;
-use crate::front::accept;
+use crate::fault::ParseFault;
+use crate::tokens::classes::{
+    accept_boolean, accept_language, accept_name, accept_number, accept_string,
+};
+use crate::tokens::front::accept;
 use rdf_core::vocabulary::{RDF_LANG_STRING, XSD_STRING};
 use rdf_core::{Term, Text};
 use sparql_grammar::Declarations;
@@ -58,8 +60,8 @@ pub fn read_literal<'t, 'a>(
     names: &Declarations,
     string: Text,
     tokens: &'t [Token<'a>],
-) -> Result<(Term, &'t [Token<'a>]), ReadFault>
-    ensures reads { Reads names.now (the.literal string) (terminals tokens.now) (seen (λ t. t) result) }
+) -> Result<(Term, &'t [Token<'a>]), ParseFault>
+    ensures reads { Parses names.now (the.literal string) (terminals tokens.now) (seen (λ t. t) result) }
     ensures shorter { IfOk result (λ p. length p.1.now ≤ length tokens.now) }
 {
     if let Some((tag, after)) = accept_language(alloc, tokens)? {
@@ -69,7 +71,7 @@ pub fn read_literal<'t, 'a>(
         return Ok((plain_string(alloc, string)?, tokens));
     };
     let Some((datatype, behind)) = accept_name(alloc, names, after)? else {
-        return Err(ReadFault::Syntax);
+        return Err(ParseFault::Syntax);
     };
     Ok((plain(string, datatype), behind))
 }
@@ -86,8 +88,8 @@ pub fn read_term<'t, 'a>(
     alloc: Global,
     names: &Declarations,
     tokens: &'t [Token<'a>],
-) -> Result<(Term, &'t [Token<'a>]), ReadFault>
-    ensures reads { Reads names.now the.term (terminals tokens.now) (seen (λ t. t) result) }
+) -> Result<(Term, &'t [Token<'a>]), ParseFault>
+    ensures reads { Parses names.now the.term (terminals tokens.now) (seen (λ t. t) result) }
     ensures shorter { IfOk result (λ p. length p.1.now < length tokens.now) }
 {
     if let Some((iri, after)) = accept_name(alloc, names, tokens)? {
@@ -100,7 +102,7 @@ pub fn read_term<'t, 'a>(
         return Ok((boolean, after));
     }
     let Some((string, after)) = accept_string(alloc, tokens)? else {
-        return Err(ReadFault::Syntax);
+        return Err(ParseFault::Syntax);
     };
     read_literal(alloc, names, string, after)
 }

@@ -10,7 +10,7 @@ use Rattle.sparql_grammar.specs.Symbol.{Symbol, Value}
 use Rattle.sparql_grammar.specs.Form.{Form, give, behind, take, part, last, choice, when}
 use Rattle.sparql_grammar.specs.Follow.{level, reach, next_level}
 use Rattle.sparql_grammar.specs.Productions.{right_side}
-use Rattle.sparql_grammar.specs.Matches.{Matches, gives, counts, takes, parts, lasts, firsts, seconds, whens}
+use Rattle.sparql_grammar.specs.Derivation.{Derivation, gives, counts, takes, parts, lasts, firsts, seconds, whens}
 use Rattle.sparql_grammar.proofs.KindLaws.{every, every_at}
 use Rattle.sparql_grammar.proofs.ClassLaws.{picks_in, one_value}
 use Rattle.sparql_grammar.proofs.FormLaws.{begins, ends, first, nullable, above, follows, apart_by, apart, Good}
@@ -52,7 +52,7 @@ starts_when : {A : Type 0} (b : Bool) (f : Form A) {ts rest : List Terminal} →
 starts_when b f (empty e h) = empty e h
 starts_when b f (headed k x us h c) = headed k x us h c
 
-pub starts : {ns : Names} {s : Symbol} {form : Form (Value s)} {ts rest : List Terminal} {v : Value s} (n : ℕ) → Good n form → Matches ns s form ts v rest → Starts form ts rest
+pub starts : {ns : Names} {s : Symbol} {form : Form (Value s)} {ts rest : List Terminal} {v : Value s} (n : ℕ) → Good n form → Derivation ns s form ts v rest → Starts form ts rest
 starts n g gives = empty refl refl
 starts n g counts = empty refl refl
 starts {ns = ns} n g (takes {c = c} {k = k} {x = x} {ts = ts} p h m) = headed k x ts refl (picks_in ns c k x p h)
@@ -88,7 +88,7 @@ follow_from m n form ts rest f s (empty e h) =
 follow_from m n form ts rest f s (headed k x us h b) =
     subst (λ l. m < l) (sym (headed_level h)) (above_less (begins form k) m (level k) (every_at (λ k. above (begins form k) m (level k)) (both_left (every (λ k. above (begins form k) m (level k))) (above (ends form) m (suc n)) f) k) b)
 
-pub follow : {ns : Names} {s : Symbol} {form : Form (Value s)} {ts rest : List Terminal} {v : Value s} (m n : ℕ) → Good n form → follows m n form ≡ true → n < next_level rest → Matches ns s form ts v rest → m < next_level ts
+pub follow : {ns : Names} {s : Symbol} {form : Form (Value s)} {ts rest : List Terminal} {v : Value s} (m n : ℕ) → Good n form → follows m n form ≡ true → n < next_level rest → Derivation ns s form ts v rest → m < next_level ts
 follow {form = form} {ts = ts} {rest = rest} m n g f s d = follow_from m n form ts rest f s (starts n g d)
 
 -- two forms that the next terminal distinguishes
@@ -146,15 +146,15 @@ pub lower : (n : ℕ) (u : Symbol) (rest : List Terminal) → nat_lt (reach u) (
 lower n u rest h s = between (above_less true (reach u) (suc n) h refl) s
 
 pub unique : {ns : Names} {s : Symbol} {form : Form (Value s)} {ts r r' : List Terminal} {v w : Value s} (n : ℕ) → Good n form
-    → Matches ns s form ts v r → n < next_level r → Matches ns s form ts w r' → n < next_level r' → Same v w r r'
+    → Derivation ns s form ts v r → n < next_level r → Derivation ns s form ts w r' → n < next_level r' → Same v w r r'
 unique n g gives s gives s' = record { value = refl; behind = refl }
 unique n g counts s counts s' = record { value = refl; behind = refl }
 unique {ns = ns} {s = y} {r' = r'} {w = w} n g (takes {c = c} {f = f} {k = k} {x = x} {ts = ts} p h m) s (takes p' h' m') s' =
-    unique n (g p) m s (subst (λ p. Matches ns y (f p) ts w r') (one_value ns c k x p' p h' h) m') s'
+    unique n (g p) m s (subst (λ p. Derivation ns y (f p) ts w r') (one_value ns c k x p' p h' h) m') s'
 unique {ns = ns} {s = y} {r' = r'} {w = w} n g (parts {u = u} {f = f} {a = a} d e) s (parts {a = a'} d' e') s' =
     let q = g.1 in
     let m = unique (reach u) (good u) d (follow (reach u) n (q a).1 (q a).0 s e) d' (follow (reach u) n (q a').1 (q a').0 s' e') in
-    unique n (q a).1 e s (moved (λ a t. Matches ns y (f a) t w r') m e') s'
+    unique n (q a).1 e s (moved (λ a t. Derivation ns y (f a) t w r') m e') s'
 unique n g (lasts {u = u} {g = h} d) s (lasts d') s' =
     let m = unique (reach u) (good u) d (lower n u _ g s) d' (lower n u _ g s') in
     record { value = ap h m.value; behind = m.behind }

@@ -1,8 +1,8 @@
 pub mod Values
-pub mod Places
+pub mod DeclarationPlaces
 pub mod Class
 pub mod Symbol
 pub mod Form
 pub mod Productions
-pub mod Matches
+pub mod Derivation
 pub mod Follow

@@ -4,7 +4,7 @@ use Rattle.std.specs.Prelude.{ℕ, ◌+◌, ◌-◌, ◌*◌, List, [], ◌∷�
 use Rattle.std.specs.List.{list_any, position_or_len, find, filter}
 use lib.Utf8.{encodes}
 use Rattle.std.specs.Cmp.Lexicographic.{pointwise}
-use Rattle.sparql_grammar.specs.declared.names.Declaration.{Declaration}
+use Rattle.sparql_grammar.specs.declared.declarations.Declaration.{Declaration}
 
 -- the declarations of a text, the last one first
 abbrev pub Names : Type 0

@@ -1,7 +1,7 @@
 //! Defines the grammar of SELECT queries, over lists of terminals.
 //!
 //! The grammar is a value: `right_side` of specs/Productions.antt maps each symbol to its right
-//! side. `Matches` of specs/Matches.antt is the relation that the productions derive. It relates
+//! side. `Derivation` of specs/Derivation.antt is the relation that the productions derive. It relates
 //! lists of terminals to syntax trees and does not look ahead. The law [`one_query`] states that a
 //! list of terminals is at most one query.
 //!
@@ -17,7 +17,7 @@
 //! language) has the supported part.
 //!
 //! Reading order: specs/Class.antt, specs/Symbol.antt, specs/Form.antt, specs/Productions.antt,
-//! specs/Matches.antt, then `laws`; specs/Values.antt, then `names`.
+//! specs/Derivation.antt, then `laws`; specs/Values.antt, then `declarations`.
 //!
 //! Tests: `declarations` and `productions` of the crate query_tests.
 //!
@@ -25,8 +25,8 @@
 //! reject a query (`sparql_read`).
 #![tactic(auto)]
 
+mod declarations;
 mod laws;
-mod names;
 
+pub use declarations::{Declaration, Declarations};
 pub use laws::one_query;
-pub use names::{Declaration, Declarations};

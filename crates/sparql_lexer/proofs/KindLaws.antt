@@ -10,7 +10,7 @@ use Rattle.sparql_lexer.specs.Characters.{is_digit, is_letter, is_base}
 use Rattle.sparql_lexer.specs.Enclosed.{iri, iri_piece, short_piece, short_string, long_string, long_piece, three}
 use Rattle.sparql_lexer.specs.Names.{variable, namespace, prefixed_name, local, word}
 use Rattle.sparql_lexer.specs.Numbers.{digit, integer, decimal, double, exponent, signed, is_plus_or_minus, is_exponent_letter}
-use Rattle.sparql_lexer.specs.Colonless.{Behind, here, next}
+use Rattle.sparql_lexer.specs.Colonless.{HasSuffix, here, next}
 use Rattle.sparql_lexer.specs.Pattern.{Pattern, character, ◌▸◌, ◌or◌, many, is, some, Matches, is_character, both, left, right, no_more, one_more}
 use Rattle.sparql_lexer.specs.Scan.{Reads, Longest, Scans, stops, reads}
 use Rattle.sparql_lexer.specs.Signs.{IsSign, one, two, sign_of_one, sign_of_two}
@@ -335,15 +335,15 @@ sign_same (two e) (two f) h k = cc
 
 -- within a group
 
-covers : (p : ℕ → Bool) {ts r m : List ℕ} {c : ℕ} → Matches (many (character p)) ts r → Behind ts (c ∷ m) → Behind m r → p c ≡ true
+covers : (p : ℕ → Bool) {ts r m : List ℕ} {c : ℕ} → Matches (many (character p)) ts r → HasSuffix ts (c ∷ m) → HasSuffix m r → p c ≡ true
 covers p no_more b m = absurd (let k = behind_shorter b in let l = behind_shorter m in omega arith)
 covers p (one_more (is_character e) d) here m = e
 covers p (one_more (is_character e) d) (next b) m = covers p d b m
 
-renamed : {ts r : List ℕ} (n c : ℕ) → nat_eq n c ≡ true → Behind ts (c ∷ r) → Behind ts (n ∷ r)
-renamed {ts = ts} {r = r} n c e b = subst (λ z. Behind ts (z ∷ r)) (sym (same_number n c e)) b
+renamed : {ts r : List ℕ} (n c : ℕ) → nat_eq n c ≡ true → HasSuffix ts (c ∷ r) → HasSuffix ts (n ∷ r)
+renamed {ts = ts} {r = r} n c e b = subst (λ z. HasSuffix ts (z ∷ r)) (sym (same_number n c e)) b
 
-namespace_colon : {ts r : List ℕ} → Matches namespace ts r → Behind ts (58 ∷ r)
+namespace_colon : {ts r : List ℕ} → Matches namespace ts r → HasSuffix ts (58 ∷ r)
 namespace_colon (both {mid = m} x (is_character {c = c} e)) = renamed 58 c e (behind x)
 
 word_inside : {ts r : List ℕ} → Matches word ts r → Matches (many (character is_letter)) ts r
@@ -360,13 +360,13 @@ name_word (both n l) w = let e = covers is_letter (word_inside w) (namespace_col
 
 -- numbers
 
-decimal_dot : {ts r : List ℕ} → Matches decimal ts r → (m : List ℕ) × Behind ts (46 ∷ m) × Behind m r
+decimal_dot : {ts r : List ℕ} → Matches decimal ts r → (m : List ℕ) × HasSuffix ts (46 ∷ m) × HasSuffix m r
 decimal_dot (both d (both {mid = m} (is_character {c = c} e) x)) = (m, renamed 46 c e (behind d), behind x)
 
-exponent_letter : {ts r : List ℕ} → Matches exponent ts r → (c : ℕ) × (m : List ℕ) × Behind ts (c ∷ m) × Behind m r × (is_exponent_letter c ≡ true)
+exponent_letter : {ts r : List ℕ} → Matches exponent ts r → (c : ℕ) × (m : List ℕ) × HasSuffix ts (c ∷ m) × HasSuffix m r × (is_exponent_letter c ≡ true)
 exponent_letter (both {mid = m} (is_character {c = c} e) x) = (c, m, here, behind x, e)
 
-double_letter : {ts r : List ℕ} → Matches double ts r → (c : ℕ) × (m : List ℕ) × Behind ts (c ∷ m) × Behind m r × (is_exponent_letter c ≡ true)
+double_letter : {ts r : List ℕ} → Matches double ts r → (c : ℕ) × (m : List ℕ) × HasSuffix ts (c ∷ m) × HasSuffix m r × (is_exponent_letter c ≡ true)
 double_letter (left (both a (both b (both d e)))) = let y = exponent_letter e in (y.0, y.1, behind_behind (behind a) (behind_behind (behind b) (behind_behind (behind d) y.2)), y.3, y.4)
 double_letter (right (left (both a (both b e)))) = let y = exponent_letter e in (y.0, y.1, behind_behind (behind a) (behind_behind (behind b) y.2), y.3, y.4)
 double_letter (right (right (both a e))) = let y = exponent_letter e in (y.0, y.1, behind_behind (behind a) y.2, y.3, y.4)

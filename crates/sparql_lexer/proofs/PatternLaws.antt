@@ -3,26 +3,26 @@
 use Rattle.std.proofs.Common.{◌≡◌, ℕ, ◌<◌, ◌≤◌, List, [], ◌∷◌, length, Bool, true, false, ◌||◌, ◌&&◌, refl, sym, ap, ◌∙◌, subst, arith, Option, Some, None, ◌⊎◌, inl, inr, nat_eq}
 use Rattle.std.proofs.lemmas.Bool.Decides.{nat_tests}
 use Rattle.std.specs.Borrow.{Bor}
-use Rattle.sparql_lexer.specs.Colonless.{Behind, here, next}
+use Rattle.sparql_lexer.specs.Colonless.{HasSuffix, here, next}
 use Rattle.sparql_lexer.specs.Pattern.{Pattern, nothing, character, ◌▸◌, ◌or◌, many, is, perhaps, Matches, is_nothing, is_character, both, left, right, no_more, one_more, EndsAt, Nowhere, Ends}
 
 -- suffixes of a text
 
-pub behind_shorter : {ts rest : List ℕ} → Behind ts rest → length rest ≤ length ts
+pub behind_shorter : {ts rest : List ℕ} → HasSuffix ts rest → length rest ≤ length ts
 behind_shorter here = omega arith
 behind_shorter (next d) = let k = behind_shorter d in omega arith
 
-pub behind_behind : {ts mid rest : List ℕ} → Behind ts mid → Behind mid rest → Behind ts rest
+pub behind_behind : {ts mid rest : List ℕ} → HasSuffix ts mid → HasSuffix mid rest → HasSuffix ts rest
 behind_behind here e = e
 behind_behind (next d) e = next (behind_behind d e)
 
-pub behind_same : {ts r s : List ℕ} → Behind ts r → Behind ts s → length r ≡ length s → r ≡ s
+pub behind_same : {ts r s : List ℕ} → HasSuffix ts r → HasSuffix ts s → length r ≡ length s → r ≡ s
 behind_same here here h = refl
 behind_same here (next d) h = absurd (let k = behind_shorter d in omega arith)
 behind_same (next d) here h = absurd (let k = behind_shorter d in omega arith)
 behind_same (next d) (next e) h = behind_same d e h
 
-pub behind : {a : Pattern} {ts rest : List ℕ} → Matches a ts rest → Behind ts rest
+pub behind : {a : Pattern} {ts rest : List ℕ} → Matches a ts rest → HasSuffix ts rest
 behind is_nothing = here
 behind (is_character e) = next here
 behind (both d e) = behind_behind (behind d) (behind e)
@@ -52,7 +52,7 @@ first (many a) c = first a c
 
 pub data Begins (a : Pattern) : List ℕ → List ℕ → Type 0 where
   takes_nothing : {ts : List ℕ} → nullable a ≡ true → Begins a ts ts
-  takes_some : {c : ℕ} {ts rest : List ℕ} → first a c ≡ true → Behind ts rest → Begins a (c ∷ ts) rest
+  takes_some : {c : ℕ} {ts rest : List ℕ} → first a c ≡ true → HasSuffix ts rest → Begins a (c ∷ ts) rest
 
 pub or_left : (a b : Bool) → a ≡ true → (a || b) ≡ true
 or_left a b h = ap (λ x. x || b) h

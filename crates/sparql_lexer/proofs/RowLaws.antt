@@ -5,7 +5,7 @@ use Rattle.sparql_lexer.specs.declared.token.Keyword.{Keyword}
 use Rattle.sparql_lexer.specs.declared.token.Kind.{Kind}
 use Rattle.sparql_lexer.specs.declared.token.Kind.TheVariants as kind
 use Rattle.sparql_lexer.specs.declared.token.Sign.{Sign}
-use Rattle.sparql_lexer.specs.Candidates.{row, IsRow, BestOf, NoneOf, LongestOf, IsLongest, every_row}
+use Rattle.sparql_lexer.specs.Candidates.{row, IsRow, BestOf, NoneOf, LongestOf, IsLongestTerminal, every_row}
 use Rattle.sparql_lexer.specs.Enclosed.{iri, anonymous, short_string, long_string}
 use Rattle.sparql_lexer.specs.Names.{variable, namespace, prefixed_name, blank_label, language_tag, word}
 use Rattle.sparql_lexer.specs.Numbers.{integer, decimal, double, signed}
@@ -194,6 +194,6 @@ in_every_row (kind.Keyword k) = refl
 in_every_row kind.Word = refl
 in_every_row (kind.Sign s) = refl
 
-pub of_all : (ts : List ℕ) (res : Option (Kind × Bor (List ℕ))) → LongestOf every_row ts res → IsLongest ts res
+pub of_all : (ts : List ℕ) (res : Option (Kind × Bor (List ℕ))) → LongestOf every_row ts res → IsLongestTerminal ts res
 of_all ts None h = λ k r d. h.none k r (in_every_row k) d
 of_all ts (Some p) h = record { reads = h.reads; longest = λ l other d. h.longest l other (in_every_row l) d }

@@ -5,18 +5,18 @@ use Rattle.sparql_lexer.specs.declared.token.Kind.TheVariants as kind
 use Rattle.sparql_lexer.specs.declared.token.Sign.{Sign}
 use Rattle.sparql_lexer.specs.declared.token.Token.{Token}
 use Rattle.sparql_lexer.specs.Blanks.{after_blanks}
-use Rattle.sparql_lexer.specs.Colonless.{Behind, here, next}
+use Rattle.sparql_lexer.specs.Colonless.{HasSuffix, here, next}
 use Rattle.sparql_lexer.specs.Scan.{Reads, Longest, Unreadable, Scans, stops, reads}
 use Rattle.sparql_lexer.specs.Signs.{IsSign, one, two}
 use Rattle.sparql_lexer.specs.Terminal.{Terminal, terminal, terminals}
 use Rattle.sparql_lexer.specs.Words.{taken}
 use Rattle.sparql_lexer.proofs.PatternLaws.{behind, strictly}
 
-sign_behind : {s : Sign} {ts r : List ℕ} → IsSign s ts r → Behind ts r
+sign_behind : {s : Sign} {ts r : List ℕ} → IsSign s ts r → HasSuffix ts r
 sign_behind (one e) = next here
 sign_behind (two e) = next (next here)
 
-pub reads_behind : (k : Kind) (ts r : List ℕ) → Reads k ts r → Behind ts r
+pub reads_behind : (k : Kind) (ts r : List ℕ) → Reads k ts r → HasSuffix ts r
 reads_behind (kind.Keyword k) ts r d = behind d.letters
 reads_behind kind.Word ts r d = behind d.letters
 reads_behind (kind.Sign s) ts r d = sign_behind d

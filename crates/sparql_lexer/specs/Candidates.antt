@@ -70,9 +70,9 @@ abbrev pub every_row : ℕ → Bool
 every_row = either name_rows (either (either number_rows signed_rows) (either (either enclosed_rows marked_rows) (nat_eq 16)))
 
 -- the longest terminal at a place, or None if there is no terminal
-abbrev pub IsLongest : List ℕ → Option (Kind × Bor (List ℕ)) → Type 0
-IsLongest place None = Unreadable place
-IsLongest place (Some p) = Longest p.0 place p.1.now
+abbrev pub IsLongestTerminal : List ℕ → Option (Kind × Bor (List ℕ)) → Type 0
+IsLongestTerminal place None = Unreadable place
+IsLongestTerminal place (Some p) = Longest p.0 place p.1.now
 
 -- the second character of a sign with the first character c
 abbrev pub IsSecond : ℕ → List ℕ → Option (Sign × Bor (List ℕ)) → Type 0

@@ -9,7 +9,7 @@ pub mod Signs
 pub mod Blanks
 pub mod Scan
 pub mod Values
-pub mod Next
+pub mod NextCharacter
 pub mod Classes
 pub mod Forms
 pub mod Candidates

@@ -1,8 +1,8 @@
 //! The longest of several terminals at one place.
 
 ghost use Rattle.std.specs.Prelude.{ℕ, List, Bool, nat_eq};
-ghost use Rattle.sparql_lexer.specs.Candidates.{LongestOf, IsRow, IsLongest, row, either, name_rows, number_rows, signed_rows, enclosed_rows, marked_rows};
-ghost use Rattle.sparql_lexer.specs.Colonless.{IsClear};
+ghost use Rattle.sparql_lexer.specs.Candidates.{LongestOf, IsRow, IsLongestTerminal, row, either, name_rows, number_rows, signed_rows, enclosed_rows, marked_rows};
+ghost use Rattle.sparql_lexer.specs.Colonless.{HasNoNamespace};
 ghost use Rattle.sparql_lexer.specs.Names.{namespace, prefixed_name};
 ghost use Rattle.sparql_lexer.specs.Enclosed.{short_string, long_string};
 ghost use Rattle.sparql_lexer.specs.Pattern.{Pattern, Ends, ◌or◌};
@@ -49,7 +49,7 @@ pub fn longer<'a>(
 
 /// Skips the [140] PNAME_NS at the start of the text, unless the text begins before `end`.
 fn skip_namespace_from<'a>(text: &'a [char], end: &[char]) -> Option<&'a [char]>
-    requires { IsClear text.now end.now }
+    requires { HasNoNamespace text.now end.now }
     ensures { Ends namespace text.now result }
 {
     if end.len() < text.len() {
@@ -60,7 +60,7 @@ fn skip_namespace_from<'a>(text: &'a [char], end: &[char]) -> Option<&'a [char]>
 }
 
 fn skip_prefixed_name_from<'a>(text: &'a [char], end: &[char]) -> Option<&'a [char]>
-    requires { IsClear text.now end.now }
+    requires { HasNoNamespace text.now end.now }
     ensures { Ends prefixed_name text.now result }
 {
     if end.len() < text.len() {
@@ -71,7 +71,7 @@ fn skip_prefixed_name_from<'a>(text: &'a [char], end: &[char]) -> Option<&'a [ch
 }
 
 fn scan_name<'a>(text: &'a [char], end: &[char]) -> Option<(Kind, &'a [char])>
-    requires { IsClear text.now end.now }
+    requires { HasNoNamespace text.now end.now }
     ensures { LongestOf name_rows text.now result }
 {
     let word = scan_word(text);
@@ -136,8 +136,8 @@ fn scan_marked(text: &[char]) -> Option<(Kind, &[char])>
 /// Returns the kind of the longest terminal at the start of the text, and the text after it.
 /// Returns None if the text begins with no terminal. No PNAME_NS begins in the text before `end`.
 pub fn scan_terminal<'a>(text: &'a [char], end: &[char]) -> Option<(Kind, &'a [char])>
-    requires { IsClear text.now end.now }
-    ensures { IsLongest text.now result }
+    requires { HasNoNamespace text.now end.now }
+    ensures { IsLongestTerminal text.now result }
 {
     let name = scan_name(text, end);
     let number = longer(scan_number(text), scan_signed(text));

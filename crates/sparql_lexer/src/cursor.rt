@@ -3,13 +3,13 @@
 ghost use Rattle.std.specs.Prelude.{◌≡◌, Some, ℕ, List};
 ghost use Rattle.sparql_lexer.specs.Pattern.{Pattern, character, is, many, some, ◌or◌, Ends, EndsAt};
 ghost use Rattle.sparql_lexer.specs.Classes.{members};
-ghost use Rattle.sparql_lexer.specs.Next.{IsNext};
+ghost use Rattle.sparql_lexer.specs.NextCharacter.{IsNextCharacter};
 
 use crate::classes::{Class, is_member};
 
 /// Returns the first character and the text after it, or None if the text is empty.
 pub fn next(text: &[char]) -> Option<(char, &[char])>
-    ensures { IsNext text.now result }
+    ensures { IsNextCharacter text.now result }
 {
     let (first, after) = text.split_first()?;
     Some((*first, after))

@@ -1,7 +1,7 @@
 //! Prefixed names, variables, blank node labels and language tags.
 
 ghost use Rattle.std.specs.Prelude.{◌≡◌, ◌∷◌, Some, true, ℕ, List};
-ghost use Rattle.sparql_lexer.specs.Colonless.{Behind, IsClear, IsRun, is_name_or_dot};
+ghost use Rattle.sparql_lexer.specs.Colonless.{HasSuffix, HasNoNamespace, NameEndsAt, is_name_or_dot};
 ghost use Rattle.sparql_lexer.specs.Characters.{is_local_start};
 ghost use Rattle.sparql_lexer.specs.Pattern.{character, many, ◌or◌, Ends, EndsAt};
 ghost use Rattle.sparql_lexer.specs.Names.{local_escape, tail, namespace, local, prefixed_name, blank_label, variable, subtag, language_tag};
@@ -140,8 +140,8 @@ pub fn skip_language_tag(text: &[char]) -> Option<&[char]>
 
 /// Returns whether the last character before `end` is a dot.
 fn ends_with_dot(text: &[char], end: &[char]) -> bool
-    requires { Behind text.now end.now }
-    ensures { result ≡ true → Behind text.now (46 ∷ end.now) }
+    requires { HasSuffix text.now end.now }
+    ensures { result ≡ true → HasSuffix text.now (46 ∷ end.now) }
 {
     end.len() < text.len() && text[text.len() - end.len() - 1] == '.'
 }
@@ -154,7 +154,7 @@ fn ends_with_dot(text: &[char], end: &[char]) -> bool
 /// once, and the function returns the text itself.
 pub fn clear_end<'a>(text: &'a [char], end: &'a [char]) -> &'a [char]
     requires { EndsAt (many (character is_name_or_dot)) text.now end.now }
-    ensures { IsClear text.now result.now }
+    ensures { HasNoNamespace text.now result.now }
 {
     match accept(end, ':') {
         None => end,
@@ -169,7 +169,7 @@ pub fn clear_end<'a>(text: &'a [char], end: &'a [char]) -> &'a [char]
 /// A place before that end is in the earlier run, and both runs end at the same place. A long run
 /// is therefore scanned once, not again from each terminal in it.
 pub fn run_end<'a>(place: &'a [char], end: &'a [char]) -> &'a [char]
-    ensures { (text : List ℕ) → Behind text place.now → IsRun text end.now → EndsAt (many (character is_name_or_dot)) place.now result.now }
+    ensures { (text : List ℕ) → HasSuffix text place.now → NameEndsAt text end.now → EndsAt (many (character is_name_or_dot)) place.now result.now }
 {
     if end.len() < place.len() {
         end

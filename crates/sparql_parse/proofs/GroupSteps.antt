@@ -8,9 +8,9 @@ use Rattle.sparql_grammar.specs.Symbol.{Symbol, Value, Select}
 use Rattle.sparql_grammar.specs.Symbol as the
 use Rattle.sparql_grammar.specs.Productions.{right_side}
 use Rattle.sparql_grammar.proofs.ProductionLaws.{good}
-use Rattle.sparql_expression.specs.Reading.{Answer, Reads}
+use Rattle.sparql_expression.specs.ParseResult.{ParseResult, Parses}
 use Rattle.sparql_expression.proofs.Steps.{Left, mapped}
-use Rattle.sparql_parse.specs.Groups.{IsRun, IsBehindDot}
+use Rattle.sparql_parse.specs.Groups.{IsElementRun, IsAfterDot}
 use Rattle.sparql_parse.specs.Queries.{IsDeclaration}
 
 onto-push : (acc : GroupTree) (es : List ElementTree) (e : ElementTree) → onto acc (es ++ e ∷ []) ≡ then (onto acc es) e
@@ -27,49 +27,49 @@ group-push es e = ap (onto none) (map-push element_of es e) ∙ onto-push none (
 -- a run of triples, and the terminals after it
 
 run_is : {names : Names} {es fs : GroupTree} {before after : List Terminal} → Left names (the.body es) before (the.others fs) (λ v. v) (right_side (the.others fs)) after
-    → (answer : Answer (the.others fs)) → Reads names (the.others fs) after answer → Reads names (the.body es) before answer
+    → (answer : ParseResult (the.others fs)) → Parses names (the.others fs) after answer → Parses names (the.body es) before answer
 run_is l (Ok p) r = l.goes (Ok p) r
 run_is l (Err e) r = l.goes (Err e) r
 
 pub is_run : {names : Names} {es fs : GroupTree} {before after : List Terminal}
-    → Left names (the.body es) before (the.others fs) (λ v. v) (right_side (the.others fs)) after → IsRun names es fs before after
+    → Left names (the.body es) before (the.others fs) (λ v. v) (right_side (the.others fs)) after → IsElementRun names es fs before after
 is_run l = λ answer r. run_is l answer r
 
 run_goes : {names : Names} {s : Symbol} {ts : List Terminal} {es fs : GroupTree} {g : GroupTree → Value s} {before after : List Terminal}
-    → Left names s ts (the.body es) g (right_side (the.body es)) before → IsRun names es fs before after
-    → (answer : Answer (the.others fs)) → Reads names (the.others fs) after answer → Reads names s ts (mapped g answer)
+    → Left names s ts (the.body es) g (right_side (the.body es)) before → IsElementRun names es fs before after
+    → (answer : ParseResult (the.others fs)) → Parses names (the.others fs) after answer → Parses names s ts (mapped g answer)
 run_goes l h (Ok p) r = l.goes (Ok p) (h (Ok p) r)
 run_goes l h (Err e) r = l.goes (Err e) (h (Err e) r)
 
 pub behind_run : {names : Names} {s : Symbol} {ts : List Terminal} {es fs : GroupTree} {g : GroupTree → Value s} {before after : List Terminal}
-    → Left names s ts (the.body es) g (right_side (the.body es)) before → IsRun names es fs before after → Left names s ts (the.others fs) g (right_side (the.others fs)) after
+    → Left names s ts (the.body es) g (right_side (the.body es)) before → IsElementRun names es fs before after → Left names s ts (the.others fs) g (right_side (the.others fs)) after
 behind_run {fs = fs} l h = record { good = good (the.others fs); goes = λ answer r. run_goes l h answer r }
 
 -- a dot, or none
 
 dot_is : {names : Names} {es : GroupTree} {before after : List Terminal} → Left names (the.after_other es) before (the.body es) (λ v. v) (right_side (the.body es)) after
-    → (answer : Answer (the.body es)) → Reads names (the.body es) after answer → Reads names (the.after_other es) before answer
+    → (answer : ParseResult (the.body es)) → Parses names (the.body es) after answer → Parses names (the.after_other es) before answer
 dot_is l (Ok p) r = l.goes (Ok p) r
 dot_is l (Err e) r = l.goes (Err e) r
 
 pub is_behind_dot : {before after : List Terminal}
-    → ((names : Names) (es : GroupTree) → Left names (the.after_other es) before (the.body es) (λ v. v) (right_side (the.body es)) after) → IsBehindDot before after
+    → ((names : Names) (es : GroupTree) → Left names (the.after_other es) before (the.body es) (λ v. v) (right_side (the.body es)) after) → IsAfterDot before after
 is_behind_dot l = λ names es answer r. dot_is (l names es) answer r
 
 dot_goes : {names : Names} {s : Symbol} {ts : List Terminal} {es : GroupTree} {g : GroupTree → Value s} {before after : List Terminal}
-    → Left names s ts (the.after_other es) g (right_side (the.after_other es)) before → IsBehindDot before after
-    → (answer : Answer (the.body es)) → Reads names (the.body es) after answer → Reads names s ts (mapped g answer)
+    → Left names s ts (the.after_other es) g (right_side (the.after_other es)) before → IsAfterDot before after
+    → (answer : ParseResult (the.body es)) → Parses names (the.body es) after answer → Parses names s ts (mapped g answer)
 dot_goes {names = names} {es = es} l h (Ok p) r = l.goes (Ok p) (h names es (Ok p) r)
 dot_goes {names = names} {es = es} l h (Err e) r = l.goes (Err e) (h names es (Err e) r)
 
 pub behind_dot : {names : Names} {s : Symbol} {ts : List Terminal} {es : GroupTree} {g : GroupTree → Value s} {before after : List Terminal}
-    → Left names s ts (the.after_other es) g (right_side (the.after_other es)) before → IsBehindDot before after → Left names s ts (the.body es) g (right_side (the.body es)) after
+    → Left names s ts (the.after_other es) g (right_side (the.after_other es)) before → IsAfterDot before after → Left names s ts (the.body es) g (right_side (the.body es)) after
 behind_dot {es = es} l h = record { good = good (the.body es); goes = λ answer r. dot_goes l h answer r }
 
 -- a declaration
 
 declaration_is : {names : Names} {before after : List Terminal} → Left names the.declared before the.query (λ v. v) (right_side the.query) after
-    → (answer : Answer the.query) → Reads names the.query after answer → Reads names the.declared before answer
+    → (answer : ParseResult the.query) → Parses names the.query after answer → Parses names the.declared before answer
 declaration_is l (Ok p) r = l.goes (Ok p) r
 declaration_is l (Err e) r = l.goes (Err e) r
 
@@ -79,7 +79,7 @@ is_declaration l = λ answer r. declaration_is l answer r
 
 declaration_goes : {names : Names} {s : Symbol} {ts : List Terminal} {g : Select → Value s} {before after : List Terminal}
     → Left names s ts the.declared g (right_side the.declared) before → IsDeclaration names before after
-    → (answer : Answer the.query) → Reads names the.query after answer → Reads names s ts (mapped g answer)
+    → (answer : ParseResult the.query) → Parses names the.query after answer → Parses names s ts (mapped g answer)
 declaration_goes l h (Ok p) r = l.goes (Ok p) (h (Ok p) r)
 declaration_goes l h (Err e) r = l.goes (Err e) (h (Err e) r)
 

@@ -12,18 +12,18 @@ use Rattle.sparql_grammar.specs.Form.{last}
 use Rattle.sparql_grammar.specs.Productions.{right_side, and_triple}
 use Rattle.sparql_grammar.specs.Follow.{heads, is_verb}
 use Rattle.sparql_grammar.proofs.ProductionLaws.{good}
-use Rattle.sparql_expression.specs.declared.fault.ReadFault.{ReadFault}
-use Rattle.sparql_expression.specs.Reading.{Answer, Reads}
+use Rattle.sparql_expression.specs.declared.fault.ParseFault.{ParseFault}
+use Rattle.sparql_expression.specs.ParseResult.{ParseResult, Parses}
 use Rattle.sparql_expression.proofs.Steps.{Left, mapped, begin, then_read, part_fails, enter, last_reads, last_fails, here, left, branch, passed_by}
 use Rattle.sparql_parse.specs.Seen.{seen_out}
-use Rattle.sparql_parse.specs.Objects.{IsObject, IsProperty, ReadsProperty}
+use Rattle.sparql_parse.specs.Objects.{IsObject, IsProperty, ParsesProperty}
 
 -- the last call of a reader, for any result
 pub tail : {names : Names} {s : Symbol} {ts : List Terminal} {u : Symbol} {g : Value u → Value s} {w : Symbol} {h : Value w → Value u} {mid : List Terminal}
-    → Left names s ts u g (last w h) mid → (to : Answer w → Answer s) → ((v : Value w) (rest : List Terminal) → to (Ok (v, rest)) ≡ Ok (g (h v), rest)) → ((e : ReadFault) → to (Err e) ≡ Err e)
-    → (answer : Answer w) → Reads names w mid answer → Reads names s ts (to answer)
-tail {names = names} {s = s} {ts = ts} l to a b (Ok p) r = subst (λ x. Reads names s ts x) (sym (a p.0 p.1)) (last_reads l r refl)
-tail {names = names} {s = s} {ts = ts} l to a b (Err e) r = subst (λ x. Reads names s ts x) (sym (b e)) (last_fails l r)
+    → Left names s ts u g (last w h) mid → (to : ParseResult w → ParseResult s) → ((v : Value w) (rest : List Terminal) → to (Ok (v, rest)) ≡ Ok (g (h v), rest)) → ((e : ParseFault) → to (Err e) ≡ Err e)
+    → (answer : ParseResult w) → Parses names w mid answer → Parses names s ts (to answer)
+tail {names = names} {s = s} {ts = ts} l to a b (Ok p) r = subst (λ x. Parses names s ts x) (sym (a p.0 p.1)) (last_reads l r refl)
+tail {names = names} {s = s} {ts = ts} l to a b (Err e) r = subst (λ x. Parses names s ts x) (sym (b e)) (last_fails l r)
 
 pub object_read : {names : Names} {s : Symbol} {ts : List Terminal} {a b : PatternTerm} {us vs : List Triple} {g : List Triple → Value s} {mid after : List Terminal}
     → Left names s ts (the.objects a b us) g (right_side (the.objects a b us)) mid → IsObject names a b us vs mid after
@@ -33,21 +33,21 @@ object_read {names = names} {s = s} {ts = ts} {a = a} {b = b} {g = g} {after = a
 
 property_is : {names : Names} {a : PatternTerm} {us vs : List Triple} {before after : List Terminal}
     → Left names (the.after_semicolon a us) before (the.more_properties a vs) (λ v. v) (right_side (the.more_properties a vs)) after
-    → (answer : Answer (the.more_properties a vs)) → Reads names (the.more_properties a vs) after answer → Reads names (the.after_semicolon a us) before answer
+    → (answer : ParseResult (the.more_properties a vs)) → Parses names (the.more_properties a vs) after answer → Parses names (the.after_semicolon a us) before answer
 property_is l (Ok p) r = l.goes (Ok p) r
 property_is l (Err e) r = l.goes (Err e) r
 
 pub no_property : {names : Names} {a : PatternTerm} {us : List Triple} {ts : List Terminal} → heads is_verb ts ≡ false → IsProperty names a us us ts ts
 no_property {names = names} {a = a} {us = us} {ts = ts} h = λ answer r. property_is (enter (passed_by (begin names (the.after_semicolon a us) ts) refl h)) answer r
 
-pub next_property : {names : Names} {a : PatternTerm} {us : List Triple} {ts : List Terminal} (vs : List Triple) (res : Result (Bor (List Token)) ReadFault)
-    → heads is_verb ts ≡ true → Reads names (the.property a us) ts (seen_out vs res) → ReadsProperty names a us vs ts res
+pub next_property : {names : Names} {a : PatternTerm} {us : List Triple} {ts : List Terminal} (vs : List Triple) (res : Result (Bor (List Token)) ParseFault)
+    → heads is_verb ts ≡ true → Parses names (the.property a us) ts (seen_out vs res) → ParsesProperty names a us vs ts res
 next_property {names = names} {a = a} {us = us} {ts = ts} vs (Ok after) h r = λ answer q. property_is (enter (then_read (branch (begin names (the.after_semicolon a us) ts) (left here) h) r)) answer q
 next_property {names = names} {a = a} {us = us} {ts = ts} vs (Err e) h r = part_fails (branch (begin names (the.after_semicolon a us) ts) (left here) h) r
 
 property_goes : {names : Names} {s : Symbol} {ts : List Terminal} {a : PatternTerm} {us vs : List Triple} {g : List Triple → Value s} {before after : List Terminal}
     → Left names s ts (the.after_semicolon a us) g (right_side (the.after_semicolon a us)) before → IsProperty names a us vs before after
-    → (answer : Answer (the.more_properties a vs)) → Reads names (the.more_properties a vs) after answer → Reads names s ts (mapped g answer)
+    → (answer : ParseResult (the.more_properties a vs)) → Parses names (the.more_properties a vs) after answer → Parses names s ts (mapped g answer)
 property_goes l h (Ok p) r = l.goes (Ok p) (h (Ok p) r)
 property_goes l h (Err e) r = l.goes (Err e) (h (Err e) r)
 
@@ -57,8 +57,8 @@ pub behind_property : {names : Names} {s : Symbol} {ts : List Terminal} {a : Pat
 behind_property {a = a} {vs = vs} l h = record { good = good (the.more_properties a vs); goes = λ answer r. property_goes l h answer r }
 
 -- a result for the last symbol is a result for the whole
-pub whole : {names : Names} {s : Symbol} {ts : List Terminal} {u : Symbol} {g : Value u → Value s} {mid : List Terminal} {e : ReadFault}
-    → Left names s ts u g (right_side u) mid → Reads names u mid (Err e) → Reads names s ts (Err e)
+pub whole : {names : Names} {s : Symbol} {ts : List Terminal} {u : Symbol} {g : Value u → Value s} {mid : List Terminal} {e : ParseFault}
+    → Left names s ts u g (right_side u) mid → Parses names u mid (Err e) → Parses names s ts (Err e)
 whole {e = e} l r = l.goes (Err e) r
 
 pub and_copied : (ts : List Triple) {us : List Triple} {a b a' b' : PatternTerm} (o : PatternTerm) → us ≡ ts ++ record { subject = a'; predicate = b'; object = o } ∷ [] → a' ≡ a → b' ≡ b → us ≡ and_triple ts a b o

@@ -9,10 +9,10 @@ use Rattle.sparql_grammar.specs.Values.{Names}
 use Rattle.sparql_grammar.specs.Symbol.{Select}
 use Rattle.sparql_grammar.specs.Symbol as the
 use Rattle.sparql_grammar.specs.Productions.{right_side}
-use Rattle.sparql_grammar.specs.Matches.{Matches}
-use Rattle.sparql_expression.specs.declared.fault.ReadFault.{ReadFault}
-use Rattle.sparql_expression.specs.declared.fault.ReadFault.TheVariants.{Syntax, Memory}
-use Rattle.sparql_expression.specs.Reading.{Answer, Reads}
+use Rattle.sparql_grammar.specs.Derivation.{Derivation}
+use Rattle.sparql_expression.specs.declared.fault.ParseFault.{ParseFault}
+use Rattle.sparql_expression.specs.declared.fault.ParseFault.TheVariants.{Syntax, Memory}
+use Rattle.sparql_expression.specs.ParseResult.{ParseResult, Parses}
 use Rattle.sparql_expression.specs.Front.{Taken, Untaken}
 use Rattle.sparql_grammar.specs.Class.{count}
 use Rattle.sparql_parse.specs.declared.select.Select as code
@@ -29,24 +29,24 @@ select_of q = record {
 
 -- all of the terminals are the query
 abbrev pub IsQuery : (names : Names) → List Terminal → Select → Type 0
-IsQuery names ts q = Matches names the.query (right_side the.query) ts q []
+IsQuery names ts q = Derivation names the.query (right_side the.query) ts q []
 
 -- The result is a query if the terminals are this query, and Syntax if they are no query. Memory
 -- says nothing about them.
-abbrev pub IsParsed : (names : Names) → List Terminal → Result code.Select ReadFault → Type 0
+abbrev pub IsParsed : (names : Names) → List Terminal → Result code.Select ParseFault → Type 0
 IsParsed names ts (Ok q) = IsQuery names ts (select_of q)
 IsParsed names ts (Err Syntax) = (q : Select) → IsQuery names ts q → ⊥
 IsParsed names ts (Err Memory) = Unit {0}
 
 -- A result from the terminals after a declaration is a result from the declaration and them.
 abbrev pub IsDeclaration : (names : Names) (before after : List Terminal) → Type 0
-IsDeclaration names before after = (answer : Answer the.query) → Reads names the.query after answer → Reads names the.declared before answer
+IsDeclaration names before after = (answer : ParseResult the.query) → Parses names the.query after answer → Parses names the.declared before answer
 
-abbrev pub ReadsDeclaration : (names : Names) → List Terminal → Result (Bor (List Token)) ReadFault → Type 0
-ReadsDeclaration names before (Ok after) = IsDeclaration names before (terminals after.now)
-ReadsDeclaration names before (Err e) = Reads names the.declared before (Err e)
+abbrev pub ParsesDeclaration : (names : Names) → List Terminal → Result (Bor (List Token)) ParseFault → Type 0
+ParsesDeclaration names before (Ok after) = IsDeclaration names before (terminals after.now)
+ParsesDeclaration names before (Err e) = Parses names the.declared before (Err e)
 
-abbrev pub ReadsCount : (names : Names) → List Terminal → Result (ℕ × Bor (List Token)) ReadFault → Type 0
-ReadsCount names before (Ok p) = Taken names count before p.0 (terminals p.1.now)
-ReadsCount names before (Err Syntax) = Untaken names count before
-ReadsCount names before (Err Memory) = Unit {0}
+abbrev pub ParsesCount : (names : Names) → List Terminal → Result (ℕ × Bor (List Token)) ParseFault → Type 0
+ParsesCount names before (Ok p) = Taken names count before p.0 (terminals p.1.now)
+ParsesCount names before (Err Syntax) = Untaken names count before
+ParsesCount names before (Err Memory) = Unit {0}

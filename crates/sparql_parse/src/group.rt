@@ -5,15 +5,13 @@ ghost use Rattle.sparql_lexer.specs.Terminal.{terminals};
 ghost use Rattle.sparql_tree.specs.ExpressionTree.{expression_of};
 ghost use Rattle.sparql_tree.specs.GroupTree.{element_of, group_of};
 ghost use Rattle.sparql_grammar.specs.Symbol as the;
-ghost use Rattle.sparql_expression.specs.Reading.{Reads, seen};
-ghost use Rattle.sparql_parse.specs.Groups.{IsBehindDot, ReadsRun};
+ghost use Rattle.sparql_expression.specs.ParseResult.{Parses, seen};
+ghost use Rattle.sparql_parse.specs.Groups.{IsAfterDot, ParsesElementRun};
 
+use crate::data_block::read_data_block;
 use crate::triples::{read_triples, starts_place};
-use crate::values::read_data_block;
-use sparql_expression::{
-    ReadFault, accept, accept_name, accept_variable, accept_word, read_bracket, read_call,
-    read_disjunction,
-};
+use sparql_expression::tokens::{accept, accept_name, accept_variable, accept_word};
+use sparql_expression::{ParseFault, read_bracket, read_call, read_disjunction};
 use sparql_grammar::Declarations;
 use sparql_lexer::{Keyword, Sign, Token};
 use sparql_tree::{Element, Expression, GraphName};
@@ -25,12 +23,12 @@ pub fn read_group<'t, 'a>(
     alloc: Global,
     names: &Declarations,
     tokens: &'t [Token<'a>],
-) -> Result<(Vec<Element>, &'t [Token<'a>]), ReadFault>
-    ensures reads { Reads names.now the.group (terminals tokens.now) (seen (λ v. group_of v.items) result) }
+) -> Result<(Vec<Element>, &'t [Token<'a>]), ParseFault>
+    ensures reads { Parses names.now the.group (terminals tokens.now) (seen (λ v. group_of v.items) result) }
     ensures shorter { IfOk result (λ p. length p.1.now < length tokens.now) }
 {
     let Some(inside) = accept(tokens, Sign::OpenBrace) else {
-        return Err(ReadFault::Syntax);
+        return Err(ParseFault::Syntax);
     };
     let mut elements = Vec::new(alloc);
     let mut rest = read_run(alloc, names, &mut elements, inside)?;
@@ -50,8 +48,8 @@ fn read_run<'t, 'a>(
     names: &Declarations,
     elements: &mut Vec<Element>,
     tokens: &'t [Token<'a>],
-) -> Result<&'t [Token<'a>], ReadFault>
-    ensures reads { ReadsRun names.now (group_of elements.old.items) (group_of elements.new.items) (terminals tokens.now) result }
+) -> Result<&'t [Token<'a>], ParseFault>
+    ensures reads { ParsesElementRun names.now (group_of elements.old.items) (group_of elements.new.items) (terminals tokens.now) result }
     ensures shorter { IfOk result (λ rest. length rest.now ≤ length tokens.now) }
 {
     if !starts_place(tokens) {
@@ -65,7 +63,7 @@ fn read_run<'t, 'a>(
 
 /// Returns the tokens after a dot, or all tokens if the first is not a dot.
 fn skip_dot<'t, 'a>(tokens: &'t [Token<'a>]) -> &'t [Token<'a>]
-    ensures reads { IsBehindDot (terminals tokens.now) (terminals result.now) }
+    ensures reads { IsAfterDot (terminals tokens.now) (terminals result.now) }
     ensures shorter { length result.now ≤ length tokens.now }
 {
     let Some(after) = accept(tokens, Sign::Dot) else {
@@ -80,8 +78,8 @@ fn read_other<'t, 'a>(
     alloc: Global,
     names: &Declarations,
     tokens: &'t [Token<'a>],
-) -> Result<(Element, &'t [Token<'a>]), ReadFault>
-    ensures reads { Reads names.now the.other (terminals tokens.now) (seen element_of result) }
+) -> Result<(Element, &'t [Token<'a>]), ParseFault>
+    ensures reads { Parses names.now the.other (terminals tokens.now) (seen element_of result) }
     ensures shorter { IfOk result (λ p. length p.1.now < length tokens.now) }
 {
     if let Some(after) = accept_word(tokens, Keyword::Optional) {
@@ -107,8 +105,8 @@ fn read_unions<'t, 'a>(
     alloc: Global,
     names: &Declarations,
     tokens: &'t [Token<'a>],
-) -> Result<(Element, &'t [Token<'a>]), ReadFault>
-    ensures reads { Reads names.now the.unions (terminals tokens.now) (seen element_of result) }
+) -> Result<(Element, &'t [Token<'a>]), ParseFault>
+    ensures reads { Parses names.now the.unions (terminals tokens.now) (seen element_of result) }
     ensures shorter { IfOk result (λ p. length p.1.now < length tokens.now) }
 {
     let (first, mut rest) = read_group(alloc, names, tokens)?;
@@ -127,8 +125,8 @@ fn read_named_graph<'t, 'a>(
     alloc: Global,
     names: &Declarations,
     tokens: &'t [Token<'a>],
-) -> Result<(Element, &'t [Token<'a>]), ReadFault>
-    ensures reads { Reads names.now the.named_graph (terminals tokens.now) (seen element_of result) }
+) -> Result<(Element, &'t [Token<'a>]), ParseFault>
+    ensures reads { Parses names.now the.named_graph (terminals tokens.now) (seen element_of result) }
     ensures shorter { IfOk result (λ p. length p.1.now < length tokens.now) }
 {
     let (name, rest) = read_graph_name(alloc, names, tokens)?;
@@ -141,15 +139,15 @@ fn read_graph_name<'t, 'a>(
     alloc: Global,
     names: &Declarations,
     tokens: &'t [Token<'a>],
-) -> Result<(GraphName, &'t [Token<'a>]), ReadFault>
-    ensures reads { Reads names.now the.graph_name (terminals tokens.now) (seen (λ v. v) result) }
+) -> Result<(GraphName, &'t [Token<'a>]), ParseFault>
+    ensures reads { Parses names.now the.graph_name (terminals tokens.now) (seen (λ v. v) result) }
     ensures shorter { IfOk result (λ p. length p.1.now < length tokens.now) }
 {
     if let Some((name, after)) = accept_variable(alloc, tokens)? {
         return Ok((GraphName::Variable(name), after));
     }
     let Some((iri, after)) = accept_name(alloc, names, tokens)? else {
-        return Err(ReadFault::Syntax);
+        return Err(ParseFault::Syntax);
     };
     Ok((GraphName::Iri(iri), after))
 }
@@ -159,8 +157,8 @@ fn read_simple<'t, 'a>(
     alloc: Global,
     names: &Declarations,
     tokens: &'t [Token<'a>],
-) -> Result<(Element, &'t [Token<'a>]), ReadFault>
-    ensures reads { Reads names.now the.simple (terminals tokens.now) (seen element_of result) }
+) -> Result<(Element, &'t [Token<'a>]), ParseFault>
+    ensures reads { Parses names.now the.simple (terminals tokens.now) (seen element_of result) }
     ensures shorter { IfOk result (λ p. length p.1.now < length tokens.now) }
 {
     if let Some(after) = accept_word(tokens, Keyword::Filter) {
@@ -171,7 +169,7 @@ fn read_simple<'t, 'a>(
         return read_binding(alloc, names, after);
     }
     let Some(after) = accept_word(tokens, Keyword::Values) else {
-        return Err(ReadFault::Syntax);
+        return Err(ParseFault::Syntax);
     };
     read_data_block(alloc, names, after)
 }
@@ -181,8 +179,8 @@ fn read_condition<'t, 'a>(
     alloc: Global,
     names: &Declarations,
     tokens: &'t [Token<'a>],
-) -> Result<(Expression, &'t [Token<'a>]), ReadFault>
-    ensures reads { Reads names.now the.condition (terminals tokens.now) (seen expression_of result) }
+) -> Result<(Expression, &'t [Token<'a>]), ParseFault>
+    ensures reads { Parses names.now the.condition (terminals tokens.now) (seen expression_of result) }
     ensures shorter { IfOk result (λ p. length p.1.now < length tokens.now) }
 {
     if let Some(_inside) = accept(tokens, Sign::OpenParenthesis) {
@@ -196,22 +194,22 @@ fn read_binding<'t, 'a>(
     alloc: Global,
     names: &Declarations,
     tokens: &'t [Token<'a>],
-) -> Result<(Element, &'t [Token<'a>]), ReadFault>
-    ensures reads { Reads names.now the.binding (terminals tokens.now) (seen element_of result) }
+) -> Result<(Element, &'t [Token<'a>]), ParseFault>
+    ensures reads { Parses names.now the.binding (terminals tokens.now) (seen element_of result) }
     ensures shorter { IfOk result (λ p. length p.1.now < length tokens.now) }
 {
     let Some(inside) = accept(tokens, Sign::OpenParenthesis) else {
-        return Err(ReadFault::Syntax);
+        return Err(ParseFault::Syntax);
     };
     let (value, rest) = read_disjunction(alloc, names, inside)?;
     let Some(after) = accept_word(rest, Keyword::As) else {
-        return Err(ReadFault::Syntax);
+        return Err(ParseFault::Syntax);
     };
     let Some((variable, behind)) = accept_variable(alloc, after)? else {
-        return Err(ReadFault::Syntax);
+        return Err(ParseFault::Syntax);
     };
     let Some(end) = accept(behind, Sign::CloseParenthesis) else {
-        return Err(ReadFault::Syntax);
+        return Err(ParseFault::Syntax);
     };
     Ok((Element::Bind(value, variable), end))
 }

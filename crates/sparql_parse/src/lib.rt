@@ -14,18 +14,18 @@
 //! Standard: SPARQL 1.1 Query Language, section 19.8. docs/USAGE.md (the query language)
 //! has the supported part.
 //!
-//! Reading order: `triples`, `values`, `group`, `select`, `query`. Tests: `productions` of the
+//! Reading order: `triples`, `data_block`, `group`, `select`, `query`. Tests: `productions` of the
 //! crate query_tests.
 //!
 //! Not guaranteed: a limit on the depth of nested groups and expressions. The caller first checks
 //! how deep the brackets of the text nest.
 #![tactic(auto)]
 
+mod data_block;
 mod group;
 mod query;
 mod select;
 mod triples;
-mod values;
 
 pub use query::parse;
 pub use select::Select;

@@ -4,15 +4,15 @@ ghost use Rattle.std.specs.Prelude.{◌≡◌, ◌<◌, ◌≤◌, List, [], IfO
 ghost use Rattle.sparql_lexer.specs.Terminal.{terminals};
 ghost use Rattle.sparql_grammar.specs.Values.{Names};
 ghost use Rattle.sparql_grammar.specs.Symbol as the;
-ghost use Rattle.sparql_expression.specs.Reading.{Reads, seen};
+ghost use Rattle.sparql_expression.specs.ParseResult.{Parses, seen};
 ghost use Rattle.sparql_tree.specs.QueryTree.{selection_of};
-ghost use Rattle.sparql_parse.specs.Queries.{IsParsed, ReadsCount, ReadsDeclaration, select_of};
+ghost use Rattle.sparql_parse.specs.Queries.{IsParsed, ParsesCount, ParsesDeclaration, select_of};
 
 use crate::group::read_group;
 use crate::select::Select;
-use sparql_expression::{
-    ReadFault, accept, accept_count, accept_namespace, accept_reference, accept_variable,
-    accept_word,
+use sparql_expression::ParseFault;
+use sparql_expression::tokens::{
+    accept, accept_count, accept_namespace, accept_reference, accept_variable, accept_word,
 };
 use sparql_grammar::Declarations;
 use sparql_lexer::{Keyword, Sign, Token};
@@ -24,14 +24,14 @@ use std::alloc::Global;
 /// # Errors
 /// - `Syntax` if the tokens are not a query.
 /// - `Memory` if an allocation fails.
-pub fn parse(alloc: Global, names: &Declarations, tokens: &[Token]) -> Result<Select, ReadFault>
+pub fn parse(alloc: Global, names: &Declarations, tokens: &[Token]) -> Result<Select, ParseFault>
     ensures query { IsParsed names.now (terminals tokens.now) result }
 {
     let (query, rest) = read_query(alloc, names, tokens)?;
     if rest.is_empty() {
         Ok(query)
     } else {
-        Err(ReadFault::Syntax)
+        Err(ParseFault::Syntax)
     }
 }
 
@@ -40,8 +40,8 @@ fn read_query<'t, 'a>(
     alloc: Global,
     names: &Declarations,
     tokens: &'t [Token<'a>],
-) -> Result<(Select, &'t [Token<'a>]), ReadFault>
-    ensures reads { Reads names.now the.query (terminals tokens.now) (seen select_of result) }
+) -> Result<(Select, &'t [Token<'a>]), ParseFault>
+    ensures reads { Parses names.now the.query (terminals tokens.now) (seen select_of result) }
 {
     let Some(first) = accept_word(tokens, Keyword::Prefix) else {
         return read_select_query(alloc, names, tokens);
@@ -57,15 +57,15 @@ fn read_query<'t, 'a>(
 fn read_declaration<'t, 'a>(
     alloc: Global,
     tokens: &'t [Token<'a>],
-) -> Result<&'t [Token<'a>], ReadFault>
-    ensures reads { (names : Names) → ReadsDeclaration names (terminals tokens.now) result }
+) -> Result<&'t [Token<'a>], ParseFault>
+    ensures reads { (names : Names) → ParsesDeclaration names (terminals tokens.now) result }
     ensures shorter { IfOk result (λ rest. length rest.now < length tokens.now) }
 {
     let Some(after) = accept_namespace(tokens) else {
-        return Err(ReadFault::Syntax);
+        return Err(ParseFault::Syntax);
     };
     let Some((_iri, rest)) = accept_reference(alloc, after)? else {
-        return Err(ReadFault::Syntax);
+        return Err(ParseFault::Syntax);
     };
     Ok(rest)
 }
@@ -75,11 +75,11 @@ fn read_select_query<'t, 'a>(
     alloc: Global,
     names: &Declarations,
     tokens: &'t [Token<'a>],
-) -> Result<(Select, &'t [Token<'a>]), ReadFault>
-    ensures reads { Reads names.now the.select_query (terminals tokens.now) (seen select_of result) }
+) -> Result<(Select, &'t [Token<'a>]), ParseFault>
+    ensures reads { Parses names.now the.select_query (terminals tokens.now) (seen select_of result) }
 {
     let Some(after) = accept_word(tokens, Keyword::Select) else {
-        return Err(ReadFault::Syntax);
+        return Err(ParseFault::Syntax);
     };
     let Some(behind) = accept_word(after, Keyword::Distinct) else {
         return read_selected(alloc, names, false, after);
@@ -93,14 +93,14 @@ fn read_selected<'t, 'a>(
     names: &Declarations,
     distinct: bool,
     tokens: &'t [Token<'a>],
-) -> Result<(Select, &'t [Token<'a>]), ReadFault>
-    ensures reads { Reads names.now (the.select distinct) (terminals tokens.now) (seen select_of result) }
+) -> Result<(Select, &'t [Token<'a>]), ParseFault>
+    ensures reads { Parses names.now (the.select distinct) (terminals tokens.now) (seen select_of result) }
 {
     if let Some(after) = accept(tokens, Sign::Star) {
         return read_pattern(alloc, names, distinct, Selection::All, after);
     }
     let Some((first, mut rest)) = accept_variable(alloc, tokens)? else {
-        return Err(ReadFault::Syntax);
+        return Err(ParseFault::Syntax);
     };
     let mut variables = vec![in alloc; first]?;
     'variables: while let Some((variable, behind)) = accept_variable(alloc, rest)? {
@@ -123,8 +123,8 @@ fn read_pattern<'t, 'a>(
     distinct: bool,
     selection: Selection,
     tokens: &'t [Token<'a>],
-) -> Result<(Select, &'t [Token<'a>]), ReadFault>
-    ensures reads { Reads names.now (the.pattern distinct (selection_of selection)) (terminals tokens.now) (seen select_of result) }
+) -> Result<(Select, &'t [Token<'a>]), ParseFault>
+    ensures reads { Parses names.now (the.pattern distinct (selection_of selection)) (terminals tokens.now) (seen select_of result) }
 {
     let Some(after) = accept_word(tokens, Keyword::Where) else {
         return read_pattern_group(alloc, names, distinct, selection, tokens);
@@ -139,8 +139,8 @@ fn read_pattern_group<'t, 'a>(
     distinct: bool,
     selection: Selection,
     tokens: &'t [Token<'a>],
-) -> Result<(Select, &'t [Token<'a>]), ReadFault>
-    ensures reads { Reads names.now (the.pattern_group distinct (selection_of selection)) (terminals tokens.now) (seen select_of result) }
+) -> Result<(Select, &'t [Token<'a>]), ParseFault>
+    ensures reads { Parses names.now (the.pattern_group distinct (selection_of selection)) (terminals tokens.now) (seen select_of result) }
 {
     let (group, behind) = read_group(alloc, names, tokens)?;
     let ((limit, offset), rest) = read_modifiers(behind)?;
@@ -157,8 +157,8 @@ fn read_pattern_group<'t, 'a>(
 /// Reads the [25] LimitOffsetClauses, if there are any: LIMIT and OFFSET in either order.
 fn read_modifiers<'t, 'a>(
     tokens: &'t [Token<'a>],
-) -> Result<((Option<u64>, Option<u64>), &'t [Token<'a>]), ReadFault>
-    ensures reads { (names : Names) → Reads names the.modifiers (terminals tokens.now) (seen (λ v. v) result) }
+) -> Result<((Option<u64>, Option<u64>), &'t [Token<'a>]), ParseFault>
+    ensures reads { (names : Names) → Parses names the.modifiers (terminals tokens.now) (seen (λ v. v) result) }
 {
     if let Some(after) = accept_word(tokens, Keyword::Limit) {
         let (limit, behind) = read_count(after)?;
@@ -180,11 +180,11 @@ fn read_modifiers<'t, 'a>(
 }
 
 /// Reads the [146] INTEGER of LIMIT or OFFSET.
-fn read_count<'t, 'a>(tokens: &'t [Token<'a>]) -> Result<(u64, &'t [Token<'a>]), ReadFault>
-    ensures reads { (names : Names) → ReadsCount names (terminals tokens.now) result }
+fn read_count<'t, 'a>(tokens: &'t [Token<'a>]) -> Result<(u64, &'t [Token<'a>]), ParseFault>
+    ensures reads { (names : Names) → ParsesCount names (terminals tokens.now) result }
 {
     let Some((count, after)) = accept_count(tokens) else {
-        return Err(ReadFault::Syntax);
+        return Err(ParseFault::Syntax);
     };
     Ok((count, after))
 }

@@ -5,17 +5,17 @@ ghost use Rattle.sparql_lexer.specs.Terminal.{terminals};
 ghost use Rattle.sparql_grammar.specs.Symbol as the;
 ghost use Rattle.sparql_grammar.specs.Values.{anonymous_label};
 ghost use Rattle.sparql_grammar.specs.Follow.{heads, is_place, is_verb};
-ghost use Rattle.sparql_expression.specs.Reading.{Reads, seen};
+ghost use Rattle.sparql_expression.specs.ParseResult.{Parses, seen};
 ghost use Rattle.sparql_parse.specs.Seen.{seen_out};
-ghost use Rattle.sparql_parse.specs.Objects.{ReadsObject, ReadsProperty};
+ghost use Rattle.sparql_parse.specs.Objects.{ParsesObject, ParsesProperty};
 
 use itoa::Buffer;
 use rdf_core::vocabulary::RDF_TYPE;
 use rdf_core::{Term, Text};
-use sparql_expression::{
-    ReadFault, accept, accept_anonymous, accept_blank, accept_name, accept_variable, accept_word,
-    read_term,
+use sparql_expression::tokens::{
+    accept, accept_anonymous, accept_blank, accept_name, accept_variable, accept_word,
 };
+use sparql_expression::{ParseFault, read_term};
 use sparql_grammar::Declarations;
 use sparql_lexer::{Keyword, Kind, Sign, Token};
 use sparql_tree::{PatternTerm, Triple};
@@ -86,8 +86,8 @@ fn read_pattern_term<'t, 'a>(
     alloc: Global,
     names: &Declarations,
     tokens: &'t [Token<'a>],
-) -> Result<(PatternTerm, &'t [Token<'a>]), ReadFault>
-    ensures reads { Reads names.now the.pattern_term (terminals tokens.now) (seen (λ v. v) result) }
+) -> Result<(PatternTerm, &'t [Token<'a>]), ParseFault>
+    ensures reads { Parses names.now the.pattern_term (terminals tokens.now) (seen (λ v. v) result) }
     ensures shorter { IfOk result (λ p. length p.1.now < length tokens.now) }
 {
     if let Some((name, after)) = accept_variable(alloc, tokens)? {
@@ -109,8 +109,8 @@ fn read_verb<'t, 'a>(
     alloc: Global,
     names: &Declarations,
     tokens: &'t [Token<'a>],
-) -> Result<(PatternTerm, &'t [Token<'a>]), ReadFault>
-    ensures reads { Reads names.now the.verb (terminals tokens.now) (seen (λ v. v) result) }
+) -> Result<(PatternTerm, &'t [Token<'a>]), ParseFault>
+    ensures reads { Parses names.now the.verb (terminals tokens.now) (seen (λ v. v) result) }
     ensures shorter { IfOk result (λ p. length p.1.now < length tokens.now) }
 {
     if let Some((name, after)) = accept_variable(alloc, tokens)? {
@@ -120,7 +120,7 @@ fn read_verb<'t, 'a>(
         return Ok((PatternTerm::Term(Term::Iri(iri)), after));
     }
     let Some(after) = accept_word(tokens, Keyword::A) else {
-        return Err(ReadFault::Syntax);
+        return Err(ParseFault::Syntax);
     };
     let iri = Text::from_string(String::from_str(alloc, RDF_TYPE)?);
     Ok((PatternTerm::Term(Term::Iri(iri)), after))
@@ -134,8 +134,8 @@ fn read_objects<'t, 'a>(
     verb: &PatternTerm,
     triples: &mut Vec<Triple>,
     tokens: &'t [Token<'a>],
-) -> Result<&'t [Token<'a>], ReadFault>
-    ensures reads { Reads names.now (the.objects subject.now verb.now triples.old.items) (terminals tokens.now) (seen_out triples.new.items result) }
+) -> Result<&'t [Token<'a>], ParseFault>
+    ensures reads { Parses names.now (the.objects subject.now verb.now triples.old.items) (terminals tokens.now) (seen_out triples.new.items result) }
     ensures shorter { IfOk result (λ rest. length rest.now < length tokens.now) }
 {
     let mut rest = read_object(alloc, names, subject, verb, triples, tokens)?;
@@ -153,8 +153,8 @@ fn read_object<'t, 'a>(
     verb: &PatternTerm,
     triples: &mut Vec<Triple>,
     tokens: &'t [Token<'a>],
-) -> Result<&'t [Token<'a>], ReadFault>
-    ensures reads { ReadsObject names.now subject.now verb.now triples.old.items triples.new.items (terminals tokens.now) result }
+) -> Result<&'t [Token<'a>], ParseFault>
+    ensures reads { ParsesObject names.now subject.now verb.now triples.old.items triples.new.items (terminals tokens.now) result }
     ensures shorter { IfOk result (λ rest. length rest.now < length tokens.now) }
 {
     let (object, rest) = read_pattern_term(alloc, names, tokens)?;
@@ -173,8 +173,8 @@ fn read_property<'t, 'a>(
     subject: &PatternTerm,
     triples: &mut Vec<Triple>,
     tokens: &'t [Token<'a>],
-) -> Result<&'t [Token<'a>], ReadFault>
-    ensures reads { Reads names.now (the.property subject.now triples.old.items) (terminals tokens.now) (seen_out triples.new.items result) }
+) -> Result<&'t [Token<'a>], ParseFault>
+    ensures reads { Parses names.now (the.property subject.now triples.old.items) (terminals tokens.now) (seen_out triples.new.items result) }
     ensures shorter { IfOk result (λ rest. length rest.now < length tokens.now) }
 {
     let (verb, rest) = read_verb(alloc, names, tokens)?;
@@ -188,8 +188,8 @@ fn read_other_property<'t, 'a>(
     subject: &PatternTerm,
     triples: &mut Vec<Triple>,
     tokens: &'t [Token<'a>],
-) -> Result<&'t [Token<'a>], ReadFault>
-    ensures reads { ReadsProperty names.now subject.now triples.old.items triples.new.items (terminals tokens.now) result }
+) -> Result<&'t [Token<'a>], ParseFault>
+    ensures reads { ParsesProperty names.now subject.now triples.old.items triples.new.items (terminals tokens.now) result }
     ensures shorter { IfOk result (λ rest. length rest.now ≤ length tokens.now) }
 {
     if !starts_verb(tokens) {
@@ -204,8 +204,8 @@ fn read_same_subject<'t, 'a>(
     names: &Declarations,
     triples: &mut Vec<Triple>,
     tokens: &'t [Token<'a>],
-) -> Result<&'t [Token<'a>], ReadFault>
-    ensures reads { Reads names.now (the.same_subject triples.old.items) (terminals tokens.now) (seen_out triples.new.items result) }
+) -> Result<&'t [Token<'a>], ParseFault>
+    ensures reads { Parses names.now (the.same_subject triples.old.items) (terminals tokens.now) (seen_out triples.new.items result) }
     ensures shorter { IfOk result (λ rest. length rest.now < length tokens.now) }
 {
     let (subject, behind) = read_pattern_term(alloc, names, tokens)?;
@@ -222,8 +222,8 @@ pub fn read_triples<'t, 'a>(
     names: &Declarations,
     triples: &mut Vec<Triple>,
     tokens: &'t [Token<'a>],
-) -> Result<&'t [Token<'a>], ReadFault>
-    ensures reads { Reads names.now (the.triples triples.old.items) (terminals tokens.now) (seen_out triples.new.items result) }
+) -> Result<&'t [Token<'a>], ParseFault>
+    ensures reads { Parses names.now (the.triples triples.old.items) (terminals tokens.now) (seen_out triples.new.items result) }
     ensures shorter { IfOk result (λ rest. length rest.now < length tokens.now) }
 {
     let mut rest = read_same_subject(alloc, names, triples, tokens)?;

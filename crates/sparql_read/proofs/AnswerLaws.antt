@@ -4,18 +4,18 @@ use Rattle.std.proofs.lemmas.Bool.{cases_lt}
 use Rattle.sparql_tree.specs.QueryTree.{QueryTree}
 use Rattle.sparql_grammar.specs.Symbol as the
 use Rattle.sparql_grammar.specs.Productions.{right_side}
-use Rattle.sparql_grammar.specs.Matches.{Matches}
+use Rattle.sparql_grammar.specs.Derivation.{Derivation}
 use Rattle.sparql_read.specs.declared.fault.QueryFault.{QueryFault}
 use Rattle.sparql_read.specs.declared.fault.QueryFault.TheVariants.{Syntax, UndefinedPrefix, RelativeIri, BindScope, BlankReuse, TooDeep, Memory}
 use Rattle.sparql_read.specs.Prologue.{declarations}
 use Rattle.sparql_read.specs.Derives.{Derives, tree_of}
-use Rattle.sparql_read.specs.Refusal.{Answers, IsRefusal, rank}
+use Rattle.sparql_read.specs.Rejection.{IsReadResult, IsRejectedBy, rank}
 use Rattle.sparql_read.proofs.RefusalLaws.{OneScan, OneQuery}
 
 pub one_tree : OneScan → OneQuery → (text : List ℕ) (q r : QueryTree) → Derives text q → Derives text r → q ≡ r
 one_tree one only text q r d e =
     let t = (one text [] [] d.terminals e.terminals d.scans e.scans).0 in
-    let m = only (declarations e.terminals) e.terminals d.select e.select (subst (λ us. Matches (declarations us) the.query (right_side the.query) us d.select []) t d.derived) e.derived in
+    let m = only (declarations e.terminals) e.terminals d.select e.select (subst (λ us. Derivation (declarations us) the.query (right_side the.query) us d.select []) t d.derived) e.derived in
     d.tree ∙ (ap (λ us. tree_of d.select us) t ∙ (ap (λ s. tree_of s e.terminals) m ∙ sym e.tree))
 
 abbrev by_rank : ℕ → QueryFault
@@ -34,12 +34,12 @@ same_place : (m n : ℕ) → (m < n → ⊥) → (n < m → ⊥) → m ≡ n
 same_place m n a b =
     elim (cases_lt m n) [ inl l ↦ absurd (a l) | inr h ↦ elim (cases_lt n m) [ inl l ↦ absurd (b l) | inr k ↦ omega (arith, h, k) ] ]
 
-one_refusal : (text : List ℕ) (e f : QueryFault) → IsRefusal text e → IsRefusal text f → e ≡ f
+one_refusal : (text : List ℕ) (e f : QueryFault) → IsRejectedBy text e → IsRejectedBy text f → e ≡ f
 one_refusal text e f h k =
     let same = same_place (rank e) (rank f) (λ l. k.first e l h.applies) (λ l. h.first f l k.applies) in
     sym (by_its_rank e) ∙ (ap by_rank same ∙ by_its_rank f)
 
-told : (text : List ℕ) (e : QueryFault) → (e ≡ Memory → ⊥) → Answers text (Err e) → IsRefusal text e
+told : (text : List ℕ) (e : QueryFault) → (e ≡ Memory → ⊥) → IsReadResult text (Err e) → IsRejectedBy text e
 told text TooDeep n h = h
 told text Syntax n h = h
 told text UndefinedPrefix n h = h
@@ -48,7 +48,7 @@ told text BindScope n h = h
 told text BlankReuse n h = h
 told text Memory n h = absurd (n refl)
 
-pub one_answer : OneScan → OneQuery → (text : List ℕ) (r s : Result QueryTree QueryFault) → Answers text r → Answers text s
+pub one_answer : OneScan → OneQuery → (text : List ℕ) (r s : Result QueryTree QueryFault) → IsReadResult text r → IsReadResult text s
     → (r ≡ Err Memory → ⊥) → (s ≡ Err Memory → ⊥) → r ≡ s
 one_answer one only text (Ok q) (Ok r) h k m n = ap Ok (one_tree one only text q r h.derives k.derives)
 one_answer one only text (Ok q) (Err f) h k m n = absurd (h.allowed f (told text f (λ e. n (ap Err e)) k).applies)

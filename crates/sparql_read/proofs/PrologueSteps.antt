@@ -3,7 +3,7 @@ use Rattle.std.proofs.Common.{◌≡◌, ◌+◌, ◌-◌, ◌<◌, ℕ, suc, Li
 use Rattle.std.proofs.lemmas.List.{take_all}
 use Rattle.sparql_lexer.specs.declared.token.Token.{Token}
 use Rattle.sparql_lexer.specs.Terminal.{terminals}
-use Rattle.sparql_grammar.specs.declared.names.Declaration.{Declaration}
+use Rattle.sparql_grammar.specs.declared.declarations.Declaration.{Declaration}
 use Rattle.sparql_grammar.specs.Values.{Names}
 use Rattle.sparql_read.specs.Prologue.{and_declared, declaration_at, declared_onto}
 

@@ -9,7 +9,7 @@ use Rattle.sparql_grammar.specs.Symbol.{Select}
 use Rattle.sparql_grammar.specs.Symbol as the
 use Rattle.sparql_grammar.specs.Values.{Names}
 use Rattle.sparql_grammar.specs.Productions.{right_side}
-use Rattle.sparql_grammar.specs.Matches.{Matches}
+use Rattle.sparql_grammar.specs.Derivation.{Derivation}
 use Rattle.sparql_read.specs.declared.fault.QueryFault.{QueryFault}
 use Rattle.sparql_read.specs.declared.fault.QueryFault.TheVariants.{Syntax, UndefinedPrefix, RelativeIri, BindScope, BlankReuse, TooDeep, Memory}
 use Rattle.sparql_read.specs.Depth.{is_too_deep}
@@ -19,15 +19,15 @@ use Rattle.sparql_read.specs.BindScope.{breaks_bind_scope}
 use Rattle.sparql_read.specs.BlankReuse.{reuses_blank}
 use Rattle.sparql_read.specs.Mentioned.{mentioned}
 use Rattle.sparql_read.specs.Derives.{Derives, tree_of}
-use Rattle.sparql_read.specs.Refusal.{Answers, Applies, IsQueryWith, IsRefusal, IsTooDeep, rank}
-use Rattle.sparql_read.specs.Judged.{Judged}
+use Rattle.sparql_read.specs.Rejection.{IsReadResult, Applies, IsQueryWith, IsRejectedBy, IsTooDeep, rank}
+use Rattle.sparql_read.specs.Checked.{IsChecked}
 
 abbrev pub OneScan : Type 0
 OneScan = (text end end' : List ℕ) (ts ts' : List Terminal) → Scans text ts end → Scans text ts' end' → (ts ≡ ts') × (end ≡ end')
 
 abbrev pub OneQuery : Type 0
 OneQuery = (names : Names) (ts : List Terminal) (q r : Select)
-    → Matches names the.query (right_side the.query) ts q [] → Matches names the.query (right_side the.query) ts r [] → q ≡ r
+    → Derivation names the.query (right_side the.query) ts q [] → Derivation names the.query (right_side the.query) ts r [] → q ≡ r
 
 -- the known facts after a text is parsed
 pub record Known (text : List ℕ) (ts : List Terminal) (s : Select) : Type 0 where
@@ -35,7 +35,7 @@ pub record Known (text : List ℕ) (ts : List Terminal) (s : Select) : Type 0 wh
   pub one_query : OneQuery
   pub scans : Scans text ts []
   pub shallow : is_too_deep ts ≡ false
-  pub derived : Matches (declarations ts) the.query (right_side the.query) ts s []
+  pub derived : Derivation (declarations ts) the.query (right_side the.query) ts s []
 
 pub not_deep : OneScan → (text end : List ℕ) (ts : List Terminal) → Scans text ts end → is_too_deep ts ≡ false → IsTooDeep text → ⊥
 not_deep one text end ts scans e x = let m = one text end x.end ts x.terminals scans x.scans in let k = ap is_too_deep m.0 in let o = x.deep in cc
@@ -55,27 +55,27 @@ below text n a b c d e f Memory h = λ x. x
 over : (m n : ℕ) {A : Type 0} → n ≤ m → m < n → A → ⊥
 over m n h k a = omega arith
 
-pub too_deep : (text end : List ℕ) (ts : List Terminal) → Scans text ts end → is_too_deep ts ≡ true → Answers text (Err TooDeep)
+pub too_deep : (text end : List ℕ) (ts : List Terminal) → Scans text ts end → is_too_deep ts ≡ true → IsReadResult text (Err TooDeep)
 too_deep text end ts scans h = record {
   applies = record { terminals = ts; end = end; scans = scans; deep = h };
   first = below text 0 (over 0 0 (omega arith)) (over 1 0 (omega arith)) (over 2 0 (omega arith)) (over 3 0 (omega arith)) (over 4 0 (omega arith)) (over 5 0 (omega arith));
 }
 
 -- a text that is not read whole, or whose terminals derive nothing
-syntax_refused : (text : List ℕ) → (IsTooDeep text → ⊥) → ((q : QueryTree) → Derives text q → ⊥) → Answers text (Err Syntax)
+syntax_refused : (text : List ℕ) → (IsTooDeep text → ⊥) → ((q : QueryTree) → Derives text q → ⊥) → IsReadResult text (Err Syntax)
 syntax_refused text deep none = record {
   applies = none;
   first = below text 1 (λ h. deep) (over 1 1 (omega arith)) (over 2 1 (omega arith)) (over 3 1 (omega arith)) (over 4 1 (omega arith)) (over 5 1 (omega arith));
 }
 
-pub not_whole : OneScan → (text end : List ℕ) (ts : List Terminal) → Scans text ts end → is_too_deep ts ≡ false → (end ≡ [] → ⊥) → Answers text (Err Syntax)
+pub not_whole : OneScan → (text end : List ℕ) (ts : List Terminal) → Scans text ts end → is_too_deep ts ≡ false → (end ≡ [] → ⊥) → IsReadResult text (Err Syntax)
 not_whole one text end ts scans e other = syntax_refused text (not_deep one text end ts scans e)
     (λ q d. other (one text end [] ts d.terminals scans d.scans).1)
 
 pub not_derived : OneScan → (text : List ℕ) (ts : List Terminal) → Scans text ts [] → is_too_deep ts ≡ false
-    → ((s : Select) → Matches (declarations ts) the.query (right_side the.query) ts s [] → ⊥) → Answers text (Err Syntax)
+    → ((s : Select) → Derivation (declarations ts) the.query (right_side the.query) ts s [] → ⊥) → IsReadResult text (Err Syntax)
 not_derived one text ts scans e none = syntax_refused text (not_deep one text [] ts scans e)
-    (λ q d. none d.select (subst (λ us. Matches (declarations us) the.query (right_side the.query) us d.select []) (one text [] [] d.terminals ts d.scans scans).0 d.derived))
+    (λ q d. none d.select (subst (λ us. Derivation (declarations us) the.query (right_side the.query) us d.select []) (one text [] [] d.terminals ts d.scans scans).0 d.derived))
 
 pub empty_list : {A : Type 0} (xs : List A) → true ≡ (length xs == 0) → xs ≡ []
 empty_list [] h = refl
@@ -94,7 +94,7 @@ module _ {text : List ℕ} {ts : List Terminal} {s : Select} (known : Known text
   same_query : (q : QueryTree) (d : Derives text q) → q ≡ tree_of s ts
   same_query q d =
       let e = same_terminals q d in
-      let m = known.one_query (declarations ts) ts d.select s (subst (λ us. Matches (declarations us) the.query (right_side the.query) us d.select []) e d.derived) known.derived in
+      let m = known.one_query (declarations ts) ts d.select s (subst (λ us. Derivation (declarations us) the.query (right_side the.query) us d.select []) e d.derived) known.derived in
       d.tree ∙ (ap (λ us. tree_of d.select us) e ∙ ap (λ r. tree_of r ts) m)
 
   holds_with : (test : List Terminal → QueryTree → Bool) → test ts (tree_of s ts) ≡ true → IsQueryWith text test
@@ -125,7 +125,7 @@ module _ {text : List ℕ} {ts : List Terminal} {s : Select} (known : Known text
   blank_not : reuses_blank s.group ≡ false → Applies BlankReuse text → ⊥
   blank_not = fails_with (λ us q. reuses_blank q.group)
 
-  pub refused : (e : QueryFault) → Judged ts s.group (Err e) → Answers text (Err e)
+  pub refused : (e : QueryFault) → IsChecked ts s.group (Err e) → IsReadResult text (Err e)
   refused UndefinedPrefix h = record {
     applies = holds_with (λ us q. has_undefined_prefix us) h;
     first = below text 2 (λ k. deep_not) (λ k. syntax_not) (over 2 2 (omega arith)) (over 3 2 (omega arith)) (over 4 2 (omega arith)) (over 5 2 (omega arith));
@@ -146,7 +146,7 @@ module _ {text : List ℕ} {ts : List Terminal} {s : Select} (known : Known text
   refused TooDeep h = absurd h
   refused Memory h = tt
 
-  none_applies : Judged ts s.group (Ok tt) → (r : QueryFault) → Applies r text → ⊥
+  none_applies : IsChecked ts s.group (Ok tt) → (r : QueryFault) → Applies r text → ⊥
   none_applies h TooDeep = deep_not
   none_applies h Syntax = syntax_not
   none_applies h UndefinedPrefix = undefined_not h.0
@@ -155,10 +155,10 @@ module _ {text : List ℕ} {ts : List Terminal} {s : Select} (known : Known text
   none_applies h BlankReuse = blank_not h.3
   none_applies h Memory = λ x. x
 
-  pub allowed : Judged ts s.group (Ok tt) → Answers text (Ok (tree_of s ts))
+  pub allowed : IsChecked ts s.group (Ok tt) → IsReadResult text (Ok (tree_of s ts))
   allowed h = record { derives = derives; allowed = none_applies h }
 
   -- the same, if the variables were collected separately
-  pub allowed_as : Judged ts s.group (Ok tt) → (xs : List (List ℕ)) → xs ≡ mentioned ts
-      → Answers text (Ok (record { distinct = s.distinct; selection = s.selection; group = s.group; limit = s.limit; offset = s.offset; mentioned = xs }))
-  allowed_as h xs e = subst (λ ys. Answers text (Ok (record { distinct = s.distinct; selection = s.selection; group = s.group; limit = s.limit; offset = s.offset; mentioned = ys }))) (sym e) (allowed h)
+  pub allowed_as : IsChecked ts s.group (Ok tt) → (xs : List (List ℕ)) → xs ≡ mentioned ts
+      → IsReadResult text (Ok (record { distinct = s.distinct; selection = s.selection; group = s.group; limit = s.limit; offset = s.offset; mentioned = xs }))
+  allowed_as h xs e = subst (λ ys. IsReadResult text (Ok (record { distinct = s.distinct; selection = s.selection; group = s.group; limit = s.limit; offset = s.offset; mentioned = ys }))) (sym e) (allowed h)

@@ -7,7 +7,7 @@ use Rattle.sparql_tree.specs.QueryTree.{QueryTree}
 use Rattle.sparql_grammar.specs.Symbol.{Select}
 use Rattle.sparql_grammar.specs.Symbol as the
 use Rattle.sparql_grammar.specs.Productions.{right_side}
-use Rattle.sparql_grammar.specs.Matches.{Matches}
+use Rattle.sparql_grammar.specs.Derivation.{Derivation}
 use Rattle.sparql_read.specs.Prologue.{declarations}
 use Rattle.sparql_read.specs.Mentioned.{mentioned}
 
@@ -28,5 +28,5 @@ pub record Derives (text : List ℕ) (q : QueryTree) : Type 0 where
   pub terminals : List Terminal
   pub scans : Scans text terminals []
   pub select : Select
-  pub derived : Matches (declarations terminals) the.query (right_side the.query) terminals select []
+  pub derived : Derivation (declarations terminals) the.query (right_side the.query) terminals select []
   pub tree : q ≡ tree_of select terminals

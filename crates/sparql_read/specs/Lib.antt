@@ -6,7 +6,7 @@ pub mod NameSet
 pub mod BindScope
 pub mod BlankReuse
 pub mod Derives
-pub mod Refusal
+pub mod Rejection
 pub mod ScopeSteps
 pub mod LabelSteps
-pub mod Judged
+pub mod Checked

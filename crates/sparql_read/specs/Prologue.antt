@@ -9,7 +9,7 @@ use Rattle.sparql_lexer.specs.declared.token.Keyword.TheVariants as word
 use Rattle.sparql_lexer.specs.Terminal.{Terminal, terminal}
 use Rattle.sparql_lexer.specs.Values.{iri_value}
 use Rattle.sparql_grammar.specs.Values.{Names, prefix_of, declaration_of}
-use Rattle.sparql_grammar.specs.declared.names.Declaration.{Declaration}
+use Rattle.sparql_grammar.specs.declared.declarations.Declaration.{Declaration}
 
 abbrev pub is_prefix_word : Kind → Bool
 is_prefix_word (kind.Keyword word.Prefix) = true

@@ -6,7 +6,7 @@ ghost use Rattle.sparql_tree.specs.QueryTree.{QueryTree};
 ghost use Rattle.sparql_read.specs.declared.fault.QueryFault.{QueryFault};
 ghost use Rattle.sparql_read.specs.declared.fault.QueryFault.TheVariants.{Memory};
 ghost use Rattle.sparql_read.specs.Derives.{Derives};
-ghost use Rattle.sparql_read.specs.Refusal.{Answers};
+ghost use Rattle.sparql_read.specs.Rejection.{IsReadResult};
 
 use sparql_grammar::one_query;
 use sparql_lexer::one_scan;
@@ -19,7 +19,7 @@ pub fn one_tree()
 /// A text has at most one result, apart from `Memory`: one query, or one rule that rejects it.
 pub fn one_answer()
     ensures unique { (text : List ℕ) (r s : Result QueryTree QueryFault)
-        → Answers text r → Answers text s
+        → IsReadResult text r → IsReadResult text s
         → (r ≡ Err Memory → ⊥) → (s ≡ Err Memory → ⊥) → r ≡ s }
 {
     one_scan();

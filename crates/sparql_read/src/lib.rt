@@ -2,7 +2,7 @@
 //!
 //! [`read_query`] is the main call. It returns the syntax tree that the grammar derives from the
 //! text, a [`Query`], whose types this crate re-exports. If a rule rejects the text, it returns the
-//! first such rule as a [`QueryFault`] (`Answers` of specs/Refusal.antt). The law [`one_tree`]
+//! first such rule as a [`QueryFault`] (`IsReadResult` of specs/Rejection.antt). The law [`one_tree`]
 //! states that a text derives at most one query, rejected or not. The law [`one_answer`] states
 //! that a text has at most one result, apart from `Memory`.
 //!
@@ -16,7 +16,7 @@
 //!
 //! [`declarations_of`] returns the prefix declarations of a text, and [`mentioned`] its variables,
 //! each time that one occurs. The contract of each call states that it returns the value of its
-//! definition over terminals or trees. specs/Refusal.antt defines the order of the rules: the one
+//! definition over terminals or trees. specs/Rejection.antt defines the order of the rules: the one
 //! on depth is before all others.
 //!
 //! Standard: SPARQL 1.1 Query Language, sections 4.1.1 (prefixes), 5.1.1 (blank node labels), 10.1
@@ -24,8 +24,8 @@
 //! relative IRIs are choices of this project.
 //!
 //! Reading order: specs/Depth.antt, specs/Prologue.antt, specs/RelativeIri.antt,
-//! specs/BindScope.antt, specs/BlankReuse.antt, specs/Derives.antt, specs/Refusal.antt; then
-//! `depth`, `prologue`, `iris`, `names`, `scope`, `labels`, `judging`, `reader`, `laws`.
+//! specs/BindScope.antt, specs/BlankReuse.antt, specs/Derives.antt, specs/Rejection.antt; then
+//! `depth`, `prologue`, `iris`, `name_set`, `scope`, `labels`, `checking`, `reader`, `laws`.
 //!
 //! Tests: `texts` of the crate query_tests; `each_rule_is_answered` has a text for each rule.
 //!
@@ -33,13 +33,13 @@
 //! write the triples of the tree, each of which owns its subject and verb.
 #![tactic(auto)]
 
+mod checking;
 mod depth;
 mod fault;
 mod iris;
-mod judging;
 mod labels;
 mod laws;
-mod names;
+mod name_set;
 mod prologue;
 mod reader;
 mod scope;

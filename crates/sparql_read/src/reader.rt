@@ -7,14 +7,14 @@ ghost use Rattle.sparql_lexer.specs.Terminal.{terminals};
 ghost use Rattle.sparql_parse.specs.Queries.{IsQuery, select_of};
 ghost use Rattle.sparql_read.specs.Depth.{is_too_deep};
 ghost use Rattle.sparql_read.specs.Prologue.{declarations};
-ghost use Rattle.sparql_read.specs.Refusal.{Answers, seen};
+ghost use Rattle.sparql_read.specs.Rejection.{IsReadResult, seen};
 
+use crate::checking::check_rules;
 use crate::depth::is_too_deep;
 use crate::fault::QueryFault;
-use crate::judging::judge;
 use crate::prologue::declarations_of;
 use crate::variables::mentioned;
-use sparql_expression::ReadFault;
+use sparql_expression::ParseFault;
 use sparql_grammar::{Declarations, one_query};
 use sparql_lexer::{Token, characters_of, one_scan, scan_text};
 use sparql_parse::{Select, parse};
@@ -23,7 +23,7 @@ use std::alloc::Global;
 
 /// Checks the parser's result for these terminals, which are the whole text and not nested too
 /// deep.
-fn judge_select(
+fn check_select(
     alloc: Global,
     text: &[char],
     names: &Declarations,
@@ -34,11 +34,11 @@ fn judge_select(
     requires shallow { is_too_deep (terminals tokens.now) ≡ false }
     requires names { names.now ≡ declarations (terminals tokens.now) }
     requires parsed { IsQuery names.now (terminals tokens.now) (select_of select) }
-    ensures answers { Answers text.now (seen result) }
+    ensures answers { IsReadResult text.now (seen result) }
 {
     one_scan();
     one_query();
-    match judge(alloc, names, tokens, &select.group) {
+    match check_rules(alloc, names, tokens, &select.group) {
         Ok(()) => {
             let mentioned = mentioned(alloc, tokens)?;
             let Select {
@@ -65,14 +65,14 @@ fn judge_select(
 fn read_whole(alloc: Global, text: &[char], tokens: &[Token<'_>]) -> Result<Query, QueryFault>
     requires scans { Scans text.now (terminals tokens.now) [] }
     requires shallow { is_too_deep (terminals tokens.now) ≡ false }
-    ensures answers { Answers text.now (seen result) }
+    ensures answers { IsReadResult text.now (seen result) }
 {
     one_scan();
     let names = declarations_of(alloc, tokens)?;
     match parse(alloc, &names, tokens) {
-        Ok(select) => judge_select(alloc, text, &names, tokens, select),
-        Err(ReadFault::Syntax) => Err(QueryFault::Syntax),
-        Err(ReadFault::Memory) => Err(QueryFault::Memory),
+        Ok(select) => check_select(alloc, text, &names, tokens, select),
+        Err(ParseFault::Syntax) => Err(QueryFault::Syntax),
+        Err(ParseFault::Memory) => Err(QueryFault::Memory),
     }
 }
 
@@ -85,7 +85,7 @@ fn read_terminals(
     rest: &[char],
 ) -> Result<Query, QueryFault>
     requires scans { Scans text.now (terminals tokens.now) rest.now }
-    ensures answers { Answers text.now (seen result) }
+    ensures answers { IsReadResult text.now (seen result) }
 {
     one_scan();
     if is_too_deep(tokens) {
@@ -104,7 +104,7 @@ fn read_terminals(
 /// - The first rule that rejects the text, in the order of [`QueryFault`].
 /// - `Memory` if an allocation fails. It says nothing about the text.
 pub fn read_query(alloc: Global, text: &str) -> Result<Query, QueryFault>
-    ensures answers { Answers (chars text.now) (seen result) }
+    ensures answers { IsReadResult (chars text.now) (seen result) }
 {
     let characters = characters_of(alloc, text)?;
     let scan = scan_text(alloc, &characters)?;

@@ -7,7 +7,7 @@ ghost use Rattle.sparql_read.specs.NameSet.{HaveSame, is_among};
 ghost use Rattle.sparql_read.specs.BindScope.{binds_among, breaks_bind_scope};
 ghost use Rattle.sparql_read.specs.ScopeSteps.{AddsScope, IsScopeOf};
 
-use crate::names::NameSet;
+use crate::name_set::NameSet;
 use rdf_core::Text;
 use sparql_tree::{Element, GraphName, PatternTerm, Triple};
 use std::alloc::{AllocError, Global};

@@ -11,10 +11,10 @@ use Rattle.clap.specs.declared.parser.matches.ArgMatches.{ArgMatches}
 use Rattle.clap.specs.declared.parser.matches.ArgMatches.TheViews.{out-ArgMatches, out-SubCommand}
 use Rattle.clap.specs.declared.parser.matches.SubCommand.{SubCommand}
 use Rattle.clap.proofs.OnLiterals.{clap_on_literals}
-use Rattle.spq_command.specs.Program.{HasReading, HasSelect, IsCommandLine, IsCommandMet, IsCommandOf, program}
+use Rattle.spq_command.specs.Program.{HasReadOptions, HasSelect, IsCommandLine, IsCommandMet, IsCommandOf, program}
 use Rattle.spq_command.specs.declared.command.Command.{Command}
 use Rattle.spq_command.specs.declared.command.Command.TheVariants.{Select, Check, Terms}
-use Rattle.spq_command.specs.declared.command.Reading.{Reading}
+use Rattle.spq_command.specs.declared.command.ReadOptions.{ReadOptions}
 
 program_is_simple : is_simple_and_free program ≡ true
 unfolding clap_on_literals
@@ -62,19 +62,19 @@ check≢terms : codes "check" ≡ codes "terms" → ⊥
 check≢terms e = let bad : ◌≡◌ {A = ℕ} 99 116 = ap (λ (l : Text). slice_index l 0) e in absurd (omega arith)
 
 pub no_select : (found : Text × List Row) (command : Command) → found.0 ≡ codes "select"
-    → ((query : Text) (reading : Reading) (rows : ℕ) → HasSelect found.1 query reading rows → ⊥) → IsCommandOf found command → ⊥
+    → ((query : Text) (reading : ReadOptions) (rows : ℕ) → HasSelect found.1 query reading rows → ⊥) → IsCommandOf found command → ⊥
 no_select found (Select query reading rows) is none h = none query reading rows h.1
 no_select found (Check reading) is none h = select≢check (sym is ∙ h.0)
 no_select found (Terms reading) is none h = select≢terms (sym is ∙ h.0)
 
 pub no_check : (found : Text × List Row) (command : Command) → found.0 ≡ codes "check"
-    → ((reading : Reading) → HasReading found.1 reading → ⊥) → IsCommandOf found command → ⊥
+    → ((reading : ReadOptions) → HasReadOptions found.1 reading → ⊥) → IsCommandOf found command → ⊥
 no_check found (Select query reading rows) is none h = select≢check (sym h.0 ∙ is)
 no_check found (Check reading) is none h = none reading h.1
 no_check found (Terms reading) is none h = check≢terms (sym is ∙ h.0)
 
 pub no_terms : (found : Text × List Row) (command : Command) → found.0 ≡ codes "terms"
-    → ((reading : Reading) → HasReading found.1 reading → ⊥) → IsCommandOf found command → ⊥
+    → ((reading : ReadOptions) → HasReadOptions found.1 reading → ⊥) → IsCommandOf found command → ⊥
 no_terms found (Select query reading rows) is none h = select≢terms (sym h.0 ∙ is)
 no_terms found (Check reading) is none h = check≢terms (sym h.0 ∙ is)
 no_terms found (Terms reading) is none h = none reading h.1

@@ -21,10 +21,10 @@ use Rattle.clap.specs.declared.builder.value_parser.Reading.{Reading as HowRead}
 use Rattle.clap.specs.declared.builder.value_parser.ValueParser.{ValueParser}
 use Rattle.clap.specs.declared.builder.value_parser.ValueParser.TheVariants.{Unsigned}
 use Rattle.clap.specs.declared.error.kind.ErrorKind.TheVariants.{DisplayHelp, InvalidSubcommand}
-use Rattle.spq_command.specs.Program.{HasReading, IsCommandLine, IsCommandMet, IsCommandOf, IsNumber, program}
+use Rattle.spq_command.specs.Program.{HasReadOptions, IsCommandLine, IsCommandMet, IsCommandOf, IsNumber, program}
 use Rattle.spq_command.specs.declared.command.Command.{Command}
 use Rattle.spq_command.specs.declared.command.Command.TheVariants.{Select, Check, Terms}
-use Rattle.spq_command.specs.declared.command.Reading.{Reading}
+use Rattle.spq_command.specs.declared.command.ReadOptions.{ReadOptions}
 use Rattle.spq_command.proofs.TakenRows.{one, AreFine, ArePlain, HaveNoDefaults, IsFine, IsPlainRule, level_fine, level_passes, or_none, some_kind}
 
 -- ---- the subcommand at which the walk stops is not `help`
@@ -213,7 +213,7 @@ pub record IsReadingShape (s : Shape) : Type 0 where
   pub workers : TakesNumber s.rules (codes "workers") 64
   pub piece : TakesNumber s.rules (codes "piece") 1073741824
 
-reading_taken : (s : Shape) (rows : List Row) → IsReadingShape s → AreFine s.rules rows → (reading : Reading) × HasReading rows reading
+reading_taken : (s : Shape) (rows : List Row) → IsReadingShape s → AreFine s.rules rows → (reading : ReadOptions) × HasReadOptions rows reading
 reading_taken s rows is all =
     let workers = number_taken s.rules (codes "workers") 4 64 rows all is.workers (omega arith) (omega arith) in
     let piece = number_taken s.rules (codes "piece") 65536 1073741824 rows all is.piece (omega arith) (omega arith) in (

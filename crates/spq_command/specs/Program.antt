@@ -2,13 +2,14 @@
 -- lines describes it; and the command of its matches.
 use Rattle.std.specs.Prelude.{◌≡◌, ℕ, true, false, List, [], ◌∷◌, ◌++◌, Option, Some, None, codes}
 use Rattle.std.specs.Str.Parse.{digits_value, without_leading_plus}
+use Rattle.spq_command.specs.Limits.{workers_default, workers_limit, piece_default, piece_limit, rows_default, rows_limit}
 use Rattle.clap.specs.Words.{App, Row, Rule, Text, fault_of, first_of, new_rule, one_of, subcommand_of}
 use Rattle.clap.specs.Simple.{new_shape}
 use Rattle.clap.specs.Values.{IsUnsignedIn}
 use Rattle.clap.specs.declared.builder.value_parser.ValueParser.TheVariants.{Unsigned}
 use Rattle.spq_command.specs.declared.command.Command.{Command}
 use Rattle.spq_command.specs.declared.command.Command.TheVariants.{Select, Check, Terms}
-use Rattle.spq_command.specs.declared.command.Reading.{Reading}
+use Rattle.spq_command.specs.declared.command.ReadOptions.{ReadOptions}
 
 -- ---- the options and the subcommands
 
@@ -24,13 +25,13 @@ abbrev pub query_option : Rule
 query_option = record (text_option (codes "query")) { required = true }
 
 abbrev pub rows_option : Rule
-rows_option = number_option (codes "rows") 1073741824
+rows_option = number_option (codes "rows") rows_limit
 
 abbrev pub workers_option : Rule
-workers_option = number_option (codes "workers") 64
+workers_option = number_option (codes "workers") workers_limit
 
 abbrev pub piece_option : Rule
-piece_option = number_option (codes "piece") 1073741824
+piece_option = number_option (codes "piece") piece_limit
 
 -- how a document is read
 abbrev pub reading_options : List Rule
@@ -64,21 +65,21 @@ IsNumber default most (Some text) n =
 abbrev pub HasNumber : Text → ℕ → ℕ → List Row → ℕ → Type 0
 HasNumber name default most found n = IsNumber default most (one_of name found) n
 
-pub record HasReading (found : List Row) (reading : Reading) : Type 0 where
-  pub workers : HasNumber (codes "workers") 4 64 found reading.workers
-  pub piece : HasNumber (codes "piece") 65536 1073741824 found reading.piece
+pub record HasReadOptions (found : List Row) (reading : ReadOptions) : Type 0 where
+  pub workers : HasNumber (codes "workers") workers_default workers_limit found reading.workers
+  pub piece : HasNumber (codes "piece") piece_default piece_limit found reading.piece
 
-pub record HasSelect (found : List Row) (query : Text) (reading : Reading) (rows : ℕ) : Type 0 where
+pub record HasSelect (found : List Row) (query : Text) (reading : ReadOptions) (rows : ℕ) : Type 0 where
   pub text : first_of (codes "query") found ≡ Some query
-  pub how : HasReading found reading
-  pub size : HasNumber (codes "rows") 1024 1073741824 found rows
+  pub how : HasReadOptions found reading
+  pub size : HasNumber (codes "rows") rows_default rows_limit found rows
 
 -- the name of the subcommand, and the values of its rows
 abbrev pub IsCommandOf : Text × List Row → Command → Type 0
 IsCommandOf found (Select query reading rows) =
     (found.0 ≡ codes "select") × HasSelect found.1 query reading rows
-IsCommandOf found (Check reading) = (found.0 ≡ codes "check") × HasReading found.1 reading
-IsCommandOf found (Terms reading) = (found.0 ≡ codes "terms") × HasReading found.1 reading
+IsCommandOf found (Check reading) = (found.0 ≡ codes "check") × HasReadOptions found.1 reading
+IsCommandOf found (Terms reading) = (found.0 ≡ codes "terms") × HasReadOptions found.1 reading
 
 -- the subcommand in the arguments is this command
 abbrev pub IsCommandMet : Option (Text × List Row) → Command → Type 0

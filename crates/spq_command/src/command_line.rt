@@ -2,10 +2,10 @@
 ghost use Rattle.std.specs.Prelude.{◌≡◌, ◌≢◌, ◌≤◌, [], IfErr, IfOk, codes, false, map, string_bytes};
 ghost use Rattle.clap.specs.Words.{app_of, fault_of, found_of, rows_of, rule_of, subcommand_rows_of};
 ghost use Rattle.clap.specs.declared.builder.command.Command.TheViews.{out-Command as fields_of};
-ghost use Rattle.spq_command.specs.Program.{HasNumber, HasReading, HasSelect, IsCommandLine, IsCommandMet, IsCommandOf, number_option, program, reading_options, select_options, with_options};
+ghost use Rattle.spq_command.specs.Program.{HasNumber, HasReadOptions, HasSelect, IsCommandLine, IsCommandMet, IsCommandOf, number_option, program, reading_options, select_options, with_options};
 ghost use Rattle.spq_command.specs.declared.command_line.CommandFault.TheVariants.{Memory};
 
-use crate::command::{Command, Reading};
+use crate::command::{Command, ReadOptions};
 use clap::builder::ValueParser;
 use clap::error::ErrorKind;
 use clap::{Arg, ArgMatches, Command as Line};
@@ -115,14 +115,14 @@ fn number_of(
 }
 
 /// Returns how the document is read.
-fn reading_of(found: &ArgMatches<'_>) -> Result<Reading, CommandFault>
-    ensures ok { IfOk result (HasReading (rows_of (found_of found.now))) }
+fn reading_of(found: &ArgMatches<'_>) -> Result<ReadOptions, CommandFault>
+    ensures ok { IfOk result (HasReadOptions (rows_of (found_of found.now))) }
     ensures line { IfErr result (λ _.
-        (reading : _) → HasReading (rows_of (found_of found.now)) reading → ⊥) }
+        (reading : _) → HasReadOptions (rows_of (found_of found.now)) reading → ⊥) }
 {
     let workers = number_of(found, "workers", WORKERS, MOST_WORKERS)?;
     let piece = number_of(found, "piece", BYTES, MOST_BYTES)?;
-    Ok(Reading { workers, piece })
+    Ok(ReadOptions { workers, piece })
 }
 
 /// Returns the query of a `select`, and how it is evaluated.

@@ -2,7 +2,7 @@
 //! none.
 //!
 //! Callers rely on two facts. The type of a [`Command`] keeps the limits of workers and blocks
-//! ([`Reading`]). [`read_command`] returns the command of the arguments (`IsCommandLine` of
+//! ([`ReadOptions`]). [`read_command`] returns the command of the arguments (`IsCommandLine` of
 //! specs/Program.antt), and `Line` exactly if they are not a command. The library of command lines
 //! rejects exactly these arguments (`fault_of`).
 //!
@@ -18,5 +18,5 @@
 mod command;
 mod command_line;
 
-pub use command::{Command, Reading};
+pub use command::{Command, ReadOptions};
 pub use command_line::{CommandFault, read_command};

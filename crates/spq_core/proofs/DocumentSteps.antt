@@ -16,9 +16,10 @@ use Rattle.dataset_load.specs.Store.{StoreView, names_in}
 use Rattle.dataset_load.specs.Loaded as load
 use Rattle.spq_core.specs.Listing.{counts_line, counts_of, term_lines}
 use Rattle.std.specs.Str.{chars}
+use Rattle.nquads_core.specs.Pieces.{IsBadLine}
 use Rattle.algebra_model.specs.Laws.{BagHasOneList, DatasetIsSet}
 use Rattle.sparql_tree.specs.QueryTree.{QueryTree}
-use Rattle.sparql_read.specs.Refusal.{IsRead}
+use Rattle.sparql_read.specs.Rejection.{IsValidQuery}
 use Rattle.sparql_algebra.specs.Names.{selected_names}
 use Rattle.spq_core.specs.Outcome.{rows}
 use Rattle.spq_core.specs.Output.{check, select, terms}
@@ -56,7 +57,7 @@ composed_terms left left' store dict text h d e = record {
   output = record { quads = h.loaded.quads; spelled = h.loaded.spelled; printed = e ∙ ap term_lines (d ∙ h.loaded.terms) };
 }
 
-pub composed_select : DatasetIsSet → BagHasOneList → (left left' : Option (List ℕ)) (query : List ℕ) (q : QueryTree) (store : StoreView) (text : List ℕ) → IsRead (chars query) q → IsLoadedFrom left left' store
+pub composed_select : DatasetIsSet → BagHasOneList → (left left' : Option (List ℕ)) (query : List ℕ) (q : QueryTree) (store : StoreView) (text : List ℕ) → IsValidQuery (chars query) q → IsLoadedFrom left left' store
     → text ≡ json (selected_names q) (rows q (quads_at store.dict store.index)) → IsComposed (select query) left left' text
 composed_select set one left left' query q store text r h e = record {
   doc = h.doc;
@@ -67,7 +68,7 @@ composed_select set one left left' query q store text r h e = record {
 
 -- ---- the first malformed line is the output's
 
-pub bad_select : (left left' : Option (List ℕ)) (query : List ℕ) (q : QueryTree) → IsRead (chars query) q → (n : ℕ) → IsBadLineFrom left left' n → IsBadLineOf (select query) left left' n
+pub bad_select : (left left' : Option (List ℕ)) (query : List ℕ) (q : QueryTree) → IsValidQuery (chars query) q → (n : ℕ) → IsBadLineFrom left left' n → IsBadLineOf (select query) left left' n
 bad_select left left' query q r n h = record { doc = h.doc; consumed = h.consumed; at_end = h.at_end; output = ((q, r), h.bad) }
 
 pub bad_check : (left left' : Option (List ℕ)) (n : ℕ) → IsBadLineFrom left left' n → IsBadLineOf check left left' n
@@ -88,10 +89,10 @@ from_blocks left left' blocks slice store c end e l = record {
 
 pub bad_blocks : (left left' : Option (List ℕ)) (blocks slice : List (Vec ℕ Global)) (n : ℕ)
     → Consumes left left' (joined (block_texts blocks)) → IsAtEnd left' → slice ≡ blocks
-    → load.IsBadLine (lines (joined (block_texts slice))) n → IsBadLineFrom left left' n
+    → IsBadLine (lines (joined (block_texts slice))) n → IsBadLineFrom left left' n
 bad_blocks left left' blocks slice n c end e b = record {
   doc = joined (block_texts blocks);
   consumed = c;
   at_end = end;
-  bad = subst (λ (bs : List (Vec ℕ Global)). load.IsBadLine (lines (joined (block_texts bs))) n) e b;
+  bad = subst (λ (bs : List (Vec ℕ Global)). IsBadLine (lines (joined (block_texts bs))) n) e b;
 }

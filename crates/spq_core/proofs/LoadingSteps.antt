@@ -4,7 +4,7 @@ use Rattle.std.specs.Result.{IfOk, IfErr, OnErr}
 use Rattle.nquads_core.specs.Transfer.{IsReadInPart}
 use Rattle.dataset_load.specs.declared.reader_fault.ReaderFault.{ReaderFault}
 use Rattle.dataset_load.specs.declared.reader_fault.ReaderFault.TheVariants as reading
-use Rattle.dataset_load.specs.ReaderFault.{CountsLoading, IfBadLineRead, IsNoLackingWorker}
+use Rattle.dataset_load.specs.ReaderFault.{CountsLoading, IfBadLineRead, IsOneWorkerReaderFault}
 use Rattle.spq_core.specs.Run.{IsBadLineFrom, IsLoading, run_result_of}
 use Rattle.spq_core.specs.declared.program.RunFault.{RunFault}
 use Rattle.spq_core.specs.declared.program.RunFault.TheVariants.{BadLine}
@@ -14,7 +14,7 @@ same_line n m e = cc
 
 module _ {S T : Type 0} (left : S → Option (List ℕ)) (failures : S → Option ℕ) (loads : Option (List ℕ) → Option (List ℕ) → T → Type 0) (alone : Type 0) (reader reader' : S) where
   loading_of : (loaded : Result T ReaderFault) → IfOk loaded (loads (left reader) (left reader')) → IfErr loaded (IfBadLineRead (IsBadLineFrom (left reader) (left reader')))
-      → OnErr loaded (IsReadInPart (left reader) (left reader')) → CountsLoading (failures reader) (failures reader') loaded → (alone → IfErr loaded IsNoLackingWorker)
+      → OnErr loaded (IsReadInPart (left reader) (left reader')) → CountsLoading (failures reader) (failures reader') loaded → (alone → IfErr loaded IsOneWorkerReaderFault)
       → IsLoading left failures loads alone reader reader' (run_result_of loaded)
   loading_of (Ok value) all bad part count none = record {
     loaded = all;
@@ -74,6 +74,6 @@ module _ {S T : Type 0} (left : S → Option (List ℕ)) (failures : S → Optio
 
   pub finished : (loaded : Result T ReaderFault) (result : Result T RunFault) → result ≡ run_result_of loaded → IfOk loaded (loads (left reader) (left reader'))
       → IfErr loaded (IfBadLineRead (IsBadLineFrom (left reader) (left reader'))) → OnErr loaded (IsReadInPart (left reader) (left reader'))
-      → CountsLoading (failures reader) (failures reader') loaded → (alone → IfErr loaded IsNoLackingWorker) → IsLoading left failures loads alone reader reader' result
+      → CountsLoading (failures reader) (failures reader') loaded → (alone → IfErr loaded IsOneWorkerReaderFault) → IsLoading left failures loads alone reader reader' result
   finished loaded result is all bad part count none =
       subst (λ (r : Result T RunFault). IsLoading left failures loads alone reader reader' r) (sym is) (loading_of loaded all bad part count none)

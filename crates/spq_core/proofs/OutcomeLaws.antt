@@ -5,15 +5,15 @@ use Rattle.std.specs.Str.{chars}
 use Rattle.rdf_core.specs.QuadParts.{QuadParts}
 use Rattle.nquads_core.specs.Laws.{OneMeaning}
 use Rattle.nquads_core.specs.Lines.{lines}
-use Rattle.nquads_core.specs.Pieces.{SpellAll, IsFirstBad}
+use Rattle.nquads_core.specs.Pieces.{HaveStatements, IsFirstMalformed, IsBadLine}
 use Rattle.sparql_tree.specs.QueryTree.{QueryTree}
 use Rattle.sparql_read.specs.declared.fault.QueryFault.{QueryFault}
 use Rattle.sparql_read.specs.declared.fault.QueryFault.TheVariants.{Syntax, UndefinedPrefix, RelativeIri, BindScope, BlankReuse, TooDeep, Memory}
-use Rattle.sparql_read.specs.Refusal.{Answers, Applies, IsRead, IsRefusal}
+use Rattle.sparql_read.specs.Rejection.{IsReadResult, Applies, IsValidQuery, IsRejectedBy}
 use Rattle.sparql_algebra.specs.Names.{selected_names}
 use Rattle.result_json.specs.Results.{json}
 use Rattle.spq_core.specs.Listing.{counts_of, listing_of}
-use Rattle.spq_core.specs.Outcome.{Refusal, query, bad_line, IsBadLine, rows}
+use Rattle.spq_core.specs.Outcome.{Failure, query, bad_line, rows}
 use Rattle.spq_core.specs.Output.{select, check, terms, IsListing}
 use Rattle.spq_core.specs.Laws.{OneOutcome, OneOutput}
 
@@ -21,9 +21,9 @@ use Rattle.spq_core.specs.Laws.{OneOutcome, OneOutput}
 
 -- as the law of sparql_read says it
 abbrev pub OneAnswer : Type 0
-OneAnswer = (text : List ℕ) (r s : Result QueryTree QueryFault) → Answers text r → Answers text s → (r ≡ Err Memory → ⊥) → (s ≡ Err Memory → ⊥) → r ≡ s
+OneAnswer = (text : List ℕ) (r s : Result QueryTree QueryFault) → IsReadResult text r → IsReadResult text s → (r ≡ Err Memory → ⊥) → (s ≡ Err Memory → ⊥) → r ≡ s
 
-refused : (text : List ℕ) (f : QueryFault) → IsRefusal text f → Answers text (Err f)
+refused : (text : List ℕ) (f : QueryFault) → IsRejectedBy text f → IsReadResult text (Err f)
 refused text Syntax h = h
 refused text UndefinedPrefix h = h
 refused text RelativeIri h = h
@@ -35,45 +35,45 @@ refused text Memory h = tt
 same_fault : (f g : QueryFault) (r : Result QueryTree QueryFault) → r ≡ Err f → r ≡ Err g → f ≡ g
 same_fault f g r d e = cc
 
-not_memory : (text : List ℕ) (f : QueryFault) (r : Result QueryTree QueryFault) → r ≡ Err f → IsRefusal text f → r ≡ Err Memory → ⊥
+not_memory : (text : List ℕ) (f : QueryFault) (r : Result QueryTree QueryFault) → r ≡ Err f → IsRejectedBy text f → r ≡ Err Memory → ⊥
 not_memory text f r d h e = subst (λ (g : QueryFault). Applies g text) (same_fault f Memory r d e) h.applies
 
 not_refused : (q : QueryTree) (x : Result QueryTree QueryFault) → x ≡ Ok q → x ≡ Err Memory → ⊥
 not_refused q x d e = cc
 
-one_refusal : OneAnswer → (text : List ℕ) (f g : QueryFault) → IsRefusal text f → IsRefusal text g → f ≡ g
+one_refusal : OneAnswer → (text : List ℕ) (f g : QueryFault) → IsRejectedBy text f → IsRejectedBy text g → f ≡ g
 one_refusal one text f g h k =
     same_fault f g (Err f) refl (one text (Err f) (Err g) (refused text f h) (refused text g k) (not_memory text f (Err f) refl h) (not_memory text g (Err g) refl k))
 
 same_query : (q r : QueryTree) (x : Result QueryTree QueryFault) → x ≡ Ok q → x ≡ Ok r → q ≡ r
 same_query q r x d e = cc
 
-one_query : OneAnswer → (text : List ℕ) (q r : QueryTree) → IsRead text q → IsRead text r → q ≡ r
+one_query : OneAnswer → (text : List ℕ) (q r : QueryTree) → IsValidQuery text q → IsValidQuery text r → q ≡ r
 one_query one text q r h k = same_query q r (Ok q) refl (one text (Ok q) (Ok r) h k (not_refused q (Ok q) refl) (not_refused r (Ok r) refl))
 
-read_and_refused : (text : List ℕ) (q : QueryTree) (f : QueryFault) → IsRead text q → IsRefusal text f → ⊥
+read_and_refused : (text : List ℕ) (q : QueryTree) (f : QueryFault) → IsValidQuery text q → IsRejectedBy text f → ⊥
 read_and_refused text q f h k = h.allowed f k.applies
 
 -- ---- the document
 
-one_spelling : OneMeaning → (ls : List (List ℕ)) (D E : List QuadParts) → SpellAll ls D → SpellAll ls E → D ≡ E
+one_spelling : OneMeaning → (ls : List (List ℕ)) (D E : List QuadParts) → HaveStatements ls D → HaveStatements ls E → D ≡ E
 one_spelling one [] D E h k = h ∙ sym k
 one_spelling one (l ∷ ls) D E h k =
     h.3 ∙ (λ i. option_to_list (one l h.0 k.0 h.2 k.2 i) ++ one_spelling one ls h.1 k.1 h.4 k.4 i) ∙ sym k.3
 
-good_and_bad : (ls : List (List ℕ)) (D : List QuadParts) (k : ℕ) → SpellAll ls D → IsFirstBad ls k → ⊥
+good_and_bad : (ls : List (List ℕ)) (D : List QuadParts) (k : ℕ) → HaveStatements ls D → IsFirstMalformed ls k → ⊥
 good_and_bad [] D k h b = b
 good_and_bad (l ∷ ls) D zero h b = b h.0 h.2
 good_and_bad (l ∷ ls) D (suc k) h b = good_and_bad ls h.1 k h.4 b.1
 
-one_bad_line : (ls : List (List ℕ)) (m n : ℕ) → IsFirstBad ls m → IsFirstBad ls n → m ≡ n
+one_bad_line : (ls : List (List ℕ)) (m n : ℕ) → IsFirstMalformed ls m → IsFirstMalformed ls n → m ≡ n
 one_bad_line [] m n h k = absurd h
 one_bad_line (l ∷ ls) zero zero h k = refl
 one_bad_line (l ∷ ls) zero (suc n) h k = absurd (h k.0.0 k.0.1)
 one_bad_line (l ∷ ls) (suc m) zero h k = absurd (k h.0.0 h.0.1)
 one_bad_line (l ∷ ls) (suc m) (suc n) h k = ap (λ (x : ℕ). suc x) (one_bad_line ls m n h.1 k.1)
 
-same_bad_line : (doc : List ℕ) (m n : ℕ) → IsBadLine doc m → IsBadLine doc n → m ≡ n
+same_bad_line : (doc : List ℕ) (m n : ℕ) → IsBadLine (lines doc) m → IsBadLine (lines doc) n → m ≡ n
 same_bad_line doc m n h k = h.2 ∙ (λ i. one_bad_line (lines doc) h.0 k.0 h.1 k.1 i + 1) ∙ sym k.2
 
 -- ---- the result
@@ -95,7 +95,7 @@ one_outcome answer meaning doc text (Err (bad_line m)) (Err (bad_line n)) h k =
 
 -- ---- the output of any command
 
-one_listing : OneMeaning → (text_of : List QuadParts → List ℕ) (doc : List ℕ) (r s : Result (List ℕ) Refusal)
+one_listing : OneMeaning → (text_of : List QuadParts → List ℕ) (doc : List ℕ) (r s : Result (List ℕ) Failure)
     → IsListing text_of doc r → IsListing text_of doc s → r ≡ s
 one_listing meaning text_of doc (Ok a) (Ok b) h k =
     let d = one_spelling meaning (lines doc) h.quads k.quads h.spelled k.spelled in

@@ -1,3 +1,4 @@
+pub mod QueryStack
 pub mod Outcome
 pub mod Laws
 pub mod Faults

@@ -2,7 +2,7 @@
 use Rattle.std.specs.Prelude.{ℕ, List, ◌++◌, flat_map, codes, decimal, length}
 use Rattle.rdf_core.specs.declared.term.Term.{Term}
 use Rattle.rdf_core.specs.QuadParts.{QuadParts}
-use Rattle.rdf_core.specs.Spelling.{spelling}
+use Rattle.rdf_core.specs.Serialization.{serialization}
 use Rattle.algebra_model.specs.Bag.{without_repeats}
 use Rattle.algebra_model.specs.Dataset.{names}
 use Rattle.dict_core.specs.Appearances.{terms_of, first_appearances}
@@ -20,7 +20,7 @@ counts_of quads = counts_line
 
 -- each term on a line of its own
 abbrev pub term_lines : List Term → List ℕ
-term_lines terms = flat_map (λ t. spelling t ++ codes "\n") terms
+term_lines terms = flat_map (λ t. serialization t ++ codes "\n") terms
 
 -- the terms by first appearance
 abbrev pub listing_of : List QuadParts → List ℕ

@@ -15,13 +15,13 @@ use Rattle.spq_command.specs.declared.command.Command.TheVariants.{Select, Check
 use Rattle.spq_command.specs.declared.command_line.CommandFault.{CommandFault}
 use Rattle.spq_command.specs.declared.command_line.CommandFault.TheVariants as words
 use Rattle.result_json.specs.Results.{joined_blocks}
-use Rattle.spq_core.specs.Outcome.{bad_line, IsBadLine}
+use Rattle.spq_core.specs.Outcome.{bad_line}
 use Rattle.spq_core.specs.Output.{Request, select, check, terms, IsOutput}
 use Rattle.spq_core.specs.declared.fault.Fault.{Fault}
 use Rattle.spq_core.specs.declared.fault.Fault.TheVariants as fault
 use Rattle.sparql_read.specs.declared.fault.QueryFault.{QueryFault}
 use Rattle.sparql_tree.specs.QueryTree.{QueryTree}
-use Rattle.sparql_read.specs.Refusal.{IsRead, IsRefusal}
+use Rattle.sparql_read.specs.Rejection.{IsValidQuery, IsRejectedBy}
 use Rattle.spq_core.specs.declared.program.RunFault.{RunFault}
 use Rattle.spq_core.specs.declared.program.RunFault.TheVariants.{Query, BadLine, WorkerRefused, Memory, Read, Write, Line}
 
@@ -64,13 +64,13 @@ pub record IsBadLineOf (request : Request) (left left' : Option (List ℕ)) (lin
 
 -- The command selects, and this is the first rule that rejects the text of its query.
 abbrev pub IsQueryOf : Request → QueryFault → Type 0
-IsQueryOf (select text) f = IsRefusal (chars text) f
+IsQueryOf (select text) f = IsRejectedBy (chars text) f
 IsQueryOf check f = ⊥
 IsQueryOf terms f = ⊥
 
 -- The command lists, checks, or selects by a text that is a query of the subset.
 abbrev pub IsAnswerable : Request → Type 0
-IsAnswerable (select text) = (q : QueryTree) × IsRead (chars text) q
+IsAnswerable (select text) = (q : QueryTree) × IsValidQuery (chars text) q
 IsAnswerable check = ⊤
 IsAnswerable terms = ⊤
 

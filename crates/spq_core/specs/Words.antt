@@ -10,21 +10,21 @@ use Rattle.spq_core.specs.declared.program.RunFault.{RunFault}
 use Rattle.spq_core.specs.declared.program.RunFault.TheVariants.{Query, BadLine, WorkerRefused, Memory, Read, Write, Line}
 
 -- The words are no command, or an allocation failed, which says nothing of the words.
-abbrev pub IsRefusedOf : List (List ℕ) → RunFault → Type 0
-IsRefusedOf words (Query f) = ⊥
-IsRefusedOf words (BadLine n) = ⊥
-IsRefusedOf words WorkerRefused = ⊥
-IsRefusedOf words Memory = ⊤
-IsRefusedOf words Read = ⊥
-IsRefusedOf words Write = ⊥
-IsRefusedOf words Line = (command : Command) → IsCommandLine words command → ⊥
+abbrev pub IsWordsFault : List (List ℕ) → RunFault → Type 0
+IsWordsFault words (Query f) = ⊥
+IsWordsFault words (BadLine n) = ⊥
+IsWordsFault words WorkerRefused = ⊥
+IsWordsFault words Memory = ⊤
+IsWordsFault words Read = ⊥
+IsWordsFault words Write = ⊥
+IsWordsFault words Line = (command : Command) → IsCommandLine words command → ⊥
 
 -- No command was run, and the reader and the writer are as they were.
 pub record IsNotRun {S K T : Type 0} (words : List (List ℕ)) (reader reader' : S)
     (writer writer' : K) (result : Result T RunFault) : Type 0 where
   pub fault : RunFault
   pub refused : result ≡ Err fault
-  pub cause : IsRefusedOf words fault
+  pub cause : IsWordsFault words fault
   pub unread : reader' ≡ reader
   pub unwritten : writer' ≡ writer
 

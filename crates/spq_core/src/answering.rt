@@ -4,14 +4,14 @@ ghost use Rattle.std.specs.Str.{chars};
 ghost use Rattle.piece_cuts.specs.Cuts.{AreCuts};
 ghost use Rattle.dict_core.specs.NumQuad.{quads_at};
 ghost use Rattle.row_pieces.specs.How.{IsRunnable, HasOneWorker};
-ghost use Rattle.row_pieces.specs.declared.how.EvalFault.TheVariants.{Memory};
+ghost use Rattle.row_pieces.specs.declared.fault.EvalFault.TheVariants.{Memory};
 ghost use Rattle.sparql_tree.specs.QueryTree.{QueryTree, query_of};
-ghost use Rattle.sparql_read.specs.Refusal.{IsRead};
+ghost use Rattle.sparql_read.specs.Rejection.{IsValidQuery};
 ghost use Rattle.sparql_algebra.specs.AlgebraOf.{algebra_of};
 ghost use Rattle.sparql_algebra.specs.Names.{names_of, selected_names};
 ghost use Rattle.sparql_algebra.specs.Translation.{translate};
-ghost use Rattle.spq_core.specs.Faults.{IsFaultOf, IsFaultOfReading, IsNoRefusedWorker};
-ghost use Rattle.spq_core.specs.Outcome.{IsOutcome, rows};
+ghost use Rattle.spq_core.specs.Faults.{IsFaultOf, IsQueryFaultOf, IsOneWorkerFault};
+ghost use Rattle.spq_core.specs.Outcome.{IsQueryResult, rows};
 ghost use Rattle.result_json.specs.Results.{joined_blocks, json};
 
 use crate::fault::Fault;
@@ -36,9 +36,9 @@ use std::thread::Threads;
 /// # Errors
 /// - `Query(fault)` if this is the first rule that rejects the text. It is never `QueryFault::Memory`.
 /// - `Memory` if an allocation fails. It says nothing of the text.
-pub fn judged(alloc: Global, text: &str) -> Result<Query, Fault>
-    ensures query { IfOk result (λ q. IsRead (chars text.now) (query_of q)) }
-    ensures refused { IfErr result (IsFaultOfReading text.now) }
+pub fn valid_query(alloc: Global, text: &str) -> Result<Query, Fault>
+    ensures query { IfOk result (λ q. IsValidQuery (chars text.now) (query_of q)) }
+    ensures refused { IfErr result (IsQueryFaultOf text.now) }
 {
     match read_query(alloc, text) {
         Ok(query) => Ok(query),
@@ -50,12 +50,12 @@ pub fn judged(alloc: Global, text: &str) -> Result<Query, Fault>
 /// Checks the text of a query, and drops the query. It takes no deeper stack for a longer text.
 ///
 /// # Errors
-/// As `judged`.
+/// As `valid_query`.
 pub fn check_query(alloc: Global, text: &str) -> Result<(), Fault>
-    ensures query { OnOk result ((q : QueryTree) × IsRead (chars text.now) q) }
-    ensures refused { IfErr result (IsFaultOfReading text.now) }
+    ensures query { OnOk result ((q : QueryTree) × IsValidQuery (chars text.now) q) }
+    ensures refused { IfErr result (IsQueryFaultOf text.now) }
 {
-    match judged(alloc, text) {
+    match valid_query(alloc, text) {
         Ok(_query) => Ok(()),
         Err(fault) => Err(fault),
     }
@@ -168,13 +168,13 @@ pub fn answer<R: Threads + Wait + RandomSource, G: Gate + Sync>(
 ) -> Result<Vec<u8>, Fault>
     requires fits { AreCuts doc.now cuts.now }
     requires how { IsRunnable how.now }
-    ensures answer { IfOk result (λ bytes. IsOutcome doc.now query.now (Ok bytes.items)) }
+    ensures answer { IfOk result (λ bytes. IsQueryResult doc.now query.now (Ok bytes.items)) }
     ensures refused { IfErr result (IsFaultOf doc.now query.now) }
-    ensures one_worker { HasOneWorker how.now → IfErr result IsNoRefusedWorker }
+    ensures one_worker { HasOneWorker how.now → IfErr result IsOneWorkerFault }
 {
     a_dataset_is_a_set();
     a_bag_has_one_sorted_list();
-    let query = judged(alloc, query)?;
+    let query = valid_query(alloc, query)?;
     let store = load(rt, alloc, doc, cuts, how.workers, gate)?;
     let mut log = Log::new(&NoProgress);
     let blocks = answer_query(rt, alloc, store, &query, how, gate, &mut log)?;

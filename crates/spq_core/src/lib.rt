@@ -2,7 +2,7 @@
 //!
 //! The input is a document and the text of a query. The result is the JSON of the solutions, or the reason why
 //! there is none. [`answer`] has the main contract: every result but `Memory` and `WorkerRefused` is the one that
-//! the standards prescribe (`IsOutcome` of specs/Outcome.antt). The query is checked first, then the document, and
+//! the standards prescribe (`IsQueryResult` of specs/Outcome.antt). The query is checked first, then the document, and
 //! the bytes are the JSON of the algebra's solutions over the dataset, with their repeats, in order. No cut, worker
 //! or gate occurs in the definition, and document and query have at most one result (`one_outcome` of [`laws`]).
 //!
@@ -57,3 +57,5 @@ pub use spq_command::Command;
 pub use spq_command::CommandFault;
 /// Reads the words of a command line.
 pub use spq_command::read_command;
+/// How an evaluation is run: the number of workers, and how many rows a task has at most.
+pub use row_pieces::How;

@@ -11,7 +11,7 @@ ghost use Rattle.spq_core.specs.Listing.{counts_line, term_lines};
 ghost use Rattle.spq_core.specs.Run.{IsAnswerable, IsByOneWorker, IsComposing, IsLoading, IsRun, WriterFailed, run_result_of};
 ghost use Rattle.spq_core.specs.declared.program.RunFault.TheVariants.{Memory, WorkerRefused};
 
-use crate::answering::{answer_query, judged};
+use crate::answering::{answer_query, valid_query};
 use crate::fault::Fault;
 use crate::listing::{counts_text, terms_text};
 use crate::notes::{Log, NoProgress, Progress, Stage};
@@ -22,7 +22,7 @@ use nquads_core::{DeviceFailed, Sink, Source, write_all};
 use piece_pool::OpenGate;
 use row_pieces::{EvalFault, How};
 use sparql_read::QueryFault;
-use spq_command::{Command, CommandFault, Reading};
+use spq_command::{Command, CommandFault, ReadOptions};
 use std::alloc::{AllocError, Global};
 use std::mem;
 use std::random::RandomSource;
@@ -119,7 +119,7 @@ fn finished<T: Drop, P: Progress>(
 fn load_document<R: Threads + Wait + RandomSource, S: Source, P: Progress>(
     rt: &R,
     alloc: Global,
-    reading: Reading,
+    reading: ReadOptions,
     reader: &mut S,
     log: &mut Log<'_, P>,
 ) -> Result<Store, RunFault>
@@ -137,7 +137,7 @@ fn load_document<R: Threads + Wait + RandomSource, S: Source, P: Progress>(
 fn count_document<R: Threads + Wait + RandomSource, S: Source, P: Progress>(
     rt: &R,
     alloc: Global,
-    reading: Reading,
+    reading: ReadOptions,
     reader: &mut S,
     log: &mut Log<'_, P>,
 ) -> Result<Counted, RunFault>
@@ -155,7 +155,7 @@ fn count_document<R: Threads + Wait + RandomSource, S: Source, P: Progress>(
 fn load_document_terms<R: Threads + Wait + RandomSource, S: Source, P: Progress>(
     rt: &R,
     alloc: Global,
-    reading: Reading,
+    reading: ReadOptions,
     reader: &mut S,
     log: &mut Log<'_, P>,
 ) -> Result<Dict, RunFault>
@@ -175,7 +175,7 @@ fn selected<R: Threads + Wait + RandomSource, S: Source, P: Progress>(
     rt: &R,
     alloc: Global,
     query: &str,
-    reading: Reading,
+    reading: ReadOptions,
     rows: usize,
     reader: &mut S,
     log: &mut Log<'_, P>,
@@ -186,7 +186,7 @@ fn selected<R: Threads + Wait + RandomSource, S: Source, P: Progress>(
     a_dataset_is_a_set();
     a_bag_has_one_sorted_list();
     let text = query;
-    let query = match judged(alloc, query) {
+    let query = match valid_query(alloc, query) {
         Ok(query) => query,
         Err(fault) => return Err(RunFault::from(fault)),
     };
@@ -236,7 +236,7 @@ fn terms_block(alloc: Global, dict: &Dict) -> Result<Vec<Vec<u8>>, RunFault>
 fn checked<R: Threads + Wait + RandomSource, S: Source, P: Progress>(
     rt: &R,
     alloc: Global,
-    reading: Reading,
+    reading: ReadOptions,
     reader: &mut S,
     log: &mut Log<'_, P>,
 ) -> Result<Vec<Vec<u8>>, RunFault>
@@ -256,7 +256,7 @@ fn checked<R: Threads + Wait + RandomSource, S: Source, P: Progress>(
 fn listed<R: Threads + Wait + RandomSource, S: Source, P: Progress>(
     rt: &R,
     alloc: Global,
-    reading: Reading,
+    reading: ReadOptions,
     reader: &mut S,
     log: &mut Log<'_, P>,
 ) -> Result<Vec<Vec<u8>>, RunFault>

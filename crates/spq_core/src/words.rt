@@ -1,6 +1,7 @@
 //! The words of a command line over a reader and a writer: the command that they are, run on a stack
 //! that is as large as its query may need.
 ghost use Rattle.std.specs.Prelude.{◌≡◌, ◌⊎◌, ◌+◌, ◌*◌, ◌-◌, ◌^◌, Err, length, map, min, string_bytes};
+ghost use Rattle.spq_core.specs.QueryStack.{least_stack, stack_per_byte};
 ghost use Rattle.spq_core.specs.Output.{request_of, select};
 ghost use Rattle.spq_core.specs.Run.{IsAnswerable, IsByOneWorker, IsRun};
 ghost use Rattle.spq_core.specs.Words.{IsDoneAlone, IsNotRun, IsRunOf};
@@ -73,7 +74,7 @@ impl<S: Source, K: Sink> Promise<Ran<S, K>> for RunOver<S, K> {
 
 /// The bytes of stack that a query may need.
 fn stack_for(query: &str) -> usize
-    ensures stack { result ≡ min (8388608 + 4096 * length query.now) (2 ^ 64 - 1) }
+    ensures stack { result ≡ min (least_stack + stack_per_byte * length query.now) (2 ^ 64 - 1) }
 {
     LEAST_STACK.saturating_add(query.len().saturating_mul(STACK_PER_BYTE))
 }

@@ -1,5 +1,6 @@
 //! The claim board: worked examples, and runs with two threads.
-ghost use Rattle.std.specs.Prelude.{◌≡◌, ◌∷◌, ◌^◌, ◌≤◌, [], IfOk, All, vec_len};
+ghost use Rattle.std.specs.Prelude.{◌≡◌, ◌∷◌, ◌≤◌, [], IfOk, All, vec_len};
+ghost use Rattle.piece_board.specs.Limits.{most_seats, most_pieces};
 ghost use Rattle.piece_board.specs.Board.{IsPassOf};
 ghost use Rattle.piece_board.specs.Pass.{unused};
 
@@ -10,7 +11,7 @@ use std::thread::Threads;
 
 /// Opens a board of `n` numbers with two seats.
 pub(crate) fn open_two(alloc: Global, n: u64) -> Result<(Board, Pass, Pass), BoardFault>
-    requires pieces { n ≤ 2 ^ 62 }
+    requires pieces { n ≤ most_pieces }
     ensures board { IfOk result (λ opened. (opened.0.pieces ≡ n) × (opened.0.seats ≡ 2)) }
     ensures first { IfOk result (λ opened. opened.1 ≡ unused opened.0.id n) }
     ensures second { IfOk result (λ opened. opened.2 ≡ unused opened.0.id n) }
@@ -63,7 +64,7 @@ fn draw_with_two_threads<R: Threads>(
     alloc: Global,
     n: u64,
 ) -> Result<(u64, u64, Closed), BoardFault>
-    requires pieces { n ≤ 2 ^ 62 }
+    requires pieces { n ≤ most_pieces }
 {
     let (board, a, b) = open_two(alloc, n)?;
     let shared = &board;
@@ -178,7 +179,7 @@ fn play(
 
 /// Plays a script on a board with two seats, and returns the numbers of the steps and the closed board.
 fn played(alloc: Global, n: u64, script: &str) -> Result<(Vec<Option<u64>>, Closed), BoardFault>
-    requires pieces { n ≤ 2 ^ 62 }
+    requires pieces { n ≤ most_pieces }
 {
     let (board, mut a, mut b) = open_two(alloc, n)?;
     let mut found = Vec::new(alloc);
@@ -190,7 +191,7 @@ fn played(alloc: Global, n: u64, script: &str) -> Result<(Vec<Option<u64>>, Clos
 /// Plays a script, and prints the numbers of its steps, with `-` for none, and the totals of the
 /// closed board.
 fn told(alloc: Global, n: u64, script: &str) -> Result<String, BoardFault>
-    requires pieces { n ≤ 2 ^ 62 }
+    requires pieces { n ≤ most_pieces }
 {
     let (found, closed) = played(alloc, n, script)?;
     let mut text = String::new(alloc);
@@ -271,8 +272,8 @@ fn draw_rounds(
 
 /// Returns whether three rounds draw all numbers of a board and finish each of its passes.
 fn are_drawn_in_turn(alloc: Global, n: u64, seats: usize) -> Result<bool, BoardFault>
-    requires pieces { n ≤ 2 ^ 62 }
-    requires seats { (1 ≤ seats) × (seats ≤ 64) }
+    requires pieces { n ≤ most_pieces }
+    requires seats { (1 ≤ seats) × (seats ≤ most_seats) }
 {
     let (board, passes) = Board::open(alloc, n, seats)?;
     let is_opened = board.pieces() == n && board.seats() == seats;

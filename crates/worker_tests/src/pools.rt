@@ -1,5 +1,6 @@
 //! Runs of the pool that show what no clause says about threads and gates.
-ghost use Rattle.std.specs.Prelude.{◌≡◌, ◌≤◌, ◌^◌};
+ghost use Rattle.std.specs.Prelude.{◌≡◌, ◌≤◌};
+ghost use Rattle.piece_pool.specs.Limits.{most_pieces, most_workers};
 ghost use Rattle.piece_board.specs.Pass.{unused};
 ghost use Rattle.piece_pool.specs.Worked.{IsWorked};
 
@@ -52,8 +53,8 @@ fn run<R: Threads + Wait, G: Gate + Sync>(
     job: &Numbers,
     gate: &G,
 ) -> Ran
-    requires workers { (1 ≤ workers) × (workers ≤ 64) }
-    requires pieces { n ≤ 2 ^ 62 }
+    requires workers { (1 ≤ workers) × (workers ≤ most_workers) }
+    requires pieces { n ≤ most_pieces }
 {
     match run_pieces(rt, alloc, workers, n, job, gate) {
         Ok(outcome) => Ran::of(&outcome),
@@ -133,7 +134,7 @@ fn two_pool_workers_meet(rt: HostRuntime) {
 /// Runs the pieces 10 to 12 of a document as a job of three pieces. Returns the sum of the numbers
 /// that its gate got, if each output is at its index.
 fn sum_of_numbers<R: Threads + Wait>(rt: &R, alloc: Global, workers: usize) -> Option<u64>
-    requires workers { (1 ≤ workers) × (workers ≤ 64) }
+    requires workers { (1 ≤ workers) × (workers ≤ most_workers) }
 {
     let counter = Counter::new();
     let gate = OffsetGate {

@@ -6,6 +6,7 @@
 //! same with the starts of workers. At most one call fails in a run, so a second attempt must
 //! succeed.
 ghost use Rattle.std.specs.Prelude.{◌≤◌};
+ghost use Rattle.piece_pool.specs.Limits.{most_workers};
 
 use piece_pool::{Outcome, PoolFault, run_pieces};
 use std::alloc::Global;
@@ -22,7 +23,7 @@ fn outcome_of<R: Threads + Wait + Print>(
     workers: usize,
     sound: u64,
 ) -> Option<Outcome<u64, u64>>
-    requires workers { (1 ≤ workers) × (workers ≤ 64) }
+    requires workers { (1 ≤ workers) × (workers ≤ most_workers) }
 {
     let gate = Counter::new();
     let job = Numbers::sound_below(sound);

@@ -7,7 +7,7 @@
 use crate::dictionary::{
     A, B, C, FIRST, G, P, Q, SECOND, THIRD, dict_of, first_round, has, iri, looked_up, pieces, quad,
 };
-use dict_core::{Dict, LocalPiece, NumQuad, SeenPiece, merge, take_in};
+use dict_core::{Dict, LocalPiece, NumQuad, SeenPiece, add_piece, merge};
 use rdf_core::Term;
 use std::alloc::{AllocError, AllocGlobal, Global};
 use std::hash::RandomState;
@@ -158,12 +158,12 @@ fn take_in_twice(
     before: &[Term],
     (third, again): (SeenPiece, SeenPiece),
 ) -> bool {
-    if take_in(alloc, dict, quads, third).is_ok() {
+    if add_piece(alloc, dict, quads, third).is_ok() {
         return true;
     }
     has(dict, before)
         && quads.as_slice() == [quad(None, 0, 1, 2)].as_slice()
-        && take_in(alloc, dict, quads, again).is_ok()
+        && add_piece(alloc, dict, quads, again).is_ok()
 }
 
 /// Looks the third piece up twice.
@@ -190,7 +190,7 @@ fn is_round_added(alloc: Global, state: RandomState) -> bool {
     quads.as_slice() == expected.as_slice() && dict.len() == 6
 }
 
-/// `look_up` only borrows the dictionary. On error `take_in` leaves dictionary and quads unchanged.
+/// `look_up` only borrows the dictionary. On error `add_piece` leaves dictionary and quads unchanged.
 #[test]
 fn a_refused_round_changes_nothing(rt: HostRuntime) {
     let Ok(state) = RandomState::new(&rt) else {

@@ -1,7 +1,7 @@
 //! Commands and their output.
 
 use rdf_core::Text;
-use spq_command::{Command, Reading};
+use spq_command::{Command, ReadOptions};
 use spq_core::{RunFault, run, write_fault};
 use std::alloc::{AllocError, Global};
 use std::random::RandomSource;
@@ -45,8 +45,8 @@ pub(crate) type Example = (
 
 /// Creates the settings for reading a document. A number that is out of range is replaced by the
 /// nearest one in range.
-fn reading(workers: usize, piece: usize) -> Reading {
-    Reading {
+fn reading(workers: usize, piece: usize) -> ReadOptions {
+    ReadOptions {
         workers: workers.max(1).min(64),
         piece: piece.max(1).min(1073741824),
     }

@@ -3,7 +3,7 @@ use Rattle.std.proofs.lemmas.Bool.Decides.{Decides-eqb}
 use Rattle.std.proofs.lemmas.List.{map-append}
 use Rattle.rdf_core.proofs.TermLaws.{term_eq, term_decides}
 use Rattle.algebra_model.specs.Operators.{join, left_join, minus, extend, project, distinct, table}
-use Rattle.algebra_model.specs.Reading.{read_row}
+use Rattle.algebra_model.specs.Renaming.{read_row}
 use Rattle.algebra_model.proofs.BagLaws.{same_bag}
 use Rattle.algebra_model.proofs.NumberLaws.{reading_tells, nothing_asked_of_all}
 use Rattle.algebra_model.proofs.ReadingLaws.{join-read, minus-read, filter-read}

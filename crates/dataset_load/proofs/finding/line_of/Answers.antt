@@ -1,7 +1,7 @@
 use Rattle.std.proofs.Common.{◌∙◌, sym, subst, ◌<◌, ◌≤◌, ◌-◌, ◌+◌, ap, ℕ, List, drop}
 use Rattle.std.specs.List.{slice_get}
 use Rattle.nquads_core.specs.Lines.{lines}
-use Rattle.dataset_load.specs.Found.{all_lines}
+use Rattle.dataset_load.specs.Found.{block_lines}
 use Rattle.dataset_load.proofs.LineSteps.{in_block, after_block, if_some}
 use Rattle.dataset_load.proofs.finding.line_of.Goals as goal
 
@@ -21,4 +21,4 @@ loop-block-preserved c =
     let n = c.count_lines-count.ensures.count in
     c.loop-block.invariant
     ∙ after_block c.args.blocks.now c.loop-block.block-index c.block-item.result c.deref.result.now c.loop-block.left c.loop-block-test.true c.block-item.is c.deref.ensures.value (subst (λ (m : ℕ). m ≤ c.loop-block.left) n c.if-left-count.false)
-    ∙ ap (λ (m : ℕ). slice_get (all_lines (drop (c.loop-block.block-index + 1) c.args.blocks.now)) (c.loop-block.left - m)) (sym n)
+    ∙ ap (λ (m : ℕ). slice_get (block_lines (drop (c.loop-block.block-index + 1) c.args.blocks.now)) (c.loop-block.left - m)) (sym n)

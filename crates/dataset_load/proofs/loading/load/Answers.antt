@@ -1,9 +1,10 @@
 use Rattle.std.proofs.Common.{◌≡◌, ℕ, List, ap, ◌∙◌, subst, IfOk, IfErr}
 use Rattle.std.specs.Borrow.{Bor}
 use Rattle.nquads_core.specs.Lines.{lines}
+use Rattle.nquads_core.specs.Pieces.{IsBadLine}
 use Rattle.dataset_load.specs.Fault.{IfBadLine}
 use Rattle.dataset_load.specs.Lines.{all_lines, texts}
-use Rattle.dataset_load.specs.Loaded.{IsBadLine, IsLoaded}
+use Rattle.dataset_load.specs.Loaded.{IsLoaded}
 use Rattle.dataset_load.proofs.loading.load.Goals as goal
 
 pub returns-clause-loaded : goal.returns-clause-loaded

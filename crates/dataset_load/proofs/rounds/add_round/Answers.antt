@@ -9,11 +9,11 @@ returns-in-First-clause-bad_line g c = λ before was.
     round_bad before c.args.pieces.now c.args.so_far.now.dict c.args.so_far.now.dict c.args.so_far.now.quads.items c.args.so_far.now.lines c.in-First.piece c.in-First.fault _
     was.numbered was.count first.below first.answered first.faulted (omega (arith, c.line_number.ensures.number))
 
-pub returns-in_ok-take_in_round-in-All-clause-numbered : goal.returns-in_ok-take_in_round-in-All-clause-numbered
-returns-in_ok-take_in_round-in-All-clause-numbered g c = λ before was.
+pub returns-in_ok-add_read_pieces-in-All-clause-numbered : goal.returns-in_ok-add_read_pieces-in-All-clause-numbered
+returns-in_ok-add_read_pieces-in-All-clause-numbered g c = λ before was.
     let all = rw c.in-All.is at c.in_ok-outcome.ensures.outcome in
     let r = round_read c.args.pieces.now c.args.so_far.now.dict c.in-All.read.items all.count all.each in
-    let taken = c.in_ok-take_in_round-in-All.ensures in
+    let taken = c.in_ok-add_read_pieces-in-All.ensures in
     record {
       numbered = round_numbered before c.args.pieces.now c.args.so_far.now.dict _ c.args.so_far.now.quads.items _ c.in-All.read.items was.numbered r taken.numbered;
       count = taken.lines ∙ (λ i. was.count i + r.count i) ∙ sym (length-append before (all_lines (texts c.args.pieces.now)));

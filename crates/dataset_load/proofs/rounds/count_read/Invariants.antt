@@ -1,5 +1,5 @@
 use Rattle.std.proofs.Common.{◌≡◌, ◌≤◌, ◌*◌, ◌-◌, ◌^◌, take}
-use Rattle.dataset_load.specs.Reading.{line_total}
+use Rattle.dataset_load.specs.Rounds.{line_total}
 use Rattle.dataset_load.proofs.rounds.count_read.Given as goal
 
 abbrev pub invariant-loop-piece : goal.invariant-loop-piece

@@ -1,5 +1,5 @@
 use Rattle.std.proofs.Common.{ℕ, List, subst, arith}
-use Rattle.dataset_load.specs.Reading.{HasRead}
+use Rattle.dataset_load.specs.Rounds.{HasRead}
 use Rattle.std.proofs.lemmas.Result.{err_from_is_err_and}
 use Rattle.dataset_load.proofs.ReadingSteps.{bad_fault, lines_to, lines_up_to_end}
 use Rattle.dataset_load.proofs.rounds.number_pieces.Goals as goal

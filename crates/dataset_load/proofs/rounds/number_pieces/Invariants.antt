@@ -1,6 +1,6 @@
 use Rattle.std.proofs.Common.{◌≤◌, ◌-◌, ◌*◌, ◌^◌, take, length}
 use Rattle.dataset_load.specs.Lines.{all_lines, texts}
-use Rattle.dataset_load.specs.Reading.{HasRead}
+use Rattle.dataset_load.specs.Rounds.{HasRead}
 use Rattle.dataset_load.proofs.rounds.number_pieces.Given as goal
 
 abbrev pub invariant-loop-from : goal.invariant-loop-from

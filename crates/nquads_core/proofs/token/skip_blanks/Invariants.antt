@@ -1,6 +1,6 @@
 use Rattle.std.proofs.Common.{◌≡◌, length}
 use Rattle.std.specs.Str.{IsUtf8, chars}
-use Rattle.nquads_core.specs.Reading.{skip_blanks}
+use Rattle.nquads_core.specs.LineParser.{skip_blanks}
 use Rattle.nquads_core.proofs.token.skip_blanks.Given as goal
 
 abbrev pub invariant-loop-c : goal.invariant-loop-c

@@ -1,6 +1,6 @@
 use Rattle.std.proofs.Common.{◌≡◌, length}
 use Rattle.std.specs.Str.{IsUtf8, chars}
-use Rattle.nquads_core.specs.Reading.{subtags_at}
+use Rattle.nquads_core.specs.LineParser.{subtags_at}
 use Rattle.nquads_core.proofs.token.skip_subtags.Given as goal
 
 abbrev pub invariant-loop-c : goal.invariant-loop-c

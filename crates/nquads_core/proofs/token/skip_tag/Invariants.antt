@@ -1,6 +1,6 @@
 use Rattle.std.proofs.Common.{◌≡◌, length}
 use Rattle.std.specs.Str.{IsUtf8, chars}
-use Rattle.nquads_core.specs.Reading.{tag_tail_at}
+use Rattle.nquads_core.specs.LineParser.{tag_tail_at}
 use Rattle.nquads_core.proofs.token.skip_tag.Given as goal
 
 abbrev pub invariant-loop-c : goal.invariant-loop-c

@@ -1,8 +1,8 @@
 use Rattle.std.proofs.Common.{rules, arith, ◌≡◌, subst, sym, ap, ◌∙◌, max, length, List, ℕ}
 use Rattle.nquads_core.proofs.TransferSteps.{in-part-more}
 use Rattle.piece_cuts.specs.Cuts.{HasNoNextCut, IsNextCut}
-use Rattle.piece_cuts.specs.Blocks.{IsClear}
-use Rattle.piece_cuts.proofs.BlockSteps.{Grows-start, Grows-more, same_from_none, IsClear-start, IsClear-more, IsNextCut-clear, HasNoNextCut-clear}
+use Rattle.piece_cuts.specs.Blocks.{HasNoCutUpTo}
+use Rattle.piece_cuts.proofs.BlockSteps.{Grows-start, Grows-more, same_from_none, HasNoCutUpTo-start, HasNoCutUpTo-more, IsNextCut-clear, HasNoNextCut-clear}
 use Rattle.piece_cuts.proofs.blocks.first_cut.Goals as goal
 
 pub loop-place-init : goal.loop-place-init
@@ -10,7 +10,7 @@ loop-place-init g c = record {
   grows = Grows-start _ _;
   count = search rules;
   from = omega arith;
-  clear = IsClear-start c.args.kept.now.items c.args.size;
+  clear = HasNoCutUpTo-start c.args.kept.now.items c.args.size;
 }
 
 pub loop-place-preserved : goal.loop-place-preserved
@@ -23,8 +23,8 @@ loop-place-preserved g c =
       count = search rules;
       from = (let m = c.max-searched.ensures in let f = was.from in omega arith);
       clear =
-          subst (λ (x : ℕ). IsClear c.read_more.new.bytes.items c.args.size x) (sym (c.max-searched.ensures ∙ ap (max c.loop-place.searched) (c.len.ensures ∙ sym (ap length (sym c.deref.ensures.value) ∙ c.deref.ensures.len))))
-          (IsClear-more c.loop-place.kept.items more.added c.read_more.new.bytes.items c.args.size c.loop-place.searched c.requires.some was.clear none more.appended);
+          subst (λ (x : ℕ). HasNoCutUpTo c.read_more.new.bytes.items c.args.size x) (sym (c.max-searched.ensures ∙ ap (max c.loop-place.searched) (c.len.ensures ∙ sym (ap length (sym c.deref.ensures.value) ∙ c.deref.ensures.len))))
+          (HasNoCutUpTo-more c.loop-place.kept.items more.added c.read_more.new.bytes.items c.args.size c.loop-place.searched c.requires.some was.clear none more.appended);
     }
 
 pub returns-in-Ok-eq0-clause-grows : goal.returns-in-Ok-eq0-clause-grows

@@ -2,7 +2,7 @@ use Rattle.std.proofs.Common.{◌∙◌, ◌<◌, sym, ap, subst, ℕ}
 use Rattle.std.proofs.lemmas.List.Folds.{list_any_at}
 use Rattle.std.proofs.lemmas.Option.{get_or_from_slice_get}
 use Rattle.query_warnings.proofs.FactSteps.{none_more}
-use Rattle.query_warnings.specs.Asked.{is_literal_of}
+use Rattle.query_warnings.specs.QueryFeatures.{is_literal_of}
 use Rattle.query_warnings.proofs.facts.has_literal_of.Goals as goal
 
 pub returns-then-is_literal_of : goal.returns-then-is_literal_of

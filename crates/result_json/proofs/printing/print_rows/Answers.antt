@@ -4,7 +4,7 @@ use Rattle.std.proofs.lemmas.List.{with_items_is}
 use Rattle.std.proofs.lemmas.List.Sorted.{IsPermutation-trans}
 use Rattle.algebra_model.specs.Sorted.{slice, sorted_list}
 use Rattle.algebra_model.specs.RowOrder.{cells_cmp, sorted_rows}
-use Rattle.algebra_model.specs.Reading.{read_row}
+use Rattle.algebra_model.specs.Renaming.{read_row}
 use Rattle.dict_core.specs.Dict.{term_at}
 use Rattle.row_core.specs.RowList.{rows_in}
 use Rattle.rdf_core.specs.declared.term.Term.{Term}

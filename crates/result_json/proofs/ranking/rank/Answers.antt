@@ -1,6 +1,6 @@
 use Rattle.std.proofs.Common.{◌∙◌, ℕ, List, All, IsPermutation, length, get_or, map, ap, sym, subst, arith}
 use Rattle.std.proofs.lemmas.List.Sorted.{All-permutation, IsPermutation-trans}
-use Rattle.algebra_model.specs.Reading.{Each}
+use Rattle.algebra_model.specs.Renaming.{Each}
 use Rattle.algebra_model.proofs.RowOrderLaws.{derived, derived-is}
 use Rattle.result_json.specs.Ranks.{ranked_cell, Entry, terms_of, numbers_of, IsEntry, IsRank, IsRankTable}
 use Rattle.result_json.proofs.RankSteps.{entries_below, covered_sorted, cells_are, ranks_are, terms_rise}

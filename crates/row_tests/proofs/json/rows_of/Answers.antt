@@ -1,5 +1,5 @@
 use Rattle.std.proofs.Common.{◌≡◌, ◌<◌, ◌++◌, ◌∙◌, ℕ, List, [], ◌∷◌, Option, None, Some, length, sym, subst}
-use Rattle.algebra_model.specs.Reading.{Each, EachBound}
+use Rattle.algebra_model.specs.Renaming.{Each, EachBound}
 use Rattle.algebra_model.proofs.RangeLaws.{Each-append}
 use Rattle.row_tests.proofs.json.rows_of.Goals as goal
 

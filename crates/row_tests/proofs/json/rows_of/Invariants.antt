@@ -1,5 +1,5 @@
 use Rattle.std.proofs.Common.{◌≡◌, ◌<◌, length}
-use Rattle.algebra_model.specs.Reading.{Each, EachBound}
+use Rattle.algebra_model.specs.Renaming.{Each, EachBound}
 use Rattle.row_tests.proofs.json.rows_of.Given as goal
 
 abbrev pub invariant-loop-a : goal.invariant-loop-a

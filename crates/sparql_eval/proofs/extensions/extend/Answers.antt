@@ -4,7 +4,7 @@ use Rattle.algebra_model.specs.Operators.{extend}
 use Rattle.sparql_algebra.specs.ExpressionOf.{expression_of}
 use Rattle.sparql_eval.specs.Computed.{IsValue, TakesOnly}
 use Rattle.sparql_eval.proofs.AnswerSteps.{on_ok_so}
-use Rattle.row_pieces.specs.declared.how.EvalFault.TheVariants.{Memory}
+use Rattle.row_pieces.specs.declared.fault.EvalFault.TheVariants.{Memory}
 use Rattle.sparql_eval.specs.Evaluated.{IsEvaluated, solutions_of}
 use Rattle.sparql_eval.proofs.AnswerSteps.{answered, faulted}
 use Rattle.sparql_eval.proofs.extensions.extend.Goals as goal

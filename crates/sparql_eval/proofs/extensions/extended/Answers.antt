@@ -3,7 +3,7 @@ use Rattle.std.specs.List.{flat_map}
 use Rattle.std.proofs.lemmas.Simd.{map-map}
 use Rattle.algebra_model.specs.Expression.{val}
 use Rattle.algebra_model.specs.Operators.{extend}
-use Rattle.algebra_model.specs.Reading.{Each}
+use Rattle.algebra_model.specs.Renaming.{Each}
 use Rattle.algebra_model.proofs.BagLaws.{same_bag}
 use Rattle.dict_core.specs.Dict.{term_at}
 use Rattle.sparql_algebra.specs.ExpressionOf.{expression_of}

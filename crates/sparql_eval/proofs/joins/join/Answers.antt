@@ -1,7 +1,7 @@
 use Rattle.std.proofs.Common.{◌≡◌}
 use Rattle.rdf_core.proofs.TermLaws.{term_eq}
 use Rattle.algebra_model.specs.Operators.{join}
-use Rattle.row_pieces.specs.declared.how.EvalFault.TheVariants.{Memory}
+use Rattle.row_pieces.specs.declared.fault.EvalFault.TheVariants.{Memory}
 use Rattle.sparql_eval.specs.Evaluated.{IsEvaluated, solutions_of}
 use Rattle.sparql_eval.proofs.AnswerSteps.{answered, faulted}
 use Rattle.sparql_eval.proofs.joins.join.Goals as goal

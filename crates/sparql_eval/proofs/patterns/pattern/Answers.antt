@@ -7,7 +7,7 @@ use Rattle.algebra_model.specs.Dataset.{graph}
 use Rattle.dict_core.specs.Dict.{term_at}
 use Rattle.dict_core.specs.NumQuad.{quads_at}
 use Rattle.sparql_algebra.specs.AlgebraOf.{triple_pattern_of}
-use Rattle.row_pieces.specs.declared.how.EvalFault.TheVariants.{Memory}
+use Rattle.row_pieces.specs.declared.fault.EvalFault.TheVariants.{Memory}
 use Rattle.sparql_eval.specs.Evaluated.{IsEvaluated}
 use Rattle.sparql_eval.proofs.AnswerSteps.{answered, faulted}
 use Rattle.sparql_eval.proofs.patterns.pattern.Goals as goal

@@ -1,5 +1,5 @@
 use Rattle.std.proofs.Common.{ℕ, List, ◌++◌, length, map, sym, ◌∙◌, subst}
-use Rattle.algebra_model.specs.Reading.{Each}
+use Rattle.algebra_model.specs.Renaming.{Each}
 use Rattle.sparql_eval.specs.declared.piece_values.PieceValue.{PieceValue}
 use Rattle.sparql_eval.specs.Values.{IsOwnBelow, value_number}
 use Rattle.sparql_eval.proofs.ValueSteps.{absorbed_grown, own_below, numbers_more}

@@ -3,7 +3,7 @@ use Rattle.std.specs.List.{flat_map}
 use Rattle.std.specs.Vec.Iter.{into_iter_items}
 use Rattle.std.proofs.lemmas.List.Elements.{Contains-append_left, Contains-append_right}
 use Rattle.rdf_core.specs.declared.term.Term.{Term}
-use Rattle.algebra_model.specs.Reading.{Each}
+use Rattle.algebra_model.specs.Renaming.{Each}
 use Rattle.sparql_eval.specs.declared.piece_values.PieceValues.{PieceValues}
 use Rattle.sparql_eval.specs.Values.{IsPieceIn, own_terms, piece_terms}
 use Rattle.sparql_eval.proofs.ReadingLaws.{grown_twice, read_by}

@@ -2,7 +2,7 @@ use Rattle.std.proofs.Common.{◌≡◌, ◌++◌, Contains}
 use Rattle.std.specs.List.{flat_map}
 use Rattle.std.specs.Vec.Iter.{into_iter_items}
 use Rattle.rdf_core.specs.declared.term.Term.{Term}
-use Rattle.algebra_model.specs.Reading.{Each}
+use Rattle.algebra_model.specs.Renaming.{Each}
 use Rattle.dict_core.specs.Dict.{IsGrown}
 use Rattle.sparql_eval.specs.Computed.{TakesOnly}
 use Rattle.sparql_eval.specs.Values.{IsPieceIn, own_terms, piece_terms}

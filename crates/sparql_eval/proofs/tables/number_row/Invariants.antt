@@ -1,6 +1,6 @@
 use Rattle.std.proofs.Common.{◌≡◌, length, take, drop, Some, Contains}
 use Rattle.algebra_model.specs.Operators.{table_row}
-use Rattle.algebra_model.specs.Reading.{read_row}
+use Rattle.algebra_model.specs.Renaming.{read_row}
 use Rattle.dict_core.specs.Dict.{IsGrown, term_at}
 use Rattle.sparql_eval.specs.Computed.{TakesOnly}
 use Rattle.sparql_eval.specs.Numbered.{IsKnownRow}

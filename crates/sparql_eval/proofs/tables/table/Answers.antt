@@ -3,7 +3,7 @@ use Rattle.std.proofs.Common.{map}
 use Rattle.algebra_model.specs.Operators.{table}
 use Rattle.sparql_eval.specs.Computed.{IsCell, TakesOnly}
 use Rattle.sparql_eval.proofs.AnswerSteps.{on_ok_so}
-use Rattle.row_pieces.specs.declared.how.EvalFault.TheVariants.{Memory}
+use Rattle.row_pieces.specs.declared.fault.EvalFault.TheVariants.{Memory}
 use Rattle.sparql_eval.specs.Evaluated.{IsEvaluated, solutions_of}
 use Rattle.sparql_eval.proofs.AnswerSteps.{answered, faulted}
 use Rattle.sparql_eval.proofs.tables.table.Goals as goal

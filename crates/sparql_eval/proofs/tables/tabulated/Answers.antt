@@ -1,7 +1,7 @@
 use Rattle.std.proofs.Common.{ℕ, List, [], ◌∷◌, ◌++◌, length, map, take, Option, Some, Contains, sym, ap, subst, ◌∙◌, arith}
 use Rattle.rdf_core.specs.declared.term.Term.{Term}
 use Rattle.algebra_model.specs.Operators.{table, table_row}
-use Rattle.algebra_model.specs.Reading.{Each}
+use Rattle.algebra_model.specs.Renaming.{Each}
 use Rattle.sparql_eval.specs.Computed.{IsCell}
 use Rattle.sparql_eval.proofs.ProjectSteps.{map-take}
 use Rattle.sparql_eval.proofs.ReadingLaws.{Known, read_by, grown_twice}

@@ -1,6 +1,6 @@
 use Rattle.std.proofs.Common.{◌≡◌, take, map}
 use Rattle.algebra_model.specs.Operators.{table}
-use Rattle.algebra_model.specs.Reading.{Each}
+use Rattle.algebra_model.specs.Renaming.{Each}
 use Rattle.dict_core.specs.Dict.{IsGrown}
 use Rattle.sparql_eval.specs.Computed.{IsCell, TakesOnly}
 use Rattle.sparql_eval.proofs.ReadingLaws.{Known, read_by}

@@ -1,5 +1,5 @@
 use Rattle.algebra_model.specs.Expression.{val}
-use Rattle.algebra_model.specs.Reading.{read_row}
+use Rattle.algebra_model.specs.Renaming.{read_row}
 use Rattle.dict_core.specs.Dict.{term_at}
 use Rattle.sparql_algebra.specs.ExpressionOf.{expression_of}
 use Rattle.sparql_eval.proofs.TakingLaws.{took_value}

@@ -5,7 +5,7 @@ use Rattle.std.proofs.lemmas.Result.{err_from_is_err_and}
 use Rattle.sparql_lexer.specs.Terminal.{terminals}
 use Rattle.sparql_tree.specs.ExpressionTree.{expression_of, expressions_of, negation, none, then}
 use Rattle.sparql_grammar.specs.Symbol as the
-use Rattle.sparql_expression.specs.Reading.{seen}
+use Rattle.sparql_expression.specs.ParseResult.{seen}
 use Rattle.sparql_expression.proofs.Steps.{begin, took, took_branch, branch, left, right, here, skipped, passed_by, taken_heads, untaken_heads, take_fails, then_read, part_fails, enter, last_reads, last_same, last_fails, done, mapped_same}
 use Rattle.sparql_expression.proofs.MemberLaws.{pushed, members_at}
 use Rattle.sparql_expression.proofs.expressions.+expression.Goals as goal

@@ -1,7 +1,7 @@
 use Rattle.std.proofs.Common.{◌≡◌, refl}
 use Rattle.sparql_lexer.specs.Terminal.{terminals}
 use Rattle.sparql_grammar.specs.Symbol as the
-use Rattle.sparql_expression.specs.Reading.{seen}
+use Rattle.sparql_expression.specs.ParseResult.{seen}
 use Rattle.sparql_expression.proofs.Steps.{begin, took, took_branch, left, right, here, skipped, take_fails, done, last_same, mapped_same}
 use Rattle.sparql_expression.proofs.terms.read_term.Goals as goal
 

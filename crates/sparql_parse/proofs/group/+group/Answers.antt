@@ -4,7 +4,7 @@ use Rattle.sparql_lexer.specs.Terminal.{terminals}
 use Rattle.sparql_tree.specs.GroupTree.{element_of, group_of}
 use Rattle.sparql_tree.specs.GroupTree as g
 use Rattle.sparql_grammar.specs.Symbol as the
-use Rattle.sparql_expression.specs.Reading.{seen}
+use Rattle.sparql_expression.specs.ParseResult.{seen}
 use Rattle.sparql_expression.proofs.Steps.{begin, took, then_read, part_fails, enter, last_reads, last_fails, done, take_fails, here, left, right, branch, took_branch, skipped, passed_by, untaken_heads, taken_heads}
 use Rattle.sparql_parse.proofs.TripleSteps.{tail, whole, shorter_thrice, up_to, up_twice}
 use Rattle.sparql_parse.proofs.ValueSteps.{body_at, union_at}

@@ -2,7 +2,7 @@ use Rattle.std.proofs.Common.{refl}
 use Rattle.sparql_lexer.specs.Terminal.{terminals}
 use Rattle.sparql_tree.specs.ExpressionTree.{expression_of}
 use Rattle.sparql_grammar.specs.Symbol as the
-use Rattle.sparql_expression.specs.Reading.{seen}
+use Rattle.sparql_expression.specs.ParseResult.{seen}
 use Rattle.sparql_expression.proofs.Steps.{begin, here, left, branch, passed_by, untaken_heads, taken_heads}
 use Rattle.sparql_parse.proofs.TripleSteps.{tail}
 use Rattle.sparql_parse.proofs.group.read_condition.Goals as goal

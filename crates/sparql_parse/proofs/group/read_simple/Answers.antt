@@ -3,7 +3,7 @@ use Rattle.std.proofs.lemmas.Result.{err_from_is_err_and}
 use Rattle.sparql_lexer.specs.Terminal.{terminals}
 use Rattle.sparql_tree.specs.GroupTree.{element_of}
 use Rattle.sparql_grammar.specs.Symbol as the
-use Rattle.sparql_expression.specs.Reading.{seen}
+use Rattle.sparql_expression.specs.ParseResult.{seen}
 use Rattle.sparql_expression.proofs.Steps.{begin, took, last_reads, last_fails, take_fails, here, left, right, took_branch, skipped}
 use Rattle.sparql_parse.proofs.TripleSteps.{tail}
 use Rattle.sparql_parse.proofs.ElementSteps.{filter_seen}

@@ -2,7 +2,7 @@ use Rattle.std.proofs.Common.{refl}
 use Rattle.sparql_lexer.specs.Terminal.{terminals}
 use Rattle.sparql_tree.specs.QueryTree.{selection_of}
 use Rattle.sparql_grammar.specs.Symbol as the
-use Rattle.sparql_expression.specs.Reading.{seen}
+use Rattle.sparql_expression.specs.ParseResult.{seen}
 use Rattle.sparql_expression.proofs.Steps.{begin, here, left, took_branch, skipped}
 use Rattle.sparql_parse.proofs.TripleSteps.{tail}
 use Rattle.sparql_parse.specs.Queries.{select_of}

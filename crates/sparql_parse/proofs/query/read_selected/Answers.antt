@@ -2,7 +2,7 @@ use Rattle.std.proofs.Common.{refl, sym}
 use Rattle.sparql_lexer.specs.Terminal.{terminals}
 use Rattle.sparql_grammar.specs.Class.{variable}
 use Rattle.sparql_grammar.specs.Symbol as the
-use Rattle.sparql_expression.specs.Reading.{seen}
+use Rattle.sparql_expression.specs.ParseResult.{seen}
 use Rattle.sparql_expression.proofs.Steps.{begin, took, enter, take_fails, here, left, took_branch, skipped}
 use Rattle.sparql_parse.proofs.FrontSteps.{some_taken, none_untaken}
 use Rattle.sparql_parse.proofs.TripleSteps.{tail}

@@ -10,7 +10,7 @@ use Rattle.algebra_model.specs.Bag.{IsSameBag}
 use Rattle.algebra_model.specs.Eval.{eval, named}
 use Rattle.algebra_model.specs.Expression.{holds, val}
 use Rattle.algebra_model.specs.Operators.{distinct, extend, join, left_join, minus, project, table}
-use Rattle.algebra_model.specs.Reading.{Each}
+use Rattle.algebra_model.specs.Renaming.{Each}
 use Rattle.algebra_model.specs.Solution.{Solution}
 use Rattle.dict_core.specs.Dict.{term_at}
 use Rattle.dict_core.specs.NumQuad.{quads_at}

@@ -4,7 +4,7 @@ use Rattle.algebra_model.specs.Algebra.{each_graph}
 use Rattle.algebra_model.specs.Bag.{IsSameBag}
 use Rattle.algebra_model.specs.Eval.{eval, named}
 use Rattle.algebra_model.specs.Operators.{join}
-use Rattle.algebra_model.specs.Reading.{Each}
+use Rattle.algebra_model.specs.Renaming.{Each}
 use Rattle.dict_core.specs.Dict.{IsGrown, term_at}
 use Rattle.dict_core.specs.NumQuad.{quads_at}
 use Rattle.sparql_algebra.specs.AlgebraOf.{algebra_of}

@@ -1,0 +1,78 @@
+//! A piece of a document, read against the dictionary of the rounds before.
+ghost use Rattle.std.specs.Prelude.{◌≡◌, IfOk, IfErr};
+ghost use Rattle.nquads_core.specs.Lines.{lines};
+ghost use Rattle.nquads_core.specs.Pieces.{IsFirstMalformed};
+ghost use Rattle.piece_pool.specs.Job.{IfOwn};
+ghost use Rattle.dataset_load.specs.Lines.{text_at};
+ghost use Rattle.dataset_load.specs.Rounds.{IsReadPiece};
+
+use crate::read_piece::ReadPiece;
+use dict_core::{Dict, look_up, number_lines};
+use nquads_core::{PieceFault, count_lines};
+use piece_pool::{Job, JobFault};
+use std::alloc::Global;
+use std::hash::RandomState;
+
+/// The pieces of a round, each to be read and looked up in the dictionary of the rounds before.
+#[derive(Drop)]
+pub(crate) struct Round<'d> {
+    pub(crate) pieces: &'d [&'d [u8]],
+    pub(crate) dict: &'d Dict,
+    pub(crate) state: RandomState,
+}
+
+impl<'d> Job for Round<'d> {
+    ghost use Rattle.nquads_core.specs.Lines.{lines};
+    ghost use Rattle.nquads_core.specs.Pieces.{IsFirstMalformed};
+    ghost use Rattle.dataset_load.specs.Lines.{text_at};
+    ghost use Rattle.dataset_load.specs.Rounds.{IsReadPiece, not_both};
+
+    type Out = ReadPiece;
+
+    type Fault = u64;
+
+    ghost answers = { λ job i out. IsReadPiece job.dict.now (text_at job.pieces.now i) out };
+
+    ghost faults = { λ job i line. IsFirstMalformed (lines (text_at job.pieces.now i)) line };
+
+    fn run(&self, alloc: Global, i: u64) -> Result<ReadPiece, JobFault<u64>> {
+        read_against(alloc, self.state, self.dict, piece_at(self.pieces, i))
+    }
+
+    ghost exclusive = { λ job i out line read bad. not_both _ _ _ read.spelled bad };
+}
+
+/// The piece of this number, and no bytes after the last one.
+fn piece_at<'d>(pieces: &[&'d [u8]], i: u64) -> &'d [u8]
+    ensures bytes { result.now ≡ text_at pieces.now i }
+{
+    if i < pieces.len() as u64 {
+        pieces[i as usize]
+    } else {
+        &[]
+    }
+}
+
+/// Numbers a piece by itself, looks its terms up, and counts its lines.
+fn read_against(
+    alloc: Global,
+    state: RandomState,
+    dict: &Dict,
+    bytes: &[u8],
+) -> Result<ReadPiece, JobFault<u64>>
+    ensures read { IfOk result (IsReadPiece dict.now bytes.now) }
+    ensures bad { IfErr result (IfOwn (IsFirstMalformed (lines bytes.now))) }
+{
+    let local = match number_lines(alloc, state, bytes) {
+        Ok(local) => local,
+        Err(PieceFault::BadLine(line)) => return Err(JobFault::Own(line)),
+        Err(PieceFault::Memory) => return Err(JobFault::Memory),
+    };
+    let Ok(seen) = look_up(alloc, dict, local) else {
+        return Err(JobFault::Memory);
+    };
+    Ok(ReadPiece {
+        seen,
+        lines: count_lines(bytes),
+    })
+}

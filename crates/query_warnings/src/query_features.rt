@@ -1,0 +1,98 @@
+//! What the terminals of a query say.
+ghost use Rattle.std.specs.Prelude.{◌≡◌};
+ghost use Rattle.std.specs.List.{list_any};
+ghost use Rattle.query_warnings.specs.QueryFeatures.{is_comparing, is_graph};
+
+use sparql_lexer::{Keyword, Kind, Sign, Token};
+use std::alloc::{AllocError, Global};
+
+/// Whether this terminal compares values: a comparison operator, or IN.
+fn is_comparing(kind: Kind) -> bool
+    ensures { result ≡ is_comparing kind }
+{
+    match kind {
+        Kind::Sign(
+            Sign::Equal
+            | Sign::NotEqual
+            | Sign::Less
+            | Sign::Greater
+            | Sign::LessOrEqual
+            | Sign::GreaterOrEqual,
+        ) => true,
+        Kind::Keyword(Keyword::In) => true,
+        _ => false,
+    }
+}
+
+fn is_graph(kind: Kind) -> bool
+    ensures { result ≡ is_graph kind }
+{
+    match kind {
+        Kind::Keyword(Keyword::Graph) => true,
+        _ => false,
+    }
+}
+
+/// Returns whether a query with these terminals compares values.
+pub fn compares(tokens: &[Token<'_>]) -> bool
+    ensures value { result ≡ list_any (λ token. is_comparing token.kind) tokens.now }
+{
+    tokens.iter().any(|token| is_comparing(token.kind))
+}
+
+/// Returns whether a query with these terminals has GRAPH.
+pub fn has_graph(tokens: &[Token<'_>]) -> bool
+    ensures value { result ≡ list_any (λ token. is_graph token.kind) tokens.now }
+{
+    tokens.iter().any(|token| is_graph(token.kind))
+}
+
+/// The number of terminals before the query's group.
+fn group_start(tokens: &[Token<'_>]) -> usize {
+    let open = Kind::Sign(Sign::OpenBrace);
+    match tokens.iter().position(|token| token.kind == open) {
+        Some(at) => at,
+        None => tokens.len(),
+    }
+}
+
+/// The name of a variable without its sign; None of another terminal.
+fn name_of<'a>(token: &Token<'a>) -> Option<&'a [char]> {
+    if token.kind == Kind::Variable {
+        token.text.get(1..)
+    } else {
+        None
+    }
+}
+
+/// The names of the variables of these terminals, in the order of their characters.
+fn sorted_names<'a>(alloc: Global, tokens: &[Token<'a>]) -> Result<Vec<&'a [char]>, AllocError> {
+    let mut names = Vec::new(alloc);
+    for token in tokens {
+        if let Some(name) = name_of(token) {
+            names.push(name)?;
+        }
+    }
+    names.sort()?;
+    Ok(names)
+}
+
+/// Returns the names of the variables that a query with these terminals selects and that occur nowhere in
+/// its group, each once, in their order.
+///
+/// # Errors
+/// Out of memory.
+pub fn unused<'a>(alloc: Global, tokens: &[Token<'a>]) -> Result<Vec<&'a [char]>, AllocError> {
+    let start = group_start(tokens);
+    let (head, group) = tokens.split_at(start.min(tokens.len()));
+    let known = sorted_names(alloc, group)?;
+    let mut unused: Vec<&'a [char]> = Vec::new(alloc);
+    for token in head {
+        if let Some(name) = name_of(token) {
+            if known.binary_search(&name).is_err() && !unused.contains(&name) {
+                unused.push(name)?;
+            }
+        }
+    }
+    Ok(unused)
+}

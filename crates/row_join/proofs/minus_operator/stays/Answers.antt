@@ -1,0 +1,33 @@
+use Rattle.std.proofs.Common.{◌&&◌, sym, ap, ◌∙◌}
+use Rattle.row_join.specs.Pairing.{is_apart}
+use Rattle.row_join.specs.Places.{rows_at}
+use Rattle.row_join.proofs.PairLaws.{apart_both}
+use Rattle.row_join.proofs.ShareLaws.{unshared_apart}
+use Rattle.row_join.proofs.minus_operator.stays.Goals as goal
+
+pub returns-then-not-shares : goal.returns-then-not-shares
+returns-then-not-shares c = record {
+  value = sym (unshared_apart c.args.row.now c.args.right.now.rows.now.rows (sym c.shares.ensures.value ∙ c.if-not-shares.true));
+}
+
+pub returns-then-is_apart : goal.returns-then-is_apart
+returns-then-is_apart c =
+    let right = c.args.right.now in
+    let row = c.args.row.now in
+    let tried = c.in_ok-tried.tried in
+    record {
+      value = c.is_apart-then-is_apart.ensures.value
+          ∙ ap (λ b. b && is_apart (rows_at right.rows.now.rows tried.second.now) row) (sym c.if-is_apart.true ∙ c.is_apart.ensures.value)
+          ∙ apart_both right.key.items row right.rows.now.rows tried.first.now tried.second.now c.in_ok-tried.ensures.tried;
+    }
+
+pub returns-else-is_apart : goal.returns-else-is_apart
+returns-else-is_apart c =
+    let right = c.args.right.now in
+    let row = c.args.row.now in
+    let tried = c.in_ok-tried.tried in
+    record {
+      value = c.if-is_apart.false
+          ∙ ap (λ b. b && is_apart (rows_at right.rows.now.rows tried.second.now) row) (sym c.if-is_apart.false ∙ c.is_apart.ensures.value)
+          ∙ apart_both right.key.items row right.rows.now.rows tried.first.now tried.second.now c.in_ok-tried.ensures.tried;
+    }

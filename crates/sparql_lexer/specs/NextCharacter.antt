@@ -1,0 +1,7 @@
+-- The first character of a text. Only private clauses use this definition.
+use Rattle.std.specs.Prelude.{◌≡◌, ℕ, List, [], ◌∷◌, Option, Some, None}
+use Rattle.std.specs.Borrow.{Bor}
+
+abbrev pub IsNextCharacter : List ℕ → Option (ℕ × Bor (List ℕ)) → Type 0
+IsNextCharacter ts None = ts ≡ []
+IsNextCharacter ts (Some p) = ts ≡ p.0 ∷ p.1.now

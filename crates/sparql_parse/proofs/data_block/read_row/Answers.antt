@@ -1,0 +1,29 @@
+use Rattle.std.proofs.Common.{refl, sym}
+use Rattle.std.proofs.lemmas.Result.{err_from_is_err_and}
+use Rattle.sparql_lexer.specs.Terminal.{terminals}
+use Rattle.sparql_grammar.specs.Symbol as the
+use Rattle.sparql_expression.proofs.Steps.{begin, took, then_read, part_fails, enter, done, take_fails, here, left, took_branch, skipped}
+use Rattle.sparql_parse.proofs.TripleSteps.{shorter_twice}
+use Rattle.sparql_parse.proofs.ValueSteps.{cells_at}
+use Rattle.sparql_parse.proofs.data_block.read_row.Goals as goal
+
+pub returns-in_default-clause-reads : goal.returns-in_default-clause-reads
+returns-in_default-clause-reads c = take_fails (begin c.args.names.now (the.row) (terminals c.args.tokens.now)) (c.in_default.ensures.accepts c.args.names.now)
+
+pub cells-init : goal.cells-init
+cells-init c = record {
+  left = cells_at (sym c.new-cells.ensures.items) (enter (took (begin c.args.names.now (the.row) (terminals c.args.tokens.now)) (c.in-Some.ensures.accepts c.args.names.now)));
+  shorter = c.in-Some.ensures.shorter;
+}
+
+pub returns-in-Some-accept-clause-reads : goal.returns-in-Some-accept-clause-reads
+returns-in-Some-accept-clause-reads c = done (took_branch c.cells.invariant.left (left here) (c.in-Some-accept.ensures.accepts c.args.names.now)) refl
+
+pub returns-in_err-cell-clause-reads : goal.returns-in_err-cell-clause-reads
+returns-in_err-cell-clause-reads c = (let p = err_from_is_err_and c.from_residual.result c.from_residual.ensures.1 in rw (p.1, p.2) (part_fails (skipped c.cells.invariant.left (c.in_default-accept.ensures.accepts c.args.names.now)) c.in_err-cell.ensures.reads))
+
+pub cells-preserved : goal.cells-preserved
+cells-preserved c = record {
+  left = cells_at (sym c.in_ok-push.ensures.items) (enter (then_read (skipped c.cells.invariant.left (c.in_default-accept.ensures.accepts c.args.names.now)) c.in_ok-cell.ensures.reads));
+  shorter = shorter_twice c.in_ok-cell.ensures.shorter c.cells.invariant.shorter;
+}
