@@ -9,7 +9,7 @@ use Rattle.sparql_tree.specs.declared.group.Element.{Element}
 use Rattle.sparql_tree.specs.GroupTree.{GroupTree, ElementTree, then, onto, triples, group, union, optional, minus, graph, filter, bind, values, element_of, group_of}
 use Rattle.sparql_read.specs.NameSet.{HaveSame, is_among}
 use Rattle.sparql_read.specs.BlankReuse.{basic_patterns, closed_patterns, ends_run, labels_of, open_after, open_pattern, patterns_inside, shares_labels, triple_labels}
-use Rattle.sparql_read.specs.LabelSteps.{AddsElement, AddsLabels, AddsPatterns, IsRunResult, closed_by, run_of, stands_among}
+use Rattle.sparql_read.specs.LabelSteps.{AddsElement, AddsLabels, AddsPatterns, IsOpenRun, closed_by, run_of, stands_among}
 use Rattle.sparql_read.proofs.GroupLaws.{group_more, group_rest}
 use Rattle.sparql_read.proofs.SetLaws.{bytes_eq_sym, same_back, same_behind, same_front, same_refl, same_then, same_trans, same_turned}
 
@@ -80,11 +80,11 @@ pub first_clash : (xs : List (List ℕ)) (ps qs : List (List Triple)) → shares
 first_clash xs ps qs h = shares_append xs ps qs ∙ or_left (shares_labels (xs ++ flat_map labels_of ps) qs) h
 
 -- the run before an element is one more pattern
-pub run_added : {xs ls ys : List (List ℕ)} (us : List Triple) → IsRunResult xs ls us → HaveSame ys (xs ++ ls) → AddsPatterns (us ∷ []) true xs ys
+pub run_added : {xs ls ys : List (List ℕ)} (us : List Triple) → IsOpenRun xs ls us → HaveSame ys (xs ++ ls) → AddsPatterns (us ∷ []) true xs ys
 run_added {xs} {ls} us r h =
     (or_both r.apart refl, same_trans h (same_back xs (same_trans r.same (subst (HaveSame (labels_of us)) (sym (append-nil (labels_of us))) same_refl))))
 
-pub run_starts : (xs : List (List ℕ)) → IsRunResult xs [] []
+pub run_starts : (xs : List (List ℕ)) → IsOpenRun xs [] []
 run_starts xs = record { same = same_refl; apart = refl }
 
 pub nothing_added : {xs : List (List ℕ)} → AddsPatterns [] true xs xs
@@ -106,7 +106,7 @@ pub element_runs_on : (e : ElementTree) (b : Bool) (xs ls ms : List (List ℕ)) 
 element_runs_on e true xs ls ms h a = λ us r.
     rw (sym h) (
       nothing_added,
-      subst (IsRunResult xs ms) (sym (goes_on us e (sym h))) (record {
+      subst (IsOpenRun xs ms) (sym (goes_on us e (sym h))) (record {
         same = subst (HaveSame ms) (sym (flat_map-append triple_labels us (run_of e))) (same_trans a.1 (same_front (labels_of (run_of e)) r.same));
         apart = ap (stands_among xs) (flat_map-append triple_labels us (run_of e)) ∙ (stands_append xs (labels_of us) (labels_of (run_of e)) ∙ or_both r.apart a.0);
       }),
@@ -138,13 +138,13 @@ closed_more g e = refl
 
 -- the labels of the elements that were visited
 pub labels_more : (es : List Element) (i : ℕ) (e : Element) (xs ys ls zs ms : List (List ℕ)) → i < length es → e ≡ get_or es i e
-    → AddsPatterns (closed_patterns (group_of (take i es))) true xs ys × IsRunResult ys ls (open_pattern (group_of (take i es)))
+    → AddsPatterns (closed_patterns (group_of (take i es))) true xs ys × IsOpenRun ys ls (open_pattern (group_of (take i es)))
     → AddsElement (element_of e) true ys ls zs ms
-    → AddsPatterns (closed_patterns (group_of (take (i + 1) es))) true xs zs × IsRunResult zs ms (open_pattern (group_of (take (i + 1) es)))
+    → AddsPatterns (closed_patterns (group_of (take (i + 1) es))) true xs zs × IsOpenRun zs ms (open_pattern (group_of (take (i + 1) es)))
 labels_more es i e xs ys ls zs ms below is h a =
     let g = group_of (take i es) in
     let m = a (open_pattern g) h.1 in
-    subst (λ g. AddsPatterns (closed_patterns g) true xs zs × IsRunResult zs ms (open_pattern g)) (sym (group_more es i e below is))
+    subst (λ g. AddsPatterns (closed_patterns g) true xs zs × IsOpenRun zs ms (open_pattern g)) (sym (group_more es i e below is))
     (patterns_then xs (closed_patterns g) (closed_by (open_pattern g) (element_of e)) h.0 m.0, m.1)
 
 plain : (a : Bool) → (a || false) ≡ true → a ≡ true
@@ -178,7 +178,7 @@ clash_stays xs g (e ∷ es) h = clash_stays xs (then g e) es
     (λ k. or_right (shares_labels xs (closed_patterns g)) (clash_goes_on (xs ++ flat_map labels_of (closed_patterns g)) (open_pattern g) e k))))
 
 pub labels_clash : (es : List Element) (i : ℕ) (e : Element) (xs ys ls zs ms : List (List ℕ)) → i < length es → e ≡ get_or es i e
-    → AddsPatterns (closed_patterns (group_of (take i es))) true xs ys × IsRunResult ys ls (open_pattern (group_of (take i es)))
+    → AddsPatterns (closed_patterns (group_of (take i es))) true xs ys × IsOpenRun ys ls (open_pattern (group_of (take i es)))
     → AddsElement (element_of e) false ys ls zs ms
     → shares_labels xs (basic_patterns (group_of es)) ≡ true
 labels_clash es i e xs ys ls zs ms below is h a =

@@ -33,11 +33,11 @@ abbrev pub closed_by : List Triple → ElementTree → List (List Triple)
 closed_by us e = cond (ends_run e) (us ∷ patterns_inside e) []
 
 -- these are the labels of the run, and none of them occurs in an earlier pattern
-pub record IsRunResult (earlier labels : List (List ℕ)) (us : List Triple) : Type 0 where
+pub record IsOpenRun (earlier labels : List (List ℕ)) (us : List Triple) : Type 0 where
   pub same : HaveSame labels (labels_of us)
   pub apart : stands_among earlier (labels_of us) ≡ false
 
 -- the labels of the earlier patterns and of the run, before and after an element
 abbrev pub AddsElement : ElementTree → Bool → List (List ℕ) → List (List ℕ) → List (List ℕ) → List (List ℕ) → Type 0
-AddsElement e true xs ls ys ms = (us : List Triple) → IsRunResult xs ls us → AddsPatterns (closed_by us e) true xs ys × IsRunResult ys ms (open_after us e)
-AddsElement e false xs ls ys ms = (us : List Triple) → IsRunResult xs ls us → shares_labels xs (closed_by us e ++ open_after us e ∷ []) ≡ true
+AddsElement e true xs ls ys ms = (us : List Triple) → IsOpenRun xs ls us → AddsPatterns (closed_by us e) true xs ys × IsOpenRun ys ms (open_after us e)
+AddsElement e false xs ls ys ms = (us : List Triple) → IsOpenRun xs ls us → shares_labels xs (closed_by us e ++ open_after us e ∷ []) ≡ true

@@ -5,7 +5,7 @@ use Rattle.sparql_tree.specs.declared.group.Element.{size-Element}
 use Rattle.sparql_tree.specs.GroupTree.{element_of, group_of}
 use Rattle.sparql_read.specs.NameSet.{HaveSame}
 use Rattle.sparql_read.specs.BlankReuse.{basic_patterns, closed_patterns, open_pattern, patterns_inside, shares_labels}
-use Rattle.sparql_read.specs.LabelSteps.{AddsElement, AddsPatterns, IsRunResult}
+use Rattle.sparql_read.specs.LabelSteps.{AddsElement, AddsPatterns, IsOpenRun}
 use Rattle.sparql_read.proofs.GroupLaws.{union_deeper, union_stands_for}
 use Rattle.sparql_read.proofs.LabelLaws.{element_runs_on, element_ends_run, labels_clash, labels_more, last_clash, patterns_before, patterns_then, run_added}
 use Rattle.sparql_read.proofs.labels.+labels.Goals as goal
@@ -46,7 +46,7 @@ pub add_group-returns : goal.add_group-returns
 add_group-returns t c =
     let es = c.args.elements.now in
     let e : take c.loop-element.element-index es ≡ es = take_all c.loop-element.element-index es c.loop-element-test.false in
-    let i = subst (λ us. AddsPatterns (closed_patterns (group_of us)) true c.args.earlier.now c.loop-element.earlier × IsRunResult c.loop-element.earlier c.loop-element.labels (open_pattern (group_of us))) e c.loop-element.invariant in
+    let i = subst (λ us. AddsPatterns (closed_patterns (group_of us)) true c.args.earlier.now c.loop-element.earlier × IsOpenRun c.loop-element.earlier c.loop-element.labels (open_pattern (group_of us))) e c.loop-element.invariant in
     record {
       labels = patterns_then c.args.earlier.now (closed_patterns (group_of es)) (open_pattern (group_of es) ∷ []) i.0
           (run_added (open_pattern (group_of es)) i.1 c.in_ok-absorb.ensures.names);

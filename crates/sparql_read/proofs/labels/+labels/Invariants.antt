@@ -2,13 +2,13 @@ use Rattle.std.proofs.Common.{◌≤◌, ℕ, Bool, List, true, take}
 use Rattle.sparql_tree.specs.declared.group.Element.{size-Element}
 use Rattle.sparql_tree.specs.GroupTree.{element_of, group_of}
 use Rattle.sparql_read.specs.BlankReuse.{closed_patterns, open_pattern, patterns_inside}
-use Rattle.sparql_read.specs.LabelSteps.{AddsPatterns, IsRunResult}
+use Rattle.sparql_read.specs.LabelSteps.{AddsPatterns, IsOpenRun}
 use Rattle.sparql_read.proofs.labels.+labels.Given as goal
 
 abbrev pub invariant-add_group-loop-element : goal.invariant-add_group-loop-element
 invariant-add_group-loop-element l =
     AddsPatterns (closed_patterns (group_of (take l.element-index l.elements))) true l.initial.earlier l.earlier
-    × IsRunResult l.earlier l.labels (open_pattern (group_of (take l.element-index l.elements)))
+    × IsOpenRun l.earlier l.labels (open_pattern (group_of (take l.element-index l.elements)))
 
 -- if the patterns of the rest are added, those of the whole left side are added
 abbrev pub invariant-add_left-groups : goal.invariant-add_left-groups
