@@ -86,7 +86,7 @@ pub record TookNoneOf {K : Type 0} (write_gives : K → List ℕ → Result ℕ 
   pub some : 0 < length given
   pub none : write_gives before given (Ok 0) device
 
--- The writer failed, or it is as a write left it that took none of the next bytes of the text, and then
+-- The writer failed, or it is as a write left it that took none of its bytes of the text, and then
 -- no call of it failed.
 abbrev pub WriterFailed : {K : Type 0} → (K → List ℕ → Result ℕ DeviceFailed → K → Type 0) → Option ℕ → Option ℕ → List ℕ → K → Type 0
 WriterFailed write_gives failures failures' text writer' = Rises failures failures' ⊎ (TookNoneOf write_gives text writer' × Stays failures failures')
