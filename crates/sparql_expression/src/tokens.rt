@@ -4,9 +4,9 @@
 //! [`next`] is the first token of a list. [`accept`], [`accept_word`] and the other functions take a
 //! token of one class from the front of a list, with its value, exactly if there is one.
 
-mod classes;
+pub(crate) mod classes;
 pub(crate) mod decoding;
-mod front;
+pub(crate) mod front;
 
 pub use classes::{
     accept_anonymous, accept_blank, accept_boolean, accept_comparison, accept_count,
