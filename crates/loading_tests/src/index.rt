@@ -2,8 +2,8 @@
 
 use dict_core::NumQuad;
 use quad_index::{
-    Index, SortOrder, index_counts_the_quads, index_names_the_graphs, index_reads_the_quads,
-    sorted_list,
+    Index, PackedList, SortOrder, count_quads, index_counts_the_quads, index_names_the_graphs,
+    index_reads_the_quads, sorted_list,
 };
 use std::alloc::{AllocError, AllocGlobal, Global};
 
@@ -69,6 +69,37 @@ fn an_index_counts_each_quad_once(rt: HostRuntime) {
     index_reads_the_quads();
     index_counts_the_quads();
     index_names_the_graphs();
+}
+
+/// The counts of an index that is not built: of numbers that are packed, and of a number that is too large.
+#[test]
+fn quads_are_counted_once(rt: HostRuntime) {
+    let alloc = rt.alloc();
+    let mut quads = Vec::from_slice(alloc, &QUADS).expect(&rt, "memory");
+    let counts = count_quads(alloc, quads.clone().expect(&rt, "memory")).expect(&rt, "memory");
+    assert!(rt; counts.quads == 3 && counts.graphs == 1, "packed");
+    let large = quad(Some(1 << 40), 0, 1, 2);
+    quads.push(large).expect(&rt, "memory");
+    let counts = count_quads(alloc, quads).expect(&rt, "memory");
+    assert!(rt; counts.quads == 4 && counts.graphs == 2, "not packed");
+}
+
+/// A packed list has each quad once, in its order, and there is none with a number that is too large.
+#[test]
+fn a_packed_list_gives_its_quads_back(rt: HostRuntime) {
+    let alloc = rt.alloc();
+    let found = PackedList::of(alloc, &QUADS, SortOrder::Gpos).expect(&rt, "memory");
+    let list = found.expect(&rt, "small numbers");
+    let quads = list.quads(alloc).expect(&rt, "memory");
+    let expected = [
+        quad(None, 0, 1, 2),
+        quad(None, 0, 1, 3),
+        quad(Some(5), 0, 1, 2),
+    ];
+    assert!(rt; quads.as_slice() == &expected[..]);
+    let large = [quad(None, 0, 1, 0xFFFF_FFFF)];
+    let found = PackedList::of(alloc, &large, SortOrder::Gspo).expect(&rt, "memory");
+    assert!(rt; found.is_none());
 }
 
 /// A name, the given graph, subject, predicate and object, and the number of quads.

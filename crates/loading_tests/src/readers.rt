@@ -220,41 +220,68 @@ fn rounds_count_lines_and_pieces_of_the_document(rt: HostRuntime) {
     assert!(rt; holds(&rt, "pieces", expected, two_rounds_of_pieces(&rt, alloc)));
 }
 
-/// Reads the document of two rounds from a reader that fails once this number of bytes was read, and prints the fault and
-/// the number of calls that failed. The first line is malformed if `is_bad`.
+/// The document of two rounds with a malformed first line.
+fn malformed_rounds(alloc: Global) -> Result<Vec<u8>, AllocError> {
+    let mut doc = two_rounds(alloc)?;
+    if let Some(first) = doc.first_mut() {
+        *first = b'x';
+    }
+    Ok(doc)
+}
+
+/// Reads the document from a reader that fails once `until` bytes were read, with two workers, and prints the fault and
+/// the number of calls that failed.
 fn failing<R: Threads + Wait + RandomSource>(
     rt: &R,
     alloc: Global,
     call: Call,
+    doc: &[u8],
     until: usize,
-    is_bad: bool,
 ) -> Result<String, AllocError> {
-    let mut doc = two_rounds(alloc)?;
-    if is_bad && !doc.is_empty() {
-        doc[0] = b'x';
-    }
-    let mut reader = SliceSource::failing_after(doc.as_slice(), 8192, until);
+    let mut reader = SliceSource::failing_after(doc, 8192, until);
     let mut notes = LoadNotes::new();
     let found = counts_of(rt, alloc, call, &mut reader, 65536, 2, &mut notes);
     format!(in alloc; "{found:?}, {}", reader.failed)
 }
 
-/// A reader fails in the first round, between the rounds, in the second round, or after a malformed line, when the rest is read
-/// and dropped.
-const FAILURES: &[(&str, usize, bool)] = &[
-    ("the first read", 0, false),
-    ("the first round", 1 << 20, false),
-    ("between the rounds", 8 << 20, false),
-    ("the second round", (8 << 20) + 8192, false),
-    ("after a malformed line", (8 << 20) + 8192, true),
+/// Where a reader of the document of two rounds fails: the name, what is called, and the number of bytes that were read.
+const FAILURES: &[(&str, Call, usize)] = &[
+    ("the first read of a load", Call::Load, 0),
+    ("the first read of a count", Call::Count, 0),
+    ("the first read of terms", Call::Terms, 0),
+    ("the first round", Call::Count, 1 << 20),
+    ("between the rounds", Call::Load, 8 << 20),
+    ("the second round", Call::Count, (8 << 20) + 8192),
 ];
+
+/// Where it fails while the rest is read after a malformed line.
+const LATER_FAILURES: &[(&str, Call, usize)] = &[
+    ("after a malformed line", Call::Count, (8 << 20) + 8192),
+    ("after a malformed line", Call::Terms, 9 << 20),
+];
+
+/// Returns whether a failure of the reader is reported, once, for each of these places.
+fn are_reported<R: Threads + Wait + RandomSource + Print>(
+    rt: &R,
+    alloc: Global,
+    doc: &[u8],
+    failures: &[(&str, Call, usize)],
+) -> bool {
+    for (name, call, until) in failures {
+        let found = failing(rt, alloc, *call, doc, *until);
+        if !holds(rt, *name, "Err(Read), 1", found) {
+            return false;
+        }
+    }
+    true
+}
 
 #[test]
 fn a_failing_reader_is_reported(rt: HostRuntime) {
-    for (name, until, is_bad) in FAILURES {
-        for call in [Call::Load, Call::Count, Call::Terms] {
-            let found = failing(&rt, rt.alloc(), call, *until, *is_bad);
-            assert!(rt; holds(&rt, *name, "Err(Read), 1", found), "{name}");
-        }
-    }
+    let alloc = rt.alloc();
+    let (Ok(doc), Ok(malformed)) = (two_rounds(alloc), malformed_rounds(alloc)) else {
+        panic!(rt; "out of memory");
+    };
+    assert!(rt; are_reported(&rt, alloc, doc.as_slice(), FAILURES));
+    assert!(rt; are_reported(&rt, alloc, malformed.as_slice(), LATER_FAILURES));
 }

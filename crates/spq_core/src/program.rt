@@ -231,7 +231,7 @@ fn terms_block(alloc: Global, dict: &Dict) -> Result<Vec<Vec<u8>>, RunFault>
 
 /// Counts the quads, terms and graphs of the document that is the rest of the reader.
 ///
-/// The memory of the terms is left to the end of the process: freeing them one by one takes longer than sorting
+/// The memory of the terms is left to the end of the process: freeing them one by one takes about as long as sorting
 /// the quads.
 fn checked<R: Threads + Wait + RandomSource, S: Source, P: Progress>(
     rt: &R,
