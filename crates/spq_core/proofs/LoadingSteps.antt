@@ -29,7 +29,7 @@ module _ {S T : Type 0} (left : S → Option (List ℕ)) (failures : S → Optio
   }
   loading_of (Err (reading.BadLine n)) all bad part count none = record {
     loaded = tt;
-    bad_line = λ m e. subst (λ (k : ℕ). IsBadLineFrom (left reader) (left reader') k) (same_line {T} n m e) bad;
+    bad_line = λ m e. subst (λ (k : ℕ). IsBadLineFrom (left reader) (left reader') k) (same_line {T = T} n m e) bad;
     taken = part;
     read = λ e. absurd (cc);
     unfailed = λ other. count;

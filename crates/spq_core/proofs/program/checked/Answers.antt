@@ -11,4 +11,4 @@ returns-in_err-counted g c =
     rw (p.1, p.2) (not_loaded g.S.Source.left g.S.Source.failures IsCountedFrom check _ _ _ _ tt (bad_check _ _) c.in_err-counted.ensures)
 
 pub returns : goal.returns
-returns g c = counted g.S.Source.left g.S.Source.failures _ _ _ c.in_ok-counted.counted c.in_ok-counted.ensures c.counts_block.result c.counts_block.ensures.text c.counts_block.ensures.memory
+returns g c = counted g.S.Source.left g.S.Source.failures _ _ _ c.in_ok-counted.counted c.in_ok-counted.ensures c.counts_block-blocks.result c.counts_block-blocks.ensures.text c.counts_block-blocks.ensures.memory

@@ -5,6 +5,6 @@ use Rattle.spq_core.proofs.program.count_document.Goals as goal
 
 pub returns : goal.returns
 returns g c =
-    let done = c.count_reader.ensures in
-    finished g.S.Source.left g.S.Source.failures IsCountedFrom (c.args.reading.workers ≡ 1) c.args.reader.now c.count_reader.new.reader c.count_reader.result c.finished.result c.finished.ensures.loaded
+    let done = c.count_reader-counted.ensures in
+    finished g.S.Source.left g.S.Source.failures IsCountedFrom (c.args.reading.workers ≡ 1) c.args.reader.now c.count_reader-counted.new.reader c.count_reader-counted.result c.finished.result c.finished.ensures.loaded
     done.counted done.bad_line done.taken done.count done.one_worker

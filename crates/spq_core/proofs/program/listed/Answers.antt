@@ -11,4 +11,4 @@ returns-in_err-dict g c =
     rw (p.1, p.2) (not_loaded g.S.Source.left g.S.Source.failures AreTermsFrom terms _ _ _ _ tt (bad_terms _ _) c.in_err-dict.ensures)
 
 pub returns : goal.returns
-returns g c = listed g.S.Source.left g.S.Source.failures _ _ _ c.in_ok-dict.dict c.in_ok-dict.ensures c.terms_block.result c.terms_block.ensures.text c.terms_block.ensures.memory
+returns g c = listed g.S.Source.left g.S.Source.failures _ _ _ c.in_ok-dict.dict c.in_ok-dict.ensures c.terms_block-blocks.result c.terms_block-blocks.ensures.text c.terms_block-blocks.ensures.memory

@@ -5,6 +5,6 @@ use Rattle.spq_core.proofs.program.load_document.Goals as goal
 
 pub returns : goal.returns
 returns g c =
-    let done = c.load_reader.ensures in
-    finished g.S.Source.left g.S.Source.failures IsLoadedFrom (c.args.reading.workers ≡ 1) c.args.reader.now c.load_reader.new.reader c.load_reader.result c.finished.result c.finished.ensures.loaded
+    let done = c.load_reader-loaded.ensures in
+    finished g.S.Source.left g.S.Source.failures IsLoadedFrom (c.args.reading.workers ≡ 1) c.args.reader.now c.load_reader-loaded.new.reader c.load_reader-loaded.result c.finished.result c.finished.ensures.loaded
     done.loaded done.bad_line done.taken done.count done.one_worker

@@ -5,6 +5,6 @@ use Rattle.spq_core.proofs.program.load_document_terms.Goals as goal
 
 pub returns : goal.returns
 returns g c =
-    let done = c.load_terms.ensures in
-    finished g.S.Source.left g.S.Source.failures AreTermsFrom (c.args.reading.workers ≡ 1) c.args.reader.now c.load_terms.new.reader c.load_terms.result c.finished.result c.finished.ensures.loaded
+    let done = c.load_terms-loaded.ensures in
+    finished g.S.Source.left g.S.Source.failures AreTermsFrom (c.args.reading.workers ≡ 1) c.args.reader.now c.load_terms-loaded.new.reader c.load_terms-loaded.result c.finished.result c.finished.ensures.loaded
     done.terms done.bad_line done.taken done.count done.one_worker
