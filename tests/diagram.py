@@ -69,6 +69,7 @@ def parts():
     yield [text(40, 396, "A box is a crate. A frame is the crate that calls those inside it.", anchor="start")]
     yield [text(40, 414, "A dashed box has data types. A yellow box is an input or the output.", anchor="start")]
     yield [text(40, 432, "An arrow shows where data goes. Most crates use the green boxes.", anchor="start")]
+    yield [text(40, 450, "The blue boxes are the program, and its messages on standard error.", anchor="start")]
     # A query becomes a plan.
     yield data(620, 92, 420, "query text, --query")
     yield frame(620, 150, 420, 218, "sparql_read", "a syntax tree, or the first rule that rejects it")
