@@ -52,8 +52,11 @@ gate:
 # the tests that the gate leaves out, with the built program
 extra:
     tests/hostile.py --size 5
-    tests/refusals.sh
     tests/parts.py
+
+# the tests of errors with each allocation and each thread start failing in turn, as the gate runs them
+refusals:
+    tests/refusals.sh
 
 # compare loading with other programs
 bench quads='100000':
