@@ -1,4 +1,6 @@
 # Commands for contributors: `just` lists them. CONTRIBUTING.md explains them.
+# With this setting `run` passes each argument on as it is, spaces included.
+set positional-arguments
 
 # list the commands
 default:
@@ -15,6 +17,14 @@ try crate:
 # prove and run the tests of a crate
 test crate:
     cd crates/{{crate}} && rt test
+
+# run one test that `just test` has built, by its full name; with no name, list the names
+one crate name='--list':
+    crates/{{crate}}/out/{{crate}}_tests {{name}}
+
+# prove, build and run the program, with these arguments and a document on standard input
+run *arguments:
+    cd crates/spq && rt run -- "$@"
 
 # format one crate
 fmt crate:
@@ -42,8 +52,11 @@ gate:
 # the tests that the gate leaves out, with the built program
 extra:
     tests/hostile.py --size 5
-    tests/refusals.sh
     tests/parts.py
+
+# the tests of errors with each allocation and each thread start failing in turn, as the gate runs them
+refusals:
+    tests/refusals.sh
 
 # compare loading with other programs
 bench quads='100000':

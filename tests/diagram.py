@@ -66,8 +66,10 @@ def parts():
     yield arrow((240, 209), (259, 209))
     yield arrow((350, 232), (350, 295))
     yield arrow((260, 319), (241, 319))
-    yield [text(40, 402, "A box is a crate. A frame is the crate that calls those inside it.", anchor="start")]
-    yield [text(40, 420, "A dashed box has data types. API.md lists the public calls.", anchor="start")]
+    yield [text(40, 396, "A box is a crate. A frame is the crate that calls those inside it.", anchor="start")]
+    yield [text(40, 414, "A dashed box has data types. A yellow box is an input or the output.", anchor="start")]
+    yield [text(40, 432, "An arrow shows where data goes. Most crates use the green boxes.", anchor="start")]
+    yield [text(40, 450, "The blue boxes are the program, and its messages on standard error.", anchor="start")]
     # A query becomes a plan.
     yield data(620, 92, 420, "query text, --query")
     yield frame(620, 150, 420, 218, "sparql_read", "a syntax tree, or the first rule that rejects it")
@@ -81,7 +83,8 @@ def parts():
     yield arrow((730, 232), (730, 295))
     yield arrow((820, 319), (839, 319))
     yield arrow((930, 232), (930, 295))
-    yield arrow((930, 342), (930, 399))
+    yield arrow((720, 368), (720, 399))
+    yield arrow((820, 423), (839, 423))
     # Rows and results.
     yield frame(40, 490, 1000, 96, "sparql_eval", "a plan becomes rows of numbers, operator by operator")
     yield box(60, 526, 225, "row_pattern", "basic graph patterns by scans")
@@ -94,11 +97,11 @@ def parts():
     yield data(600, 625, 440, "SPARQL 1.1 Query Results JSON, standard output")
     yield arrow((280, 586), (280, 617))
     yield arrow((520, 641), (599, 641))
-    # What the others use.
+    # What the others use, and the messages, which only the program uses.
     yield box(40, 692, 240, "rdf_core", "terms, quads, lexical forms", kind="base", height=102)
     yield box(293, 692, 240, "algebra_model", "definitions and laws", "of the SPARQL algebra;", "query_laws: laws of queries", kind="base", height=102)
     yield box(546, 692, 240, "piece_pool", "worker threads run the", "tasks of a job; numbers from", "piece_board, a lock-free counter", kind="base", height=102)
-    yield box(799, 692, 241, "spq_report", "messages: line_diagnosis, excerpt,", "query_diagnosis, command_help,", "query_warnings", kind="base", height=102)
+    yield box(799, 692, 241, "spq_report", "messages: line_diagnosis, excerpt,", "query_diagnosis, command_help,", "query_warnings", kind="program", height=102)
 
 
 def svg():
