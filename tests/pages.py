@@ -69,8 +69,9 @@ SECTIONS = [
      ["pattern", "join", "left_join", "union", "minus", "graph", "filter", "extend", "project", "distinct", "table"], ["Keyed"]),
     ("spq_core", "Loading a dataset",
      ["load", "load_blocks", "Store::dict", "Store::index", "Store::quads", "Store::terms", "Store::graphs"], ["Store", "LoadFault"]),
+    ("dataset_load", "Loading from a reader", ["load_reader", "count_reader", "load_terms", "read_blocks"], ["LoadNotes", "Counted", "ReaderFault"]),
     ("spq_core", "Answering a query", ["answer"], ["Fault"]),
-    ("spq_core", "The program", ["read_command", "run", "write_fault", "status"], ["Command", "CommandFault", "RunFault"]),
+    ("spq_core", "The program", ["read_command", "run", "run_words", "write_fault", "finish", "status"], ["Command", "CommandFault", "RunFault", "Ran"]),
 ]
 
 

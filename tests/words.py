@@ -1,8 +1,8 @@
 #!/usr/bin/env python3
 """Finds words of a private vocabulary in pages and comments, where a standard term or plain English belongs.
 
-    words.py                counts them by file, and exits with 1 if a file of CLEAN has one
-    words.py --list [PART]  prints path, line and word of each, in the files with PART in their path
+    words.py                prints path, line and word of each, and exits with 1 if there is one
+    words.py --list [PART]  does so for the files with PART in their path
     words.py --words        counts them by word
 
 It reads the pages (README.md, docs, bench and other *.md), the comments and the documentation in crates/*/src, the
@@ -11,29 +11,13 @@ skips code (code blocks and code spans), text in quotation marks, links, file na
 A name with an underscore is not a word.
 """
 import argparse
-import fnmatch
+import collections
 import glob
 import os
 import re
 import sys
 
 ROOT = os.path.dirname(os.path.dirname(os.path.abspath(__file__)))
-# The files that have none of these words. The script fails if one appears there.
-CLEAN = [
-    "CHANGELOG.md", "CONTRIBUTING.md", "bench/*.md", "docs/ARCHITECTURE.md", "docs/COMPARISON.md", "docs/CONTRACTS.md", "docs/COST.md",
-    "docs/DECISIONS.md", "docs/DEFINITIONS.md", "docs/DIAGNOSTICS.md", "docs/PARTS.md", "docs/RECIPES.md", "docs/THEOREM.md", "docs/USAGE.md",
-    "docs/decisions/*.md", "docs/definitions/*.md",
-    "crates/algebra_model/*", "crates/algebra_tests/*", "crates/command_help/*", "crates/dataset_load/*", "crates/diagnosis_tests/*",
-    "crates/dict_core/*", "crates/evaluation_tests/*", "crates/excerpt/*", "crates/line_diagnosis/*", "crates/line_tests/*", "crates/loading_tests/*",
-    "crates/nquads_core/*", "crates/piece_board/*", "crates/piece_cuts/*", "crates/piece_pool/*", "crates/plain_eval/*", "crates/pool_time/*",
-    "crates/program_tests/*", "crates/quad_index/*", "crates/query_diagnosis/*", "crates/query_laws/*", "crates/query_tests/*",
-    "crates/query_warnings/*", "crates/rdf_core/*", "crates/report_tests/*", "crates/result_json/*", "crates/row_core/*", "crates/row_join/*",
-    "crates/row_pattern/*", "crates/row_pieces/*", "crates/row_tests/*", "crates/sparql_algebra/*", "crates/sparql_eval/*",
-    "crates/sparql_expression/*", "crates/sparql_grammar/*", "crates/sparql_lexer/*", "crates/sparql_parse/*", "crates/sparql_read/*",
-    "crates/sparql_tree/*", "crates/spq/*", "crates/spq_command/*", "crates/spq_core/*", "crates/spq_report/*", "crates/term_values/*",
-    "crates/test_fixtures/*", "crates/worker_tests/*",
-    "bench/*.c", "bench/*.py", "bench/*.rs", "bench/*.sh", "tests/*.c", "tests/*.py", "tests/*.sh",
-]
 # Each private word, as a regular expression, and what to write.
 WORDS = [
     (r"growths? (?:is|was|were|are) refused|refused growths?|wants? of memory|lack of memory", "an allocation fails; out of memory"),
@@ -122,39 +106,19 @@ def words_of(path):
     return found
 
 
-def is_clean(path):
-    return any(fnmatch.fnmatch(path, pattern) for pattern in CLEAN)
-
-
 def main():
     words = argparse.ArgumentParser(description=__doc__.partition("\n")[0])
-    words.add_argument("--list", nargs="?", const="", metavar="PART", help="print path, line and word of each, in the files with PART in their path")
+    words.add_argument("--list", nargs="?", const="", default="", metavar="PART", help="look only at the files with PART in their path")
     words.add_argument("--words", action="store_true", help="count them by word")
     asked = words.parse_args()
-    found = {path: words_of(path) for path in files()}
-    if asked.list is not None:
-        for path, hits in found.items():
-            for line, word, instead in hits if asked.list in path else []:
-                print(f"{path}:{line}: {word} -> {instead}")
-    elif asked.words:
-        counts = {}
-        for hits in found.values():
-            for _, word, _ in hits:
-                counts[word] = counts.get(word, 0) + 1
-        for word, count in sorted(counts.items(), key=lambda it: -it[1]):
+    found = [(path, *it) for path in files() if asked.list in path for it in words_of(path)]
+    if asked.words:
+        for word, count in collections.Counter(word for _, _, word, _ in found).most_common():
             print(f"{count:6} {word}")
     else:
-        for path, hits in found.items():
-            if hits:
-                print(f"{len(hits):6} {path}")
-        print(f"{sum(map(len, found.values())):6} in {sum(map(bool, found.values()))} of {len(found)} files")
-    wrong = [(path, *it) for path, hits in found.items() if is_clean(path) for it in hits]
-    if asked.list is None:
-        for path, line, word, instead in wrong:
+        for path, line, word, instead in found:
             print(f"{path}:{line}: {word} -> {instead}")
-    if wrong:
-        print(f"{len(wrong)} in files that must have none")
-    return 1 if wrong else 0
+    return 1 if found else 0
 
 
 if __name__ == "__main__":
