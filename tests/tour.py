@@ -9,6 +9,9 @@ below it what it prints at a terminal, on standard output and on standard error.
 one shell, in a folder with the files of docs/tour and with the program on the PATH as `spq`. They need jq, gzip, xz, zstd, pv,
 GNU parallel and serdi. `--write` puts what was printed into the pages.
 
+A block to paste begins with ```sh, and a block ```text right after it has what it prints. It runs in a shell of its own, in a
+folder that has docs/tour, with the program in ~/.local/bin.
+
 The examples in the tables of docs/DIAGNOSTICS.md are run too: each line or query has to give the column and the
 reason that its row says. Python 3 standard library only.
 """
@@ -29,8 +32,9 @@ MARK = "-- next command --"
 
 
 class Command:
-    def __init__(self, line, text):
-        self.line, self.text, self.shown, self.printed = line, text, [], []
+    def __init__(self, line, text, is_pasted=False):
+        self.line, self.text, self.is_pasted, self.shown, self.printed = line, text, is_pasted, [], []
+        self.head = line  # what is shown begins on the next line
 
 
 def commands(lines):
@@ -43,8 +47,20 @@ def commands(lines):
             found.append(Command(number, line[2:]))
         elif inside and line.startswith("> ") and not found[-1].shown:
             found[-1].text += "\n" + line[2:]
+            found[-1].head += 1
         elif inside:
             found[-1].shown.append(line)
+    return found
+
+
+def pasted(lines):
+    """The blocks to paste of a page, each with the lines that are shown in the block after it."""
+    found = []
+    for block in re.finditer(r"^```sh\n((?:(?!```).)*)\n```\n\n```text\n((?:(?!```).)*)\n```$", "\n".join(lines), re.S | re.M):
+        command = Command(block.string.count("\n", 0, block.start(1)) + 1, block[1], is_pasted=True)
+        command.head = block.string.count("\n", 0, block.start(2))
+        command.shown = block[2].split("\n")
+        found.append(command)
     return found
 
 
@@ -87,19 +103,26 @@ def wrong_examples(page, spq):
 
 
 def run(page, found, spq):
-    """Runs the commands of a page in one shell and notes what each printed."""
+    """Runs the commands of a page in one shell, and each block to paste in another, and notes what each printed."""
     with tempfile.TemporaryDirectory() as room:
-        place = os.path.join(room, "tour")
+        place, programs = os.path.join(room, "docs", "tour"), os.path.join(room, ".local", "bin")
         shutil.copytree(os.path.join(ROOT, "docs", "tour"), place)
-        os.mkdir(os.path.join(room, "bin"))
-        os.symlink(spq, os.path.join(room, "bin", "spq"))
+        os.makedirs(programs)
+        os.symlink(spq, os.path.join(programs, "spq"))
         os.makedirs(os.path.join(room, ".parallel"))
         open(os.path.join(room, ".parallel", "will-cite"), "w").close()
-        script = 'jq() { command jq -M "$@"; }\n'
-        script += "".join(f"echo '{MARK}'\n{command.text}\n" for command in found)
-        words = dict(os.environ, PATH=os.path.join(room, "bin") + os.pathsep + os.environ["PATH"], HOME=room)
-        shown = terminal.run(["bash"], lambda source, _: source.write(script.encode()), ("output", "error"), cwd=place, env=words)[1]
-    parts = terminal.left_of(shown.decode(errors="replace")).split(MARK + "\n")[1:]
+        words = dict(os.environ, PATH=programs + os.pathsep + os.environ["PATH"], HOME=room)
+
+        def shell(folder, script):
+            script = 'jq() { command jq -M "$@"; }\n' + script
+            shown = terminal.run(["bash"], lambda source, _: source.write(script.encode()), ("output", "error"), cwd=folder, env=words)[1]
+            return terminal.left_of(shown.decode(errors="replace"))
+
+        for command in found:
+            if command.is_pasted:
+                command.printed = shell(room, command.text + "\n").splitlines()
+        found = [command for command in found if not command.is_pasted]
+        parts = shell(place, "".join(f"echo '{MARK}'\n{command.text}\n" for command in found)).split(MARK + "\n")[1:]
     if len(parts) != len(found):
         sys.exit(f"{page}: {len(parts)} of {len(found)} commands ran")
     for command, printed in zip(found, parts):
@@ -110,9 +133,8 @@ def written(lines, found):
     """The page with what was printed in place of what it showed."""
     made, at = [], 0
     for command in found:
-        head = command.line + command.text.count("\n")
-        made += lines[at:head] + command.printed
-        at = head + len(command.shown)
+        made += lines[at : command.head] + command.printed
+        at = command.head + len(command.shown)
     return made + lines[at:]
 
 
@@ -130,7 +152,7 @@ def main():
         page = os.path.relpath(path, ROOT)
         with open(path) as source:
             lines = source.read().split("\n")
-        found = commands(lines) if given.only in page else []
+        found = sorted(commands(lines) + pasted(lines), key=lambda command: command.head) if given.only in page else []
         if not found:
             continue
         run(page, found, os.path.abspath(given.program))
