@@ -60,6 +60,10 @@ class Run:
     def __init__(self, client: Client, quiet: bool) -> None:
         self.client, self.quiet = client, quiet
 
+    def partitions(self, blocks: int) -> int:
+        """Returns how many partitions what is smaller than the blocks is spread over. There are not more than blocks."""
+        return min(blocks, max(1, sum(self.client.ncores().values()), blocks // 8))
+
     def start(self, tasks: list[Delayed]) -> list[Delayed]:
         """Starts tasks, and returns tasks that stand for their results, which stay on the workers."""
         return self.client.persist(tasks)

@@ -6,8 +6,10 @@ and at the end of a file. So the lines of a document are the lines of its blocks
 from __future__ import annotations
 
 from dataclasses import dataclass
-from typing import Iterator, Optional
+from functools import partial
+from typing import Callable, Iterable, Iterator, Optional
 
+import dask
 import numpy
 from dask.bytes import read_bytes
 from dask.delayed import Delayed
@@ -15,13 +17,17 @@ from fsspec.core import get_fs_token_paths
 from fsspec.utils import infer_compression
 
 
+# A function that reads a block, on the worker that needs it.
+Reader = Callable[[], bytes]
+
+
 @dataclass(frozen=True)
 class Source:
-    """One file: its path, its size in bytes (`None` if it is compressed), and its blocks, which are not read yet."""
+    """One file: its path, its size in bytes (`None` if it is compressed), and its blocks."""
 
     path: str
     size: Optional[int]
-    blocks: list[Delayed]
+    blocks: list[Reader]
 
 
 def sources(urls: list[str], blocksize: int) -> list[Source]:
@@ -42,16 +48,26 @@ def sources(urls: list[str], blocksize: int) -> list[Source]:
             sample=False,
             include_path=True,
         )
-        found += [Source(*source) for source in zip(paths, sizes, blocks)]
+        found += [Source(path, size, list(map(reader, those))) for path, size, those in zip(paths, sizes, blocks)]
     return found
+
+
+def reader(block: Delayed) -> Reader:
+    """Returns a function that reads a block. It is a part of the task that needs the block, so no block is sent."""
+    return partial(dask.get, dict(block.dask), block.key)
 
 
 def count_lines(text: bytes) -> int:
     """Returns the number of lines of a text."""
-    ends = int(numpy.count_nonzero(numpy.frombuffer(text, numpy.uint8) == ord("\n")))
+    ends = sum(map(line_feeds, pieces(text, 1 << 20)))
     if b"\r" in text:
         ends += text.count(b"\r") - text.count(b"\r\n")
     return ends if not text or text.endswith((b"\n", b"\r")) else ends + 1
+
+
+def line_feeds(text: memoryview) -> int:
+    """Returns the number of line feeds of a text."""
+    return int(numpy.count_nonzero(numpy.frombuffer(text, numpy.uint8) == ord("\n")))
 
 
 def halves(text: bytes) -> Optional[tuple[bytes, bytes]]:
@@ -61,10 +77,28 @@ def halves(text: bytes) -> Optional[tuple[bytes, bytes]]:
     return (text[:cut], text[cut:]) if 0 < cut < len(text) else None
 
 
-def pieces(text: bytes, size: int) -> Iterator[bytes]:
+def pieces(text: bytes, size: int) -> Iterator[memoryview]:
     """Cuts a text after line feeds into pieces of at least `size` bytes each, except the last."""
-    start = 0
+    view, start = memoryview(text), 0
     while start < len(text):
         end = text.find(b"\n", start + size - 1) + 1 or len(text)
-        yield text[start:end]
+        yield view[start:end]
         start = end
+
+
+def lines_at(text: bytes, numbers: numpy.ndarray) -> list[bytes]:
+    """Returns the lines with these numbers, which rise and begin at 0. Here each line ends with a line feed."""
+    found, first = [], 0
+    for piece in pieces(text, 1 << 16):
+        after = first + line_feeds(piece)
+        start, end = numpy.searchsorted(numbers, [first, after])
+        if start < end:
+            lines = bytes(piece).split(b"\n")
+            found += [lines[number - first] for number in numbers[start:end]]
+        first = after
+    return found
+
+
+def ended(lines: Iterable[bytes]) -> bytes:
+    """Returns the lines as one text, in which each line ends with a line feed."""
+    return b"\n".join([*lines, b""])
