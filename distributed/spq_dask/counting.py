@@ -17,6 +17,7 @@ from .hashing import hashed_quads, once, with_hashes
 from .program import DEVICE, Failed, Malformed, Spq
 
 PIECE = 8 << 20  # bytes that one run of `spq` reads
+BUCKETS = 16  # of the terms of a partition: small sets are faster
 
 
 @dataclass(frozen=True)
@@ -25,6 +26,10 @@ class Checked:
 
     lines: int
     size: int
+
+
+# What a block has for a partition: the terms of each bucket, graph names, and hashes of quads.
+Item = tuple[list[bytes], bytes, numpy.ndarray]
 
 
 @dataclass(frozen=True)
@@ -62,14 +67,15 @@ def check(run: Run, sources: list[Source], spq: Spq) -> bytes:
     return f"ok {quads} quads {terms} terms {names} graphs\n".encode()
 
 
-def examine(read: Reader, spq: Spq, partitions: int) -> tuple[Checked, numpy.ndarray, list[tuple[bytes, bytes, numpy.ndarray]]]:
+def examine(read: Reader, spq: Spq, partitions: int) -> tuple[Checked, numpy.ndarray, list[Item]]:
     """Checks a block. Returns the hashes of its quads, and for each partition its terms, graph names and hashes."""
     text = read()
     terms = distinct_terms(spq, text)
     quads, hashes = hashed_quads(spq, text)
     numbers = once(quads, hashes)
+    texts = shuffle.texts_by_partition(terms, partitions * BUCKETS)
     items = zip(
-        shuffle.texts_by_partition(terms, partitions),
+        [texts[number::partitions] for number in range(partitions)],
         shuffle.texts_by_partition(list(quads.names), partitions),
         shuffle.ranges(numbers, partitions),
     )
@@ -91,13 +97,14 @@ def distinct_terms(spq: Spq, text: bytes) -> list[bytes]:
     return list(dict.fromkeys(b"".join(found).split(b"\n")[:-1]))
 
 
-def count(items: list[tuple[bytes, bytes, numpy.ndarray]]) -> Counts:
+def count(items: list[Item]) -> Counts:
     """Counts one partition."""
     terms, names, numbers = zip(*items) if items else ((), (), (numpy.empty(0, numpy.int64),))
     hashes = numpy.sort(numpy.concatenate(numbers), kind="stable")
     again = hashes[1:][hashes[1:] == hashes[:-1]]
     repeated = numpy.unique(again)
-    return Counts(shuffle.distinct(terms), shuffle.distinct(names), len(hashes) - len(again) - len(repeated), repeated)
+    single = len(hashes) - len(again) - len(repeated)
+    return Counts(sum(map(shuffle.distinct, zip(*terms))), shuffle.distinct(names), single, repeated)
 
 
 def summary(counts: Counts) -> tuple[int, int, int, int]:

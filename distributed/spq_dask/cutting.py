@@ -17,6 +17,9 @@ from fsspec.core import get_fs_token_paths
 from fsspec.utils import infer_compression
 
 
+# Without a block size: the blocks of a worker, and the bytes of a block.
+BLOCKS, SMALLEST, LARGEST = 4, 1 << 20, 256 << 20
+
 # A function that reads a block, on the worker that needs it.
 Reader = Callable[[], bytes]
 
@@ -30,16 +33,19 @@ class Source:
     blocks: list[Reader]
 
 
-def sources(urls: list[str], blocksize: int) -> list[Source]:
+def sources(urls: list[str], blocksize: Optional[int], workers: int) -> list[Source]:
     """Returns the files that the URLs name, in order. A compressed file is one block.
 
-    Raises `OSError` if a file does not exist or its size cannot be found.
+    Without a block size, each worker gets several blocks, if the document is large enough. Raises `OSError` if a file
+    does not exist or its size cannot be found.
     """
+    files = [(url, infer_compression(url) is not None, *get_fs_token_paths(url, mode="rb")) for url in urls]
+    sizes = [[None if compressed else filesystem.info(path)["size"] for path in paths] for _, compressed, filesystem, _, paths in files]
+    if blocksize is None:
+        total = sum(size or 0 for those in sizes for size in those)
+        blocksize = min(LARGEST, max(SMALLEST, -(-total // max(1, BLOCKS * workers))))
     found = []
-    for url in urls:
-        compressed = infer_compression(url) is not None
-        filesystem, _, paths = get_fs_token_paths(url, mode="rb")
-        sizes = [None if compressed else filesystem.info(path)["size"] for path in paths]
+    for url, compressed, *_ in files:
         _, blocks, paths = read_bytes(
             url,
             delimiter=None if compressed else b"\n",
@@ -48,8 +54,9 @@ def sources(urls: list[str], blocksize: int) -> list[Source]:
             sample=False,
             include_path=True,
         )
-        found += [Source(path, size, list(map(reader, those))) for path, size, those in zip(paths, sizes, blocks)]
-    return found
+        found += zip(paths, blocks)
+    every = [size for those in sizes for size in those]
+    return [Source(path, size, list(map(reader, blocks))) for (path, blocks), size in zip(found, every)]
 
 
 def reader(block: Delayed) -> Reader:

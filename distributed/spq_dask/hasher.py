@@ -19,7 +19,7 @@ def main() -> None:
     with open(int(sys.argv[1]), "rb") as file:
         left_out = dict.fromkeys(file, LEFT_OUT)
     for lines in iter(partial(sys.stdin.buffer.readlines, SIZE), []):
-        array("q", map(left_out.get, lines, map(hash, lines))).tofile(sys.stdout.buffer)
+        array("q", list(map(left_out.get, lines, map(hash, lines)))).tofile(sys.stdout.buffer)
 
 
 if __name__ == "__main__":

@@ -44,7 +44,7 @@ class Canonical(unittest.TestCase):
 
     def test_plain_lines_are_canonical(self):
         plain = 0
-        for text in documents_of("plain", 100, ["\n"]):
+        for text in documents_of("plain", 150, ["\n"]):
             every = testing.spq(["terms"], text)[1].splitlines()
             for quad in text.split(b"\n"):
                 match = LINES.fullmatch(quad)
