@@ -3,7 +3,8 @@
 - `cutting`: the blocks of a document, and its lines.
 - `program`: one run of `spq` over one text; a text that needs too much memory is cut in two.
 - `canonical`: the canonical form of the quads of a block.
-- `shuffle`: texts of lines by hash partition; Dask's shuffle of bags.
+- `hashing`, `hasher`: hashes of these quads.
+- `shuffle`: texts and hashes by partition; Dask's shuffle of bags.
 - `counting`: the commands `check` and `terms`.
 - `outline`: what the command must know of a query: DISTINCT, LIMIT, OFFSET, and whether it may be split.
 - `rows`: rows of SPARQL results as text, their order, and how rows of parts are merged.

@@ -1,92 +1,132 @@
 """The canonical form of the quads of a block: each quad on a line of its own, as `spq` prints its terms.
 
 Two quads are equal exactly if their canonical lines are equal. Most lines of a dump are in this form already: they
-are plain, and a pattern recognises them. `spq select` prints the quads of all other lines. The pattern is right for
-lines of well-formed documents only, so `spq` checks a block first.
+are plain, and a pattern recognises them. The other lines are rewritten here if they differ in a known way; `spq select`
+prints the rest. The pattern is right for lines of well-formed documents only, so `spq` checks a block first.
 """
 from __future__ import annotations
 
+import io
 import json
+import os
 import re
-from typing import Any, Iterator, Optional
+import subprocess
+from dataclasses import dataclass
+from itertools import filterfalse
+from typing import Any, Iterator
 
-from .cutting import pieces
-from .program import Spq
+from .program import Spq, in_memory
 
 EVERY_QUAD = "SELECT ?g ?s ?p ?o { { ?s ?p ?o } UNION { GRAPH ?g { ?s ?p ?o } } }"
 XSD_STRING = "http://www.w3.org/2001/XMLSchema#string"
-PIECE = 1 << 16  # bytes of the lines that are matched at a time; larger ones are slower
+
+# What a plain line consists of. Single spaces separate the terms, no IRI has an escape, the datatype xsd:string is left
+# out, and in literals only the quote, the backslash, LF and CR are escaped. Both grep and Python read these patterns.
+IRI = r"<[^>\\]*+>"
+NODE = rf"(?:{IRI}|_:[A-Za-z0-9_-]++)"
+TEXT = r'"[^"\\]*+(?:\\["\\nr][^"\\]*+)*"'
+STRING = rf"\^\^<{re.escape(XSD_STRING)}>"
+TRIPLE = rf"{NODE} {IRI} (?:{NODE}|{TEXT}(?:@[a-z0-9-]++|\^\^(?!<{re.escape(XSD_STRING)}>){IRI})?)"
+# Of a plain line, grep prints the end with the graph name, or nothing without one. It prints all of any other line.
+GREP = rf"^{TRIPLE}(?: \.$(*SKIP)(*FAIL)|\K {NODE} \.$)|^.+$"
+# The same for Python: the end with the graph name, or the other line.
+LINES = re.compile(rf"^(?:{TRIPLE}(?: \.|( {NODE} \.))|(.+))$".encode(), re.MULTILINE)
+GRAPH = re.compile(rf" ({NODE}) \.".encode())
+
+# A line that is plain but for capitals in a language tag or the datatype xsd:string.
+NEARLY = re.compile(
+    rf"{NODE} {IRI} (?:{NODE}|{TEXT}(?:@(?P<tag>[A-Za-z0-9-]++)|(?P<string>{STRING})|\^\^{IRI})?)(?: ({NODE}))? \.".encode()
+)
+ASCII_BY_NUMBER = re.compile(rb"\\u00[0-7]|\\U000000[0-7]")
+# Any canonical line.
+CANONICAL = re.compile(
+    rb'(?:<[^>]*>|_:[^ ]+) <[^>]*> (?:<[^>]*>|_:[^ ]+|"[^"\\]*(?:\\.[^"\\]*)*"[^ ]*) (?:(<[^>]*>|_:[^ ]+) )?\.', re.DOTALL
+)
 
 
-def _statement(label: bytes, tag: bytes) -> bytes:
-    """Returns the pattern of a canonical statement, with these patterns of blank node labels and language tags.
+@dataclass(frozen=True)
+class Quads:
+    """The quads of a text, in canonical form: its lines without those that are left out, and more lines.
 
-    Single spaces separate the terms, the datatype xsd:string is left out, and in literals only the quote, the
-    backslash, LF and CR are escaped. The pattern captures the graph name.
+    A quad that the text has twice may be here twice. Each line of the text ends with a line feed, and no other way.
     """
-    iri = rb"<[^>]*>"
-    node = b"(?:" + iri + b"|_:" + label + b")"
-    datatype = rb"\^\^(?!<" + re.escape(XSD_STRING.encode()) + b">)" + iri
-    literal = rb'"[^"\\]*(?:\\["\\nr][^"\\]*)*"(?:@' + tag + b"|" + datatype + b")?"
-    return node + b" " + iri + b" (?:" + node + b"|" + literal + b") (?:(" + node + rb") )?\."
+
+    text: bytes
+    left_out: set[bytes]
+    more: list[bytes]
+    names: set[bytes]
+
+    def lines(self) -> list[bytes]:
+        """Returns the canonical lines, without line feeds."""
+        return [*filterfalse(self.left_out.__contains__, self.text.split(b"\n")), *self.more]
 
 
-# Each line of a text, if it is not empty: either a plain line and its graph name, or another line.
-LINES = re.compile(b"^(?:(" + _statement(rb"[A-Za-z0-9_-]+", rb"[a-z0-9-]+") + b")|(.+))$", re.MULTILINE)
-CAPITALS = re.compile(_statement(rb"[A-Za-z0-9_-]+", rb"(?P<tag>[A-Za-z0-9-]+)"))
-CANONICAL = re.compile(_statement(rb"[^ ]+", rb"[a-z0-9-]+"))
+def canonical_quads(spq: Spq, text: bytes) -> Quads:
+    """Returns the quads of a well-formed text."""
+    text = with_line_feeds(text)
+    with in_memory(text) as file:
+        return quads_of(spq, text, file)
 
 
-def canonical_quads(spq: Spq, text: bytes) -> Iterator[tuple[list[bytes], set[bytes]]]:
-    """Yields canonical lines of a well-formed text, without line feeds, and the names of their graphs.
-
-    They come many at a time, and all together are the quads of the text. A quad that the text has twice may come twice.
-    """
+def with_line_feeds(text: bytes) -> bytes:
+    """Ends each line of a text with a line feed, and no other way."""
     if b"\r" in text:
         text = text.replace(b"\r\n", b"\n").replace(b"\r", b"\n")
-    others: list[bytes] = []
-    for piece in pieces(text, PIECE):
-        found = LINES.findall(piece)
-        if not found:
-            continue
-        plain, graphs, rest = zip(*found)
-        if _numeric_escapes(piece) != _numeric_escapes(b"\n".join(rest)):  # then one is in an IRI of a plain line
-            numbered = [parts for parts in found if _numeric_escapes(parts[0])]
-            plain, graphs, rest = zip(*[parts for parts in found if not _numeric_escapes(parts[0])], (b"", b"", b""))
-            others += [line for line, _, _ in numbered]
-        others += filter(None, rest)
-        yield list(filter(None, plain)), {*graphs} - {b""}
-    quads = list(_canonical(spq, others))
-    yield [line for line, _ in quads], {name for _, name in quads if name}
+    return text if text.endswith(b"\n") else text + b"\n"
 
 
-def _numeric_escapes(text: bytes) -> int:
-    """Returns the number of escapes by number in a text, and of what looks like one."""
-    return text.count(b"\\u") + text.count(b"\\U")
+def quads_of(spq: Spq, text: bytes, file: io.FileIO) -> Quads:
+    """Returns the quads of a well-formed text that is in a file, too. A line feed ends each line."""
+    names, others, more, rest = set(), set(), [], []
+    for line in ends_and_others(text, file):
+        match = GRAPH.fullmatch(line)
+        names.add(match[1]) if match else others.add(line)
+    for line in others:
+        quad, name = rewritten(line)
+        more.append(quad) if quad else rest.append(line)
+        names.add(name)
+    printed = set(printed_by_spq(spq, b"\n".join(rest)))
+    more += printed - others
+    names.update(map(graph_of, printed))
+    return Quads(text, others - printed | {b""}, more, names - {b""})
 
 
-def _canonical(spq: Spq, lines: list[bytes]) -> Iterator[tuple[bytes, Optional[bytes]]]:
-    """Yields the canonical line and the graph name of each quad of well-formed lines.
-
-    Language tags are put in lower case here, since capitals in them are usual. `spq` prints all other lines.
-    """
-    rest = []
-    for line in lines:
-        match = CAPITALS.fullmatch(line)
-        if match and match["tag"] and b"\\" not in line:
-            start, end = match.span("tag")
-            yield line[:start] + line[start:end].lower() + line[end:], match[match.re.groups]
-        else:
-            rest.append(line)
-    yield from _printed_by_spq(spq, b"\n".join(rest))
+def ends_and_others(text: bytes, file: io.FileIO) -> set[bytes]:
+    """Returns the ends of plain lines with a graph name, and the other lines, of a text that is in a file."""
+    command = ["grep", "--text", "--only-matching", "--perl-regexp", "--regexp", GREP]
+    try:
+        ran = subprocess.run(command, stdin=file, stdout=subprocess.PIPE, stderr=subprocess.DEVNULL, env=dict(os.environ, LC_ALL="C"))
+        if ran.returncode in (0, 1):
+            return set(ran.stdout.split(b"\n")) - {b""}
+    except OSError:
+        pass  # no grep
+    return {end or other for end, other in LINES.findall(text)} - {b""}
 
 
-def _printed_by_spq(spq: Spq, text: bytes) -> Iterator[tuple[bytes, Optional[bytes]]]:
-    """Yields the canonical line and the graph name of each quad of a well-formed text."""
+def rewritten(line: bytes) -> tuple[bytes, bytes]:
+    """Returns the canonical form of a well-formed line that is nearly plain, and its graph name; both may be empty."""
+    if b"\\u" in line or b"\\U" in line:
+        if not line.isascii() or ASCII_BY_NUMBER.search(line):
+            return b"", b""
+        line = line.decode("raw_unicode_escape").encode()
+    match = NEARLY.fullmatch(line)
+    if not match:
+        return b"", b""
+    tag, string, name = match.groups(b"")
+    if tag:
+        start, end = match.span("tag")
+        line = line[:start] + tag.lower() + line[end:]
+    elif string:
+        start, end = match.span("string")
+        line = line[:start] + line[end:]
+    return line, name
+
+
+def printed_by_spq(spq: Spq, text: bytes) -> Iterator[bytes]:
+    """Yields the canonical line of each quad of a well-formed text."""
     for output in spq.outputs(["select", "--query", EVERY_QUAD], text) if text else ():
         for row in json.loads(output)["results"]["bindings"]:
-            statement = " ".join(term_text(row[place]) for place in "spog" if place in row)
-            yield f"{statement} .".encode(), term_text(row["g"]).encode() if "g" in row else None
+            yield (" ".join(term_text(row[place]) for place in "spog" if place in row) + " .").encode()
 
 
 def subject_of(line: bytes) -> bytes:

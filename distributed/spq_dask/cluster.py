@@ -6,6 +6,7 @@ import logging
 import os
 import sys
 import tempfile
+import warnings
 import zipfile
 from typing import Any, Iterator, Optional
 
@@ -15,7 +16,7 @@ from distributed import Client, Future, LocalCluster, progress
 from distributed.scheduler import KilledWorker
 
 from .cutting import Source
-from .program import DEVICE, MEMORY, Failed, Malformed
+from .program import DEVICE, MALLOC, MEMORY, Failed, Malformed
 
 
 @contextlib.contextmanager
@@ -25,11 +26,15 @@ def connected(scheduler: Optional[str], processes: Optional[int]) -> Iterator[Cl
     Without an address the scheduler is the one that Dask's configuration names.
     Workers elsewhere get this package from here. Raises `Failed` if there is no scheduler at the address.
     """
+    for name in ("asyncio", "distributed", "tornado"):  # failures are told in one line
+        logging.getLogger(name).setLevel(logging.CRITICAL + 1)
+    warnings.filterwarnings("ignore", "Port .* is already in use", UserWarning)  # another port is taken then
     scheduler = scheduler or dask.config.get("scheduler-address", None)
     if not scheduler:
         options = {"n_workers": processes, "threads_per_worker": 1, "silence_logs": logging.CRITICAL}
+        memory = {"GLIBC_TUNABLES": MALLOC, "MALLOC_TRIM_THRESHOLD_": 1 << 40}
         # On one machine compression takes longer than what it saves.
-        with dask.config.set({"distributed.comm.compression": None}):
+        with dask.config.set({"distributed.comm.compression": None, "distributed.nanny.pre-spawn-environ": memory}):
             with LocalCluster(**options) as cluster, Client(cluster) as client:
                 yield client
         return
@@ -59,6 +64,14 @@ class Run:
 
     def __init__(self, client: Client, quiet: bool) -> None:
         self.client, self.quiet = client, quiet
+
+    def workers(self) -> int:
+        """Returns how many tasks run at a time."""
+        return sum(self.client.ncores().values())
+
+    def partitions(self, blocks: int) -> int:
+        """Returns how many partitions what is smaller than the blocks is spread over. There are not more than blocks."""
+        return min(blocks, max(1, self.workers(), blocks // 8))
 
     def start(self, tasks: list[Delayed]) -> list[Delayed]:
         """Starts tasks, and returns tasks that stand for their results, which stay on the workers."""

@@ -57,7 +57,7 @@ def parser() -> Parser:
     common = Parser(add_help=False)
     common.add_argument("--scheduler", metavar="ADDRESS", help="a Dask scheduler; default Dask's setting scheduler-address, or one is started here")
     common.add_argument("--processes", type=number, help="worker processes, if a scheduler is started here; default one a processor")
-    common.add_argument("--blocksize", type=size, default=size("256MiB"), help="bytes of a block; default 256MiB")
+    common.add_argument("--blocksize", type=size, help="bytes of a block; default 256MiB, or less to give each worker four blocks")
     common.add_argument("--spq", default="spq", metavar="PATH", help="the program on the workers; default spq")
     common.add_argument("--workers", type=number, default=1, help="threads of each run of spq; default 1")
     common.add_argument("--quiet", action="store_true", help="neither a progress bar nor the dashboard's address")
@@ -87,7 +87,7 @@ def output(given: argparse.Namespace, client: Client) -> Iterable[bytes]:
     """Runs a command, and returns what it prints."""
     run, spq = Run(client, given.quiet), Spq(given.spq, given.workers)
     with failures():
-        found = sources(given.files, given.blocksize)
+        found = sources(given.files, given.blocksize, run.workers())
     if given.command == "check":
         return [check(run, found, spq)]
     if given.command == "terms":

@@ -11,12 +11,13 @@ from dask import delayed
 from dask.delayed import Delayed
 
 from . import shuffle
-from .canonical import canonical_quads
 from .cluster import Run
-from .cutting import Source, count_lines, pieces
-from .program import Malformed, Spq
+from .cutting import Reader, Source, count_lines, ended, pieces
+from .hashing import hashed_quads, once, with_hashes
+from .program import DEVICE, Failed, Malformed, Spq
 
 PIECE = 8 << 20  # bytes that one run of `spq` reads
+BUCKETS = 16  # of the terms of a partition: small sets are faster
 
 
 @dataclass(frozen=True)
@@ -27,17 +28,8 @@ class Checked:
     size: int
 
 
-@dataclass(frozen=True)
-class CountedBlock:
-    """What `check` keeps of a block: its canonical quads with their hashes, and an item for each partition.
-
-    An item is the texts of the terms and of the graph names of its partition, and the hashes of the quads.
-    """
-
-    checked: Checked
-    quads: bytes
-    hashes: numpy.ndarray
-    items: list[shuffle.Item]
+# What a block has for a partition: the terms of each bucket, graph names, and hashes of quads.
+Item = tuple[list[bytes], bytes, numpy.ndarray]
 
 
 @dataclass(frozen=True)
@@ -56,63 +48,63 @@ def check(run: Run, sources: list[Source], spq: Spq) -> bytes:
     Terms and graph names are compared as text. A hash of a quad that occurs once in the whole is one quad; the quads
     whose hashes occur again are compared as text.
     """
-    texts = [block for source in sources for block in source.blocks]
-    blocks = [delayed(examine)(text, spq, len(texts)) for text in texts]
-    # The worker that has a block takes its items out at once; later another worker might fetch the whole block.
-    started = run.start(blocks + [delayed(attrgetter("items"))(block) for block in blocks])
-    blocks, items = started[: len(texts)], started[len(texts) :]
-    run.checked(sources, [delayed(attrgetter("checked"))(block) for block in blocks])
-    if not blocks:
+    reads = [read for source in sources for read in source.blocks]
+    partitions = run.partitions(len(reads))
+    # The worker that has examined a block takes the result apart at once. So no other worker fetches all of it.
+    blocks = [tuple(delayed(examine, nout=3)(read, spq, partitions)) for read in reads]
+    started = run.start([part for block in blocks for part in block])
+    checked, hashes, items = started[::3], started[1::3], started[2::3]
+    run.checked(sources, checked)
+    if not reads:
         return b"ok 0 quads 0 terms 0 graphs\n"
-    partitions = run.start(shuffle.shuffled(items, count))
-    totals = run.results([delayed(summary)(partition) for partition in partitions])
+    counted = run.start(shuffle.shuffled(items, partitions, count))
+    totals = run.results([delayed(summary)(counts) for counts in counted])
     terms, names, quads, repeated = (sum(column) for column in zip(*totals))
     if repeated:
-        hashes = delayed(numpy.concatenate)([delayed(attrgetter("repeated"))(partition) for partition in partitions])
-        again = [delayed(repeated_quads)(block, hashes, len(blocks)) for block in blocks]
-        quads += sum(run.results(shuffle.shuffled(again, shuffle.distinct)))
+        some = delayed(numpy.concatenate)([delayed(attrgetter("repeated"))(counts) for counts in counted])
+        again = [delayed(repeated_quads)(read, spq, those, some, partitions) for read, those in zip(reads, hashes)]
+        quads += sum(run.results(shuffle.shuffled(again, partitions, shuffle.distinct)))
     return f"ok {quads} quads {terms} terms {names} graphs\n".encode()
 
 
-def examine(text: bytes, spq: Spq, partitions: int) -> CountedBlock:
-    """Checks a block and spreads its terms, graph names and quads over the partitions."""
-    lines, terms = terms_of(spq, text)
-    quads, numbers, names = [], [], set()
-    for found, graphs in canonical_quads(spq, text):
-        quads.append(b"\n".join(found))
-        numbers.append(shuffle.hashes(found))
-        names |= graphs
-    hashes = numpy.concatenate(numbers)
+def examine(read: Reader, spq: Spq, partitions: int) -> tuple[Checked, numpy.ndarray, list[Item]]:
+    """Checks a block. Returns the hashes of its quads, and for each partition its terms, graph names and hashes."""
+    text = read()
+    terms = distinct_terms(spq, text)
+    quads, hashes = hashed_quads(spq, text)
+    numbers = once(quads, hashes)
+    texts = shuffle.texts_by_partition(terms, partitions * BUCKETS)
     items = zip(
-        shuffle.texts_by_partition(terms, partitions),
-        shuffle.texts_by_partition(list(names), partitions),
-        (hashes[places] for places in shuffle.places_by_partition(hashes, partitions)),
+        [texts[number::partitions] for number in range(partitions)],
+        shuffle.texts_by_partition(list(quads.names), partitions),
+        shuffle.ranges(numbers, partitions),
     )
-    return CountedBlock(Checked(lines, len(text)), b"\n".join(filter(None, quads)), hashes, list(enumerate(items)))
+    return Checked(count_lines(text), len(text)), numbers, list(items)
 
 
-def terms_of(spq: Spq, text: bytes) -> tuple[int, list[bytes]]:
-    """Returns the number of lines of a block, and its terms by first appearance; some may come again.
+def distinct_terms(spq: Spq, text: bytes) -> list[bytes]:
+    """Returns the terms of a block by first appearance. Raises `Malformed` if the block has a malformed line.
 
-    A block is read in pieces, since `spq` needs less time for a line of a small text. Raises `Malformed` if the block
-    has a malformed line.
+    `spq` reads the block piece by piece, since it needs less time for a line of a small text.
     """
-    lines, found = 0, []
+    before, found = 0, []
     for piece in pieces(text, PIECE):
         try:
             found += spq.outputs(["terms"], piece)
         except Malformed as malformed:
-            raise Malformed(lines + malformed.number) from None
-        lines += count_lines(piece)
-    return lines, b"".join(found).splitlines()
+            raise Malformed(count_lines(text[:before]) + malformed.number) from None
+        before += len(piece)
+    return list(dict.fromkeys(b"".join(found).split(b"\n")[:-1]))
 
 
-def count(items: list[tuple[bytes, bytes, numpy.ndarray]]) -> Counts:
+def count(items: list[Item]) -> Counts:
     """Counts one partition."""
-    terms, names, hashes = zip(*items) if items else ((), (), (numpy.empty(0, numpy.uint64),))
-    numbers, counts = numpy.unique(numpy.concatenate(hashes), return_counts=True)
-    single = int(numpy.count_nonzero(counts == 1))
-    return Counts(shuffle.distinct(terms), shuffle.distinct(names), single, numbers[counts > 1])
+    terms, names, numbers = zip(*items) if items else ((), (), (numpy.empty(0, numpy.int64),))
+    hashes = numpy.sort(numpy.concatenate(numbers), kind="stable")
+    again = hashes[1:][hashes[1:] == hashes[:-1]]
+    repeated = numpy.unique(again)
+    single = len(hashes) - len(again) - len(repeated)
+    return Counts(sum(map(shuffle.distinct, zip(*terms))), shuffle.distinct(names), single, repeated)
 
 
 def summary(counts: Counts) -> tuple[int, int, int, int]:
@@ -120,46 +112,45 @@ def summary(counts: Counts) -> tuple[int, int, int, int]:
     return counts.terms, counts.names, counts.single, len(counts.repeated)
 
 
-def repeated_quads(block: CountedBlock, repeated: numpy.ndarray, partitions: int) -> list[shuffle.Item]:
-    """Returns the quads of a block whose hashes are repeated, by partitions."""
-    places = numpy.flatnonzero(numpy.isin(block.hashes, repeated))
-    quads = block.quads.split(b"\n")
-    return list(enumerate(shuffle.texts_by_partition([quads[place] for place in places], partitions)))
-
-
-@dataclass(frozen=True)
-class ListedBlock:
-    """What `terms` keeps of a block: its terms, and for each partition the block's number, and places and text."""
-
-    checked: Checked
-    terms: bytes
-    items: list[shuffle.Item]
+def repeated_quads(read: Reader, spq: Spq, hashes: numpy.ndarray, repeated: numpy.ndarray, partitions: int) -> list[bytes]:
+    """Returns the quads of a block whose hashes are repeated, by partitions. Reads the block again if it has some."""
+    some = hashes[numpy.isin(hashes, repeated)]
+    if not len(some):
+        return [b""] * partitions
+    quads, numbers = hashed_quads(spq, read())
+    if not numpy.array_equal(once(quads, numbers), hashes):
+        raise Failed(DEVICE, "error: input", "a file was changed while it was read")
+    return shuffle.texts_by_partition(list({quad for _, quad in with_hashes(quads, numbers, some)}), partitions)
 
 
 def terms(run: Run, sources: list[Source], spq: Spq) -> Iterator[bytes]:
     """Yields what `spq terms` prints for the whole, block by block. Raises `Failed` if it is malformed."""
-    texts = [block for source in sources for block in source.blocks]
-    blocks = [delayed(list_terms)(text, spq, number, len(texts)) for number, text in enumerate(texts)]
-    started = run.start(blocks + [delayed(attrgetter("items"))(block) for block in blocks])
-    blocks, items = started[: len(texts)], started[len(texts) :]
-    run.checked(sources, [delayed(attrgetter("checked"))(block) for block in blocks])
-    if not blocks:
+    reads = [read for source in sources for read in source.blocks]
+    partitions = run.partitions(len(reads))
+    blocks = [tuple(delayed(list_terms, nout=3)(read, spq, number, partitions)) for number, read in enumerate(reads)]
+    started = run.start([part for block in blocks for part in block])
+    checked, listed, items = started[::3], started[1::3], started[2::3]
+    run.checked(sources, checked)
+    if not reads:
         return
-    partitions = run.start(shuffle.shuffled(items, find_later))
-    run.results([delayed(bool)(partition) for partition in partitions])
+    later = run.start(shuffle.shuffled(items, partitions, find_later))
+    run.results([delayed(bool)(places) for places in later])
     news = [
-        delayed(new_terms)(block, [delayed(methodcaller("get", number))(partition) for partition in partitions])
-        for number, block in enumerate(blocks)
+        delayed(new_terms)(terms, [delayed(methodcaller("get", number))(places) for places in later])
+        for number, terms in enumerate(listed)
     ]
     yield from in_order(run, news)
 
 
-def list_terms(text: bytes, spq: Spq, number: int, partitions: int) -> ListedBlock:
-    """Lists the terms of a block and spreads them over the partitions."""
-    lines, terms = terms_of(spq, text)
+def list_terms(
+    read: Reader, spq: Spq, number: int, partitions: int
+) -> tuple[Checked, bytes, list[tuple[int, numpy.ndarray, list[bytes]]]]:
+    """Lists the terms of a block. Returns its terms, and for each partition the block's number, and places and terms."""
+    text = read()
+    terms = distinct_terms(spq, text)
     places = shuffle.places_by_partition(shuffle.hashes(terms), partitions)
     items = [(number, these, [terms[place] for place in these]) for these in places]
-    return ListedBlock(Checked(lines, len(text)), shuffle.ended(terms), list(enumerate(items)))
+    return Checked(count_lines(text), len(text)), ended(terms), items
 
 
 def find_later(items: list[tuple[int, numpy.ndarray, list[bytes]]]) -> dict[int, list[int]]:
@@ -175,9 +166,9 @@ def find_later(items: list[tuple[int, numpy.ndarray, list[bytes]]]) -> dict[int,
     return later
 
 
-def new_terms(block: ListedBlock, later: list[list[int]]) -> bytes:
+def new_terms(terms: bytes, later: list[list[int]]) -> bytes:
     """Returns the terms of a block that no earlier block has, one on a line."""
-    lines = block.terms.splitlines(keepends=True)
+    lines = terms.splitlines(keepends=True)
     for places in later:
         for place in places:
             lines[place] = b""

@@ -1,16 +1,24 @@
 """Runs `spq` over one text on its standard input."""
 from __future__ import annotations
 
+import contextlib
 import io
 import os
 import signal
 import subprocess
 from dataclasses import dataclass
-from typing import Iterator
+from typing import Iterator, Union
 
 from .cutting import count_lines, halves
 
+# How the C library gives memory to a process: many pages at a time, large ones where the system has them, and free memory
+# stays with the process. This saves a tenth of the time.
+MALLOC = "glibc.malloc.hugetlb=1:glibc.malloc.top_pad=67108864:glibc.malloc.trim_threshold=1099511627776"
+
+Text = Union[bytes, memoryview]
+
 MALFORMED, QUERY, COMMAND_LINE, MEMORY, DEVICE = 1, 2, 3, 4, 5
+PIECE = 1 << 18  # the least size of a block that a thread of `spq` reads; best where it has one
 
 
 class Failed(Exception):
@@ -36,16 +44,16 @@ class Spq:
     path: str = "spq"
     threads: int = 1
 
-    def run(self, words: list[str], text: bytes) -> tuple[int, bytes]:
+    def run(self, words: list[str], text: Text) -> tuple[int, bytes]:
         """Runs a command over a text. Returns the status and the standard output.
 
         Raises `Failed` if the program cannot be started, or ends with a status that it does not have.
         """
-        command = [self.path, words[0], "--workers", str(self.threads), *words[1:]]
-        with os.fdopen(os.memfd_create("spq"), "w+b", buffering=0) as source:  # cheaper than a pipe and a thread
-            _write(source, text)
+        command = [self.path, words[0], "--workers", str(self.threads), "--piece", str(PIECE), *words[1:]]
+        environment = dict(os.environ, GLIBC_TUNABLES=MALLOC)
+        with in_memory(text) as source:
             try:
-                ended = subprocess.run(command, stdin=source, stdout=subprocess.PIPE, stderr=subprocess.DEVNULL)
+                ended = subprocess.run(command, stdin=source, stdout=subprocess.PIPE, stderr=subprocess.DEVNULL, env=environment)
             except OSError as error:
                 raise Failed(MEMORY, "error: worker", f"{self.path} cannot be started: {error.strerror}") from None
         status = ended.returncode
@@ -55,13 +63,13 @@ class Spq:
             raise Failed(MEMORY, "error: worker", f"{self.path} ended with status {status}")
         return status, ended.stdout
 
-    def run_in_halves(self, words: list[str], text: bytes) -> Iterator[tuple[bytes, int, bytes]]:
+    def run_in_halves(self, words: list[str], text: Text) -> Iterator[tuple[Text, int, bytes]]:
         """Runs a command over a text. A text that needs too much memory is cut in two, as often as needed.
 
         Yields each part with its status, 0 or 1, and its output. Raises `Failed` on any other status.
         """
         status, output = self.run(words, text)
-        both = halves(text) if status == MEMORY else None
+        both = halves(bytes(text)) if status == MEMORY else None
         if both:
             for half in both:
                 yield from self.run_in_halves(words, half)
@@ -70,23 +78,31 @@ class Spq:
         else:
             raise Failed(status, output.decode().strip())
 
-    def outputs(self, words: list[str], text: bytes) -> list[bytes]:
+    def outputs(self, words: list[str], text: Text) -> list[bytes]:
         """Runs a command over a text. Returns the output, or the outputs of its parts if it was cut.
 
         Raises `Malformed` if the text has a malformed line.
         """
-        before, found = 0, []
+        parts, found = [], []
         for part, status, output in self.run_in_halves(words, text):
             if status == MALFORMED:
-                raise Malformed(before + int(output.split()[-1]))
+                raise Malformed(sum(map(count_lines, parts)) + int(output.split()[-1]))
+            parts.append(part)
             found.append(output)
-            before += count_lines(part)
         return found
 
 
-def _write(file: io.FileIO, text: bytes) -> None:
-    """Writes a text to an empty file, and goes back to its beginning."""
+@contextlib.contextmanager
+def in_memory(text: Text) -> Iterator[io.FileIO]:
+    """Makes a file in memory of a text. (Programs read it with less effort than a pipe.)"""
+    with os.fdopen(os.memfd_create("spq-dask"), "w+b", buffering=0) as file:
+        write(file, text)
+        file.seek(0)
+        yield file
+
+
+def write(file: io.FileIO, text: Text) -> None:
+    """Writes a text to a file."""
     view = memoryview(text)
     while view:
         view = view[file.write(view) :]
-    file.seek(0)

@@ -13,7 +13,7 @@ from . import outline, shuffle
 from .canonical import canonical_quads, graph_of, subject_of
 from .cluster import Run
 from .counting import Checked
-from .cutting import Source, count_lines
+from .cutting import Reader, Source, count_lines, ended
 from .program import MALFORMED, MEMORY, Failed, Spq
 from .rows import Row, head, merged, rows
 
@@ -35,7 +35,7 @@ class SplitBlock:
 
     checked: Checked
     for_all: bytes
-    items: list[shuffle.Item]
+    items: list[bytes]
 
 
 def select(run: Run, sources: list[Source], spq: Spq, text: str, split: str, default_in_all: bool) -> Iterator[bytes]:
@@ -48,9 +48,9 @@ def select(run: Run, sources: list[Source], spq: Spq, text: str, split: str, def
         raise Failed(status, output.decode().strip())
     query = outline.read(text)
     query.require(split, default_in_all)
-    blocks = [block for source in sources for block in source.blocks]
     if split == "lines":
-        parts = run.start([delayed(select_block)(block, spq, query.for_parts()) for block in blocks])
+        reads = [read for source in sources for read in source.blocks]
+        parts = run.start([delayed(select_block)(read, spq, query.for_parts()) for read in reads])
         run.checked(sources, [delayed(attrgetter("checked"))(part) for part in parts])
     else:
         parts = split_by_key(run, sources, spq, query.for_parts(), split, default_in_all)
@@ -65,8 +65,9 @@ def select(run: Run, sources: list[Source], spq: Spq, text: str, split: str, def
     yield b"]}}\n"
 
 
-def select_block(text: bytes, spq: Spq, query: str) -> Part:
+def select_block(read: Reader, spq: Spq, query: str) -> Part:
     """Runs a query over a block of lines."""
+    text = read()
     found = list(merged([rows(output) for output in spq.outputs(["select", "--query", query], text)], False))
     return Part(Checked(count_lines(text), len(text)), found)
 
@@ -75,28 +76,29 @@ def split_by_key(
     run: Run, sources: list[Source], spq: Spq, query: str, split: str, default_in_all: bool
 ) -> list[Delayed]:
     """Brings the quads with the same key together, and runs the query over each partition."""
-    texts = [block for source in sources for block in source.blocks]
-    blocks = run.start([delayed(split_block)(text, spq, split, default_in_all, len(texts)) for text in texts])
+    reads = [read for source in sources for read in source.blocks]
+    blocks = run.start([delayed(split_block)(read, spq, split, default_in_all, len(reads)) for read in reads])
     run.checked(sources, [delayed(attrgetter("checked"))(block) for block in blocks])
     if not blocks:
         return []
     for_all = delayed(b"".join)([delayed(attrgetter("for_all"))(block) for block in blocks])
-    partitions = shuffle.shuffled([delayed(attrgetter("items"))(block) for block in blocks], b"".join)
+    partitions = shuffle.shuffled([delayed(attrgetter("items"))(block) for block in blocks], len(blocks), b"".join)
     return run.start([delayed(select_partition)(text, for_all, spq, query, split) for text in partitions])
 
 
-def split_block(text: bytes, spq: Spq, split: str, default_in_all: bool, partitions: int) -> SplitBlock:
+def split_block(read: Reader, spq: Spq, split: str, default_in_all: bool, partitions: int) -> SplitBlock:
     """Checks a block and splits its canonical quads by their keys."""
+    text = read()
     spq.outputs(["check"], text)
-    quads = [line for lines, _ in canonical_quads(spq, text) for line in lines]
+    quads = canonical_quads(spq, text).lines()
     for_all = []
     if default_in_all:
         for_all = [quad for quad in quads if not graph_of(quad)]
         quads = [quad for quad in quads if graph_of(quad)]
     keys = list(map(KEYS[split], quads))
     places = shuffle.places_by_partition(shuffle.hashes(keys), partitions)
-    items = [(number, shuffle.ended([quads[place] for place in these])) for number, these in enumerate(places)]
-    return SplitBlock(Checked(count_lines(text), len(text)), shuffle.ended(for_all), items)
+    items = [ended([quads[place] for place in these]) for these in places]
+    return SplitBlock(Checked(count_lines(text), len(text)), ended(for_all), items)
 
 
 def select_partition(text: bytes, for_all: bytes, spq: Spq, query: str, split: str) -> Part:
@@ -114,7 +116,7 @@ def select_partition(text: bytes, for_all: bytes, spq: Spq, query: str, split: s
         keys.setdefault(KEYS[split](line), []).append(line)
     if status != MEMORY or len(keys) < 2:
         raise Failed(status, output.decode().strip(), "a part" if status == MALFORMED else "")
-    groups = list(map(shuffle.ended, keys.values()))
+    groups = list(map(ended, keys.values()))
     middle = len(groups) // 2
     both = (b"".join(groups[:middle]), b"".join(groups[middle:]))
     found = [select_partition(half, for_all, spq, query, split).rows for half in both]

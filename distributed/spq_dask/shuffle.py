@@ -7,10 +7,13 @@ from zlib import crc32
 
 import dask.bag
 import numpy
+from dask import delayed
 from dask.delayed import Delayed
 
 # What a block has for one partition: the number of the partition, and anything.
 Item = tuple[int, Any]
+
+MOST_TASKS = 10_000  # if there were more pairs of a block and a partition, Dask's shuffle needs fewer tasks
 
 
 def hashes(lines: list[bytes]) -> numpy.ndarray:
@@ -29,28 +32,33 @@ def places_by_partition(numbers: numpy.ndarray, partitions: int) -> list[numpy.n
 
 def texts_by_partition(lines: list[bytes], partitions: int) -> list[bytes]:
     """Returns the lines of each partition as one text, with line feeds between the lines."""
-    array = numpy.array([*lines, None], dtype=object)  # `None` keeps them objects
-    return [b"\n".join(array[places]) for places in places_by_partition(hashes(lines), partitions)]
+    places = places_by_partition(hashes(lines), partitions)
+    return [b"\n".join(map(lines.__getitem__, these.tolist())) for these in places]
 
 
-def ended(lines: list[bytes]) -> bytes:
-    """Returns the lines as one text, in which each line ends with a line feed."""
-    return b"\n".join([*lines, b""])
+def ranges(numbers: numpy.ndarray, partitions: int) -> list[numpy.ndarray]:
+    """Cuts sorted numbers of 64 bits where a partition ends. Each partition has a range of numbers."""
+    ends = [(number << 64) // partitions - (1 << 63) for number in range(1, partitions)]
+    return numpy.split(numbers, numpy.searchsorted(numbers, numpy.array(ends, numpy.int64)))
 
 
 def distinct(texts: Iterable[bytes]) -> int:
     """Returns the number of distinct lines of the texts."""
-    found = {line for text in texts for line in text.split(b"\n")}
-    found.discard(b"")
-    return len(found)
+    found = set()
+    for text in texts:
+        found.update(text.split(b"\n"))
+    return len(found - {b""})
 
 
-def shuffled(blocks: list[Delayed], function: Callable[[list[Any]], Any]) -> list[Delayed]:
+def shuffled(blocks: list[Delayed], partitions: int, function: Callable[[list[Any]], Any]) -> list[Delayed]:
     """Calls the function for each partition, with what all blocks have for it, and returns its results.
 
-    Each block is a list of items. The number of a partition is less than the number of blocks.
+    Each block is a list with something for each partition. There are not more partitions than blocks.
     """
-    grouped = dask.bag.from_delayed(blocks).groupby(itemgetter(0), shuffle="tasks")
+    if len(blocks) * partitions <= MOST_TASKS:
+        return [delayed(function)([delayed(itemgetter(number))(block) for block in blocks]) for number in range(partitions)]
+    numbered = [delayed(list)(delayed(enumerate)(block)) for block in blocks]
+    grouped = dask.bag.from_delayed(numbered).groupby(itemgetter(0), shuffle="tasks")
     return grouped.map_partitions(_each, function).to_delayed()
 
 

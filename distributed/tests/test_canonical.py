@@ -1,27 +1,35 @@
 """Canonical lines, against the terms and counts that `spq` prints."""
+import os
 import random
 import unittest
+from unittest import mock
 
 import documents
+import numpy
 import parts
 import testing
-from spq_dask.canonical import CANONICAL, LINES, canonical_quads, graph_of, subject_of
-from spq_dask.cutting import count_lines, halves, pieces
-from spq_dask.program import Spq
+from spq_dask import counting, shuffle
+from spq_dask.canonical import CANONICAL, LINES, canonical_quads, ends_and_others, graph_of, subject_of, with_line_feeds
+from spq_dask.cutting import count_lines, halves, lines_at, pieces
+from spq_dask.hashing import hashed_quads, once, with_hashes
+from spq_dask.program import Spq, in_memory
 
 
 def quads_of(text: bytes) -> tuple[list[bytes], set[bytes]]:
     """Returns the canonical lines of a text and the names of its graphs."""
-    found = list(canonical_quads(Spq(testing.SPQ), text))
-    return [line for lines, _ in found for line in lines], set().union(*[names for _, names in found])
+    quads = canonical_quads(Spq(testing.SPQ), text)
+    return quads.lines(), quads.names
+
+
+def documents_of(name: str, count: int, line_ends: list[str]) -> list[bytes]:
+    """Returns random documents."""
+    dice = random.Random(name)
+    return [documents.document(dice, documents.more_terms(dice, parts.quads(dice)), True, line_ends) for _ in range(count)]
 
 
 class Canonical(unittest.TestCase):
     def test_are_one_for_each_quad(self):
-        for seed in range(150):
-            dice = random.Random(f"canonical:{seed}")
-            statements = documents.more_terms(dice, parts.quads(dice))
-            text = documents.document(dice, statements, True, ["\n", "\n", "\r\n", "\r"])
+        for text in documents_of("canonical", 100, ["\n", "\n", "\r\n", "\r"]):
             quads, names = quads_of(text)
             with self.subTest(text=text):
                 said = b"ok %d quads %d terms %d graphs\n"
@@ -32,36 +40,79 @@ class Canonical(unittest.TestCase):
                 self.assertLessEqual({subject_of(quad) for quad in quads}, set(terms))
                 again = b"\n".join(quads)
                 self.assertEqual(sorted(testing.spq(["terms"], again)[1].splitlines()), sorted(terms))
-                for quad in quads:
-                    self.assertEqual(quads_of(quad)[0], [quad])
+                self.assertEqual(sorted(set(quads_of(again)[0])), sorted(set(quads)))
 
     def test_plain_lines_are_canonical(self):
         plain = 0
-        for seed in range(150):
-            dice = random.Random(f"plain:{seed}")
-            text = documents.document(dice, documents.more_terms(dice, parts.quads(dice)), False, ["\n"])
+        for text in documents_of("plain", 150, ["\n"]):
             every = testing.spq(["terms"], text)[1].splitlines()
-            for quad, graph, _ in LINES.findall(text):
-                if quad and b"\\u" not in quad and b"\\U" not in quad:
+            for quad in text.split(b"\n"):
+                match = LINES.fullmatch(quad)
+                if match and not match[2]:
                     plain += 1
                     subject, predicate, rest = quad.split(b" ", 2)
+                    graph = match[1][1:-2] if match[1] else b""
                     thing = rest[: -len(graph) - 3] if graph else rest[:-2]
                     for term in [subject, predicate, thing, *([graph] if graph else [])]:
                         self.assertIn(term, every, quad)
                     self.assertTrue(CANONICAL.fullmatch(quad))
         self.assertGreater(plain, 500)
 
+    def test_grep_and_python_find_the_same(self):
+        for text in map(with_line_feeds, documents_of("grep", 50, ["\n", "\r"])):
+            with in_memory(text) as file:
+                by_grep = ends_and_others(text, file)
+                with mock.patch.dict(os.environ, PATH="/nowhere"):
+                    self.assertEqual(ends_and_others(text, file), by_grep)
+
     def test_odd_lines(self):
         for line in [
             b'<a:s> <a:p> "x"@en_:g .', b"_:s<a:p> <a:o> <a:g> .", b"<a:s> <a:p> <a:o> .#<a:g> .", b'<a:s> <a:p> "x"_:g .',
             b"<a:s> <a:p> <a:o>_:g .", b"<a:s> <a:p> _:o_:g .", b"<a:s> <a:p> <a:\\u006f> .", b'<a:s> <a:p> "x"@EN .',
             b'<a:s> <a:p> "x"^^<http://www.w3.org/2001/XMLSchema#string> <a:g> .', b"<a:s> <a:p> _:b.c .",
+            b"<a:s> <a:p> _:o.#c .", b'<a:s> <a:p> "x" . # "y" .', b'<a:s> <a:p> "\\\\" . # "y .', b'<a:s> <a:p> "\\\\u00E9"@EN-gb .',
+            b'<a:s> <a:p> "\\u00E9\\\\\\U0001d11e"@EN-gb <a:g> .', b'<a:s> <a:p> "\\u0022\\u005C\\u000a"@EN .', b'<a:s> <a:\\u00e9> "\\t" .',
+            '<a:s> <a:p> "\u00e9\\u00E9" .'.encode(), b'<a:s> <a:p> "\\u0085\\u2028\\uFFFE\\U0010FFFF" .', b'<a:s> <a:p> " @EN " <a:g> .',
+            b'<a:s> <a:p> "<x> _:y ."@en _:g .', b'<a:s> <a:p> "x"^^<http://www.w3.org/2001/XMLSchema#\\u0073tring> .', b'<a:s>\t<a:p>  "\x00\t" .',
         ]:
             [quad], names = quads_of(line)
             with self.subTest(line=line):
                 self.assertEqual(testing.spq(["terms"], line), testing.spq(["terms"], quad))
                 self.assertEqual(testing.spq(["check"], line), testing.spq(["check"], quad))
                 self.assertEqual({graph_of(quad)} - {b""}, names)
+
+
+class Hashes(unittest.TestCase):
+    def test_are_those_of_the_distinct_quads(self):
+        every: dict[int, bytes] = {}
+        for text in documents_of("hashes", 30, ["\n", "\r\n", "\r"]):
+            quads, hashes = hashed_quads(Spq(testing.SPQ), text)
+            distinct = set(quads.lines())
+            numbers = once(quads, hashes)
+            self.assertEqual(len(numbers), len(distinct))
+            pairs = with_hashes(quads, hashes, numbers)
+            self.assertEqual({quad for _, quad in pairs}, distinct)
+            for number, quad in pairs:
+                self.assertEqual(every.setdefault(number, quad), quad)
+            self.assertEqual(len(once(quads, numpy.where(hashes == -1, -1, hashes % 2))), len(distinct))
+
+    def test_check_is_exact_if_hashes_are_not(self):
+        """Different quads have the same hash here, in a block and in different ones."""
+        def few(spq, text):
+            quads, hashes = hashed_quads(spq, text)
+            return quads, numpy.where(hashes == -1, -1, hashes % 5 << 61)
+
+        program = Spq(testing.SPQ)
+        with mock.patch.object(counting, "hashed_quads", few):
+            for text in documents_of("few", 20, ["\n"]):
+                reads = [lambda piece=piece: bytes(piece) for piece in pieces(text, 200)]
+                blocks = [counting.examine(read, program, 3) for read in reads]
+                counts = [counting.count([items[number] for _, _, items in blocks]) for number in range(3)]
+                repeated = numpy.concatenate([one.repeated for one in counts])
+                again = [counting.repeated_quads(read, program, hashes, repeated, 3) for read, (_, hashes, _) in zip(reads, blocks)]
+                quads = sum(one.single for one in counts) + sum(map(shuffle.distinct, zip(*again)))
+                said = b"ok %d quads %d terms %d graphs\n" % (quads, sum(one.terms for one in counts), sum(one.names for one in counts))
+                self.assertEqual(testing.spq(["check"], text)[1], said)
 
 
 class Cutting(unittest.TestCase):
@@ -78,6 +129,11 @@ class Cutting(unittest.TestCase):
             else:
                 self.assertNotIn(b"\n", text[:-1])
             for size in range(1, 12):
-                cut = list(pieces(text, size))
+                cut = list(map(bytes, pieces(text, size)))
                 self.assertEqual(b"".join(cut), text)
                 self.assertTrue(all(piece.endswith(b"\n") and len(piece) >= size for piece in cut[:-1]))
+
+    def test_lines_at(self):
+        text = b"".join(b"%d" % number * (number % 97) + b"\n" for number in range(20_000))
+        for numbers in [[], [0], [19_999], [3, 5_000, 5_001, 19_998], range(20_000)]:
+            self.assertEqual(lines_at(text, numpy.array(numbers, int)), [b"%d" % number * (number % 97) for number in numbers])

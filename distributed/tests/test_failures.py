@@ -22,7 +22,7 @@ class Files(unittest.TestCase):
 
     def failed(self, change) -> Failed:
         path = file(TEXT)
-        found = sources([path], 1000)
+        found = sources([path], 1000, 3)
         change(path)
         with self.assertRaises(Failed) as failed:
             counting.check(Run(testing.CLIENT, True), found, Spq(testing.SPQ))
@@ -82,9 +82,9 @@ class Workers(unittest.TestCase):
             before = testing.workers()
             run.start()
             busy = lambda: [address for address, keys in testing.CLIENT.has_what().items() if keys and address in before]
-            testing.wait_for(busy)
+            testing.wait_for(busy, 120)
             os.kill(before[busy()[0]], signal.SIGKILL)
-            run.join(60)
+            run.join(300)
             self.assertEqual(found and found[0][:2], spq(words, TEXT))
             self.assertLess(len(testing.workers()), 3)
             testing.restore_workers()

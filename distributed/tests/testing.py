@@ -61,9 +61,14 @@ def cluster() -> Iterator[None]:
                 upload_package(CLIENT)
                 yield
         finally:
-            for process in _processes:
-                process.kill()
-                process.wait()
+            stop()
+
+
+def stop() -> None:
+    """Ends the scheduler and the workers."""
+    for process in _processes:
+        process.kill()
+        process.wait()
 
 
 def workers() -> dict:
@@ -95,7 +100,7 @@ def script(text: str) -> str:
 
 def spq(words: Sequence[str], text: bytes) -> tuple[int, bytes]:
     """Runs `spq` over a whole document."""
-    ran = subprocess.run([SPQ, *words], input=text, stdout=subprocess.PIPE)
+    ran = subprocess.run([SPQ, *words], input=text, stdout=subprocess.PIPE, stderr=subprocess.DEVNULL)
     return ran.returncode, ran.stdout
 
 
