@@ -21,7 +21,7 @@ use Rattle.dataset_load.specs.Fault.{IfBadLine}
 use Rattle.dataset_load.specs.declared.numbered.Numbered.{Numbered}
 use Rattle.dataset_load.specs.declared.fault.LoadFault.{LoadFault}
 use Rattle.dataset_load.specs.declared.fault.LoadFault.TheVariants.{BadLine, WorkerRefused, Memory}
-use Rattle.dataset_load.proofs.LineLaws.{spell-append, bad_behind, bad_before}
+use Rattle.dataset_load.proofs.LineLaws.{spell-append, malformed_after, bad_before}
 
 -- the quads of the pieces of a round, that each was looked up, and how many lines they have
 pub record AreRead (dict : List Term) (ps : List (List ℕ)) (reads : List ReadPiece) : Type 0 where
@@ -60,7 +60,7 @@ bad_piece (x ∷ xs) (suc p) line low h b =
     let rest = bad_piece xs p line (omega arith) (λ i less. h (suc i) (omega arith)) b in
     let l = length-append (lines x) (all_lines (take p xs)) in
     let e : length (lines x) + (length (all_lines (take p xs)) + line) ≡ length (lines x ++ all_lines (take p xs)) + line = omega arith in
-    subst (λ (n : ℕ). IsFirstMalformed (lines x ++ all_lines xs) n) e (bad_behind (lines x) (all_lines xs) first.0 _ first.1 rest)
+    subst (λ (n : ℕ). IsFirstMalformed (lines x ++ all_lines xs) n) e (malformed_after (lines x) (all_lines xs) first.0 _ first.1 rest)
 
 -- ---- a round after lines that were read
 
@@ -96,7 +96,7 @@ round_bad before round dict old numbered count p line n was counted low answered
     ap (λ (ps : List (List ℕ)). length (all_lines ps)) (sym (take-map now p round)) in
     let b = bad_piece (texts round) p line (omega arith) (λ i less. let a = answered i less in (a.1.quads, a.1.spelled)) bad in (
       length before + (length (all_lines (take p (texts round))) + line),
-      bad_behind before (all_lines (texts round)) was.quads _ was.spelled b,
+      malformed_after before (all_lines (texts round)) was.quads _ was.spelled b,
       omega (arith, value, counted, t),
     )
 

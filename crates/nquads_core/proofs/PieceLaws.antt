@@ -55,9 +55,9 @@ spell_more [] quads line q h s = (q, [], s, rw h (sym (append-nil (option_to_lis
 spell_more (l ∷ ls) quads line q h s =
     (h.0, h.1 ++ option_to_list q, h.2, rw h.3 (append_assoc (option_to_list h.0) h.1 (option_to_list q)), spell_more ls h.1 line q h.4 s)
 
-pub bad_behind : (ls : List (List ℕ)) (quads : List QuadParts) (line : List ℕ) (more : List (List ℕ)) → HaveStatements ls quads → IsMalformed line → IsFirstMalformed (ls ++ line ∷ more) (length ls)
-bad_behind [] quads line more h b = b
-bad_behind (l ∷ ls) quads line more h b = ((h.0, h.2), bad_behind ls h.1 line more h.4 b)
+pub malformed_after : (ls : List (List ℕ)) (quads : List QuadParts) (line : List ℕ) (more : List (List ℕ)) → HaveStatements ls quads → IsMalformed line → IsFirstMalformed (ls ++ line ∷ more) (length ls)
+malformed_after [] quads line more h b = b
+malformed_after (l ∷ ls) quads line more h b = ((h.0, h.2), malformed_after ls h.1 line more h.4 b)
 
 -- count lines of all are read, and rest is left
 pub record ReadLines (quads : List QuadParts) (count : ℕ) (rest all : List ℕ) : Type 0 where
@@ -82,7 +82,7 @@ same_place n k e = cc
 
 pub bad_here : (quads : List QuadParts) (count : ℕ) (rest all line after : List ℕ) → ReadLines quads count rest all → lines rest ≡ line ∷ lines after → IsMalformed line → IsFirstMalformed (lines all) count
 bad_here quads count rest all line after h e b =
-    rw (h.parts, e, ← h.number) (bad_behind h.before quads line (lines after) h.spell b)
+    rw (h.parts, e, ← h.number) (malformed_after h.before quads line (lines after) h.spell b)
 
 pub bad_line : (quads : List QuadParts) (count : ℕ) (rest all line after : List ℕ) → ReadLines quads count rest all → lines rest ≡ line ∷ lines after → IsMalformed line → (k : ℕ) → BadLine count ≡ BadLine k → IsFirstMalformed (lines all) k
 bad_line quads count rest all line after h e b k same = subst (λ (y : ℕ). IsFirstMalformed (lines all) y) (same_place count k same) (bad_here quads count rest all line after h e b)

@@ -20,31 +20,31 @@ use Rattle.nquads_core.proofs.LineLaws.{Run, run_then}
 
 -- ---- the terminals of a slice that a blank follows
 
-label_stands : (word bytes behind rest : List ℕ) → behind ≡ 32 ∷ rest → IsBlankLabel word bytes → terminal_at (word ++ behind) ≡ Some (blank_label bytes, behind)
+label_stands : (word bytes remaining rest : List ℕ) → remaining ≡ 32 ∷ rest → IsBlankLabel word bytes → terminal_at (word ++ remaining) ≡ Some (blank_label bytes, remaining)
 unfolding terminal_at
-label_stands word bytes behind rest e t =
-    let whole : word ++ behind ≡ 95 ∷ 58 ∷ (t.label ++ 32 ∷ rest) = ap (λ (y : List ℕ). y ++ behind) t.parts ∙ ap (λ (y : List ℕ). 95 ∷ 58 ∷ (t.label ++ y)) e in
+label_stands word bytes remaining rest e t =
+    let whole : word ++ remaining ≡ 95 ∷ 58 ∷ (t.label ++ 32 ∷ rest) = ap (λ (y : List ℕ). y ++ remaining) t.parts ∙ ap (λ (y : List ℕ). 95 ∷ 58 ∷ (t.label ++ y)) e in
     rw (whole, label_followed t.label rest t.right, ← t.utf8, e) refl
 
-tag_stands : (word bytes behind rest : List ℕ) → behind ≡ 32 ∷ rest → IsLangTag word bytes → terminal_at (word ++ behind) ≡ Some (lang_tag bytes, behind)
+tag_stands : (word bytes remaining rest : List ℕ) → remaining ≡ 32 ∷ rest → IsLangTag word bytes → terminal_at (word ++ remaining) ≡ Some (lang_tag bytes, remaining)
 unfolding terminal_at
-tag_stands word bytes behind rest e t =
-    let whole : word ++ behind ≡ 64 ∷ (t.tag ++ 32 ∷ rest) = ap (λ (y : List ℕ). y ++ behind) t.parts ∙ ap (λ (y : List ℕ). 64 ∷ (t.tag ++ y)) e in
+tag_stands word bytes remaining rest e t =
+    let whole : word ++ remaining ≡ 64 ∷ (t.tag ++ 32 ∷ rest) = ap (λ (y : List ℕ). y ++ remaining) t.parts ∙ ap (λ (y : List ℕ). 64 ∷ (t.tag ++ y)) e in
     rw (whole, tag_followed t.tag rest t.right, ← t.lower, e) refl
 
-carets_stand : (word behind : List ℕ) → IsTerminal word carets → terminal_at (word ++ behind) ≡ Some (carets, behind)
-carets_stand word behind t = ap (λ (y : List ℕ). terminal_at (y ++ behind)) t ∙ at_carets behind
+carets_stand : (word remaining : List ℕ) → IsTerminal word carets → terminal_at (word ++ remaining) ≡ Some (carets, remaining)
+carets_stand word remaining t = ap (λ (y : List ℕ). terminal_at (y ++ remaining)) t ∙ at_carets remaining
 
 -- the terminal at the front of a text, and what follows the text
-begins_here : (text word more behind : List ℕ) (k : Terminal) → text ≡ word ++ more → IsTerminal word k → terminal_at (word ++ (more ++ behind)) ≡ Some (k, more ++ behind) → Begins (text ++ behind) k (more ++ behind)
-begins_here text word more behind k e t read =
+begins_here : (text word more remaining : List ℕ) (k : Terminal) → text ≡ word ++ more → IsTerminal word k → terminal_at (word ++ (more ++ remaining)) ≡ Some (k, more ++ remaining) → Begins (text ++ remaining) k (more ++ remaining)
+begins_here text word more remaining k e t read =
     record {
       blanks = [];
       word = word;
-      parts = ap (λ (y : List ℕ). y ++ behind) e ∙ append_assoc word more behind;
+      parts = ap (λ (y : List ℕ). y ++ remaining) e ∙ append_assoc word more remaining;
       all_blank = refl;
       terminal = t;
-      longest = took_longest word (more ++ behind) k read;
+      longest = took_longest word (more ++ remaining) k read;
     }
 
 blank_next : (more rest : List ℕ) → more ≡ [] → more ++ 32 ∷ rest ≡ 32 ∷ rest

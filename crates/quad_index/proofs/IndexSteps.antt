@@ -66,12 +66,12 @@ pub names_sorted : (qs : List NumQuad) → IsSorted by_g qs → IsSorted nat_cmp
 names_sorted [] h = λ k d low high. absurd (omega arith)
 names_sorted (q ∷ qs) h = by q.g refl (names_sorted qs (tail_sorted by_g q qs h))
   where
-    behind : All (λ r. is_lt (by_g r q) ≡ false) qs
-    behind k d below = sorted_far (λ a b. is_lt (by_g a b)) (ranks_by total_g (λ r. r)) (q ∷ qs) h 0 (suc k) d (omega arith) (omega arith)
+    not_below : All (λ r. is_lt (by_g r q) ≡ false) qs
+    not_below k d below = sorted_far (λ a b. is_lt (by_g a b)) (ranks_by total_g (λ r. r)) (q ∷ qs) h 0 (suc k) d (omega arith) (omega arith)
 
     by : (o : Option ℕ) → q.g ≡ o → IsSorted nat_cmp (graph_names qs) → IsSorted nat_cmp (cons_option o (graph_names qs))
     by None e rest = rest
-    by (Some n) e rest = push_front n (graph_names qs) rest (first_name q n e qs behind)
+    by (Some n) e rest = push_front n (graph_names qs) rest (first_name q n e qs not_below)
 
 -- the graph names of an index
 pub names_once : (now gspo : List NumQuad) (names slice : List ℕ) → gspo ≡ now → IsSorted by_gspo gspo → names ≡ dedup nat_eq (graph_names gspo) → slice ≡ names

@@ -95,6 +95,6 @@ with_bytes front (Some x) = Some (front ++ encode_utf8_all x.0, x.1)
 pub record IsPlain (k : Inside) (close : ℕ) (text front rest : List ℕ) : Type 0 where
   pub parts : text ≡ front ++ close ∷ rest
   pub front_utf8 : IsUtf8 front
-  pub behind_utf8 : IsUtf8 (close ∷ rest)
+  pub tail_utf8 : IsUtf8 (close ∷ rest)
   pub rest_utf8 : IsUtf8 rest
   pub raw : list_all (is_raw k) front ≡ true

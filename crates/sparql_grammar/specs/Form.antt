@@ -13,7 +13,7 @@ pub data Form (A : Type 0) : Type 0 where
   -- nothing more; the value
   give : A → Form A
   -- nothing more; the number of the terminals that follow determines the value
-  behind : (ℕ → A) → Form A
+  count_following : (ℕ → A) → Form A
   -- a terminal of a class, followed by a form that depends on its value
   take : (c : Class) → (Picked c → Form A) → Form A
   -- a text of a symbol, followed by a form that depends on its value

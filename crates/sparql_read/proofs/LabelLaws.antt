@@ -11,7 +11,7 @@ use Rattle.sparql_read.specs.NameSet.{HaveSame, is_among}
 use Rattle.sparql_read.specs.BlankReuse.{basic_patterns, closed_patterns, ends_run, labels_of, open_after, open_pattern, patterns_inside, shares_labels, triple_labels}
 use Rattle.sparql_read.specs.LabelSteps.{AddsElement, AddsLabels, AddsPatterns, IsOpenRun, closed_by, run_of, stands_among}
 use Rattle.sparql_read.proofs.GroupLaws.{group_more, group_rest}
-use Rattle.sparql_read.proofs.SetLaws.{bytes_eq_sym, same_back, same_behind, same_front, same_refl, same_then, same_trans, same_turned}
+use Rattle.sparql_read.proofs.SetLaws.{bytes_eq_sym, same_back, same_swapped, same_front, same_refl, same_then, same_trans, same_turned}
 
 true_false : true ≡ false → ⊥
 true_false h = cc
@@ -234,7 +234,7 @@ shares_over xs ys (p ∷ ps) =
     let ls = labels_of p in
     let ms = flat_map labels_of ps in
     ap (λ b. b || shares_labels ((xs ++ ys) ++ ls) ps) (stands_over xs ys ls)
-    ∙ (ap (λ b. (stands_among xs ls || stands_among ys ls) || b) (shares_same (same_behind xs ys ls) ps ∙ shares_over (xs ++ ls) ys ps)
+    ∙ (ap (λ b. (stands_among xs ls || stands_among ys ls) || b) (shares_same (same_swapped xs ys ls) ps ∙ shares_over (xs ++ ls) ys ps)
     ∙ (or_parts (stands_among xs ls) (stands_among ys ls) (shares_labels (xs ++ ls) ps) (stands_among ys ms)
     ∙ ap (λ b. (stands_among xs ls || shares_labels (xs ++ ls) ps) || b) (sym (stands_append ys ls ms))))
 

@@ -5,7 +5,7 @@ use Rattle.sparql_tree.specs.GroupTree.{element_of, group, group_of}
 use Rattle.sparql_read.specs.BindScope.{breaks_bind_scope, breaks_inside}
 use Rattle.sparql_read.specs.ScopeSteps.{AddsScope, IsScopeOf}
 use Rattle.sparql_read.proofs.GroupLaws.{graph_stands_for, union_deeper, union_stands_for}
-use Rattle.sparql_read.proofs.ScopeSteps.{scope_before, scope_behind_broken, scope_bound, scope_broken, scope_joined, scope_more, scope_named}
+use Rattle.sparql_read.proofs.ScopeSteps.{scope_before, scope_after_broken, scope_bound, scope_broken, scope_joined, scope_more, scope_named}
 use Rattle.sparql_read.proofs.scope.+scope.Goals as goal
 
 pub add_element-returns-then-not-branch : goal.add_element-returns-then-not-branch
@@ -14,7 +14,7 @@ add_element-returns-then-not-branch t c =
     let h = subst (λ b. AddsScope (group (group_of c.deref-in-Union.result.now)) b c.args.scope.now c.add_group-in-Union.new.scope) f c.in_ok-add_group-in-Union.ensures.scope in
     let e = ap element_of c.in-Union.is ∙ union_stands_for c.in-Union.left c.in-Union.right in
     record {
-      scope = ap breaks_inside e ∙ scope_behind_broken (element_of c.in-Union.left.value) (group_of c.in-Union.right.items)
+      scope = ap breaks_inside e ∙ scope_after_broken (element_of c.in-Union.left.value) (group_of c.in-Union.right.items)
           (sym (ap (λ es. breaks_bind_scope (group_of es)) c.deref-in-Union.ensures.value) ∙ h);
     }
 
@@ -57,7 +57,7 @@ add_left-returns-then-not-branch t c =
     let e = ap element_of c.in-Union.is ∙ union_stands_for c.in-Union.left c.in-Union.right in
     record {
       scope = c.groups.invariant.adds false c.add_group.new.scope (ap breaks_inside e
-          ∙ scope_behind_broken (element_of c.in-Union.left.value) (group_of c.in-Union.right.items)
+          ∙ scope_after_broken (element_of c.in-Union.left.value) (group_of c.in-Union.right.items)
           (sym (ap (λ es. breaks_bind_scope (group_of es)) c.deref.ensures.value) ∙ h));
     }
 
