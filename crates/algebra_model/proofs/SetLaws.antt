@@ -115,9 +115,9 @@ module _ {T : Type 0} (same : T → T → Bool) (decides : (x y : T) → Decides
       IsPermutation-map (take w) (filter (is_in same w P G) (every_map (occurs w P) (terms same G) (w + l))) (filter (is_in same w P H) (every_map (occurs w P) (terms same H) (w + l)))
       (permutation_from_counts (same_solution same) (solution_decides same decides) _ _
       (λ M.
-      let tell = λ (x : T). any-without_repeats_is same decides x (occurring G) ∙ alike-occurring G H h (same x) ∙ sym (any-without_repeats_is same decides x (occurring H)) in
+      let same_members = λ (x : T). any-without_repeats_is same decides x (occurring G) ∙ alike-occurring G H h (same x) ∙ sym (any-without_repeats_is same decides x (occurring H)) in
       count_by-filter same decides (is_in same w P G) M (every_map (occurs w P) (terms same G) (w + l))
       ∙ ap (λ c. cond (is_in same w P G M) c 0) (count_by-every_map same decides (terms same G) (once (occurring G)) (occurs w P) (w + l) M)
-      ∙ (λ i. cond (is_in-same w P G H h M i) (cond (in_maps-same (terms same G) (terms same H) tell (occurs w P) (w + l) M i) 1 0) 0)
+      ∙ (λ i. cond (is_in-same w P G H h M i) (cond (in_maps-same (terms same G) (terms same H) same_members (occurs w P) (w + l) M i) 1 0) 0)
       ∙ ap (λ c. cond (is_in same w P H M) c 0) (sym (count_by-every_map same decides (terms same H) (once (occurring H)) (occurs w P) (w + l) M))
       ∙ sym (count_by-filter same decides (is_in same w P H) M (every_map (occurs w P) (terms same H) (w + l)))))

@@ -40,7 +40,7 @@ pub fn a_dataset_is_a_set()
 ///
 /// Union, Filter, Extend, Project and a table compare no terms, so distinct numbers may represent
 /// one term. Extend needs the number of a value only for the solutions that it is given.
-pub fn numbers_stand_for_terms()
+pub fn numbers_denote_terms()
     ensures pattern { PatternIsRead }
     ensures join { JoinIsRead }
     ensures left_join { LeftJoinIsRead }

@@ -7,10 +7,10 @@ use Rattle.nquads_core.specs.Pieces.{HaveStatements, IsFirstMalformed}
 use Rattle.nquads_core.proofs.LineEnds.{lines_join}
 use Rattle.dataset_load.specs.Lines.{AreWholeLines, all_lines, joined}
 
-pub spell-append : (xs ys : List (List ℕ)) (qs rs : List QuadParts) → HaveStatements xs qs → HaveStatements ys rs → HaveStatements (xs ++ ys) (qs ++ rs)
-spell-append [] ys qs rs a b = subst (λ (q : List QuadParts). HaveStatements ys (q ++ rs)) (sym a) b
-spell-append (x ∷ xs) ys qs rs a b =
-    (a.0, a.1 ++ rs, a.2, ap (λ (q : List QuadParts). q ++ rs) a.3 ∙ append_assoc (option_to_list a.0) a.1 rs, spell-append xs ys a.1 rs a.4 b)
+pub statements-append : (xs ys : List (List ℕ)) (qs rs : List QuadParts) → HaveStatements xs qs → HaveStatements ys rs → HaveStatements (xs ++ ys) (qs ++ rs)
+statements-append [] ys qs rs a b = subst (λ (q : List QuadParts). HaveStatements ys (q ++ rs)) (sym a) b
+statements-append (x ∷ xs) ys qs rs a b =
+    (a.0, a.1 ++ rs, a.2, ap (λ (q : List QuadParts). q ++ rs) a.3 ∙ append_assoc (option_to_list a.0) a.1 rs, statements-append xs ys a.1 rs a.4 b)
 
 -- the first malformed line of what follows valid lines
 pub malformed_after : (xs ys : List (List ℕ)) (qs : List QuadParts) (k : ℕ) → HaveStatements xs qs → IsFirstMalformed ys k → IsFirstMalformed (xs ++ ys) (length xs + k)

@@ -158,16 +158,16 @@ pub record Reaches (cs : List ℕ) (k : Terminal) (remaining : List ℕ) : Type 
   pub same : left ≡ remaining → kind ≡ k
 
 -- an IRI and a string end where they close, whatever follows
-pub iri_stands : (word bytes remaining : List ℕ) → IsIriRef word bytes → terminal_at (word ++ remaining) ≡ Some (iri_ref bytes, remaining)
+pub iri_scanned : (word bytes remaining : List ℕ) → IsIriRef word bytes → terminal_at (word ++ remaining) ≡ Some (iri_ref bytes, remaining)
 unfolding terminal_at iri_at
-iri_stands word bytes remaining t =
+iri_scanned word bytes remaining t =
     let whole : word ++ remaining ≡ 60 ∷ (t.body ++ 62 ∷ remaining) = ap (λ (y : List ℕ). y ++ remaining) t.parts ∙ ap (λ (y : List ℕ). 60 ∷ y) (append_assoc t.body (62 ∷ []) remaining) in
     let read = iri_body_again t.chars t.body remaining t.writes in
     rw (whole, read, ← t.utf8, t.scheme) refl
 
-pub string_stands : (word bytes remaining : List ℕ) → IsQuoted word bytes → terminal_at (word ++ remaining) ≡ Some (quoted bytes, remaining)
+pub string_scanned : (word bytes remaining : List ℕ) → IsQuoted word bytes → terminal_at (word ++ remaining) ≡ Some (quoted bytes, remaining)
 unfolding terminal_at string_at
-string_stands word bytes remaining t =
+string_scanned word bytes remaining t =
     let whole : word ++ remaining ≡ 34 ∷ (t.body ++ 34 ∷ remaining) = ap (λ (y : List ℕ). y ++ remaining) t.parts ∙ ap (λ (y : List ℕ). 34 ∷ y) (append_assoc t.body (34 ∷ []) remaining) in
     let read = string_body_again t.chars t.body remaining t.writes in
     rw (whole, read, ← t.utf8) refl
@@ -220,8 +220,8 @@ unfolding terminal_at
 at_dot remaining = refl
 
 pub reaches : (word remaining : List ℕ) (k : Terminal) → IsTerminal word k → Reaches (word ++ remaining) k remaining
-reaches word remaining (iri_ref bytes) t = reach_whole (word ++ remaining) remaining (iri_ref bytes) (iri_stands word bytes remaining t)
-reaches word remaining (quoted bytes) t = reach_whole (word ++ remaining) remaining (quoted bytes) (string_stands word bytes remaining t)
+reaches word remaining (iri_ref bytes) t = reach_whole (word ++ remaining) remaining (iri_ref bytes) (iri_scanned word bytes remaining t)
+reaches word remaining (quoted bytes) t = reach_whole (word ++ remaining) remaining (quoted bytes) (string_scanned word bytes remaining t)
 reaches word remaining (blank_label bytes) t =
     subst (λ (y : List ℕ). Reaches (y ++ remaining) (blank_label bytes) remaining) (sym t.parts) (label_reach t.label remaining bytes t.right t.utf8)
 reaches word remaining (lang_tag bytes) t =

@@ -46,7 +46,7 @@ Contains-fault_new outs failed i fault =
 module _ {Out Fault : Type 0} (answers : ℕ → Out → Type 0) (faults : ℕ → Fault → Type 0) (draws reports : List ℕ) (outs : List (ℕ × Out)) (failed : List (ℕ × Fault)) (work : IsWorkOf answers faults draws reports outs failed) (i : ℕ) where
   pub IsWorkOf-draw : IsWorkOf answers faults (draws ++ i ∷ []) reports outs failed
   IsWorkOf-draw = record {
-    answered = work.answered;
+    returned = work.returned;
     faulted = work.faulted;
     drawn = IsNoMoreThan-draw (done_of outs failed) draws i work.drawn;
     reported = work.reported;
@@ -54,7 +54,7 @@ module _ {Out Fault : Type 0} (answers : ℕ → Out → Type 0) (faults : ℕ �
 
   pub IsWorkOf-answer : (out : Out) → answers i out → IsWorkOf answers faults (draws ++ i ∷ []) reports (outs ++ (i, out) ∷ []) failed
   IsWorkOf-answer out h = record {
-    answered = All-push (λ p. answers p.0 p.1) outs (i, out) work.answered h;
+    returned = All-push (λ p. answers p.0 p.1) outs (i, out) work.returned h;
     faulted = work.faulted;
     drawn = IsNoMoreThan-answer outs failed draws i out work.drawn;
     reported = work.reported;
@@ -62,7 +62,7 @@ module _ {Out Fault : Type 0} (answers : ℕ → Out → Type 0) (faults : ℕ �
 
   pub IsWorkOf-fault : (fault : Fault) → faults i fault → IsWorkOf answers faults (draws ++ i ∷ []) (reports ++ i ∷ []) outs (failed ++ (i, fault) ∷ [])
   IsWorkOf-fault fault h = record {
-    answered = work.answered;
+    returned = work.returned;
     faulted = All-push (λ p. faults p.0 p.1) failed (i, fault) work.faulted h;
     drawn = IsNoMoreThan-fault outs failed draws i fault work.drawn;
     reported = rw map-append (ap (λ xs. xs ++ i ∷ []) work.reported);

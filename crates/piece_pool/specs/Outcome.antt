@@ -16,7 +16,7 @@ pub record IsFirstFault {Out Fault : Type 0} (answers : ℕ → Out → Type 0)
     (faults : ℕ → Fault → Type 0) (n piece : ℕ) (fault : Fault) : Type 0 where
   pub below : piece < n
   pub faulted : faults piece fault
-  pub answered : (i : ℕ) → i < piece → (out : Out) × answers i out
+  pub returned : (i : ℕ) → i < piece → (out : Out) × answers i out
   pub least : (i : ℕ) (other : Fault) → i < piece → ¬ faults i other
 
 -- the outputs of all pieces below n, or the least faulty piece

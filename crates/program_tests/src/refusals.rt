@@ -49,7 +49,7 @@ fn is_refused<R: Print>(rt: &R, fault: Fault) -> bool {
 
 /// Evaluates a query. If memory or a worker is missing, it is evaluated again. Returns None if a
 /// piece that entered the gate has not left it.
-fn answered<R: Threads + Wait + RandomSource + Print>(
+fn evaluated<R: Threads + Wait + RandomSource + Print>(
     rt: &R,
     alloc: Global,
     doc: &[u8],
@@ -80,17 +80,17 @@ fn comes_to<R: Threads + Wait + RandomSource + Print>(
     doc: &[u8],
     query: &str,
     workers: usize,
-    wanted: Result<&[u8], Fault>,
+    expected: Result<&[u8], Fault>,
 ) -> bool
     requires workers { (1 ≤ workers) × (workers ≤ 64) }
 {
     let gate = Counter::new();
-    let is_wanted = match (answered(rt, alloc, doc, query, workers, &gate), wanted) {
-        (Some(Ok(bytes)), Ok(wanted)) => bytes.as_slice() == wanted,
-        (Some(Err(fault)), Err(wanted)) => fault == wanted,
+    let is_expected = match (evaluated(rt, alloc, doc, query, workers, &gate), expected) {
+        (Some(Ok(bytes)), Ok(expected)) => bytes.as_slice() == expected,
+        (Some(Err(fault)), Err(expected)) => fault == expected,
         _ => false,
     };
-    is_wanted && gate.is_balanced()
+    is_expected && gate.is_balanced()
 }
 
 /// Returns whether a query has this result with one worker and with two.
@@ -99,10 +99,10 @@ fn has_outcome<R: Threads + Wait + RandomSource + Print>(
     alloc: Global,
     doc: &str,
     query: &str,
-    wanted: Result<&[u8], Fault>,
+    expected: Result<&[u8], Fault>,
 ) -> bool {
-    comes_to(rt, alloc, doc.as_bytes(), query, 1, wanted)
-        && comes_to(rt, alloc, doc.as_bytes(), query, 2, wanted)
+    comes_to(rt, alloc, doc.as_bytes(), query, 1, expected)
+        && comes_to(rt, alloc, doc.as_bytes(), query, 2, expected)
 }
 
 /// Returns whether a query has these variables and bindings. It is also true if there is no memory
@@ -115,7 +115,7 @@ fn has_rows<R: Threads + Wait + RandomSource + Print>(
     rows: (&str, &str),
 ) -> bool {
     match json(alloc, rows.0, rows.1) {
-        Ok(wanted) => has_outcome(rt, alloc, doc, query, Ok(&wanted)),
+        Ok(expected) => has_outcome(rt, alloc, doc, query, Ok(&expected)),
         Err(_) => true,
     }
 }
@@ -165,14 +165,14 @@ fn a_computed_term_is_answered_or_memory_is_refused(rt: HostRuntime) {
 #[test]
 fn a_bad_line_is_named_or_memory_is_refused(rt: HostRuntime) {
     let doc = "<http://e/a> <http://e/p> <http://e/b> .\nx\n";
-    let wanted = Err(Fault::BadLine(2));
-    assert!(rt; has_outcome(&rt, rt.alloc(), doc, "SELECT * {}", wanted));
+    let expected = Err(Fault::BadLine(2));
+    assert!(rt; has_outcome(&rt, rt.alloc(), doc, "SELECT * {}", expected));
 }
 
 #[test]
 fn a_query_is_refused_by_its_rule_or_memory_is(rt: HostRuntime) {
-    let wanted = Err(Fault::Query(QueryFault::Syntax));
-    assert!(rt; has_outcome(&rt, rt.alloc(), "x\n", "SELECT", wanted));
+    let expected = Err(Fault::Query(QueryFault::Syntax));
+    assert!(rt; has_outcome(&rt, rt.alloc(), "x\n", "SELECT", expected));
 }
 
 /// Creates a literal whose N-Quads form is longer than the first capacity of a buffer.

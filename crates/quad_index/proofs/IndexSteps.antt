@@ -12,7 +12,7 @@ use Rattle.algebra_model.proofs.BagLaws.{IsPermutation-filter}
 use Rattle.dict_core.specs.declared.num_quad.NumQuad.{NumQuad}
 use Rattle.dict_core.proofs.NumQuadLaws.{quad_eq, quad_decides}
 use Rattle.quad_index.specs.declared.prefix.Prefix.{Prefix}
-use Rattle.quad_index.specs.Indexed.{prefix_cmp, wanted_by}
+use Rattle.quad_index.specs.Indexed.{prefix_cmp, scan_key}
 use Rattle.algebra_model.specs.Bag.{without_repeats}
 use Rattle.std.specs.List.Sorted.{IsStrictlyIncreasing}
 use Rattle.std.proofs.lemmas.Map.Keys.{IsStrictlyIncreasing-dedup}
@@ -23,14 +23,14 @@ use Rattle.quad_index.proofs.SortOrderLaws.{total_g, sorted_g, nat_ties}
 
 -- a part of one of the lists is, in some order, the part of the set
 pub scanned : (by : Prefix) (g s p o : Option ℕ) (now gspo list slice found : List NumQuad) (w : NumQuad) → gspo ≡ now → IsPermutation gspo list → slice ≡ list
-    → w ≡ wanted_by g s p o → found ≡ filter (λ q. is_eq (prefix_cmp by q w)) slice
-    → ((q : NumQuad) → is_eq (prefix_cmp by q (wanted_by g s p o)) ≡ agrees g s p o q)
+    → w ≡ scan_key g s p o → found ≡ filter (λ q. is_eq (prefix_cmp by q w)) slice
+    → ((q : NumQuad) → is_eq (prefix_cmp by q (scan_key g s p o)) ≡ agrees g s p o q)
     → IsPermutation (filter (agrees g s p o) now) found
-scanned by g s p o now gspo list slice found w now_is moved slice_is wanted_is found_is alike =
+scanned by g s p o now gspo list slice found w now_is moved slice_is key_is found_is alike =
     let A = agrees g s p o in
     let same : found ≡ filter A list =
     found_is ∙ ap (filter (λ q. is_eq (prefix_cmp by q w))) slice_is
-    ∙ filter_agree (λ q. is_eq (prefix_cmp by q w)) A (λ q. ap (λ v. is_eq (prefix_cmp by q v)) wanted_is ∙ alike q) list in
+    ∙ filter_agree (λ q. is_eq (prefix_cmp by q w)) A (λ q. ap (λ v. is_eq (prefix_cmp by q v)) key_is ∙ alike q) list in
     subst (λ l. IsPermutation (filter A l) found) now_is
     (subst (λ l. IsPermutation (filter A gspo) l) (sym same) (IsPermutation-filter quad_eq quad_decides A gspo list moved))
 

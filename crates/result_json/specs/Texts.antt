@@ -92,8 +92,8 @@ IsRowAhead terms places ranks i texts = (k : ℕ) → k < length places → IsAh
 abbrev pub places_of : List (Vec ℕ Global × ℕ) → List ℕ
 places_of columns = map (λ c. c.1) columns
 
-abbrev pub lent_texts : List (Bor (List ℕ)) → List (List ℕ)
-lent_texts texts = map (λ t. t.now) texts
+abbrev pub borrowed_texts : List (Bor (List ℕ)) → List (List ℕ)
+borrowed_texts texts = map (λ t. t.now) texts
 
 abbrev pub all_texts : List (Vec (Bor (List ℕ)) Global) → List (List (List ℕ))
-all_texts columns = map (λ c. lent_texts c.items) columns
+all_texts columns = map (λ c. borrowed_texts c.items) columns

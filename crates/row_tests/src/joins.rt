@@ -82,7 +82,7 @@ fn operated<R: Threads + Wait>(
 }
 
 /// Prints the rows of an operator.
-fn told<R: RandomSource + Threads + Wait>(
+fn joined_text<R: RandomSource + Threads + Wait>(
     rt: &R,
     alloc: Global,
     operator: Operator,
@@ -119,7 +119,7 @@ fn gives<R: RandomSource + Threads + Wait + Print>(
         rows: 1,
     };
     for how in [whole, cut] {
-        let given = told(rt, alloc, operator, left, right, &how)?;
+        let given = joined_text(rt, alloc, operator, left, right, &how)?;
         if given.as_str() != expected {
             let _ = println!(rt; "{name}, {how:?}: {left} and {right} give {given}");
             return Ok(false);

@@ -79,18 +79,18 @@ fn has_letters(word: &[char], capitals: &[u8]) -> bool
     ensures { result ≡ has_letters word.now capitals.now }
 {
     let mut letters = word;
-    let mut wanted = capitals;
+    let mut expected = capitals;
     'letters: while let Some((letter, after)) = next(letters) {
-        let Some((capital, remaining)) = wanted.split_first() else {
+        let Some((capital, remaining)) = expected.split_first() else {
             return false;
         };
         if letter.to_ascii_uppercase() as u32 != *capital as u32 {
             return false;
         }
         letters = after;
-        wanted = remaining;
+        expected = remaining;
     }
-    wanted.is_empty()
+    expected.is_empty()
 }
 
 fn is_small_a(word: &[char]) -> bool

@@ -23,7 +23,7 @@ use std::{env, thread};
 fn words_of(rt: &HostRuntime) -> Result<Vec<String>, RunFault> {
     let args = match env::args(rt) {
         Ok(args) => args,
-        Err(refused) if refused.kind() == ErrorKind::OutOfMemory => return Err(RunFault::Memory),
+        Err(failed) if failed.kind() == ErrorKind::OutOfMemory => return Err(RunFault::Memory),
         Err(_no_text) => return Err(RunFault::Line),
     };
     let mut words = Vec::new(rt.alloc());
@@ -56,7 +56,7 @@ fn end_without_words(rt: &HostRuntime, fault: RunFault, terminals: Terminals) ->
         write_error: None,
         is_repeated: !terminals.output,
     };
-    let _told = report(&mut rt.stderr(), rt.alloc(), &done, &account);
+    let _reported = report(&mut rt.stderr(), rt.alloc(), &done, &account);
     status
 }
 
@@ -76,7 +76,7 @@ fn end<M: Meter>(
         write_error,
         is_repeated: !terminals.output,
     };
-    let _told = report(&mut rt.stderr(), rt.alloc(), &ran.done, &account);
+    let _reported = report(&mut rt.stderr(), rt.alloc(), &ran.done, &account);
     status
 }
 

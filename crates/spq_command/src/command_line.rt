@@ -42,7 +42,7 @@ pub enum CommandFault {
 impl From<AllocError> for CommandFault {
     ghost from_gives = { λ _ e. e ≡ Memory };
 
-    fn from(_refused: AllocError) -> CommandFault {
+    fn from(_failed: AllocError) -> CommandFault {
         CommandFault::Memory
     }
 }

@@ -45,7 +45,7 @@ composed_check left left' store text h e = record {
   doc = h.doc;
   consumed = h.consumed;
   at_end = h.at_end;
-  output = record { quads = h.loaded.quads; spelled = h.loaded.spelled; printed = e ∙ counts_are (lines h.doc) store h.loaded };
+  output = record { quads = h.loaded.quads; statements = h.loaded.statements; printed = e ∙ counts_are (lines h.doc) store h.loaded };
 }
 
 pub composed_terms : (left left' : Option (List ℕ)) (store : StoreView) (dict : List Term) (text : List ℕ) → IsLoadedFrom left left' store
@@ -54,7 +54,7 @@ composed_terms left left' store dict text h d e = record {
   doc = h.doc;
   consumed = h.consumed;
   at_end = h.at_end;
-  output = record { quads = h.loaded.quads; spelled = h.loaded.spelled; printed = e ∙ ap term_lines (d ∙ h.loaded.terms) };
+  output = record { quads = h.loaded.quads; statements = h.loaded.statements; printed = e ∙ ap term_lines (d ∙ h.loaded.terms) };
 }
 
 pub composed_select : DatasetIsSet → BagHasOneList → (left left' : Option (List ℕ)) (query : List ℕ) (q : QueryTree) (store : StoreView) (text : List ℕ) → IsValidQuery (chars query) q → IsLoadedFrom left left' store

@@ -22,7 +22,7 @@ request_of (Terms reading) = terms
 -- every line is well-formed, and this is the text of their statements
 pub record IsTextOf (text_of : List QuadParts → List ℕ) (doc text : List ℕ) : Type 0 where
   pub quads : List QuadParts
-  pub spelled : HaveStatements (lines doc) quads
+  pub statements : HaveStatements (lines doc) quads
   pub printed : text ≡ text_of quads
 
 -- the text of the quads, or the first malformed line

@@ -144,7 +144,7 @@ fn lines_come_to<R: Threads + Wait + RandomSource + Print>(
     alloc: Global,
     doc: &[u8],
     workers: usize,
-    want: Counts,
+    expected: Counts,
 ) -> bool
     requires workers { (1 ≤ workers) × (workers ≤ 64) }
 {
@@ -156,7 +156,7 @@ fn lines_come_to<R: Threads + Wait + RandomSource + Print>(
         }
         given = by_lines(rt, alloc, doc, workers, &gate);
     }
-    given == want && gate.is_balanced()
+    given == expected && gate.is_balanced()
 }
 
 /// Does the same with the document in blocks.
@@ -165,7 +165,7 @@ fn blocks_come_to<R: Threads + Wait + RandomSource + Print>(
     alloc: Global,
     doc: &[u8],
     workers: usize,
-    want: Counts,
+    expected: Counts,
 ) -> bool
     requires workers { (1 ≤ workers) × (workers ≤ 64) }
 {
@@ -177,7 +177,7 @@ fn blocks_come_to<R: Threads + Wait + RandomSource + Print>(
         }
         given = by_blocks(rt, alloc, doc, workers, &gate);
     }
-    given == want && gate.is_balanced()
+    given == expected && gate.is_balanced()
 }
 
 /// Does the same with the document from a reader.
@@ -186,7 +186,7 @@ fn reader_comes_to<R: Threads + Wait + RandomSource + Print>(
     alloc: Global,
     doc: &[u8],
     workers: usize,
-    want: Counts,
+    expected: Counts,
 ) -> bool
     requires workers { (1 ≤ workers) × (workers ≤ 64) }
 {
@@ -198,7 +198,7 @@ fn reader_comes_to<R: Threads + Wait + RandomSource + Print>(
         }
         given = by_reader(rt, alloc, doc, workers, &gate);
     }
-    given == want && gate.is_balanced()
+    given == expected && gate.is_balanced()
 }
 
 /// Does the same with a document that is counted.
@@ -207,7 +207,7 @@ fn counting_comes_to<R: Threads + Wait + RandomSource + Print>(
     alloc: Global,
     doc: &[u8],
     workers: usize,
-    want: Counts,
+    expected: Counts,
 ) -> bool
     requires workers { (1 ≤ workers) × (workers ≤ 64) }
 {
@@ -219,7 +219,7 @@ fn counting_comes_to<R: Threads + Wait + RandomSource + Print>(
         }
         given = by_counting(rt, alloc, doc, workers, &gate);
     }
-    given == want && gate.is_balanced()
+    given == expected && gate.is_balanced()
 }
 
 /// Does each of these, with one worker and with two.
@@ -227,19 +227,19 @@ fn comes_to<R: Threads + Wait + RandomSource + Print>(
     rt: &R,
     alloc: Global,
     doc: &[u8],
-    want: Counts,
+    expected: Counts,
 ) -> bool {
     for workers in [1, 2] {
-        if !lines_come_to(rt, alloc, doc, workers, want) {
+        if !lines_come_to(rt, alloc, doc, workers, expected) {
             return false;
         }
-        if !blocks_come_to(rt, alloc, doc, workers, want) {
+        if !blocks_come_to(rt, alloc, doc, workers, expected) {
             return false;
         }
-        if !reader_comes_to(rt, alloc, doc, workers, want) {
+        if !reader_comes_to(rt, alloc, doc, workers, expected) {
             return false;
         }
-        if !counting_comes_to(rt, alloc, doc, workers, want) {
+        if !counting_comes_to(rt, alloc, doc, workers, expected) {
             return false;
         }
     }

@@ -190,13 +190,13 @@ fn run_sample<R: Threads + Wait + RandomSource>(
 }
 
 /// Checks a command with each of its reads failing in turn. The command must end at once with the
-/// fault `wanted`. Only the bytes of the reads before are taken from the reader, and nothing is
+/// fault `expected`. Only the bytes of the reads before are taken from the reader, and nothing is
 /// written.
 fn tells_each_failed_read<R: Threads + Wait + RandomSource>(
     rt: &R,
     alloc: Global,
     sample: Sample<'_>,
-    wanted: Result<(), RunFault>,
+    expected: Result<(), RunFault>,
 ) -> bool {
     let doc = sample.1;
     for k in 0..MANY {
@@ -204,7 +204,7 @@ fn tells_each_failed_read<R: Threads + Wait + RandomSource>(
         let end = run_sample(rt, alloc, sample, reader, VecSink::new(alloc, 1000));
         let read = (CHUNK * k).min(doc.len());
         if end.failed_reads == 0 {
-            return end.done == wanted && end.reads == k && read == doc.len();
+            return end.done == expected && end.reads == k && read == doc.len();
         }
         let is_told = end.done == Err(RunFault::Read) && end.reads == k + 1;
         if !is_told || end.rest != doc.len() - read || end.writes > 0 {

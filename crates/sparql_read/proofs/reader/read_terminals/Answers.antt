@@ -1,7 +1,7 @@
 use Rattle.std.proofs.Common.{sym, subst, ap}
 use Rattle.sparql_lexer.specs.Scan.{Scans}
 use Rattle.sparql_lexer.specs.Terminal.{terminals}
-use Rattle.sparql_read.proofs.RefusalLaws.{empty_list, not_whole, some_list, too_deep}
+use Rattle.sparql_read.proofs.RejectionLaws.{empty_list, not_whole, some_list, too_deep}
 use Rattle.sparql_read.proofs.reader.read_terminals.Goals as goal
 
 pub returns-then-is_too_deep : goal.returns-then-is_too_deep

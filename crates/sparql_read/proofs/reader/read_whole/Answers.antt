@@ -1,7 +1,7 @@
 use Rattle.std.proofs.Common.{[], Err, sym, subst}
 use Rattle.sparql_lexer.specs.Terminal.{terminals}
 use Rattle.sparql_parse.specs.Queries.{IsParsed, IsQuery}
-use Rattle.sparql_read.proofs.RefusalLaws.{not_derived}
+use Rattle.sparql_read.proofs.RejectionLaws.{not_derived}
 use Rattle.sparql_read.proofs.reader.read_whole.Goals as goal
 
 pub returns-in-Err-Syntax : goal.returns-in-Err-Syntax
