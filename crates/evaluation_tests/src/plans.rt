@@ -316,6 +316,6 @@ a:none => 0:
 ";
 
 #[test]
-fn graph_stands_by_itself(rt: HostRuntime) {
+fn graph_of_the_empty_pattern(rt: HostRuntime) {
     assert!(rt; are_right(&rt, rt.alloc(), Reader::Graph, ALONE));
 }

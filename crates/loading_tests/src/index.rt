@@ -138,7 +138,7 @@ fn scans_give_what_agrees(rt: HostRuntime) {
 
 /// Each order alone: no graph comes first, then the positions of the name.
 #[test]
-fn lists_stand_in_their_orders(rt: HostRuntime) {
+fn lists_are_in_their_orders(rt: HostRuntime) {
     let alloc = rt.alloc();
     let quads = [
         quad(Some(0), 0, 0, 0),

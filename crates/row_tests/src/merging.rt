@@ -55,7 +55,7 @@ fn empty_rows(alloc: Global) -> Result<Rows, AllocError> {
 }
 
 #[test]
-fn rows_stand_as_they_were_pushed(rt: HostRuntime) -> Result<(), AllocError> {
+fn rows_are_as_they_were_pushed(rt: HostRuntime) -> Result<(), AllocError> {
     let text = text_of(rt.alloc(), &appended(rt.alloc())?)?;
     assert!(rt; text.as_str() == "2: 1-=1- -7=-7 34=34", "{text}");
     Ok(())

@@ -74,7 +74,7 @@ fn the_empty_pattern_has_one_row(rt: HostRuntime) {
 
 /// `?0 2 ?0`: the subject is the object.
 #[test]
-fn a_variable_stands_twice(rt: HostRuntime) {
+fn a_variable_occurs_twice(rt: HostRuntime) {
     let quads = [quad(1, 2, 1), quad(1, 2, 3), quad(3, 2, 1)];
     let triples = [triple(Variable(0), Term(2), Variable(0))];
     let rows = solve(&rt, rt.alloc(), &quads, None, 1, &triples).expect(&rt, "memory");

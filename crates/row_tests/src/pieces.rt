@@ -25,7 +25,7 @@ fn a_piece_has_what_was_asked_for(rt: HostRuntime) {
 }
 
 #[test]
-fn a_refusal_keeps_its_name(rt: HostRuntime) {
+fn a_fault_keeps_its_name(rt: HostRuntime) {
     let worker = EvalFault::from(PoolFault::WorkerRefused);
     let pool = EvalFault::from(PoolFault::Memory);
     let memory = EvalFault::from(AllocError);
@@ -82,7 +82,7 @@ fn in_place(outs: &[u64]) -> u64 {
 /// single piece, and all pieces if there is one worker. A single faulty piece is named, and has
 /// left the gate.
 #[test]
-fn each_piece_is_answered_in_its_place(rt: HostRuntime) -> Result<(), AllocError> {
+fn each_piece_has_its_output_in_its_place(rt: HostRuntime) -> Result<(), AllocError> {
     for (n, sound, expected) in [
         (0, 9, "results 0 0 entered 0 left 0"),
         (1, 9, "results 1 1 entered 1 left 1"),

@@ -34,8 +34,8 @@ same_place : (m n : ℕ) → (m < n → ⊥) → (n < m → ⊥) → m ≡ n
 same_place m n a b =
     elim (cases_lt m n) [ inl l ↦ absurd (a l) | inr h ↦ elim (cases_lt n m) [ inl l ↦ absurd (b l) | inr k ↦ omega (arith, h, k) ] ]
 
-one_refusal : (text : List ℕ) (e f : QueryFault) → IsRejectedBy text e → IsRejectedBy text f → e ≡ f
-one_refusal text e f h k =
+one_rejection : (text : List ℕ) (e f : QueryFault) → IsRejectedBy text e → IsRejectedBy text f → e ≡ f
+one_rejection text e f h k =
     let same = same_place (rank e) (rank f) (λ l. k.first e l h.applies) (λ l. h.first f l k.applies) in
     sym (by_its_rank e) ∙ (ap by_rank same ∙ by_its_rank f)
 
@@ -53,4 +53,4 @@ pub one_answer : OneScan → OneQuery → (text : List ℕ) (r s : Result QueryT
 one_answer one only text (Ok q) (Ok r) h k m n = ap Ok (one_tree one only text q r h.derives k.derives)
 one_answer one only text (Ok q) (Err f) h k m n = absurd (h.allowed f (rejected_by text f (λ e. n (ap Err e)) k).applies)
 one_answer one only text (Err e) (Ok r) h k m n = absurd (k.allowed e (rejected_by text e (λ x. m (ap Err x)) h).applies)
-one_answer one only text (Err e) (Err f) h k m n = ap Err (one_refusal text e f (rejected_by text e (λ x. m (ap Err x)) h) (rejected_by text f (λ x. n (ap Err x)) k))
+one_answer one only text (Err e) (Err f) h k m n = ap Err (one_rejection text e f (rejected_by text e (λ x. m (ap Err x)) h) (rejected_by text f (λ x. n (ap Err x)) k))

@@ -74,7 +74,7 @@ fn is_written(alloc: Global, fault: RunFault, expected: u8, line: &str) -> Resul
 }
 
 #[test]
-fn faults_are_told(rt: HostRuntime) -> Result<(), AllocError> {
+fn faults_are_written(rt: HostRuntime) -> Result<(), AllocError> {
     for (fault, expected, line) in FAULTS {
         assert!(rt;
             is_written(rt.alloc(), fault, expected, line)?,
@@ -86,7 +86,7 @@ fn faults_are_told(rt: HostRuntime) -> Result<(), AllocError> {
 }
 
 #[test]
-fn an_end_without_a_fault_is_told_by_nothing(rt: HostRuntime) {
+fn an_end_without_a_fault_writes_nothing(rt: HostRuntime) {
     let mut writer = VecSink::new(rt.alloc(), 1000);
     let end = finish(&Ok(()), &mut writer);
     assert!(rt; end == 0 && writer.bytes.is_empty(), "status {end}");

@@ -94,7 +94,7 @@ const REJECTED: [(&str, &str, &str); 14] = [
 ];
 
 #[test]
-fn the_first_rule_is_told(rt: HostRuntime) {
+fn the_first_rule_is_reported(rt: HostRuntime) {
     for (name, query, expected) in REJECTED {
         assert!(rt; gives_line(&rt, rt.alloc(), query, expected), "{name}");
     }
