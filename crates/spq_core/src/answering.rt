@@ -169,7 +169,7 @@ pub fn answer<R: Threads + Wait + RandomSource, G: Gate + Sync>(
     requires fits { AreCuts doc.now cuts.now }
     requires how { IsRunnable how.now }
     ensures answer { IfOk result (λ bytes. IsQueryResult doc.now query.now (Ok bytes.items)) }
-    ensures rejected { IfErr result (IsFaultOf doc.now query.now) }
+    ensures err { IfErr result (IsFaultOf doc.now query.now) }
     ensures one_worker { HasOneWorker how.now → IfErr result IsOneWorkerFault }
 {
     a_dataset_is_a_set();
