@@ -11,6 +11,7 @@ use Rattle.algebra_model.specs.Algebra.{Algebra, Pattern, Join, LeftJoin, Minus,
 use Rattle.algebra_model.specs.Eval.{eval}
 use Rattle.algebra_model.specs.RowOrder.{sorted_rows}
 
+-- five IRIs
 abbrev a : Term
 a = Iri (codes "http://e/a")
 
@@ -26,6 +27,7 @@ p = Iri (codes "http://e/p")
 abbrev q : Term
 q = Iri (codes "http://e/q")
 
+-- a literal of xsd:string
 abbrev text : List ℕ → Term
 text form = Literal form xsd_string None
 
@@ -33,9 +35,11 @@ text form = Literal form xsd_string None
 abbrev states : Term → Term → Term → QuadParts
 states s p o = record { s = s; p = p; o = o; g = None }
 
+-- a statement of the graph g
 abbrev states_in : Term → Term → Term → Term → QuadParts
 states_in g s p o = record { s = s; p = p; o = o; g = Some g }
 
+-- a triple pattern
 abbrev matches : PatternTerm Term → PatternTerm Term → PatternTerm Term → TriplePattern Term
 matches s p o = record { s = s; p = p; o = o }
 

@@ -1,4 +1,4 @@
--- Pieces that are read in parallel, and then added. Only private clauses cite these words.
+-- Pieces that are read in parallel, and then added. Only private clauses use these definitions.
 use Rattle.std.specs.Prelude.{◌≡◌, ℕ, zero, suc, ◌+◌, ◌<◌, ◌==◌, List, [], ◌∷◌, length, slice_index_or, IsSorted, IsPermutation, if◌then◌else◌}
 use Rattle.std.specs.List.{AllZip}
 use Rattle.rdf_core.specs.declared.term.Term.{Term}

@@ -1,5 +1,5 @@
 -- The hash function of the dictionaries: SipHash-1-3 (Aumasson and Bernstein, 2012), where each write is padded
--- to whole words. Only private clauses cite these words; no result depends on a hash.
+-- to whole words. Only private clauses use these definitions; no result depends on a hash.
 use Rattle.std.specs.Prelude.{ℕ, zero, suc, ◌+◌, ◌-◌, ◌*◌, ◌/◌, ◌%◌, ◌^◌, ◌==◌, List, length, if◌then◌else◌, nat_le, nat_lt, slice_index, bit_or, bit_xor}
 use Rattle.std.specs.Int.{w64, rotate_left}
 use Rattle.dict_core.specs.declared.hashing.WordHasher.{WordHasher}

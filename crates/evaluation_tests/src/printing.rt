@@ -89,7 +89,10 @@ pub(crate) fn text_of_rows(alloc: Global, dict: &Dict, rows: &Rows) -> Result<St
 }
 
 /// Prints solutions of terms.
-pub(crate) fn text_of_solutions(alloc: Global, solutions: &[Solution]) -> Result<String, AllocError> {
+pub(crate) fn text_of_solutions(
+    alloc: Global,
+    solutions: &[Solution],
+) -> Result<String, AllocError> {
     let mut lines = Vec::new(alloc);
     for solution in solutions {
         lines.push(line_of_solution(alloc, solution)?)?;

@@ -12,6 +12,7 @@ abbrev pub AreCutsFrom : List ℕ → ℕ → List ℕ → Type 0
 AreCutsFrom doc low [] = ⊤
 AreCutsFrom doc low (p ∷ ps) = (low < p) × IsCut doc p × AreCutsFrom doc p ps
 
+-- the places increase strictly, and each is a cut
 abbrev pub AreCuts : List ℕ → List ℕ → Type 0
 AreCuts doc places = AreCutsFrom doc 0 places
 

@@ -5,9 +5,11 @@ use Rattle.piece_board.specs.Pass.{PassView}
 use Rattle.piece_board.specs.Board.{BoardView, IsPassOf}
 use Rattle.piece_pool.specs.Worked.{numbers_of, done_of, CoversUpTo}
 
+-- the draws of all passes
 abbrev pub all_draws : List PassView → List ℕ
 all_draws ps = flat_map (λ p. p.history.draws) ps
 
+-- the reports of all passes
 abbrev pub all_reports : List PassView → List ℕ
 all_reports ps = flat_map (λ p. p.history.reports) ps
 

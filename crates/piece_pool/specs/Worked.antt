@@ -5,6 +5,7 @@ use Rattle.piece_board.specs.Counts.{times}
 use Rattle.piece_board.specs.Board.{BoardView, IsPassOf}
 use Rattle.piece_pool.specs.declared.worker.Worked.{Worked}
 
+-- the numbers of the pieces in the list
 abbrev pub numbers_of : {X : Type 0} → List (ℕ × X) → List ℕ
 numbers_of ps = map (λ p. p.0) ps
 

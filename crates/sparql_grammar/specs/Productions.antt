@@ -31,9 +31,11 @@ and_triple ts a b c = ts ++ record { subject = a; predicate = b; object = c } �
 abbrev pub plain : List ℕ → List ℕ → Term
 plain lexical datatype = rdf.Literal lexical datatype None
 
+-- a literal with a language tag
 abbrev pub tagged : List ℕ → List ℕ → Term
 tagged lexical tag = rdf.Literal lexical rdf_lang_string (Some tag)
 
+-- the right side of the production of a symbol
 abbrev pub right_side : (s : Symbol) → Form (Value s)
 -- [111] ConditionalOrExpression ::= ConditionalAndExpression ('||' ConditionalAndExpression)*
 right_side the.disjunction = part the.conjunction (λ a. last (the.more_or a) (λ e. e))

@@ -14,6 +14,7 @@ has_letters [] (k ∷ ks) = false
 has_letters (c ∷ cs) [] = false
 has_letters (c ∷ cs) (k ∷ ks) = nat_eq (to_ascii_uppercase c) k && has_letters cs ks
 
+-- the keyword as the grammar of section 19.8 writes it, in upper case
 abbrev pub capitals_of : Keyword → List ℕ
 capitals_of keyword.A = codes "A"
 capitals_of keyword.As = codes "AS"
@@ -44,6 +45,7 @@ capitals_of keyword.Union = codes "UNION"
 capitals_of keyword.Values = codes "VALUES"
 capitals_of keyword.Where = codes "WHERE"
 
+-- the keyword of the list that the word is, in any case
 abbrev pub keyword_among : List Keyword → List ℕ → Option Keyword
 keyword_among [] w = None
 keyword_among (k ∷ ks) w = if has_letters w (capitals_of k) then Some k else keyword_among ks w
@@ -56,6 +58,7 @@ in_any_case =
     ∷ keyword.Minus ∷ keyword.Not ∷ keyword.Offset ∷ keyword.Optional ∷ keyword.Prefix ∷ keyword.SameTerm ∷ keyword.Select
     ∷ keyword.Str ∷ keyword.True ∷ keyword.Undef ∷ keyword.Union ∷ keyword.Values ∷ keyword.Where ∷ []
 
+-- the word is `a`
 abbrev pub is_small_a : List ℕ → Bool
 is_small_a [] = false
 is_small_a (c ∷ []) = nat_eq 97 c

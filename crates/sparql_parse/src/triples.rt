@@ -70,8 +70,8 @@ fn starts_verb(tokens: &[Token]) -> bool
     }
 }
 
-/// Returns the label of an [163] ANON with `remaining` tokens after it. It occurs nowhere else in the
-/// text.
+/// Returns the label of an [163] ANON with `remaining` tokens after it. It occurs nowhere else in
+/// the text.
 fn anonymous_label(alloc: Global, remaining: usize) -> Result<Text, AllocError>
     ensures label { IfOk result (λ label. label ≡ anonymous_label remaining) }
 {

@@ -20,5 +20,6 @@ abbrev pub goes_over : ℕ → List Terminal → Bool
 goes_over n [] = false
 goes_over n (terminal k x ∷ ts) = nat_lt 100 (open_after k n) || goes_over (open_after k n) ts
 
+-- more than 100 brackets are open at some place of the text
 abbrev pub is_too_deep : List Terminal → Bool
 is_too_deep ts = goes_over 0 ts

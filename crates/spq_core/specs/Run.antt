@@ -25,6 +25,7 @@ use Rattle.sparql_read.specs.Rejection.{IsValidQuery, IsRejectedBy}
 use Rattle.spq_core.specs.declared.program.RunFault.{RunFault}
 use Rattle.spq_core.specs.declared.program.RunFault.TheVariants.{Query, BadLine, WorkerRefused, Memory, Read, Write, Line}
 
+-- a fault of `answer`, under the same name
 abbrev pub run_fault_of : Fault → RunFault
 run_fault_of (fault.Query f) = Query f
 run_fault_of (fault.BadLine n) = BadLine n
