@@ -31,7 +31,7 @@ pub fn a_pattern_is_solved_by_scans()
 /// Proves that the result of any algebra expression depends on which quads a dataset has, and not
 /// on their order or repeats.
 pub fn a_dataset_is_a_set()
-    ensures answers { DatasetIsSet }
+    ensures same_results { DatasetIsSet }
 {}
 
 /// Proves that operators commute with a reading of numbers as terms, if distinct numbers represent

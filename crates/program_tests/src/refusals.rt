@@ -131,7 +131,7 @@ fn a_pattern_is_evaluated_or_memory_runs_out(rt: HostRuntime) {
 }
 
 #[test]
-fn an_optional_part_is_answered_or_memory_is_refused(rt: HostRuntime) {
+fn an_optional_part_is_evaluated_or_memory_runs_out(rt: HostRuntime) {
     let query =
         "SELECT ?n { ?s <http://e/t> <http://e/k> OPTIONAL { ?s <http://e/n> ?n FILTER(?n < 3) } }";
     let rows = (

@@ -229,7 +229,7 @@ fn places<R: RandomSource>(rt: &R, alloc: Global, rows: &Rows) -> Result<String,
 }
 
 #[test]
-fn rows_stand_under_their_key_or_apart(rt: HostRuntime) -> Result<(), AllocError> {
+fn rows_are_under_their_key_or_apart(rt: HostRuntime) -> Result<(), AllocError> {
     let rows = rows_of(rt.alloc(), "05 -5 0-")?;
     let text = places(&rt, rt.alloc(), &rows)?;
     assert!(rt; text.as_str() == " 0 2 | | 1 |", "{text}");

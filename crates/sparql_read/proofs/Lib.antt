@@ -4,4 +4,4 @@ pub mod PrologueSteps
 pub mod ScopeSteps
 pub mod LabelLaws
 pub mod RejectionLaws
-pub mod AnswerLaws
+pub mod ResultLaws

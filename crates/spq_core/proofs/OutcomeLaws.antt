@@ -20,8 +20,8 @@ use Rattle.spq_core.specs.Laws.{OneOutcome, OneOutput}
 -- ---- the text
 
 -- as the law of sparql_read says it
-abbrev pub OneAnswer : Type 0
-OneAnswer = (text : List ℕ) (r s : Result QueryTree QueryFault) → IsReadResult text r → IsReadResult text s → (r ≡ Err Memory → ⊥) → (s ≡ Err Memory → ⊥) → r ≡ s
+abbrev pub OneResult : Type 0
+OneResult = (text : List ℕ) (r s : Result QueryTree QueryFault) → IsReadResult text r → IsReadResult text s → (r ≡ Err Memory → ⊥) → (s ≡ Err Memory → ⊥) → r ≡ s
 
 rejected : (text : List ℕ) (f : QueryFault) → IsRejectedBy text f → IsReadResult text (Err f)
 rejected text Syntax h = h
@@ -41,14 +41,14 @@ not_memory text f r d h e = subst (λ (g : QueryFault). Applies g text) (same_fa
 not_out_of_memory : (q : QueryTree) (x : Result QueryTree QueryFault) → x ≡ Ok q → x ≡ Err Memory → ⊥
 not_out_of_memory q x d e = cc
 
-one_rejection : OneAnswer → (text : List ℕ) (f g : QueryFault) → IsRejectedBy text f → IsRejectedBy text g → f ≡ g
+one_rejection : OneResult → (text : List ℕ) (f g : QueryFault) → IsRejectedBy text f → IsRejectedBy text g → f ≡ g
 one_rejection one text f g h k =
     same_fault f g (Err f) refl (one text (Err f) (Err g) (rejected text f h) (rejected text g k) (not_memory text f (Err f) refl h) (not_memory text g (Err g) refl k))
 
 same_query : (q r : QueryTree) (x : Result QueryTree QueryFault) → x ≡ Ok q → x ≡ Ok r → q ≡ r
 same_query q r x d e = cc
 
-one_query : OneAnswer → (text : List ℕ) (q r : QueryTree) → IsValidQuery text q → IsValidQuery text r → q ≡ r
+one_query : OneResult → (text : List ℕ) (q r : QueryTree) → IsValidQuery text q → IsValidQuery text r → q ≡ r
 one_query one text q r h k = same_query q r (Ok q) refl (one text (Ok q) (Ok r) h k (not_out_of_memory q (Ok q) refl) (not_out_of_memory r (Ok r) refl))
 
 valid_and_rejected : (text : List ℕ) (q : QueryTree) (f : QueryFault) → IsValidQuery text q → IsRejectedBy text f → ⊥
@@ -78,7 +78,7 @@ same_bad_line doc m n h k = h.2 ∙ (λ i. one_bad_line (lines doc) h.0 k.0 h.1 
 
 -- ---- the result
 
-pub one_outcome : OneAnswer → OneMeaning → OneOutcome
+pub one_outcome : OneResult → OneMeaning → OneOutcome
 one_outcome answer meaning doc text (Ok a) (Ok b) h k =
     let q = one_query answer (chars text) h.query k.query h.read k.read in
     let d = same_statements meaning (lines doc) h.results.quads k.results.quads h.results.statements k.results.statements in

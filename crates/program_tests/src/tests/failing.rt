@@ -18,7 +18,7 @@ const OUTPUT: &[u8] =
     b"{\"head\":{\"vars\":[\"o\"]},\"results\":{\"bindings\":[{\"o\":{\"type\":\"uri\",\"value\":\"http://e/b\"}},{\"o\":{\"type\":\"literal\",\"value\":\"x\"}}]}}\n";
 
 /// Returns whether a select over devices of the standard library has its output.
-fn is_answered_by_std<R: Threads + Wait + RandomSource>(rt: &R, alloc: Global, way: Way) -> bool {
+fn agrees_with_std<R: Threads + Wait + RandomSource>(rt: &R, alloc: Global, way: Way) -> bool {
     let command = select(alloc, OBJECTS, way);
     let mut reader = Device {
         inner: REPEATED.as_bytes(),
@@ -34,7 +34,7 @@ fn is_answered_by_std<R: Threads + Wait + RandomSource>(rt: &R, alloc: Global, w
 #[test]
 fn devices_that_count_no_failures_do_not_fail(rt: HostRuntime) {
     for way in [WHOLE, (2, 1, 1)] {
-        assert!(rt; is_answered_by_std(&rt, rt.alloc(), way), "{way:?}");
+        assert!(rt; agrees_with_std(&rt, rt.alloc(), way), "{way:?}");
     }
 }
 

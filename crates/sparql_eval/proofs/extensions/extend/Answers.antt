@@ -3,10 +3,10 @@ use Rattle.algebra_model.specs.Expression.{val}
 use Rattle.algebra_model.specs.Operators.{extend}
 use Rattle.sparql_algebra.specs.ExpressionOf.{expression_of}
 use Rattle.sparql_eval.specs.Computed.{IsValue, TakesOnly}
-use Rattle.sparql_eval.proofs.AnswerSteps.{on_ok_so}
+use Rattle.sparql_eval.proofs.ReturnSteps.{on_ok_so}
 use Rattle.row_pieces.specs.declared.fault.EvalFault.TheVariants.{Memory}
 use Rattle.sparql_eval.specs.Evaluated.{IsEvaluated, solutions_of}
-use Rattle.sparql_eval.proofs.AnswerSteps.{returned, faulted}
+use Rattle.sparql_eval.proofs.ReturnSteps.{returned, faulted}
 use Rattle.sparql_eval.proofs.extensions.extend.Goals as goal
 
 pub returns-clause-evaluated : goal.returns-clause-evaluated

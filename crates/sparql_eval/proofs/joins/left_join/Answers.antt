@@ -5,7 +5,7 @@ use Rattle.algebra_model.specs.Operators.{left_join}
 use Rattle.sparql_algebra.specs.ExpressionOf.{expression_of}
 use Rattle.row_pieces.specs.declared.fault.EvalFault.TheVariants.{Memory}
 use Rattle.sparql_eval.specs.Evaluated.{IsEvaluated, solutions_of}
-use Rattle.sparql_eval.proofs.AnswerSteps.{returned, faulted}
+use Rattle.sparql_eval.proofs.ReturnSteps.{returned, faulted}
 use Rattle.sparql_eval.proofs.joins.left_join.Goals as goal
 
 pub returns-clause-evaluated : goal.returns-clause-evaluated

@@ -9,7 +9,7 @@ use Rattle.dict_core.specs.NumQuad.{quads_at}
 use Rattle.sparql_algebra.specs.AlgebraOf.{triple_pattern_of}
 use Rattle.row_pieces.specs.declared.fault.EvalFault.TheVariants.{Memory}
 use Rattle.sparql_eval.specs.Evaluated.{IsEvaluated}
-use Rattle.sparql_eval.proofs.AnswerSteps.{returned, faulted}
+use Rattle.sparql_eval.proofs.ReturnSteps.{returned, faulted}
 use Rattle.sparql_eval.proofs.patterns.pattern.Goals as goal
 
 pub returns-clause-evaluated : goal.returns-clause-evaluated

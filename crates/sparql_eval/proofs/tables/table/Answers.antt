@@ -2,10 +2,10 @@ use Rattle.std.proofs.Common.{◌≡◌}
 use Rattle.std.proofs.Common.{map}
 use Rattle.algebra_model.specs.Operators.{table}
 use Rattle.sparql_eval.specs.Computed.{IsCell, TakesOnly}
-use Rattle.sparql_eval.proofs.AnswerSteps.{on_ok_so}
+use Rattle.sparql_eval.proofs.ReturnSteps.{on_ok_so}
 use Rattle.row_pieces.specs.declared.fault.EvalFault.TheVariants.{Memory}
 use Rattle.sparql_eval.specs.Evaluated.{IsEvaluated, solutions_of}
-use Rattle.sparql_eval.proofs.AnswerSteps.{returned, faulted}
+use Rattle.sparql_eval.proofs.ReturnSteps.{returned, faulted}
 use Rattle.sparql_eval.proofs.tables.table.Goals as goal
 
 pub returns-clause-evaluated : goal.returns-clause-evaluated

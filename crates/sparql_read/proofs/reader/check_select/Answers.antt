@@ -18,7 +18,7 @@ returns-in_ok-mentioned-in-Ok c =
       derived = subst (λ ns. IsQuery ns ts s) c.requires.names c.requires.parsed;
     } in
     record {
-      answers = allowed_as k (subst (λ es. IsChecked ts (group_of es) (Ok tt)) c.deref.ensures.value c.in-Ok.ensures.checked) _ c.in_ok-mentioned-in-Ok.ensures.value;
+      read = allowed_as k (subst (λ es. IsChecked ts (group_of es) (Ok tt)) c.deref.ensures.value c.in-Ok.ensures.checked) _ c.in_ok-mentioned-in-Ok.ensures.value;
     }
 
 pub returns-in-Err : goal.returns-in-Err
@@ -33,5 +33,5 @@ returns-in-Err c =
       derived = subst (λ ns. IsQuery ns ts s) c.requires.names c.requires.parsed;
     } in
     record {
-      answers = rejected k c.in-Err.fault (subst (λ es. IsChecked ts (group_of es) (Err c.in-Err.fault)) c.deref.ensures.value c.in-Err.ensures.checked);
+      read = rejected k c.in-Err.fault (subst (λ es. IsChecked ts (group_of es) (Err c.in-Err.fault)) c.deref.ensures.value c.in-Err.ensures.checked);
     }

@@ -9,6 +9,6 @@ returns-in-Err-Syntax c =
     let ts = terminals c.args.tokens.now in
     let none = subst (λ e. IsParsed c.in_ok-names.names ts (Err e)) c.in-Err-Syntax.field-0-is c.in-Err-Syntax.ensures.query in
     record {
-      answers = not_derived c.one_scan.ensures c.args.text.now ts c.requires.scans c.requires.shallow
+      read = not_derived c.one_scan.ensures c.args.text.now ts c.requires.scans c.requires.shallow
           (λ s m. none s (subst (λ ns. IsQuery ns ts s) (sym c.in_ok-names.ensures.value) m));
     }

@@ -48,9 +48,9 @@ rejected_by text BindScope n h = h
 rejected_by text BlankReuse n h = h
 rejected_by text Memory n h = absurd (n refl)
 
-pub one_answer : OneScan → OneQuery → (text : List ℕ) (r s : Result QueryTree QueryFault) → IsReadResult text r → IsReadResult text s
+pub one_result : OneScan → OneQuery → (text : List ℕ) (r s : Result QueryTree QueryFault) → IsReadResult text r → IsReadResult text s
     → (r ≡ Err Memory → ⊥) → (s ≡ Err Memory → ⊥) → r ≡ s
-one_answer one only text (Ok q) (Ok r) h k m n = ap Ok (one_tree one only text q r h.derives k.derives)
-one_answer one only text (Ok q) (Err f) h k m n = absurd (h.allowed f (rejected_by text f (λ e. n (ap Err e)) k).applies)
-one_answer one only text (Err e) (Ok r) h k m n = absurd (k.allowed e (rejected_by text e (λ x. m (ap Err x)) h).applies)
-one_answer one only text (Err e) (Err f) h k m n = ap Err (one_rejection text e f (rejected_by text e (λ x. m (ap Err x)) h) (rejected_by text f (λ x. n (ap Err x)) k))
+one_result one only text (Ok q) (Ok r) h k m n = ap Ok (one_tree one only text q r h.derives k.derives)
+one_result one only text (Ok q) (Err f) h k m n = absurd (h.allowed f (rejected_by text f (λ e. n (ap Err e)) k).applies)
+one_result one only text (Err e) (Ok r) h k m n = absurd (k.allowed e (rejected_by text e (λ x. m (ap Err x)) h).applies)
+one_result one only text (Err e) (Err f) h k m n = ap Err (one_rejection text e f (rejected_by text e (λ x. m (ap Err x)) h) (rejected_by text f (λ x. n (ap Err x)) k))
