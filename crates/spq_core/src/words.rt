@@ -205,7 +205,15 @@ fn run_apart<
                 → result.done ≡ Err WorkerRefused → result.reader ≡ reader }
         {
             start_and_join(
-                rt, scope, alloc, command, stack, not_started, reader, writer, progress,
+                rt,
+                scope,
+                alloc,
+                command,
+                stack,
+                not_started,
+                reader,
+                writer,
+                progress,
             )
         },
     )

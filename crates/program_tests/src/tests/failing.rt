@@ -260,7 +260,8 @@ fn reports_each_failed_call<R: Threads + Wait + RandomSource>(
     output: &[u8],
 ) -> bool {
     let sample = (command, doc.as_bytes(), output);
-    reports_each_failed_read(rt, alloc, sample, Ok(())) && reports_each_failed_write(rt, alloc, sample)
+    reports_each_failed_read(rt, alloc, sample, Ok(()))
+        && reports_each_failed_write(rt, alloc, sample)
 }
 
 #[test]

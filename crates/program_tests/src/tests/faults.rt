@@ -69,7 +69,12 @@ fn fault_text(alloc: Global, fault: RunFault) -> Result<String, AllocError> {
 }
 
 /// Returns whether a fault has this status and this line.
-fn is_written(alloc: Global, fault: RunFault, expected: u8, line: &str) -> Result<bool, AllocError> {
+fn is_written(
+    alloc: Global,
+    fault: RunFault,
+    expected: u8,
+    line: &str,
+) -> Result<bool, AllocError> {
     Ok(fault_text(alloc, fault)? == format!(in alloc; "{expected} {line}{expected} {line}")?)
 }
 
