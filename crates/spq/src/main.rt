@@ -2,9 +2,12 @@
 //!
 //! The document comes on standard input, and the output goes to standard output, also the line of a
 //! fault. The exit status is 0, or that of the fault. All that is promised is promised by `run_words`
-//! and `finish` of `spq_core`; here they meet the words of the command line and the two devices.
+//! and `finish` of `spq_core`; here they meet the arguments and the two devices.
 //! Then `report` of `spq_report` says on standard error why a run failed and where. At a terminal, a thread of
 //! its own shows how far a long run is.
+//!
+//! Tests: `tests/tour.py`, `tests/hostile.py` and `tests/messages.py` run the executable; the crate
+//! program_tests tests `run_words`.
 #![tactic(auto)]
 
 use nquads_core::{Sink, Source};

@@ -35,7 +35,7 @@ pub enum CommandFault {
     #[error("the command line is none of the program's")]
     Line,
     /// Out of memory.
-    #[error("a growth was refused")]
+    #[error("out of memory")]
     Memory,
 }
 
