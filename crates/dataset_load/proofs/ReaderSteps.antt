@@ -154,8 +154,8 @@ cut_step law None b c done done' kept kept' size block one h k e = tt
 cut_step law (Some xs) None c done done' kept kept' size block one h k e = absurd h
 cut_step law (Some xs) (Some ys) None done done' kept kept' size block one h k e = absurd k
 cut_step law (Some xs) (Some ys) (Some zs) done done' kept kept' size block one h k e = λ rest blocks.
-    let after_line_feed = h (block.items ∷ rest) (block_more law size (kept ++ ys) block.items (kept' ++ zs) rest one k.0 k.1 blocks) in
-    subst (λ (ps : List (List ℕ)). AreBlocksOf size xs ps) (sym (ap (λ (ps : List (List ℕ)). ps ++ rest) e ∙ append_assoc done (block.items ∷ []) rest)) after_line_feed
+    let following = h (block.items ∷ rest) (block_more law size (kept ++ ys) block.items (kept' ++ zs) rest one k.0 k.1 blocks) in
+    subst (λ (ps : List (List ℕ)). AreBlocksOf size xs ps) (sym (ap (λ (ps : List (List ℕ)). ps ++ rest) e ∙ append_assoc done (block.items ∷ []) rest)) following
 
 -- P of the text, where it is known
 pub cut_all : (a b c : Option (List ℕ)) (done : List (List ℕ)) (kept kept' : List ℕ) (size : ℕ)
