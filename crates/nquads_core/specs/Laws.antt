@@ -24,7 +24,7 @@ Occurs t q = (t ≡ q.s) ⊎ ((t ≡ q.p) ⊎ ((t ≡ q.o) ⊎ (q.g ≡ Some t))
 abbrev pub object_line : Term → List ℕ
 object_line t = codes "<a:> <a:> " ++ (serialization t ++ codes " .")
 
--- the quad of such a line
+-- the quad of this line
 abbrev pub with_object : Term → QuadParts
 with_object t = record { s = Iri (codes "a:"); p = Iri (codes "a:"); o = t; g = None }
 

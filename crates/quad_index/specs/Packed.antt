@@ -18,7 +18,7 @@ abbrev pub graph_key : Option ℕ → ℕ
 graph_key None = 0
 graph_key (Some g) = g + 1
 
--- the graph name of such a key
+-- the graph name that this number represents
 abbrev pub graph_of : ℕ → Option ℕ
 graph_of zero = None
 graph_of (suc g) = Some g
