@@ -189,8 +189,8 @@ TableIsRead = (f : ℕ → Term) (w : ℕ) (vs : List ℕ) (rows : List (List (O
     → IsSameBag (read f (table w vs rows)) (table w vs (read f rows))
 
 -- LeftJoin may be evaluated solution by solution.
-abbrev pub LeftJoinGoesByRow : Type 0
-LeftJoinGoesByRow = (keeps : Row → Bool) (A B : List Row)
+abbrev pub LeftJoinByRow : Type 0
+LeftJoinByRow = (keeps : Row → Bool) (A B : List Row)
     → IsSameBag (flat_map (left_row term_eq keeps B) A) (left_join term_eq keeps A B)
 
 -- A function of solutions, applied to the pieces of a list and concatenated, is the function
