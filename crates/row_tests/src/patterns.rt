@@ -90,7 +90,9 @@ fn a_number_is_not_there(rt: HostRuntime) {
     let absent = triple(Variable(0), Term(7), Variable(1));
     let alone = solve(&rt, rt.alloc(), &quads, None, 2, &[absent]).expect(&rt, "memory");
     assert_eq!(rt; alone.len(), 0);
-    let with_absent = solve(&rt, rt.alloc(), &quads, None, 2, &[present, absent]).expect(&rt, "memory");
+    let with_absent = solve(&rt, rt.alloc(), &quads, None, 2, &[present, absent]).expect(
+        &rt, "memory",
+    );
     assert_eq!(rt; with_absent.len(), 0);
 }
 
