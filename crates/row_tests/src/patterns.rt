@@ -90,10 +90,8 @@ fn a_number_is_not_there(rt: HostRuntime) {
     let absent = triple(Variable(0), Term(7), Variable(1));
     let alone = solve(&rt, rt.alloc(), &quads, None, 2, &[absent]).expect(&rt, "memory");
     assert_eq!(rt; alone.len(), 0);
-    let with_absent = solve(&rt, rt.alloc(), &quads, None, 2, &[present, absent]).expect(
-        &rt, "memory",
-    );
-    assert_eq!(rt; with_absent.len(), 0);
+    let both = solve(&rt, rt.alloc(), &quads, None, 2, &[present, absent]).expect(&rt, "memory");
+    assert_eq!(rt; both.len(), 0);
 }
 
 /// `?0 2 ?1 . ?1 5 ?2` in both orders: the one chain, 1 to 3 to 6.
