@@ -96,7 +96,7 @@ ProjectKeepsBags = (vs : List ℕ) → KeepsBags (project vs)
 abbrev pub DistinctKeepsBags : Type 0
 DistinctKeepsBags = KeepsBags (distinct term_eq)
 
--- The join with the rows of VALUES keeps equal multisets.
+-- The solutions of VALUES depend only on the multiset of its rows.
 abbrev pub TableKeepsBags : Type 0
 TableKeepsBags = (w : ℕ) (vs : List ℕ) → KeepsBags (table w vs)
 
