@@ -231,7 +231,7 @@ def many_workers_over_many_pieces(program):
 
 
 def many_workers_over_many_rows(program):
-    """Checks that ten thousand rows of a join and an OPTIONAL, in tasks of one row, are the bytes of one worker."""
+    """Checks that ten thousand rows of a join and an OPTIONAL, in tasks of one row, are those that one worker gives."""
     lines = [b"<http://e/s%d> <http://e/%s> <http://e/o%d> .\n" % (n, p, n % 97) for n in range(10_000) for p in (b"p", b"q")]
     query = "SELECT ?s ?o { { ?s <http://e/p> ?o } { ?s <http://e/q> ?o } OPTIONAL { ?s <http://e/q> ?r FILTER(?r = ?o) } }"
     answers = set()

@@ -65,7 +65,7 @@ def errors():
 
 
 def keywords():
-    return set(re.findall(r"^spelling_of keyword\.\w+ = codes \"(\w+)\"$", read(WORDS), re.M))
+    return set(re.findall(r"^capitals_of keyword\.\w+ = codes \"(\w+)\"$", read(WORDS), re.M))
 
 
 def synopsis():

@@ -16,16 +16,16 @@ use Rattle.algebra_model.specs.Eval.{named, in_graphs, eval}
 use Rattle.algebra_model.proofs.BagLaws.{IsPermutation-flat_map, IsPermutation-flat_map_each}
 use Rattle.algebra_model.proofs.RepeatLaws.{any-without_repeats_is}
 use Rattle.algebra_model.proofs.BgpLaws.{solution_decides}
-use Rattle.algebra_model.proofs.SetLaws.{AnswersAlike, alike_from_set, alike-filter, alike-map, alike-filter_map, without_repeats-alike, bgp-alike, set_from_permutation}
+use Rattle.algebra_model.proofs.SetLaws.{AreAlike, alike_from_set, alike-filter, alike-map, alike-filter_map, without_repeats-alike, bgp-alike, set_from_permutation}
 use Rattle.algebra_model.proofs.CongruenceLaws as bags
 
-module _ (D E : List QuadParts) (alike : AnswersAlike D E) where
-  pub graph-alike : (g : Option Term) → AnswersAlike (graph D g) (graph E g)
+module _ (D E : List QuadParts) (alike : AreAlike D E) where
+  pub graph-alike : (g : Option Term) → AreAlike (graph D g) (graph E g)
   graph-alike g =
       let mine = λ (q : QuadParts). option_eq term_eq q.g g in
       alike-map triple_of (filter mine D) (filter mine E) (alike-filter mine D E alike)
 
-  name-alike : AnswersAlike (filter_map (λ (q : QuadParts). q.g) D) (filter_map (λ (q : QuadParts). q.g) E)
+  name-alike : AreAlike (filter_map (λ (q : QuadParts). q.g) D) (filter_map (λ (q : QuadParts). q.g) E)
   name-alike = alike-filter_map (λ (q : QuadParts). q.g) D E alike
 
   -- the names of the graphs are the same multiset

@@ -9,8 +9,8 @@ use Rattle.algebra_model.specs.Renaming.{Each, EachBound}
 use Rattle.algebra_model.specs.Laws.{IsReading}
 
 -- two numbers represent one term exactly if they are equal
-pub reading_tells : (n : ℕ) (f : ℕ → Term) → IsReading n f → (x y : ℕ) → x < n → y < n → term_eq (f x) (f y) ≡ nat_eq x y
-reading_tells n f h x y i j = both_ways (term_eq (f x) (f y)) (nat_eq x y)
+pub equal_when_read : (n : ℕ) (f : ℕ → Term) → IsReading n f → (x y : ℕ) → x < n → y < n → term_eq (f x) (f y) ≡ nat_eq x y
+equal_when_read n f h x y i j = both_ways (term_eq (f x) (f y)) (nat_eq x y)
     (λ e. (Decides-eqb x y).1 (h x y i j ((term_decides (f x) (f y)).0 e)))
     (λ e. (term_decides (f x) (f y)).1 (ap f ((Decides-eqb x y).0 e)))
 

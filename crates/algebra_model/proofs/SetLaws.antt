@@ -13,8 +13,8 @@ use Rattle.algebra_model.proofs.RepeatLaws.{any-map, any-without_repeats_is, cou
 use Rattle.algebra_model.proofs.BgpLaws.{in_maps, choices, count_by-every_map, count_by-filter, solution_decides}
 
 -- a test has the same result on both lists
-abbrev pub AnswersAlike : {X : Type 0} → List X → List X → Type 0
-AnswersAlike {X} xs ys = (p : X → Bool) → list_any p xs ≡ list_any p ys
+abbrev pub AreAlike : {X : Type 0} → List X → List X → Type 0
+AreAlike {X} xs ys = (p : X → Bool) → list_any p xs ≡ list_any p ys
 
 or_right : (a b : Bool) → b ≡ true → (a || b) ≡ true
 or_right true b e = refl
@@ -34,7 +34,7 @@ any_found p (x ∷ xs) e =
     (λ (t : list_any p xs ≡ true). let r = more t in (r.0, (suc r.1.0, omega (arith, r.1.1), r.1.2), r.2))
     (or_cases (p x) (list_any p xs) e)
 
-pub alike_from_set : {X : Type 0} (xs ys : List X) → IsSameSet xs ys → AnswersAlike xs ys
+pub alike_from_set : {X : Type 0} (xs ys : List X) → IsSameSet xs ys → AreAlike xs ys
 alike_from_set xs ys h p = both_ways (list_any p xs) (list_any p ys)
     (λ e. let r = any_found p xs e in let c = (h r.0).0 r.1 in any_at p ys r.0 c.0 c.1 c.2 r.2)
     (λ e. let r = any_found p ys e in let c = (h r.0).1 r.1 in any_at p xs r.0 c.0 c.1 c.2 r.2)
@@ -67,21 +67,21 @@ any-of_occurring p (g ∷ G) = ap (λ b. p g.s || (p g.p || (p g.o || b))) (any-
     regroup false true c d = refl
     regroup false false c d = refl
 
-pub alike-filter : {X : Type 0} (q : X → Bool) (xs ys : List X) → AnswersAlike xs ys → AnswersAlike (filter q xs) (filter q ys)
+pub alike-filter : {X : Type 0} (q : X → Bool) (xs ys : List X) → AreAlike xs ys → AreAlike (filter q xs) (filter q ys)
 alike-filter q xs ys h p = any-of_filter p q xs ∙ h (λ x. q x && p x) ∙ sym (any-of_filter p q ys)
 
-pub alike-map : {X Y : Type 0} (f : X → Y) (xs ys : List X) → AnswersAlike xs ys → AnswersAlike (map f xs) (map f ys)
+pub alike-map : {X Y : Type 0} (f : X → Y) (xs ys : List X) → AreAlike xs ys → AreAlike (map f xs) (map f ys)
 alike-map f xs ys h p = any-map p f xs ∙ h (λ x. p (f x)) ∙ sym (any-map p f ys)
 
-pub alike-filter_map : {X Y : Type 0} (f : X → Option Y) (xs ys : List X) → AnswersAlike xs ys → AnswersAlike (filter_map f xs) (filter_map f ys)
+pub alike-filter_map : {X Y : Type 0} (f : X → Option Y) (xs ys : List X) → AreAlike xs ys → AreAlike (filter_map f xs) (filter_map f ys)
 alike-filter_map f xs ys h p = any-of_filter_map p f xs ∙ h (λ x. some_passes p (f x)) ∙ sym (any-of_filter_map p f ys)
 
-pub alike-occurring : {T : Type 0} (G H : List (Triple T)) → AnswersAlike G H → AnswersAlike (occurring G) (occurring H)
+pub alike-occurring : {T : Type 0} (G H : List (Triple T)) → AreAlike G H → AreAlike (occurring G) (occurring H)
 alike-occurring G H h p = any-of_occurring p G ∙ h (λ g. p g.s || (p g.p || p g.o)) ∙ sym (any-of_occurring p H)
 
 module _ {X : Type 0} (same : X → X → Bool) (decides : (x y : X) → Decides (same x y) (x ≡ y)) where
   -- lists that are the same set are the same multiset without their repeats
-  pub without_repeats-alike : (xs ys : List X) → AnswersAlike xs ys → IsSameBag (without_repeats same xs) (without_repeats same ys)
+  pub without_repeats-alike : (xs ys : List X) → AreAlike xs ys → IsSameBag (without_repeats same xs) (without_repeats same ys)
   without_repeats-alike xs ys h = permutation_from_counts same decides (without_repeats same xs) (without_repeats same ys)
       (λ x. count_by-without_repeats same decides x xs ∙ ap (λ (b : Bool). cond b 1 0) (h (same x)) ∙ sym (count_by-without_repeats same decides x ys))
 
@@ -104,20 +104,20 @@ module _ {T : Type 0} (same : T → T → Bool) (decides : (x y : T) → Decides
       first true = any_choice z ts us h
       first false = refl
 
-  is_in-same : (w : ℕ) (P : List (TriplePattern T)) (G H : List (Triple T)) → AnswersAlike G H → (M : Solution T) → is_in same w P G M ≡ is_in same w P H M
+  is_in-same : (w : ℕ) (P : List (TriplePattern T)) (G H : List (Triple T)) → AreAlike G H → (M : Solution T) → is_in same w P G M ≡ is_in same w P H M
   is_in-same w [] G H h M = refl
   is_in-same w (t ∷ P) G H h M = λ i. h (takes_to same w M t) i && is_in-same w P G H h M i
 
   -- the solutions depend on which triples are in the graph, and on nothing else
-  pub bgp-alike : (w l : ℕ) (P : List (TriplePattern T)) (G H : List (Triple T)) → AnswersAlike G H → IsSameBag (bgp same w l P G) (bgp same w l P H)
+  pub bgp-alike : (w l : ℕ) (P : List (TriplePattern T)) (G H : List (Triple T)) → AreAlike G H → IsSameBag (bgp same w l P G) (bgp same w l P H)
   bgp-alike w l P G H h =
       let once = IsWithoutRepeats-without_repeats same in
       IsPermutation-map (take w) (filter (is_in same w P G) (every_map (occurs w P) (terms same G) (w + l))) (filter (is_in same w P H) (every_map (occurs w P) (terms same H) (w + l)))
       (permutation_from_counts (same_solution same) (solution_decides same decides) _ _
       (λ M.
-      let tell = λ (x : T). any-without_repeats_is same decides x (occurring G) ∙ alike-occurring G H h (same x) ∙ sym (any-without_repeats_is same decides x (occurring H)) in
+      let same_members = λ (x : T). any-without_repeats_is same decides x (occurring G) ∙ alike-occurring G H h (same x) ∙ sym (any-without_repeats_is same decides x (occurring H)) in
       count_by-filter same decides (is_in same w P G) M (every_map (occurs w P) (terms same G) (w + l))
       ∙ ap (λ c. cond (is_in same w P G M) c 0) (count_by-every_map same decides (terms same G) (once (occurring G)) (occurs w P) (w + l) M)
-      ∙ (λ i. cond (is_in-same w P G H h M i) (cond (in_maps-same (terms same G) (terms same H) tell (occurs w P) (w + l) M i) 1 0) 0)
+      ∙ (λ i. cond (is_in-same w P G H h M i) (cond (in_maps-same (terms same G) (terms same H) same_members (occurs w P) (w + l) M i) 1 0) 0)
       ∙ ap (λ c. cond (is_in same w P H M) c 0) (sym (count_by-every_map same decides (terms same H) (once (occurring H)) (occurs w P) (w + l) M))
       ∙ sym (count_by-filter same decides (is_in same w P H) M (every_map (occurs w P) (terms same H) (w + l)))))

@@ -11,6 +11,8 @@ pub data GraphName : Type 0 where
   each_graph : ℕ → GraphName
   one_graph : Term → GraphName
 
+-- the operators of sections 18.2 and 18.5, under the names of the standard; Table is the data of
+-- VALUES
 pub data Algebra : Type 0 where
   -- a basic graph pattern, with the count of its blank node labels
   Pattern : ℕ → List (TriplePattern Term) → Algebra
@@ -35,13 +37,16 @@ is_below w labels (variable v) = nat_lt v w
 is_below w labels (label l) = nat_lt l labels
 is_below w labels (constant t) = true
 
+-- the same of a triple pattern
 abbrev pub is_triple_below : ℕ → ℕ → TriplePattern Term → Bool
 is_triple_below w labels t = is_below w labels t.s && is_below w labels t.p && is_below w labels t.o
 
+-- the same of the name after GRAPH
 abbrev pub is_name_below : ℕ → GraphName → Bool
 is_name_below w (each_graph v) = nat_lt v w
 is_name_below w (one_graph t) = true
 
+-- the same of a whole expression
 abbrev pub is_within : ℕ → Algebra → Bool
 is_within w (Pattern labels P) = list_all (is_triple_below w labels) P
 is_within w (Join A B) = is_within w A && is_within w B

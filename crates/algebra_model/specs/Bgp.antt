@@ -12,6 +12,7 @@ pub record Triple (A : Type 0) : Type 0 where
   pub p : A
   pub o : A
 
+-- equal in each position
 abbrev pub same_triple_by : {A : Type 0} → (A → A → Bool) → Triple A → Triple A → Bool
 same_triple_by same g h = same g.s h.s && same g.p h.p && same g.o h.o
 
@@ -21,6 +22,7 @@ pub data PatternTerm (T : Type 0) : Type 0 where
   label : ℕ → PatternTerm T
   constant : T → PatternTerm T
 
+-- a triple pattern (section 18.1.5), with blank node labels apart from variables
 abbrev pub TriplePattern : Type 0 → Type 0
 TriplePattern T = Triple (PatternTerm T)
 
@@ -32,6 +34,7 @@ module _ {T : Type 0} (w : ℕ) where
   is_at (label l) k = (w + l) == k
   is_at (constant t) k = false
 
+  -- the triple pattern has the variable or label of place k
   abbrev pub mentions : TriplePattern T → ℕ → Bool
   mentions t k = is_at t.s k || is_at t.p k || is_at t.o k
 

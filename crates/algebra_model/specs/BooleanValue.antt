@@ -8,6 +8,7 @@ use Rattle.rdf_core.specs.declared.term.Term.TheVariants.{Blank, Iri, Literal}
 use Rattle.algebra_model.specs.Number.{is_zero}
 use Rattle.algebra_model.specs.LiteralValue.{LiteralValue, number, boolean, string, other, literal_value, is_number_type}
 
+-- a string is true if it is not empty
 abbrev pub has_characters : List ℕ → Bool
 has_characters [] = false
 has_characters (c ∷ cs) = true
@@ -21,12 +22,14 @@ value_ebv (number x) datatype = Some (not (is_zero x))
 value_ebv other datatype =
     if bytes_eq datatype xsd_boolean || is_number_type datatype then Some false else None
 
+-- the effective boolean value of a term; IRIs and blank nodes have none
 abbrev pub ebv : Term → Option Bool
 ebv (Blank label) = None
 ebv (Iri text) = None
 ebv (Literal form datatype None) = value_ebv (literal_value form datatype) datatype
 ebv (Literal form datatype (Some tag)) = Some (has_characters form)
 
+-- `&&` with errors, as the table of section 17.2 has it
 abbrev pub logical_and : Option Bool → Option Bool → Option Bool
 logical_and (Some true) (Some true) = Some true
 logical_and (Some true) (Some false) = Some false
@@ -38,6 +41,7 @@ logical_and (Some false) None = Some false
 logical_and None (Some false) = Some false
 logical_and None None = None
 
+-- `||` with errors, as the table of section 17.2 has it
 abbrev pub logical_or : Option Bool → Option Bool → Option Bool
 logical_or (Some true) (Some true) = Some true
 logical_or (Some true) (Some false) = Some true
@@ -49,6 +53,7 @@ logical_or (Some false) None = None
 logical_or None (Some false) = None
 logical_or None None = None
 
+-- `!` with errors (section 17.3, fn:not)
 abbrev pub logical_not : Option Bool → Option Bool
 logical_not (Some true) = Some false
 logical_not (Some false) = Some true

@@ -4,6 +4,7 @@ use Rattle.rdf_core.specs.Vocabulary.{xsd_string, xsd_boolean}
 use Rattle.rdf_core.specs.declared.term.Term.{Term}
 use Rattle.rdf_core.specs.declared.term.Term.TheVariants.{Blank, Iri, Literal}
 
+-- STR, LANG, DATATYPE, isIRI, isBlank and isLiteral
 pub data Function : Type 0 where
   str : Function
   lang : Function
@@ -12,17 +13,21 @@ pub data Function : Type 0 where
   is_blank : Function
   is_literal : Function
 
+-- a simple literal
 abbrev pub string_term : List ℕ → Term
 string_term form = Literal form xsd_string None
 
+-- a literal of xsd:boolean
 abbrev pub boolean_term : Bool → Term
 boolean_term true = Literal (codes "true") xsd_boolean None
 boolean_term false = Literal (codes "false") xsd_boolean None
 
+-- LANG of a literal without a tag is the empty string (section 17.4.2.6)
 abbrev pub tag_text : Option (List ℕ) → List ℕ
 tag_text None = []
 tag_text (Some tag) = tag
 
+-- the value of the call (sections 17.4.2.1 to 17.4.2.7)
 abbrev pub call_value : Function → Term → Option Term
 call_value str (Literal form type tag) = Some (string_term form)
 call_value str (Iri text) = Some (string_term text)

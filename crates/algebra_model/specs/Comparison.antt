@@ -9,6 +9,7 @@ use Rattle.rdf_core.specs.Equality.{term_eq}
 use Rattle.algebra_model.specs.Number.{number_cmp}
 use Rattle.algebra_model.specs.LiteralValue.{LiteralValue, number, boolean, string, other, literal_value}
 
+-- = != < > <= >=, of [114] RelationalExpression
 pub data Comparison : Type 0 where
   equal : Comparison
   not_equal : Comparison
@@ -17,6 +18,7 @@ pub data Comparison : Type 0 where
   less_or_equal : Comparison
   greater_or_equal : Comparison
 
+-- the value of a term; only literals without a language tag have one
 abbrev pub value_of : Term → LiteralValue
 value_of (Blank label) = other
 value_of (Iri text) = other
@@ -31,6 +33,7 @@ value_cmp (string x) (string y) = Some (slice_cmp nat_cmp x y)
 value_cmp (boolean x) (boolean y) = Some (bool_cmp x y)
 value_cmp _ _ = None
 
+-- a literal of any datatype
 abbrev pub is_literal : Term → Bool
 is_literal (Blank label) = false
 is_literal (Iri text) = false
@@ -42,13 +45,16 @@ abbrev pub terms_equal : Term → Term → Option Bool
 terms_equal a b =
     if term_eq a b then Some true else if is_literal a && is_literal b then None else Some false
 
+-- equality by value if both terms have an order, and RDFterm-equal otherwise
 abbrev pub equal_by : Option Ordering → Term → Term → Option Bool
 equal_by (Some order) a b = Some (is_eq order)
 equal_by None a b = terms_equal a b
 
+-- `=` on two terms (section 17.3)
 abbrev pub equals : Term → Term → Option Bool
 equals a b = equal_by (value_cmp (value_of a) (value_of b)) a b
 
+-- the operators of section 17.3; an order exists only between two values of one kind
 abbrev pub compares : Comparison → Term → Term → Option Bool
 compares equal a b = equals a b
 compares not_equal a b = option_map not (equals a b)

@@ -9,6 +9,7 @@ use Rattle.rdf_core.specs.Equality.{term_eq}
 use Rattle.algebra_model.specs.Bag.{without_repeats}
 use Rattle.algebra_model.specs.Bgp.{Triple}
 
+-- the quad without its graph name
 abbrev pub triple_of : QuadParts → Triple Term
 triple_of q = record { s = q.s; p = q.p; o = q.o }
 

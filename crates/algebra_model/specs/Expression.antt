@@ -9,6 +9,7 @@ use Rattle.algebra_model.specs.BooleanValue.{ebv, logical_and, logical_or, logic
 use Rattle.algebra_model.specs.Call.{Function, call_value, boolean_term}
 use Rattle.algebra_model.specs.Comparison.{Comparison, equal, compares}
 
+-- the expressions of [110] Expression that this project evaluates
 pub data Expression : Type 0 where
   -- a variable by its number, and a term
   variable : ℕ → Expression
@@ -35,17 +36,21 @@ abbrev pub with_value : {X : Type 0} → Option Term → (Term → Option X) →
 with_value None f = None
 with_value (Some t) f = f t
 
+-- the same of two terms
 abbrev pub with_values : {X : Type 0} → Option Term → Option Term → (Term → Term → Option X) → Option X
 with_values None t f = None
 with_values (Some s) None f = None
 with_values (Some s) (Some t) f = f s t
 
+-- the effective boolean value of an operand, which may be an error
 abbrev pub truth_of : Option Term → Option Bool
 truth_of value = with_value value ebv
 
+-- a truth value as a term
 abbrev pub boolean_result : Option Bool → Option Term
 boolean_result = option_map boolean_term
 
+-- the value of an expression under a solution (section 17.2)
 abbrev pub val : Expression → Solution Term → Option Term
 val (variable v) μ = get_or μ v None
 val (constant t) μ = Some t
@@ -62,5 +67,6 @@ abbrev pub is_true : Option Bool → Bool
 is_true (Some b) = b
 is_true None = false
 
+-- the solution passes a filter with this expression
 abbrev pub holds : Expression → Solution Term → Bool
 holds e μ = is_true (truth_of (val e μ))

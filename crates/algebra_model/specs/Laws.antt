@@ -59,34 +59,44 @@ DatasetIsSet = (w : ℕ) (D E : List QuadParts)
 abbrev pub KeepsBags : (List Row → List Row) → Type 0
 KeepsBags F = (A A' : List Row) → IsSameBag A A' → IsSameBag (F A) (F A')
 
+-- the same of an operator on two multisets
 abbrev pub KeepsBagsOfTwo : (List Row → List Row → List Row) → Type 0
 KeepsBagsOfTwo F = (A A' B B' : List Row)
     → IsSameBag A A' → IsSameBag B B' → IsSameBag (F A B) (F A' B')
 
+-- Join keeps equal multisets
 abbrev pub JoinKeepsBags : Type 0
 JoinKeepsBags = KeepsBagsOfTwo (join term_eq)
 
+-- LeftJoin keeps equal multisets, whatever its condition is
 abbrev pub LeftJoinKeepsBags : Type 0
 LeftJoinKeepsBags = (keeps : Row → Bool) → KeepsBagsOfTwo (left_join term_eq keeps)
 
+-- Minus keeps equal multisets
 abbrev pub MinusKeepsBags : Type 0
 MinusKeepsBags = KeepsBagsOfTwo (minus term_eq)
 
+-- Union keeps equal multisets
 abbrev pub UnionKeepsBags : Type 0
 UnionKeepsBags = KeepsBagsOfTwo (λ A B. A ++ B)
 
+-- Filter keeps equal multisets, whatever its condition is
 abbrev pub FilterKeepsBags : Type 0
 FilterKeepsBags = (keeps : Row → Bool) → KeepsBags (filter keeps)
 
+-- Extend keeps equal multisets, whatever its expression is
 abbrev pub ExtendKeepsBags : Type 0
 ExtendKeepsBags = (v : ℕ) (value : Row → Option Term) → KeepsBags (extend v value)
 
+-- Project keeps equal multisets
 abbrev pub ProjectKeepsBags : Type 0
 ProjectKeepsBags = (vs : List ℕ) → KeepsBags (project vs)
 
+-- Distinct keeps equal multisets
 abbrev pub DistinctKeepsBags : Type 0
 DistinctKeepsBags = KeepsBags (distinct term_eq)
 
+-- The solutions of VALUES depend only on the multiset of its rows.
 abbrev pub TableKeepsBags : Type 0
 TableKeepsBags = (w : ℕ) (vs : List ℕ) → KeepsBags (table w vs)
 
@@ -94,6 +104,7 @@ TableKeepsBags = (w : ℕ) (vs : List ℕ) → KeepsBags (table w vs)
 abbrev pub IsReading : ℕ → (ℕ → Term) → Type 0
 IsReading n f = (x y : ℕ) → x < n → y < n → f x ≡ f y → x ≡ y
 
+-- Each number that a solution binds is below n.
 abbrev pub AreInRange : ℕ → List (Solution ℕ) → Type 0
 AreInRange n A = Each (EachBound (λ x. x < n)) A
 
@@ -113,6 +124,7 @@ PatternIsRead = (n : ℕ) (f : ℕ → Term)
     → IsSameBag (read f (bgp nat_eq w l P G))
     (bgp term_eq w l (map (read_pattern f) P) (map (read_triple f) G))
 
+-- Join of numbered solutions
 abbrev pub JoinIsRead : Type 0
 JoinIsRead = (n : ℕ) (f : ℕ → Term)
     → IsReading n f
@@ -121,6 +133,7 @@ JoinIsRead = (n : ℕ) (f : ℕ → Term)
     → AreInRange n B
     → IsSameBag (read f (join nat_eq A B)) (join term_eq (read f A) (read f B))
 
+-- LeftJoin of numbered solutions; the condition is that of the solutions that are read
 abbrev pub LeftJoinIsRead : Type 0
 LeftJoinIsRead = (n : ℕ) (f : ℕ → Term)
     → IsReading n f
@@ -130,6 +143,7 @@ LeftJoinIsRead = (n : ℕ) (f : ℕ → Term)
     → IsSameBag (read f (left_join nat_eq (λ μ. keeps (read_row f μ)) A B))
     (left_join term_eq keeps (read f A) (read f B))
 
+-- Minus of numbered solutions
 abbrev pub MinusIsRead : Type 0
 MinusIsRead = (n : ℕ) (f : ℕ → Term)
     → IsReading n f
@@ -138,10 +152,12 @@ MinusIsRead = (n : ℕ) (f : ℕ → Term)
     → AreInRange n B
     → IsSameBag (read f (minus nat_eq A B)) (minus term_eq (read f A) (read f B))
 
+-- Union of numbered solutions
 abbrev pub UnionIsRead : Type 0
 UnionIsRead = (f : ℕ → Term) (A B : List (Solution ℕ))
     → IsSameBag (read f (A ++ B)) (read f A ++ read f B)
 
+-- Filter of numbered solutions; the condition is that of the solutions that are read
 abbrev pub FilterIsRead : Type 0
 FilterIsRead = (f : ℕ → Term) (keeps : Row → Bool) (A : List (Solution ℕ))
     → IsSameBag (read f (filter (λ μ. keeps (read_row f μ)) A)) (filter keeps (read f A))
@@ -154,10 +170,12 @@ ExtendIsRead = (f : ℕ → Term) (number : Solution ℕ → Option ℕ) (value 
     → Each (λ μ. value (read_row f μ) ≡ option_map f (number μ)) A
     → IsSameBag (read f (extend v number A)) (extend v value (read f A))
 
+-- Project of numbered solutions
 abbrev pub ProjectIsRead : Type 0
 ProjectIsRead = (f : ℕ → Term) (vs : List ℕ) (A : List (Solution ℕ))
     → IsSameBag (read f (project vs A)) (project vs (read f A))
 
+-- Distinct of numbered solutions
 abbrev pub DistinctIsRead : Type 0
 DistinctIsRead = (n : ℕ) (f : ℕ → Term)
     → IsReading n f
@@ -165,13 +183,14 @@ DistinctIsRead = (n : ℕ) (f : ℕ → Term)
     → AreInRange n A
     → IsSameBag (read f (distinct nat_eq A)) (distinct term_eq (read f A))
 
+-- the rows of VALUES, as numbers
 abbrev pub TableIsRead : Type 0
 TableIsRead = (f : ℕ → Term) (w : ℕ) (vs : List ℕ) (rows : List (List (Option ℕ)))
     → IsSameBag (read f (table w vs rows)) (table w vs (read f rows))
 
 -- LeftJoin may be evaluated solution by solution.
-abbrev pub LeftJoinGoesByRow : Type 0
-LeftJoinGoesByRow = (keeps : Row → Bool) (A B : List Row)
+abbrev pub LeftJoinByRow : Type 0
+LeftJoinByRow = (keeps : Row → Bool) (A B : List Row)
     → IsSameBag (flat_map (left_row term_eq keeps B) A) (left_join term_eq keeps A B)
 
 -- A function of solutions, applied to the pieces of a list and concatenated, is the function
@@ -203,6 +222,7 @@ TiesAreEqual = (vs : List ℕ) (μ ν : Row) → row_cmp vs μ ν ≡ Equal → 
 abbrev pub SortedIsBag : Type 0
 SortedIsBag = (vs : List ℕ) (A : List Row) → IsSameBag (map (cells vs) A) (sorted_rows vs A)
 
+-- No row is before its predecessor in the order of rows.
 abbrev pub SortedIsRising : Type 0
 SortedIsRising = (vs : List ℕ) (A : List Row) → IsRising cells_cmp (sorted_rows vs A)
 

@@ -6,6 +6,7 @@ use Rattle.std.specs.Str.{bytes_eq}
 use Rattle.rdf_core.specs.Vocabulary.{xsd, xsd_string, xsd_boolean, xsd_decimal}
 use Rattle.algebra_model.specs.Number.{Number, decimal_number, integer_number}
 
+-- the values that comparisons and effective boolean values distinguish
 pub data LiteralValue : Type 0 where
   number : Number → LiteralValue
   boolean : Bool → LiteralValue
@@ -21,12 +22,15 @@ integer_types =
     ∷ xsd (codes "nonNegativeInteger") ∷ xsd (codes "unsignedLong") ∷ xsd (codes "unsignedInt")
     ∷ xsd (codes "unsignedShort") ∷ xsd (codes "unsignedByte") ∷ xsd (codes "positiveInteger") ∷ []
 
+-- xsd:integer, or derived from it
 abbrev pub is_integer_type : List ℕ → Bool
 is_integer_type datatype = list_any (bytes_eq datatype) integer_types
 
+-- xsd:decimal, xsd:integer, or derived from xsd:integer
 abbrev pub is_number_type : List ℕ → Bool
 is_number_type datatype = bytes_eq datatype xsd_decimal || is_integer_type datatype
 
+-- an ill-typed number has no value
 abbrev pub number_or_other : Option Number → LiteralValue
 number_or_other None = other
 number_or_other (Some x) = number x
@@ -38,6 +42,7 @@ boolean_value form =
     else if bytes_eq form (codes "false") || bytes_eq form (codes "0") then boolean false
     else other
 
+-- the value of a lexical form of this datatype
 abbrev pub literal_value : List ℕ → List ℕ → LiteralValue
 literal_value form datatype =
     if bytes_eq datatype xsd_string then string form

@@ -8,12 +8,15 @@ use Rattle.std.specs.Ordering.{int_cmp}
 use Rattle.std.specs.Str.Parse.{digits_value}
 use Rattle.std.specs.declared.cmp.Ordering.{Ordering}
 
+-- the plus sign, #x2B
 abbrev pub plus : ℕ
 plus = 43
 
+-- the minus sign, #x2D
 abbrev pub minus : ℕ
 minus = 45
 
+-- the decimal point, #x2E
 abbrev pub dot : ℕ
 dot = 46
 
@@ -28,6 +31,7 @@ abbrev pub is_negative : List ℕ → Bool
 is_negative [] = false
 is_negative (c ∷ cs) = c == minus
 
+-- the text without its sign
 abbrev pub unsigned : List ℕ → List ℕ
 unsigned [] = []
 unsigned (c ∷ cs) = if c == plus || c == minus then cs else c ∷ cs
@@ -41,9 +45,11 @@ is_numeral (c ∷ cs) = list_all is_ascii_digit (c ∷ cs)
 abbrev pub is_dot : ℕ → Bool
 is_dot c = c == dot
 
+-- the text before the first dot, or the whole text if it has none
 abbrev pub whole_part : List ℕ → List ℕ
 whole_part text = before_first is_dot text
 
+-- the text after the first dot
 abbrev pub fraction_part : List ℕ → List ℕ
 fraction_part text = drop (position_or_len is_dot text + 1) text
 
@@ -68,6 +74,7 @@ abbrev pub decimal_number : List ℕ → Option Number
 decimal_number form =
     number_of_parts (is_negative form) (whole_part (unsigned form)) (fraction_part (unsigned form))
 
+-- the value 0, in any form and with any sign
 abbrev pub is_zero : Number → Bool
 is_zero x = x.digits == 0
 

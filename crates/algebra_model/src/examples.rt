@@ -4,7 +4,7 @@ ghost use Rattle.algebra_model.specs.Examples.{LabelsCount, DistinctTakesOne, Mi
 /// Proves that the definitions give the expected results where a mistake is likely. The examples
 /// are repeats that blank node labels make, MINUS without a shared variable, unbound variables in a
 /// join, the names of graphs, and UNDEF.
-pub fn the_definitions_answer_as_expected()
+pub fn the_definitions_give_the_expected_values()
     ensures labels { LabelsCount }
     ensures distinct { DistinctTakesOne }
     ensures minus { MinusNeedsSharing }

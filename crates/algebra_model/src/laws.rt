@@ -1,5 +1,5 @@
 //! Laws of the algebra. A law is the contract of a function without effect.
-ghost use Rattle.algebra_model.specs.Laws.{BagIsItsCounts, BuiltIsTried, PatternHasNoOrder, ScanIsEnough, DatasetIsSet, JoinKeepsBags, LeftJoinKeepsBags, MinusKeepsBags, UnionKeepsBags, FilterKeepsBags, ExtendKeepsBags, ProjectKeepsBags, DistinctKeepsBags, TableKeepsBags, JoinIsRead, LeftJoinIsRead, MinusIsRead, UnionIsRead, FilterIsRead, ExtendIsRead, ProjectIsRead, DistinctIsRead, TableIsRead, PatternIsRead, LeftJoinGoesByRow, KeysApart, CandidatesSuffice, PiecesJoin, TiesAreEqual, SortedIsBag, SortedIsRising, SortedIsUnique, BagHasOneList};
+ghost use Rattle.algebra_model.specs.Laws.{BagIsItsCounts, BuiltIsTried, PatternHasNoOrder, ScanIsEnough, DatasetIsSet, JoinKeepsBags, LeftJoinKeepsBags, MinusKeepsBags, UnionKeepsBags, FilterKeepsBags, ExtendKeepsBags, ProjectKeepsBags, DistinctKeepsBags, TableKeepsBags, JoinIsRead, LeftJoinIsRead, MinusIsRead, UnionIsRead, FilterIsRead, ExtendIsRead, ProjectIsRead, DistinctIsRead, TableIsRead, PatternIsRead, LeftJoinByRow, KeysApart, CandidatesSuffice, PiecesJoin, TiesAreEqual, SortedIsBag, SortedIsRising, SortedIsUnique, BagHasOneList};
 
 /// Proves that two lists are the same multiset exactly if each solution is counted equally in both.
 pub fn a_bag_is_its_counts()
@@ -31,7 +31,7 @@ pub fn a_pattern_is_solved_by_scans()
 /// Proves that the result of any algebra expression depends on which quads a dataset has, and not
 /// on their order or repeats.
 pub fn a_dataset_is_a_set()
-    ensures answers { DatasetIsSet }
+    ensures same_results { DatasetIsSet }
 {}
 
 /// Proves that operators commute with a reading of numbers as terms, if distinct numbers represent
@@ -40,7 +40,7 @@ pub fn a_dataset_is_a_set()
 ///
 /// Union, Filter, Extend, Project and a table compare no terms, so distinct numbers may represent
 /// one term. Extend needs the number of a value only for the solutions that it is given.
-pub fn numbers_stand_for_terms()
+pub fn numbers_denote_terms()
     ensures pattern { PatternIsRead }
     ensures join { JoinIsRead }
     ensures left_join { LeftJoinIsRead }
@@ -56,7 +56,7 @@ pub fn numbers_stand_for_terms()
 /// Proves that LeftJoin may be evaluated solution by solution. An operator that works solution by
 /// solution may be evaluated on the pieces of a list.
 pub fn solutions_may_be_taken_apart()
-    ensures left_join { LeftJoinGoesByRow }
+    ensures left_join { LeftJoinByRow }
     ensures pieces { PiecesJoin }
 {}
 

@@ -7,17 +7,17 @@ use Rattle.nquads_core.specs.Pieces.{HaveStatements, IsFirstMalformed}
 use Rattle.nquads_core.proofs.LineEnds.{lines_join}
 use Rattle.dataset_load.specs.Lines.{AreWholeLines, all_lines, joined}
 
-pub spell-append : (xs ys : List (List ℕ)) (qs rs : List QuadParts) → HaveStatements xs qs → HaveStatements ys rs → HaveStatements (xs ++ ys) (qs ++ rs)
-spell-append [] ys qs rs a b = subst (λ (q : List QuadParts). HaveStatements ys (q ++ rs)) (sym a) b
-spell-append (x ∷ xs) ys qs rs a b =
-    (a.0, a.1 ++ rs, a.2, ap (λ (q : List QuadParts). q ++ rs) a.3 ∙ append_assoc (option_to_list a.0) a.1 rs, spell-append xs ys a.1 rs a.4 b)
+pub statements-append : (xs ys : List (List ℕ)) (qs rs : List QuadParts) → HaveStatements xs qs → HaveStatements ys rs → HaveStatements (xs ++ ys) (qs ++ rs)
+statements-append [] ys qs rs a b = subst (λ (q : List QuadParts). HaveStatements ys (q ++ rs)) (sym a) b
+statements-append (x ∷ xs) ys qs rs a b =
+    (a.0, a.1 ++ rs, a.2, ap (λ (q : List QuadParts). q ++ rs) a.3 ∙ append_assoc (option_to_list a.0) a.1 rs, statements-append xs ys a.1 rs a.4 b)
 
 -- the first malformed line of what follows valid lines
-pub bad_behind : (xs ys : List (List ℕ)) (qs : List QuadParts) (k : ℕ) → HaveStatements xs qs → IsFirstMalformed ys k → IsFirstMalformed (xs ++ ys) (length xs + k)
-bad_behind [] ys qs k a b = let e : k ≡ 0 + k = omega arith in subst (λ (n : ℕ). IsFirstMalformed ys n) e b
-bad_behind (x ∷ xs) ys qs k a b =
+pub malformed_after : (xs ys : List (List ℕ)) (qs : List QuadParts) (k : ℕ) → HaveStatements xs qs → IsFirstMalformed ys k → IsFirstMalformed (xs ++ ys) (length xs + k)
+malformed_after [] ys qs k a b = let e : k ≡ 0 + k = omega arith in subst (λ (n : ℕ). IsFirstMalformed ys n) e b
+malformed_after (x ∷ xs) ys qs k a b =
     let e : suc (length xs + k) ≡ suc (length xs) + k = omega arith in
-    subst (λ (n : ℕ). IsFirstMalformed (x ∷ (xs ++ ys)) n) e ((a.0, a.2), bad_behind xs ys a.1 k a.4 b)
+    subst (λ (n : ℕ). IsFirstMalformed (x ∷ (xs ++ ys)) n) e ((a.0, a.2), malformed_after xs ys a.1 k a.4 b)
 
 -- lines that follow do not matter
 pub bad_before : (xs ys : List (List ℕ)) (k : ℕ) → IsFirstMalformed xs k → IsFirstMalformed (xs ++ ys) k

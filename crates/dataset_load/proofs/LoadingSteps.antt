@@ -65,7 +65,7 @@ loaded ls dict numbered index read once =
     (alike-filter_map (λ (q : QuadParts). q.g) (quads_at dict index) read.quads (alike_from_set (quads_at dict index) read.quads same)) in
     record {
       quads = read.quads;
-      spelled = read.spelled;
+      statements = read.statements;
       terms = read.numbered.0;
       dataset = same;
       each_once = index_counts read.quads dict numbered index read.numbered once;

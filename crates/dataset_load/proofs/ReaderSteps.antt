@@ -93,13 +93,13 @@ read_all (Some xs) (Some ys) (Some zs) done kept kept' size h k e =
     h ∙ ap (λ bs. done ++ bs) k ∙ ap (λ bs. done ++ bs) (sym e)
 
 -- nothing follows a first piece that does not end with a line feed
-pub nothing_behind : (size : ℕ) (text rest : List ℕ) (block : Vec ℕ Global) → IsFirstPiece size text block.items rest
+pub nothing_after : (size : ℕ) (text rest : List ℕ) (block : Vec ℕ Global) → IsFirstPiece size text block.items rest
     → ¬ EndsWithLineFeed block.items → rest ≡ []
-nothing_behind size text rest block first unended =
+nothing_after size text rest block first unended =
     elim first.cut [
       | inl cut ↦ absurd (unended (whole_from_last block.items (omega (arith, cut.cut.inside.0))
           (sym (get_or_append_left block.items rest 0 (length block.items - 1) (omega (arith, cut.cut.inside.0)))
-          ∙ ap (λ bs. get_or bs (length block.items - 1) 0) (sym first.joined) ∙ cut.cut.behind)))
+          ∙ ap (λ bs. get_or bs (length block.items - 1) 0) (sym first.joined) ∙ cut.cut.after_line_feed)))
       | inr last ↦ last.1
     ]
 
@@ -112,7 +112,7 @@ read_last (Some xs) None c done done' kept kept' size block h k e end unended = 
 read_last (Some xs) (Some ys) None done done' kept kept' size block h k e end unended = absurd k
 read_last (Some xs) (Some ys) (Some zs) done done' kept kept' size block h k e end unended =
     let text = h ∙ ap (λ bs. done ++ bs) k.1.joined ∙ sym (append_assoc done block.items (kept' ++ zs)) ∙ ap (λ bs. bs ++ (kept' ++ zs)) (sym e) in
-    text ∙ ap (λ bs. done' ++ bs) (nothing_behind size (kept ++ ys) (kept' ++ zs) block k.1 unended) ∙ ap (λ bs. done' ++ bs) (sym end)
+    text ∙ ap (λ bs. done' ++ bs) (nothing_after size (kept ++ ys) (kept' ++ zs) block k.1 unended) ∙ ap (λ bs. done' ++ bs) (sym end)
 
 -- of the two, the reader's end
 pub at_the_end : (left : Option (List ℕ)) (block : Vec ℕ Global) → IsWhole (Some block) ⊎ IsAtEnd left → ¬ EndsWithLineFeed block.items → IsAtEnd left
@@ -154,8 +154,8 @@ cut_step law None b c done done' kept kept' size block one h k e = tt
 cut_step law (Some xs) None c done done' kept kept' size block one h k e = absurd h
 cut_step law (Some xs) (Some ys) None done done' kept kept' size block one h k e = absurd k
 cut_step law (Some xs) (Some ys) (Some zs) done done' kept kept' size block one h k e = λ rest blocks.
-    let behind = h (block.items ∷ rest) (block_more law size (kept ++ ys) block.items (kept' ++ zs) rest one k.0 k.1 blocks) in
-    subst (λ (ps : List (List ℕ)). AreBlocksOf size xs ps) (sym (ap (λ (ps : List (List ℕ)). ps ++ rest) e ∙ append_assoc done (block.items ∷ []) rest)) behind
+    let following = h (block.items ∷ rest) (block_more law size (kept ++ ys) block.items (kept' ++ zs) rest one k.0 k.1 blocks) in
+    subst (λ (ps : List (List ℕ)). AreBlocksOf size xs ps) (sym (ap (λ (ps : List (List ℕ)). ps ++ rest) e ∙ append_assoc done (block.items ∷ []) rest)) following
 
 -- P of the text, where it is known
 pub cut_all : (a b c : Option (List ℕ)) (done : List (List ℕ)) (kept kept' : List ℕ) (size : ℕ)
@@ -174,6 +174,6 @@ cut_last law None b c done done' kept kept' size block one h k e end unended = t
 cut_last law (Some xs) None c done done' kept kept' size block one h k e end unended = absurd h
 cut_last law (Some xs) (Some ys) None done done' kept kept' size block one h k e end unended = absurd k
 cut_last law (Some xs) (Some ys) (Some zs) done done' kept kept' size block one h k e end unended =
-    let nothing : kept' ++ zs ≡ [] = nothing_behind size (kept ++ ys) (kept' ++ zs) block k.1 unended in
+    let nothing : kept' ++ zs ≡ [] = nothing_after size (kept ++ ys) (kept' ++ zs) block k.1 unended in
     let all = cut_step law (Some xs) (Some ys) (Some zs) done done' kept kept' size block one h k e [] (subst (λ (text : List ℕ). AreBlocksOf size text []) (sym nothing) (none_of_none size)) in
     subst (λ (ps : List (List ℕ)). AreBlocksOf size xs ps) (append-nil done') all

@@ -21,19 +21,19 @@ use Rattle.dataset_load.specs.Fault.{IfBadLine}
 use Rattle.dataset_load.specs.declared.numbered.Numbered.{Numbered}
 use Rattle.dataset_load.specs.declared.fault.LoadFault.{LoadFault}
 use Rattle.dataset_load.specs.declared.fault.LoadFault.TheVariants.{BadLine, WorkerRefused, Memory}
-use Rattle.dataset_load.proofs.LineLaws.{spell-append, bad_behind, bad_before}
+use Rattle.dataset_load.proofs.LineLaws.{statements-append, malformed_after, bad_before}
 
 -- the quads of the pieces of a round, that each was looked up, and how many lines they have
 pub record AreRead (dict : List Term) (ps : List (List ℕ)) (reads : List ReadPiece) : Type 0 where
   pub each : List (List QuadParts)
-  pub spelled : HaveStatements (all_lines ps) (numbering.joined each)
+  pub statements : HaveStatements (all_lines ps) (numbering.joined each)
   pub looked_up : AreLookedUp dict each reads
   pub count : line_total reads ≡ length (all_lines ps)
 
 pub pieces_read : (dict : List Term) (ps : List (List ℕ)) (reads : List ReadPiece) → length reads ≡ length ps
     → ((i : ℕ) (d : ReadPiece) → i < length ps → IsReadPiece dict (slice_index_or ps i []) (slice_index_or reads i d))
     → AreRead dict ps reads
-pieces_read dict [] [] e h = record { each = []; spelled = refl; looked_up = tt; count = refl }
+pieces_read dict [] [] e h = record { each = []; statements = refl; looked_up = tt; count = refl }
 pieces_read dict [] (o ∷ os) e h = absurd (omega arith)
 pieces_read dict (p ∷ ps) [] e h = absurd (omega arith)
 pieces_read dict (p ∷ ps) (o ∷ os) e h =
@@ -41,7 +41,7 @@ pieces_read dict (p ∷ ps) (o ∷ os) e h =
     let rest : AreRead dict ps os = pieces_read dict ps os (omega arith) (λ i d low. h (suc i) d (omega arith)) in
     record {
       each = first.quads ∷ rest.each;
-      spelled = spell-append (lines p) (all_lines ps) first.quads (numbering.joined rest.each) first.spelled rest.spelled;
+      statements = statements-append (lines p) (all_lines ps) first.quads (numbering.joined rest.each) first.statements rest.statements;
       looked_up = (first.looked_up, rest.looked_up);
       count = (λ i. first.count i + rest.count i) ∙ sym (length-append (lines p) (all_lines ps));
     }
@@ -60,7 +60,7 @@ bad_piece (x ∷ xs) (suc p) line low h b =
     let rest = bad_piece xs p line (omega arith) (λ i less. h (suc i) (omega arith)) b in
     let l = length-append (lines x) (all_lines (take p xs)) in
     let e : length (lines x) + (length (all_lines (take p xs)) + line) ≡ length (lines x ++ all_lines (take p xs)) + line = omega arith in
-    subst (λ (n : ℕ). IsFirstMalformed (lines x ++ all_lines xs) n) e (bad_behind (lines x) (all_lines xs) first.0 _ first.1 rest)
+    subst (λ (n : ℕ). IsFirstMalformed (lines x ++ all_lines xs) n) e (malformed_after (lines x) (all_lines xs) first.0 _ first.1 rest)
 
 -- ---- a round after lines that were read
 
@@ -71,7 +71,7 @@ pub round_numbered : (before : List (List ℕ)) (round : List (Bor (List ℕ))) 
     → AreNumbered (before ++ all_lines (texts round)) dict' numbered'
 round_numbered before round dict dict' numbered numbered' reads was r taken = record {
   quads = was.quads ++ numbering.joined r.each;
-  spelled = spell-append before (all_lines (texts round)) was.quads (numbering.joined r.each) was.spelled r.spelled;
+  statements = statements-append before (all_lines (texts round)) was.quads (numbering.joined r.each) was.statements r.statements;
   numbered = taken was.quads r.each was.numbered r.looked_up;
 }
 
@@ -89,14 +89,14 @@ pub round_bad : (before : List (List ℕ)) (round : List (Bor (List ℕ))) (dict
     → IsFirstMalformed (lines (text_at round p)) line
     → n ≡ count + (length (all_lines (texts (take p round))) + line + 1)
     → IsBadLine (before ++ all_lines (texts round)) n
-round_bad before round dict old numbered count p line n was counted low answered bad value =
+round_bad before round dict old numbered count p line n was counted low returned bad value =
     let now = λ (piece : Bor (List ℕ)). piece.now in
     let m : length (texts round) ≡ length round = length-map round now in
     let t : length (all_lines (texts (take p round))) ≡ length (all_lines (take p (texts round))) =
     ap (λ (ps : List (List ℕ)). length (all_lines ps)) (sym (take-map now p round)) in
-    let b = bad_piece (texts round) p line (omega arith) (λ i less. let a = answered i less in (a.1.quads, a.1.spelled)) bad in (
+    let b = bad_piece (texts round) p line (omega arith) (λ i less. let a = returned i less in (a.1.quads, a.1.statements)) bad in (
       length before + (length (all_lines (take p (texts round))) + line),
-      bad_behind before (all_lines (texts round)) was.quads _ was.spelled b,
+      malformed_after before (all_lines (texts round)) was.quads _ was.statements b,
       omega (arith, value, counted, t),
     )
 

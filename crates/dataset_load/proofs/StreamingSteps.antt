@@ -22,7 +22,7 @@ use Rattle.dataset_load.specs.Rounds.{HasRead}
 use Rattle.dataset_load.specs.ReaderFault.{IfBadLineRead, fault_of_load}
 use Rattle.dataset_load.specs.Streaming.{IsBadLineFrom, IsBadSoFar, IsLoadedFrom, IsReadFrom, IsReadIn, IsReadUpTo, TakesRest, TakesRound}
 use Rattle.dataset_load.proofs.LineLaws.{bad_before, lines_of_pieces}
-use Rattle.dataset_load.proofs.ReaderSteps.{nothing_behind, read_front, read_start, whole_all}
+use Rattle.dataset_load.proofs.ReaderSteps.{nothing_after, read_front, read_start, whole_all}
 
 -- ---- the bytes of a round
 
@@ -55,7 +55,7 @@ rest_last (Some xs) None c kept0 kept kept' done done' size block h k e end unen
 rest_last (Some xs) (Some ys) None kept0 kept kept' done done' size block h k e end unended = absurd k
 rest_last (Some xs) (Some ys) (Some zs) kept0 kept kept' done done' size block h k e end unended =
     round_step (Some xs) (Some ys) (Some zs) kept0 kept kept' done done' size block h k e
-    ∙ ap (λ bs. done' ++ bs) (nothing_behind size (kept ++ ys) (kept' ++ zs) block k.1 unended) ∙ ap (λ bs. done' ++ bs) (sym end)
+    ∙ ap (λ bs. done' ++ bs) (nothing_after size (kept ++ ys) (kept' ++ zs) block k.1 unended) ∙ ap (λ bs. done' ++ bs) (sym end)
 
 -- after what was read before
 pub in_round : (a b c : Option (List ℕ)) (done kept kept' bytes : List ℕ) → IsReadIn a b done kept → TakesRound b c kept kept' bytes → IsReadIn a c (done ++ bytes) kept'

@@ -11,6 +11,7 @@ use Rattle.piece_cuts.specs.Laws.{pieces_of}
 abbrev pub texts : List (Bor (List ℕ)) → List (List ℕ)
 texts pieces = map (λ piece. piece.now) pieces
 
+-- the bytes of owned blocks
 abbrev pub block_texts : List (Vec ℕ Global) → List (List ℕ)
 block_texts blocks = map (λ block. block.items) blocks
 

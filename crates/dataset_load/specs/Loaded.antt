@@ -16,7 +16,7 @@ use Rattle.dataset_load.specs.Store.{StoreView, names_in}
 -- the graph names in it are the names of the graphs, each once.
 pub record IsLoaded (lines : List (List ℕ)) (store : StoreView) : Type 0 where
   pub quads : List QuadParts
-  pub spelled : HaveStatements lines quads
+  pub statements : HaveStatements lines quads
   pub terms : store.dict ≡ first_appearances (terms_of quads)
   pub dataset : IsSameSet (quads_at store.dict store.index) quads
   pub each_once : IsPermutation (without_repeats same_parts quads) (quads_at store.dict store.index)

@@ -38,6 +38,7 @@ fault_of_load (loading.BadLine n) = BadLine n
 fault_of_load loading.WorkerRefused = WorkerRefused
 fault_of_load loading.Memory = Memory
 
+-- the fault of a read, under the same name
 abbrev pub fault_of_read : ReadFault → ReaderFault
 fault_of_read reading.Read = Read
 fault_of_read reading.Memory = Memory

@@ -1,4 +1,4 @@
--- Pieces that are read in parallel, and then added. Only private clauses cite these words.
+-- Pieces that are read in parallel, and then added. Only private clauses use these definitions.
 use Rattle.std.specs.Prelude.{◌≡◌, ℕ, zero, suc, ◌+◌, ◌<◌, ◌==◌, List, [], ◌∷◌, length, slice_index_or, IsSorted, IsPermutation, if◌then◌else◌}
 use Rattle.std.specs.List.{AllZip}
 use Rattle.rdf_core.specs.declared.term.Term.{Term}
@@ -20,7 +20,7 @@ use Rattle.dataset_load.specs.declared.read_piece.ReadPiece.{ReadPiece}
 -- counted
 pub record IsReadPiece (dict : List Term) (bytes : List ℕ) (read : ReadPiece) : Type 0 where
   pub quads : List QuadParts
-  pub spelled : HaveStatements (lines bytes) quads
+  pub statements : HaveStatements (lines bytes) quads
   pub looked_up : IsLookedUp dict quads read.seen
   pub count : read.lines ≡ length (lines bytes)
 
@@ -36,7 +36,7 @@ line_total (read ∷ reads) = read.lines + line_total reads
 -- the lines are valid, and their quads are numbered
 pub record AreNumbered (lines : List (List ℕ)) (dict : List Term) (numbers : List NumQuad) : Type 0 where
   pub quads : List QuadParts
-  pub spelled : HaveStatements lines quads
+  pub statements : HaveStatements lines quads
   pub numbered : IsNumbered quads dict numbers
 
 -- the quads of these lines are numbered, and the lines are counted

@@ -19,7 +19,7 @@ impl From<AllocError> for LoadFault {
 
     ghost from_gives = { λ _ fault. fault ≡ Memory };
 
-    fn from(_refused: AllocError) -> LoadFault {
+    fn from(_failed: AllocError) -> LoadFault {
         LoadFault::Memory
     }
 }
@@ -30,7 +30,7 @@ impl<T: Drop> From<AllocFailed<T>> for LoadFault {
 
     ghost from_gives = { λ _ fault. fault ≡ Memory };
 
-    fn from(_refused: AllocFailed<T>) -> LoadFault {
+    fn from(_failed: AllocFailed<T>) -> LoadFault {
         LoadFault::Memory
     }
 }
@@ -39,10 +39,10 @@ impl From<PoolFault> for LoadFault {
     ghost use Rattle.std.specs.Prelude.{◌≡◌};
     ghost use Rattle.dataset_load.specs.Fault.{load_fault_of};
 
-    ghost from_gives = { λ refused fault. fault ≡ load_fault_of refused };
+    ghost from_gives = { λ failed fault. fault ≡ load_fault_of failed };
 
-    fn from(refused: PoolFault) -> LoadFault {
-        match refused {
+    fn from(failed: PoolFault) -> LoadFault {
+        match failed {
             PoolFault::WorkerRefused => LoadFault::WorkerRefused,
             PoolFault::Memory => LoadFault::Memory,
         }

@@ -19,6 +19,8 @@
 //! `rounds` (all pieces), `sorting` (the lists of the index), `loading`, `reader` (blocks of a reader),
 //! `reader_fault`, `counted`, `streaming`.
 //!
+//! Tests: `documents`, `readers` and `refusals` of the crate loading_tests.
+//!
 //! ```text
 //! let cuts = Cuts::every(alloc, doc, 65536)?;
 //! let store = load(&rt, alloc, doc, &cuts, 4, &OpenGate)?;

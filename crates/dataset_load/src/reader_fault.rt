@@ -22,7 +22,7 @@ impl From<AllocError> for ReaderFault {
 
     ghost from_gives = { λ _ fault. fault ≡ Memory };
 
-    fn from(_refused: AllocError) -> ReaderFault {
+    fn from(_failed: AllocError) -> ReaderFault {
         ReaderFault::Memory
     }
 }
@@ -31,10 +31,10 @@ impl From<LoadFault> for ReaderFault {
     ghost use Rattle.std.specs.Prelude.{◌≡◌};
     ghost use Rattle.dataset_load.specs.ReaderFault.{fault_of_load};
 
-    ghost from_gives = { λ refused fault. fault ≡ fault_of_load refused };
+    ghost from_gives = { λ failed fault. fault ≡ fault_of_load failed };
 
-    fn from(refused: LoadFault) -> ReaderFault {
-        match refused {
+    fn from(failed: LoadFault) -> ReaderFault {
+        match failed {
             LoadFault::BadLine(line) => ReaderFault::BadLine(line),
             LoadFault::WorkerRefused => ReaderFault::WorkerRefused,
             LoadFault::Memory => ReaderFault::Memory,
@@ -46,10 +46,10 @@ impl From<ReadFault> for ReaderFault {
     ghost use Rattle.std.specs.Prelude.{◌≡◌};
     ghost use Rattle.dataset_load.specs.ReaderFault.{fault_of_read};
 
-    ghost from_gives = { λ refused fault. fault ≡ fault_of_read refused };
+    ghost from_gives = { λ failed fault. fault ≡ fault_of_read failed };
 
-    fn from(refused: ReadFault) -> ReaderFault {
-        match refused {
+    fn from(failed: ReadFault) -> ReaderFault {
+        match failed {
             ReadFault::Read => ReaderFault::Read,
             ReadFault::Memory => ReaderFault::Memory,
         }

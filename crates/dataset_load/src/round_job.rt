@@ -39,7 +39,7 @@ impl<'d> Job for Round<'d> {
         read_against(alloc, self.state, self.dict, piece_at(self.pieces, i))
     }
 
-    ghost exclusive = { λ job i out line read bad. not_both _ _ _ read.spelled bad };
+    ghost exclusive = { λ job i out line read bad. not_both _ _ _ read.statements bad };
 }
 
 /// The piece of this number, and no bytes after the last one.

@@ -56,19 +56,19 @@ same_bytes a b = pointwise nat_eq a.now b.now
 -- what an insertion into the set says
 pub kept_keys : (ks new : List (Bor (List ℕ))) (x : Bor (List ℕ)) (is_new : Bool)
     → is_new ≡ not (list_any (same_bytes x) ks) → is_new ≡ false → new ≡ insert_key same_bytes ks x → new ≡ ks
-kept_keys ks new x is_new told was keys = by (list_any (same_bytes x) ks) refl
+kept_keys ks new x is_new new_is was keys = by (list_any (same_bytes x) ks) refl
   where
     by : (b : Bool) → list_any (same_bytes x) ks ≡ b → new ≡ ks
     by true e = keys ∙ ap (λ b. if b then ks else ks ++ x ∷ []) e
-    by false e = absurd (true≢false (sym (told ∙ ap not e) ∙ was))
+    by false e = absurd (true≢false (sym (new_is ∙ ap not e) ∙ was))
 
 pub added_keys : (ks new : List (Bor (List ℕ))) (x : Bor (List ℕ)) (is_new : Bool)
     → is_new ≡ not (list_any (same_bytes x) ks) → is_new ≡ true → new ≡ insert_key same_bytes ks x → new ≡ ks ++ x ∷ []
-added_keys ks new x is_new told was keys = by (list_any (same_bytes x) ks) refl
+added_keys ks new x is_new new_is was keys = by (list_any (same_bytes x) ks) refl
   where
     by : (b : Bool) → list_any (same_bytes x) ks ≡ b → new ≡ ks ++ x ∷ []
     by false e = keys ∙ ap (λ b. if b then ks else ks ++ x ∷ []) e
-    by true e = absurd (true≢false (sym was ∙ told ∙ ap not e))
+    by true e = absurd (true≢false (sym was ∙ new_is ∙ ap not e))
 
 -- a slice that the set has is at a place that has a number
 pub within_numbers : (dict : List Term) (ks new : List (Bor (List ℕ))) (numbers : List ℕ) (at : ℕ) (k : Bor (List ℕ))

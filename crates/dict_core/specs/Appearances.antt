@@ -10,6 +10,7 @@ use Rattle.rdf_core.specs.Equality.{term_eq}
 abbrev pub terms_of_quad : QuadParts → List Term
 terms_of_quad q = q.s ∷ q.p ∷ q.o ∷ option_to_list q.g
 
+-- the terms of all quads, with repeats
 abbrev pub terms_of : List QuadParts → List Term
 terms_of quads = flat_map terms_of_quad quads
 

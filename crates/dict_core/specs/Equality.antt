@@ -4,5 +4,6 @@ use Rattle.std.specs.Prelude.{Bool}
 use Rattle.dict_core.specs.declared.num_quad.NumQuad.{NumQuad}
 use Rattle.dict_core.specs.contracts.num_quad.NumQuadPartialEq.TheImpl as equalities
 
+-- what `==` on quads of numbers computes
 abbrev pub quad_eq : NumQuad → NumQuad → Bool
 quad_eq = (equalities.ghosts).eq

@@ -1,5 +1,10 @@
 -- The hash function of the dictionaries: SipHash-1-3 (Aumasson and Bernstein, 2012), where each write is padded
--- to whole words. Only private clauses cite these words; no result depends on a hash.
+-- to whole words.
+--
+-- These definitions repeat the code step by step. They are not a specification that the code is measured
+-- against. The trait `Hasher` of the standard library requires a description of the state after each `write` and
+-- of the number that `finish` returns, for every byte, and the code is that description. No public clause cites
+-- them, and no result of the program depends on a hash, only its speed.
 use Rattle.std.specs.Prelude.{ℕ, zero, suc, ◌+◌, ◌-◌, ◌*◌, ◌/◌, ◌%◌, ◌^◌, ◌==◌, List, length, if◌then◌else◌, nat_le, nat_lt, slice_index, bit_or, bit_xor}
 use Rattle.std.specs.Int.{w64, rotate_left}
 use Rattle.dict_core.specs.declared.hashing.WordHasher.{WordHasher}

@@ -1,4 +1,4 @@
--- What single insertions do, one after the other. Only private clauses cite these words.
+-- What single insertions do, one after the other. Only private clauses use these definitions.
 use Rattle.std.specs.Prelude.{ℕ, List, [], ◌∷◌}
 use Rattle.std.specs.List.{position_or_len}
 use Rattle.indexmap.specs.IndexSet.{insert_key}

@@ -16,6 +16,7 @@ quad_at dict q = record {
   g = option_map (term_at dict) q.g;
 }
 
+-- the same for a list of quads
 abbrev pub quads_at : List Term → List NumQuad → List QuadParts
 quads_at dict quads = map (quad_at dict) quads
 
@@ -23,5 +24,6 @@ quads_at dict quads = map (quad_at dict) quads
 abbrev pub IsBelow : ℕ → NumQuad → Type 0
 IsBelow n q = (q.s < n) × (q.p < n) × (q.o < n) × ForSome q.g (λ g. g < n)
 
+-- the same for a list of quads
 abbrev pub AreBelow : ℕ → List NumQuad → Type 0
 AreBelow n quads = All (IsBelow n) quads

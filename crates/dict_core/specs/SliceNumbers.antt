@@ -1,4 +1,4 @@
--- Slices of a piece, and the numbers of the terms that they denote. Only private clauses cite these words.
+-- Slices of a piece, and the numbers of the terms that they denote. Only private clauses use these definitions.
 use Rattle.std.specs.Prelude.{◌≡◌, ℕ, List, length, slice_get, Some}
 use Rattle.std.specs.Borrow.{Bor}
 use Rattle.std.specs.List.{AllZip}

@@ -27,13 +27,13 @@ pub(crate) enum NamingFault {
 }
 
 impl From<AllocError> for NamingFault {
-    fn from(_refused: AllocError) -> NamingFault {
+    fn from(_failed: AllocError) -> NamingFault {
         NamingFault::Memory
     }
 }
 
 impl<T: Drop> From<AllocFailed<T>> for NamingFault {
-    fn from(_refused: AllocFailed<T>) -> NamingFault {
+    fn from(_failed: AllocFailed<T>) -> NamingFault {
         NamingFault::Memory
     }
 }

@@ -9,7 +9,7 @@ use crate::cases::{compare, is_empty};
 use crate::drawn::document;
 use crate::operators::Draws;
 use crate::patterns::{name_of, rows_in};
-use crate::printing::told_plain;
+use crate::printing::text_of_solutions;
 use crate::stores::{iri, store};
 use nquads_core::read_piece;
 use plain_eval::{graph, pattern};
@@ -57,7 +57,7 @@ fn plainly_over(
 ) -> Result<String, AllocError> {
     let active = graph(alloc, quads, name)?;
     let solutions = pattern(alloc, 2, 2, triples, &active)?;
-    told_plain(alloc, &solutions)
+    text_of_solutions(alloc, &solutions)
 }
 
 /// Prints the solutions of plain_eval.

@@ -6,7 +6,7 @@ ghost use Rattle.sparql_eval.specs.Evaluated.{AreKnown};
 
 use crate::cases::{Reader, are_right, check, is_empty};
 use crate::plans::plan_of;
-use crate::printing::{told, told_plain};
+use crate::printing::{text_of_rows, text_of_solutions};
 use crate::rows::{dict_of, rows_of, solutions_of};
 use crate::stores::iri;
 use crate::ways::{in_one_piece, row_by_row};
@@ -146,7 +146,7 @@ fn run<R: Threads + Wait, G: Gate + Sync>(
 }
 
 fn shown(alloc: Global, dict: &Dict, rows: &Rows, is_counted: bool) -> Result<String, AllocError> {
-    let text = told(alloc, dict, rows)?;
+    let text = text_of_rows(alloc, dict, rows)?;
     if is_counted {
         format!(in alloc; "{} terms, {text}", dict.len())
     } else {
@@ -155,7 +155,7 @@ fn shown(alloc: Global, dict: &Dict, rows: &Rows, is_counted: bool) -> Result<St
 }
 
 /// Prints the rows of an operator.
-fn answered<R: RandomSource + Threads + Wait, G: Gate + Sync>(
+fn printed_rows<R: RandomSource + Threads + Wait, G: Gate + Sync>(
     rt: &R,
     alloc: Global,
     task: Task<'_>,
@@ -181,7 +181,7 @@ fn met<R: RandomSource + Threads + Wait>(
     expression: &Expr,
 ) -> Result<String, EvalFault> {
     let gate = Meeting::new();
-    let text = answered(rt, alloc, task, expression, &row_by_row(), &gate, false)?;
+    let text = printed_rows(rt, alloc, task, expression, &row_by_row(), &gate, false)?;
     let word = if gate.is_met() { "met" } else { "not met" };
     Ok(format!(in alloc; "{word}, {text}")?)
 }
@@ -255,7 +255,7 @@ fn plainly_made(
     }
 }
 
-fn plainly_told(
+fn text_of_plain(
     alloc: Global,
     operator: Operator,
     expression: &Expr,
@@ -263,14 +263,14 @@ fn plainly_told(
     right: &[Solution],
 ) -> Result<String, AllocError> {
     let made = plainly_made(alloc, operator, expression, left, right)?;
-    told_plain(alloc, &made)
+    text_of_solutions(alloc, &made)
 }
 
 /// Prints the solutions of an operator of plain_eval.
 fn plainly(alloc: Global, task: Task<'_>, expression: &Expr) -> Result<String, AllocError> {
     let left = solutions_of(alloc, task.left)?;
     let right = solutions_of(alloc, task.right)?;
-    plainly_told(alloc, task.operator, expression, &left, &right)
+    text_of_plain(alloc, task.operator, expression, &left, &right)
 }
 
 /// Prints `same` if the operator has the rows of plain_eval, row by row and in one piece.
@@ -281,8 +281,8 @@ fn compared<R: RandomSource + Threads + Wait>(
     expression: &Expr,
 ) -> Result<String, EvalFault> {
     let plain = plainly(alloc, task, expression)?;
-    let cut = answered(rt, alloc, task, expression, &row_by_row(), &OpenGate, false)?;
-    let whole = answered(
+    let cut = printed_rows(rt, alloc, task, expression, &row_by_row(), &OpenGate, false)?;
+    let whole = printed_rows(
         rt,
         alloc,
         task,
@@ -328,7 +328,7 @@ fn called<R: RandomSource + Threads + Wait>(
 ) -> Result<String, EvalFault> {
     match (condition_of(plan), purpose) {
         (Some(it), Purpose::Answer) => {
-            answered(rt, alloc, task, it, &row_by_row(), &OpenGate, true)
+            printed_rows(rt, alloc, task, it, &row_by_row(), &OpenGate, true)
         }
         (Some(it), Purpose::Meet) => met(rt, alloc, task, it),
         (Some(it), Purpose::Compare) => compared(rt, alloc, task, it),
@@ -445,7 +445,7 @@ pub(crate) fn tabulated<R: RandomSource>(
     let rows = [cells(alloc)?];
     let dict = dict_of(alloc, state_of(rt)?)?;
     let (rows, dict) = table(alloc, dict, 2, &[1, 0, 1], &rows)?;
-    Ok(told(alloc, &dict, &rows)?)
+    Ok(text_of_rows(alloc, &dict, &rows)?)
 }
 
 /// A cell that is UNDEF binds nothing. If a variable is listed twice, its first place is used.

@@ -7,7 +7,7 @@ ghost use Rattle.dict_core.specs.NumQuad.{AreBelow};
 ghost use Rattle.sparql_algebra.specs.AlgebraOf.{triple_pattern_of};
 
 use crate::cases::{Reader, are_right};
-use crate::printing::told;
+use crate::printing::text_of_rows;
 use crate::stores::{DOCUMENT, iri, store};
 use crate::ways::row_by_row;
 use dict_core::Dict;
@@ -103,7 +103,7 @@ pub(crate) fn rows_in<R: Threads + Wait>(
         &row_by_row(),
         &OpenGate,
     )?;
-    Ok(told(alloc, &dict, &rows)?)
+    Ok(text_of_rows(alloc, &dict, &rows)?)
 }
 
 /// Prints the rows of a pattern in a graph: `a:p in a:g`.

@@ -7,7 +7,7 @@ ghost use Rattle.sparql_algebra.specs.AlgebraOf.{algebra_of, graph_name_of};
 
 use crate::cases::{Reader, are_right};
 use crate::operators::state_of;
-use crate::printing::{told, told_plain};
+use crate::printing::{text_of_rows, text_of_solutions};
 use crate::stores::{DOCUMENT, iri, store};
 use crate::ways::{COUNT, row_by_row, way};
 use dict_core::Dict;
@@ -38,7 +38,7 @@ fn evaluated_over<R: RandomSource + Threads + Wait>(
     requires how { IsRunnable how.now }
 {
     let (rows, dict) = evaluate(rt, alloc, dict, index, plan, how, &OpenGate)?;
-    Ok(told(alloc, &dict, &rows)?)
+    Ok(text_of_rows(alloc, &dict, &rows)?)
 }
 
 /// Prints the solutions of a plan over a document.
@@ -57,7 +57,7 @@ pub(crate) fn evaluated<R: RandomSource + Threads + Wait>(
 
 fn plainly_over(alloc: Global, quads: &[Quad], plan: &Plan) -> Result<String, AllocError> {
     let solutions = plain_eval::evaluate(alloc, plan.names.len(), quads, &None, &plan.tree)?;
-    told_plain(alloc, &solutions)
+    text_of_solutions(alloc, &solutions)
 }
 
 /// Prints the solutions of a plan according to plain_eval.
@@ -294,7 +294,7 @@ fn graph_over<R: RandomSource + Threads + Wait>(
         &row_by_row(),
         &OpenGate,
     )?;
-    Ok(told(alloc, &dict, &rows)?)
+    Ok(text_of_rows(alloc, &dict, &rows)?)
 }
 
 /// Prints the solutions of the empty pattern in a graph of the document, or in each, by the operator alone.
@@ -316,6 +316,6 @@ a:none => 0:
 ";
 
 #[test]
-fn graph_stands_by_itself(rt: HostRuntime) {
+fn graph_of_the_empty_pattern(rt: HostRuntime) {
     assert!(rt; are_right(&rt, rt.alloc(), Reader::Graph, ALONE));
 }

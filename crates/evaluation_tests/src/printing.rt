@@ -79,7 +79,7 @@ fn joined(alloc: Global, lines: &[String]) -> Result<String, AllocError> {
 }
 
 /// Prints rows of numbers, read through the dictionary.
-pub(crate) fn told(alloc: Global, dict: &Dict, rows: &Rows) -> Result<String, AllocError> {
+pub(crate) fn text_of_rows(alloc: Global, dict: &Dict, rows: &Rows) -> Result<String, AllocError> {
     let mut lines = Vec::new(alloc);
     for i in 0..rows.len() {
         lines.push(line_of_row(alloc, dict, rows.row(i))?)?;
@@ -89,7 +89,10 @@ pub(crate) fn told(alloc: Global, dict: &Dict, rows: &Rows) -> Result<String, Al
 }
 
 /// Prints solutions of terms.
-pub(crate) fn told_plain(alloc: Global, solutions: &[Solution]) -> Result<String, AllocError> {
+pub(crate) fn text_of_solutions(
+    alloc: Global,
+    solutions: &[Solution],
+) -> Result<String, AllocError> {
     let mut lines = Vec::new(alloc);
     for solution in solutions {
         lines.push(line_of_solution(alloc, solution)?)?;

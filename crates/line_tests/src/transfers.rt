@@ -116,7 +116,7 @@ fn one_read_appends_what_it_gives(rt: HostRuntime) {
 }
 
 #[test]
-fn a_reader_that_fails_is_told_apart_from_the_end(rt: HostRuntime) {
+fn a_reader_that_fails_differs_from_the_end(rt: HostRuntime) {
     let mut reader = SliceSource {
         rest: b"abcdef",
         chunk: 2,

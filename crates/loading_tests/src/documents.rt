@@ -146,7 +146,7 @@ fn has_parts(store: Store) -> bool {
 }
 
 #[test]
-fn a_store_lends_its_parts(rt: HostRuntime) {
+fn a_store_exposes_its_parts(rt: HostRuntime) {
     let Ok(store) = loaded(&rt, rt.alloc(), GRAPHS, 1, 2) else {
         panic!(rt; "not loaded");
     };

@@ -138,7 +138,7 @@ fn scans_give_what_agrees(rt: HostRuntime) {
 
 /// Each order alone: no graph comes first, then the positions of the name.
 #[test]
-fn lists_stand_in_their_orders(rt: HostRuntime) {
+fn lists_are_in_their_orders(rt: HostRuntime) {
     let alloc = rt.alloc();
     let quads = [
         quad(Some(0), 0, 0, 0),
@@ -147,7 +147,7 @@ fn lists_stand_in_their_orders(rt: HostRuntime) {
         quad(None, 3, 2, 1),
         quad(None, 1, 3, 2),
     ];
-    for (order, want) in [
+    for (order, expected) in [
         (
             SortOrder::Gspo,
             [
@@ -177,6 +177,6 @@ fn lists_stand_in_their_orders(rt: HostRuntime) {
         ),
     ] {
         let list = sorted_list(alloc, &quads, order).expect(&rt, "memory");
-        assert!(rt; list.as_slice() == want.as_slice());
+        assert!(rt; list.as_slice() == expected.as_slice());
     }
 }

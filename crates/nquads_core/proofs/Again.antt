@@ -24,11 +24,11 @@ use Rattle.nquads_core.specs.Terminal.{Terminal, iri_ref, blank_label, quoted, l
 use Rattle.nquads_core.specs.LineParser.{iri_at, string_at, terminal_at, skip_blanks, next, node_of, literal_of, object_of, graph_of, whole, is_end, statement_at, line_at}
 use Rattle.nquads_core.specs.Grammar.{HasStatement, Subject, iri_subject, blank_subject, Predicate, iri_predicate, GraphLabel, no_graph, iri_graph, blank_graph}
 use Rattle.rdf_core.specs.Vocabulary.{xsd_string, rdf_lang_string}
-use Rattle.nquads_core.specs.Laws.{IsNQuadsTerm, LinesReadBack, QuadsReadBack, ReadsBack, line_end, quad_line}
+use Rattle.nquads_core.specs.Laws.{IsNQuadsTerm, LinesRoundTrip, QuadsRoundTrip, TermsRoundTrip, line_end, quad_line}
 use Rattle.std.specs.Str.{bytes_eq}
 use Rattle.std.proofs.lemmas.Slice.Eq.{bytes_eq-Decides}
 use lib.Utf8.{scalar}
-use Rattle.nquads_core.proofs.Spelled.{GoodText, GoodIri, GoodLabel, GoodTag, GoodTerm, term_good, sc_join}
+use Rattle.nquads_core.proofs.GoodTerms.{GoodText, GoodIri, GoodLabel, GoodTag, GoodTerm, term_good, sc_join}
 use Rattle.rdf_core.proofs.EscapeSteps.{eqb_no}
 use Rattle.nquads_core.proofs.Runs.{ascii_cons, primary_ascii, alnum_ascii, alpha_ascii}
 use Rattle.rdf_core.proofs.EscapeSteps.{which}
@@ -560,10 +560,10 @@ one_line_of line cs e n = λ i l. (
   λ k. false_true (sym (NoCharPasses-byte is_line_end line i (cs, e, n) l (omega (arith, k))) ∙ ap is_line_end k),
 )
 
-line_spelled : (s : Term) (text : List ℕ) (o : Term) (g : Option Term) → IsNode s → GoodIri text → IsWritten o → IsLineEnd g
+line_statement : (s : Term) (text : List ℕ) (o : Term) (g : Option Term) → IsNode s → GoodIri text → IsWritten o → IsLineEnd g
     → HasStatement (quad_line (record { s = s; p = Iri text; o = o; g = g })) (Some (record { s = s; p = Iri text; o = o; g = g }))
 unfolding iri_node
-line_spelled s text o g a good c d =
+line_statement s text o g a good c d =
     let q : QuadParts = record { s = s; p = Iri text; o = o; g = g } in
     let b = iri_node text good in
     let S2 : List ℕ = c.form.S ++ 32 ∷ d.S in
@@ -591,15 +591,15 @@ line_spelled s text o g a good c d =
 good_of : (t : Term) → IsNQuadsTerm t → GoodTerm t
 good_of t h = term_good h.0 h.1 t h.2 h.3
 
-predicate_spelled : (s p o : Term) (g : Option Term) → IsNode s → is_iri p ≡ true → GoodTerm p → IsWritten o → IsLineEnd g
+node_statement : (s p o : Term) (g : Option Term) → IsNode s → is_iri p ≡ true → GoodTerm p → IsWritten o → IsLineEnd g
     → HasStatement (quad_line (record { s = s; p = p; o = o; g = g })) (Some (record { s = s; p = p; o = o; g = g }))
-predicate_spelled s (Iri text) o g a i good c d = line_spelled s text o g a good c d
-predicate_spelled s (Blank label) o g a i good c d = absurd cc
-predicate_spelled s (Literal lex dt tag) o g a i good c d = absurd cc
+node_statement s (Iri text) o g a i good c d = line_statement s text o g a good c d
+node_statement s (Blank label) o g a i good c d = absurd cc
+node_statement s (Literal lex dt tag) o g a i good c d = absurd cc
 
-pub quads_read_back : QuadsReadBack
-quads_read_back q h =
-    predicate_spelled q.s q.p q.o q.g (good_node q.s h.is_subject (good_of q.s h.subject)) h.is_predicate (good_of q.p h.predicate) (written q.o (good_of q.o h.object))
+pub quads_round_trip : QuadsRoundTrip
+quads_round_trip q h =
+    node_statement q.s q.p q.o q.g (good_node q.s h.is_subject (good_of q.s h.subject)) h.is_predicate (good_of q.p h.predicate) (written q.o (good_of q.o h.object))
     (line_end_of q.g h.is_graph (λ t e. good_of t (h.graph t e)))
 
 subject_node : {ks : List Terminal} {t : Term} → Subject ks t → is_node t ≡ true
@@ -614,8 +614,8 @@ graph_label no_graph = refl
 graph_label iri_graph = refl
 graph_label blank_graph = refl
 
-pub lines_read_back : LinesReadBack
-lines_read_back line q h = quads_read_back q (record {
+pub lines_round_trip : LinesRoundTrip
+lines_round_trip line q h = quads_round_trip q (record {
   subject = (line, q, h, inl refl);
   predicate = (line, q, h, inr (inl refl));
   object = (line, q, h, inr (inr (inl refl)));
@@ -628,6 +628,6 @@ lines_read_back line q h = quads_read_back q (record {
 a_iri : GoodIri (97 ∷ 58 ∷ [])
 a_iri = record { chars = 97 ∷ 58 ∷ []; scalars = refl; utf8 = sym (enc_cons 97 (58 ∷ []) (lit< tt) ∙ ap (λ (y : List ℕ). 97 ∷ y) (enc_cons 58 [] (lit< tt))); right = refl; scheme = refl }
 
-pub reads_back : ReadsBack
-reads_back line q t s o =
-    line_spelled (Iri (97 ∷ 58 ∷ [])) (97 ∷ 58 ∷ []) t None (iri_node (97 ∷ 58 ∷ []) a_iri) a_iri (written t (term_good line q t s o)) dot_end
+pub terms_round_trip : TermsRoundTrip
+terms_round_trip line q t s o =
+    line_statement (Iri (97 ∷ 58 ∷ [])) (97 ∷ 58 ∷ []) t None (iri_node (97 ∷ 58 ∷ []) a_iri) a_iri (written t (term_good line q t s o)) dot_end

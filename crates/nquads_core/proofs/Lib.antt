@@ -11,6 +11,6 @@ pub mod CutLaws
 pub mod SliceLaws
 pub mod SplitLaws
 pub mod TermReads
-pub mod Spelled
+pub mod GoodTerms
 pub mod Again
 pub mod TransferSteps

@@ -161,10 +161,10 @@ record ReadObject (k : Terminal) (cs : List ℕ) (x : Term × (Terminal × List 
   object : Object (k ∷ others) x.0
   mid : List ℕ
   run : Run cs others mid
-  behind : Begins mid x.1.0 x.1.1
+  remaining : Begins mid x.1.0 x.1.1
 
 alone : (k : Terminal) (t : Term) (w : Terminal × List ℕ) (cs : List ℕ) (x : Term × (Terminal × List ℕ)) → Object (k ∷ []) t → Begins cs w.0 w.1 → ◌≡◌ {A = Option (Term × (Terminal × List ℕ))} (Some (t, w)) (Some x) → ReadObject k cs x
-alone k t w cs x o b e = subst (λ (y : Term × (Terminal × List ℕ)). ReadObject k cs y) (same_Some (t, w) x e) (record { others = []; object = o; mid = cs; run = refl; behind = b })
+alone k t w cs x o b e = subst (λ (y : Term × (Terminal × List ℕ)). ReadObject k cs y) (same_Some (t, w) x e) (record { others = []; object = o; mid = cs; run = refl; remaining = b })
 
 literal_sound : (lexical : List ℕ) (w : Terminal × List ℕ) (cs : List ℕ) (x : Term × (Terminal × List ℕ)) → Begins cs w.0 w.1 → literal_of lexical w ≡ Some x → ReadObject (quoted lexical) cs x
 literal_sound lexical (carets, rest) cs x b e =
@@ -174,11 +174,11 @@ literal_sound lexical (carets, rest) cs x b e =
     let is = iri_is d.0.0 i.0 i.1 in
     let second : Begins rest (iri_ref i.0) d.0.1 = subst (λ (y : Terminal). Begins rest y d.0.1) is (next_sound rest d.0 d.1) in
     subst (λ (y : Term × (Terminal × List ℕ)). ReadObject (quoted lexical) cs y) (same_Some (Literal lexical i.0 None, w.0) x w.2)
-    (record { others = carets ∷ iri_ref i.0 ∷ []; object = typed_object; mid = d.0.1; run = (rest, b, (d.0.1, second, refl)); behind = next_sound d.0.1 w.0 w.1 })
+    (record { others = carets ∷ iri_ref i.0 ∷ []; object = typed_object; mid = d.0.1; run = (rest, b, (d.0.1, second, refl)); remaining = next_sound d.0.1 w.0 w.1 })
 literal_sound lexical (lang_tag tag, rest) cs x b e =
     let w = bind_some (next rest) _ x e in
     subst (λ (y : Term × (Terminal × List ℕ)). ReadObject (quoted lexical) cs y) (same_Some (Literal lexical rdf_lang_string (Some tag), w.0) x w.2)
-    (record { others = lang_tag tag ∷ []; object = tagged_object; mid = rest; run = (rest, b, refl); behind = next_sound rest w.0 w.1 })
+    (record { others = lang_tag tag ∷ []; object = tagged_object; mid = rest; run = (rest, b, refl); remaining = next_sound rest w.0 w.1 })
 literal_sound lexical (iri_ref text, rest) cs x b e = alone (quoted lexical) _ (iri_ref text, rest) cs x plain_object b e
 literal_sound lexical (blank_label label, rest) cs x b e = alone (quoted lexical) _ (blank_label label, rest) cs x plain_object b e
 literal_sound lexical (quoted other, rest) cs x b e = alone (quoted lexical) _ (quoted other, rest) cs x plain_object b e
@@ -242,7 +242,7 @@ statement_sound cs y e =
     let b7 = bind_some (object_of b5.0.0 b6.0) _ y b6.2 in
     let b8 = bind_some (graph_of b7.0.1) _ y b7.2 in
     let o = object_sound b5.0.0 b6.0 b5.0.1 b7.0 (next_sound b5.0.1 b6.0 b6.1) b7.1 in
-    let g = graph_sound b7.0.1 o.mid b8.0 o.behind b8.1 in
+    let g = graph_sound b7.0.1 o.mid b8.0 o.remaining b8.1 in
     let q : QuadParts = record { s = b2.0; p = Iri b4.0; o = b7.0.0; g = b8.0.0 } in
     let w = whole_some q b8.0.1 y b8.2 in
     let tail = run_then b5.0.1 o.others o.mid (g.label ++ dot ∷ []) o.run (run_end o.mid (g.label ++ dot ∷ []) b8.0.1 g.run (end_sound b8.0.1 w.0)) in
@@ -276,13 +276,13 @@ line_sound cs y e =
 -- ---- what is in the line is read
 
 -- not what goes on with a literal
-abbrev behind_object : Terminal → Bool
-behind_object (iri_ref text) = true
-behind_object (blank_label label) = true
-behind_object (quoted lexical) = true
-behind_object (lang_tag tag) = false
-behind_object carets = false
-behind_object dot = true
+abbrev after_object : Terminal → Bool
+after_object (iri_ref text) = true
+after_object (blank_label label) = true
+after_object (quoted lexical) = true
+after_object (lang_tag tag) = false
+after_object carets = false
+after_object dot = true
 
 record NodeAgain (cs : List ℕ) (t : Term) (more : List Terminal) : Type 0 where
   k : Terminal
@@ -313,11 +313,11 @@ record ObjectAgain (cs : List ℕ) (t : Term) (first : Terminal) (more : List Te
   w : Terminal × List ℕ
   is : next cs ≡ Some (k, rest)
   second : next rest ≡ Some w
-  behind : List ℕ
-  object : object_of k w ≡ Some (t, (first, behind))
-  splits : Splits behind more
+  remaining : List ℕ
+  object : object_of k w ≡ Some (t, (first, remaining))
+  splits : Splits remaining more
 
-plain_again : (lexical : List ℕ) (first : Terminal) (rest : List ℕ) → behind_object first ≡ true → literal_of lexical (first, rest) ≡ Some (Literal lexical xsd_string None, (first, rest))
+plain_again : (lexical : List ℕ) (first : Terminal) (rest : List ℕ) → after_object first ≡ true → literal_of lexical (first, rest) ≡ Some (Literal lexical xsd_string None, (first, rest))
 plain_again lexical (iri_ref text) rest h = refl
 plain_again lexical (blank_label label) rest h = refl
 plain_again lexical (quoted other) rest h = refl
@@ -325,13 +325,13 @@ plain_again lexical (lang_tag tag) rest h = absurd cc
 plain_again lexical carets rest h = absurd cc
 plain_again lexical dot rest h = refl
 
-object_again : {o : List Terminal} {t : Term} → Object o t → (cs : List ℕ) (first : Terminal) (more : List Terminal) → behind_object first ≡ true → Splits cs (o ++ first ∷ more) → ObjectAgain cs t first more
+object_again : {o : List Terminal} {t : Term} → Object o t → (cs : List ℕ) (first : Terminal) (more : List Terminal) → after_object first ≡ true → Splits cs (o ++ first ∷ more) → ObjectAgain cs t first more
 object_again (iri_object {text}) cs first more b h =
-    record { k = iri_ref text; rest = h.0; w = (first, h.2.0); is = next_again cs (iri_ref text) h.0 h.1; second = next_again h.0 first h.2.0 h.2.1; behind = h.2.0; object = refl; splits = h.2.2 }
+    record { k = iri_ref text; rest = h.0; w = (first, h.2.0); is = next_again cs (iri_ref text) h.0 h.1; second = next_again h.0 first h.2.0 h.2.1; remaining = h.2.0; object = refl; splits = h.2.2 }
 object_again (blank_object {label}) cs first more b h =
-    record { k = blank_label label; rest = h.0; w = (first, h.2.0); is = next_again cs (blank_label label) h.0 h.1; second = next_again h.0 first h.2.0 h.2.1; behind = h.2.0; object = refl; splits = h.2.2 }
+    record { k = blank_label label; rest = h.0; w = (first, h.2.0); is = next_again cs (blank_label label) h.0 h.1; second = next_again h.0 first h.2.0 h.2.1; remaining = h.2.0; object = refl; splits = h.2.2 }
 object_again (plain_object {lexical}) cs first more b h =
-    record { k = quoted lexical; rest = h.0; w = (first, h.2.0); is = next_again cs (quoted lexical) h.0 h.1; second = next_again h.0 first h.2.0 h.2.1; behind = h.2.0; object = plain_again lexical first h.2.0 b; splits = h.2.2 }
+    record { k = quoted lexical; rest = h.0; w = (first, h.2.0); is = next_again cs (quoted lexical) h.0 h.1; second = next_again h.0 first h.2.0 h.2.1; remaining = h.2.0; object = plain_again lexical first h.2.0 b; splits = h.2.2 }
 object_again (typed_object {lexical} {datatype}) cs first more b h =
     let third = h.2.2 in
     let fourth = third.2 in
@@ -341,7 +341,7 @@ object_again (typed_object {lexical} {datatype}) cs first more b h =
       w = (carets, h.2.0);
       is = next_again cs (quoted lexical) h.0 h.1;
       second = next_again h.0 carets h.2.0 h.2.1;
-      behind = fourth.0;
+      remaining = fourth.0;
       object = rw (next_again h.2.0 (iri_ref datatype) third.0 third.1) (rw (next_again third.0 first fourth.0 fourth.1) refl);
       splits = fourth.2;
     }
@@ -353,7 +353,7 @@ object_again (tagged_object {lexical} {tag}) cs first more b h =
       w = (lang_tag tag, h.2.0);
       is = next_again cs (quoted lexical) h.0 h.1;
       second = next_again h.0 (lang_tag tag) h.2.0 h.2.1;
-      behind = third.0;
+      remaining = third.0;
       object = rw (next_again h.2.0 first third.0 third.1) refl;
       splits = third.2;
     }
@@ -362,13 +362,13 @@ record GraphAgain (label : List Terminal) (g : Option Term) : Type 0 where
   first : Terminal
   more : List Terminal
   parts : label ++ dot ∷ [] ≡ first ∷ more
-  behind : behind_object first ≡ true
+  remaining : after_object first ≡ true
   again : (rest : List ℕ) → Splits rest more → (left : List ℕ) × (graph_of (first, rest) ≡ Some (g, left)) × IsEnd left
 
 graph_again : {label : List Terminal} {g : Option Term} → GraphLabel label g → GraphAgain label g
-graph_again no_graph = record { first = dot; more = []; parts = refl; behind = refl; again = λ rest h. (rest, refl, h) }
-graph_again (iri_graph {text}) = record { first = iri_ref text; more = dot ∷ []; parts = refl; behind = refl; again = λ rest h. (h.0, rw (next_again rest dot h.0 h.1) refl, h.2) }
-graph_again (blank_graph {label}) = record { first = blank_label label; more = dot ∷ []; parts = refl; behind = refl; again = λ rest h. (h.0, rw (next_again rest dot h.0 h.1) refl, h.2) }
+graph_again no_graph = record { first = dot; more = []; parts = refl; remaining = refl; again = λ rest h. (rest, refl, h) }
+graph_again (iri_graph {text}) = record { first = iri_ref text; more = dot ∷ []; parts = refl; remaining = refl; again = λ rest h. (h.0, rw (next_again rest dot h.0 h.1) refl, h.2) }
+graph_again (blank_graph {label}) = record { first = blank_label label; more = dot ∷ []; parts = refl; remaining = refl; again = λ rest h. (h.0, rw (next_again rest dot h.0 h.1) refl, h.2) }
 
 whole_again : (q : QuadParts) (rest : List ℕ) → IsEnd rest → whole q rest ≡ Some (Some q)
 whole_again q rest h = rw (end_again rest h) refl
@@ -379,8 +379,8 @@ statement_again cs ks q h st =
     let g = graph_again st.graph in
     let s = subject_again st.subject cs (st.p ++ (st.o ++ (st.g ++ (dot ∷ [])))) (subst (Splits cs) st.parts h) in
     let p = predicate_again st.predicate s.rest (st.o ++ (st.g ++ (dot ∷ []))) s.splits in
-    let o = object_again st.object p.rest g.first g.more g.behind (subst (λ (y : List Terminal). Splits p.rest (st.o ++ y)) g.parts p.splits) in
-    let e = g.again o.behind o.splits in
+    let o = object_again st.object p.rest g.first g.more g.remaining (subst (λ (y : List Terminal). Splits p.rest (st.o ++ y)) g.parts p.splits) in
+    let e = g.again o.remaining o.splits in
     rw (s.is) (rw (s.node) (rw (p.is) (rw (p.iri) (rw (o.is) (rw (o.second) (rw (o.object) (rw (e.1) (rw (← p.named) (whole_again q e.0 e.2)))))))))
 
 statement_next : (cs : List ℕ) (ks : List Terminal) (q : QuadParts) → Splits cs ks → Statement ks q → is_end (skip_blanks cs) ≡ false

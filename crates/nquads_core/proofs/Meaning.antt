@@ -21,11 +21,11 @@ one_meaning line q r s t = same_Some q r (sym (read_again line q s) ∙ read_aga
 abbrev pub OneLine : List ℕ → Type 0
 OneLine line = (i : ℕ) → i < length line → (slice_index line i ≢ 10) × (slice_index line i ≢ 13)
 
-pub read_spells : {X : Type 0} (view : X → Option QuadParts) (line text : List ℕ) (r : Result X LineFault) → text ≡ line → IsUtf8 line → OneLine line → Gives view r (line_at (chars text)) → IfOk r (λ x. HasStatement line (view x))
-read_spells view line text (Ok x) e u o g =
+pub read_statement : {X : Type 0} (view : X → Option QuadParts) (line text : List ℕ) (r : Result X LineFault) → text ≡ line → IsUtf8 line → OneLine line → Gives view r (line_at (chars text)) → IfOk r (λ x. HasStatement line (view x))
+read_statement view line text (Ok x) e u o g =
     let s = line_sound (chars text) (view x) g in
     record { utf8 = u; one_line = o; terminals = s.terminals; splits = subst (λ (y : List ℕ). Splits (chars y) s.terminals) e s.splits; derives = s.derives }
-read_spells view line text (Err e') e u o g = tt
+read_statement view line text (Err e') e u o g = tt
 
 same_fault : {X : Type 0} (r : Result X LineFault) (e f : LineFault) → r ≡ Err e → r ≡ Err f → e ≡ f
 same_fault r e f h k = cc

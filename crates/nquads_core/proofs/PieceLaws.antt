@@ -50,20 +50,20 @@ line_crlf front rest h = plain_front front (13 ∷ 10 ∷ rest) (lines rest) h [
 
 -- ---- quads of lines
 
-pub spell_more : (ls : List (List ℕ)) (quads : List QuadParts) (line : List ℕ) (q : Option QuadParts) → HaveStatements ls quads → HasStatement line q → HaveStatements (ls ++ line ∷ []) (quads ++ option_to_list q)
-spell_more [] quads line q h s = (q, [], s, rw h (sym (append-nil (option_to_list q))), refl)
-spell_more (l ∷ ls) quads line q h s =
-    (h.0, h.1 ++ option_to_list q, h.2, rw h.3 (append_assoc (option_to_list h.0) h.1 (option_to_list q)), spell_more ls h.1 line q h.4 s)
+pub statements_more : (ls : List (List ℕ)) (quads : List QuadParts) (line : List ℕ) (q : Option QuadParts) → HaveStatements ls quads → HasStatement line q → HaveStatements (ls ++ line ∷ []) (quads ++ option_to_list q)
+statements_more [] quads line q h s = (q, [], s, rw h (sym (append-nil (option_to_list q))), refl)
+statements_more (l ∷ ls) quads line q h s =
+    (h.0, h.1 ++ option_to_list q, h.2, rw h.3 (append_assoc (option_to_list h.0) h.1 (option_to_list q)), statements_more ls h.1 line q h.4 s)
 
-pub bad_behind : (ls : List (List ℕ)) (quads : List QuadParts) (line : List ℕ) (more : List (List ℕ)) → HaveStatements ls quads → IsMalformed line → IsFirstMalformed (ls ++ line ∷ more) (length ls)
-bad_behind [] quads line more h b = b
-bad_behind (l ∷ ls) quads line more h b = ((h.0, h.2), bad_behind ls h.1 line more h.4 b)
+pub malformed_after : (ls : List (List ℕ)) (quads : List QuadParts) (line : List ℕ) (more : List (List ℕ)) → HaveStatements ls quads → IsMalformed line → IsFirstMalformed (ls ++ line ∷ more) (length ls)
+malformed_after [] quads line more h b = b
+malformed_after (l ∷ ls) quads line more h b = ((h.0, h.2), malformed_after ls h.1 line more h.4 b)
 
 -- count lines of all are read, and rest is left
 pub record ReadLines (quads : List QuadParts) (count : ℕ) (rest all : List ℕ) : Type 0 where
   pub before : List (List ℕ)
   pub parts : lines all ≡ before ++ lines rest
-  pub spell : HaveStatements before quads
+  pub statements : HaveStatements before quads
   pub number : length before ≡ count
   pub short : count + length rest ≤ length all
 
@@ -72,7 +72,7 @@ one_more quads quads' count rest all line after q h e l s k =
     record {
       before = h.before ++ line ∷ [];
       parts = h.parts ∙ ap (λ (y : List (List ℕ)). h.before ++ y) e ∙ sym (append_assoc h.before (line ∷ []) (lines after));
-      spell = rw k (spell_more h.before quads line q h.spell s);
+      statements = rw k (statements_more h.before quads line q h.statements s);
       number = omega (arith, length-append h.before (line ∷ []), h.number);
       short = omega (arith, h.short);
     }
@@ -82,7 +82,7 @@ same_place n k e = cc
 
 pub bad_here : (quads : List QuadParts) (count : ℕ) (rest all line after : List ℕ) → ReadLines quads count rest all → lines rest ≡ line ∷ lines after → IsMalformed line → IsFirstMalformed (lines all) count
 bad_here quads count rest all line after h e b =
-    rw (h.parts, e, ← h.number) (bad_behind h.before quads line (lines after) h.spell b)
+    rw (h.parts, e, ← h.number) (malformed_after h.before quads line (lines after) h.statements b)
 
 pub bad_line : (quads : List QuadParts) (count : ℕ) (rest all line after : List ℕ) → ReadLines quads count rest all → lines rest ≡ line ∷ lines after → IsMalformed line → (k : ℕ) → BadLine count ≡ BadLine k → IsFirstMalformed (lines all) k
 bad_line quads count rest all line after h e b k same = subst (λ (y : ℕ). IsFirstMalformed (lines all) y) (same_place count k same) (bad_here quads count rest all line after h e b)
@@ -94,7 +94,7 @@ lines_nil = refl
 pub all_read : (quads : List QuadParts) (count : ℕ) (rest all : List ℕ) → ReadLines quads count rest all → rest ≡ [] → HaveStatements (lines all) quads × (count ≡ length (lines all))
 all_read quads count rest all h e =
     let whole : lines all ≡ h.before = h.parts ∙ ap (λ (y : List (List ℕ)). h.before ++ y) (ap lines e ∙ lines_nil) ∙ append-nil h.before in
-    (subst (λ (y : List (List ℕ)). HaveStatements y quads) (sym whole) h.spell, sym h.number ∙ ap (λ (y : List (List ℕ)). length y) (sym whole))
+    (subst (λ (y : List (List ℕ)). HaveStatements y quads) (sym whole) h.statements, sym h.number ∙ ap (λ (y : List (List ℕ)). length y) (sym whole))
 
 -- ---- the first line end
 

@@ -59,15 +59,15 @@ unfolding label_tail_at
 tail_dot c cs h k l = rw (h, k, take_dot_some c cs (label_tail_at cs).0 (label_tail_at cs).1 l) refl
 
 -- no longer front is a tail
-pub label_tail_longest : (front behind : List ℕ) → is_label_tail front ≡ true → length front ≤ length (label_tail_at (front ++ behind)).0
-label_tail_longest [] behind h = omega arith
-label_tail_longest (c ∷ []) behind h = omega (arith, tail_char c behind h)
-label_tail_longest (c ∷ d ∷ front) behind h =
+pub label_tail_longest : (front remaining : List ℕ) → is_label_tail front ≡ true → length front ≤ length (label_tail_at (front ++ remaining)).0
+label_tail_longest [] remaining h = omega arith
+label_tail_longest (c ∷ []) remaining h = omega (arith, tail_char c remaining h)
+label_tail_longest (c ∷ d ∷ front) remaining h =
     let p = and_parts (is_label_char c || eqb c 46) (is_label_tail (d ∷ front)) h in
-    let ih = label_tail_longest (d ∷ front) behind p.1 in
+    let ih = label_tail_longest (d ∷ front) remaining p.1 in
     elim (which (is_label_char c)) [
-      | inl k ↦ omega (arith, ih, tail_char c (d ∷ front ++ behind) k)
-      | inr k ↦ omega (arith, ih, tail_dot c (d ∷ front ++ behind) k (or_no (is_label_char c) (eqb c 46) p.0 k) (omega (arith, ih)))
+      | inl k ↦ omega (arith, ih, tail_char c (d ∷ front ++ remaining) k)
+      | inr k ↦ omega (arith, ih, tail_dot c (d ∷ front ++ remaining) k (or_no (is_label_char c) (eqb c 46) p.0 k) (omega (arith, ih)))
     ]
 
 -- ---- subtags
@@ -113,14 +113,14 @@ subtags_right (c ∷ cs) =
       | inr h ↦ rw (subtags_stop c cs h) refl
     ]
 
-pub subtags_longest : (front behind : List ℕ) → is_subtags front ≡ true → length front ≤ length (subtags_at (front ++ behind)).0
-subtags_longest [] behind h = omega arith
-subtags_longest (c ∷ front) behind h =
+pub subtags_longest : (front remaining : List ℕ) → is_subtags front ≡ true → length front ≤ length (subtags_at (front ++ remaining)).0
+subtags_longest [] remaining h = omega arith
+subtags_longest (c ∷ front) remaining h =
     let p = and_parts (is_ascii_alphanumeric c || (eqb c 45 && begins is_ascii_alphanumeric front)) (is_subtags front) h in
-    let ih = subtags_longest front behind p.1 in
-    let step = subtags_step c (front ++ behind)
-    (or_mono (is_ascii_alphanumeric c) (eqb c 45 && begins is_ascii_alphanumeric front) (eqb c 45 && begins is_ascii_alphanumeric (front ++ behind))
-    (and_mono (eqb c 45) (begins is_ascii_alphanumeric front) (begins is_ascii_alphanumeric (front ++ behind)) (begins_more is_ascii_alphanumeric front behind)) p.0) in
+    let ih = subtags_longest front remaining p.1 in
+    let step = subtags_step c (front ++ remaining)
+    (or_mono (is_ascii_alphanumeric c) (eqb c 45 && begins is_ascii_alphanumeric front) (eqb c 45 && begins is_ascii_alphanumeric (front ++ remaining))
+    (and_mono (eqb c 45) (begins is_ascii_alphanumeric front) (begins is_ascii_alphanumeric (front ++ remaining)) (begins_more is_ascii_alphanumeric front remaining)) p.0) in
     rw step (omega (arith, ih))
 
 -- ---- a whole tag
@@ -164,16 +164,16 @@ primary_right (c ∷ cs) =
 hyphen_no_letter : (c : ℕ) → eqb c 45 ≡ true → is_ascii_alphabetic c ≡ false
 hyphen_no_letter c h = rw (eqb-true c 45 h) refl
 
-pub primary_longest : (front behind : List ℕ) → is_tag_tail front ≡ true → length front ≤ length (tag_tail_at (front ++ behind)).0
-primary_longest [] behind h = omega arith
-primary_longest (c ∷ front) behind h =
+pub primary_longest : (front remaining : List ℕ) → is_tag_tail front ≡ true → length front ≤ length (tag_tail_at (front ++ remaining)).0
+primary_longest [] remaining h = omega arith
+primary_longest (c ∷ front) remaining h =
     elim (or_parts (is_ascii_alphabetic c && is_tag_tail front) ((eqb c 45 && begins is_ascii_alphanumeric front) && is_subtags front) h) [
       | inl k ↦
           let p = and_parts (is_ascii_alphabetic c) (is_tag_tail front) k in
-          rw (primary_alpha c (front ++ behind) p.0) (omega (arith, primary_longest front behind p.1))
+          rw (primary_alpha c (front ++ remaining) p.0) (omega (arith, primary_longest front remaining p.1))
       | inr k ↦
           let p = and_parts (eqb c 45 && begins is_ascii_alphanumeric front) (is_subtags front) k in
           let q = and_parts (eqb c 45) (begins is_ascii_alphanumeric front) p.0 in
-          let starts = and_mono (eqb c 45) (begins is_ascii_alphanumeric front) (begins is_ascii_alphanumeric (front ++ behind)) (begins_more is_ascii_alphanumeric front behind) p.0 in
-          rw (primary_hyphen c (front ++ behind) (hyphen_no_letter c q.0) starts) (omega (arith, subtags_longest front behind p.1))
+          let starts = and_mono (eqb c 45) (begins is_ascii_alphanumeric front) (begins is_ascii_alphanumeric (front ++ remaining)) (begins_more is_ascii_alphanumeric front remaining) p.0 in
+          rw (primary_hyphen c (front ++ remaining) (hyphen_no_letter c q.0) starts) (omega (arith, subtags_longest front remaining p.1))
     ]

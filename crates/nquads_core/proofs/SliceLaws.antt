@@ -14,37 +14,37 @@ use Rattle.nquads_core.specs.Slices.{Joins, Denotes}
 use Rattle.nquads_core.specs.Splitting.{DenotesGraph, DenotesQuad}
 use Rattle.nquads_core.specs.Layout.{graph_then, IsLaidOut, IsOneLine}
 use Rattle.nquads_core.specs.LineParser.{terminal_at}
-use Rattle.nquads_core.proofs.TerminalLaws.{iri_stands, string_stands, at_carets, at_dot, took_longest}
+use Rattle.nquads_core.proofs.TerminalLaws.{iri_scanned, string_scanned, at_carets, at_dot, took_longest}
 use Rattle.nquads_core.proofs.Followed.{label_followed, tag_followed}
 use Rattle.nquads_core.proofs.LineLaws.{Run, run_then}
 
 -- ---- the terminals of a slice that a blank follows
 
-label_stands : (word bytes behind rest : List ℕ) → behind ≡ 32 ∷ rest → IsBlankLabel word bytes → terminal_at (word ++ behind) ≡ Some (blank_label bytes, behind)
+label_scanned : (word bytes remaining rest : List ℕ) → remaining ≡ 32 ∷ rest → IsBlankLabel word bytes → terminal_at (word ++ remaining) ≡ Some (blank_label bytes, remaining)
 unfolding terminal_at
-label_stands word bytes behind rest e t =
-    let whole : word ++ behind ≡ 95 ∷ 58 ∷ (t.label ++ 32 ∷ rest) = ap (λ (y : List ℕ). y ++ behind) t.parts ∙ ap (λ (y : List ℕ). 95 ∷ 58 ∷ (t.label ++ y)) e in
+label_scanned word bytes remaining rest e t =
+    let whole : word ++ remaining ≡ 95 ∷ 58 ∷ (t.label ++ 32 ∷ rest) = ap (λ (y : List ℕ). y ++ remaining) t.parts ∙ ap (λ (y : List ℕ). 95 ∷ 58 ∷ (t.label ++ y)) e in
     rw (whole, label_followed t.label rest t.right, ← t.utf8, e) refl
 
-tag_stands : (word bytes behind rest : List ℕ) → behind ≡ 32 ∷ rest → IsLangTag word bytes → terminal_at (word ++ behind) ≡ Some (lang_tag bytes, behind)
+tag_scanned : (word bytes remaining rest : List ℕ) → remaining ≡ 32 ∷ rest → IsLangTag word bytes → terminal_at (word ++ remaining) ≡ Some (lang_tag bytes, remaining)
 unfolding terminal_at
-tag_stands word bytes behind rest e t =
-    let whole : word ++ behind ≡ 64 ∷ (t.tag ++ 32 ∷ rest) = ap (λ (y : List ℕ). y ++ behind) t.parts ∙ ap (λ (y : List ℕ). 64 ∷ (t.tag ++ y)) e in
+tag_scanned word bytes remaining rest e t =
+    let whole : word ++ remaining ≡ 64 ∷ (t.tag ++ 32 ∷ rest) = ap (λ (y : List ℕ). y ++ remaining) t.parts ∙ ap (λ (y : List ℕ). 64 ∷ (t.tag ++ y)) e in
     rw (whole, tag_followed t.tag rest t.right, ← t.lower, e) refl
 
-carets_stand : (word behind : List ℕ) → IsTerminal word carets → terminal_at (word ++ behind) ≡ Some (carets, behind)
-carets_stand word behind t = ap (λ (y : List ℕ). terminal_at (y ++ behind)) t ∙ at_carets behind
+carets_scanned : (word remaining : List ℕ) → IsTerminal word carets → terminal_at (word ++ remaining) ≡ Some (carets, remaining)
+carets_scanned word remaining t = ap (λ (y : List ℕ). terminal_at (y ++ remaining)) t ∙ at_carets remaining
 
 -- the terminal at the front of a text, and what follows the text
-begins_here : (text word more behind : List ℕ) (k : Terminal) → text ≡ word ++ more → IsTerminal word k → terminal_at (word ++ (more ++ behind)) ≡ Some (k, more ++ behind) → Begins (text ++ behind) k (more ++ behind)
-begins_here text word more behind k e t read =
+begins_here : (text word more remaining : List ℕ) (k : Terminal) → text ≡ word ++ more → IsTerminal word k → terminal_at (word ++ (more ++ remaining)) ≡ Some (k, more ++ remaining) → Begins (text ++ remaining) k (more ++ remaining)
+begins_here text word more remaining k e t read =
     record {
       blanks = [];
       word = word;
-      parts = ap (λ (y : List ℕ). y ++ behind) e ∙ append_assoc word more behind;
+      parts = ap (λ (y : List ℕ). y ++ remaining) e ∙ append_assoc word more remaining;
       all_blank = refl;
       terminal = t;
-      longest = took_longest word (more ++ behind) k read;
+      longest = took_longest word (more ++ remaining) k read;
     }
 
 blank_next : (more rest : List ℕ) → more ≡ [] → more ++ 32 ∷ rest ≡ 32 ∷ rest
@@ -52,27 +52,27 @@ blank_next more rest e = ap (λ (y : List ℕ). y ++ 32 ∷ rest) e
 
 object_runs : {ks : List Terminal} {t : Term} → Object ks t → (cs rest : List ℕ) → Joins cs ks [] → Run (cs ++ 32 ∷ rest) ks (32 ∷ rest)
 object_runs (iri_object {text}) cs rest j =
-    (j.1 ++ 32 ∷ rest, begins_here cs j.0 j.1 (32 ∷ rest) (iri_ref text) j.2 j.3 (iri_stands j.0 text (j.1 ++ 32 ∷ rest) j.3), blank_next j.1 rest j.4)
+    (j.1 ++ 32 ∷ rest, begins_here cs j.0 j.1 (32 ∷ rest) (iri_ref text) j.2 j.3 (iri_scanned j.0 text (j.1 ++ 32 ∷ rest) j.3), blank_next j.1 rest j.4)
 object_runs (blank_object {label}) cs rest j =
-    (j.1 ++ 32 ∷ rest, begins_here cs j.0 j.1 (32 ∷ rest) (blank_label label) j.2 j.3 (label_stands j.0 label (j.1 ++ 32 ∷ rest) rest (blank_next j.1 rest j.4) j.3), blank_next j.1 rest j.4)
+    (j.1 ++ 32 ∷ rest, begins_here cs j.0 j.1 (32 ∷ rest) (blank_label label) j.2 j.3 (label_scanned j.0 label (j.1 ++ 32 ∷ rest) rest (blank_next j.1 rest j.4) j.3), blank_next j.1 rest j.4)
 object_runs (plain_object {lexical}) cs rest j =
-    (j.1 ++ 32 ∷ rest, begins_here cs j.0 j.1 (32 ∷ rest) (quoted lexical) j.2 j.3 (string_stands j.0 lexical (j.1 ++ 32 ∷ rest) j.3), blank_next j.1 rest j.4)
+    (j.1 ++ 32 ∷ rest, begins_here cs j.0 j.1 (32 ∷ rest) (quoted lexical) j.2 j.3 (string_scanned j.0 lexical (j.1 ++ 32 ∷ rest) j.3), blank_next j.1 rest j.4)
 object_runs (typed_object {lexical} {datatype}) cs rest j =
     let c = j.4 in
     let d = c.4 in (
       j.1 ++ 32 ∷ rest,
-      begins_here cs j.0 j.1 (32 ∷ rest) (quoted lexical) j.2 j.3 (string_stands j.0 lexical (j.1 ++ 32 ∷ rest) j.3),
+      begins_here cs j.0 j.1 (32 ∷ rest) (quoted lexical) j.2 j.3 (string_scanned j.0 lexical (j.1 ++ 32 ∷ rest) j.3),
       (
         c.1 ++ 32 ∷ rest,
-        begins_here j.1 c.0 c.1 (32 ∷ rest) carets c.2 c.3 (carets_stand c.0 (c.1 ++ 32 ∷ rest) c.3),
-        (d.1 ++ 32 ∷ rest, begins_here c.1 d.0 d.1 (32 ∷ rest) (iri_ref datatype) d.2 d.3 (iri_stands d.0 datatype (d.1 ++ 32 ∷ rest) d.3), blank_next d.1 rest d.4),
+        begins_here j.1 c.0 c.1 (32 ∷ rest) carets c.2 c.3 (carets_scanned c.0 (c.1 ++ 32 ∷ rest) c.3),
+        (d.1 ++ 32 ∷ rest, begins_here c.1 d.0 d.1 (32 ∷ rest) (iri_ref datatype) d.2 d.3 (iri_scanned d.0 datatype (d.1 ++ 32 ∷ rest) d.3), blank_next d.1 rest d.4),
       ),
     )
 object_runs (tagged_object {lexical} {tag}) cs rest j =
     let c = j.4 in (
       j.1 ++ 32 ∷ rest,
-      begins_here cs j.0 j.1 (32 ∷ rest) (quoted lexical) j.2 j.3 (string_stands j.0 lexical (j.1 ++ 32 ∷ rest) j.3),
-      (c.1 ++ 32 ∷ rest, begins_here j.1 c.0 c.1 (32 ∷ rest) (lang_tag tag) c.2 c.3 (tag_stands c.0 tag (c.1 ++ 32 ∷ rest) rest (blank_next c.1 rest c.4) c.3), blank_next c.1 rest c.4),
+      begins_here cs j.0 j.1 (32 ∷ rest) (quoted lexical) j.2 j.3 (string_scanned j.0 lexical (j.1 ++ 32 ∷ rest) j.3),
+      (c.1 ++ 32 ∷ rest, begins_here j.1 c.0 c.1 (32 ∷ rest) (lang_tag tag) c.2 c.3 (tag_scanned c.0 tag (c.1 ++ 32 ∷ rest) rest (blank_next c.1 rest c.4) c.3), blank_next c.1 rest c.4),
     )
 
 -- ---- a text whose first slice a blank follows
@@ -147,11 +147,11 @@ graph_splits (Some raw) (Some name) tail d n h =
 
 -- ---- the line
 
-pub blank_spells : (line : List ℕ) → IsUtf8 line → IsOneLine line → IsEnd (chars line) → HasStatement line None
-blank_spells line u o h = record { utf8 = u; one_line = o; terminals = []; splits = h; derives = refl }
+pub blank_statement : (line : List ℕ) → IsUtf8 line → IsOneLine line → IsEnd (chars line) → HasStatement line None
+blank_statement line u o h = record { utf8 = u; one_line = o; terminals = []; splits = h; derives = refl }
 
-pub statement_spells : (line : List ℕ) (raw : RawStatement) (q : QuadParts) → IsUtf8 line → IsOneLine line → IsLaidOut line raw → DenotesQuad raw q → HasStatement line (Some q)
-statement_spells line raw q u o h d =
+pub laid_out_statement : (line : List ℕ) (raw : RawStatement) (q : QuadParts) → IsUtf8 line → IsOneLine line → IsLaidOut line raw → DenotesQuad raw q → HasStatement line (Some q)
+laid_out_statement line raw q u o h d =
     let graph = option_copied raw.graph in
     let from_graph = graph_then graph (46 ∷ h.tail) in
     let from_object = raw.object.now ++ 32 ∷ from_graph in

@@ -8,8 +8,8 @@ use Rattle.nquads_core.specs.Lines.{lines}
 use Rattle.nquads_core.specs.Pieces.{HaveStatements}
 use Rattle.nquads_core.specs.Splitting.{DenotesQuad, DenoteAll, AreStatements}
 use Rattle.nquads_core.specs.Layout.{IsLine, Adds, IsOneLine}
-use Rattle.nquads_core.proofs.PieceLaws.{spell_more, lines_nil}
-use Rattle.nquads_core.proofs.SliceLaws.{blank_spells, statement_spells}
+use Rattle.nquads_core.proofs.PieceLaws.{statements_more, lines_nil}
+use Rattle.nquads_core.proofs.SliceLaws.{blank_statement, laid_out_statement}
 
 record DenotesLast (raws : List RawStatement) (raw : RawStatement) (quads : List QuadParts) : Type 0 where
   front : List QuadParts
@@ -27,10 +27,10 @@ denote_last (r ∷ raws) raw quads d =
 line_more : (before : List (List ℕ)) (line : List ℕ) (raws : List RawStatement) (statement : Option RawStatement) → IsUtf8 line → IsOneLine line → IsLine line statement → AreStatements before raws → AreStatements (before ++ line ∷ []) (raws ++ option_to_list statement)
 line_more before line raws None u o h s = λ quads d.
     let old = s quads (subst (λ (y : List RawStatement). DenoteAll y quads) (append-nil raws) d) in
-    subst (HaveStatements (before ++ line ∷ [])) (append-nil quads) (spell_more before quads line None old (blank_spells line u o h))
+    subst (HaveStatements (before ++ line ∷ [])) (append-nil quads) (statements_more before quads line None old (blank_statement line u o h))
 line_more before line raws (Some raw) u o h s = λ quads d.
     let p = denote_last raws raw quads d in
-    subst (HaveStatements (before ++ line ∷ [])) (sym p.parts) (spell_more before p.front line (Some p.q) (s p.front p.others) (statement_spells line raw p.q u o h p.last))
+    subst (HaveStatements (before ++ line ∷ [])) (sym p.parts) (statements_more before p.front line (Some p.q) (s p.front p.others) (laid_out_statement line raw p.q u o h p.last))
 
 -- the lines before the rest are split into these statements
 pub record SplitLines (raws : List RawStatement) (rest all : List ℕ) : Type 0 where

@@ -150,93 +150,93 @@ terminal_takes (c ∷ cs) k rest e =
 -- ---- what the text has is read, or more than that
 
 -- From a text that begins with the terminal k, some terminal is read that is no shorter; where it is no longer, it is k.
-pub record Reaches (cs : List ℕ) (k : Terminal) (behind : List ℕ) : Type 0 where
+pub record Reaches (cs : List ℕ) (k : Terminal) (remaining : List ℕ) : Type 0 where
   pub kind : Terminal
   pub left : List ℕ
   pub is : terminal_at cs ≡ Some (kind, left)
-  pub short : length left ≤ length behind
-  pub same : left ≡ behind → kind ≡ k
+  pub short : length left ≤ length remaining
+  pub same : left ≡ remaining → kind ≡ k
 
 -- an IRI and a string end where they close, whatever follows
-pub iri_stands : (word bytes behind : List ℕ) → IsIriRef word bytes → terminal_at (word ++ behind) ≡ Some (iri_ref bytes, behind)
+pub iri_scanned : (word bytes remaining : List ℕ) → IsIriRef word bytes → terminal_at (word ++ remaining) ≡ Some (iri_ref bytes, remaining)
 unfolding terminal_at iri_at
-iri_stands word bytes behind t =
-    let whole : word ++ behind ≡ 60 ∷ (t.body ++ 62 ∷ behind) = ap (λ (y : List ℕ). y ++ behind) t.parts ∙ ap (λ (y : List ℕ). 60 ∷ y) (append_assoc t.body (62 ∷ []) behind) in
-    let read = iri_body_again t.chars t.body behind t.writes in
+iri_scanned word bytes remaining t =
+    let whole : word ++ remaining ≡ 60 ∷ (t.body ++ 62 ∷ remaining) = ap (λ (y : List ℕ). y ++ remaining) t.parts ∙ ap (λ (y : List ℕ). 60 ∷ y) (append_assoc t.body (62 ∷ []) remaining) in
+    let read = iri_body_again t.chars t.body remaining t.writes in
     rw (whole, read, ← t.utf8, t.scheme) refl
 
-pub string_stands : (word bytes behind : List ℕ) → IsQuoted word bytes → terminal_at (word ++ behind) ≡ Some (quoted bytes, behind)
+pub string_scanned : (word bytes remaining : List ℕ) → IsQuoted word bytes → terminal_at (word ++ remaining) ≡ Some (quoted bytes, remaining)
 unfolding terminal_at string_at
-string_stands word bytes behind t =
-    let whole : word ++ behind ≡ 34 ∷ (t.body ++ 34 ∷ behind) = ap (λ (y : List ℕ). y ++ behind) t.parts ∙ ap (λ (y : List ℕ). 34 ∷ y) (append_assoc t.body (34 ∷ []) behind) in
-    let read = string_body_again t.chars t.body behind t.writes in
+string_scanned word bytes remaining t =
+    let whole : word ++ remaining ≡ 34 ∷ (t.body ++ 34 ∷ remaining) = ap (λ (y : List ℕ). y ++ remaining) t.parts ∙ ap (λ (y : List ℕ). 34 ∷ y) (append_assoc t.body (34 ∷ []) remaining) in
+    let read = string_body_again t.chars t.body remaining t.writes in
     rw (whole, read, ← t.utf8) refl
 
-reach_whole : (cs behind : List ℕ) (k : Terminal) → terminal_at cs ≡ Some (k, behind) → Reaches cs k behind
-reach_whole cs behind k e = record { kind = k; left = behind; is = e; short = omega arith; same = λ _. refl }
+reach_whole : (cs remaining : List ℕ) (k : Terminal) → terminal_at cs ≡ Some (k, remaining) → Reaches cs k remaining
+reach_whole cs remaining k e = record { kind = k; left = remaining; is = e; short = omega arith; same = λ _. refl }
 
-label_reach : (label behind bytes : List ℕ) → is_label label ≡ true → bytes ≡ encode_utf8_all label → Reaches (95 ∷ 58 ∷ label ++ behind) (blank_label bytes) behind
+label_reach : (label remaining bytes : List ℕ) → is_label label ≡ true → bytes ≡ encode_utf8_all label → Reaches (95 ∷ 58 ∷ label ++ remaining) (blank_label bytes) remaining
 unfolding terminal_at label_at
-label_reach [] behind bytes h u = absurd cc
-label_reach (c ∷ tail) behind bytes h u =
+label_reach [] remaining bytes h u = absurd cc
+label_reach (c ∷ tail) remaining bytes h u =
     let p = and_parts (is_label_start c) (is_label_tail tail) h in
-    let t = label_tail_at (tail ++ behind) in
-    let parts = label_parts (tail ++ behind) in
-    let long = label_tail_longest tail behind p.1 in
+    let t = label_tail_at (tail ++ remaining) in
+    let parts = label_parts (tail ++ remaining) in
+    let long = label_tail_longest tail remaining p.1 in
     record {
       kind = blank_label (encode_utf8_all (c ∷ t.0));
       left = t.1;
       is = rw p.0 refl;
-      short = omega (arith, ap length parts, length-append t.0 t.1, length-append tail behind, long);
+      short = omega (arith, ap length parts, length-append t.0 t.1, length-append tail remaining, long);
       same = λ e.
-          let front : t.0 ≡ tail = append_cancel_right t.0 tail behind (ap (λ (y : List ℕ). t.0 ++ y) (sym e) ∙ parts) in
+          let front : t.0 ≡ tail = append_cancel_right t.0 tail remaining (ap (λ (y : List ℕ). t.0 ++ y) (sym e) ∙ parts) in
           ap blank_label (ap (λ (y : List ℕ). encode_utf8_all (c ∷ y)) front ∙ sym u);
     }
 
-tag_reach : (tag behind bytes : List ℕ) → is_tag tag ≡ true → bytes ≡ map to_ascii_lowercase tag → Reaches (64 ∷ tag ++ behind) (lang_tag bytes) behind
+tag_reach : (tag remaining bytes : List ℕ) → is_tag tag ≡ true → bytes ≡ map to_ascii_lowercase tag → Reaches (64 ∷ tag ++ remaining) (lang_tag bytes) remaining
 unfolding terminal_at tag_at
-tag_reach tag behind bytes h u =
+tag_reach tag remaining bytes h u =
     let p = and_parts (begins is_ascii_alphabetic tag) (is_tag_tail tag) h in
-    let t = tag_tail_at (tag ++ behind) in
-    let parts = primary_parts (tag ++ behind) in
-    let long = primary_longest tag behind p.1 in
-    let starts = begins_more is_ascii_alphabetic tag behind p.0 in
+    let t = tag_tail_at (tag ++ remaining) in
+    let parts = primary_parts (tag ++ remaining) in
+    let long = primary_longest tag remaining p.1 in
+    let starts = begins_more is_ascii_alphabetic tag remaining p.0 in
     record {
       kind = lang_tag (map to_ascii_lowercase t.0);
       left = t.1;
       is = rw starts refl;
-      short = omega (arith, ap length parts, length-append t.0 t.1, length-append tag behind, long);
+      short = omega (arith, ap length parts, length-append t.0 t.1, length-append tag remaining, long);
       same = λ e.
-          let front : t.0 ≡ tag = append_cancel_right t.0 tag behind (ap (λ (y : List ℕ). t.0 ++ y) (sym e) ∙ parts) in
+          let front : t.0 ≡ tag = append_cancel_right t.0 tag remaining (ap (λ (y : List ℕ). t.0 ++ y) (sym e) ∙ parts) in
           ap lang_tag (ap (λ (y : List ℕ). map to_ascii_lowercase y) front ∙ sym u);
     }
 
-pub at_carets : (behind : List ℕ) → terminal_at (94 ∷ 94 ∷ behind) ≡ Some (carets, behind)
+pub at_carets : (remaining : List ℕ) → terminal_at (94 ∷ 94 ∷ remaining) ≡ Some (carets, remaining)
 unfolding terminal_at
-at_carets behind = refl
+at_carets remaining = refl
 
-pub at_dot : (behind : List ℕ) → terminal_at (46 ∷ behind) ≡ Some (dot, behind)
+pub at_dot : (remaining : List ℕ) → terminal_at (46 ∷ remaining) ≡ Some (dot, remaining)
 unfolding terminal_at
-at_dot behind = refl
+at_dot remaining = refl
 
-pub reaches : (word behind : List ℕ) (k : Terminal) → IsTerminal word k → Reaches (word ++ behind) k behind
-reaches word behind (iri_ref bytes) t = reach_whole (word ++ behind) behind (iri_ref bytes) (iri_stands word bytes behind t)
-reaches word behind (quoted bytes) t = reach_whole (word ++ behind) behind (quoted bytes) (string_stands word bytes behind t)
-reaches word behind (blank_label bytes) t =
-    subst (λ (y : List ℕ). Reaches (y ++ behind) (blank_label bytes) behind) (sym t.parts) (label_reach t.label behind bytes t.right t.utf8)
-reaches word behind (lang_tag bytes) t =
-    subst (λ (y : List ℕ). Reaches (y ++ behind) (lang_tag bytes) behind) (sym t.parts) (tag_reach t.tag behind bytes t.right t.lower)
-reaches word behind carets t = reach_whole (word ++ behind) behind carets (ap (λ (y : List ℕ). terminal_at (y ++ behind)) t ∙ at_carets behind)
-reaches word behind dot t = reach_whole (word ++ behind) behind dot (ap (λ (y : List ℕ). terminal_at (y ++ behind)) t ∙ at_dot behind)
+pub reaches : (word remaining : List ℕ) (k : Terminal) → IsTerminal word k → Reaches (word ++ remaining) k remaining
+reaches word remaining (iri_ref bytes) t = reach_whole (word ++ remaining) remaining (iri_ref bytes) (iri_scanned word bytes remaining t)
+reaches word remaining (quoted bytes) t = reach_whole (word ++ remaining) remaining (quoted bytes) (string_scanned word bytes remaining t)
+reaches word remaining (blank_label bytes) t =
+    subst (λ (y : List ℕ). Reaches (y ++ remaining) (blank_label bytes) remaining) (sym t.parts) (label_reach t.label remaining bytes t.right t.utf8)
+reaches word remaining (lang_tag bytes) t =
+    subst (λ (y : List ℕ). Reaches (y ++ remaining) (lang_tag bytes) remaining) (sym t.parts) (tag_reach t.tag remaining bytes t.right t.lower)
+reaches word remaining carets t = reach_whole (word ++ remaining) remaining carets (ap (λ (y : List ℕ). terminal_at (y ++ remaining)) t ∙ at_carets remaining)
+reaches word remaining dot t = reach_whole (word ++ remaining) remaining dot (ap (λ (y : List ℕ). terminal_at (y ++ remaining)) t ∙ at_dot remaining)
 
 -- ---- the longest
 
 -- what is read is the longest
 pub took_longest : (word rest : List ℕ) (k : Terminal) → terminal_at (word ++ rest) ≡ Some (k, rest) → IsLongest word rest
-took_longest word rest k e = λ front behind other whole t.
-    let r = reaches front behind other t in
+took_longest word rest k e = λ front remaining other whole t.
+    let r = reaches front remaining other t in
     let p = some_pair_parts r.kind k r.left rest (sym r.is ∙ ap terminal_at whole ∙ e) in
-    omega (arith, ap length whole, length-append front behind, length-append word rest, r.short, ap length p.1)
+    omega (arith, ap length whole, length-append front remaining, length-append word rest, r.short, ap length p.1)
 
 same_length : (a b c d : List ℕ) → a ++ b ≡ c ++ d → length b ≡ length d → b ≡ d
 same_length a b c d e l =

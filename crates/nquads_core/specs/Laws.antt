@@ -24,12 +24,13 @@ Occurs t q = (t ≡ q.s) ⊎ ((t ≡ q.p) ⊎ ((t ≡ q.o) ⊎ (q.g ≡ Some t))
 abbrev pub object_line : Term → List ℕ
 object_line t = codes "<a:> <a:> " ++ (serialization t ++ codes " .")
 
+-- the quad of this line
 abbrev pub with_object : Term → QuadParts
 with_object t = record { s = Iri (codes "a:"); p = Iri (codes "a:"); o = t; g = None }
 
 -- a term of some line round-trips through its N-Quads form
-abbrev pub ReadsBack : Type 0
-ReadsBack = (line : List ℕ) (q : QuadParts) (t : Term) → HasStatement line (Some q) → Occurs t q → HasStatement (object_line t) (Some (with_object t))
+abbrev pub TermsRoundTrip : Type 0
+TermsRoundTrip = (line : List ℕ) (q : QuadParts) (t : Term) → HasStatement line (Some q) → Occurs t q → HasStatement (object_line t) (Some (with_object t))
 
 -- the term occurs in the quad of some line
 abbrev pub IsNQuadsTerm : Term → Type 0
@@ -55,9 +56,9 @@ abbrev pub quad_line : QuadParts → List ℕ
 quad_line q = serialization q.s ++ (codes " " ++ (serialization q.p ++ (codes " " ++ (serialization q.o ++ (codes " " ++ line_end q.g)))))
 
 -- a quad round-trips through this line
-abbrev pub QuadsReadBack : Type 0
-QuadsReadBack = (q : QuadParts) → IsNQuadsQuad q → HasStatement (quad_line q) (Some q)
+abbrev pub QuadsRoundTrip : Type 0
+QuadsRoundTrip = (q : QuadParts) → IsNQuadsQuad q → HasStatement (quad_line q) (Some q)
 
 -- so does the quad of every line
-abbrev pub LinesReadBack : Type 0
-LinesReadBack = (line : List ℕ) (q : QuadParts) → HasStatement line (Some q) → HasStatement (quad_line q) (Some q)
+abbrev pub LinesRoundTrip : Type 0
+LinesRoundTrip = (line : List ℕ) (q : QuadParts) → HasStatement line (Some q) → HasStatement (quad_line q) (Some q)

@@ -1,5 +1,5 @@
--- How a line is laid out that is split into slices: a blank after each, then a dot. Only private clauses cite
--- these words; what is promised is in Splitting. A space is 32, a dot 46.
+-- How a line is laid out that is split into slices: a blank after each, then a dot. Only private clauses use
+-- these definitions; what is promised is in Splitting. A space is 32, a dot 46.
 use Rattle.std.specs.Prelude.{◌≡◌, ◌≢◌, ℕ, ◌<◌, List, ◌∷◌, ◌++◌, length, Option, Some, None, option_copied, option_to_list, slice_index}
 use Rattle.std.specs.Str.{chars}
 use Rattle.nquads_core.specs.declared.slices.RawStatement.{RawStatement}
@@ -11,6 +11,7 @@ abbrev pub graph_then : Option (List ℕ) → List ℕ → List ℕ
 graph_then None rest = rest
 graph_then (Some raw) rest = raw ++ 32 ∷ rest
 
+-- the slices of the statement with a blank after each, a dot, and at most blanks and a comment
 pub record IsLaidOut (line : List ℕ) (raw : RawStatement) : Type 0 where
   pub tail : List ℕ
   pub parts : line ≡ raw.subject.now ++ 32 ∷ (raw.predicate.now ++ 32 ∷ (raw.object.now ++ 32 ∷ graph_then (option_copied raw.graph) (46 ∷ tail)))

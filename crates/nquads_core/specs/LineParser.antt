@@ -1,5 +1,5 @@
 -- Reading a line from left to right: what is at the front of a text, and the rest. None if something else is
--- there. Only private clauses cite these words; what is promised is in Grammar.
+-- there. Only private clauses use these definitions; what is promised is in Grammar.
 use Rattle.std.specs.Prelude.{◌≡◌, ℕ, Bool, true, false, ◌&&◌, ◌||◌, List, [], ◌∷◌, map, Option, Some, None, Result, Ok, Err, ◌==◌, if◌then◌else◌}
 use Rattle.std.specs.Char.{is_ascii_alphabetic, is_ascii_alphanumeric, to_ascii_lowercase}
 use Rattle.std.specs.Str.{encode_utf8_all}
@@ -20,17 +20,20 @@ abbrev pub Fails : {Y : Type 0} → LineFault → Option Y → Type 0
 Fails Memory read = Unit {0}
 Fails Bad read = read ≡ None
 
+-- an Ok is what reading gives; an error is `Bad` only if reading gives None
 abbrev pub Gives : {X Y : Type 0} → (X → Y) → Result X LineFault → Option Y → Type 0
 Gives view (Ok x) read = read ≡ Some (view x)
 Gives view (Err e) read = Fails e read
 
 infixl 10 ◌>>=◌
+-- reads the next part, unless the part before it is missing
 abbrev pub ◌>>=◌ : {A B : Type 0} → Option A → (A → Option B) → Option B
 None >>= f = None
 (Some x) >>= f = f x
 
 -- ---- terminals: the bytes of what is meant, and what follows
 
+-- an IRI must have a scheme
 abbrev pub if_scheme : List ℕ × List ℕ → Option (List ℕ × List ℕ)
 if_scheme x = if has_scheme x.0 then Some x else None
 
@@ -65,6 +68,7 @@ subtags_at [] = ([], [])
 subtags_at (c ∷ cs) =
     if is_ascii_alphanumeric c || (c == 45 && begins is_ascii_alphanumeric cs) then (c ∷ (subtags_at cs).0, (subtags_at cs).1) else ([], c ∷ cs)
 
+-- after the first letter of a tag: its other characters, and what follows
 unfoldable pub tag_tail_at : List ℕ → List ℕ × List ℕ
 tag_tail_at [] = ([], [])
 tag_tail_at (c ∷ cs) =
@@ -80,10 +84,12 @@ abbrev pub after_char : ℕ → List ℕ → Option (List ℕ)
 after_char c [] = None
 after_char c (d ∷ cs) = if d == c then Some cs else None
 
+-- the terminal of this kind with these bytes
 abbrev pub as_terminal : (List ℕ → Terminal) → Option (List ℕ × List ℕ) → Option (Terminal × List ℕ)
 as_terminal kind None = None
 as_terminal kind (Some x) = Some (kind x.0, x.1)
 
+-- a terminal without bytes of its own
 abbrev pub sign : Terminal → Option (List ℕ) → Option (Terminal × List ℕ)
 sign k None = None
 sign k (Some rest) = Some (k, rest)
@@ -102,6 +108,7 @@ terminal_at (c ∷ cs) =
 
 -- ---- lines
 
+-- the text after its leading blanks
 unfoldable pub skip_blanks : List ℕ → List ℕ
 skip_blanks [] = []
 skip_blanks (c ∷ cs) = if is_blank c then skip_blanks cs else c ∷ cs
@@ -111,9 +118,11 @@ abbrev pub is_end : List ℕ → Bool
 is_end [] = true
 is_end (c ∷ cs) = c == 35
 
+-- the terminal after blanks
 abbrev pub next : List ℕ → Option (Terminal × List ℕ)
 next cs = terminal_at (skip_blanks cs)
 
+-- a subject or a graph label
 abbrev pub node_of : Terminal → Option Term
 node_of (iri_ref text) = Some (Iri text)
 node_of (blank_label label) = Some (Blank label)
@@ -122,6 +131,7 @@ node_of (lang_tag tag) = None
 node_of carets = None
 node_of dot = None
 
+-- a predicate or a datatype IRI
 abbrev pub iri_of : Terminal → Option (List ℕ)
 iri_of (iri_ref text) = Some text
 iri_of (blank_label label) = None
@@ -145,6 +155,7 @@ literal_of lexical (blank_label label, rest) = Some (Literal lexical xsd_string 
 literal_of lexical (quoted other, rest) = Some (Literal lexical xsd_string None, (quoted other, rest))
 literal_of lexical (dot, rest) = Some (Literal lexical xsd_string None, (dot, rest))
 
+-- the object that begins with this terminal, given the terminal after it
 abbrev pub object_of : Terminal → Terminal × List ℕ → Option (Term × (Terminal × List ℕ))
 object_of (iri_ref text) w = Some (Iri text, w)
 object_of (blank_label label) w = Some (Blank label, w)
@@ -153,6 +164,7 @@ object_of (lang_tag tag) w = None
 object_of carets w = None
 object_of dot w = None
 
+-- the graph label g must be followed by the dot
 abbrev pub graph_dot : Term → Terminal × List ℕ → Option (Option Term × List ℕ)
 graph_dot g (dot, rest) = Some (Some g, rest)
 graph_dot g (iri_ref text, rest) = None
@@ -170,9 +182,11 @@ graph_of (quoted lexical, rest) = None
 graph_of (lang_tag tag, rest) = None
 graph_of (carets, rest) = None
 
+-- the quad, if nothing follows but blanks and a comment
 abbrev pub whole : QuadParts → List ℕ → Option (Option QuadParts)
 whole q rest = if is_end (skip_blanks rest) then Some (Some q) else None
 
+-- [2] statement of N-Quads, with its comment
 unfoldable pub statement_at : List ℕ → Option (Option QuadParts)
 statement_at cs = do
   s ← next cs
@@ -185,15 +199,18 @@ statement_at cs = do
   g ← graph_of x.1
   whole (record { s = subject; p = Iri predicate; o = x.0; g = g.0 }) g.1
 
+-- a line: blank or a comment, or a statement
 unfoldable pub line_at : List ℕ → Option (Option QuadParts)
 line_at cs = if is_end (skip_blanks cs) then Some None else statement_at cs
 
 -- ---- one term and nothing else
 
+-- nothing is left
 abbrev pub is_over : List ℕ → Bool
 is_over [] = true
 is_over (c ∷ cs) = false
 
+-- the term, if nothing is left
 abbrev pub alone : Term → List ℕ → Option Term
 alone t rest = if is_over rest then Some t else None
 
@@ -209,10 +226,12 @@ suffix_alone lexical (blank_label label, rest) = None
 suffix_alone lexical (quoted other, rest) = None
 suffix_alone lexical (dot, rest) = None
 
+-- a literal whose quotes are read: no suffix, or one and nothing more
 abbrev pub literal_alone : List ℕ → List ℕ → Option Term
 literal_alone lexical rest =
     if is_over rest then Some (Literal lexical xsd_string None) else (terminal_at rest >>= suffix_alone lexical)
 
+-- the term that begins with this terminal, and nothing more
 abbrev pub object_alone : Terminal × List ℕ → Option Term
 object_alone (iri_ref text, rest) = alone (Iri text) rest
 object_alone (blank_label label, rest) = alone (Blank label) rest
@@ -221,5 +240,6 @@ object_alone (lang_tag tag, rest) = None
 object_alone (carets, rest) = None
 object_alone (dot, rest) = None
 
+-- a term in its N-Quads form, and nothing more
 unfoldable pub term_at : List ℕ → Option Term
 term_at cs = terminal_at cs >>= object_alone

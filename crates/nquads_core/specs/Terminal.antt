@@ -76,5 +76,5 @@ IsTerminal text dot = text ≡ 46 ∷ []
 -- No longer front of the whole text is a terminal, of any kind: at each place the longest is taken.
 abbrev pub IsLongest : List ℕ → List ℕ → Type 0
 IsLongest text rest =
-    (front : List ℕ) (behind : List ℕ) (k : Terminal) → front ++ behind ≡ text ++ rest
+    (front : List ℕ) (remaining : List ℕ) (k : Terminal) → front ++ remaining ≡ text ++ rest
     → IsTerminal front k → length front ≤ length text

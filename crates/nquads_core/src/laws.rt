@@ -1,7 +1,7 @@
 //! Laws on lines and documents: statements about the definitions alone, each the contract of a
 //! function that does nothing.
 
-ghost use Rattle.nquads_core.specs.Laws.{LinesJoin, LinesReadBack, OneMeaning, QuadsReadBack, ReadsBack};
+ghost use Rattle.nquads_core.specs.Laws.{LinesJoin, LinesRoundTrip, OneMeaning, QuadsRoundTrip, TermsRoundTrip};
 
 /// A line has at most one meaning: one quad, or no statement.
 pub fn one_meaning()
@@ -15,14 +15,14 @@ pub fn lines_join()
 {}
 
 /// A term of the quad of some line round-trips through its N-Quads form as the object of a line.
-pub fn reads_back()
-    ensures law { ReadsBack }
+pub fn terms_round_trip()
+    ensures law { TermsRoundTrip }
 {}
 
 /// A quad round-trips through its N-Quads form: its terms as `write_term` writes them, with a space after each, and
 /// a dot. This holds for every subject, predicate, object and graph name that lines can hold, and so for the quad
 /// of every line.
-pub fn quads_read_back()
-    ensures quads { QuadsReadBack }
-    ensures lines { LinesReadBack }
+pub fn quads_round_trip()
+    ensures quads { QuadsRoundTrip }
+    ensures lines { LinesRoundTrip }
 {}

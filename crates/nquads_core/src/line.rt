@@ -19,7 +19,8 @@ use std::alloc::Global;
 /// - `Bad` if the line is malformed. A line that is not UTF-8, or that contains LF or CR, is malformed.
 /// - `Memory` if an allocation fails.
 pub fn read_line(alloc: Global, line: &[u8]) -> Result<Option<Quad>, LineFault>
-    ensures spells { IfOk result (λ quad. HasStatement line.now (option_map parts_of quad)) }
+    ensures has_statement { IfOk result
+        (λ quad. HasStatement line.now (option_map parts_of quad)) }
     ensures bad { (result ≡ Err Bad) → IsMalformed line.now }
 {
     if let Some(_) = memchr2(b'\n', b'\r', line) {

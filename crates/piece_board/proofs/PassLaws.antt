@@ -22,8 +22,8 @@ same_pass p b r r' last e f i = record { board = e i; history = f i; last = last
 pub push_counts : (i : ℕ) (xs : List ℕ) → times i (xs ++ i ∷ []) ≡ times i xs + 1
 push_counts i xs = let a = times_push i xs i in ⊎_elim (λ (t : (i ≡ i) × (one i i ≡ 1)). let c = t.1 in omega arith) (λ (t : (i ≢ i) × (one i i ≡ 0)). absurd (t.0 refl)) (one_is i i)
 
-pub last_stands : (i : ℕ) (xs : List ℕ) → IsLast i xs → 0 < times i xs
-last_stands i xs l = subst (λ ys. 0 < times i ys) (sym l.1) (let a = push_counts i l.0 in omega arith)
+pub last_occurs : (i : ℕ) (xs : List ℕ) → IsLast i xs → 0 < times i xs
+last_occurs i xs l = subst (λ ys. 0 < times i ys) (sym l.1) (let a = push_counts i l.0 in omega arith)
 
 module _ (p : PassView) (h : PassFacts p) where
   pub draw_kept : (i : ℕ) → p.history.finished ≡ 0 → DrawsOnce (with_draw i p.history) → PassFacts (with_history p (with_draw i p.history) (Some i))

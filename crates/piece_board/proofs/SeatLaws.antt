@@ -13,8 +13,8 @@ use Rattle.piece_board.proofs.CountLaws.{at_le, sum_le, some_term, two_terms}
 use Rattle.piece_board.proofs.RunLaws.{all_runs, all_single}
 
 module _ (n k next least : ℕ) (histories : List History) (fits : n ≤ 2 ^ 62) (few : k ≤ 64) (h : CountedClaims n k next least histories) where
-  stands : (x : ℕ) → 0 < reported x histories → IsReported histories x
-  stands x p = let t = some_term (λ (u : History). times x u.reports) histories p in (t.0, t.1, t.2, t.3)
+  is_reported : (x : ℕ) → 0 < reported x histories → IsReported histories x
+  is_reported x p = let t = some_term (λ (u : History). times x u.reports) histories p in (t.0, t.1, t.2, t.3)
 
   counts : (x : ℕ) → IsReported histories x → 0 < reported x histories
   counts x t = let a = at_le (λ (u : History). times x u.reports) histories t.0 t.1 t.2 in let b = t.3 in omega arith
@@ -32,9 +32,9 @@ module _ (n k next least : ℕ) (histories : List History) (fits : n ≤ 2 ^ 62)
     next_bound = h.bounded;
     finished_bound = finished_few;
     no_wrap = let a = h.bounded in let b = finished_few in omega arith;
-    least_is = ⊎_elim (λ (a : least ≡ n). inl a) (λ (b : 0 < reported least histories). inr (stands least b)) h.least_is;
+    least_is = ⊎_elim (λ (a : least ≡ n). inl a) (λ (b : 0 < reported least histories). inr (is_reported least b)) h.least_is;
     lowest = λ x t. h.lowest x (counts x t);
-    seen_is = λ s r at live. ⊎_elim (λ (a : r.seen ≡ n). inl a) (λ (b : 0 < reported r.seen histories). inr (stands r.seen b)) ((h.each s r at).seen_is live);
+    seen_is = λ s r at live. ⊎_elim (λ (a : r.seen ≡ n). inl a) (λ (b : 0 < reported r.seen histories). inr (is_reported r.seen b)) ((h.each s r at).seen_is live);
     seen_above = λ s r at live. (h.each s r at).seen_above live;
     among = λ s r at x p. let a = (h.each s r at).among x in omega arith;
     reported_once = λ s r at x. let a = (h.each s r at).among x in let b = at_le (λ (u : History). times x u.draws) histories s r at in let d = h.once x in omega arith;

@@ -108,8 +108,8 @@ module _ (size : Size) where
   deals id v two going s h at = let k = h.kept in let l : History = kept_back v in let r : History = dealt v in let n : ℕ = size.pieces in let next : ℕ = get_or s.words 0 0 in let least : ℕ = get_or s.words 1 0 in
       let histories : List History = set s.views id l ++ r ∷ [] in let mine = k.each id v at in
       let same : (f : History → ℕ) → f r + f l ≡ f v → sum_by f histories ≡ sum_by f s.views = λ f e. let a = sum_at f s.views id v l at in let b = sum_by_push f (set s.views id l) r in omega arith in
-      let told : (x : ℕ) → reported x histories ≡ reported x s.views = λ x. same (λ (u : History). times x u.reports) (omega arith) in
-      let seen_is : (0 < v.seats → (v.seen ≡ n) ⊎ (0 < reported v.seen histories)) = λ live. ⊎_elim (λ (a : v.seen ≡ n). inl a) (λ (b : 0 < reported v.seen s.views). let m = told v.seen in inr (omega arith)) (mine.seen_is live) in
+      let reported_same : (x : ℕ) → reported x histories ≡ reported x s.views = λ x. same (λ (u : History). times x u.reports) (omega arith) in
+      let seen_is : (0 < v.seats → (v.seen ≡ n) ⊎ (0 < reported v.seen histories)) = λ live. ⊎_elim (λ (a : v.seen ≡ n). inl a) (λ (b : 0 < reported v.seen s.views). let m = reported_same v.seen in inr (omega arith)) (mine.seen_is live) in
       let left : HistoryClaims n next least histories l = record {
         pieces = λ live. mine.pieces (omega arith);
         ended = mine.ended;
@@ -135,11 +135,11 @@ module _ (size : Size) where
           once = λ x. let a = same (λ (u : History). times x u.draws) (omega arith) in let b = k.once x in omega arith;
           bounded = let a = same (λ (u : History). u.finished) (omega arith) in let b = k.bounded in omega arith;
           seated = let a = same (λ (u : History). u.seats) (omega arith) in let b = k.seated in omega arith;
-          least_is = ⊎_elim (λ (a : least ≡ n). inl a) (λ (b : 0 < reported least s.views). let m = told least in inr (omega arith)) k.least_is;
-          lowest = λ x p. let e = told x in k.lowest x (omega arith);
+          least_is = ⊎_elim (λ (a : least ≡ n). inl a) (λ (b : 0 < reported least s.views). let m = reported_same least in inr (omega arith)) k.least_is;
+          lowest = λ x p. let e = reported_same x in k.lowest x (omega arith);
           within = k.within;
           each = λ j u e. ⊎_elim
-              (λ was. each_set (HistoryClaims n next least histories) s.views id l (λ i y at'. grown n next least s.views next least histories y (omega arith) (omega arith) (λ x. let e = told x in omega arith) (k.each i y at')) left j u was)
+              (λ was. each_set (HistoryClaims n next least histories) s.views id l (λ i y at'. grown n next least s.views next least histories y (omega arith) (omega arith) (λ x. let e = reported_same x in omega arith) (k.each i y at')) left j u was)
               (λ (t : r ≡ u). subst (HistoryClaims n next least histories) t right)
               (at_snoc (set s.views id l) r u j e);
         };
@@ -151,15 +151,15 @@ module _ (size : Size) where
       let there' : get_elem? s.views other ≡ some w = ⊎_elim (λ (t : (other ≡ id) × (b ≡ w)). absurd (apart t.0)) (λ (t : (other ≢ id) × (get_elem? s.views other ≡ some w)). t.1) (at_set s.views id other b w there) in
       let mine = k.each id v at in let theirs = k.each other w there' in
       let same : (f : History → ℕ) → f b ≡ f v + f w → f o ≡ 0 → sum_by f histories ≡ sum_by f s.views = λ f e z. let a = sum_at f s.views id v b at in let c = sum_at f (set s.views id b) other w o there in omega arith in
-      let told : (x : ℕ) → reported x histories ≡ reported x s.views = λ x. same (λ (u : History). times x u.reports) (times-append x v.reports w.reports) refl in
+      let reported_same : (x : ℕ) → reported x histories ≡ reported x s.views = λ x. same (λ (u : History). times x u.reports) (times-append x v.reports w.reports) refl in
       let both : HistoryClaims n next least histories b = record {
         pieces = λ _. mine.pieces live;
         ended = λ f. dite (dec_le v.finished 0) (λ none. theirs.ended (omega arith)) (λ some. mine.ended (omega arith));
         counted = let a = mine.counted in let c = theirs.counted in omega arith;
         among = λ x. let a = mine.among x in let c = theirs.among x in let d = times-append x v.reports w.reports in let e = times-append x v.draws w.draws in omega arith;
         seen_is = λ _. dite (dec_le v.seen w.seen)
-            (λ le. subst (λ z. (z ≡ n) ⊎ (0 < reported z histories)) (omega arith) (⊎_elim (λ (a : v.seen ≡ n). inl a) (λ (c : 0 < reported v.seen s.views). let m = told v.seen in inr (omega arith)) (mine.seen_is live)))
-            (λ gt. subst (λ z. (z ≡ n) ⊎ (0 < reported z histories)) (omega arith) (⊎_elim (λ (a : w.seen ≡ n). inl a) (λ (c : 0 < reported w.seen s.views). let m = told w.seen in inr (omega arith)) (theirs.seen_is live')));
+            (λ le. subst (λ z. (z ≡ n) ⊎ (0 < reported z histories)) (omega arith) (⊎_elim (λ (a : v.seen ≡ n). inl a) (λ (c : 0 < reported v.seen s.views). let m = reported_same v.seen in inr (omega arith)) (mine.seen_is live)))
+            (λ gt. subst (λ z. (z ≡ n) ⊎ (0 < reported z histories)) (omega arith) (⊎_elim (λ (a : w.seen ≡ n). inl a) (λ (c : 0 < reported w.seen s.views). let m = reported_same w.seen in inr (omega arith)) (theirs.seen_is live')));
         seen_above = λ _. let a = mine.seen_above live in let c = theirs.seen_above live' in omega arith;
         spent = λ x z. absurd (omega arith);
       } in
@@ -179,11 +179,11 @@ module _ (size : Size) where
           once = λ x. let a = same (λ (u : History). times x u.draws) (times-append x v.draws w.draws) refl in let c = k.once x in omega arith;
           bounded = let a = same (λ (u : History). u.finished) refl refl in let c = k.bounded in omega arith;
           seated = let a = same (λ (u : History). u.seats) refl refl in let c = k.seated in omega arith;
-          least_is = ⊎_elim (λ (a : least ≡ n). inl a) (λ (c : 0 < reported least s.views). let m = told least in inr (omega arith)) k.least_is;
-          lowest = λ x p. let e = told x in k.lowest x (omega arith);
+          least_is = ⊎_elim (λ (a : least ≡ n). inl a) (λ (c : 0 < reported least s.views). let m = reported_same least in inr (omega arith)) k.least_is;
+          lowest = λ x p. let e = reported_same x in k.lowest x (omega arith);
           within = k.within;
           each = each_set (HistoryClaims n next least histories) (set s.views id b) other o
-              (each_set (HistoryClaims n next least histories) s.views id b (λ i y at'. grown n next least s.views next least histories y (omega arith) (omega arith) (λ x. let e = told x in omega arith) (k.each i y at')) both) spent;
+              (each_set (HistoryClaims n next least histories) s.views id b (λ i y at'. grown n next least s.views next least histories y (omega arith) (omega arith) (λ x. let e = reported_same x in omega arith) (k.each i y at')) both) spent;
         };
       }
 

@@ -5,6 +5,7 @@ use Rattle.atomic_table.specs.Seated.{TableId}
 use Rattle.piece_board.specs.Counts.{times, once_below}
 use Rattle.piece_board.specs.Pass.{PassView}
 
+-- the identity of the board's table, the count of pieces, and the count of passes
 pub record BoardView : Type 0 where
   pub id : TableId
   pub pieces : ℕ
@@ -18,12 +19,15 @@ IsPassOf b p = (p.board ≡ b.id) × (p.history.pieces ≡ b.pieces)
 abbrev pub drawn_by : ℕ → List PassView → ℕ
 drawn_by x ps = sum_by (λ p. times x p.history.draws) ps
 
+-- the same of the reports
 abbrev pub reported_by : ℕ → List PassView → ℕ
 reported_by x ps = sum_by (λ p. times x p.history.reports) ps
 
+-- how many passes are finished
 abbrev pub finished_of : List PassView → ℕ
 finished_of ps = sum_by (λ p. p.history.finished) ps
 
+-- how many numbers all passes together skipped
 abbrev pub skips_of : List PassView → ℕ
 skips_of ps = sum_by (λ p. p.skips) ps
 

@@ -26,6 +26,7 @@ abbrev pub IsReported : List History → ℕ → Type 0
 IsReported histories x =
     (s : ℕ) × (h : History) × IsSeat histories s h × (0 < times x h.reports)
 
+-- the invariant: n pieces, k seats, the next number and the least report
 pub record Claims (n k next least : ℕ) (histories : List History) : Type 0 where
   -- each number below next and n was drawn once, by one seat, and no other number was drawn
   pub drawn_once : (x : ℕ) → x < min next n → IsDrawnOnce histories x

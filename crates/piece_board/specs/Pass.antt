@@ -9,6 +9,7 @@ use Rattle.piece_board.specs.Counts.{times}
 use Rattle.piece_board.specs.Protocol.{IsLast, fresh, with_draw, with_end, with_report, with_seen}
 use Rattle.piece_board.specs.Rule.{DrawsOnce}
 
+-- the lowest skipped number is None if nothing was skipped
 pub record PassView : Type 0 where
   pub board : TableId
   pub history : History
@@ -41,9 +42,11 @@ abbrev pub after_drawing : PassView → Option ℕ → PassView
 after_drawing p None = with_history p (with_end p.history) None
 after_drawing p (Some i) = with_history p (with_draw i p.history) (Some i)
 
+-- the pass after a report of i
 abbrev pub after_reporting : PassView → ℕ → PassView
 after_reporting p i = with_history p (with_report i p.history) None
 
+-- the pass after a look that found i
 abbrev pub after_looking : PassView → ℕ → PassView
 after_looking p i = with_history p (with_seen i p.history) p.last
 
@@ -62,6 +65,7 @@ after_skipping p i = record {
   lowest_skip = Some (lower p.lowest_skip i);
 }
 
+-- 1 if there is a number, and otherwise 0
 abbrev pub count_of : Option ℕ → ℕ
 count_of None = 0
 count_of (Some i) = 1

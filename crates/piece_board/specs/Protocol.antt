@@ -61,6 +61,7 @@ with_seen i h = record {
 abbrev pub after_draw : ℕ → History → History
 after_draw i h = cond (ltb i h.pieces) (with_draw i h) (with_end h)
 
+-- the two shared numbers, and a history for each seat
 pub record BoardState : Type 0 where
   pub next : ℕ
   pub least : ℕ
@@ -82,6 +83,7 @@ change s f [] = []
 change zero f (h ∷ hs) = f h ∷ hs
 change (suc s) f (h ∷ hs) = h ∷ change s f hs
 
+-- i is the last number of the list
 abbrev pub IsLast : ℕ → List ℕ → Type 0
 IsLast i xs = (before : List ℕ) × (xs ≡ before ++ i ∷ [])
 
@@ -94,6 +96,7 @@ Admits b (report s i) =
     × (times i h.reports ≡ 0)
 Admits b (look s) = (h : History) × (get_elem? b.histories s ≡ some h)
 
+-- the state after an event
 abbrev pub after : BoardState → Event → BoardState
 after b (draw s) = record {
   next = b.next + 1;
@@ -111,6 +114,7 @@ after b (look s) = record {
   histories = change s (with_seen b.least) b.histories;
 }
 
+-- the state after all events, in order
 abbrev pub run : BoardState → List Event → BoardState
 run b [] = b
 run b (e ∷ es) = run (after b e) es

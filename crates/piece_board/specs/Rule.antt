@@ -16,9 +16,11 @@ use Rattle.piece_board.specs.Claims.{finished}
 abbrev pub drawn : ℕ → List History → ℕ
 drawn x histories = sum_by (λ h. times x h.draws) histories
 
+-- the same of the reports
 abbrev pub reported : ℕ → List History → ℕ
 reported x histories = sum_by (λ h. times x h.reports) histories
 
+-- how many seats the histories represent together
 abbrev pub seats : List History → ℕ
 seats histories = sum_by (λ h. h.seats) histories
 
@@ -60,12 +62,15 @@ DrawsOnce h = (x : ℕ) → times x h.draws ≤ once_below x h.pieces
 abbrev Holder : Type 0
 Holder = Me (Unit {0}) History
 
+-- a draw that found this number: the number is added to the draws, or the seat is finished
 abbrev pub IsDraw : Step (Unit {0}) → Holder → ℕ → Holder → Type 0
 IsDraw step me found after = (after ≡ (after_draw found me.0, me.1)) × DrawsOnce after.0
 
+-- a report adds its number to the reports
 abbrev pub IsReport : Step (Unit {0}) → Holder → ℕ → Holder → Type 0
 IsReport step me found after = after ≡ (with_report step.first me.0, me.1)
 
+-- a look records what it found, which no number that the seat saw or reported is below
 abbrev pub IsLook : Step (Unit {0}) → Holder → ℕ → Holder → Type 0
 IsLook step me found after =
     (after ≡ (with_seen found me.0, me.1)) × (found ≤ me.0.seen) × (found ≤ me.0.pieces)
@@ -82,6 +87,7 @@ kept_back h = record {
   finished = h.finished;
 }
 
+-- the history of the new seat
 abbrev pub dealt : History → History
 dealt h = record {
   pieces = h.pieces;

@@ -57,7 +57,7 @@ impl From<AllocError> for BoardFault {
 
     ghost from_gives = { λ _ fault. fault ≡ Memory };
 
-    fn from(_refused: AllocError) -> BoardFault {
+    fn from(_failed: AllocError) -> BoardFault {
         BoardFault::Memory
     }
 }

@@ -27,7 +27,7 @@ same_from_none a b xs ys n e h = h.appended ∙ ap (λ us. xs ++ us) (nil_from_l
 -- a cut of the front is a cut of the whole
 pub IsNextCut-append : (xs ys : List ℕ) (size place : ℕ) → 1 ≤ size → IsNextCut xs size 0 place → IsNextCut (xs ++ ys) size 0 place
 IsNextCut-append xs ys size place some h = record {
-  cut = record { inside = (h.cut.inside.0, omega (arith, h.cut.inside.1, length-append xs ys)); behind = get_or_append_left xs ys 0 (place - 1) (omega (arith, h.cut.inside.0, h.cut.inside.1)) ∙ h.cut.behind };
+  cut = record { inside = (h.cut.inside.0, omega (arith, h.cut.inside.1, length-append xs ys)); after_line_feed = get_or_append_left xs ys 0 (place - 1) (omega (arith, h.cut.inside.0, h.cut.inside.1)) ∙ h.cut.after_line_feed };
   far = h.far;
   least = λ q far below is. h.least q far below (sym (get_or_append_left xs ys 0 (q - 1) (omega (arith, far, some, below, h.cut.inside.1))) ∙ is);
 }
@@ -117,5 +117,5 @@ pub ends_whole : (all block : List ℕ) (size place : ℕ) → IsNextCut all siz
 ends_whole all block size place h is =
     let k : place ≡ (place - 1) + 1 = omega (arith, h.cut.inside.0) in (
       take (place - 1) all,
-      is ∙ ap (λ n. take n all) k ∙ take_more all (place - 1) 0 (omega (arith, h.cut.inside.0, h.cut.inside.1)) ∙ ap (λ x. take (place - 1) all ++ x ∷ []) h.cut.behind,
+      is ∙ ap (λ n. take n all) k ∙ take_more all (place - 1) 0 (omega (arith, h.cut.inside.0, h.cut.inside.1)) ∙ ap (λ x. take (place - 1) all ++ x ∷ []) h.cut.after_line_feed,
     )

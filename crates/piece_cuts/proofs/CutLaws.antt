@@ -32,7 +32,7 @@ module _ (doc : List ℕ) (from start size : ℕ) (starts : from + 1 ≡ start +
 
   pub IsNextCut-from_first : (k : ℕ) → NoneBefore (Passes (is_byte 10) hay) 0 (length hay) k → Passes (is_byte 10) hay k → from + k + 1 < length doc → IsNextCut doc size start (from + k + 1)
   IsNextCut-from_first k first here below = record {
-    cut = record { inside = (omega arith, below); behind = (let e : from + k + 1 - 1 ≡ from + k = omega arith in ap (λ i. get_or doc i 0) e ∙ sym (hay-at k) ∙ eqb-true _ _ here) };
+    cut = record { inside = (omega arith, below); after_line_feed = (let e : from + k + 1 - 1 ≡ from + k = omega arith in ap (λ i. get_or doc i 0) e ∙ sym (hay-at k) ∙ eqb-true _ _ here) };
     far = omega arith;
     least = λ q far before is. first.before (q - 1 - from) (omega arith) (omega arith) (Passes-before q far is);
   }

@@ -37,7 +37,7 @@ ends doc a b h cut =
     let k : b - a ≡ (b - 1 - a) + 1 = omega arith in
     let at : a + (b - 1 - a) ≡ b - 1 = omega arith in
     let last : get_or (drop a doc) (b - 1 - a) 0 ≡ 10 =
-    get_or-drop a doc (b - 1 - a) 0 ∙ ap (λ i. get_or doc i 0) at ∙ cut.behind in (
+    get_or-drop a doc (b - 1 - a) 0 ∙ ap (λ i. get_or doc i 0) at ∙ cut.after_line_feed in (
       take (b - 1 - a) (drop a doc),
       ap (λ i. take i (drop a doc)) k ∙ take_more (drop a doc) (b - 1 - a) 0 (omega (arith, cut.inside.1))
           ∙ ap (λ x. take (b - 1 - a) (drop a doc) ++ x ∷ []) last,
@@ -71,7 +71,7 @@ module _ (text : List ℕ) (p size : ℕ) (some : 1 ≤ size) where
       record {
         cut = record {
           inside = (omega arith, omega (arith, i.1));
-          behind = get_or-drop p text (q - p - 1) 0 ∙ ap (λ k. get_or text k 0) e ∙ next.cut.behind;
+          after_line_feed = get_or-drop p text (q - p - 1) 0 ∙ ap (λ k. get_or text k 0) e ∙ next.cut.after_line_feed;
         };
         far = omega arith;
         least = λ r far below is. next.least (p + r) (omega (arith, far)) (omega (arith, below)) (before r (omega (arith, far)) is);
@@ -105,8 +105,8 @@ same-cut text size a b h k = by (which a b)
     which x y = search (rules, arith)
 
     by : (a < b) ⊎ ((b < a) ⊎ (a ≡ b)) → a ≡ b
-    by (inl low) = absurd (k.least a h.far low h.cut.behind)
-    by (inr (inl high)) = absurd (h.least b k.far high k.cut.behind)
+    by (inl low) = absurd (k.least a h.far low h.cut.after_line_feed)
+    by (inr (inl high)) = absurd (h.least b k.far high k.cut.after_line_feed)
     by (inr (inr e)) = e
 
 abbrev pub TheRest : ℕ → List ℕ → List ℕ → List ℕ → List ℕ → Type 0
@@ -139,11 +139,11 @@ pub first-then : (size : ℕ) (text piece rest places : List ℕ) → 1 ≤ size
 first-then size text piece rest [] some full first every = by first.cut
   where
     by : IsNextCut text size 0 (length piece) ⊎ (HasNoNextCut text size 0 × (rest ≡ [])) → TheRest size text piece rest []
-    by (inl next) = absurd (every (length piece) next.far next.cut.inside.1 next.cut.behind)
+    by (inl next) = absurd (every (length piece) next.far next.cut.inside.1 next.cut.after_line_feed)
     by (inr (none, e)) =
         inl (e, ap (λ (s : List ℕ). s ∷ []) (take_all (length text - 0) text (omega arith) ∙ first.joined ∙ ap (λ (s : List ℕ). piece ++ s) e ∙ append-nil piece))
 first-then size text piece rest (q ∷ qs) some full first every = by first.cut
   where
     by : IsNextCut text size 0 (length piece) ⊎ (HasNoNextCut text size 0 × (rest ≡ [])) → TheRest size text piece rest (q ∷ qs)
     by (inl next) = at-cut size text piece rest q qs some first.joined (same-cut text size q (length piece) every.0 next) every.0 every.1
-    by (inr (none, e)) = absurd (none q every.0.far every.0.cut.inside.1 every.0.cut.behind)
+    by (inr (none, e)) = absurd (none q every.0.far every.0.cut.inside.1 every.0.cut.after_line_feed)

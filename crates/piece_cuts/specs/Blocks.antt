@@ -7,6 +7,7 @@ use Rattle.nquads_core.specs.declared.transfer.ReadFault.{ReadFault}
 use Rattle.piece_cuts.specs.declared.blocks.BlockState.{BlockState}
 use Rattle.piece_cuts.specs.declared.blocks.BlockState.TheVariants.{Reading, Ended, Failed}
 
+-- the least size of a block, the bytes that are read but not returned, and what the next call does
 pub record BlocksView : Type 0 where
   pub size : ℕ
   pub kept : List ℕ

@@ -5,13 +5,14 @@ use Rattle.std.specs.Prelude.{◌≡◌, ◌≢◌, ℕ, ◌+◌, ◌-◌, ◌<�
 -- a place inside the document, after a line feed
 pub record IsCut (doc : List ℕ) (place : ℕ) : Type 0 where
   pub inside : (0 < place) × (place < length doc)
-  pub behind : slice_index doc (place - 1) ≡ 10
+  pub after_line_feed : slice_index doc (place - 1) ≡ 10
 
 -- the places increase strictly from low on, and each is a cut
 abbrev pub AreCutsFrom : List ℕ → ℕ → List ℕ → Type 0
 AreCutsFrom doc low [] = ⊤
 AreCutsFrom doc low (p ∷ ps) = (low < p) × IsCut doc p × AreCutsFrom doc p ps
 
+-- the places increase strictly, and each is a cut
 abbrev pub AreCuts : List ℕ → List ℕ → Type 0
 AreCuts doc places = AreCutsFrom doc 0 places
 

@@ -12,6 +12,7 @@ pieces_from doc start (p ∷ ps) = slice_range doc start p ∷ pieces_from doc p
 abbrev pub pieces_of : List ℕ → List ℕ → List (List ℕ)
 pieces_of doc places = pieces_from doc 0 places
 
+-- the last byte is a line feed
 abbrev pub EndsWithLineFeed : List ℕ → Type 0
 EndsWithLineFeed piece = (front : List ℕ) × (piece ≡ front ++ 10 ∷ [])
 
@@ -23,6 +24,7 @@ pub record ArePiecesOf (doc places : List ℕ) : Type 0 where
   pub joined : flat_map (λ piece. piece) (pieces_of doc places) ≡ doc
   pub whole_lines : (i : ℕ) → i < length places → EndsWithLineFeed (piece_at doc places i)
 
+-- the pieces at any cuts of a document
 abbrev pub PiecesAreTheDocument : Type 0
 PiecesAreTheDocument = (doc places : List ℕ) → AreCuts doc places → ArePiecesOf doc places
 

@@ -34,7 +34,7 @@ pub IsCollected-more : {Out Fault : Type 0} (answers : ℕ → Out → Type 0) (
 IsCollected-more answers faults board ps outs failed w all one going = record {
   of_board = All-push (λ p. IsPassOf board p) ps w.pass all.of_board one.of_board;
   finished = All-push (λ p. 0 < p.history.finished) ps w.pass all.finished (one.finished going);
-  answered = All-append (λ p. answers p.0 p.1) outs w.outs.items all.answered one.work.answered;
+  returned = All-append (λ p. answers p.0 p.1) outs w.outs.items all.returned one.work.returned;
   faulted = All-append (λ p. faults p.0 p.1) failed w.faults.items all.faulted one.work.faulted;
   reported = rw (map-append, flat_map-append, append-nil) (ap (λ xs. xs ++ numbers_of w.faults.items) all.reported ∙ ap (λ xs. all_reports ps ++ xs) one.work.reported);
   covers = All-push (λ p. CoversUpTo p.history.seen p.history.draws (done_of (outs ++ w.outs.items) (failed ++ w.faults.items))) ps w.pass (All-weaker (λ p. CoversUpTo p.history.seen p.history.draws (done_of outs failed)) (λ p. CoversUpTo p.history.seen p.history.draws (done_of (outs ++ w.outs.items) (failed ++ w.faults.items))) (λ p h i drawn low. Contains-done_old outs w.outs.items failed w.faults.items i (h i drawn low)) ps all.covers) (λ i drawn low. Contains-done_new outs w.outs.items failed w.faults.items i (one.covers going i drawn low));

@@ -27,12 +27,12 @@ pub CoversUpTo-done : (seen seen' i : ℕ) (draws done done' : List ℕ) → Cov
 CoversUpTo-done seen seen' i draws done done' h falls grows here j in' low =
     ⊎_elim (λ was. grows j (h j was (omega arith))) (λ is. subst (Contains done') is here) (Contains-push_cases draws i j in')
 
-pub Contains-answer_old : {Out Fault : Type 0} (outs : List (ℕ × Out)) (failed : List (ℕ × Fault)) (i : ℕ) (out : Out) (j : ℕ) → Contains (done_of outs failed) j → Contains (done_of (outs ++ (i, out) ∷ []) failed) j
-Contains-answer_old outs failed i out j h =
+pub Contains-output_old : {Out Fault : Type 0} (outs : List (ℕ × Out)) (failed : List (ℕ × Fault)) (i : ℕ) (out : Out) (j : ℕ) → Contains (done_of outs failed) j → Contains (done_of (outs ++ (i, out) ∷ []) failed) j
+Contains-output_old outs failed i out j h =
     rw map-append (⊎_elim (λ a. Contains-append_left _ _ j (Contains-append_left _ _ j a)) (λ b. Contains-append_right (numbers_of outs ++ i ∷ []) _ j b) (Contains-append_cases (numbers_of outs) (numbers_of failed) j h))
 
-pub Contains-answer_new : {Out Fault : Type 0} (outs : List (ℕ × Out)) (failed : List (ℕ × Fault)) (i : ℕ) (out : Out) → Contains (done_of (outs ++ (i, out) ∷ []) failed) i
-Contains-answer_new outs failed i out =
+pub Contains-output_new : {Out Fault : Type 0} (outs : List (ℕ × Out)) (failed : List (ℕ × Fault)) (i : ℕ) (out : Out) → Contains (done_of (outs ++ (i, out) ∷ []) failed) i
+Contains-output_new outs failed i out =
     rw map-append (Contains-append_left _ _ i (Contains-push (numbers_of outs) i))
 
 pub Contains-fault_old : {Out Fault : Type 0} (outs : List (ℕ × Out)) (failed : List (ℕ × Fault)) (i : ℕ) (fault : Fault) (j : ℕ) → Contains (done_of outs failed) j → Contains (done_of outs (failed ++ (i, fault) ∷ [])) j
@@ -46,15 +46,15 @@ Contains-fault_new outs failed i fault =
 module _ {Out Fault : Type 0} (answers : ℕ → Out → Type 0) (faults : ℕ → Fault → Type 0) (draws reports : List ℕ) (outs : List (ℕ × Out)) (failed : List (ℕ × Fault)) (work : IsWorkOf answers faults draws reports outs failed) (i : ℕ) where
   pub IsWorkOf-draw : IsWorkOf answers faults (draws ++ i ∷ []) reports outs failed
   IsWorkOf-draw = record {
-    answered = work.answered;
+    returned = work.returned;
     faulted = work.faulted;
     drawn = IsNoMoreThan-draw (done_of outs failed) draws i work.drawn;
     reported = work.reported;
   }
 
-  pub IsWorkOf-answer : (out : Out) → answers i out → IsWorkOf answers faults (draws ++ i ∷ []) reports (outs ++ (i, out) ∷ []) failed
-  IsWorkOf-answer out h = record {
-    answered = All-push (λ p. answers p.0 p.1) outs (i, out) work.answered h;
+  pub IsWorkOf-output : (out : Out) → answers i out → IsWorkOf answers faults (draws ++ i ∷ []) reports (outs ++ (i, out) ∷ []) failed
+  IsWorkOf-output out h = record {
+    returned = All-push (λ p. answers p.0 p.1) outs (i, out) work.returned h;
     faulted = work.faulted;
     drawn = IsNoMoreThan-answer outs failed draws i out work.drawn;
     reported = work.reported;
@@ -62,7 +62,7 @@ module _ {Out Fault : Type 0} (answers : ℕ → Out → Type 0) (faults : ℕ �
 
   pub IsWorkOf-fault : (fault : Fault) → faults i fault → IsWorkOf answers faults (draws ++ i ∷ []) (reports ++ i ∷ []) outs (failed ++ (i, fault) ∷ [])
   IsWorkOf-fault fault h = record {
-    answered = work.answered;
+    returned = work.returned;
     faulted = All-push (λ p. faults p.0 p.1) failed (i, fault) work.faulted h;
     drawn = IsNoMoreThan-fault outs failed draws i fault work.drawn;
     reported = rw map-append (ap (λ xs. xs ++ i ∷ []) work.reported);

@@ -5,9 +5,11 @@ use Rattle.piece_board.specs.Pass.{PassView}
 use Rattle.piece_board.specs.Board.{BoardView, IsPassOf}
 use Rattle.piece_pool.specs.Worked.{numbers_of, done_of, CoversUpTo}
 
+-- the draws of all passes
 abbrev pub all_draws : List PassView → List ℕ
 all_draws ps = flat_map (λ p. p.history.draws) ps
 
+-- the reports of all passes
 abbrev pub all_reports : List PassView → List ℕ
 all_reports ps = flat_map (λ p. p.history.reports) ps
 
@@ -18,7 +20,7 @@ pub record IsCollected {Out Fault : Type 0} (answers : ℕ → Out → Type 0)
     (outs : List (ℕ × Out)) (failed : List (ℕ × Fault)) : Type 0 where
   pub of_board : All (λ p. IsPassOf board p) ps
   pub finished : All (λ p. 0 < p.history.finished) ps
-  pub answered : All (λ p. answers p.0 p.1) outs
+  pub returned : All (λ p. answers p.0 p.1) outs
   pub faulted : All (λ p. faults p.0 p.1) failed
   pub reported : numbers_of failed ≡ all_reports ps
   pub covers : All (λ p. CoversUpTo p.history.seen p.history.draws (done_of outs failed)) ps

@@ -5,7 +5,7 @@ use Rattle.piece_pool.specs.declared.collector.Outcome.{Outcome}
 use Rattle.piece_pool.specs.declared.collector.Outcome.TheVariants.{All as Every, First}
 
 -- no piece below n is faulty, and the output of each is at its index
-pub record AnswersEach {Out Fault : Type 0} (answers : ℕ → Out → Type 0)
+pub record HasEachOutput {Out Fault : Type 0} (answers : ℕ → Out → Type 0)
     (faults : ℕ → Fault → Type 0) (n : ℕ) (outs : List Out) : Type 0 where
   pub count : length outs ≡ n
   pub each : (i : ℕ) (d : Out) → i < n → answers i (slice_index_or outs i d)
@@ -16,12 +16,12 @@ pub record IsFirstFault {Out Fault : Type 0} (answers : ℕ → Out → Type 0)
     (faults : ℕ → Fault → Type 0) (n piece : ℕ) (fault : Fault) : Type 0 where
   pub below : piece < n
   pub faulted : faults piece fault
-  pub answered : (i : ℕ) → i < piece → (out : Out) × answers i out
+  pub returned : (i : ℕ) → i < piece → (out : Out) × answers i out
   pub least : (i : ℕ) (other : Fault) → i < piece → ¬ faults i other
 
 -- the outputs of all pieces below n, or the least faulty piece
 abbrev pub IsPoolOutcome :
     {Out Fault : Type 0} → (ℕ → Out → Type 0) → (ℕ → Fault → Type 0) → ℕ
     → Outcome Out Fault → Type 0
-IsPoolOutcome answers faults n (Every outs) = AnswersEach answers faults n outs.items
+IsPoolOutcome answers faults n (Every outs) = HasEachOutput answers faults n outs.items
 IsPoolOutcome answers faults n (First piece fault) = IsFirstFault answers faults n piece fault

@@ -5,6 +5,7 @@ use Rattle.piece_board.specs.Counts.{times}
 use Rattle.piece_board.specs.Board.{BoardView, IsPassOf}
 use Rattle.piece_pool.specs.declared.worker.Worked.{Worked}
 
+-- the numbers of the pieces in the list
 abbrev pub numbers_of : {X : Type 0} → List (ℕ × X) → List ℕ
 numbers_of ps = map (λ p. p.0) ps
 
@@ -26,7 +27,7 @@ CoversUpTo most xs ys = (i : ℕ) → Contains xs i → i ≤ most → Contains 
 pub record IsWorkOf {Out Fault : Type 0} (answers : ℕ → Out → Type 0)
     (faults : ℕ → Fault → Type 0) (draws reports : List ℕ) (outs : List (ℕ × Out))
     (failed : List (ℕ × Fault)) : Type 0 where
-  pub answered : All (λ p. answers p.0 p.1) outs
+  pub returned : All (λ p. answers p.0 p.1) outs
   pub faulted : All (λ p. faults p.0 p.1) failed
   pub drawn : IsNoMoreThan (done_of outs failed) draws
   pub reported : numbers_of failed ≡ reports

@@ -19,7 +19,7 @@ impl<F> From<AllocError> for JobFault<F> {
 
     ghost from_gives = { λ _ fault. fault ≡ Memory };
 
-    fn from(_refused: AllocError) -> JobFault<F> {
+    fn from(_failed: AllocError) -> JobFault<F> {
         JobFault::Memory
     }
 }

@@ -13,7 +13,7 @@
 //! Everything here is a choice of this project (not fixed by a standard).
 //!
 //! Reading order: `job` (the work), `gate` (callbacks before and after each piece), `worker` (the
-//! loop of one worker), `collector` (outputs by number), `pool` (starting and joining the workers),
+//! loop of a worker), `collector` (outputs by number), `pool` (starting and joining the workers),
 //! `running` (in parallel, or on the caller's thread). Tests: the crate worker_tests.
 //!
 //! ```text

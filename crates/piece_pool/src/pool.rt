@@ -38,7 +38,7 @@ impl From<AllocError> for PoolFault {
 
     ghost from_gives = { λ _ fault. fault ≡ Memory };
 
-    fn from(_refused: AllocError) -> PoolFault {
+    fn from(_failed: AllocError) -> PoolFault {
         PoolFault::Memory
     }
 }
@@ -49,8 +49,8 @@ impl From<BoardFault> for PoolFault {
 
     ghost from_gives = { λ _ fault. fault ≡ Memory };
 
-    fn from(refused: BoardFault) -> PoolFault {
-        match refused {
+    fn from(failed: BoardFault) -> PoolFault {
+        match failed {
             BoardFault::Memory => PoolFault::Memory,
         }
     }

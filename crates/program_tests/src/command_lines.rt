@@ -6,7 +6,7 @@ use std::alloc::{AllocError, Global};
 
 /// Prints a command: its name, the number of workers and the bytes of a block. For a select it adds
 /// the rows of a piece and the query. Prints `none` for arguments that are no valid command line.
-fn told(alloc: Global, line: &[&str]) -> Result<String, AllocError> {
+fn parsed_text(alloc: Global, line: &[&str]) -> Result<String, AllocError> {
     let words = words_of(alloc, line)?;
     match read_command(alloc, &words) {
         Ok(command) => command_text(alloc, &command),
@@ -106,7 +106,7 @@ fn is_read<R: Print>(
     line: &[&str],
     expected: &str,
 ) -> Result<bool, AllocError> {
-    let given = told(alloc, line)?;
+    let given = parsed_text(alloc, line)?;
     if given.as_str() != expected {
         let _ = println!(rt; "{line:?}: expected {expected}, got {given}");
     }

@@ -37,7 +37,7 @@ fn by_lines<R: Threads + Wait + RandomSource>(
 }
 
 /// Returns whether the fault is memory or a worker. Prints it for the script.
-fn is_refused<R: Print>(rt: &R, fault: Fault) -> bool {
+fn lacks_resources<R: Print>(rt: &R, fault: Fault) -> bool {
     let what = match fault {
         Fault::Memory => "memory",
         Fault::WorkerRefused => "a worker",
@@ -49,7 +49,7 @@ fn is_refused<R: Print>(rt: &R, fault: Fault) -> bool {
 
 /// Evaluates a query. If memory or a worker is missing, it is evaluated again. Returns None if a
 /// piece that entered the gate has not left it.
-fn answered<R: Threads + Wait + RandomSource + Print>(
+fn evaluated<R: Threads + Wait + RandomSource + Print>(
     rt: &R,
     alloc: Global,
     doc: &[u8],
@@ -63,7 +63,7 @@ fn answered<R: Threads + Wait + RandomSource + Print>(
     let Err(fault) = given else {
         return Some(given)
     };
-    if !is_refused(rt, fault) {
+    if !lacks_resources(rt, fault) {
         return Some(Err(fault));
     }
     if !gate.is_balanced() {
@@ -80,17 +80,17 @@ fn comes_to<R: Threads + Wait + RandomSource + Print>(
     doc: &[u8],
     query: &str,
     workers: usize,
-    wanted: Result<&[u8], Fault>,
+    expected: Result<&[u8], Fault>,
 ) -> bool
     requires workers { (1 ≤ workers) × (workers ≤ 64) }
 {
     let gate = Counter::new();
-    let is_wanted = match (answered(rt, alloc, doc, query, workers, &gate), wanted) {
-        (Some(Ok(bytes)), Ok(wanted)) => bytes.as_slice() == wanted,
-        (Some(Err(fault)), Err(wanted)) => fault == wanted,
+    let is_expected = match (evaluated(rt, alloc, doc, query, workers, &gate), expected) {
+        (Some(Ok(bytes)), Ok(expected)) => bytes.as_slice() == expected,
+        (Some(Err(fault)), Err(expected)) => fault == expected,
         _ => false,
     };
-    is_wanted && gate.is_balanced()
+    is_expected && gate.is_balanced()
 }
 
 /// Returns whether a query has this result with one worker and with two.
@@ -99,10 +99,10 @@ fn has_outcome<R: Threads + Wait + RandomSource + Print>(
     alloc: Global,
     doc: &str,
     query: &str,
-    wanted: Result<&[u8], Fault>,
+    expected: Result<&[u8], Fault>,
 ) -> bool {
-    comes_to(rt, alloc, doc.as_bytes(), query, 1, wanted)
-        && comes_to(rt, alloc, doc.as_bytes(), query, 2, wanted)
+    comes_to(rt, alloc, doc.as_bytes(), query, 1, expected)
+        && comes_to(rt, alloc, doc.as_bytes(), query, 2, expected)
 }
 
 /// Returns whether a query has these variables and bindings. It is also true if there is no memory
@@ -115,13 +115,13 @@ fn has_rows<R: Threads + Wait + RandomSource + Print>(
     rows: (&str, &str),
 ) -> bool {
     match json(alloc, rows.0, rows.1) {
-        Ok(wanted) => has_outcome(rt, alloc, doc, query, Ok(&wanted)),
+        Ok(expected) => has_outcome(rt, alloc, doc, query, Ok(&expected)),
         Err(_) => true,
     }
 }
 
 #[test]
-fn a_pattern_is_answered_or_memory_is_refused(rt: HostRuntime) {
+fn a_pattern_is_evaluated_or_memory_runs_out(rt: HostRuntime) {
     let query = "SELECT ?x ?v { <http://e/a> <http://e/p> ?x . ?x <http://e/q> ?v }";
     let rows = (
         "'x','v'",
@@ -131,7 +131,7 @@ fn a_pattern_is_answered_or_memory_is_refused(rt: HostRuntime) {
 }
 
 #[test]
-fn an_optional_part_is_answered_or_memory_is_refused(rt: HostRuntime) {
+fn an_optional_part_is_evaluated_or_memory_runs_out(rt: HostRuntime) {
     let query =
         "SELECT ?n { ?s <http://e/t> <http://e/k> OPTIONAL { ?s <http://e/n> ?n FILTER(?n < 3) } }";
     let rows = (
@@ -142,7 +142,7 @@ fn an_optional_part_is_answered_or_memory_is_refused(rt: HostRuntime) {
 }
 
 #[test]
-fn a_join_is_answered_or_memory_is_refused(rt: HostRuntime) {
+fn a_join_is_evaluated_or_memory_runs_out(rt: HostRuntime) {
     let query =
         "SELECT ?y { ?s <http://e/t> <http://e/k> OPTIONAL { ?s <http://e/n> ?y } { <http://e/z> <http://e/m> ?y } }";
     let rows = (
@@ -153,7 +153,7 @@ fn a_join_is_answered_or_memory_is_refused(rt: HostRuntime) {
 }
 
 #[test]
-fn a_computed_term_is_answered_or_memory_is_refused(rt: HostRuntime) {
+fn a_computed_term_is_returned_or_memory_runs_out(rt: HostRuntime) {
     let query = "SELECT ?d { ?s ?p ?o BIND(DATATYPE(?o) AS ?d) }";
     let rows = (
         "'d'",
@@ -163,16 +163,16 @@ fn a_computed_term_is_answered_or_memory_is_refused(rt: HostRuntime) {
 }
 
 #[test]
-fn a_bad_line_is_named_or_memory_is_refused(rt: HostRuntime) {
+fn a_bad_line_is_named_or_memory_runs_out(rt: HostRuntime) {
     let doc = "<http://e/a> <http://e/p> <http://e/b> .\nx\n";
-    let wanted = Err(Fault::BadLine(2));
-    assert!(rt; has_outcome(&rt, rt.alloc(), doc, "SELECT * {}", wanted));
+    let expected = Err(Fault::BadLine(2));
+    assert!(rt; has_outcome(&rt, rt.alloc(), doc, "SELECT * {}", expected));
 }
 
 #[test]
-fn a_query_is_refused_by_its_rule_or_memory_is(rt: HostRuntime) {
-    let wanted = Err(Fault::Query(QueryFault::Syntax));
-    assert!(rt; has_outcome(&rt, rt.alloc(), "x\n", "SELECT", wanted));
+fn a_query_is_rejected_by_its_rule_or_memory_runs_out(rt: HostRuntime) {
+    let expected = Err(Fault::Query(QueryFault::Syntax));
+    assert!(rt; has_outcome(&rt, rt.alloc(), "x\n", "SELECT", expected));
 }
 
 /// Creates a literal whose N-Quads form is longer than the first capacity of a buffer.
@@ -187,22 +187,22 @@ fn long_literal(alloc: Global) -> Result<Term, AllocError> {
 }
 
 /// The N-Quads form of that literal, after two bytes.
-const SPELLED: &[u8] =
+const WRITTEN: &[u8] =
     b"> \"\\\"a line\\\"\\nand another one, with a \\\\ in it\"^^<http://e/a/datatype/with/a/long/name>";
 
 #[test]
-fn a_term_is_spelled_or_nothing_is_written(rt: HostRuntime) {
+fn a_term_is_written_or_nothing_is(rt: HostRuntime) {
     let Ok(term) = long_literal(rt.alloc()) else {
         return;
     };
     let mut out = Vec::new(rt.alloc());
-    if out.extend_from_slice(&SPELLED[..2]).is_err() {
+    if out.extend_from_slice(&WRITTEN[..2]).is_err() {
         return;
     }
     if write_term(&term, &mut out).is_err() {
         let _ = println!(rt; "memory was refused");
-        assert!(rt; out.as_slice() == &SPELLED[..2], "what was there before");
+        assert!(rt; out.as_slice() == &WRITTEN[..2], "what was there before");
         assert!(rt; write_term(&term, &mut out).is_ok(), "a second try");
     }
-    assert!(rt; out.as_slice() == SPELLED, "the spelling");
+    assert!(rt; out.as_slice() == WRITTEN, "the N-Quads form");
 }

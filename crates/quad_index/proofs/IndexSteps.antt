@@ -12,7 +12,7 @@ use Rattle.algebra_model.proofs.BagLaws.{IsPermutation-filter}
 use Rattle.dict_core.specs.declared.num_quad.NumQuad.{NumQuad}
 use Rattle.dict_core.proofs.NumQuadLaws.{quad_eq, quad_decides}
 use Rattle.quad_index.specs.declared.prefix.Prefix.{Prefix}
-use Rattle.quad_index.specs.Indexed.{prefix_cmp, wanted_by}
+use Rattle.quad_index.specs.Indexed.{prefix_cmp, scan_key}
 use Rattle.algebra_model.specs.Bag.{without_repeats}
 use Rattle.std.specs.List.Sorted.{IsStrictlyIncreasing}
 use Rattle.std.proofs.lemmas.Map.Keys.{IsStrictlyIncreasing-dedup}
@@ -23,14 +23,14 @@ use Rattle.quad_index.proofs.SortOrderLaws.{total_g, sorted_g, nat_ties}
 
 -- a part of one of the lists is, in some order, the part of the set
 pub scanned : (by : Prefix) (g s p o : Option ℕ) (now gspo list slice found : List NumQuad) (w : NumQuad) → gspo ≡ now → IsPermutation gspo list → slice ≡ list
-    → w ≡ wanted_by g s p o → found ≡ filter (λ q. is_eq (prefix_cmp by q w)) slice
-    → ((q : NumQuad) → is_eq (prefix_cmp by q (wanted_by g s p o)) ≡ agrees g s p o q)
+    → w ≡ scan_key g s p o → found ≡ filter (λ q. is_eq (prefix_cmp by q w)) slice
+    → ((q : NumQuad) → is_eq (prefix_cmp by q (scan_key g s p o)) ≡ agrees g s p o q)
     → IsPermutation (filter (agrees g s p o) now) found
-scanned by g s p o now gspo list slice found w now_is moved slice_is wanted_is found_is alike =
+scanned by g s p o now gspo list slice found w now_is moved slice_is key_is found_is alike =
     let A = agrees g s p o in
     let same : found ≡ filter A list =
     found_is ∙ ap (filter (λ q. is_eq (prefix_cmp by q w))) slice_is
-    ∙ filter_agree (λ q. is_eq (prefix_cmp by q w)) A (λ q. ap (λ v. is_eq (prefix_cmp by q v)) wanted_is ∙ alike q) list in
+    ∙ filter_agree (λ q. is_eq (prefix_cmp by q w)) A (λ q. ap (λ v. is_eq (prefix_cmp by q v)) key_is ∙ alike q) list in
     subst (λ l. IsPermutation (filter A l) found) now_is
     (subst (λ l. IsPermutation (filter A gspo) l) (sym same) (IsPermutation-filter quad_eq quad_decides A gspo list moved))
 
@@ -66,12 +66,12 @@ pub names_sorted : (qs : List NumQuad) → IsSorted by_g qs → IsSorted nat_cmp
 names_sorted [] h = λ k d low high. absurd (omega arith)
 names_sorted (q ∷ qs) h = by q.g refl (names_sorted qs (tail_sorted by_g q qs h))
   where
-    behind : All (λ r. is_lt (by_g r q) ≡ false) qs
-    behind k d below = sorted_far (λ a b. is_lt (by_g a b)) (ranks_by total_g (λ r. r)) (q ∷ qs) h 0 (suc k) d (omega arith) (omega arith)
+    not_below : All (λ r. is_lt (by_g r q) ≡ false) qs
+    not_below k d below = sorted_far (λ a b. is_lt (by_g a b)) (ranks_by total_g (λ r. r)) (q ∷ qs) h 0 (suc k) d (omega arith) (omega arith)
 
     by : (o : Option ℕ) → q.g ≡ o → IsSorted nat_cmp (graph_names qs) → IsSorted nat_cmp (cons_option o (graph_names qs))
     by None e rest = rest
-    by (Some n) e rest = push_front n (graph_names qs) rest (first_name q n e qs behind)
+    by (Some n) e rest = push_front n (graph_names qs) rest (first_name q n e qs not_below)
 
 -- the graph names of an index
 pub names_once : (now gspo : List NumQuad) (names slice : List ℕ) → gspo ≡ now → IsSorted by_gspo gspo → names ≡ dedup nat_eq (graph_names gspo) → slice ≡ names

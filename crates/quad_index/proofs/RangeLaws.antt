@@ -58,10 +58,10 @@ module _ {X : Type 0} where
     before Equal h = absurd (true≢false (sym h))
     before Greater h = refl
 
-    behind : (o : Ordering) → is_le o ≡ false → is_eq o ≡ false
-    behind Less h = refl
-    behind Equal h = absurd (true≢false h)
-    behind Greater h = refl
+    not_equal : (o : Ordering) → is_le o ≡ false → is_eq o ≡ false
+    not_equal Less h = refl
+    not_equal Equal h = absurd (true≢false h)
+    not_equal Greater h = refl
 
     level : (o : Ordering) → is_lt o ≡ false → is_le o ≡ true → is_eq o ≡ true
     level Less h k = absurd (true≢false h)
@@ -92,7 +92,7 @@ module _ {X : Type 0} where
         level (ord (get_or (take count rest) k d)) (subst (λ y. is_lt (ord y) ≡ false) (sym same) (from_start k d (omega arith)))
         (in_take (λ y. is_le (ord y) ≡ true) count rest high.0 k d below)) in
         let back : filter p (drop count rest) ≡ [] =
-        none_passes p (drop count rest) (λ k d below. behind (ord (get_or (drop count rest) k d)) (in_drop (λ y. is_le (ord y) ≡ false) count rest high.1 k d below)) in
+        none_passes p (drop count rest) (λ k d below. not_equal (ord (get_or (drop count rest) k d)) (in_drop (λ y. is_le (ord y) ≡ false) count rest high.1 k d below)) in
         sym (ap (filter p) (sym (take-append-drop start xs)) ∙ filter-append p (take start xs) rest ∙ ap (λ l. l ++ filter p rest) front
         ∙ ap (filter p) (sym (take-append-drop count rest)) ∙ filter-append p (take count rest) (drop count rest)
         ∙ (λ i. middle i ++ back i) ∙ append-nil (take count rest))

@@ -16,7 +16,7 @@ use Rattle.quad_index.specs.declared.sort_order.SortOrder.{SortOrder}
 use Rattle.quad_index.specs.declared.sort_order.SortOrder.TheVariants.{Gspo, Gpos, Gosp}
 use Rattle.quad_index.specs.SortOrder.{by_g, by_gs, by_gsp, by_gspo, by_gp, by_gpo, by_gpos, by_go, by_gos, by_gosp, order_cmp}
 use Rattle.quad_index.specs.Matching.{is_at, agrees}
-use Rattle.quad_index.specs.Indexed.{prefix_cmp, wanted_by}
+use Rattle.quad_index.specs.Indexed.{prefix_cmp, scan_key}
 
 -- ---- orders
 
@@ -138,7 +138,7 @@ module _ (g s p o : Option ℕ) (q : NumQuad) where
   abbrev here : Bool
   here = option_eq nat_eq q.g g
 
-  ties_g : is_eq (by_g q (wanted_by g s p o)) ≡ option_eq nat_eq q.g g
+  ties_g : is_eq (by_g q (scan_key g s p o)) ≡ option_eq nat_eq q.g g
   ties_g = graph_ties q.g g
 
   ties_s : (m : ℕ) → s ≡ Some m → is_eq (nat_cmp q.s (unwrap_or s 0)) ≡ is_at s q.s
@@ -150,42 +150,42 @@ module _ (g s p o : Option ℕ) (q : NumQuad) where
   ties_o : (m : ℕ) → o ≡ Some m → is_eq (nat_cmp q.o (unwrap_or o 0)) ≡ is_at o q.o
   ties_o m e = nat_ties q.o (unwrap_or o 0) ∙ given_at o m q.o e
 
-  pub agrees_g : s ≡ None → p ≡ None → o ≡ None → is_eq (by_g q (wanted_by g s p o)) ≡ agrees g s p o q
+  pub agrees_g : s ≡ None → p ≡ None → o ≡ None → is_eq (by_g q (scan_key g s p o)) ≡ agrees g s p o q
   agrees_g es ep eo =
       ties_g ∙ and_true here ∙ (λ i. here && (not_given s q.s es i && (not_given p q.p ep i && not_given o q.o eo i)))
 
-  pub agrees_gs : (m : ℕ) → s ≡ Some m → p ≡ None → o ≡ None → is_eq (by_gs q (wanted_by g s p o)) ≡ agrees g s p o q
+  pub agrees_gs : (m : ℕ) → s ≡ Some m → p ≡ None → o ≡ None → is_eq (by_gs q (scan_key g s p o)) ≡ agrees g s p o q
   agrees_gs m es ep eo =
       both _ _ _ _ ties_g (ties_s m es) ∙ ap (λ b. here && b) (and_true (is_at s q.s))
       ∙ (λ i. here && (is_at s q.s && (not_given p q.p ep i && not_given o q.o eo i)))
 
-  pub agrees_gsp : (m n : ℕ) → s ≡ Some m → p ≡ Some n → o ≡ None → is_eq (by_gsp q (wanted_by g s p o)) ≡ agrees g s p o q
+  pub agrees_gsp : (m n : ℕ) → s ≡ Some m → p ≡ Some n → o ≡ None → is_eq (by_gsp q (scan_key g s p o)) ≡ agrees g s p o q
   agrees_gsp m n es ep eo =
       both _ _ _ _ (both _ _ _ _ ties_g (ties_s m es)) (ties_p n ep) ∙ and_assoc here (is_at s q.s) (is_at p q.p)
       ∙ ap (λ b. here && (is_at s q.s && b)) (and_true (is_at p q.p))
       ∙ (λ i. here && (is_at s q.s && (is_at p q.p && not_given o q.o eo i)))
 
-  pub agrees_gspo : (m n k : ℕ) → s ≡ Some m → p ≡ Some n → o ≡ Some k → is_eq (by_gspo q (wanted_by g s p o)) ≡ agrees g s p o q
+  pub agrees_gspo : (m n k : ℕ) → s ≡ Some m → p ≡ Some n → o ≡ Some k → is_eq (by_gspo q (scan_key g s p o)) ≡ agrees g s p o q
   agrees_gspo m n k es ep eo =
       both _ _ _ _ (both _ _ _ _ (both _ _ _ _ ties_g (ties_s m es)) (ties_p n ep)) (ties_o k eo)
       ∙ and_assoc (here && is_at s q.s) (is_at p q.p) (is_at o q.o)
       ∙ and_assoc here (is_at s q.s) (is_at p q.p && is_at o q.o)
 
-  pub agrees_gp : (n : ℕ) → s ≡ None → p ≡ Some n → o ≡ None → is_eq (by_gp q (wanted_by g s p o)) ≡ agrees g s p o q
+  pub agrees_gp : (n : ℕ) → s ≡ None → p ≡ Some n → o ≡ None → is_eq (by_gp q (scan_key g s p o)) ≡ agrees g s p o q
   agrees_gp n es ep eo =
       both _ _ _ _ ties_g (ties_p n ep) ∙ ap (λ b. here && b) (and_true (is_at p q.p))
       ∙ (λ i. here && (not_given s q.s es i && (is_at p q.p && not_given o q.o eo i)))
 
-  pub agrees_gpo : (n k : ℕ) → s ≡ None → p ≡ Some n → o ≡ Some k → is_eq (by_gpo q (wanted_by g s p o)) ≡ agrees g s p o q
+  pub agrees_gpo : (n k : ℕ) → s ≡ None → p ≡ Some n → o ≡ Some k → is_eq (by_gpo q (scan_key g s p o)) ≡ agrees g s p o q
   agrees_gpo n k es ep eo =
       both _ _ _ _ (both _ _ _ _ ties_g (ties_p n ep)) (ties_o k eo) ∙ and_assoc here (is_at p q.p) (is_at o q.o)
       ∙ (λ i. here && (not_given s q.s es i && (is_at p q.p && is_at o q.o)))
 
-  pub agrees_go : (k : ℕ) → s ≡ None → p ≡ None → o ≡ Some k → is_eq (by_go q (wanted_by g s p o)) ≡ agrees g s p o q
+  pub agrees_go : (k : ℕ) → s ≡ None → p ≡ None → o ≡ Some k → is_eq (by_go q (scan_key g s p o)) ≡ agrees g s p o q
   agrees_go k es ep eo =
       both _ _ _ _ ties_g (ties_o k eo) ∙ (λ i. here && (not_given s q.s es i && (not_given p q.p ep i && is_at o q.o)))
 
-  pub agrees_gos : (m k : ℕ) → s ≡ Some m → p ≡ None → o ≡ Some k → is_eq (by_gos q (wanted_by g s p o)) ≡ agrees g s p o q
+  pub agrees_gos : (m k : ℕ) → s ≡ Some m → p ≡ None → o ≡ Some k → is_eq (by_gos q (scan_key g s p o)) ≡ agrees g s p o q
   agrees_gos m k es ep eo =
       both _ _ _ _ (both _ _ _ _ ties_g (ties_o k eo)) (ties_s m es) ∙ and_assoc here (is_at o q.o) (is_at s q.s)
       ∙ ap (λ b. here && b) (and_comm (is_at o q.o) (is_at s q.s))

@@ -22,8 +22,8 @@ prefix_cmp Go = by_go
 prefix_cmp Gos = by_gos
 
 -- the given numbers as a quad, with 0 where none is given
-abbrev pub wanted_by : Option ℕ → Option ℕ → Option ℕ → Option ℕ → NumQuad
-wanted_by g s p o = record { g = g; s = unwrap_or s 0; p = unwrap_or p 0; o = unwrap_or o 0 }
+abbrev pub scan_key : Option ℕ → Option ℕ → Option ℕ → Option ℕ → NumQuad
+scan_key g s p o = record { g = g; s = unwrap_or s 0; p = unwrap_or p 0; o = unwrap_or o 0 }
 
 -- the first list is the set, the other two are it in their orders, and the graph names are those
 -- of the first, each once

@@ -1,5 +1,5 @@
 -- A quad whose numbers are small as one number: four places of 32 bits, the graph name in the highest,
--- so that the order of the numbers is the order of the quads. Only private clauses cite these words.
+-- so that the order of the numbers is the order of the quads. Only private clauses use these definitions.
 use Rattle.std.specs.Prelude.{ℕ, zero, suc, ◌+◌, ◌*◌, ◌/◌, ◌%◌, ◌^◌, ◌<◌, Option, None, Some}
 use Rattle.std.specs.Option.{ForSome}
 use Rattle.dict_core.specs.declared.num_quad.NumQuad.{NumQuad}
@@ -18,6 +18,7 @@ abbrev pub graph_key : Option ℕ → ℕ
 graph_key None = 0
 graph_key (Some g) = g + 1
 
+-- the graph name that this number represents
 abbrev pub graph_of : ℕ → Option ℕ
 graph_of zero = None
 graph_of (suc g) = Some g
@@ -30,6 +31,7 @@ graph_key_of key = key / 2 ^ 32 / 2 ^ 32 / 2 ^ 32
 abbrev pub with_place : ℕ → ℕ → ℕ
 with_place front place = front * 2 ^ 32 + place
 
+-- four places, the first one highest
 abbrev pub key_of_places : ℕ → ℕ → ℕ → ℕ → ℕ
 key_of_places g a b c = with_place (with_place (with_place g a) b) c
 

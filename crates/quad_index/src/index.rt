@@ -5,7 +5,7 @@ ghost use Rattle.std.specs.List.Sorted.{IsStrictlyIncreasing};
 ghost use Rattle.algebra_model.specs.Bag.{IsWithoutRepeats, without_repeats};
 ghost use Rattle.dict_core.specs.Equality.{quad_eq};
 ghost use Rattle.quad_index.specs.SortOrder.{by_gspo, by_gpos, by_gosp};
-ghost use Rattle.quad_index.specs.Indexed.{wanted_by};
+ghost use Rattle.quad_index.specs.Indexed.{scan_key};
 ghost use Rattle.quad_index.specs.Matching.{agrees, graph_names};
 
 use crate::prefix::Prefix;
@@ -91,16 +91,16 @@ impl Index {
     pub fn scan(&self, g: Option<u64>, s: Option<u64>, p: Option<u64>, o: Option<u64>) -> &[NumQuad]
         ensures quads { IsPermutation (filter (agrees g s p o) self.now) result.now }
     {
-        let wanted = wanted(g, s, p, o);
+        let key = scan_key(g, s, p, o);
         match (s, p, o) {
-            (None, None, None) => range(self.gspo.as_slice(), Prefix::G, wanted),
-            (Some(_), None, None) => range(self.gspo.as_slice(), Prefix::Gs, wanted),
-            (Some(_), Some(_), None) => range(self.gspo.as_slice(), Prefix::Gsp, wanted),
-            (Some(_), Some(_), Some(_)) => range(self.gspo.as_slice(), Prefix::Gspo, wanted),
-            (None, Some(_), None) => range(self.gpos.as_slice(), Prefix::Gp, wanted),
-            (None, Some(_), Some(_)) => range(self.gpos.as_slice(), Prefix::Gpo, wanted),
-            (None, None, Some(_)) => range(self.gosp.as_slice(), Prefix::Go, wanted),
-            (Some(_), None, Some(_)) => range(self.gosp.as_slice(), Prefix::Gos, wanted),
+            (None, None, None) => range(self.gspo.as_slice(), Prefix::G, key),
+            (Some(_), None, None) => range(self.gspo.as_slice(), Prefix::Gs, key),
+            (Some(_), Some(_), None) => range(self.gspo.as_slice(), Prefix::Gsp, key),
+            (Some(_), Some(_), Some(_)) => range(self.gspo.as_slice(), Prefix::Gspo, key),
+            (None, Some(_), None) => range(self.gpos.as_slice(), Prefix::Gp, key),
+            (None, Some(_), Some(_)) => range(self.gpos.as_slice(), Prefix::Gpo, key),
+            (None, None, Some(_)) => range(self.gosp.as_slice(), Prefix::Go, key),
+            (Some(_), None, Some(_)) => range(self.gosp.as_slice(), Prefix::Gos, key),
         }
     }
 
@@ -122,8 +122,8 @@ impl Index {
 }
 
 /// The quad that a scan compares with; where no number is given, the place is not compared.
-fn wanted(g: Option<u64>, s: Option<u64>, p: Option<u64>, o: Option<u64>) -> NumQuad
-    ensures quad { result ≡ wanted_by g s p o }
+fn scan_key(g: Option<u64>, s: Option<u64>, p: Option<u64>, o: Option<u64>) -> NumQuad
+    ensures quad { result ≡ scan_key g s p o }
 {
     NumQuad {
         g,

@@ -9,13 +9,13 @@ use std::cmp::Ordering;
 
 /// The quads that agree with this one on these places: two binary searches.
 #[inline(always)]
-pub(crate) fn range<'a>(list: &'a [NumQuad], by: Prefix, wanted: NumQuad) -> &'a [NumQuad]
+pub(crate) fn range<'a>(list: &'a [NumQuad], by: Prefix, key: NumQuad) -> &'a [NumQuad]
     requires sorted { IsSorted (prefix_cmp by) list.now }
-    ensures quads { result.now ≡ filter (λ q. is_eq (prefix_cmp by q wanted)) list.now }
+    ensures quads { result.now ≡ filter (λ q. is_eq (prefix_cmp by q key)) list.now }
 {
-    let start = list.partition_point(|q| compare(by, q, &wanted).is_lt());
+    let start = list.partition_point(|q| compare(by, q, &key).is_lt());
     let rest = &list[start..];
-    let count = rest.partition_point(|q| compare(by, q, &wanted).is_le());
+    let count = rest.partition_point(|q| compare(by, q, &key).is_le());
     &rest[..count]
 }
 

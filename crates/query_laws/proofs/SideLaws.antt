@@ -5,7 +5,7 @@ use Rattle.sparql_lexer.specs.Terminal.{Terminal}
 use Rattle.sparql_tree.specs.GroupTree.{GroupTree, ElementTree, none, then, triples, group, union, optional, minus, graph, filter, bind, values}
 use Rattle.sparql_tree.specs.QueryTree.{QueryTree}
 use Rattle.sparql_grammar.specs.Class.{Picked}
-use Rattle.sparql_grammar.specs.Form.{Form, give, behind, take, part, last, choice, when}
+use Rattle.sparql_grammar.specs.Form.{Form, give, count_following, take, part, last, choice, when}
 use Rattle.sparql_grammar.specs.Derivation.{Derivation, gives, counts, takes, parts, lasts, firsts, seconds, whens}
 use Rattle.sparql_grammar.specs.Productions.{right_side}
 use Rattle.sparql_grammar.specs.Symbol as the
@@ -78,7 +78,7 @@ Given _ v = ⊤
 -- the property for every value of a form, provided that the parts of the form have it
 abbrev Fine : {A : Type 0} → (A → Type 0) → Form A → Type 0
 Fine P (give a) = P a
-Fine P (behind g) = (n : ℕ) → P (g n)
+Fine P (count_following g) = (n : ℕ) → P (g n)
 Fine P (take c f) = (p : Picked c) → Fine P (f p)
 Fine P (part u f) = Carried u × ((a : Value u) → Given u a → Fine P (f a))
 Fine P (last u g) = Carried u × ((a : Value u) → Given u a → P (g a))

@@ -75,8 +75,8 @@ option_weaker None h f g = f h
 option_weaker (Some x) h f g = g x h
 
 -- the same escape, read from one character earlier
-pub names_behind : (read : Option (ℕ × ℕ)) (text behind : List ℕ) (letter c n : ℕ) (rest : List ℕ) → chars text ≡ letter ∷ chars behind → read ≡ Some (c, n + 1) → chars rest ≡ drop n (chars behind) → IsUtf8 rest → NamesChar read text c rest
-names_behind read text behind letter c n rest e is left u = record { skipped = n + 1; is = is; left = rw (e, add-one) left; utf8 = u }
+pub names_after : (read : Option (ℕ × ℕ)) (text remaining : List ℕ) (letter c n : ℕ) (rest : List ℕ) → chars text ≡ letter ∷ chars remaining → read ≡ Some (c, n + 1) → chars rest ≡ drop n (chars remaining) → IsUtf8 rest → NamesChar read text c rest
+names_after read text remaining letter c n rest e is left u = record { skipped = n + 1; is = is; left = rw (e, add-one) left; utf8 = u }
 
 pub NamesChar-same : (read other : Option (ℕ × ℕ)) (text : List ℕ) (c : ℕ) (rest : List ℕ) → read ≡ other → NamesChar other text c rest → NamesChar read text c rest
 NamesChar-same read other text c rest e h = record { skipped = h.skipped; is = e ∙ h.is; left = h.left; utf8 = h.utf8 }

@@ -31,9 +31,9 @@ high_raw Iri c h = high_iri c h
 high_raw Quoted c h = high_string c h
 high_raw Any c h = high_any c h
 
-all_behind : (p : ℕ → Bool) (xs ys : List ℕ) → list_all p (xs ++ ys) ≡ true → list_all p ys ≡ true
-all_behind p [] ys h = h
-all_behind p (x ∷ xs) ys h = all_behind p xs ys (and_parts (p x) (list_all p (xs ++ ys)) h).1
+all_after : (p : ℕ → Bool) (xs ys : List ℕ) → list_all p (xs ++ ys) ≡ true → list_all p ys ≡ true
+all_after p [] ys h = h
+all_after p (x ∷ xs) ys h = all_after p xs ys (and_parts (p x) (list_all p (xs ++ ys)) h).1
 
 first_raw : (k : Inside) (c : ℕ) (rest : List ℕ) → list_all (is_raw k) (encode_utf8 c ++ rest) ≡ true → is_raw k c ≡ true
 first_raw k c rest h =
@@ -46,16 +46,16 @@ first_raw k c rest h =
 pub raw_writes : (k : Inside) (cs : List ℕ) → list_all (is_raw k) (encode_utf8_all cs) ≡ true → Writes (IsPart k) cs cs
 raw_writes k [] h = refl
 raw_writes k (c ∷ cs) h =
-    (c ∷ [], cs, refl, raw_part k c (first_raw k c (encode_utf8_all cs) h), raw_writes k cs (all_behind (is_raw k) (encode_utf8 c) (encode_utf8_all cs) h))
+    (c ∷ [], cs, refl, raw_part k c (first_raw k c (encode_utf8_all cs) h), raw_writes k cs (all_after (is_raw k) (encode_utf8 c) (encode_utf8_all cs) h))
 
 pub plain_enclosed : (k : Inside) (close : ℕ) (text front rest : List ℕ) → close < 128 → IsPlain k close text front rest → IsEnclosed (IsPart k) close (chars text) front (chars rest)
 plain_enclosed k close text front rest l h =
     let bytes = encodes-chars front h.front_utf8 in
-    let behind : IsUtf8 (close ∷ rest) = h.behind_utf8 in
+    let remaining : IsUtf8 (close ∷ rest) = h.tail_utf8 in
     let sign : close ∷ rest ≡ encode_utf8 close ++ rest = ap (λ (y : List ℕ). y ++ rest) (sym (encode_ascii close l)) in
     record {
       body = chars front;
-      parts = ap chars h.parts ∙ chars-append front (close ∷ rest) h.front_utf8 ∙ ap (λ (y : List ℕ). chars front ++ y) (chars_past_char (close ∷ rest) rest close behind sign);
+      parts = ap chars h.parts ∙ chars-append front (close ∷ rest) h.front_utf8 ∙ ap (λ (y : List ℕ). chars front ++ y) (chars_past_char (close ∷ rest) rest close remaining sign);
       written = record { chars = chars front; writes = raw_writes k (chars front) (subst (λ (y : List ℕ). list_all (is_raw k) y ≡ true) (sym bytes) h.raw); utf8 = sym bytes };
     }
 
@@ -68,7 +68,7 @@ plain_at k close text end u l low e raw =
     record {
       parts = sym (take-append-drop end text) ∙ ap (λ (y : List ℕ). take end text ++ y) (drop_more text end 0 l ∙ ap (λ (y : ℕ). y ∷ drop (end + 1) text) e);
       front_utf8 = IsUtf8-take text end u from;
-      behind_utf8 = subst IsUtf8 (drop_more text end 0 l ∙ ap (λ (y : ℕ). y ∷ drop (end + 1) text) e) (IsUtf8-drop text end u from);
+      tail_utf8 = subst IsUtf8 (drop_more text end 0 l ∙ ap (λ (y : ℕ). y ∷ drop (end + 1) text) e) (IsUtf8-drop text end u from);
       rest_utf8 = IsUtf8-drop text (end + 1) u (IsCharBoundary-after_ascii text end u l ascii);
       raw = raw;
     }
@@ -81,8 +81,8 @@ before_sign k close text bytes end e u low h =
     let t : EndsAt k close text end = subst (λ (y : List ℕ). EndsAt k close y end) e h in
     IsCharBoundary-before_ascii text end t.0 (rw t.1 low)
 
-pub behind_sign : (k : Inside) (close : ℕ) (text bytes : List ℕ) (end : ℕ) → bytes ≡ text → IsUtf8 text → close < 128 → EndsAt k close bytes end → IsCharBoundary text (end + 1)
-behind_sign k close text bytes end e u low h =
+pub after_sign : (k : Inside) (close : ℕ) (text bytes : List ℕ) (end : ℕ) → bytes ≡ text → IsUtf8 text → close < 128 → EndsAt k close bytes end → IsCharBoundary text (end + 1)
+after_sign k close text bytes end e u low h =
     let t : EndsAt k close text end = subst (λ (y : List ℕ). EndsAt k close y end) e h in
     IsCharBoundary-after_ascii text end u t.0 (rw t.1 low)
 

@@ -20,6 +20,7 @@ is_quoted_char quote c = not (c == quote || c == 92 || c == 10 || c == 13)
 abbrev pub is_string_char : ℕ → Bool
 is_string_char = is_quoted_char 34
 
+-- c is in one of the ranges; both ends belong to a range
 abbrev pub in_ranges : List (ℕ × ℕ) → ℕ → Bool
 in_ranges ranges c = list_any (λ r. nat_le r.0 c && nat_le c r.1) ranges
 
@@ -30,6 +31,7 @@ pn_chars_base =
     ∷ (0x37F, 0x1FFF) ∷ (0x200C, 0x200D) ∷ (0x2070, 0x218F) ∷ (0x2C00, 0x2FEF) ∷ (0x3001, 0xD7FF)
     ∷ (0xF900, 0xFDCF) ∷ (0xFDF0, 0xFFFD) ∷ (0x10000, 0xEFFFF) ∷ []
 
+-- a character of [164] PN_CHARS_BASE (N-Quads [157s])
 unfoldable pub is_pn_chars_base : ℕ → Bool
 is_pn_chars_base c = in_ranges pn_chars_base c
 
@@ -71,10 +73,12 @@ abbrev pub hex_from : ℕ → List ℕ → ℕ
 hex_from n [] = n
 hex_from n (d ∷ ds) = hex_from (n * 16 + digit_value d) ds
 
+-- the test is true of each character
 abbrev pub all_pass : (ℕ → Bool) → List ℕ → Bool
 all_pass p [] = true
 all_pass p (c ∷ cs) = p c && all_pass p cs
 
+-- the text has a first character, and the test is true of it
 abbrev pub begins : (ℕ → Bool) → List ℕ → Bool
 begins p [] = false
 begins p (c ∷ cs) = p c

@@ -6,8 +6,10 @@ use Rattle.rdf_core.specs.declared.term.Term.{Term}
 use Rattle.rdf_core.specs.contracts.term.TermOrd.TheImpl as orders
 use Rattle.rdf_core.specs.contracts.term.TermPartialEq.TheImpl as equalities
 
+-- what `==` on terms computes
 abbrev pub term_eq : Term → Term → Bool
 term_eq = (equalities.ghosts).eq
 
+-- what `cmp` on terms computes
 abbrev pub derived_cmp : Term → Term → Ordering
 derived_cmp = (orders.ghosts).cmp

@@ -39,6 +39,7 @@ IsStringPart text c = ((is_string_char c ≡ true) × (text ≡ c ∷ [])) ⊎ (
 abbrev pub IsAnyPart : List ℕ → ℕ → Type 0
 IsAnyPart text c = ((c ≢ 92) × (text ≡ c ∷ [])) ⊎ (IsEchar text c ⊎ IsUchar text c)
 
+-- one character as written inside this kind of delimiters
 abbrev pub IsPart : Inside → List ℕ → ℕ → Type 0
 IsPart Iri = IsIriPart
 IsPart Quoted = IsStringPart

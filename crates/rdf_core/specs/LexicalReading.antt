@@ -33,18 +33,23 @@ unfoldable pub uchar_at : List ℕ → Option (ℕ × ℕ)
 uchar_at [] = None
 uchar_at (u ∷ cs) = if u == 117 then scalar_of 4 (hex_at 4 0 cs) else if u == 85 then scalar_of 8 (hex_at 8 0 cs) else None
 
+-- an escape in an IRI must denote a character that may occur unescaped
 abbrev pub keep_iri_char : Option (ℕ × ℕ) → Option (ℕ × ℕ)
 keep_iri_char None = None
 keep_iri_char (Some e) = if is_iri_char e.0 then Some e else None
 
+-- [160] ECHAR of SPARQL has one letter; any other text is read as UCHAR
 abbrev pub or_uchar : Option ℕ → List ℕ → Option (ℕ × ℕ)
 or_uchar None cs = uchar_at cs
 or_uchar (Some c) cs = Some (c, 1)
 
+-- ECHAR or UCHAR after its backslash: the character, and the number of characters after the
+-- backslash
 unfoldable pub string_escape_at : List ℕ → Option (ℕ × ℕ)
 string_escape_at [] = None
 string_escape_at (e ∷ cs) = or_uchar (echar e) (e ∷ cs)
 
+-- the escape after a backslash inside this kind of delimiters
 unfoldable pub escape_at : Inside → List ℕ → Option (ℕ × ℕ)
 escape_at Iri cs = keep_iri_char (uchar_at cs)
 escape_at Quoted cs = string_escape_at cs
@@ -57,11 +62,13 @@ pub record NamesChar (read : Option (ℕ × ℕ)) (text : List ℕ) (c : ℕ) (r
   pub left : chars rest ≡ drop skipped (chars text)
   pub utf8 : IsUtf8 rest
 
+-- the character may occur unescaped
 abbrev pub is_raw : Inside → ℕ → Bool
 is_raw Iri c = is_iri_char c
 is_raw Quoted c = is_string_char c
 is_raw Any c = not (c == 92)
 
+-- the character is the closing delimiter, if there is one
 abbrev pub is_close : Option ℕ → ℕ → Bool
 is_close None c = false
 is_close (Some close) c = c == close
@@ -72,6 +79,7 @@ abbrev pub at_text_end : Option ℕ → Option (List ℕ × List ℕ)
 at_text_end None = Some ([], [])
 at_text_end (Some close) = None
 
+-- the characters that were read, with one more before them
 abbrev pub with_char : ℕ → Option (List ℕ × List ℕ) → Option (List ℕ × List ℕ)
 with_char c None = None
 with_char c (Some x) = Some (c ∷ x.0, x.1)
@@ -95,6 +103,6 @@ with_bytes front (Some x) = Some (front ++ encode_utf8_all x.0, x.1)
 pub record IsPlain (k : Inside) (close : ℕ) (text front rest : List ℕ) : Type 0 where
   pub parts : text ≡ front ++ close ∷ rest
   pub front_utf8 : IsUtf8 front
-  pub behind_utf8 : IsUtf8 (close ∷ rest)
+  pub tail_utf8 : IsUtf8 (close ∷ rest)
   pub rest_utf8 : IsUtf8 rest
   pub raw : list_all (is_raw k) front ≡ true

@@ -10,15 +10,18 @@ use Rattle.std.specs.declared.cmp.Ordering.TheVariants.{Less, Equal, Greater}
 use Rattle.rdf_core.specs.declared.term.Term.{Term}
 use Rattle.rdf_core.specs.declared.term.Term.TheVariants.{Blank, Iri, Literal}
 
+-- bytes by value, and a prefix before the longer text
 abbrev pub bytes_cmp : List ℕ → List ℕ → Ordering
 bytes_cmp = slice_cmp nat_cmp
 
+-- language tags: no tag is before any tag
 abbrev pub tag_cmp : Option (List ℕ) → Option (List ℕ) → Ordering
 tag_cmp None None = Equal
 tag_cmp None (Some b) = Less
 tag_cmp (Some a) None = Greater
 tag_cmp (Some a) (Some b) = bytes_cmp a b
 
+-- terms by kind, then part by part
 abbrev pub term_cmp : Term → Term → Ordering
 term_cmp (Blank a) (Blank b) = bytes_cmp a b
 term_cmp (Blank a) (Iri b) = Less

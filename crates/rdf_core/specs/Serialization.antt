@@ -9,9 +9,11 @@ use Rattle.rdf_core.specs.Vocabulary.{xsd_string}
 use Rattle.rdf_core.specs.declared.term.Term.{Term}
 use Rattle.rdf_core.specs.declared.term.Term.TheVariants.{Blank, Iri, Literal}
 
+-- the double quote, #x22
 abbrev pub quote : ℕ
 quote = 34
 
+-- the backslash, #x5C
 abbrev pub backslash : ℕ
 backslash = 92
 
@@ -27,6 +29,7 @@ suffix datatype (Some tag) = codes "@" ++ tag
 suffix datatype None =
     if bytes_eq datatype xsd_string then [] else codes "^^<" ++ (datatype ++ codes ">")
 
+-- the N-Quads form of the term
 abbrev pub serialization : Term → List ℕ
 serialization (Blank label) = codes "_:" ++ label
 serialization (Iri text) = codes "<" ++ (text ++ codes ">")

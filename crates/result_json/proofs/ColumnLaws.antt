@@ -34,16 +34,16 @@ columns_equal : (x y : Column) → column_cmp x y ≡ Equal → x ≡ y
 columns_equal x y e = let a = then_equal _ _ e in λ i. (exact_bytes x.0 y.0 a.0 i, ranked x.1 y.1 Equal (sym a.1) i)
 
 -- the comparison of columns in the code
-abbrev pub lent_cmp : Bor (List ℕ) × ℕ → Bor (List ℕ) × ℕ → Ordering
-lent_cmp x y = ordering_then (bytes_cmp x.0.now y.0.now) (nat_cmp x.1 y.1)
+abbrev pub borrowed_cmp : Bor (List ℕ) × ℕ → Bor (List ℕ) × ℕ → Ordering
+borrowed_cmp x y = ordering_then (bytes_cmp x.0.now y.0.now) (nat_cmp x.1 y.1)
 
-pub sorted_columns : (vars : List (List ℕ)) (xs ys : List (Bor (List ℕ) × ℕ)) → map column_of xs ≡ numbered 0 vars → IsPermutation xs ys → IsSortedBy (λ a b. is_lt (lent_cmp a b)) ys → map column_of ys ≡ columns vars
+pub sorted_columns : (vars : List (List ℕ)) (xs ys : List (Bor (List ℕ) × ℕ)) → map column_of xs ≡ numbered 0 vars → IsPermutation xs ys → IsSortedBy (λ a b. is_lt (borrowed_cmp a b)) ys → map column_of ys ≡ columns vars
 unfolding columns
 sorted_columns vars xs ys e p s =
     sorted_is column_cmp column_cmp_total columns_equal (map column_of xs) (map column_of ys) (IsPermutation-map column_of xs ys p) (rises_from_sort column_cmp column_cmp_total columns_equal (map column_of ys) (λ k d a b. at ys s k d b))
     ∙ ap (sorted_list column_cmp) e
   where
-    at : (ys : List (Bor (List ℕ) × ℕ)) → IsSortedBy (λ a b. is_lt (lent_cmp a b)) ys → (k : ℕ) (d : Column) → k + 1 < length (map column_of ys) → is_lt (column_cmp (get_or (map column_of ys) (k + 1) d) (get_or (map column_of ys) k d)) ≡ false
+    at : (ys : List (Bor (List ℕ) × ℕ)) → IsSortedBy (λ a b. is_lt (borrowed_cmp a b)) ys → (k : ℕ) (d : Column) → k + 1 < length (map column_of ys) → is_lt (column_cmp (get_or (map column_of ys) (k + 1) d) (get_or (map column_of ys) k d)) ≡ false
     at [] s k d h = absurd (omega arith)
     at (y ∷ ys) s k d h =
         let l = length-map (y ∷ ys) column_of in

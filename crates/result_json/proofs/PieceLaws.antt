@@ -62,16 +62,16 @@ module _ (terms : List Term) (columns : List (Vec ℕ Global × ℕ)) (size : �
       let m = suc-mul (length bs) size in
       let l = length-drop size rows in
       let front = take size rows in
-      let behind = drop size rows in
+      let following = drop size rows in
       let z : drop (0 * size) rows ≡ rows = ap (λ k. drop k rows) (zero-mul size) in
       let first : b.items ≡ comma_texts later (texts front) = each 0 b (omega arith) ∙ ap (λ (rs : List RankedRow). comma_texts later (texts (take size rs))) z in
-      let next : (i : ℕ) → piece_of size (suc i) rows ≡ piece_of size i behind =
+      let next : (i : ℕ) → piece_of size (suc i) rows ≡ piece_of size i following =
       λ i. ap (take size) (ap (λ k. drop k rows) (let e = suc-mul i size in omega arith) ∙ sym (drop-drop (i * size) size rows)) in
-      let rest : joined_blocks bs ≡ comma_texts true (texts behind) = pieces true bs behind p
-      (λ i d low. each (suc i) d (omega arith) ∙ ap (λ (rs : List RankedRow). comma_texts true (texts rs)) (next i) ∙ ap (λ (b : Bool). comma_texts b (texts (piece_of size i behind))) (sym (comma_at-true i))) (omega arith) in
-      let nothing : length (texts front) ≤ 0 → texts behind ≡ [] =
-      λ e. ap texts (none behind (omega (arith, e, texts-length front, length-take size rows, l))) in
-      (λ i. first i ++ rest i) ∙ sym (in_two later (texts front) (texts behind) nothing) ∙ ap (comma_texts later) (sym (texts-append front behind) ∙ ap texts (take-append-drop size rows))
+      let rest : joined_blocks bs ≡ comma_texts true (texts following) = pieces true bs following p
+      (λ i d low. each (suc i) d (omega arith) ∙ ap (λ (rs : List RankedRow). comma_texts true (texts rs)) (next i) ∙ ap (λ (b : Bool). comma_texts b (texts (piece_of size i following))) (sym (comma_at-true i))) (omega arith) in
+      let nothing : length (texts front) ≤ 0 → texts following ≡ [] =
+      λ e. ap texts (none following (omega (arith, e, texts-length front, length-take size rows, l))) in
+      (λ i. first i ++ rest i) ∙ sym (in_two later (texts front) (texts following) nothing) ∙ ap (comma_texts later) (sym (texts-append front following) ∙ ap texts (take-append-drop size rows))
 
   -- this number of pieces holds all rows
   pub pieces-joined : (count number : ℕ) (blocks : List (Vec ℕ Global)) (rows : List RankedRow) → 0 < size → count ≡ length rows → number ≡ div_ceil count size → length blocks ≡ number

@@ -18,14 +18,14 @@ letter x a b c d e f g = cond (a || b) x (cond c 98 (cond d 102 (cond e 110 (con
 abbrev printed : ℕ → Bool → Bool → Bool → Bool → Bool → Bool → Bool → Bool → List ℕ
 printed x a b c d e f g l = cond (nat_lt 0 (letter x a b c d e f g)) (92 ∷ letter x a b c d e f g ∷ []) (cond l (low x) (x ∷ []))
 
-abbrev wanted : ℕ → Bool → Bool → Bool → Bool → Bool → Bool → Bool → Bool → List ℕ
-wanted x a b c d e f g l =
+abbrev expected : ℕ → Bool → Bool → Bool → Bool → Bool → Bool → Bool → Bool → List ℕ
+expected x a b c d e f g l =
     if a then codes "\\\"" else if b then codes "\\\\" else if c then codes "\\b" else if d then codes "\\f" else if e then codes "\\n" else if f then codes "\\r"
     else if g then codes "\\t" else if l then low x else x ∷ []
 
-by_tests : (x : ℕ) (a b c d e f g l : Bool) → (a ≡ true → x ≡ 34) → (b ≡ true → x ≡ 92) → printed x a b c d e f g l ≡ wanted x a b c d e f g l
-by_tests x true b c d e f g l p q = subst (λ (y : ℕ). printed y true b c d e f g l ≡ wanted y true b c d e f g l) (sym (p refl)) refl
-by_tests x false true c d e f g l p q = subst (λ (y : ℕ). printed y false true c d e f g l ≡ wanted y false true c d e f g l) (sym (q refl)) refl
+by_tests : (x : ℕ) (a b c d e f g l : Bool) → (a ≡ true → x ≡ 34) → (b ≡ true → x ≡ 92) → printed x a b c d e f g l ≡ expected x a b c d e f g l
+by_tests x true b c d e f g l p q = subst (λ (y : ℕ). printed y true b c d e f g l ≡ expected y true b c d e f g l) (sym (p refl)) refl
+by_tests x false true c d e f g l p q = subst (λ (y : ℕ). printed y false true c d e f g l ≡ expected y false true c d e f g l) (sym (q refl)) refl
 by_tests x false false true d e f g l p q = refl
 by_tests x false false false true e f g l p q = refl
 by_tests x false false false false true f g l p q = refl
@@ -54,7 +54,7 @@ plain_byte b h =
     let high : 32 ≤ b = leb-true 32 b first.0 in
     let low : (k : ℕ) → k < 32 → (b == k) ≡ false = λ k l. ne_eqb b k (λ (e : b ≡ k). omega arith) in
     let not_below : nat_lt b 32 ≡ false = le-ltb b 32 high in
-    λ i. wanted b (not-true (b == 34) first.1 i) (not-true (b == 92) tests.1 i) (low 8 (lit< tt) i) (low 12 (lit< tt) i) (low 10 (lit< tt) i) (low 13 (lit< tt) i) (low 9 (lit< tt) i) (not_below i)
+    λ i. expected b (not-true (b == 34) first.1 i) (not-true (b == 92) tests.1 i) (low 8 (lit< tt) i) (low 12 (lit< tt) i) (low 10 (lit< tt) i) (low 13 (lit< tt) i) (low 9 (lit< tt) i) (not_below i)
 
 -- a text of such bytes is unchanged in a string
 pub plain_bytes : (s : List ℕ) → list_all is_plain s ≡ true → flat_map string_byte s ≡ s

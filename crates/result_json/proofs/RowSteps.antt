@@ -64,8 +64,8 @@ sorted_ranks (r ∷ rs) s k d a b =
     (λ i. is_lt (slice_cmp nat_cmp (ea i) (eb i))) ∙ ap is_lt (sym (row_cmp_is x y)) ∙ s k r (omega arith) (omega arith)
 
 -- one more row is split off
-pub split_more : (w n : ℕ) (rest behind : List ℕ) (made made' : List RankedRow) (r : RankedRow) (rows : List (List ℕ)) (k : ℕ) → k ≡ suc n → made' ≡ made ++ r ∷ [] → r.ranks.now ≡ take w rest → behind ≡ drop w rest → ranks_of made ++ rows_in w w k rest ≡ rows
-    → ranks_of made' ++ rows_in w w n behind ≡ rows
-split_more w n rest behind made made' r rows k count items row back e =
-    ap (λ (ms : List RankedRow). ranks_of ms ++ rows_in w w n behind) items ∙ ap (λ (ks : List (List ℕ)). ks ++ rows_in w w n behind) (map-append (λ (x : RankedRow). x.ranks.now) made (r ∷ []))
-    ∙ append_assoc (ranks_of made) (r.ranks.now ∷ []) (rows_in w w n behind) ∙ (λ i. ranks_of made ++ (row i ∷ rows_in w w n (back i))) ∙ ap (λ (j : ℕ). ranks_of made ++ rows_in w w j rest) (sym count) ∙ e
+pub split_more : (w n : ℕ) (rest following : List ℕ) (made made' : List RankedRow) (r : RankedRow) (rows : List (List ℕ)) (k : ℕ) → k ≡ suc n → made' ≡ made ++ r ∷ [] → r.ranks.now ≡ take w rest → following ≡ drop w rest → ranks_of made ++ rows_in w w k rest ≡ rows
+    → ranks_of made' ++ rows_in w w n following ≡ rows
+split_more w n rest following made made' r rows k count items row back e =
+    ap (λ (ms : List RankedRow). ranks_of ms ++ rows_in w w n following) items ∙ ap (λ (ks : List (List ℕ)). ks ++ rows_in w w n following) (map-append (λ (x : RankedRow). x.ranks.now) made (r ∷ []))
+    ∙ append_assoc (ranks_of made) (r.ranks.now ∷ []) (rows_in w w n following) ∙ (λ i. ranks_of made ++ (row i ∷ rows_in w w n (back i))) ∙ ap (λ (j : ℕ). ranks_of made ++ rows_in w w j rest) (sym count) ∙ e

@@ -15,8 +15,8 @@ part_stays xs ys a b l h =
     ap (take (b - a)) (drop-append-le a xs ys (omega arith)) ∙ take-append-le (b - a) (drop a xs) ys (rw (length-drop a xs) (omega arith))
 
 -- what was appended is the last part
-part_behind : (xs ys : List ℕ) → slice_range (xs ++ ys) (length xs) (length (xs ++ ys)) ≡ ys
-part_behind xs ys =
+part_after : (xs ys : List ℕ) → slice_range (xs ++ ys) (length xs) (length (xs ++ ys)) ≡ ys
+part_after xs ys =
     let n : length (xs ++ ys) ≡ length xs + length ys = length-append xs ys in
     ap (take (length (xs ++ ys) - length xs)) (drop-append_seam xs ys) ∙ take_all (length (xs ++ ys) - length xs) ys (omega (arith, n))
 
@@ -30,7 +30,7 @@ printed_more terms printed text spans i h l e = (length-set spans i span ∙ h.0
     same : (j : ℕ) → j ≡ i → IsSpanOf (printed ++ text) (term_at terms j) (get_or (set spans i span) j (0, 0))
     same j p =
         let s : get_or (set spans i span) j (0, 0) ≡ span = ap (λ k. get_or (set spans i span) k (0, 0)) p ∙ get_or-set_same spans i span (0, 0) (omega (arith, h.0)) in
-        subst (IsSpanOf (printed ++ text) (term_at terms j)) (sym s) (inr (omega arith, part_behind printed text ∙ e ∙ ap (λ k. term_text (term_at terms k)) (sym p)))
+        subst (IsSpanOf (printed ++ text) (term_at terms j)) (sym s) (inr (omega arith, part_after printed text ∙ e ∙ ap (λ k. term_text (term_at terms k)) (sym p)))
 
     stays : (j : ℕ) (s : Span) → IsSpanOf printed (term_at terms j) s → IsSpanOf (printed ++ text) (term_at terms j) s
     stays j s (inl none) = inl none

@@ -21,6 +21,7 @@ abbrev pub ranked_cell : List Term → ℕ → Option Term
 ranked_cell terms zero = None
 ranked_cell terms (suc i) = slice_get terms i
 
+-- the cells of these ranks
 abbrev pub ranked_row : List Term → List ℕ → List (Option Term)
 ranked_row terms ranks = map (ranked_cell terms) ranks
 
@@ -33,9 +34,11 @@ IsRank terms (suc i) = (i < length terms) × ((j : ℕ) → slice_get terms j �
 abbrev pub Entry : Type 0
 Entry = Bor Term × ℕ
 
+-- the terms of the entries
 abbrev pub terms_of : List Entry → List Term
 terms_of entries = map (λ e. e.0.now) entries
 
+-- the numbers of the entries
 abbrev pub numbers_of : List Entry → List ℕ
 numbers_of entries = map (λ e. e.1) entries
 
@@ -59,5 +62,6 @@ HasRank n numbers table j = (i : ℕ)
     × (i < n)
     × (get_or numbers i 0 ≡ get_or numbers j 0)
 
+-- the table has the rank of each of the numbers
 abbrev pub IsRankTable : List ℕ → List ℕ → Type 0
 IsRankTable numbers table = (j : ℕ) → j < length numbers → HasRank (length numbers) numbers table j

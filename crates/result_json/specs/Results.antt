@@ -25,6 +25,7 @@ string_byte b =
     else if nat_lt b 32 then codes "\\u00" ++ (digit_char (b / 16) ∷ digit_char (b % 16) ∷ [])
     else b ∷ []
 
+-- a string of RFC 8259
 abbrev pub string_text : List ℕ → List ℕ
 string_text text = codes "\"" ++ (flat_map string_byte text ++ codes "\"")
 
@@ -52,10 +53,12 @@ separated (x ∷ xs) = x ++ flat_map (λ y. 44 ∷ y) xs
 abbrev pub Column : Type 0
 Column = List ℕ × ℕ
 
+-- the columns of the names, with places from k on
 abbrev pub numbered : ℕ → List (List ℕ) → List Column
 numbered k [] = []
 numbered k (x ∷ xs) = (x, k) ∷ numbered (suc k) xs
 
+-- columns by name, and then by place
 abbrev pub column_cmp : Column → Column → Ordering
 column_cmp a b = ordering_then (bytes_cmp a.0 b.0) (nat_cmp a.1 b.1)
 
@@ -68,6 +71,7 @@ abbrev pub member_text : List ℕ → Option Term → List (List ℕ)
 member_text name None = []
 member_text name (Some t) = (string_text name ++ 58 ∷ term_text t) ∷ []
 
+-- the members of one solution, in the order of the columns
 abbrev pub members : List (Option Term) → List Column → List (List ℕ)
 members row columns = flat_map (λ c. member_text c.0 (get_or row c.1 None)) columns
 

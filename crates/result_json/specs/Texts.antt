@@ -25,6 +25,7 @@ abbrev pub IsSpanOf : List ℕ → Term → Span → Type 0
 IsSpanOf printed term span = (span.1 ≤ span.0)
     ⊎ ((span.1 ≤ length printed) × (slice_range printed span.0 span.1 ≡ term_text term))
 
+-- the spans of all terms
 abbrev pub ArePrinted : List Term → List ℕ → List Span → Type 0
 ArePrinted terms printed spans = (length spans ≡ length terms)
     × ((i : ℕ) → i < length terms → IsSpanOf printed (term_at terms i) (get_or spans i (0, 0)))
@@ -42,13 +43,16 @@ begun c = (string_text c.0 ++ 58 ∷ [], c.1)
 abbrev pub begun_column : Vec ℕ Global × ℕ → Column
 begun_column c = (c.0.items, c.1)
 
+-- the member of a begun column, if the cell is bound
 abbrev pub begun_member : List ℕ → Option Term → List (List ℕ)
 begun_member prefix None = []
 begun_member prefix (Some t) = (prefix ++ term_text t) ∷ []
 
+-- the members of a row of ranks
 abbrev pub begun_members : List Term → List ℕ → List Column → List (List ℕ)
 begun_members terms ranks columns = flat_map (λ c. begun_member c.0 (ranked_cell terms (get_or ranks c.1 0))) columns
 
+-- the text of a row of ranks, from begun columns
 abbrev pub begun_row : List Term → List Column → List ℕ → List ℕ
 begun_row terms columns ranks = codes "{" ++ (separated (begun_members terms ranks columns) ++ codes "}")
 
@@ -89,11 +93,14 @@ AreAhead terms places rows texts = (k : ℕ) → k < length places → IsColumnA
 abbrev pub IsRowAhead : List Term → List ℕ → List ℕ → ℕ → List (List (List ℕ)) → Type 0
 IsRowAhead terms places ranks i texts = (k : ℕ) → k < length places → IsAhead terms (get_or ranks (get_or places k 0) 0) (get_or (get_or texts k []) i [])
 
+-- the places of begun columns
 abbrev pub places_of : List (Vec ℕ Global × ℕ) → List ℕ
 places_of columns = map (λ c. c.1) columns
 
-abbrev pub lent_texts : List (Bor (List ℕ)) → List (List ℕ)
-lent_texts texts = map (λ t. t.now) texts
+-- the bytes of borrowed texts
+abbrev pub borrowed_texts : List (Bor (List ℕ)) → List (List ℕ)
+borrowed_texts texts = map (λ t. t.now) texts
 
+-- the same for each column
 abbrev pub all_texts : List (Vec (Bor (List ℕ)) Global) → List (List (List ℕ))
-all_texts columns = map (λ c. lent_texts c.items) columns
+all_texts columns = map (λ c. borrowed_texts c.items) columns

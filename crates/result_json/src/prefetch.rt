@@ -2,7 +2,7 @@
 //! different rows do not depend on each other, so the processor can overlap them.
 ghost use Rattle.std.specs.Prelude.{◌≡◌, [], get_or, IfOk};
 ghost use Rattle.result_json.specs.RankedRows.{ranks_of};
-ghost use Rattle.result_json.specs.Texts.{all_texts, lent_texts, places_of, AreAhead, IsAhead, IsColumnAhead};
+ghost use Rattle.result_json.specs.Texts.{all_texts, borrowed_texts, places_of, AreAhead, IsAhead, IsColumnAhead};
 
 use crate::ranked_row::RankedRow;
 use crate::term_texts::TermTexts;
@@ -33,7 +33,7 @@ fn look_up<'a>(
     rows: &[RankedRow<'_>],
 ) -> Result<Vec<&'a [u8]>, AllocError>
     ensures ahead { IfOk result
-        (λ made. IsColumnAhead texts.now place (ranks_of rows.now) (lent_texts made.items)) }
+        (λ made. IsColumnAhead texts.now place (ranks_of rows.now) (borrowed_texts made.items)) }
 {
     let mut ahead = Vec::with_capacity(alloc, rows.len())?;
     for row in rows {

@@ -28,10 +28,10 @@ use std::thread::Threads;
 fn kept<T>(rows: &[T], offset: u64, limit: Option<u64>) -> &[T]
     ensures value { result.now ≡ slice offset limit rows.now }
 {
-    let behind = &rows[rows.len().min(offset as usize)..];
+    let after_offset = &rows[rows.len().min(offset as usize)..];
     match limit {
-        Some(limit) => &behind[..behind.len().min(limit as usize)],
-        None => behind,
+        Some(limit) => &after_offset[..after_offset.len().min(limit as usize)],
+        None => after_offset,
     }
 }
 

@@ -91,7 +91,7 @@ fn shared_lengths(order: &[(&Term, u64)]) -> [usize; 3] {
 
 /// Returns the eight bytes of a text after `start`, as a big-endian number. Missing bytes are
 /// zeros.
-fn bytes_behind(text: &[u8], start: usize) -> u64 {
+fn bytes_from(text: &[u8], start: usize) -> u64 {
     let rest = &text[text.len().min(start)..];
     let count = rest.len().min(8);
     let mut bytes = [0u8; 8];
@@ -105,7 +105,7 @@ fn first_key<'a>(term: &'a Term, shared: &[usize; 3]) -> (u8, u64, &'a str) {
     let (kind, text) = kind_and_text(term);
     (
         kind,
-        bytes_behind(text.as_bytes(), shared[kind as usize]),
+        bytes_from(text.as_bytes(), shared[kind as usize]),
         text,
     )
 }

@@ -97,7 +97,7 @@ fn put_row(
 }
 
 /// Returns the elements after the first `count`.
-fn behind<T>(elements: &[T], count: usize) -> &[T]
+fn following<T>(elements: &[T], count: usize) -> &[T]
     ensures value { result.now ≡ drop count elements.now }
 {
     &elements[elements.len().min(count)..]
@@ -149,7 +149,7 @@ pub(crate) fn put_rows(
         let group = &rest[..rest.len().min(GROUP)];
         put_group(alloc, out, columns, texts, group, later)?;
         later = true;
-        rest = behind(rest, group.len());
+        rest = following(rest, group.len());
     }
     Ok(())
 }

@@ -44,8 +44,8 @@ rows_if p (μ ∷ A) = by (p μ) (rows_if p A)
     by true e = ap (λ (l : List (Solution ℕ)). μ ∷ l) e
     by false e = e
 
-behind : (old : List (Solution ℕ)) (a b : List (Solution ℕ)) → IsSameBag a b → IsSameBag (old ++ a) (old ++ b)
-behind old a b h = IsPermutation-append old old a b (IsPermutation-refl old) h
+appended : (old : List (Solution ℕ)) (a b : List (Solution ℕ)) → IsSameBag a b → IsSameBag (old ++ a) (old ++ b)
+appended old a b h = IsPermutation-append old old a b (IsPermutation-refl old) h
 
 -- the candidates for a left row are sufficient
 module _ (key : List ℕ) (μ : Solution ℕ) (rows : List (Solution ℕ)) (first second : List ℕ)
@@ -60,7 +60,7 @@ module _ (key : List ℕ) (μ : Solution ℕ) (rows : List (Solution ℕ)) (firs
       → IsSameBag made (old ++ merges nat_eq μ rows)
   join-tried old half made e f =
       subst (λ (l : List (Solution ℕ)). IsSameBag l (old ++ merges nat_eq μ rows)) (sym all)
-      (behind old (merges nat_eq μ (rows_at rows first ++ rows_at rows second)) (merges nat_eq μ rows)
+      (appended old (merges nat_eq μ (rows_at rows first ++ rows_at rows second)) (merges nat_eq μ rows)
       (merges-tried nat_eq μ (may_meet nat_eq key μ) (may_meet-covers nat_eq key μ) (rows_at rows first ++ rows_at rows second) rows tried_two Decides-eqb))
     where
       all : made ≡ old ++ merges nat_eq μ (rows_at rows first ++ rows_at rows second)
@@ -80,7 +80,7 @@ module _ (key : List ℕ) (μ : Solution ℕ) (rows : List (Solution ℕ)) (firs
       → IsSameBag all (old ++ left_row nat_eq keeps rows μ)
   left_join-tried keeps a b old half made all ea eb e f g =
       subst (λ (l : List (Solution ℕ)). IsSameBag l (old ++ left_row nat_eq keeps rows μ)) (sym whole)
-      (behind old (left_row nat_eq keeps both μ) (left_row nat_eq keeps rows μ)
+      (appended old (left_row nat_eq keeps both μ) (left_row nat_eq keeps rows μ)
       (left_row-tried nat_eq μ (may_meet nat_eq key μ) (may_meet-covers nat_eq key μ) both rows tried_two Decides-eqb keeps))
     where
       both : List (Solution ℕ)

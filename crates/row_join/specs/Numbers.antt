@@ -3,6 +3,7 @@ use Rattle.std.specs.Prelude.{ℕ, Bool, true, List, Option, None, Some}
 use Rattle.std.specs.List.{list_all}
 use Rattle.algebra_model.specs.Solution.{Solution}
 
+-- an unbound cell passes every test
 abbrev pub cell_passes : (ℕ → Bool) → Option ℕ → Bool
 cell_passes p None = true
 cell_passes p (Some n) = p n

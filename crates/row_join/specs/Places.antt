@@ -25,6 +25,7 @@ group_in (k ∷ keys) [] numbers = []
 group_in (k ∷ keys) (g ∷ groups) numbers =
     if pointwise nat_eq numbers k then g else group_in keys groups numbers
 
+-- the group of these numbers, or the empty list
 abbrev pub group_of : GroupList → List ℕ → List ℕ
 group_of list numbers = group_in list.keys list.groups numbers
 
@@ -36,6 +37,7 @@ has_key key numbers μ = pointwise (option_eq nat_eq) (map Some numbers) (cells 
 abbrev pub places_below : ℕ → (Solution ℕ → Bool) → List (Solution ℕ) → List ℕ
 places_below n p rows = filter (λ i. p (get_or rows i [])) (range_with_len 0 n)
 
+-- the places of all rows that pass the test
 abbrev pub places_where : (Solution ℕ → Bool) → List (Solution ℕ) → List ℕ
 places_where p rows = places_below (length rows) p rows
 

@@ -15,7 +15,7 @@ use Rattle.algebra_model.specs.Laws.{IsReading, AreInRange, read}
 use Rattle.algebra_model.specs.Renaming.{Each, EachBound, EachOfTriple, EachOfPattern, read_triple, read_pattern}
 use Rattle.algebra_model.specs.Solve as solve
 use Rattle.algebra_model.proofs.BgpReadingLaws.{bgp-bound}
-use Rattle.algebra_model.proofs.NumberLaws.{reading_tells}
+use Rattle.algebra_model.proofs.NumberLaws.{equal_when_read}
 use Rattle.algebra_model.proofs.RangeLaws.{Each-IsSameBag}
 use Rattle.algebra_model.proofs.StepLaws.{pattern-step}
 use Rattle.dict_core.specs.declared.num_quad.NumQuad.{NumQuad}
@@ -30,7 +30,7 @@ module _ (dict : List Term) (apart : IsReading (length dict) (term_at dict)) whe
   name-read None None h k = refl
   name-read None (Some b) h k = refl
   name-read (Some a) None h k = refl
-  name-read (Some a) (Some b) h k = reading_tells (length dict) (term_at dict) apart a b (h a refl) (k b refl)
+  name-read (Some a) (Some b) h k = equal_when_read (length dict) (term_at dict) apart a b (h a refl) (k b refl)
 
   -- the triples of a graph, read, are the triples of the graph of the quads read
   pub triples-read : (g : Option ℕ) (index : List NumQuad) → ForSome g (λ n. n < length dict) → AreBelow (length dict) index
@@ -68,7 +68,7 @@ rows-read dict index g apart once below named w l P inside constants rows h =
     let In = λ (x : ℕ). x < length dict in
     let f = term_at dict in
     let G = triples_of g index in
-    let one = reading_tells (length dict) f apart in
+    let one = equal_when_read (length dict) f apart in
     let single = triples-once g index once in
     let all = triples-below dict apart g index below in (
       subst (λ (T : List (Triple Term)). IsSameBag (read f rows) (bgp term_eq w l (map (read_pattern f) P) T)) (triples-read dict apart g index named below)

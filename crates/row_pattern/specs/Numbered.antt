@@ -8,6 +8,7 @@ use Rattle.row_pattern.specs.declared.numbered.NumberedTriple.{NumberedTriple}
 use Rattle.row_pattern.specs.declared.numbered.PatternNumber.{PatternNumber}
 use Rattle.row_pattern.specs.declared.numbered.PatternNumber.TheVariants.{Variable, Label, Term}
 
+-- one position of a triple pattern
 abbrev pub pattern_term_of : PatternNumber → PatternTerm ℕ
 pattern_term_of (Variable v) = variable v
 pattern_term_of (Label l) = label l
@@ -21,6 +22,7 @@ pattern_of t = record {
   o = pattern_term_of t.object;
 }
 
+-- the quad without its graph name
 abbrev pub triple_of : NumQuad → Triple ℕ
 triple_of q = record { s = q.s; p = q.p; o = q.o }
 

@@ -6,6 +6,7 @@ use Rattle.algebra_model.specs.Bgp.{PatternTerm, variable, constant}
 use Rattle.row_pattern.specs.declared.cells.Place.{Place}
 use Rattle.row_pattern.specs.declared.cells.Place.TheVariants.{Cell, Number}
 
+-- a cell of the row is a variable; labels have the cells after the variables
 abbrev pub place_term : Place → PatternTerm ℕ
 place_term (Cell k) = variable k
 place_term (Number n) = constant n

@@ -7,6 +7,7 @@ use Rattle.algebra_model.specs.Solve.{solve, extend_by}
 use Rattle.row_pattern.specs.declared.steps.Step.{Step}
 use Rattle.row_pattern.specs.Places.{place_term}
 
+-- the triple pattern of a step
 abbrev pub step_pattern : Step → TriplePattern ℕ
 step_pattern t = record { s = place_term t.subject; p = place_term t.predicate; o = place_term t.object }
 
@@ -16,6 +17,7 @@ placed w (variable v) = variable v
 placed w (label l) = variable (w + l)
 placed w (constant n) = constant n
 
+-- the same for each position of a triple pattern
 abbrev pub placed_pattern : ℕ → TriplePattern ℕ → TriplePattern ℕ
 placed_pattern w t = record { s = placed w t.s; p = placed w t.p; o = placed w t.o }
 

@@ -97,7 +97,7 @@ pub fn pattern<R: Threads + Wait, G: Gate + Sync>(
         Each (EachBound (λ n. Contains (occurring (triples_of graph index.now)) n)) found.rows) }
     ensures one_worker { HasOneWorker how.now → IfErr result (λ fault. fault ≡ Memory) }
 {
-    quads_stand_once(index);
+    quads_occur_once(index);
     let cells = width.saturating_add(labels);
     let row = unbound(alloc, cells)?;
     let steps = ordered_steps(alloc, index, graph, width, cells, patterns)?;
@@ -138,7 +138,7 @@ fn empty_pattern(alloc: Global, search: &Search<'_>, cells: usize) -> Result<Row
 /// Proves that no quad occurs twice in an index, on which the count of a solution depends. It runs
 /// no code.
 #[inline(always)]
-fn quads_stand_once(index: &Index)
+fn quads_occur_once(index: &Index)
     ensures distinct { IsWithoutRepeats quad_eq index.now }
 {
     let _ = index.quads();

@@ -17,7 +17,7 @@ impl From<AllocError> for EvalFault {
 
     ghost from_gives = { λ _ fault. fault ≡ Memory };
 
-    fn from(_refused: AllocError) -> EvalFault {
+    fn from(_failed: AllocError) -> EvalFault {
         EvalFault::Memory
     }
 }
@@ -25,10 +25,10 @@ impl From<AllocError> for EvalFault {
 impl From<PoolFault> for EvalFault {
     ghost use Rattle.row_pieces.specs.Fault.{IsEvalFaultOf};
 
-    ghost from_gives = { λ refused fault. IsEvalFaultOf refused fault };
+    ghost from_gives = { λ failed fault. IsEvalFaultOf failed fault };
 
-    fn from(refused: PoolFault) -> EvalFault {
-        match refused {
+    fn from(failed: PoolFault) -> EvalFault {
+        match failed {
             PoolFault::WorkerRefused => EvalFault::WorkerRefused,
             PoolFault::Memory => EvalFault::Memory,
         }

@@ -82,7 +82,7 @@ fn operated<R: Threads + Wait>(
 }
 
 /// Prints the rows of an operator.
-fn told<R: RandomSource + Threads + Wait>(
+fn joined_text<R: RandomSource + Threads + Wait>(
     rt: &R,
     alloc: Global,
     operator: Operator,
@@ -119,7 +119,7 @@ fn gives<R: RandomSource + Threads + Wait + Print>(
         rows: 1,
     };
     for how in [whole, cut] {
-        let given = told(rt, alloc, operator, left, right, &how)?;
+        let given = joined_text(rt, alloc, operator, left, right, &how)?;
         if given.as_str() != expected {
             let _ = println!(rt; "{name}, {how:?}: {left} and {right} give {given}");
             return Ok(false);
@@ -229,7 +229,7 @@ fn places<R: RandomSource>(rt: &R, alloc: Global, rows: &Rows) -> Result<String,
 }
 
 #[test]
-fn rows_stand_under_their_key_or_apart(rt: HostRuntime) -> Result<(), AllocError> {
+fn rows_are_under_their_key_or_apart(rt: HostRuntime) -> Result<(), AllocError> {
     let rows = rows_of(rt.alloc(), "05 -5 0-")?;
     let text = places(&rt, rt.alloc(), &rows)?;
     assert!(rt; text.as_str() == " 0 2 | | 1 |", "{text}");

@@ -13,7 +13,7 @@ fn symbol(cell: Option<u64>) -> char {
 }
 
 /// Prints the width, and for each row its cells and after `=` the same cells one by one.
-fn told(alloc: Global, rows: &Rows) -> Result<String, AllocError> {
+fn text_of(alloc: Global, rows: &Rows) -> Result<String, AllocError> {
     let mut text = format!(in alloc; "{}:", rows.width())?;
     for i in 0..rows.len() {
         text.push(' ')?;
@@ -55,15 +55,15 @@ fn empty_rows(alloc: Global) -> Result<Rows, AllocError> {
 }
 
 #[test]
-fn rows_stand_as_they_were_pushed(rt: HostRuntime) -> Result<(), AllocError> {
-    let text = told(rt.alloc(), &appended(rt.alloc())?)?;
+fn rows_are_as_they_were_pushed(rt: HostRuntime) -> Result<(), AllocError> {
+    let text = text_of(rt.alloc(), &appended(rt.alloc())?)?;
     assert!(rt; text.as_str() == "2: 1-=1- -7=-7 34=34", "{text}");
     Ok(())
 }
 
 #[test]
 fn rows_of_no_width_are_counted(rt: HostRuntime) -> Result<(), AllocError> {
-    let text = told(rt.alloc(), &empty_rows(rt.alloc())?)?;
+    let text = text_of(rt.alloc(), &empty_rows(rt.alloc())?)?;
     assert!(rt; text.as_str() == "0: = =", "{text}");
     Ok(())
 }

@@ -74,7 +74,7 @@ fn the_empty_pattern_has_one_row(rt: HostRuntime) {
 
 /// `?0 2 ?0`: the subject is the object.
 #[test]
-fn a_variable_stands_twice(rt: HostRuntime) {
+fn a_variable_occurs_twice(rt: HostRuntime) {
     let quads = [quad(1, 2, 1), quad(1, 2, 3), quad(3, 2, 1)];
     let triples = [triple(Variable(0), Term(2), Variable(0))];
     let rows = solve(&rt, rt.alloc(), &quads, None, 1, &triples).expect(&rt, "memory");
@@ -90,8 +90,8 @@ fn a_number_is_not_there(rt: HostRuntime) {
     let absent = triple(Variable(0), Term(7), Variable(1));
     let alone = solve(&rt, rt.alloc(), &quads, None, 2, &[absent]).expect(&rt, "memory");
     assert_eq!(rt; alone.len(), 0);
-    let beside = solve(&rt, rt.alloc(), &quads, None, 2, &[present, absent]).expect(&rt, "memory");
-    assert_eq!(rt; beside.len(), 0);
+    let both = solve(&rt, rt.alloc(), &quads, None, 2, &[present, absent]).expect(&rt, "memory");
+    assert_eq!(rt; both.len(), 0);
 }
 
 /// `?0 2 ?1 . ?1 5 ?2` in both orders: the one chain, 1 to 3 to 6.

@@ -25,7 +25,7 @@ fn a_piece_has_what_was_asked_for(rt: HostRuntime) {
 }
 
 #[test]
-fn a_refusal_keeps_its_name(rt: HostRuntime) {
+fn a_fault_keeps_its_name(rt: HostRuntime) {
     let worker = EvalFault::from(PoolFault::WorkerRefused);
     let pool = EvalFault::from(PoolFault::Memory);
     let memory = EvalFault::from(AllocError);
@@ -43,7 +43,7 @@ fn a_refusal_keeps_its_name(rt: HostRuntime) {
 /// Prints the result of `n` pieces; those below `sound` are not faulty. The result is the number of
 /// outputs at their indexes, or the least faulty piece with its fault. Also prints how many pieces
 /// entered and left the gate.
-fn told<R: Threads + Wait>(
+fn outcome_text<R: Threads + Wait>(
     rt: &R,
     alloc: Global,
     workers: usize,
@@ -82,7 +82,7 @@ fn in_place(outs: &[u64]) -> u64 {
 /// single piece, and all pieces if there is one worker. A single faulty piece is named, and has
 /// left the gate.
 #[test]
-fn each_piece_is_answered_in_its_place(rt: HostRuntime) -> Result<(), AllocError> {
+fn each_piece_has_its_output_in_its_place(rt: HostRuntime) -> Result<(), AllocError> {
     for (n, sound, expected) in [
         (0, 9, "results 0 0 entered 0 left 0"),
         (1, 9, "results 1 1 entered 1 left 1"),
@@ -91,7 +91,7 @@ fn each_piece_is_answered_in_its_place(rt: HostRuntime) -> Result<(), AllocError
         (1, 0, "faulty 0 0 entered 1 left 1"),
     ] {
         for workers in [2, 1] {
-            let given = told(&rt, rt.alloc(), workers, n, sound)?;
+            let given = outcome_text(&rt, rt.alloc(), workers, n, sound)?;
             assert!(rt;
                 given.as_str() == expected,
                 "{n} pieces, {workers} workers: expected {expected}, got {given}"

@@ -17,7 +17,7 @@ use Rattle.quad_index.specs.Matching.{graph_names}
 use Rattle.row_core.specs.RowList.{RowList}
 use Rattle.sparql_eval.specs.Computed.{InSomeGraph, IsComputed, IsValue, TakesOnly}
 use Rattle.sparql_eval.specs.Evaluated.{IsEvaluated, solutions_of}
-use Rattle.sparql_eval.specs.TreeSolutions.{Wanted}
+use Rattle.sparql_eval.specs.TreeSolutions.{Needed}
 use Rattle.sparql_eval.proofs.EvaluateSteps.{active_kept, index_kept}
 use Rattle.sparql_eval.proofs.GraphSteps.{names_read}
 use Rattle.sparql_eval.proofs.TakingLaws.{takes_more, takes_none, takes_twice}
@@ -38,39 +38,39 @@ takes_two V V' W a b c f h k = takes_twice W a b c (takes_more V W a b (λ t v. 
 
 module _ (terms now : List Term) (grown : IsGrown terms now) (D : List NumQuad) (below : AreBelow (length terms) D) (w : ℕ) (g : Option ℕ) (named : ForSome g (λ n. n < length terms)) where
   -- an expression computes the same terms through a dictionary that has grown
-  pub wanted_kept : (A : Algebra) (later : List Term) → TakesOnly (Wanted now D w g A) now later → TakesOnly (Wanted terms D w g A) now later
-  wanted_kept A later h =
+  pub needed_kept : (A : Algebra) (later : List Term) → TakesOnly (Needed now D w g A) now later → TakesOnly (Needed terms D w g A) now later
+  needed_kept A later h =
       subst (λ (i : Option Term). TakesOnly (IsComputed w (quads_at terms D) i A) now later) (active_kept terms now grown g named).1
       (subst (λ Q. TakesOnly (IsComputed w Q (option_map (term_at now) g) A) now later) (index_kept terms now grown D below).1 h)
 
   -- two inputs, one after the other
-  pub takes_both : {E : Type 0} (r : Result (RowList × List Term) E) (A B whole joined : Algebra) → whole ≡ joined → ((t : Term) → Wanted terms D w g A t ⊎ Wanted terms D w g B t → Wanted terms D w g joined t)
-      → TakesOnly (Wanted terms D w g A) terms now → IfOk r (λ x. TakesOnly (Wanted now D w g B) now x.1) → IfOk r (λ x. TakesOnly (Wanted terms D w g whole) terms x.1)
+  pub takes_both : {E : Type 0} (r : Result (RowList × List Term) E) (A B whole joined : Algebra) → whole ≡ joined → ((t : Term) → Needed terms D w g A t ⊎ Needed terms D w g B t → Needed terms D w g joined t)
+      → TakesOnly (Needed terms D w g A) terms now → IfOk r (λ x. TakesOnly (Needed now D w g B) now x.1) → IfOk r (λ x. TakesOnly (Needed terms D w g whole) terms x.1)
   takes_both r A B whole joined is f h k =
-      IfOk-weaker r (λ x. TakesOnly (Wanted now D w g B) now x.1) (λ x. TakesOnly (Wanted terms D w g whole) terms x.1)
-      (λ x m. subst (λ (X : Algebra). TakesOnly (Wanted terms D w g X) terms x.1) (sym is)
-      (takes_two (Wanted terms D w g A) (Wanted terms D w g B) (Wanted terms D w g joined) terms now x.1 f h (wanted_kept B x.1 m))) k
+      IfOk-weaker r (λ x. TakesOnly (Needed now D w g B) now x.1) (λ x. TakesOnly (Needed terms D w g whole) terms x.1)
+      (λ x m. subst (λ (X : Algebra). TakesOnly (Needed terms D w g X) terms x.1) (sym is)
+      (takes_two (Needed terms D w g A) (Needed terms D w g B) (Needed terms D w g joined) terms now x.1 f h (needed_kept B x.1 m))) k
 
 module _ {E : Type 0} (terms : List Term) (D : List NumQuad) (w : ℕ) (g : Option ℕ) (r : Result (RowList × List Term) E) (whole made : Algebra) (is : whole ≡ made) where
   -- an expression with the same parts computes the same terms
-  pub takes_as : IfOk r (λ x. TakesOnly (Wanted terms D w g made) terms x.1) → IfOk r (λ x. TakesOnly (Wanted terms D w g whole) terms x.1)
-  takes_as h = subst (λ (X : Algebra). IfOk r (λ x. TakesOnly (Wanted terms D w g X) terms x.1)) (sym is) h
+  pub takes_as : IfOk r (λ x. TakesOnly (Needed terms D w g made) terms x.1) → IfOk r (λ x. TakesOnly (Needed terms D w g whole) terms x.1)
+  takes_as h = subst (λ (X : Algebra). IfOk r (λ x. TakesOnly (Needed terms D w g X) terms x.1)) (sym is) h
 
 -- ---- Extend
 
 -- the values for rows are the values of their solutions
-values_wanted : (terms now : List Term) (w : ℕ) (A : List (Solution Term)) (rows : RowList) → IsEvaluated terms w A rows now → (value : Solution Term → Option Term) (t : Term) → IsValue value (solutions_of now rows) t → IsValue value A t
-values_wanted terms now w A rows h value t m = Contains-permutation (map value (solutions_of now rows)) (map value A) (Some t) (IsPermutation-map value (solutions_of now rows) A h.bag) m
+values_needed : (terms now : List Term) (w : ℕ) (A : List (Solution Term)) (rows : RowList) → IsEvaluated terms w A rows now → (value : Solution Term → Option Term) (t : Term) → IsValue value (solutions_of now rows) t → IsValue value A t
+values_needed terms now w A rows h value t m = Contains-permutation (map value (solutions_of now rows)) (map value A) (Some t) (IsPermutation-map value (solutions_of now rows) A h.bag) m
 
 -- the terms of the input, followed by the values
 pub takes_values : {E : Type 0} (terms : List Term) (D : List NumQuad) (w : ℕ) (g : Option ℕ) (r : Result (RowList × List Term) E) (v : ℕ) (e : Expression) (A : Algebra) (now : List Term) (rows : RowList)
-    → IsEvaluated terms w (eval w (quads_at terms D) (option_map (term_at terms) g) A) rows now → TakesOnly (Wanted terms D w g A) terms now
-    → IfOk r (λ x. TakesOnly (IsValue (val e) (solutions_of now rows)) now x.1) → IfOk r (λ x. TakesOnly (Wanted terms D w g (Extend v e A)) terms x.1)
+    → IsEvaluated terms w (eval w (quads_at terms D) (option_map (term_at terms) g) A) rows now → TakesOnly (Needed terms D w g A) terms now
+    → IfOk r (λ x. TakesOnly (IsValue (val e) (solutions_of now rows)) now x.1) → IfOk r (λ x. TakesOnly (Needed terms D w g (Extend v e A)) terms x.1)
 takes_values {E} terms D w g r v e A now rows h before k =
     let S = eval w (quads_at terms D) (option_map (term_at terms) g) A in
-    IfOk-weaker r (λ x. TakesOnly (IsValue (val e) (solutions_of now rows)) now x.1) (λ x. TakesOnly (Wanted terms D w g (Extend v e A)) terms x.1)
-    (λ x m. takes_two (Wanted terms D w g A) (IsValue (val e) S) (Wanted terms D w g (Extend v e A)) terms now x.1 (λ t o. o) before
-    (takes_more (IsValue (val e) (solutions_of now rows)) (IsValue (val e) S) now x.1 (values_wanted terms now w S rows h (val e)) m)) k
+    IfOk-weaker r (λ x. TakesOnly (IsValue (val e) (solutions_of now rows)) now x.1) (λ x. TakesOnly (Needed terms D w g (Extend v e A)) terms x.1)
+    (λ x m. takes_two (Needed terms D w g A) (IsValue (val e) S) (Needed terms D w g (Extend v e A)) terms now x.1 (λ t o. o) before
+    (takes_more (IsValue (val e) (solutions_of now rows)) (IsValue (val e) S) now x.1 (values_needed terms now w S rows h (val e)) m)) k
 
 -- ---- Graph
 
@@ -81,13 +81,13 @@ contains_mapped f (y ∷ xs) (suc k) x e = let r = contains_mapped f xs k x e in
 
 module _ (terms : List Term) (index : List NumQuad) (w : ℕ) (A : Algebra) where
   -- the terms that the expression computes in the graphs of GRAPH
-  abbrev pub WantedIn : GraphName → Term → Type 0
-  WantedIn i t = InSomeGraph (quads_at terms index) i (λ h. IsComputed w (quads_at terms index) h A t)
+  abbrev pub NeededIn : GraphName → Term → Type 0
+  NeededIn i t = InSomeGraph (quads_at terms index) i (λ h. IsComputed w (quads_at terms index) h A t)
 
   -- in one of the named graphs, after the graphs before it
   module _ (once : AreDistinct terms) (below : AreBelow (length terms) index) (graphs : List ℕ) (are : IsPermutation (without_repeats nat_eq (graph_names index)) graphs) where
-    wanted_in_each : (v k n : ℕ) → slice_get graphs k ≡ Some n → (t : Term) → Wanted terms index w (Some n) A t → WantedIn (each_graph v) t
-    wanted_in_each v k n at t m =
+    needed_in_each : (v k n : ℕ) → slice_get graphs k ≡ Some n → (t : Term) → Needed terms index w (Some n) A t → NeededIn (each_graph v) t
+    needed_in_each v k n at t m =
         let named = map (term_at terms) graphs in
         let D = names (quads_at terms index) in
         let it = contains_mapped (term_at terms) graphs k n at in (
@@ -96,8 +96,8 @@ module _ (terms : List Term) (index : List NumQuad) (w : ℕ) (A : Algebra) wher
         )
 
     pub takes_in_each : (v k n : ℕ) → slice_get graphs k ≡ Some n → n < length terms → (now later : List Term) → IsGrown terms now
-        → TakesOnly (WantedIn (each_graph v)) terms now → TakesOnly (Wanted now index w (Some n) A) now later → TakesOnly (WantedIn (each_graph v)) terms later
+        → TakesOnly (NeededIn (each_graph v)) terms now → TakesOnly (Needed now index w (Some n) A) now later → TakesOnly (NeededIn (each_graph v)) terms later
     takes_in_each v k n at low now later grown h e =
-        takes_twice (WantedIn (each_graph v)) terms now later h
-        (takes_more (Wanted terms index w (Some n) A) (WantedIn (each_graph v)) now later (wanted_in_each v k n at)
-        (wanted_kept terms now grown index below w (Some n) (λ m e. let p : n ≡ m = cc in subst (λ (x : ℕ). x < length terms) p low) A later e))
+        takes_twice (NeededIn (each_graph v)) terms now later h
+        (takes_more (Needed terms index w (Some n) A) (NeededIn (each_graph v)) now later (needed_in_each v k n at)
+        (needed_kept terms now grown index below w (Some n) (λ m e. let p : n ≡ m = cc in subst (λ (x : ℕ). x < length terms) p low) A later e))

@@ -19,7 +19,7 @@ use Rattle.dict_core.specs.Dict.{AreDistinct, term_at}
 use Rattle.row_core.specs.RowList.{RowList}
 use Rattle.row_core.proofs.TurnLaws.{take_more_get}
 use Rattle.sparql_eval.specs.Evaluated.{AreKnown, IsEvaluated}
-use Rattle.sparql_eval.proofs.ReadingLaws.{Known, read_by, tells, evaluated}
+use Rattle.sparql_eval.proofs.ReadingLaws.{Known, read_by, equal_by_number, evaluated}
 
 module _ {X : Type 0} (same : X → X → Bool) (decides : (x y : X) → Decides (same x y) (x ≡ y)) where
   symmetric : (x y : X) → same y x ≡ same x y
@@ -80,4 +80,4 @@ pub distinct_evaluated : (terms : List Term) → AreDistinct terms → (rows mad
 distinct_evaluated terms once rows made known wide e =
     evaluated terms rows.width (distinct term_eq (map (read_by terms) rows.rows)) made wide
     (subst (Each (Known terms)) (sym e) (Each-without_repeats (Known terms) (same_solution nat_eq) rows.rows known))
-    (ap (map (read_by terms)) e ∙ sym (distinct-read nat_eq term_eq (λ n. n < length terms) (term_at terms) (tells terms once) rows.rows known))
+    (ap (map (read_by terms)) e ∙ sym (distinct-read nat_eq term_eq (λ n. n < length terms) (term_at terms) (equal_by_number terms once) rows.rows known))

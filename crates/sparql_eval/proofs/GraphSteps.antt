@@ -29,7 +29,7 @@ use Rattle.quad_index.specs.Matching.{graph_names}
 use Rattle.quad_index.proofs.ReadingLaws.{once-map}
 use Rattle.row_core.proofs.TurnLaws.{join-take}
 use Rattle.sparql_eval.specs.GraphNumbers.{IsGraphNumber}
-use Rattle.sparql_eval.proofs.ReadingLaws.{apart, tells, number_known, number_read}
+use Rattle.sparql_eval.proofs.ReadingLaws.{apart, equal_by_number, number_known, number_read}
 use Rattle.sparql_eval.proofs.PatternSteps.{not_at}
 
 -- ---- a row joined with the row of the name
@@ -54,11 +54,11 @@ rise : (xs : List ℕ) → IsStrictlyIncreasing xs → (i j : ℕ) → i ≤ j �
 rise xs up i j = non_decreasing_from_sorted xs (sorted_from_strictly_increasing xs up) i j 0
 
 -- the search finds a number exactly if it is among them
-pub search_tells : (xs : List ℕ) → IsStrictlyIncreasing xs → (n : ℕ) (r : Result ℕ ℕ) → IsBinarySearchResult (λ x. nat_cmp x n) xs r → is_ok r ≡ list_any (λ x. nat_eq x n) xs
-search_tells xs up n (Ok i) is =
+pub search_finds : (xs : List ℕ) → IsStrictlyIncreasing xs → (n : ℕ) (r : Result ℕ ℕ) → IsBinarySearchResult (λ x. nat_cmp x n) xs r → is_ok r ≡ list_any (λ x. nat_eq x n) xs
+search_finds xs up n (Ok i) is =
     let found = searched xs n (Ok i) is (rise xs up) in
     sym (list_any_at (λ x. nat_eq x n) xs i 0 found.0 (eq-eqb (get_or xs i 0) n found.1))
-search_tells xs up n (Err i) is =
+search_finds xs up n (Err i) is =
     let parted = searched xs n (Err i) is (rise xs up) in
     sym (list_any_none (λ x. nat_eq x n) xs (λ k d low. ne_eqb (get_or xs k d) n (λ same.
     let read = get_or_default xs k d 0 low in
@@ -104,7 +104,7 @@ module _ (terms : List Term) (once : AreDistinct terms) (index : List NumQuad) (
 
   among : (n : ℕ) → n < length terms → (gs : List ℕ) → Each (λ g. g < length terms) gs → list_any (λ g. term_eq (term_at terms n) (term_at terms g)) gs ≡ list_any (λ g. nat_eq g n) gs
   among n low [] h = refl
-  among n low (g ∷ gs) h = λ i. (tells terms once n g low h.0 ∙ symmetric n g) i || among n low gs h.1 i
+  among n low (g ∷ gs) h = λ i. (equal_by_number terms once n g low h.0 ∙ symmetric n g) i || among n low gs h.1 i
 
   -- a name is the name of some graph exactly if its number is
   pub name_found : (t : Term) (n : ℕ) → n < length terms → term_at terms n ≡ t → list_any (term_eq t) (names (quads_at terms index)) ≡ list_any (λ g. nat_eq g n) graphs
@@ -113,8 +113,8 @@ module _ (terms : List Term) (once : AreDistinct terms) (index : List NumQuad) (
       ∙ any-map (term_eq t) (term_at terms) graphs ∙ ap (λ u. list_any (λ g. term_eq u (term_at terms g)) graphs) (sym e) ∙ among n low graphs graph_below
 
   -- the result for a name that has a number, by whether the number is that of some graph
-  pub number_told : (t : Term) (n : ℕ) → slice_get terms n ≡ Some t → (b : Bool) → b ≡ list_any (λ g. nat_eq g n) graphs → MatchOption (then_some b n) (list_any (term_eq t) (names (quads_at terms index)) ≡ false) (IsGraphNumber terms index t)
-  number_told t n at b is = by b (name_found t n low read ∙ sym is)
+  pub number_found : (t : Term) (n : ℕ) → slice_get terms n ≡ Some t → (b : Bool) → b ≡ list_any (λ g. nat_eq g n) graphs → MatchOption (then_some b n) (list_any (term_eq t) (names (quads_at terms index)) ≡ false) (IsGraphNumber terms index t)
+  number_found t n at b is = by b (name_found t n low read ∙ sym is)
     where
       low : n < length terms
       low = number_known terms n t at

@@ -18,7 +18,7 @@ use Rattle.row_core.specs.RowList.{RowList}
 use Rattle.row_join.specs.Numbers.{passes, all_pass}
 use Rattle.sparql_eval.specs.Evaluated.{AreKnown, IsEvaluated}
 use Rattle.sparql_eval.specs.Numbered.{IsKnownAt}
-use Rattle.sparql_eval.proofs.ReadingLaws.{Known, read_by, tells, grown_itself}
+use Rattle.sparql_eval.proofs.ReadingLaws.{Known, read_by, equal_by_number, grown_itself}
 
 -- rows that are the same multiset as these solutions of numbers, with the numbers read as terms
 pub at_numbers : (terms : List Term) (w : ℕ) (N : List (Solution ℕ)) (A : List (Solution Term)) (made : RowList) → made.width ≡ w → IsSameBag made.rows N → Each (Known terms) N → A ≡ map (read_by terms) N → IsEvaluated terms w A made terms
@@ -34,20 +34,20 @@ module _ (terms : List Term) (once : AreDistinct terms) (left right made : RowLi
   joined bag =
       at_numbers terms left.width (join nat_eq left.rows right.rows) (join term_eq (map (read_by terms) left.rows) (map (read_by terms) right.rows)) made wide bag
       (join-bound (λ n. n < length terms) nat_eq left.rows right.rows knownL knownR)
-      (join-read nat_eq term_eq (λ n. n < length terms) (term_at terms) (tells terms once) left.rows right.rows knownL knownR)
+      (join-read nat_eq term_eq (λ n. n < length terms) (term_at terms) (equal_by_number terms once) left.rows right.rows knownL knownR)
 
   pub subtracted : IsSameBag made.rows (minus nat_eq left.rows right.rows) → IsEvaluated terms left.width (minus term_eq (map (read_by terms) left.rows) (map (read_by terms) right.rows)) made terms
   subtracted bag =
       at_numbers terms left.width (minus nat_eq left.rows right.rows) (minus term_eq (map (read_by terms) left.rows) (map (read_by terms) right.rows)) made wide bag
       (minus-bound (λ n. n < length terms) nat_eq left.rows right.rows knownL)
-      (minus-read nat_eq term_eq (λ n. n < length terms) (term_at terms) (tells terms once) left.rows right.rows knownL knownR)
+      (minus-read nat_eq term_eq (λ n. n < length terms) (term_at terms) (equal_by_number terms once) left.rows right.rows knownL knownR)
 
   pub left_joined : (e : Expression) → IsSameBag made.rows (left_join nat_eq (λ μ. holds e (read_by terms μ)) left.rows right.rows)
       → IsEvaluated terms left.width (left_join term_eq (holds e) (map (read_by terms) left.rows) (map (read_by terms) right.rows)) made terms
   left_joined e bag =
       at_numbers terms left.width (left_join nat_eq (λ μ. holds e (read_by terms μ)) left.rows right.rows) (left_join term_eq (holds e) (map (read_by terms) left.rows) (map (read_by terms) right.rows)) made wide bag
       (left_join-bound (λ n. n < length terms) nat_eq (λ μ. holds e (read_by terms μ)) left.rows right.rows knownL knownR)
-      (left_join-read nat_eq term_eq (λ n. n < length terms) (term_at terms) (tells terms once) (holds e) (λ μ. holds e (read_by terms μ)) (λ μ h. refl) left.rows right.rows knownL knownR)
+      (left_join-read nat_eq term_eq (λ n. n < length terms) (term_at terms) (equal_by_number terms once) (holds e) (λ μ. holds e (read_by terms μ)) (λ μ h. refl) left.rows right.rows knownL knownR)
 
 -- ---- what a left join requires of the numbers
 

@@ -1,4 +1,4 @@
-pub mod AnswerSteps
+pub mod ReturnSteps
 pub mod ReadingLaws
 pub mod TakingLaws
 mod ProjectSteps

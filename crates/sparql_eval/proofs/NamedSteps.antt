@@ -30,7 +30,7 @@ use Rattle.sparql_algebra.specs.declared.operator.Operator.{Operator}
 use Rattle.sparql_eval.specs.Evaluated.{IsEvaluated}
 use Rattle.sparql_eval.specs.TreeSolutions.{graph_solutions, tree_solutions}
 use Rattle.sparql_eval.specs.GraphNumbers.{IsGraphNumber}
-use Rattle.sparql_eval.proofs.ReadingLaws.{Known, read_by, tells, rows_kept, number_kept, set_known, set_read, evaluated, Each-at}
+use Rattle.sparql_eval.proofs.ReadingLaws.{Known, read_by, equal_by_number, rows_kept, number_kept, set_known, set_read, evaluated, Each-at}
 use Rattle.sparql_eval.proofs.TableSteps.{row_begins}
 use Rattle.sparql_eval.proofs.GraphSteps.{graph_below, names_read}
 
@@ -59,7 +59,7 @@ module _ (terms now later : List Term) (once : AreDistinct later) (g : IsGrown t
       let J = join nat_eq rows.rows (ν ∷ []) in
       let νs : Each (Known later) (ν ∷ []) = (name_known n low, tt) in
       let read : map (read_by later) J ≡ join term_eq (map (read_by later) rows.rows) (named w v (term_at terms n)) =
-      sym (join-read nat_eq term_eq (λ x. x < length later) (term_at later) (tells later once) rows.rows (ν ∷ []) got.known νs) ∙ ap (join term_eq (map (read_by later) rows.rows)) (name_read n low) in
+      sym (join-read nat_eq term_eq (λ x. x < length later) (term_at later) (equal_by_number later once) rows.rows (ν ∷ []) got.known νs) ∙ ap (join term_eq (map (read_by later) rows.rows)) (name_read n low) in
       let here : IsSameBag (map (read_by later) J) (in_graph (term_at terms n)) =
       subst (λ l. IsSameBag l (in_graph (term_at terms n))) (sym read)
       (join-IsSameBag term_eq term_decides (map (read_by later) rows.rows) (P (term_at terms n)) (named w v (term_at terms n)) (named w v (term_at terms n)) got.bag (IsPermutation-refl (named w v (term_at terms n)))) in

@@ -15,7 +15,7 @@ use Rattle.rdf_core.proofs.TermLaws.{term_eq}
 use Rattle.algebra_model.specs.Solution.{Solution}
 use Rattle.algebra_model.specs.Laws.{IsReading}
 use Rattle.algebra_model.specs.Renaming.{Each, EachBound, read_row}
-use Rattle.algebra_model.proofs.NumberLaws.{reading_tells}
+use Rattle.algebra_model.proofs.NumberLaws.{equal_when_read}
 use Rattle.dict_core.specs.Dict.{AreDistinct, IsGrown, term_at}
 use Rattle.dict_core.proofs.InsertLaws.{get-grown, grown}
 use Rattle.dict_core.proofs.NumberingLaws.{number_reads, get-below}
@@ -60,8 +60,8 @@ apart terms h x y low high e =
     omega arith
 
 -- so two numbers are equal exactly if their terms are equal
-pub tells : (terms : List Term) → AreDistinct terms → (x y : ℕ) → x < length terms → y < length terms → term_eq (term_at terms x) (term_at terms y) ≡ nat_eq x y
-tells terms h = reading_tells (length terms) (term_at terms) (apart terms h)
+pub equal_by_number : (terms : List Term) → AreDistinct terms → (x y : ℕ) → x < length terms → y < length terms → term_eq (term_at terms x) (term_at terms y) ≡ nat_eq x y
+equal_by_number terms h = equal_when_read (length terms) (term_at terms) (apart terms h)
 
 -- a term that was added
 pub grown_interned : (old new : List Term) (t : Term) → (Contains old t → new ≡ old) → ((Contains old t → ⊥) → new ≡ old ++ t ∷ []) → IsGrown old new

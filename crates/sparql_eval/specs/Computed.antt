@@ -14,7 +14,7 @@ use Rattle.algebra_model.specs.Solution.{Solution}
 
 -- each of the later terms is an earlier one, or is allowed
 abbrev pub TakesOnly : (Term → Type 0) → List Term → List Term → Type 0
-TakesOnly Wanted terms terms' = (t : Term) → Contains terms' t → Contains terms t ⊎ Wanted t
+TakesOnly Needed terms terms' = (t : Term) → Contains terms' t → Contains terms t ⊎ Needed t
 
 -- the term is in a cell of the table, below one of its variables
 abbrev pub IsCell : List ℕ → List (List (Option Term)) → Term → Type 0

@@ -13,9 +13,11 @@ use Rattle.dict_core.specs.Dict.{term_at}
 abbrev pub IsPatternTermOf : List Term → PatternTerm Term → PatternTerm ℕ → Type 0
 IsPatternTermOf terms p n = (read_pattern_term (term_at terms) n ≡ p) × EachConstant (λ x. x < length terms) n
 
+-- the same of triple patterns
 abbrev pub IsPatternOf : List Term → TriplePattern Term → TriplePattern ℕ → Type 0
 IsPatternOf terms t n = (read_pattern (term_at terms) n ≡ t) × EachOfPattern (λ x. x < length terms) n
 
+-- the same of lists of triple patterns
 abbrev pub ArePatternsOf : List Term → List (TriplePattern Term) → List (TriplePattern ℕ) → Type 0
 ArePatternsOf terms P N = (map (read_pattern (term_at terms)) N ≡ P) × Each (EachOfPattern (λ x. x < length terms)) N
 
@@ -23,8 +25,10 @@ ArePatternsOf terms P N = (map (read_pattern (term_at terms)) N ≡ P) × Each (
 abbrev pub LacksTerm : List Term → PatternTerm Term → Type 0
 LacksTerm terms p = (c : Term) × (¬ (Contains terms c)) × (is_the_term term_eq c p ≡ true)
 
+-- the dictionary lacks a constant of the triple pattern
 abbrev pub LacksTriple : List Term → TriplePattern Term → Type 0
 LacksTriple terms t = (c : Term) × (¬ (Contains terms c)) × (has_term term_eq c t ≡ true)
 
+-- the dictionary lacks a constant of one of the triple patterns
 abbrev pub LacksSome : List Term → List (TriplePattern Term) → Type 0
 LacksSome terms P = (c : Term) × (¬ (Contains terms c)) × (list_any (has_term term_eq c) P ≡ true)

@@ -10,5 +10,6 @@ use Rattle.dict_core.specs.Dict.{term_at}
 abbrev pub filter_part : List Term → Expression → Solution ℕ → List (Solution ℕ)
 filter_part terms e μ = if holds e (read_row (term_at terms) μ) then μ ∷ [] else []
 
+-- what each of the rows gives
 abbrev pub filter_parts : List Term → Expression → List (Solution ℕ) → List (List (Solution ℕ))
 filter_parts terms e A = map (filter_part terms e) A

@@ -22,5 +22,5 @@ abbrev pub graph_solutions : List Term → List NumQuad → ℕ → GraphName �
 graph_solutions terms index w name tree = in_graphs w (quads_at terms index) name (λ h. eval w (quads_at terms index) h (algebra_of tree))
 
 -- the terms that an expression computes, with the graph of that number active
-abbrev pub Wanted : List Term → List NumQuad → ℕ → Option ℕ → Algebra → Term → Type 0
-Wanted terms index w active A = IsComputed w (quads_at terms index) (option_map (term_at terms) active) A
+abbrev pub Needed : List Term → List NumQuad → ℕ → Option ℕ → Algebra → Term → Type 0
+Needed terms index w active A = IsComputed w (quads_at terms index) (option_map (term_at terms) active) A

@@ -25,6 +25,7 @@ IsValueIn terms own Error = Unit {0}
 IsValueIn terms own (Known n) = n < length terms
 IsValueIn terms own (Own k) = k < length own
 
+-- what was found for a row is its value, or an error if the row has none
 abbrev pub IsValueOf : List Term → List Term → Option Term → PieceValue → Type 0
 IsValueOf terms own value found = IsValueIn terms own found × (value_term terms own found ≡ value)
 
@@ -45,9 +46,11 @@ AreValues terms own e A found =
 abbrev pub ArePieceValues : List Term → Expression → List (Solution ℕ) → PieceValues → Type 0
 ArePieceValues terms e A piece = AreValues terms piece.own e A piece.values.items
 
+-- the numbers of a piece are numbers of terms
 abbrev pub IsPieceIn : List Term → PieceValues → Type 0
 IsPieceIn terms piece = Each (IsValueIn terms piece.own) piece.values.items
 
+-- the values of a piece, as terms
 abbrev pub piece_terms : List Term → PieceValues → List (Option Term)
 piece_terms terms piece = map (value_term terms piece.own) piece.values.items
 

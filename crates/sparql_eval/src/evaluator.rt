@@ -16,7 +16,7 @@ ghost use Rattle.sparql_algebra.specs.AlgebraOf.{algebra_of, graph_name_of, trip
 ghost use Rattle.sparql_algebra.specs.ExpressionOf.{expression_of};
 ghost use Rattle.sparql_eval.specs.Computed.{InSomeGraph, IsComputed, IsValue, TakesOnly};
 ghost use Rattle.sparql_eval.specs.Evaluated.{AreKnown, IsEvaluated, solutions_of};
-ghost use Rattle.sparql_eval.specs.TreeSolutions.{Wanted, graph_solutions, tree_solutions};
+ghost use Rattle.sparql_eval.specs.TreeSolutions.{Needed, graph_solutions, tree_solutions};
 
 use crate::distinctness::distinct;
 use crate::extensions::extend;
@@ -133,7 +133,7 @@ impl<'a, R: Threads + Wait, G: Gate + Sync> Evaluator<'a, R, G> {
         ensures evaluated { IfOk result (λ r. IsEvaluated dict left.width
             (join term_eq (solutions_of dict left)
             (tree_solutions dict self.now.index.now self.now.width active right.now)) r.0 r.1) }
-        ensures needed { IfOk result (λ r. TakesOnly (Wanted dict self.now.index.now self.now.width active
+        ensures needed { IfOk result (λ r. TakesOnly (Needed dict self.now.index.now self.now.width active
             (algebra_of right.now)) dict r.1) }
         ensures one_worker { HasOneWorker self.now.how.now → IfErr result (λ fault. fault ≡ Memory) }
     {
@@ -159,7 +159,7 @@ impl<'a, R: Threads + Wait, G: Gate + Sync> Evaluator<'a, R, G> {
         ensures evaluated { IfOk result (λ r. IsEvaluated dict left.width
             (left_join term_eq (holds (expression_of condition.now)) (solutions_of dict left)
             (tree_solutions dict self.now.index.now self.now.width active right.now)) r.0 r.1) }
-        ensures needed { IfOk result (λ r. TakesOnly (Wanted dict self.now.index.now self.now.width active
+        ensures needed { IfOk result (λ r. TakesOnly (Needed dict self.now.index.now self.now.width active
             (algebra_of right.now)) dict r.1) }
         ensures one_worker { HasOneWorker self.now.how.now → IfErr result (λ fault. fault ≡ Memory) }
     {
@@ -184,7 +184,7 @@ impl<'a, R: Threads + Wait, G: Gate + Sync> Evaluator<'a, R, G> {
         ensures evaluated { IfOk result (λ r. IsEvaluated dict left.width
             (solutions_of dict left
             ++ tree_solutions dict self.now.index.now self.now.width active right.now) r.0 r.1) }
-        ensures needed { IfOk result (λ r. TakesOnly (Wanted dict self.now.index.now self.now.width active
+        ensures needed { IfOk result (λ r. TakesOnly (Needed dict self.now.index.now self.now.width active
             (algebra_of right.now)) dict r.1) }
         ensures one_worker { HasOneWorker self.now.how.now → IfErr result (λ fault. fault ≡ Memory) }
     {
@@ -209,7 +209,7 @@ impl<'a, R: Threads + Wait, G: Gate + Sync> Evaluator<'a, R, G> {
         ensures evaluated { IfOk result (λ r. IsEvaluated dict left.width
             (minus term_eq (solutions_of dict left)
             (tree_solutions dict self.now.index.now self.now.width active right.now)) r.0 r.1) }
-        ensures needed { IfOk result (λ r. TakesOnly (Wanted dict self.now.index.now self.now.width active
+        ensures needed { IfOk result (λ r. TakesOnly (Needed dict self.now.index.now self.now.width active
             (algebra_of right.now)) dict r.1) }
         ensures one_worker { HasOneWorker self.now.how.now → IfErr result (λ fault. fault ≡ Memory) }
     {
@@ -232,7 +232,7 @@ impl<'a, R: Threads + Wait, G: Gate + Sync> Evaluator<'a, R, G> {
         ensures evaluated { IfOk result (λ r. IsEvaluated dict self.now.width
             (filter (holds (expression_of condition.now))
             (tree_solutions dict self.now.index.now self.now.width active inner.now)) r.0 r.1) }
-        ensures needed { IfOk result (λ r. TakesOnly (Wanted dict self.now.index.now self.now.width active
+        ensures needed { IfOk result (λ r. TakesOnly (Needed dict self.now.index.now self.now.width active
             (Filter (expression_of condition.now) (algebra_of inner.now))) dict r.1) }
         ensures one_worker { HasOneWorker self.now.how.now → IfErr result (λ fault. fault ≡ Memory) }
     {
@@ -257,7 +257,7 @@ impl<'a, R: Threads + Wait, G: Gate + Sync> Evaluator<'a, R, G> {
         ensures evaluated { IfOk result (λ r. IsEvaluated dict self.now.width
             (extend variable (val (expression_of expression.now))
             (tree_solutions dict self.now.index.now self.now.width active inner.now)) r.0 r.1) }
-        ensures needed { IfOk result (λ r. TakesOnly (Wanted dict self.now.index.now self.now.width active
+        ensures needed { IfOk result (λ r. TakesOnly (Needed dict self.now.index.now self.now.width active
             (Extend variable (expression_of expression.now) (algebra_of inner.now))) dict r.1) }
         ensures one_worker { HasOneWorker self.now.how.now → IfErr result (λ fault. fault ≡ Memory) }
     {
@@ -280,7 +280,7 @@ impl<'a, R: Threads + Wait, G: Gate + Sync> Evaluator<'a, R, G> {
         ensures evaluated { IfOk result (λ r. IsEvaluated dict self.now.width
             (project variables.now
             (tree_solutions dict self.now.index.now self.now.width active inner.now)) r.0 r.1) }
-        ensures needed { IfOk result (λ r. TakesOnly (Wanted dict self.now.index.now self.now.width active
+        ensures needed { IfOk result (λ r. TakesOnly (Needed dict self.now.index.now self.now.width active
             (Project variables.now (algebra_of inner.now))) dict r.1) }
         ensures one_worker { HasOneWorker self.now.how.now → IfErr result (λ fault. fault ≡ Memory) }
     {
@@ -302,7 +302,7 @@ impl<'a, R: Threads + Wait, G: Gate + Sync> Evaluator<'a, R, G> {
         ensures evaluated { IfOk result (λ r. IsEvaluated dict self.now.width
             (distinct term_eq
             (tree_solutions dict self.now.index.now self.now.width active inner.now)) r.0 r.1) }
-        ensures needed { IfOk result (λ r. TakesOnly (Wanted dict self.now.index.now self.now.width active
+        ensures needed { IfOk result (λ r. TakesOnly (Needed dict self.now.index.now self.now.width active
             (Distinct (algebra_of inner.now))) dict r.1) }
         ensures one_worker { HasOneWorker self.now.how.now → IfErr result (λ fault. fault ≡ Memory) }
     {

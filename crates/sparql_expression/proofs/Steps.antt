@@ -6,7 +6,7 @@ use Rattle.sparql_lexer.specs.Terminal.{Terminal, terminal}
 use Rattle.sparql_grammar.specs.Class.{Class, Picked, Picks, exactly}
 use Rattle.sparql_grammar.specs.Values.{Names}
 use Rattle.sparql_grammar.specs.Symbol.{Symbol, Value}
-use Rattle.sparql_grammar.specs.Form.{Form, give, behind, take, part, last, choice, when}
+use Rattle.sparql_grammar.specs.Form.{Form, give, count_following, take, part, last, choice, when}
 use Rattle.sparql_grammar.specs.Productions.{right_side}
 use Rattle.sparql_grammar.specs.Derivation.{Derivation, gives, counts, takes, parts, lasts, firsts, seconds, whens}
 use Rattle.sparql_grammar.specs.Follow.{reach, next_level, heads}
@@ -164,12 +164,12 @@ pub done : {names : Names} {s : Symbol} {ts : List Terminal} {u : Symbol} {g : V
 done {names = names} {s = s} {ts = ts} {a = a} {mid = mid} l e =
     subst (λ b. Parses names s ts (Ok (b, mid))) (sym e) (l.goes (Ok (a, mid)) record { is = (gives, λ v rest d b. only_given d) })
 
-only_counted : {names : Names} {u : Symbol} {h : ℕ → Value u} {v : Value u} {ts rest : List Terminal} → Derivation names u (behind h) ts v rest → (v ≡ h (length ts)) × (rest ≡ ts)
+only_counted : {names : Names} {u : Symbol} {h : ℕ → Value u} {v : Value u} {ts rest : List Terminal} → Derivation names u (count_following h) ts v rest → (v ≡ h (length ts)) × (rest ≡ ts)
 only_counted counts = (refl, refl)
 
-pub done_behind : {names : Names} {s : Symbol} {ts : List Terminal} {u : Symbol} {g : Value u → Value s} {h : ℕ → Value u} {mid : List Terminal} {b : Value s}
-    → Left names s ts u g (behind h) mid → b ≡ g (h (length mid)) → Parses names s ts (Ok (b, mid))
-done_behind {names = names} {s = s} {ts = ts} {h = h} {mid = mid} l e =
+pub done_counted : {names : Names} {s : Symbol} {ts : List Terminal} {u : Symbol} {g : Value u → Value s} {h : ℕ → Value u} {mid : List Terminal} {b : Value s}
+    → Left names s ts u g (count_following h) mid → b ≡ g (h (length mid)) → Parses names s ts (Ok (b, mid))
+done_counted {names = names} {s = s} {ts = ts} {h = h} {mid = mid} l e =
     subst (λ b. Parses names s ts (Ok (b, mid))) (sym e) (l.goes (Ok (h (length mid), mid)) record { is = (counts, λ v rest d b. only_counted d) })
 
 -- if the rest of the form derives nothing, the whole form derives nothing

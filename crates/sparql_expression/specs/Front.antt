@@ -18,6 +18,7 @@ pub record Taken (names : Names) (c : Class) (ts : List Terminal) (v : Picked c)
 pub record Untaken (names : Names) (c : Class) (ts : List Terminal) : Type 0 where
   pub none : (v : Picked c) (after : List Terminal) → Taken names c ts v after → ⊥
 
+-- the value of the first terminal and the terminals after it, or None if it is not of the class
 abbrev pub Accepts : (names : Names) (c : Class) → List Terminal → Option (Picked c × List Terminal) → Type 0
 Accepts names c ts (Some p) = Taken names c ts p.0 p.1
 Accepts names c ts None = Untaken names c ts
@@ -27,6 +28,7 @@ abbrev pub accepted : {A : Type 0} → Option (A × Bor (List Token)) → Option
 accepted (Some p) = Some (p.0, terminals p.1.now)
 accepted None = None
 
+-- the same for a terminal without a value
 abbrev pub followed : Option (Bor (List Token)) → Option (Unit {0} × List Terminal)
 followed (Some after) = Some (tt, terminals after.now)
 followed None = None

@@ -43,9 +43,9 @@ pub fn read_disjunction<'t, 'a>(
 {
     let (mut left, mut rest) = read_conjunction(alloc, names, tokens)?;
     'parts: while let Some(after) = accept(rest, Sign::Or) {
-        let (right, behind) = read_conjunction(alloc, names, after)?;
+        let (right, remaining) = read_conjunction(alloc, names, after)?;
         left = make_or(alloc, left, right)?;
-        rest = behind;
+        rest = remaining;
     }
     Ok((left, rest))
 }
@@ -61,9 +61,9 @@ fn read_conjunction<'t, 'a>(
 {
     let (mut left, mut rest) = read_relation(alloc, names, tokens)?;
     'parts: while let Some(after) = accept(rest, Sign::And) {
-        let (right, behind) = read_relation(alloc, names, after)?;
+        let (right, remaining) = read_relation(alloc, names, after)?;
         left = make_and(alloc, left, right)?;
-        rest = behind;
+        rest = remaining;
     }
     Ok((left, rest))
 }
@@ -79,12 +79,12 @@ fn read_relation<'t, 'a>(
 {
     let (left, rest) = read_unary(alloc, names, tokens)?;
     if let Some((op, after)) = accept_comparison(rest) {
-        let (right, behind) = read_unary(alloc, names, after)?;
-        return Ok((make_comparison(alloc, op, left, right)?, behind));
+        let (right, remaining) = read_unary(alloc, names, after)?;
+        return Ok((make_comparison(alloc, op, left, right)?, remaining));
     }
     if let Some(after) = accept_word(rest, Keyword::In) {
-        let (members, behind) = read_members(alloc, names, after)?;
-        return Ok((make_in(alloc, left, members)?, behind));
+        let (members, remaining) = read_members(alloc, names, after)?;
+        return Ok((make_in(alloc, left, members)?, remaining));
     }
     let Some(denied) = accept_word(rest, Keyword::Not) else {
         return Ok((left, rest));
@@ -92,9 +92,9 @@ fn read_relation<'t, 'a>(
     let Some(after) = accept_word(denied, Keyword::In) else {
         return Err(ParseFault::Syntax);
     };
-    let (members, behind) = read_members(alloc, names, after)?;
+    let (members, remaining) = read_members(alloc, names, after)?;
     let inner = make_in(alloc, left, members)?;
-    Ok((make_not(alloc, inner)?, behind))
+    Ok((make_not(alloc, inner)?, remaining))
 }
 
 #[cycle(expression)]
@@ -109,8 +109,8 @@ fn read_unary<'t, 'a>(
     let Some(after) = accept(tokens, Sign::Not) else {
         return read_primary(alloc, names, tokens);
     };
-    let (inner, behind) = read_primary(alloc, names, after)?;
-    Ok((make_not(alloc, inner)?, behind))
+    let (inner, remaining) = read_primary(alloc, names, after)?;
+    Ok((make_not(alloc, inner)?, remaining))
 }
 
 fn is_call(kind: Kind) -> bool
@@ -182,10 +182,10 @@ pub fn read_bracket<'t, 'a>(
         return Err(ParseFault::Syntax);
     };
     let (inner, rest) = read_disjunction(alloc, names, after)?;
-    let Some(behind) = accept(rest, Sign::CloseParenthesis) else {
+    let Some(remaining) = accept(rest, Sign::CloseParenthesis) else {
         return Err(ParseFault::Syntax);
     };
-    Ok((inner, behind))
+    Ok((inner, remaining))
 }
 
 /// Reads a [121] BuiltInCall, a call of a function.
@@ -229,10 +229,10 @@ fn read_bound<'t, 'a>(
     let Some((name, rest)) = accept_variable(alloc, after)? else {
         return Err(ParseFault::Syntax);
     };
-    let Some(behind) = accept(rest, Sign::CloseParenthesis) else {
+    let Some(remaining) = accept(rest, Sign::CloseParenthesis) else {
         return Err(ParseFault::Syntax);
     };
-    Ok((make_bound(name), behind))
+    Ok((make_bound(name), remaining))
 }
 
 /// Reads two expressions in parentheses, after `sameTerm`.
@@ -253,10 +253,10 @@ fn read_same_term<'t, 'a>(
         return Err(ParseFault::Syntax);
     };
     let (right, rest) = read_disjunction(alloc, names, second)?;
-    let Some(behind) = accept(rest, Sign::CloseParenthesis) else {
+    let Some(remaining) = accept(rest, Sign::CloseParenthesis) else {
         return Err(ParseFault::Syntax);
     };
-    Ok((make_same_term(alloc, left, right)?, behind))
+    Ok((make_same_term(alloc, left, right)?, remaining))
 }
 
 /// Reads the [72] ExpressionList of `IN`.
@@ -273,17 +273,17 @@ fn read_members<'t, 'a>(
         return Err(ParseFault::Syntax);
     };
     let mut members = Vec::new(alloc);
-    if let Some(behind) = accept(rest, Sign::CloseParenthesis) {
-        return Ok((members, behind));
+    if let Some(remaining) = accept(rest, Sign::CloseParenthesis) {
+        return Ok((members, remaining));
     }
     'members: loop {
         let (member, end) = read_disjunction(alloc, names, rest)?;
         members.push(member)?;
         let Some(after) = accept(end, Sign::Comma) else {
-            let Some(behind) = accept(end, Sign::CloseParenthesis) else {
+            let Some(remaining) = accept(end, Sign::CloseParenthesis) else {
                 return Err(ParseFault::Syntax);
             };
-            return Ok((members, behind));
+            return Ok((members, remaining));
         };
         rest = after;
     }

@@ -70,10 +70,10 @@ pub fn read_literal<'t, 'a>(
     let Some(after) = accept(tokens, Sign::Carets) else {
         return Ok((plain_string(alloc, string)?, tokens));
     };
-    let Some((datatype, behind)) = accept_name(alloc, names, after)? else {
+    let Some((datatype, remaining)) = accept_name(alloc, names, after)? else {
         return Err(ParseFault::Syntax);
     };
-    Ok((plain(string, datatype), behind))
+    Ok((plain(string, datatype), remaining))
 }
 
 /// Reads an [136] iri, [129] RDFLiteral, [130] NumericLiteral or [134] BooleanLiteral at the start

@@ -8,7 +8,7 @@ use Rattle.sparql_lexer.specs.declared.token.Sign.TheVariants as sign
 use Rattle.sparql_grammar.specs.Class.{Class, Picked, Picks, exactly, comparison, function, variable, blank, name, reference, string, language, number, boolean, count, comparison_of, function_of, number_type, boolean_of}
 use Rattle.sparql_grammar.specs.Symbol.{Symbol, Value}
 use Rattle.sparql_grammar.specs.Symbol as the
-use Rattle.sparql_grammar.specs.Form.{Form, give, behind, take, part, last, choice, when}
+use Rattle.sparql_grammar.specs.Form.{Form, give, count_following, take, part, last, choice, when}
 use Rattle.sparql_grammar.specs.Follow.{level, reach, is_call, is_verb, is_place}
 use Rattle.sparql_grammar.proofs.KindLaws.{place, every}
 
@@ -139,7 +139,7 @@ nullable _ = false
 
 abbrev pub begins : {A : Type 0} → Form A → Kind → Bool
 begins (give v) k = false
-begins (behind g) k = false
+begins (count_following g) k = false
 begins (take c f) k = in_class c k
 begins (part u f) k = first u k
 begins (last u g) k = first u k
@@ -148,7 +148,7 @@ begins (when b f) k = begins f k
 
 abbrev pub ends : {A : Type 0} → Form A → Bool
 ends (give v) = true
-ends (behind g) = true
+ends (count_following g) = true
 ends (take c f) = false
 ends (part u f) = false
 ends (last u g) = nullable u
@@ -176,7 +176,7 @@ apart n l r = if every (λ k. apart_by (begins l k) (begins r k) (ends l) (ends 
 -- n
 abbrev pub Good : {A : Type 0} → ℕ → Form A → Type 0
 Good n (give v) = Unit {0}
-Good n (behind g) = Unit {0}
+Good n (count_following g) = Unit {0}
 Good n (take c f) = (p : Picked c) → Good n (f p)
 Good n (part u f) = (nullable u ≡ false) × ((a : Value u) → (follows (reach u) n (f a) ≡ true) × Good n (f a))
 Good n (last u g) = nat_lt (reach u) (suc n) ≡ true

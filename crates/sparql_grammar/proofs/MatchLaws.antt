@@ -7,7 +7,7 @@ use Rattle.sparql_lexer.specs.Terminal.{Terminal, terminal}
 use Rattle.sparql_grammar.specs.Class.{Class, Picked, Picks}
 use Rattle.sparql_grammar.specs.Values.{Names}
 use Rattle.sparql_grammar.specs.Symbol.{Symbol, Value}
-use Rattle.sparql_grammar.specs.Form.{Form, give, behind, take, part, last, choice, when}
+use Rattle.sparql_grammar.specs.Form.{Form, give, count_following, take, part, last, choice, when}
 use Rattle.sparql_grammar.specs.Follow.{level, reach, next_level}
 use Rattle.sparql_grammar.specs.Productions.{right_side}
 use Rattle.sparql_grammar.specs.Derivation.{Derivation, gives, counts, takes, parts, lasts, firsts, seconds, whens}
@@ -137,18 +137,18 @@ apart_starts n l r h s s' (headed k x us i b) (headed k' x' us' i' b') =
 
 pub record Same {A : Type 0} (v w : A) (rest rest' : List Terminal) : Type 0 where
   pub value : v ≡ w
-  pub behind : rest ≡ rest'
+  pub same_rest : rest ≡ rest'
 
 moved : {A : Type 0} (P : A → List Terminal → Type 0) {v w : A} {r r' : List Terminal} → Same v w r r' → P w r' → P v r
-moved P {v = v} {w = w} {r = r} {r' = r'} s x = subst (λ a. P a r) (sym s.value) (subst (λ t. P w t) (sym s.behind) x)
+moved P {v = v} {w = w} {r = r} {r' = r'} s x = subst (λ a. P a r) (sym s.value) (subst (λ t. P w t) (sym s.same_rest) x)
 
 pub lower : (n : ℕ) (u : Symbol) (rest : List Terminal) → nat_lt (reach u) (suc n) ≡ true → n < next_level rest → reach u < next_level rest
 lower n u rest h s = between (above_less true (reach u) (suc n) h refl) s
 
 pub unique : {ns : Names} {s : Symbol} {form : Form (Value s)} {ts r r' : List Terminal} {v w : Value s} (n : ℕ) → Good n form
     → Derivation ns s form ts v r → n < next_level r → Derivation ns s form ts w r' → n < next_level r' → Same v w r r'
-unique n g gives s gives s' = record { value = refl; behind = refl }
-unique n g counts s counts s' = record { value = refl; behind = refl }
+unique n g gives s gives s' = record { value = refl; same_rest = refl }
+unique n g counts s counts s' = record { value = refl; same_rest = refl }
 unique {ns = ns} {s = y} {r' = r'} {w = w} n g (takes {c = c} {f = f} {k = k} {x = x} {ts = ts} p h m) s (takes p' h' m') s' =
     unique n (g p) m s (subst (λ p. Derivation ns y (f p) ts w r') (one_value ns c k x p' p h' h) m') s'
 unique {ns = ns} {s = y} {r' = r'} {w = w} n g (parts {u = u} {f = f} {a = a} d e) s (parts {a = a'} d' e') s' =
@@ -157,7 +157,7 @@ unique {ns = ns} {s = y} {r' = r'} {w = w} n g (parts {u = u} {f = f} {a = a} d 
     unique n (q a).1 e s (moved (λ a t. Derivation ns y (f a) t w r') m e') s'
 unique n g (lasts {u = u} {g = h} d) s (lasts d') s' =
     let m = unique (reach u) (good u) d (lower n u _ g s) d' (lower n u _ g s') in
-    record { value = ap h m.value; behind = m.behind }
+    record { value = ap h m.value; same_rest = m.same_rest }
 unique n g (firsts m) s (firsts m') s' = unique n g.0 m s m' s'
 unique n g (firsts {l = l} {r = r} m) s (seconds m') s' = absurd (apart_starts n l r g.2 s s' (starts n g.0 m) (starts n g.1 m'))
 unique n g (seconds {l = l} {r = r} m) s (firsts m') s' = absurd (apart_starts n l r g.2 s' s (starts n g.0 m') (starts n g.1 m))

@@ -17,6 +17,7 @@ use Rattle.sparql_lexer.specs.Values.{iri_value, string_value}
 use Rattle.sparql_grammar.specs.Values.{Names, capped, expanded}
 use Rattle.std.specs.Char.{to_ascii_lowercase}
 
+-- the classes, with the standard's production where it has one
 pub data Class : Type 0 where
   -- a terminal of exactly this kind
   exactly : Kind → Class
@@ -35,6 +36,7 @@ pub data Class : Type 0 where
   -- [146] INTEGER
   count : Class
 
+-- the type of the value of a terminal of the class
 abbrev pub Picked : Class → Type 0
 Picked (exactly k) = Unit {0}
 Picked comparison = Comparison
@@ -49,6 +51,7 @@ Picked number = Term
 Picked boolean = Term
 Picked count = ℕ
 
+-- '=' | '!=' | '<' | '>' | '<=' | '>=', of [114] RelationalExpression
 abbrev pub comparison_of : Kind → Option Comparison
 comparison_of (kind.Sign sign.Equal) = Some op.Equal
 comparison_of (kind.Sign sign.NotEqual) = Some op.NotEqual
@@ -58,6 +61,7 @@ comparison_of (kind.Sign sign.LessOrEqual) = Some op.LessOrEqual
 comparison_of (kind.Sign sign.GreaterOrEqual) = Some op.GreaterOrEqual
 comparison_of _ = None
 
+-- 'STR' | 'LANG' | 'DATATYPE' | 'isIRI' | 'isBLANK' | 'isLITERAL', of [121] BuiltInCall
 abbrev pub function_of : Kind → Option Function
 function_of (kind.Keyword word.Str) = Some the_function.Str
 function_of (kind.Keyword word.Lang) = Some the_function.Lang
@@ -77,6 +81,7 @@ abbrev pub blank_of : Kind → List ℕ → Option (List ℕ)
 blank_of kind.BlankLabel x = Some (encodes (drop 2 x))
 blank_of _ x = None
 
+-- the IRI of an [139] IRIREF
 abbrev pub reference_of : Kind → List ℕ → Option (List ℕ)
 reference_of kind.IriRef x = iri_value x
 reference_of _ x = None
@@ -88,6 +93,7 @@ name_of ns kind.PrefixedName x = Some (expanded ns x)
 name_of ns kind.PrefixedNamespace x = Some (expanded ns x)
 name_of ns _ x = None
 
+-- the string of a [135] String
 abbrev pub string_of : Kind → List ℕ → Option (List ℕ)
 string_of kind.ShortString x = string_value kind.ShortString x
 string_of kind.LongString x = string_value kind.LongString x
@@ -98,6 +104,7 @@ abbrev pub language_of : Kind → List ℕ → Option (List ℕ)
 language_of kind.LanguageTag x = Some (map to_ascii_lowercase (encodes (drop 1 x)))
 language_of _ x = None
 
+-- the datatype IRI of a [130] NumericLiteral (section 4.1.2)
 abbrev pub number_type : Kind → Option (List ℕ)
 number_type kind.Integer = Some xsd_integer
 number_type kind.SignedInteger = Some xsd_integer
@@ -111,11 +118,13 @@ number_type _ = None
 abbrev pub number_of : Kind → List ℕ → Option Term
 number_of k x = elim (number_type k) [ None ↦ None | Some d ↦ Some (Literal (encodes x) d None) ]
 
+-- the literal of a [134] BooleanLiteral
 abbrev pub boolean_of : Kind → Option Term
 boolean_of (kind.Keyword word.True) = Some (Literal (codes "true") xsd_boolean None)
 boolean_of (kind.Keyword word.False) = Some (Literal (codes "false") xsd_boolean None)
 boolean_of _ = None
 
+-- the number of an [146] INTEGER after LIMIT or OFFSET
 abbrev pub count_of : Kind → List ℕ → Option ℕ
 count_of kind.Integer x = Some (capped x)
 count_of _ x = None

@@ -5,7 +5,7 @@ use Rattle.sparql_lexer.specs.Terminal.{Terminal, terminal}
 use Rattle.sparql_grammar.specs.Class.{Class, Picked, Picks}
 use Rattle.sparql_grammar.specs.Values.{Names}
 use Rattle.sparql_grammar.specs.Symbol.{Symbol, Value}
-use Rattle.sparql_grammar.specs.Form.{Form, give, behind, take, part, last, choice, when}
+use Rattle.sparql_grammar.specs.Form.{Form, give, count_following, take, part, last, choice, when}
 use Rattle.sparql_grammar.specs.Productions.{right_side}
 
 -- `Derivation names s form ts v rest`: the list ts is a text of the form, whose value is v, followed
@@ -13,7 +13,7 @@ use Rattle.sparql_grammar.specs.Productions.{right_side}
 -- later part of it.
 pub data Derivation (names : Names) : (s : Symbol) → Form (Value s) → List Terminal → Value s → List Terminal → Type 0 where
   gives : {s : Symbol} {v : Value s} {ts : List Terminal} → Derivation names s (give v) ts v ts
-  counts : {s : Symbol} {g : ℕ → Value s} {ts : List Terminal} → Derivation names s (behind g) ts (g (length ts)) ts
+  counts : {s : Symbol} {g : ℕ → Value s} {ts : List Terminal} → Derivation names s (count_following g) ts (g (length ts)) ts
   takes : {s : Symbol} {c : Class} {f : Picked c → Form (Value s)} {k : Kind} {x : List ℕ} {ts rest : List Terminal} {v : Value s}
       → (p : Picked c) → Picks names c k x p → Derivation names s (f p) ts v rest → Derivation names s (take c f) (terminal k x ∷ ts) v rest
   parts : {s u : Symbol} {f : Value u → Form (Value s)} {ts mid rest : List Terminal} {a : Value u} {v : Value s}

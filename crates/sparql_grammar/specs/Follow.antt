@@ -60,6 +60,7 @@ level (kind.Keyword word.Limit) = 8
 level (kind.Keyword word.Offset) = 8
 level _ = 9
 
+-- the level of the first terminal
 abbrev pub next_level : List Terminal → ℕ
 next_level [] = 9
 next_level (terminal k x ∷ ts) = level k
@@ -113,6 +114,7 @@ is_call (kind.Keyword word.Bound) = true
 is_call (kind.Keyword word.SameTerm) = true
 is_call _ = false
 
+-- the terminals that a [78] Verb may begin with
 abbrev pub is_verb : Kind → Bool
 is_verb kind.Variable = true
 is_verb kind.IriRef = true
@@ -121,6 +123,7 @@ is_verb kind.PrefixedNamespace = true
 is_verb (kind.Keyword word.A) = true
 is_verb _ = false
 
+-- the terminals that a [106] VarOrTerm may begin with
 abbrev pub is_place : Kind → Bool
 is_place kind.IriRef = true
 is_place kind.Variable = true

@@ -13,7 +13,7 @@ pub data Form (A : Type 0) : Type 0 where
   -- nothing more; the value
   give : A → Form A
   -- nothing more; the number of the terminals that follow determines the value
-  behind : (ℕ → A) → Form A
+  count_following : (ℕ → A) → Form A
   -- a terminal of a class, followed by a form that depends on its value
   take : (c : Class) → (Picked c → Form A) → Form A
   -- a text of a symbol, followed by a form that depends on its value
@@ -25,11 +25,14 @@ pub data Form (A : Type 0) : Type 0 where
   -- the form, provided that a condition on the values before it is true
   when : Bool → Form A → Form A
 
+-- a terminal of exactly this kind, without a value
 abbrev pub this : {A : Type 0} → Kind → Form A → Form A
 this k f = take (exactly k) (λ _. f)
 
+-- this punctuation sign
 abbrev pub sign : {A : Type 0} → Sign → Form A → Form A
 sign s f = take (exactly (kind.Sign s)) (λ _. f)
 
+-- this keyword
 abbrev pub word : {A : Type 0} → Keyword → Form A → Form A
 word w f = take (exactly (kind.Keyword w)) (λ _. f)

@@ -21,7 +21,7 @@ use Rattle.sparql_grammar.specs.Class.{exactly, comparison, function, variable, 
 use Rattle.sparql_grammar.specs.Values.{anonymous_label, is_distinct}
 use Rattle.sparql_grammar.specs.Symbol.{Symbol, Value, Select}
 use Rattle.sparql_grammar.specs.Symbol as the
-use Rattle.sparql_grammar.specs.Form.{Form, give, behind, take, part, last, choice, when, this, sign, word}
+use Rattle.sparql_grammar.specs.Form.{Form, give, count_following, take, part, last, choice, when, this, sign, word}
 
 -- the triples before, and one more
 abbrev pub and_triple : List Triple → PatternTerm → PatternTerm → PatternTerm → List Triple
@@ -31,9 +31,11 @@ and_triple ts a b c = ts ++ record { subject = a; predicate = b; object = c } �
 abbrev pub plain : List ℕ → List ℕ → Term
 plain lexical datatype = rdf.Literal lexical datatype None
 
+-- a literal with a language tag
 abbrev pub tagged : List ℕ → List ℕ → Term
 tagged lexical tag = rdf.Literal lexical rdf_lang_string (Some tag)
 
+-- the right side of the production of a symbol
 abbrev pub right_side : (s : Symbol) → Form (Value s)
 -- [111] ConditionalOrExpression ::= ConditionalAndExpression ('||' ConditionalAndExpression)*
 right_side the.disjunction = part the.conjunction (λ a. last (the.more_or a) (λ e. e))
@@ -96,7 +98,7 @@ right_side (the.literal v) = choice (take language (λ l. give (tagged v l)))
 -- An ANON is a label that occurs nowhere else. `;` and `,` repeat it as they repeat any subject.
 right_side the.pattern_term = choice (take variable (λ v. give (place.Variable v)))
     (choice (take blank (λ b. give (place.Blank b)))
-    (choice (this kind.Anonymous (behind (λ n. place.Blank (anonymous_label n))))
+    (choice (this kind.Anonymous (count_following (λ n. place.Blank (anonymous_label n))))
     (last the.term (λ t. place.Term t))))
 -- [78] Verb ::= VarOrIri | 'a'
 -- [107] VarOrIri ::= Var | iri

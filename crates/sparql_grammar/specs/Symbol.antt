@@ -16,6 +16,8 @@ pub record Select : Type 0 where
   pub limit : Option ℕ
   pub offset : Option ℕ
 
+-- the symbols, by the part of the grammar; Productions.antt has the standard's name and number of
+-- each
 pub data Symbol : Type 0 where
   -- expressions
   disjunction : Symbol
@@ -82,6 +84,7 @@ pub data Symbol : Type 0 where
   after_limit : ℕ → Symbol
   after_offset : ℕ → Symbol
 
+-- the type of the value of a text of the symbol
 abbrev pub Value : Symbol → Type 0
 Value disjunction = ExpressionTree
 Value (more_or e) = ExpressionTree

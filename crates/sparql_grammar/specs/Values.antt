@@ -10,13 +10,15 @@ use Rattle.sparql_grammar.specs.declared.declarations.Declaration.{Declaration}
 abbrev pub Names : Type 0
 Names = List Declaration
 
--- the place of the first colon, and the parts of a prefixed name before and after it
+-- the place of the first colon of a prefixed name
 abbrev pub colon_at : List ℕ → ℕ
 colon_at = position_or_len (λ c. nat_eq c 58)
 
+-- [168] PN_PREFIX of a prefixed name, or nothing
 abbrev pub prefix_of : List ℕ → List ℕ
 prefix_of x = take (colon_at x) x
 
+-- [169] PN_LOCAL of a prefixed name, or nothing
 abbrev pub local_of : List ℕ → List ℕ
 local_of x = drop (colon_at x + 1) x
 

@@ -7,7 +7,7 @@ use Rattle.sparql_lexer.specs.Characters.{is_base, is_name_part, is_line_end, is
 use Rattle.sparql_lexer.specs.Colonless.{HasSuffix, here, next, is_name_or_dot, HasNoNamespace, NameEndsAt}
 use Rattle.sparql_lexer.specs.Names.{namespace, prefixed_name, local, tail}
 use Rattle.sparql_lexer.specs.Pattern.{character, ◌or◌, many, is, Matches, is_nothing, is_character, both, left, right, no_more, one_more, EndsAt, Nowhere}
-use Rattle.sparql_lexer.proofs.PatternLaws.{behind, behind_behind, behind_same, behind_shorter, shorter, along, many_append, moved, sure_character, or_left, or_right, tail_inside, then_none}
+use Rattle.sparql_lexer.proofs.PatternLaws.{rest_suffix, suffix_of_suffix, same_suffix, suffix_shorter, shorter, along, many_append, moved, sure_character, or_left, or_right, tail_inside, then_none}
 
 name_or_dot_colon : is_name_or_dot 58 ≡ false
 unfolding is_name_char is_name_start is_pn_chars_base
@@ -19,7 +19,7 @@ in_one_class (one_more (left (is_character {c = c} e)) d) = one_more (is_charact
 in_one_class (one_more (right (is_character {c = c} e)) d) = one_more (is_character (or_right (is_name_part c) (nat_eq 46 c) e)) (in_one_class d)
 
 run_from : {p : ℕ → Bool} {ts m h : List ℕ} → Matches (many (character p)) ts h → HasSuffix ts m → length h ≤ length m → Matches (many (character p)) m h
-run_from no_more b l = moved (behind_same here b (let k = behind_shorter b in omega arith)) no_more
+run_from no_more b l = moved (same_suffix here b (let k = suffix_shorter b in omega arith)) no_more
 run_from (one_more e d) here l = one_more e d
 run_from (one_more (is_character e) d) (next b) l = run_from d b l
 
@@ -45,8 +45,8 @@ run_meets : {ts m end r : List ℕ} → Matches (many (character is_name_or_dot)
 run_meets {m = m} {end = end} {r = r} d x e longest = go (along (sure_character is_name_or_dot) d e)
   where
     go : Matches (many (character is_name_or_dot)) m end ⊎ Matches (many (character is_name_or_dot)) end m → m ≡ end
-    go (inl a) = elim (le_or_lt (length m) (length end)) [ inl l ↦ sym (behind_same (behind a) here (let k = shorter a in omega arith)) | inr l ↦ absurd (no_colon a l x) ]
-    go (inr a) = sym (behind_same here (behind a) (let k = longest m a in let l = shorter a in omega arith))
+    go (inl a) = elim (le_or_lt (length m) (length end)) [ inl l ↦ sym (same_suffix (rest_suffix a) here (let k = shorter a in omega arith)) | inr l ↦ absurd (no_colon a l x) ]
+    go (inr a) = sym (same_suffix here (rest_suffix a) (let k = longest m a in let l = shorter a in omega arith))
 
 -- a run and a colon after another run
 run_colon : {ts m end r : List ℕ} → Matches (many (character is_name_or_dot)) ts m → Matches (is 58) m r → Matches (many (character is_name_or_dot)) ts end → ((t : List ℕ) → Matches (many (character is_name_or_dot)) end t → length end ≤ length t) → Nowhere (is 58) end → ⊥
@@ -68,12 +68,12 @@ part_is_no_dot = refl
 
 -- the character before the end is not a dot
 not_dotted : (p : ℕ → Bool) {c : ℕ} {text end : List ℕ} → HasSuffix text (c ∷ end) → HasSuffix text (46 ∷ end) → p c ≡ true → p 46 ≡ false → ⊥
-not_dotted p b d e f = true_false (subst (λ z. p z ≡ true) (ap (λ xs. get_or xs 0 0) (behind_same b d refl)) e) f
+not_dotted p b d e f = true_false (subst (λ z. p z ≡ true) (ap (λ xs. get_or xs 0 0) (same_suffix b d refl)) e) f
 
 -- a name does not end with a dot
 name_dotted : {c : ℕ} {k m text : List ℕ} → is_base c ≡ true → Matches (tail (character is_name_part)) k m → HasSuffix text (c ∷ k) → HasSuffix text (46 ∷ m) → ⊥
 name_dotted e (left is_nothing) b d = not_dotted is_base b d e base_is_no_dot
-name_dotted e (right (both a (is_character f))) b d = not_dotted is_name_part (behind_behind b (next (behind a))) d f part_is_no_dot
+name_dotted e (right (both a (is_character f))) b d = not_dotted is_name_part (suffix_of_suffix b (next (rest_suffix a))) d f part_is_no_dot
 
 -- no namespace begins in a run that ends with a dot
 dotted_run : {p end r text : List ℕ} → Matches (many (character is_name_or_dot)) p end → length end < length p → ((t : List ℕ) → Matches (many (character is_name_or_dot)) end t → length end ≤ length t) → HasSuffix text p → HasSuffix text (46 ∷ end) → Matches namespace p r → ⊥
@@ -91,9 +91,9 @@ last_next x c {ts = ts} {end = end} b h = elim (le_or_lt (length ts) (length end
   where
     ends : length ts ≤ length end → HasSuffix (c ∷ ts) (get_or (c ∷ ts) (length (c ∷ ts) - length end - 1) x ∷ end)
     ends k =
-        let m = behind_shorter b in
+        let m = suffix_shorter b in
         let i : length (c ∷ ts) - length end - 1 ≡ 0 = omega (arith, k, m) in
-        rw i (subst (λ ys. HasSuffix (c ∷ ts) (c ∷ ys)) (behind_same here b (omega (arith, k, m))) here)
+        rw i (subst (λ ys. HasSuffix (c ∷ ts) (c ∷ ys)) (same_suffix here b (omega (arith, k, m))) here)
 
     goes : length end < length ts → HasSuffix (c ∷ ts) (get_or (c ∷ ts) (length (c ∷ ts) - length end - 1) x ∷ end)
     goes k =
@@ -101,20 +101,20 @@ last_next x c {ts = ts} {end = end} b h = elim (le_or_lt (length ts) (length end
         rw i (next (h k))
 
 -- the last character before the end
-last_behind : (x : ℕ) {text end : List ℕ} → HasSuffix text end → length end < length text → HasSuffix text (get_or text (length text - length end - 1) x ∷ end)
-last_behind x here l = absurd (omega arith)
-last_behind x (next {c = c} b) l = last_next x c b (λ k. last_behind x b k)
+last_suffix : (x : ℕ) {text end : List ℕ} → HasSuffix text end → length end < length text → HasSuffix text (get_or text (length text - length end - 1) x ∷ end)
+last_suffix x here l = absurd (omega arith)
+last_suffix x (next {c = c} b) l = last_next x c b (λ k. last_suffix x b k)
 
 same_dot : (c : ℕ) → nat_eq c 46 ≡ true → c ≡ 46
 same_dot c f = grind (arith, nat_tests)
 
 -- the last character before the end, if it is a dot
-pub dot_behind : (x : ℕ) {text end : List ℕ} → HasSuffix text end → length end < length text → x ≡ get_or text (length text - length end - 1) x → nat_eq x 46 ≡ true → HasSuffix text (46 ∷ end)
-dot_behind x {text = text} {end = end} b l e f = subst (λ c. HasSuffix text (c ∷ end)) (sym e ∙ same_dot x f) (last_behind x b l)
+pub dot_suffix : (x : ℕ) {text end : List ℕ} → HasSuffix text end → length end < length text → x ≡ get_or text (length text - length end - 1) x → nat_eq x 46 ≡ true → HasSuffix text (46 ∷ end)
+dot_suffix x {text = text} {end = end} b l e f = subst (λ c. HasSuffix text (c ∷ end)) (sym e ∙ same_dot x f) (last_suffix x b l)
 
 -- the run at a place inside a run
-run_behind : {text place end : List ℕ} → HasSuffix text place → length end < length place → EndsAt (many (character is_name_or_dot)) text end → EndsAt (many (character is_name_or_dot)) place end
-run_behind {place = place} {end = end} b l run = record { matches = from; longest = λ t e. go t (along (sure_character is_name_or_dot) from e) }
+run_inside : {text place end : List ℕ} → HasSuffix text place → length end < length place → EndsAt (many (character is_name_or_dot)) text end → EndsAt (many (character is_name_or_dot)) place end
+run_inside {place = place} {end = end} b l run = record { matches = from; longest = λ t e. go t (along (sure_character is_name_or_dot) from e) }
   where
     from : Matches (many (character is_name_or_dot)) place end
     from = run_from run.matches b (let k = l in omega arith)
@@ -128,16 +128,16 @@ pub run_start : (text : List ℕ) → NameEndsAt text text
 run_start text l = absurd (omega (arith, l))
 
 pub run_goes_on : (text place end : List ℕ) → HasSuffix text place → length end < length place → NameEndsAt text end → EndsAt (many (character is_name_or_dot)) place end
-run_goes_on text place end b l h = run_behind b l (h (let k = behind_shorter b in omega (arith, k, l)))
+run_goes_on text place end b l h = run_inside b l (h (let k = suffix_shorter b in omega (arith, k, l)))
 
 pub run_left : (text place end : List ℕ) → HasSuffix text place → EndsAt (many (character is_name_or_dot)) text end → NameEndsAt place end
-run_left text place end b run l = run_behind b l run
+run_left text place end b run l = run_inside b l run
 
 pub clear_to : (text end : List ℕ) → EndsAt (many (character is_name_or_dot)) text end → Nowhere (is 58) end → HasNoNamespace text end
 clear_to text end run none = record { none = λ place rest b l d. clear_run (run_from run.matches b (let k = l in omega arith)) l (λ t e. run.longest t (many_append run.matches e)) none d }
 
 pub clear_here : (text end : List ℕ) → length text ≤ length end → HasNoNamespace text end
-clear_here text end l = record { none = λ place rest b k d. absurd (let m = behind_shorter b in let n = k in omega arith) }
+clear_here text end l = record { none = λ place rest b k d. absurd (let m = suffix_shorter b in let n = k in omega arith) }
 
 pub clear_namespace : (text end : List ℕ) → HasNoNamespace text end → length end < length text → Nowhere namespace text
 clear_namespace text end h l = record { none = λ rest d. h.none text rest here l d }
@@ -146,14 +146,14 @@ pub clear_name : (text end : List ℕ) → HasNoNamespace text end → length en
 clear_name text end h l = then_none namespace local text (clear_namespace text end h l)
 
 -- the text after white space is a suffix of the text
-blanks_behind : (inside : Bool) (ts : List ℕ) → HasSuffix ts (beyond inside ts)
-blanks_behind inside [] = here
-blanks_behind true (c ∷ cs) = go (is_line_end c) (blanks_behind false cs) (blanks_behind true cs)
+blanks_suffix : (inside : Bool) (ts : List ℕ) → HasSuffix ts (beyond inside ts)
+blanks_suffix inside [] = here
+blanks_suffix true (c ∷ cs) = go (is_line_end c) (blanks_suffix false cs) (blanks_suffix true cs)
   where
     go : (b : Bool) → HasSuffix cs (beyond false cs) → HasSuffix cs (beyond true cs) → HasSuffix (c ∷ cs) (if b then beyond false cs else beyond true cs)
     go true x y = next x
     go false x y = next y
-blanks_behind false (c ∷ cs) = go (nat_eq 35 c) (is_space c) (blanks_behind false cs) (blanks_behind true cs)
+blanks_suffix false (c ∷ cs) = go (nat_eq 35 c) (is_space c) (blanks_suffix false cs) (blanks_suffix true cs)
   where
     go : (a b : Bool) → HasSuffix cs (beyond false cs) → HasSuffix cs (beyond true cs) → HasSuffix (c ∷ cs) (if a then beyond true cs else (if b then beyond false cs else (c ∷ cs)))
     go true b x y = next y
@@ -161,4 +161,4 @@ blanks_behind false (c ∷ cs) = go (nat_eq 35 c) (is_space c) (blanks_behind fa
     go false false x y = here
 
 pub blanks_place : (ts place : List ℕ) → place ≡ after_blanks ts → HasSuffix ts place
-blanks_place ts place e = subst (HasSuffix ts) (sym e) (blanks_behind false ts)
+blanks_place ts place e = subst (HasSuffix ts) (sym e) (blanks_suffix false ts)

@@ -16,9 +16,9 @@ use Rattle.sparql_lexer.specs.Scan.{Reads, Longest, Scans, stops, reads}
 use Rattle.sparql_lexer.specs.Signs.{IsSign, one, two, sign_of_one, sign_of_two}
 use Rattle.sparql_lexer.specs.Terminal.{Terminal, terminal}
 use Rattle.sparql_lexer.specs.Words.{IsWord, taken}
-use Rattle.sparql_lexer.proofs.PatternLaws.{behind, behind_behind, behind_same, behind_shorter, Begins, begins, takes_nothing, takes_some, first, nullable, not_here, or_left, or_right, strictly, shorter, but, many_append, moved}
+use Rattle.sparql_lexer.proofs.PatternLaws.{rest_suffix, suffix_of_suffix, same_suffix, suffix_shorter, Begins, begins, takes_nothing, takes_some, first, nullable, not_here, or_left, or_right, strictly, shorter, but, many_append, moved}
 use Rattle.sparql_lexer.proofs.ProductionLaws.{digit_inside, namespace_sure}
-use Rattle.sparql_lexer.proofs.ScanLaws.{reads_behind, reads_shorter}
+use Rattle.sparql_lexer.proofs.ScanLaws.{reads_suffix, reads_shorter}
 
 true_false : {b : Bool} → b ≡ true → b ≡ false → ⊥
 true_false h k = let e = sym h ∙ k in (cc)
@@ -284,7 +284,7 @@ name_signless c (inr e) = signless_at 58 c (refl, λ d. refl) e
 iri_sign : {s : Sign} {ts r : List ℕ} → Matches iri ts r → IsSign s ts r → ⊥
 iri_sign (both (is_character e) d) (one f) = let k = strictly {a = many iri_piece ▸ is 62} refl d in absurd (omega arith)
 iri_sign (both (is_character {c = c} e) (both {mid = m} p (is_character {c = b} q))) (two {d = x} f) =
-    let h = behind_same (behind p) here (let k = shorter p in omega arith) in go (same_number 60 c e) (same_number 62 b q) h f
+    let h = same_suffix (rest_suffix p) here (let k = shorter p in omega arith) in go (same_number 60 c e) (same_number 62 b q) h f
   where
     go : {s : Sign} {c b x : ℕ} {r : List ℕ} → 60 ≡ c → 62 ≡ b → b ∷ r ≡ x ∷ r → sign_of_two c x ≡ Some s → ⊥
     go {s = s} {x = x} u v w f = let e : 62 ≡ x = cc in let k = subst (λ z. sign_of_two 60 z ≡ Some s) (sym e) (subst (λ z. sign_of_two z x ≡ Some s) (sym u) f) in (cc)
@@ -336,7 +336,7 @@ sign_same (two e) (two f) h k = cc
 -- within a group
 
 covers : (p : ℕ → Bool) {ts r m : List ℕ} {c : ℕ} → Matches (many (character p)) ts r → HasSuffix ts (c ∷ m) → HasSuffix m r → p c ≡ true
-covers p no_more b m = absurd (let k = behind_shorter b in let l = behind_shorter m in omega arith)
+covers p no_more b m = absurd (let k = suffix_shorter b in let l = suffix_shorter m in omega arith)
 covers p (one_more (is_character e) d) here m = e
 covers p (one_more (is_character e) d) (next b) m = covers p d b m
 
@@ -344,7 +344,7 @@ renamed : {ts r : List ℕ} (n c : ℕ) → nat_eq n c ≡ true → HasSuffix ts
 renamed {ts = ts} {r = r} n c e b = subst (λ z. HasSuffix ts (z ∷ r)) (sym (same_number n c e)) b
 
 namespace_colon : {ts r : List ℕ} → Matches namespace ts r → HasSuffix ts (58 ∷ r)
-namespace_colon (both {mid = m} x (is_character {c = c} e)) = renamed 58 c e (behind x)
+namespace_colon (both {mid = m} x (is_character {c = c} e)) = renamed 58 c e (rest_suffix x)
 
 word_inside : {ts r : List ℕ} → Matches word ts r → Matches (many (character is_letter)) ts r
 word_inside (both d e) = one_more d e
@@ -356,20 +356,20 @@ namespace_word : {ts r : List ℕ} → Matches namespace ts r → Matches word t
 namespace_word d w = let e = covers is_letter (word_inside w) (namespace_colon d) here in (cc)
 
 name_word : {ts r : List ℕ} → Matches prefixed_name ts r → Matches word ts r → ⊥
-name_word (both n l) w = let e = covers is_letter (word_inside w) (namespace_colon n) (behind l) in (cc)
+name_word (both n l) w = let e = covers is_letter (word_inside w) (namespace_colon n) (rest_suffix l) in (cc)
 
 -- numbers
 
 decimal_dot : {ts r : List ℕ} → Matches decimal ts r → (m : List ℕ) × HasSuffix ts (46 ∷ m) × HasSuffix m r
-decimal_dot (both d (both {mid = m} (is_character {c = c} e) x)) = (m, renamed 46 c e (behind d), behind x)
+decimal_dot (both d (both {mid = m} (is_character {c = c} e) x)) = (m, renamed 46 c e (rest_suffix d), rest_suffix x)
 
 exponent_letter : {ts r : List ℕ} → Matches exponent ts r → (c : ℕ) × (m : List ℕ) × HasSuffix ts (c ∷ m) × HasSuffix m r × (is_exponent_letter c ≡ true)
-exponent_letter (both {mid = m} (is_character {c = c} e) x) = (c, m, here, behind x, e)
+exponent_letter (both {mid = m} (is_character {c = c} e) x) = (c, m, here, rest_suffix x, e)
 
 double_letter : {ts r : List ℕ} → Matches double ts r → (c : ℕ) × (m : List ℕ) × HasSuffix ts (c ∷ m) × HasSuffix m r × (is_exponent_letter c ≡ true)
-double_letter (left (both a (both b (both d e)))) = let y = exponent_letter e in (y.0, y.1, behind_behind (behind a) (behind_behind (behind b) (behind_behind (behind d) y.2)), y.3, y.4)
-double_letter (right (left (both a (both b e)))) = let y = exponent_letter e in (y.0, y.1, behind_behind (behind a) (behind_behind (behind b) y.2), y.3, y.4)
-double_letter (right (right (both a e))) = let y = exponent_letter e in (y.0, y.1, behind_behind (behind a) y.2, y.3, y.4)
+double_letter (left (both a (both b (both d e)))) = let y = exponent_letter e in (y.0, y.1, suffix_of_suffix (rest_suffix a) (suffix_of_suffix (rest_suffix b) (suffix_of_suffix (rest_suffix d) y.2)), y.3, y.4)
+double_letter (right (left (both a (both b e)))) = let y = exponent_letter e in (y.0, y.1, suffix_of_suffix (rest_suffix a) (suffix_of_suffix (rest_suffix b) y.2), y.3, y.4)
+double_letter (right (right (both a e))) = let y = exponent_letter e in (y.0, y.1, suffix_of_suffix (rest_suffix a) y.2, y.3, y.4)
 
 letter_digit : (c : ℕ) → is_exponent_letter c ≡ true → is_digit c ≡ false
 letter_digit c h = grind (arith, nat_tests)
@@ -501,7 +501,7 @@ one_kind k l (c ∷ cs) r d e = go (leads k c cs r d) (leads l c cs r e)
 longest_same : (ts : List ℕ) (k l : Kind) (r s : List ℕ) → Longest k ts r → Longest l ts s → (k ≡ l) × (r ≡ s)
 longest_same ts k l r s a b =
     let h : length r ≡ length s = (let x = a.longest l s b.reads in let y = b.longest k r a.reads in omega arith) in
-    let e = behind_same (reads_behind k ts r a.reads) (reads_behind l ts s b.reads) h in
+    let e = same_suffix (reads_suffix k ts r a.reads) (reads_suffix l ts s b.reads) h in
     (one_kind k l ts s (subst (Reads k ts) e a.reads) b.reads, e)
 
 joined : (k l : Kind) (r s p p' : List ℕ) (ts ts' : List Terminal) → k ≡ l → r ≡ s → p ≡ p' → ts ≡ ts' → (terminal k (taken p r) ∷ ts) ≡ (terminal l (taken p' s) ∷ ts')

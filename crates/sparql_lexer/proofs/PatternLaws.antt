@@ -8,31 +8,31 @@ use Rattle.sparql_lexer.specs.Pattern.{Pattern, nothing, character, ◌▸◌, �
 
 -- suffixes of a text
 
-pub behind_shorter : {ts rest : List ℕ} → HasSuffix ts rest → length rest ≤ length ts
-behind_shorter here = omega arith
-behind_shorter (next d) = let k = behind_shorter d in omega arith
+pub suffix_shorter : {ts rest : List ℕ} → HasSuffix ts rest → length rest ≤ length ts
+suffix_shorter here = omega arith
+suffix_shorter (next d) = let k = suffix_shorter d in omega arith
 
-pub behind_behind : {ts mid rest : List ℕ} → HasSuffix ts mid → HasSuffix mid rest → HasSuffix ts rest
-behind_behind here e = e
-behind_behind (next d) e = next (behind_behind d e)
+pub suffix_of_suffix : {ts mid rest : List ℕ} → HasSuffix ts mid → HasSuffix mid rest → HasSuffix ts rest
+suffix_of_suffix here e = e
+suffix_of_suffix (next d) e = next (suffix_of_suffix d e)
 
-pub behind_same : {ts r s : List ℕ} → HasSuffix ts r → HasSuffix ts s → length r ≡ length s → r ≡ s
-behind_same here here h = refl
-behind_same here (next d) h = absurd (let k = behind_shorter d in omega arith)
-behind_same (next d) here h = absurd (let k = behind_shorter d in omega arith)
-behind_same (next d) (next e) h = behind_same d e h
+pub same_suffix : {ts r s : List ℕ} → HasSuffix ts r → HasSuffix ts s → length r ≡ length s → r ≡ s
+same_suffix here here h = refl
+same_suffix here (next d) h = absurd (let k = suffix_shorter d in omega arith)
+same_suffix (next d) here h = absurd (let k = suffix_shorter d in omega arith)
+same_suffix (next d) (next e) h = same_suffix d e h
 
-pub behind : {a : Pattern} {ts rest : List ℕ} → Matches a ts rest → HasSuffix ts rest
-behind is_nothing = here
-behind (is_character e) = next here
-behind (both d e) = behind_behind (behind d) (behind e)
-behind (left d) = behind d
-behind (right d) = behind d
-behind no_more = here
-behind (one_more d e) = behind_behind (behind d) (behind e)
+pub rest_suffix : {a : Pattern} {ts rest : List ℕ} → Matches a ts rest → HasSuffix ts rest
+rest_suffix is_nothing = here
+rest_suffix (is_character e) = next here
+rest_suffix (both d e) = suffix_of_suffix (rest_suffix d) (rest_suffix e)
+rest_suffix (left d) = rest_suffix d
+rest_suffix (right d) = rest_suffix d
+rest_suffix no_more = here
+rest_suffix (one_more d e) = suffix_of_suffix (rest_suffix d) (rest_suffix e)
 
 pub shorter : {a : Pattern} {ts rest : List ℕ} → Matches a ts rest → length rest ≤ length ts
-shorter d = behind_shorter (behind d)
+shorter d = suffix_shorter (rest_suffix d)
 
 -- the first character of a text of a pattern
 
@@ -68,7 +68,7 @@ begins_both : {a b : Pattern} {ts mid rest : List ℕ} → Begins a ts mid → B
 begins_both {a = a} {b = b} (takes_nothing n) (takes_nothing m) = takes_nothing (and_both (nullable a) (nullable b) n m)
 begins_both {a = a} {b = b} (takes_nothing n) (takes_some {c = c} f h) = takes_some (or_right (first a c) (nullable a && first b c) (and_both (nullable a) (first b c) n f)) h
 begins_both {a = a} {b = b} (takes_some {c = c} f h) (takes_nothing m) = takes_some (or_left (first a c) (nullable a && first b c) f) h
-begins_both {a = a} {b = b} (takes_some {c = c} f h) (takes_some g k) = takes_some (or_left (first a c) (nullable a && first b c) f) (behind_behind h (next k))
+begins_both {a = a} {b = b} (takes_some {c = c} f h) (takes_some g k) = takes_some (or_left (first a c) (nullable a && first b c) f) (suffix_of_suffix h (next k))
 
 begins_left : {a b : Pattern} {ts rest : List ℕ} → Begins a ts rest → Begins (a or b) ts rest
 begins_left {a = a} {b = b} (takes_nothing n) = takes_nothing (or_left (nullable a) (nullable b) n)
@@ -81,7 +81,7 @@ begins_right {a = a} {b = b} (takes_some {c = c} f h) = takes_some (or_right (fi
 begins_more : {a : Pattern} {ts mid rest : List ℕ} → Begins a ts mid → Begins (many a) mid rest → Begins (many a) ts rest
 begins_more (takes_nothing n) k = k
 begins_more (takes_some f h) (takes_nothing m) = takes_some f h
-begins_more (takes_some f h) (takes_some g k) = takes_some f (behind_behind h (next k))
+begins_more (takes_some f h) (takes_some g k) = takes_some f (suffix_of_suffix h (next k))
 
 pub begins : {a : Pattern} {ts rest : List ℕ} → Matches a ts rest → Begins a ts rest
 begins is_nothing = takes_nothing refl
@@ -113,7 +113,7 @@ strictly n d = go n (begins d)
   where
     go : {a : Pattern} {ts rest : List ℕ} → nullable a ≡ false → Begins a ts rest → length rest < length ts
     go n (takes_nothing m) = absurd (true_false m n)
-    go n (takes_some g h) = let k = behind_shorter h in omega arith
+    go n (takes_some g h) = let k = suffix_shorter h in omega arith
 
 pub nothing_taken : (a : Pattern) (ts : List ℕ) → nullable a ≡ true → Matches a ts ts
 nothing_taken nothing ts h = is_nothing
@@ -213,7 +213,7 @@ greedy_then X R b {ts = ts} {mid = mid} res sure solid inside apart run h = fini
         go (takes_some {c = c} g k) f = absurd (true_false f (apart c g))
 
     level : {m : List ℕ} → Matches R ts m → Matches (many X) mid m → m ≡ mid
-    level {m = m} r d = behind_same (behind r) (behind run.matches) (let k = shorter d in let l = run.longest m r in omega arith)
+    level {m = m} r d = same_suffix (rest_suffix r) (rest_suffix run.matches) (let k = shorter d in let l = run.longest m r in omega arith)
 
     where_else : {m s : List ℕ} → Matches R ts m → Matches b m s → (m ≡ mid) ⊎ ((s ≡ m) × (nullable b ≡ true))
     where_else {m = m} {s = s} r d = elim (along sure (inside m r) (inside mid run.matches)) [ inl x ↦ ahead x (begins d) | inr x ↦ inl (level r x) ]
@@ -443,8 +443,8 @@ spread a b x ts res h = ends_along ((a ▸ x) or (b ▸ x)) ((a or b) ▸ x) ts 
 pub sure_from : (a b : Pattern) → ((ts r : List ℕ) → Matches a ts r → Matches b ts r) → Sure b → Sure a
 sure_from a b f sure = record { same = λ ts r s d e. sure.same ts r s (f ts r d) (f ts s e) }
 
-pub apart_behind : {a b c : Pattern} → Sure a → Apart b c → Apart (a ▸ b) (a ▸ c)
-apart_behind {a = a} {b = b} {c = c} sure apart = record { never = λ ts r s d e. go ts r s d e }
+pub apart_after : {a b c : Pattern} → Sure a → Apart b c → Apart (a ▸ b) (a ▸ c)
+apart_after {a = a} {b = b} {c = c} sure apart = record { never = λ ts r s d e. go ts r s d e }
   where
     go : (ts r s : List ℕ) → Matches (a ▸ b) ts r → Matches (a ▸ c) ts s → ⊥
     go ts r s (both {mid = m} x y) (both {mid = n} v w) = apart.never m r s y (moved (sure.same ts n m v x) w)

@@ -13,7 +13,7 @@ use Rattle.sparql_lexer.specs.Numbers.{digit, exponent, is_plus_or_minus, is_exp
 use Rattle.sparql_lexer.specs.Names.{tail, namespace, local_escape, local_part, subtag}
 use Rattle.sparql_lexer.specs.Enclosed.{four_digits, numbered, escape, iri_piece, short_piece, three, comment}
 use Rattle.sparql_lexer.specs.Forms.{open_of, close_of, piece_of, part_of}
-use Rattle.sparql_lexer.proofs.PatternLaws.{first, nullable, Sure, Apart, sure_character, sure_then, sure_or, sure_from, sure_many_then, apart_first, apart_is, apart_then, apart_or, apart_swap, apart_behind, apart_from, but, then_none, then_sure, greedy_then, nowhere, nowhere_or, only_left, only_right, spread, regroup, perhaps_taken, shorter, tail_inside, moved}
+use Rattle.sparql_lexer.proofs.PatternLaws.{first, nullable, Sure, Apart, sure_character, sure_then, sure_or, sure_from, sure_many_then, apart_first, apart_is, apart_then, apart_or, apart_swap, apart_after, apart_from, but, then_none, then_sure, greedy_then, nowhere, nowhere_or, only_left, only_right, spread, regroup, perhaps_taken, shorter, tail_inside, moved}
 
 pub sure_is : (n : ℕ) → Sure (is n)
 sure_is n = sure_character (nat_eq n)
@@ -99,7 +99,7 @@ sure_stepwise q x sure solid h = sure_or sure (sure_then (sure_is q) (sure_or su
 
 apart_stepwise : (q : ℕ) (x : Pattern) → nullable x ≡ false → first x q ≡ false → Apart (three q) (stepwise q x)
 apart_stepwise q x solid h = apart_or (apart_swap (apart_then x q (is q ▸ is q) solid h))
-    (apart_behind (sure_is q) (apart_or (apart_swap (apart_then x q (is q) solid h)) (apart_behind (sure_is q) (apart_swap (apart_is x q solid h)))))
+    (apart_after (sure_is q) (apart_or (apart_swap (apart_then x q (is q) solid h)) (apart_after (sure_is q) (apart_swap (apart_is x q solid h)))))
 
 pub sure_long : (q : ℕ) (p : ℕ → Bool) → p 92 ≡ false → p q ≡ false → nat_eq 92 q ≡ false → Sure (perhaps (quotes q) ▸ (character p or escape))
 sure_long q p e f k = sure_from (perhaps (quotes q) ▸ (character p or escape)) (stepwise q (character p or escape)) (by_steps q (character p or escape))

@@ -141,12 +141,12 @@ any_sign : (l : Kind) (ts r : List ℕ) → nat_eq 16 (row l) ≡ true → Reads
 any_sign (kind.Sign s) ts r e d = (s, d)
 any_sign _ ts r e d = absurd (cc)
 
-pub sign_pair : (ts after behind : List ℕ) (c d : ℕ) (s : Sign) → ts ≡ c ∷ after → after ≡ d ∷ behind → sign_of_two c d ≡ Some s → BestOf (nat_eq 16) ts (kind.Sign s) behind
-sign_pair ts after behind c d s is then e =
-    let whole : ts ≡ c ∷ d ∷ behind = cc in
-    subst (λ t. BestOf (nat_eq 16) t (kind.Sign s) behind) (sym whole) (record { reads = two e; longest = λ l other q x. go other (any_sign l (c ∷ d ∷ behind) other q x).1 })
+pub sign_pair : (ts after remaining : List ℕ) (c d : ℕ) (s : Sign) → ts ≡ c ∷ after → after ≡ d ∷ remaining → sign_of_two c d ≡ Some s → BestOf (nat_eq 16) ts (kind.Sign s) remaining
+sign_pair ts after remaining c d s is then e =
+    let whole : ts ≡ c ∷ d ∷ remaining = cc in
+    subst (λ t. BestOf (nat_eq 16) t (kind.Sign s) remaining) (sym whole) (record { reads = two e; longest = λ l other q x. go other (any_sign l (c ∷ d ∷ remaining) other q x).1 })
   where
-    go : {t : Sign} (other : List ℕ) → IsSign t (c ∷ d ∷ behind) other → length behind ≤ length other
+    go : {t : Sign} (other : List ℕ) → IsSign t (c ∷ d ∷ remaining) other → length remaining ≤ length other
     go other (one f) = omega arith
     go other (two f) = omega arith
 

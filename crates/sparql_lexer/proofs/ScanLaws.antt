@@ -10,17 +10,17 @@ use Rattle.sparql_lexer.specs.Scan.{Reads, Longest, Unreadable, Scans, stops, re
 use Rattle.sparql_lexer.specs.Signs.{IsSign, one, two}
 use Rattle.sparql_lexer.specs.Terminal.{Terminal, terminal, terminals}
 use Rattle.sparql_lexer.specs.Words.{taken}
-use Rattle.sparql_lexer.proofs.PatternLaws.{behind, strictly}
+use Rattle.sparql_lexer.proofs.PatternLaws.{rest_suffix, strictly}
 
-sign_behind : {s : Sign} {ts r : List ℕ} → IsSign s ts r → HasSuffix ts r
-sign_behind (one e) = next here
-sign_behind (two e) = next (next here)
+sign_suffix : {s : Sign} {ts r : List ℕ} → IsSign s ts r → HasSuffix ts r
+sign_suffix (one e) = next here
+sign_suffix (two e) = next (next here)
 
-pub reads_behind : (k : Kind) (ts r : List ℕ) → Reads k ts r → HasSuffix ts r
-reads_behind (kind.Keyword k) ts r d = behind d.letters
-reads_behind kind.Word ts r d = behind d.letters
-reads_behind (kind.Sign s) ts r d = sign_behind d
-reads_behind _ ts r d = behind d
+pub reads_suffix : (k : Kind) (ts r : List ℕ) → Reads k ts r → HasSuffix ts r
+reads_suffix (kind.Keyword k) ts r d = rest_suffix d.letters
+reads_suffix kind.Word ts r d = rest_suffix d.letters
+reads_suffix (kind.Sign s) ts r d = sign_suffix d
+reads_suffix _ ts r d = rest_suffix d
 
 sign_shorter : {s : Sign} {ts r : List ℕ} → IsSign s ts r → length r < length ts
 sign_shorter (one e) = omega arith
@@ -43,9 +43,9 @@ no_more (x ∷ xs) = ap (λ us. x ∷ us) (no_more xs)
 pub scans_stop : (text rest place : List ℕ) (xs : List Terminal) → ((ts : List Terminal) (end : List ℕ) → Scans rest ts end → Scans text (xs ++ ts) end) → place ≡ after_blanks rest → Unreadable place → Scans text xs place
 scans_stop text rest place xs inv is none = subst (λ ts. Scans text ts place) (no_more xs) (inv [] place (stops (sym is) none))
 
-pub scans_read : (text rest place behind : List ℕ) (xs ys : List Token) (t : Token) → ((ts : List Terminal) (end : List ℕ) → Scans rest ts end → Scans text (terminals xs ++ ts) end) → place ≡ after_blanks rest → Longest t.kind place behind
-    → t.text.now ≡ taken place behind → ys ≡ xs ++ t ∷ [] → (ts : List Terminal) (end : List ℕ) → Scans behind ts end → Scans text (terminals ys ++ ts) end
-scans_read text rest place behind xs ys t inv is longest spanned pushed ts end d =
+pub scans_read : (text rest place remaining : List ℕ) (xs ys : List Token) (t : Token) → ((ts : List Terminal) (end : List ℕ) → Scans rest ts end → Scans text (terminals xs ++ ts) end) → place ≡ after_blanks rest → Longest t.kind place remaining
+    → t.text.now ≡ taken place remaining → ys ≡ xs ++ t ∷ [] → (ts : List Terminal) (end : List ℕ) → Scans remaining ts end → Scans text (terminals ys ++ ts) end
+scans_read text rest place remaining xs ys t inv is longest spanned pushed ts end d =
     subst (λ us. Scans text us end) (sym (ap (λ ys. terminals ys ++ ts) pushed ∙ one_more xs t ts))
     (inv (terminal t.kind t.text.now ∷ ts) end (subst (λ w. Scans rest (terminal t.kind w ∷ ts) end) (sym spanned) (reads (sym is) longest d)))
 

@@ -136,8 +136,8 @@ hyphen_no_letter : (c : ℕ) → eqb c 45 ≡ true → is_ascii_alphabetic c ≡
 hyphen_no_letter c h = subst (λ (z : ℕ). is_ascii_alphabetic z ≡ false) (hyphen c h) refl
 
 -- the text after the first letter of a tag is a tail of a tag
-behind_letter : (c : ℕ) (cs : List ℕ) → is_ascii_alphabetic c ≡ true → is_tag_tail (c ∷ cs) ≡ true → is_tag_tail cs ≡ true
-behind_letter c cs e h =
+after_letter : (c : ℕ) (cs : List ℕ) → is_ascii_alphabetic c ≡ true → is_tag_tail (c ∷ cs) ≡ true → is_tag_tail cs ≡ true
+after_letter c cs e h =
     elim (or_parts (is_ascii_alphabetic c && is_tag_tail cs) ((eqb c 45 && begins is_ascii_alphanumeric cs) && is_subtags cs) h) [
       | inl k ↦ (and_parts (is_ascii_alphabetic c) (is_tag_tail cs) k).1
       | inr k ↦ (let p = and_parts (eqb c 45 && begins is_ascii_alphanumeric cs) (is_subtags cs) k in
@@ -149,7 +149,7 @@ tag_cut : (tag rest : List ℕ) → is_tag tag ≡ true → Matches language_tag
 tag_cut [] rest h = absurd (cc)
 tag_cut (c ∷ cs) rest h =
     let p = and_parts (is_ascii_alphabetic c) (is_tag_tail (c ∷ cs)) h in
-    let r = tail_cut cs rest (behind_letter c cs p.0 p.1) in
+    let r = tail_cut cs rest (after_letter c cs p.0 p.1) in
     both (is_character refl) (both (both (is_character p.0) r.1) r.2)
 
 pub tag_matches : {ts rest : List ℕ} → IsLanguageTag ts rest → Matches language_tag ts rest

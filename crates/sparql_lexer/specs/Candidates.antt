@@ -35,9 +35,11 @@ pub record BestOf (rows : ℕ → Bool) (text : List ℕ) (k : Kind) (rest : Lis
   pub reads : Reads k text rest
   pub longest : (l : Kind) (other : List ℕ) → rows (row l) ≡ true → Reads l text other → length rest ≤ length other
 
+-- the text does not begin with a terminal of these rows
 pub record NoneOf (rows : ℕ → Bool) (text : List ℕ) : Type 0 where
   pub none : (l : Kind) (other : List ℕ) → rows (row l) ≡ true → Reads l text other → ⊥
 
+-- the longest terminal of these rows at this place, or None if there is none
 abbrev pub LongestOf : (ℕ → Bool) → List ℕ → Option (Kind × Bor (List ℕ)) → Type 0
 LongestOf rows text None = NoneOf rows text
 LongestOf rows text (Some p) = BestOf rows text p.0 p.1.now
@@ -48,24 +50,31 @@ pub record IsRow (k : Kind) (a : Pattern) : Type 0 where
   pub reads : (text rest : List ℕ) → Matches a text rest → Reads k text rest
   pub only : (l : Kind) (text rest : List ℕ) → nat_eq (row k) (row l) ≡ true → Reads l text rest → Matches a text rest
 
+-- the rows of one set or of the other
 abbrev pub either : (ℕ → Bool) → (ℕ → Bool) → ℕ → Bool
 either m n k = m k || n k
 
+-- keywords and other words, PNAME_NS and PNAME_LN
 abbrev pub name_rows : ℕ → Bool
 name_rows = either (nat_eq 15) (either (nat_eq 2) (nat_eq 3))
 
+-- INTEGER, DECIMAL and DOUBLE without a sign
 abbrev pub number_rows : ℕ → Bool
 number_rows = either (nat_eq 7) (either (nat_eq 8) (nat_eq 9))
 
+-- INTEGER, DECIMAL and DOUBLE with a sign
 abbrev pub signed_rows : ℕ → Bool
 signed_rows = either (nat_eq 10) (either (nat_eq 11) (nat_eq 12))
 
+-- IRIREF, ANON and the strings
 abbrev pub enclosed_rows : ℕ → Bool
 enclosed_rows = either (either (nat_eq 0) (nat_eq 5)) (either (nat_eq 13) (nat_eq 14))
 
+-- variables, BLANK_NODE_LABEL and LANGTAG
 abbrev pub marked_rows : ℕ → Bool
 marked_rows = either (nat_eq 1) (either (nat_eq 4) (nat_eq 6))
 
+-- all kinds, the punctuation signs included
 abbrev pub every_row : ℕ → Bool
 every_row = either name_rows (either (either number_rows signed_rows) (either (either enclosed_rows marked_rows) (nat_eq 16)))
 

@@ -13,6 +13,7 @@ is_digit c = nat_le 48 c && nat_le c 57
 abbrev pub is_letter : ℕ → Bool
 is_letter c = (nat_le 65 c && nat_le c 90) || (nat_le 97 c && nat_le c 122)
 
+-- [A-Za-z0-9]
 abbrev pub is_letter_or_digit : ℕ → Bool
 is_letter_or_digit c = is_letter c || is_digit c
 
@@ -67,5 +68,6 @@ is_escape_letter c = is_some (echar c)
 abbrev pub is_space : ℕ → Bool
 is_space c = nat_eq 32 c || (nat_eq 9 c || (nat_eq 13 c || nat_eq 10 c))
 
+-- LF or CR, which end a comment (section 19.4)
 abbrev pub is_line_end : ℕ → Bool
 is_line_end c = nat_eq 13 c || nat_eq 10 c

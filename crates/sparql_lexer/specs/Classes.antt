@@ -8,6 +8,7 @@ use Rattle.sparql_lexer.specs.Colonless.{is_name_or_dot}
 use Rattle.sparql_lexer.specs.Numbers.{is_plus_or_minus, is_exponent_letter}
 use Rattle.sparql_lexer.specs.Names.{is_variable_sign}
 
+-- the characters of the class
 abbrev pub members : Class → ℕ → Bool
 members class.Digit = is_digit
 members class.Dot = nat_eq 46

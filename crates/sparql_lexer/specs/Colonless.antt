@@ -9,6 +9,7 @@ pub data HasSuffix : List ℕ → List ℕ → Type 0 where
   here : {ts : List ℕ} → HasSuffix ts ts
   next : {c : ℕ} {ts rest : List ℕ} → HasSuffix ts rest → HasSuffix (c ∷ ts) rest
 
+-- PN_CHARS | '.' of [168] PN_PREFIX
 abbrev pub is_name_or_dot : ℕ → Bool
 is_name_or_dot c = is_name_part c || nat_eq 46 c
 

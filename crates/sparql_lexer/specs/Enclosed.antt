@@ -17,6 +17,7 @@ four_digits = character is_hex ▸ character is_hex ▸ character is_hex ▸ cha
 abbrev pub numbered : Pattern
 numbered = (is 117 ▸ four_digits) or (is 85 ▸ four_digits ▸ four_digits)
 
+-- UCHAR
 abbrev pub number_escape : Pattern
 number_escape = is 92 ▸ numbered
 
@@ -48,6 +49,7 @@ short_string quote = is quote ▸ many (short_piece quote) ▸ is quote
 abbrev pub long_piece : ℕ → Pattern
 long_piece quote = perhaps (is quote or (is quote ▸ is quote)) ▸ (character (is_long_character quote) or escape)
 
+-- the delimiter of a long string
 abbrev pub three : ℕ → Pattern
 three quote = is quote ▸ is quote ▸ is quote
 

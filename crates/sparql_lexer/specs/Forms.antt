@@ -11,11 +11,13 @@ use Rattle.sparql_lexer.specs.Numbers.{integer, decimal, double}
 use Rattle.sparql_lexer.specs.Names.{local_part}
 use Rattle.sparql_lexer.specs.Enclosed.{iri_piece, short_piece, long_piece, three, comment}
 
+-- the production of an unsigned number
 abbrev pub number_of : NumberForm → Pattern
 number_of number.Integer = integer
 number_of number.Decimal = decimal
 number_of number.Double = double
 
+-- the opening delimiter
 abbrev pub open_of : Enclosure → Pattern
 open_of enclosure.Iri = is 60
 open_of enclosure.Single = is 39
@@ -24,6 +26,7 @@ open_of enclosure.LongSingle = three 39
 open_of enclosure.LongDouble = three 34
 open_of enclosure.Anonymous = is 91
 
+-- the closing delimiter
 abbrev pub close_of : Enclosure → Pattern
 close_of enclosure.Iri = is 62
 close_of enclosure.Single = is 39
@@ -32,6 +35,7 @@ close_of enclosure.LongSingle = three 39
 close_of enclosure.LongDouble = three 34
 close_of enclosure.Anonymous = is 93
 
+-- one piece between the delimiters
 abbrev pub piece_of : Enclosure → Pattern
 piece_of enclosure.Iri = iri_piece
 piece_of enclosure.Single = short_piece 39
@@ -44,6 +48,7 @@ piece_of enclosure.Anonymous = character is_space or comment
 abbrev pub inside_of : Enclosure → Pattern
 inside_of e = many (piece_of e) ▸ close_of e
 
+-- the part that may end a name: PN_CHARS, or PN_CHARS | ':' | PLX
 abbrev pub part_of : Part → Pattern
 part_of part.Name = character is_name_part
 part_of part.Local = local_part

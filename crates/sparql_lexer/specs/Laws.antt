@@ -22,6 +22,7 @@ abbrev pub LongValueIsWritten : Type 0
 LongValueIsWritten =
     (quote : ℕ) (body bytes : List ℕ) → (string_value kind.LongString (quote ∷ quote ∷ quote ∷ (body ++ quote ∷ quote ∷ quote ∷ [])) ≡ Some bytes) ↔ IsWritten IsAnyPart body bytes
 
+-- the three laws above together
 pub record ValuesAreWritten : Type 0 where
   pub iri : IriValueIsWritten
   pub short_string : ShortValueIsWritten

@@ -7,6 +7,7 @@ use Rattle.rdf_core.specs.Lexical.{is_tag}
 use Rattle.sparql_lexer.specs.Pattern.{Pattern, character, is, some, many, perhaps, ◌▸◌, ◌or◌}
 use Rattle.sparql_lexer.specs.Characters.{is_letter, is_letter_or_digit, is_base, is_label_start, is_variable_part, is_name_part, is_local_start, is_local_part, is_local_escape}
 
+-- [?$]
 abbrev pub is_variable_sign : ℕ → Bool
 is_variable_sign c = nat_eq 63 c || nat_eq 36 c
 
@@ -30,6 +31,7 @@ namespace = perhaps (character is_base ▸ tail (character is_name_part)) ▸ is
 abbrev pub local_escape : Pattern
 local_escape = (is 37 ▸ character is_hex ▸ character is_hex) or (is 92 ▸ character is_local_escape)
 
+-- PN_CHARS | ':' | PLX
 abbrev pub local_part : Pattern
 local_part = character is_local_part or local_escape
 

@@ -3,12 +3,15 @@ use Rattle.std.specs.Prelude.{ℕ, Bool, ◌||◌, nat_eq}
 use Rattle.sparql_lexer.specs.Pattern.{Pattern, character, is, some, many, perhaps, ◌▸◌, ◌or◌}
 use Rattle.sparql_lexer.specs.Characters.{is_digit}
 
+-- [+-]
 abbrev pub is_plus_or_minus : ℕ → Bool
 is_plus_or_minus c = nat_eq 43 c || nat_eq 45 c
 
+-- [eE]
 abbrev pub is_exponent_letter : ℕ → Bool
 is_exponent_letter c = nat_eq 101 c || nat_eq 69 c
 
+-- [0-9]
 abbrev pub digit : Pattern
 digit = character is_digit
 

@@ -5,6 +5,7 @@ use Rattle.std.specs.Borrow.{Bor}
 
 infixr 30 ◌▸◌
 infixr 20 ◌or◌
+-- the right side of a production of terminals
 pub data Pattern : Type 0 where
   nothing : Pattern
   -- one character for which the test returns true
@@ -16,6 +17,7 @@ pub data Pattern : Type 0 where
   -- A*
   many : Pattern → Pattern
 
+-- this one character
 abbrev pub is : ℕ → Pattern
 is c = character (nat_eq c)
 
@@ -42,6 +44,7 @@ pub record EndsAt (a : Pattern) (text rest : List ℕ) : Type 0 where
   pub matches : Matches a text rest
   pub longest : (other : List ℕ) → Matches a text other → length rest ≤ length other
 
+-- the text does not begin with a text of the pattern
 pub record Nowhere (a : Pattern) (text : List ℕ) : Type 0 where
   pub none : (other : List ℕ) → Matches a text other → ⊥
 

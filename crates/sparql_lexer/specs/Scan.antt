@@ -37,6 +37,7 @@ pub record Longest (k : Kind) (place rest : List ℕ) : Type 0 where
   pub reads : Reads k place rest
   pub longest : (l : Kind) (other : List ℕ) → Reads l place other → length rest ≤ length other
 
+-- no terminal begins at this place
 abbrev pub Unreadable : List ℕ → Type 0
 Unreadable place = (k : Kind) (rest : List ℕ) → Reads k place rest → ⊥
 

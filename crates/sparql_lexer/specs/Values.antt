@@ -12,6 +12,7 @@ use Rattle.sparql_lexer.specs.declared.token.Kind.TheVariants as kind
 abbrev pub between : ℕ → List ℕ → List ℕ
 between n text = take (length (drop n text) - n) (drop n text)
 
+-- the characters, without the text after them
 abbrev pub whole_of : Option (List ℕ × List ℕ) → Option (List ℕ)
 whole_of None = None
 whole_of (Some x) = Some x.0

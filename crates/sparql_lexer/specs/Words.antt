@@ -8,45 +8,47 @@ use Rattle.sparql_lexer.specs.Pattern.{Matches}
 use Rattle.sparql_lexer.specs.Names.{word}
 
 -- the word has the letters of the keyword, which is given in upper case
-abbrev pub is_spelled : List ℕ → List ℕ → Bool
-is_spelled [] [] = true
-is_spelled [] (k ∷ ks) = false
-is_spelled (c ∷ cs) [] = false
-is_spelled (c ∷ cs) (k ∷ ks) = nat_eq (to_ascii_uppercase c) k && is_spelled cs ks
+abbrev pub has_letters : List ℕ → List ℕ → Bool
+has_letters [] [] = true
+has_letters [] (k ∷ ks) = false
+has_letters (c ∷ cs) [] = false
+has_letters (c ∷ cs) (k ∷ ks) = nat_eq (to_ascii_uppercase c) k && has_letters cs ks
 
-abbrev pub spelling_of : Keyword → List ℕ
-spelling_of keyword.A = codes "A"
-spelling_of keyword.As = codes "AS"
-spelling_of keyword.Bind = codes "BIND"
-spelling_of keyword.Bound = codes "BOUND"
-spelling_of keyword.Datatype = codes "DATATYPE"
-spelling_of keyword.Distinct = codes "DISTINCT"
-spelling_of keyword.False = codes "FALSE"
-spelling_of keyword.Filter = codes "FILTER"
-spelling_of keyword.Graph = codes "GRAPH"
-spelling_of keyword.In = codes "IN"
-spelling_of keyword.IsBlank = codes "ISBLANK"
-spelling_of keyword.IsIri = codes "ISIRI"
-spelling_of keyword.IsLiteral = codes "ISLITERAL"
-spelling_of keyword.Lang = codes "LANG"
-spelling_of keyword.Limit = codes "LIMIT"
-spelling_of keyword.Minus = codes "MINUS"
-spelling_of keyword.Not = codes "NOT"
-spelling_of keyword.Offset = codes "OFFSET"
-spelling_of keyword.Optional = codes "OPTIONAL"
-spelling_of keyword.Prefix = codes "PREFIX"
-spelling_of keyword.SameTerm = codes "SAMETERM"
-spelling_of keyword.Select = codes "SELECT"
-spelling_of keyword.Str = codes "STR"
-spelling_of keyword.True = codes "TRUE"
-spelling_of keyword.Undef = codes "UNDEF"
-spelling_of keyword.Union = codes "UNION"
-spelling_of keyword.Values = codes "VALUES"
-spelling_of keyword.Where = codes "WHERE"
+-- the keyword as the grammar of section 19.8 writes it, in upper case
+abbrev pub capitals_of : Keyword → List ℕ
+capitals_of keyword.A = codes "A"
+capitals_of keyword.As = codes "AS"
+capitals_of keyword.Bind = codes "BIND"
+capitals_of keyword.Bound = codes "BOUND"
+capitals_of keyword.Datatype = codes "DATATYPE"
+capitals_of keyword.Distinct = codes "DISTINCT"
+capitals_of keyword.False = codes "FALSE"
+capitals_of keyword.Filter = codes "FILTER"
+capitals_of keyword.Graph = codes "GRAPH"
+capitals_of keyword.In = codes "IN"
+capitals_of keyword.IsBlank = codes "ISBLANK"
+capitals_of keyword.IsIri = codes "ISIRI"
+capitals_of keyword.IsLiteral = codes "ISLITERAL"
+capitals_of keyword.Lang = codes "LANG"
+capitals_of keyword.Limit = codes "LIMIT"
+capitals_of keyword.Minus = codes "MINUS"
+capitals_of keyword.Not = codes "NOT"
+capitals_of keyword.Offset = codes "OFFSET"
+capitals_of keyword.Optional = codes "OPTIONAL"
+capitals_of keyword.Prefix = codes "PREFIX"
+capitals_of keyword.SameTerm = codes "SAMETERM"
+capitals_of keyword.Select = codes "SELECT"
+capitals_of keyword.Str = codes "STR"
+capitals_of keyword.True = codes "TRUE"
+capitals_of keyword.Undef = codes "UNDEF"
+capitals_of keyword.Union = codes "UNION"
+capitals_of keyword.Values = codes "VALUES"
+capitals_of keyword.Where = codes "WHERE"
 
+-- the keyword of the list that the word is, in any case
 abbrev pub keyword_among : List Keyword → List ℕ → Option Keyword
 keyword_among [] w = None
-keyword_among (k ∷ ks) w = if is_spelled w (spelling_of k) then Some k else keyword_among ks w
+keyword_among (k ∷ ks) w = if has_letters w (capitals_of k) then Some k else keyword_among ks w
 
 -- the keywords whose case does not matter
 abbrev pub in_any_case : List Keyword
@@ -56,6 +58,7 @@ in_any_case =
     ∷ keyword.Minus ∷ keyword.Not ∷ keyword.Offset ∷ keyword.Optional ∷ keyword.Prefix ∷ keyword.SameTerm ∷ keyword.Select
     ∷ keyword.Str ∷ keyword.True ∷ keyword.Undef ∷ keyword.Union ∷ keyword.Values ∷ keyword.Where ∷ []
 
+-- the word is `a`
 abbrev pub is_small_a : List ℕ → Bool
 is_small_a [] = false
 is_small_a (c ∷ []) = nat_eq 97 c

@@ -16,11 +16,11 @@ pub fn next(text: &[char]) -> Option<(char, &[char])>
 }
 
 /// Returns the text after this character, or None if the text does not begin with it.
-pub fn accept(text: &[char], wanted: char) -> Option<&[char]>
-    ensures { Ends (is wanted) text.now result }
+pub fn accept(text: &[char], expected: char) -> Option<&[char]>
+    ensures { Ends (is expected) text.now result }
 {
     let (first, after) = next(text)?;
-    if first == wanted { Some(after) } else { None }
+    if first == expected { Some(after) } else { None }
 }
 
 /// Returns the text after one character of the class, or None if the text does not begin with one.

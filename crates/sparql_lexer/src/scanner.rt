@@ -58,7 +58,7 @@ pub fn scan_text<'a>(alloc: Global, text: &'a [char]) -> Result<Scan<'a>, AllocE
     'terminals: loop {
         let place = skip_blanks(rest);
         end = run_end(place, end);
-        let Some((kind, behind)) = scan_terminal(place, clear_end(place, end)) else {
+        let Some((kind, remaining)) = scan_terminal(place, clear_end(place, end)) else {
             return Ok(Scan {
                 tokens,
                 rest: place,
@@ -66,8 +66,8 @@ pub fn scan_text<'a>(alloc: Global, text: &'a [char]) -> Result<Scan<'a>, AllocE
         };
         tokens.push(Token {
             kind,
-            text: &place[..place.len() - behind.len()],
+            text: &place[..place.len() - remaining.len()],
         })?;
-        rest = behind;
+        rest = remaining;
     }
 }

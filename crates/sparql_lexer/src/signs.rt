@@ -45,9 +45,9 @@ fn sign_of_two(first: char, second: char) -> Option<Sign>
 fn accept_second(first: char, text: &[char]) -> Option<(Sign, &[char])>
     ensures { IsSecond first text.now result }
 {
-    let (second, behind) = next(text)?;
+    let (second, remaining) = next(text)?;
     let sign = sign_of_two(first, second)?;
-    Some((sign, behind))
+    Some((sign, remaining))
 }
 
 /// Reads the longest sign at the start of the text. Returns its kind and the text after it.
@@ -55,8 +55,8 @@ pub fn scan_sign(text: &[char]) -> Option<(Kind, &[char])>
     ensures { LongestOf (nat_eq 16) text.now result }
 {
     let (first, after) = next(text)?;
-    if let Some((sign, behind)) = accept_second(first, after) {
-        return Some((Kind::Sign(sign), behind));
+    if let Some((sign, remaining)) = accept_second(first, after) {
+        return Some((Kind::Sign(sign), remaining));
     }
     match sign_of_one(first) {
         Some(sign) => Some((Kind::Sign(sign), after)),

@@ -13,8 +13,8 @@ use std::alloc::{AllocError, Global};
 fn between(text: &[char], count: usize) -> &[char]
     ensures { result.now ≡ between count text.now }
 {
-    let (_, behind) = text.split_at(count.min(text.len()));
-    let (inside, _) = behind.split_at(behind.len().saturating_sub(count));
+    let (_, remaining) = text.split_at(count.min(text.len()));
+    let (inside, _) = remaining.split_at(remaining.len().saturating_sub(count));
     inside
 }
 

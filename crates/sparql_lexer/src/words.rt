@@ -2,7 +2,7 @@
 
 ghost use Rattle.std.specs.Prelude.{◌≡◌, nat_eq};
 ghost use Rattle.sparql_lexer.specs.Candidates.{LongestOf};
-ghost use Rattle.sparql_lexer.specs.Words.{is_spelled, is_small_a, spelling_of, keyword_among, keyword_of};
+ghost use Rattle.sparql_lexer.specs.Words.{has_letters, is_small_a, capitals_of, keyword_among, keyword_of};
 
 use crate::classes::Class;
 use crate::cursor::{next, skip_some};
@@ -39,8 +39,8 @@ const IN_ANY_CASE: [Keyword; 27] = [
 ];
 
 /// Returns a keyword in upper case.
-fn spelling(keyword: Keyword) -> &'static [u8]
-    ensures { result.now ≡ spelling_of keyword }
+fn capitals_of(keyword: Keyword) -> &'static [u8]
+    ensures { result.now ≡ capitals_of keyword }
 {
     match keyword {
         Keyword::A => b"A",
@@ -75,22 +75,22 @@ fn spelling(keyword: Keyword) -> &'static [u8]
 }
 
 /// Returns whether the word has these letters, in upper or lower case.
-fn is_spelled(word: &[char], capitals: &[u8]) -> bool
-    ensures { result ≡ is_spelled word.now capitals.now }
+fn has_letters(word: &[char], capitals: &[u8]) -> bool
+    ensures { result ≡ has_letters word.now capitals.now }
 {
     let mut letters = word;
-    let mut wanted = capitals;
+    let mut expected = capitals;
     'letters: while let Some((letter, after)) = next(letters) {
-        let Some((capital, behind)) = wanted.split_first() else {
+        let Some((capital, remaining)) = expected.split_first() else {
             return false;
         };
         if letter.to_ascii_uppercase() as u32 != *capital as u32 {
             return false;
         }
         letters = after;
-        wanted = behind;
+        expected = remaining;
     }
-    wanted.is_empty()
+    expected.is_empty()
 }
 
 fn is_small_a(word: &[char]) -> bool
@@ -107,7 +107,7 @@ fn keyword_among(keywords: &[Keyword], word: &[char]) -> Option<Keyword>
 {
     let mut rest = keywords;
     'keywords: while let Some((keyword, after)) = rest.split_first() {
-        if is_spelled(word, spelling(*keyword)) {
+        if has_letters(word, capitals_of(*keyword)) {
             return Some(*keyword);
         }
         rest = after;

@@ -41,9 +41,9 @@ run_goes : {names : Names} {s : Symbol} {ts : List Terminal} {es fs : GroupTree}
 run_goes l h (Ok p) r = l.goes (Ok p) (h (Ok p) r)
 run_goes l h (Err e) r = l.goes (Err e) (h (Err e) r)
 
-pub behind_run : {names : Names} {s : Symbol} {ts : List Terminal} {es fs : GroupTree} {g : GroupTree → Value s} {before after : List Terminal}
+pub after_run : {names : Names} {s : Symbol} {ts : List Terminal} {es fs : GroupTree} {g : GroupTree → Value s} {before after : List Terminal}
     → Left names s ts (the.body es) g (right_side (the.body es)) before → IsElementRun names es fs before after → Left names s ts (the.others fs) g (right_side (the.others fs)) after
-behind_run {fs = fs} l h = record { good = good (the.others fs); goes = λ answer r. run_goes l h answer r }
+after_run {fs = fs} l h = record { good = good (the.others fs); goes = λ answer r. run_goes l h answer r }
 
 -- a dot, or none
 
@@ -52,9 +52,9 @@ dot_is : {names : Names} {es : GroupTree} {before after : List Terminal} → Lef
 dot_is l (Ok p) r = l.goes (Ok p) r
 dot_is l (Err e) r = l.goes (Err e) r
 
-pub is_behind_dot : {before after : List Terminal}
+pub is_after_dot : {before after : List Terminal}
     → ((names : Names) (es : GroupTree) → Left names (the.after_other es) before (the.body es) (λ v. v) (right_side (the.body es)) after) → IsAfterDot before after
-is_behind_dot l = λ names es answer r. dot_is (l names es) answer r
+is_after_dot l = λ names es answer r. dot_is (l names es) answer r
 
 dot_goes : {names : Names} {s : Symbol} {ts : List Terminal} {es : GroupTree} {g : GroupTree → Value s} {before after : List Terminal}
     → Left names s ts (the.after_other es) g (right_side (the.after_other es)) before → IsAfterDot before after
@@ -62,9 +62,9 @@ dot_goes : {names : Names} {s : Symbol} {ts : List Terminal} {es : GroupTree} {g
 dot_goes {names = names} {es = es} l h (Ok p) r = l.goes (Ok p) (h names es (Ok p) r)
 dot_goes {names = names} {es = es} l h (Err e) r = l.goes (Err e) (h names es (Err e) r)
 
-pub behind_dot : {names : Names} {s : Symbol} {ts : List Terminal} {es : GroupTree} {g : GroupTree → Value s} {before after : List Terminal}
+pub after_dot : {names : Names} {s : Symbol} {ts : List Terminal} {es : GroupTree} {g : GroupTree → Value s} {before after : List Terminal}
     → Left names s ts (the.after_other es) g (right_side (the.after_other es)) before → IsAfterDot before after → Left names s ts (the.body es) g (right_side (the.body es)) after
-behind_dot {es = es} l h = record { good = good (the.body es); goes = λ answer r. dot_goes l h answer r }
+after_dot {es = es} l h = record { good = good (the.body es); goes = λ answer r. dot_goes l h answer r }
 
 -- a declaration
 
@@ -83,6 +83,6 @@ declaration_goes : {names : Names} {s : Symbol} {ts : List Terminal} {g : Select
 declaration_goes l h (Ok p) r = l.goes (Ok p) (h (Ok p) r)
 declaration_goes l h (Err e) r = l.goes (Err e) (h (Err e) r)
 
-pub behind_declaration : {names : Names} {s : Symbol} {ts : List Terminal} {g : Select → Value s} {before after : List Terminal}
+pub after_declaration : {names : Names} {s : Symbol} {ts : List Terminal} {g : Select → Value s} {before after : List Terminal}
     → Left names s ts the.declared g (right_side the.declared) before → IsDeclaration names before after → Left names s ts the.query g (right_side the.query) after
-behind_declaration l h = record { good = good the.query; goes = λ answer r. declaration_goes l h answer r }
+after_declaration l h = record { good = good the.query; goes = λ answer r. declaration_goes l h answer r }

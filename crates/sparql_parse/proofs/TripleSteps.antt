@@ -51,10 +51,10 @@ property_goes : {names : Names} {s : Symbol} {ts : List Terminal} {a : PatternTe
 property_goes l h (Ok p) r = l.goes (Ok p) (h (Ok p) r)
 property_goes l h (Err e) r = l.goes (Err e) (h (Err e) r)
 
-pub behind_property : {names : Names} {s : Symbol} {ts : List Terminal} {a : PatternTerm} {us vs : List Triple} {g : List Triple → Value s} {before after : List Terminal}
+pub after_property : {names : Names} {s : Symbol} {ts : List Terminal} {a : PatternTerm} {us vs : List Triple} {g : List Triple → Value s} {before after : List Terminal}
     → Left names s ts (the.after_semicolon a us) g (right_side (the.after_semicolon a us)) before → IsProperty names a us vs before after
     → Left names s ts (the.more_properties a vs) g (right_side (the.more_properties a vs)) after
-behind_property {a = a} {vs = vs} l h = record { good = good (the.more_properties a vs); goes = λ answer r. property_goes l h answer r }
+after_property {a = a} {vs = vs} l h = record { good = good (the.more_properties a vs); goes = λ answer r. property_goes l h answer r }
 
 -- a result for the last symbol is a result for the whole
 pub whole : {names : Names} {s : Symbol} {ts : List Terminal} {u : Symbol} {g : Value u → Value s} {mid : List Terminal} {e : ParseFault}

@@ -14,6 +14,7 @@ use Rattle.sparql_expression.specs.ParseResult.{ParseResult, Parses}
 abbrev pub IsElementRun : (names : Names) (es fs : GroupTree) (before after : List Terminal) → Type 0
 IsElementRun names es fs before after = (answer : ParseResult (the.others fs)) → Parses names (the.others fs) after answer → Parses names (the.body es) before answer
 
+-- what the reader of a run returns for the elements that it added
 abbrev pub ParsesElementRun : (names : Names) (es fs : GroupTree) → List Terminal → Result (Bor (List Token)) ParseFault → Type 0
 ParsesElementRun names es fs before (Ok after) = IsElementRun names es fs before (terminals after.now)
 ParsesElementRun names es fs before (Err e) = Parses names (the.body es) before (Err e)

@@ -17,6 +17,7 @@ pub record IsObject (names : Names) (a b : PatternTerm) (ts us : List Triple) (b
   pub reads : Parses names the.pattern_term before (Ok (object, after))
   pub triples : us ≡ and_triple ts a b object
 
+-- what the reader of one object returns
 abbrev pub ParsesObject : (names : Names) (a b : PatternTerm) (ts us : List Triple) → List Terminal → Result (Bor (List Token)) ParseFault → Type 0
 ParsesObject names a b ts us before (Ok after) = IsObject names a b ts us before (terminals after.now)
 ParsesObject names a b ts us before (Err e) = Parses names the.pattern_term before (Err e)
@@ -27,6 +28,7 @@ abbrev pub IsProperty : (names : Names) (a : PatternTerm) (ts us : List Triple) 
 IsProperty names a ts us before after = (answer : ParseResult (the.more_properties a us)) → Parses names (the.more_properties a us) after answer
     → Parses names (the.after_semicolon a ts) before answer
 
+-- what the reader of the text after `;` returns
 abbrev pub ParsesProperty : (names : Names) (a : PatternTerm) (ts us : List Triple) → List Terminal → Result (Bor (List Token)) ParseFault → Type 0
 ParsesProperty names a ts us before (Ok after) = IsProperty names a ts us before (terminals after.now)
 ParsesProperty names a ts us before (Err e) = Parses names (the.after_semicolon a ts) before (Err e)

@@ -42,10 +42,12 @@ IsParsed names ts (Err Memory) = Unit {0}
 abbrev pub IsDeclaration : (names : Names) (before after : List Terminal) → Type 0
 IsDeclaration names before after = (answer : ParseResult the.query) → Parses names the.query after answer → Parses names the.declared before answer
 
+-- what the reader of one [6] PrefixDecl returns
 abbrev pub ParsesDeclaration : (names : Names) → List Terminal → Result (Bor (List Token)) ParseFault → Type 0
 ParsesDeclaration names before (Ok after) = IsDeclaration names before (terminals after.now)
 ParsesDeclaration names before (Err e) = Parses names the.declared before (Err e)
 
+-- what the reader of the number after LIMIT or OFFSET returns
 abbrev pub ParsesCount : (names : Names) → List Terminal → Result (ℕ × Bor (List Token)) ParseFault → Type 0
 ParsesCount names before (Ok p) = Taken names count before p.0 (terminals p.1.now)
 ParsesCount names before (Err Syntax) = Untaken names count before

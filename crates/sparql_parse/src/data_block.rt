@@ -70,9 +70,9 @@ fn read_column<'t, 'a>(
             let variables = vec![in alloc; variable]?;
             return Ok((Element::Values(variables, rows), after));
         }
-        let (cell, behind) = read_cell(alloc, names, rest)?;
+        let (cell, remaining) = read_cell(alloc, names, rest)?;
         rows.push(vec![in alloc; cell]?)?;
-        rest = behind;
+        rest = remaining;
     }
 }
 
@@ -88,9 +88,9 @@ fn read_heading<'t, 'a>(
         return Err(ParseFault::Syntax);
     };
     let mut heading = Vec::new(alloc);
-    'variables: while let Some((variable, behind)) = accept_variable(alloc, rest)? {
+    'variables: while let Some((variable, remaining)) = accept_variable(alloc, rest)? {
         heading.push(variable)?;
-        rest = behind;
+        rest = remaining;
     }
     let Some(after) = accept(rest, Sign::CloseParenthesis) else {
         return Err(ParseFault::Syntax);
@@ -116,12 +116,12 @@ fn read_rows<'t, 'a>(
         if let Some(after) = accept(rest, Sign::CloseBrace) {
             return Ok((Element::Values(heading, rows), after));
         }
-        let (row, behind) = read_row(alloc, names, rest)?;
+        let (row, remaining) = read_row(alloc, names, rest)?;
         if row.len() != heading.len() {
             return Err(ParseFault::Syntax);
         }
         rows.push(row)?;
-        rest = behind;
+        rest = remaining;
     }
 }
 
@@ -142,9 +142,9 @@ fn read_row<'t, 'a>(
         if let Some(after) = accept(rest, Sign::CloseParenthesis) {
             return Ok((cells, after));
         }
-        let (cell, behind) = read_cell(alloc, names, rest)?;
+        let (cell, remaining) = read_cell(alloc, names, rest)?;
         cells.push(cell)?;
-        rest = behind;
+        rest = remaining;
     }
 }
 

@@ -33,12 +33,12 @@ pub fn read_group<'t, 'a>(
     let mut elements = Vec::new(alloc);
     let mut rest = read_run(alloc, names, &mut elements, inside)?;
     'elements: loop {
-        if let Some(behind) = accept(rest, Sign::CloseBrace) {
-            return Ok((elements, behind));
+        if let Some(remaining) = accept(rest, Sign::CloseBrace) {
+            return Ok((elements, remaining));
         }
-        let (element, behind) = read_other(alloc, names, rest)?;
+        let (element, remaining) = read_other(alloc, names, rest)?;
         elements.push(element)?;
-        rest = read_run(alloc, names, &mut elements, skip_dot(behind))?;
+        rest = read_run(alloc, names, &mut elements, skip_dot(remaining))?;
     }
 }
 
@@ -83,12 +83,12 @@ fn read_other<'t, 'a>(
     ensures shorter { IfOk result (λ p. length p.1.now < length tokens.now) }
 {
     if let Some(after) = accept_word(tokens, Keyword::Optional) {
-        let (inner, behind) = read_group(alloc, names, after)?;
-        return Ok((Element::Optional(inner), behind));
+        let (inner, remaining) = read_group(alloc, names, after)?;
+        return Ok((Element::Optional(inner), remaining));
     }
     if let Some(after) = accept_word(tokens, Keyword::Minus) {
-        let (inner, behind) = read_group(alloc, names, after)?;
-        return Ok((Element::Minus(inner), behind));
+        let (inner, remaining) = read_group(alloc, names, after)?;
+        return Ok((Element::Minus(inner), remaining));
     }
     if let Some(after) = accept_word(tokens, Keyword::Graph) {
         return read_named_graph(alloc, names, after);
@@ -112,9 +112,9 @@ fn read_unions<'t, 'a>(
     let (first, mut rest) = read_group(alloc, names, tokens)?;
     let mut left = Element::Group(first);
     'groups: while let Some(after) = accept_word(rest, Keyword::Union) {
-        let (right, behind) = read_group(alloc, names, after)?;
+        let (right, remaining) = read_group(alloc, names, after)?;
         left = Element::Union(Box::new(alloc, left)?, right);
-        rest = behind;
+        rest = remaining;
     }
     Ok((left, rest))
 }
@@ -130,8 +130,8 @@ fn read_named_graph<'t, 'a>(
     ensures shorter { IfOk result (λ p. length p.1.now < length tokens.now) }
 {
     let (name, rest) = read_graph_name(alloc, names, tokens)?;
-    let (inner, behind) = read_group(alloc, names, rest)?;
-    Ok((Element::Graph(name, inner), behind))
+    let (inner, remaining) = read_group(alloc, names, rest)?;
+    Ok((Element::Graph(name, inner), remaining))
 }
 
 /// Reads a [107] VarOrIri.
@@ -162,8 +162,8 @@ fn read_simple<'t, 'a>(
     ensures shorter { IfOk result (λ p. length p.1.now < length tokens.now) }
 {
     if let Some(after) = accept_word(tokens, Keyword::Filter) {
-        let (condition, behind) = read_condition(alloc, names, after)?;
-        return Ok((Element::Filter(condition), behind));
+        let (condition, remaining) = read_condition(alloc, names, after)?;
+        return Ok((Element::Filter(condition), remaining));
     }
     if let Some(after) = accept_word(tokens, Keyword::Bind) {
         return read_binding(alloc, names, after);
@@ -205,10 +205,10 @@ fn read_binding<'t, 'a>(
     let Some(after) = accept_word(rest, Keyword::As) else {
         return Err(ParseFault::Syntax);
     };
-    let Some((variable, behind)) = accept_variable(alloc, after)? else {
+    let Some((variable, remaining)) = accept_variable(alloc, after)? else {
         return Err(ParseFault::Syntax);
     };
-    let Some(end) = accept(behind, Sign::CloseParenthesis) else {
+    let Some(end) = accept(remaining, Sign::CloseParenthesis) else {
         return Err(ParseFault::Syntax);
     };
     Ok((Element::Bind(value, variable), end))

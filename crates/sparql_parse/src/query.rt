@@ -81,10 +81,10 @@ fn read_select_query<'t, 'a>(
     let Some(after) = accept_word(tokens, Keyword::Select) else {
         return Err(ParseFault::Syntax);
     };
-    let Some(behind) = accept_word(after, Keyword::Distinct) else {
+    let Some(remaining) = accept_word(after, Keyword::Distinct) else {
         return read_selected(alloc, names, false, after);
     };
-    read_selected(alloc, names, true, behind)
+    read_selected(alloc, names, true, remaining)
 }
 
 /// Reads a query after SELECT and DISTINCT.
@@ -103,9 +103,9 @@ fn read_selected<'t, 'a>(
         return Err(ParseFault::Syntax);
     };
     let mut variables = vec![in alloc; first]?;
-    'variables: while let Some((variable, behind)) = accept_variable(alloc, rest)? {
+    'variables: while let Some((variable, remaining)) = accept_variable(alloc, rest)? {
         variables.push(variable)?;
-        rest = behind;
+        rest = remaining;
     }
     read_pattern(
         alloc,
@@ -142,8 +142,8 @@ fn read_pattern_group<'t, 'a>(
 ) -> Result<(Select, &'t [Token<'a>]), ParseFault>
     ensures reads { Parses names.now (the.pattern_group distinct (selection_of selection)) (terminals tokens.now) (seen select_of result) }
 {
-    let (group, behind) = read_group(alloc, names, tokens)?;
-    let ((limit, offset), rest) = read_modifiers(behind)?;
+    let (group, remaining) = read_group(alloc, names, tokens)?;
+    let ((limit, offset), rest) = read_modifiers(remaining)?;
     let query = Select {
         distinct,
         selection,
@@ -161,17 +161,17 @@ fn read_modifiers<'t, 'a>(
     ensures reads { (names : Names) → Parses names the.modifiers (terminals tokens.now) (seen (λ v. v) result) }
 {
     if let Some(after) = accept_word(tokens, Keyword::Limit) {
-        let (limit, behind) = read_count(after)?;
-        let Some(after_offset) = accept_word(behind, Keyword::Offset) else {
-            return Ok(((Some(limit), None), behind));
+        let (limit, remaining) = read_count(after)?;
+        let Some(after_offset) = accept_word(remaining, Keyword::Offset) else {
+            return Ok(((Some(limit), None), remaining));
         };
         let (offset, rest) = read_count(after_offset)?;
         return Ok(((Some(limit), Some(offset)), rest));
     }
     if let Some(after) = accept_word(tokens, Keyword::Offset) {
-        let (offset, behind) = read_count(after)?;
-        let Some(after_limit) = accept_word(behind, Keyword::Limit) else {
-            return Ok(((None, Some(offset)), behind));
+        let (offset, remaining) = read_count(after)?;
+        let Some(after_limit) = accept_word(remaining, Keyword::Limit) else {
+            return Ok(((None, Some(offset)), remaining));
         };
         let (limit, rest) = read_count(after_limit)?;
         return Ok(((Some(limit), Some(offset)), rest));

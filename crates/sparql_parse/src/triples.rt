@@ -70,14 +70,14 @@ fn starts_verb(tokens: &[Token]) -> bool
     }
 }
 
-/// Returns the label of an [163] ANON with `behind` tokens after it. It occurs nowhere else in the
-/// text.
-fn anonymous_label(alloc: Global, behind: usize) -> Result<Text, AllocError>
-    ensures label { IfOk result (λ label. label ≡ anonymous_label behind) }
+/// Returns the label of an [163] ANON with `remaining` tokens after it. It occurs nowhere else in
+/// the text.
+fn anonymous_label(alloc: Global, remaining: usize) -> Result<Text, AllocError>
+    ensures label { IfOk result (λ label. label ≡ anonymous_label remaining) }
 {
     let mut label = String::from_str(alloc, "[")?;
     let mut buffer = Buffer::new();
-    label.push_str(buffer.format(behind as u64))?;
+    label.push_str(buffer.format(remaining as u64))?;
     Ok(Text::from_string(label))
 }
 
@@ -208,8 +208,8 @@ fn read_same_subject<'t, 'a>(
     ensures reads { Parses names.now (the.same_subject triples.old.items) (terminals tokens.now) (seen_out triples.new.items result) }
     ensures shorter { IfOk result (λ rest. length rest.now < length tokens.now) }
 {
-    let (subject, behind) = read_pattern_term(alloc, names, tokens)?;
-    let mut rest = read_property(alloc, names, &subject, triples, behind)?;
+    let (subject, remaining) = read_pattern_term(alloc, names, tokens)?;
+    let mut rest = read_property(alloc, names, &subject, triples, remaining)?;
     'properties: while let Some(after) = accept(rest, Sign::Semicolon) {
         rest = read_other_property(alloc, names, &subject, triples, after)?;
     }

@@ -27,11 +27,11 @@ pub group_rest : (es : List Element) (i : ℕ) → group_of es ≡ onto (group_o
 group_rest es i = ap group_of (sym (take-append-drop i es)) ∙ group_append (take i es) (drop i es)
 
 -- the elements of the model for some elements of the code
-pub union_stands_for : (left : Box Element Global) (es : Vec Element Global) → element_of (views.Union left es) ≡ union (element_of left.value) (group_of es.items)
-union_stands_for left es = ap element_of (sym (variants.rolls-Union left es)) ∙ fold-roll-Element ElementTree element_step (Element-F.Union left es)
+pub union_denotes : (left : Box Element Global) (es : Vec Element Global) → element_of (views.Union left es) ≡ union (element_of left.value) (group_of es.items)
+union_denotes left es = ap element_of (sym (variants.rolls-Union left es)) ∙ fold-roll-Element ElementTree element_step (Element-F.Union left es)
 
-pub graph_stands_for : (name : GraphName) (es : Vec Element Global) → element_of (views.Graph name es) ≡ graph name (group_of es.items)
-graph_stands_for name es = ap element_of (sym (variants.rolls-Graph name es)) ∙ fold-roll-Element ElementTree element_step (Element-F.Graph name es)
+pub graph_denotes : (name : GraphName) (es : Vec Element Global) → element_of (views.Graph name es) ≡ graph name (group_of es.items)
+graph_denotes name es = ap element_of (sym (variants.rolls-Graph name es)) ∙ fold-roll-Element ElementTree element_step (Element-F.Graph name es)
 
 -- the left side is no larger than the whole
 pub union_deeper : (left : Box Element Global) (es : Vec Element Global) → size-Element left.value ≤ size-Element (views.Union left es)

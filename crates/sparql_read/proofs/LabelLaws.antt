@@ -9,9 +9,9 @@ use Rattle.sparql_tree.specs.declared.group.Element.{Element}
 use Rattle.sparql_tree.specs.GroupTree.{GroupTree, ElementTree, then, onto, triples, group, union, optional, minus, graph, filter, bind, values, element_of, group_of}
 use Rattle.sparql_read.specs.NameSet.{HaveSame, is_among}
 use Rattle.sparql_read.specs.BlankReuse.{basic_patterns, closed_patterns, ends_run, labels_of, open_after, open_pattern, patterns_inside, shares_labels, triple_labels}
-use Rattle.sparql_read.specs.LabelSteps.{AddsElement, AddsLabels, AddsPatterns, IsOpenRun, closed_by, run_of, stands_among}
+use Rattle.sparql_read.specs.LabelSteps.{AddsElement, AddsLabels, AddsPatterns, IsOpenRun, closed_by, run_of, occurs_among}
 use Rattle.sparql_read.proofs.GroupLaws.{group_more, group_rest}
-use Rattle.sparql_read.proofs.SetLaws.{bytes_eq_sym, same_back, same_behind, same_front, same_refl, same_then, same_trans, same_turned}
+use Rattle.sparql_read.proofs.SetLaws.{bytes_eq_sym, same_back, same_swapped, same_front, same_refl, same_then, same_trans, same_turned}
 
 true_false : true ≡ false → ⊥
 true_false h = cc
@@ -30,40 +30,40 @@ or_right : (a : Bool) {b : Bool} → b ≡ true → (a || b) ≡ true
 or_right true e = refl
 or_right false e = e
 
-pub stands_append : (xs ls ms : List (List ℕ)) → stands_among xs (ls ++ ms) ≡ (stands_among xs ls || stands_among xs ms)
-stands_append xs ls ms = list_any-append (λ l. is_among l xs) ls ms
+pub occurs_append : (xs ls ms : List (List ℕ)) → occurs_among xs (ls ++ ms) ≡ (occurs_among xs ls || occurs_among xs ms)
+occurs_append xs ls ms = list_any-append (λ l. is_among l xs) ls ms
 
-pub stands_same : {xs ys : List (List ℕ)} → HaveSame xs ys → (ls : List (List ℕ)) → stands_among xs ls ≡ stands_among ys ls
-stands_same h [] = refl
-stands_same h (l ∷ ls) = rw (h.each l, stands_same h ls) refl
+pub occurs_same : {xs ys : List (List ℕ)} → HaveSame xs ys → (ls : List (List ℕ)) → occurs_among xs ls ≡ occurs_among ys ls
+occurs_same h [] = refl
+occurs_same h (l ∷ ls) = rw (h.each l, occurs_same h ls) refl
 
 -- labels are added, and then others
 pub labels_then : (xs us vs ls ms ns : List (List ℕ)) (b : Bool) → AddsLabels xs us true ls ms → AddsLabels xs vs b ms ns → AddsLabels xs (us ++ vs) b ls ns
-labels_then xs us vs ls ms ns true g h = (stands_append xs us vs ∙ or_both g.0 h.0, same_then ls us vs g.1 h.1)
-labels_then xs us vs ls ms ns false g h = stands_append xs us vs ∙ or_right (stands_among xs us) h
+labels_then xs us vs ls ms ns true g h = (occurs_append xs us vs ∙ or_both g.0 h.0, same_then ls us vs g.1 h.1)
+labels_then xs us vs ls ms ns false g h = occurs_append xs us vs ∙ or_right (occurs_among xs us) h
 
 -- a label of one of the triples occurs in an earlier pattern
-pub triple_clash : (xs : List (List ℕ)) (ts : List Triple) (i : ℕ) (t : Triple) → i < length ts → t ≡ get_or ts i t → stands_among xs (triple_labels t) ≡ true → stands_among xs (labels_of ts) ≡ true
+pub triple_clash : (xs : List (List ℕ)) (ts : List Triple) (i : ℕ) (t : Triple) → i < length ts → t ≡ get_or ts i t → occurs_among xs (triple_labels t) ≡ true → occurs_among xs (labels_of ts) ≡ true
 triple_clash xs ts i t below is h =
     let e : labels_of (take (i + 1) ts) ≡ labels_of (take i ts) ++ (triple_labels t ++ []) =
     ap labels_of (take_more ts i t below ∙ ap (λ u. take i ts ++ u ∷ []) (sym is)) ∙ flat_map-append triple_labels (take i ts) (t ∷ []) in
-    ap (λ us. stands_among xs (labels_of us)) (sym (take-append-drop (i + 1) ts))
-    ∙ (ap (stands_among xs) (flat_map-append triple_labels (take (i + 1) ts) (drop (i + 1) ts))
-    ∙ (stands_append xs (labels_of (take (i + 1) ts)) (labels_of (drop (i + 1) ts))
-    ∙ or_left (stands_among xs (labels_of (drop (i + 1) ts)))
-    (ap (stands_among xs) e ∙ (stands_append xs (labels_of (take i ts)) (triple_labels t ++ []) ∙ or_right (stands_among xs (labels_of (take i ts))) (stands_append xs (triple_labels t) [] ∙ or_left false h)))))
+    ap (λ us. occurs_among xs (labels_of us)) (sym (take-append-drop (i + 1) ts))
+    ∙ (ap (occurs_among xs) (flat_map-append triple_labels (take (i + 1) ts) (drop (i + 1) ts))
+    ∙ (occurs_append xs (labels_of (take (i + 1) ts)) (labels_of (drop (i + 1) ts))
+    ∙ or_left (occurs_among xs (labels_of (drop (i + 1) ts)))
+    (ap (occurs_among xs) e ∙ (occurs_append xs (labels_of (take i ts)) (triple_labels t ++ []) ∙ or_right (occurs_among xs (labels_of (take i ts))) (occurs_append xs (triple_labels t) [] ∙ or_left false h)))))
 
 -- the result depends only on which labels occur in the earlier patterns
 pub shares_same : {xs ys : List (List ℕ)} → HaveSame xs ys → (ps : List (List Triple)) → shares_labels xs ps ≡ shares_labels ys ps
 shares_same h [] = refl
-shares_same h (p ∷ ps) = rw (stands_same h (labels_of p), shares_same (same_front (labels_of p) h) ps) refl
+shares_same h (p ∷ ps) = rw (occurs_same h (labels_of p), shares_same (same_front (labels_of p) h) ps) refl
 
 -- patterns followed by other patterns
 pub shares_append : (xs : List (List ℕ)) (ps qs : List (List Triple)) → shares_labels xs (ps ++ qs) ≡ (shares_labels xs ps || shares_labels (xs ++ flat_map labels_of ps) qs)
 shares_append xs [] qs = ap (λ ys. shares_labels ys qs) (sym (append-nil xs))
 shares_append xs (p ∷ ps) qs =
     rw (shares_append (xs ++ labels_of p) ps qs, append_assoc xs (labels_of p) (flat_map labels_of ps))
-    (sym (or_assoc (stands_among xs (labels_of p)) (shares_labels (xs ++ labels_of p) ps) (shares_labels (xs ++ (labels_of p ++ flat_map labels_of ps)) qs)))
+    (sym (or_assoc (occurs_among xs (labels_of p)) (shares_labels (xs ++ labels_of p) ps) (shares_labels (xs ++ (labels_of p ++ flat_map labels_of ps)) qs)))
 
 -- patterns are added, and then others
 pub patterns_then : (xs : List (List ℕ)) {ys zs : List (List ℕ)} (ps qs : List (List Triple)) → AddsPatterns ps true xs ys → AddsPatterns qs true ys zs → AddsPatterns (ps ++ qs) true xs zs
@@ -108,11 +108,11 @@ element_runs_on e true xs ls ms h a = λ us r.
       nothing_added,
       subst (IsOpenRun xs ms) (sym (goes_on us e (sym h))) (record {
         same = subst (HaveSame ms) (sym (flat_map-append triple_labels us (run_of e))) (same_trans a.1 (same_front (labels_of (run_of e)) r.same));
-        apart = ap (stands_among xs) (flat_map-append triple_labels us (run_of e)) ∙ (stands_append xs (labels_of us) (labels_of (run_of e)) ∙ or_both r.apart a.0);
+        apart = ap (occurs_among xs) (flat_map-append triple_labels us (run_of e)) ∙ (occurs_append xs (labels_of us) (labels_of (run_of e)) ∙ or_both r.apart a.0);
       }),
     )
 element_runs_on e false xs ls ms h a = λ us r.
-    rw (sym h) (or_left false (ap (λ us. stands_among xs (labels_of us)) (goes_on us e (sym h)) ∙ (ap (stands_among xs) (flat_map-append triple_labels us (run_of e)) ∙ (stands_append xs (labels_of us) (labels_of (run_of e)) ∙ or_right (stands_among xs (labels_of us)) a))))
+    rw (sym h) (or_left false (ap (λ us. occurs_among xs (labels_of us)) (goes_on us e (sym h)) ∙ (ap (occurs_among xs) (flat_map-append triple_labels us (run_of e)) ∙ (occurs_append xs (labels_of us) (labels_of (run_of e)) ∙ or_right (occurs_among xs (labels_of us)) a))))
 
 -- an element that ends the run
 new_run : (us : List Triple) (e : ElementTree) → ends_run e ≡ true → open_after us e ≡ []
@@ -153,7 +153,7 @@ plain false h = h
 
 -- a label that occurs in two patterns of a group does so with further elements, too
 clash_goes_on : (xs : List (List ℕ)) (us : List Triple) (e : ElementTree) → shares_labels xs (us ∷ []) ≡ true → shares_labels xs (closed_by us e ++ open_after us e ∷ []) ≡ true
-clash_goes_on xs us (triples ts) h = or_left false (ap (stands_among xs) (flat_map-append triple_labels us ts) ∙ (stands_append xs (labels_of us) (labels_of ts) ∙ or_left (stands_among xs (labels_of ts)) (plain (stands_among xs (labels_of us)) h)))
+clash_goes_on xs us (triples ts) h = or_left false (ap (occurs_among xs) (flat_map-append triple_labels us ts) ∙ (occurs_append xs (labels_of us) (labels_of ts) ∙ or_left (occurs_among xs (labels_of ts)) (plain (occurs_among xs (labels_of us)) h)))
 clash_goes_on xs us (filter e) h = h
 clash_goes_on xs us (group g) h = first_clash xs (us ∷ []) (patterns_inside (group g) ++ [] ∷ []) h
 clash_goes_on xs us (union e g) h = first_clash xs (us ∷ []) (patterns_inside (union e g) ++ [] ∷ []) h
@@ -205,38 +205,38 @@ or_parts false true true d = refl
 or_parts false true false d = refl
 or_parts false false c d = refl
 
-stands_over : (xs ys ls : List (List ℕ)) → stands_among (xs ++ ys) ls ≡ (stands_among xs ls || stands_among ys ls)
-stands_over xs ys [] = refl
-stands_over xs ys (l ∷ ls) =
-    ap (λ b. b || stands_among (xs ++ ys) ls) (list_any-append (bytes_eq l) xs ys)
-    ∙ (ap (λ b. (is_among l xs || is_among l ys) || b) (stands_over xs ys ls)
-    ∙ or_parts (is_among l xs) (is_among l ys) (stands_among xs ls) (stands_among ys ls))
+occurs_over : (xs ys ls : List (List ℕ)) → occurs_among (xs ++ ys) ls ≡ (occurs_among xs ls || occurs_among ys ls)
+occurs_over xs ys [] = refl
+occurs_over xs ys (l ∷ ls) =
+    ap (λ b. b || occurs_among (xs ++ ys) ls) (list_any-append (bytes_eq l) xs ys)
+    ∙ (ap (λ b. (is_among l xs || is_among l ys) || b) (occurs_over xs ys ls)
+    ∙ or_parts (is_among l xs) (is_among l ys) (occurs_among xs ls) (occurs_among ys ls))
 
-stands_nowhere : (ls : List (List ℕ)) → stands_among [] ls ≡ false
-stands_nowhere [] = refl
-stands_nowhere (l ∷ ls) = stands_nowhere ls
+occurs_nowhere : (ls : List (List ℕ)) → occurs_among [] ls ≡ false
+occurs_nowhere [] = refl
+occurs_nowhere (l ∷ ls) = occurs_nowhere ls
 
-stands_alone : (l : List ℕ) (xs : List (List ℕ)) → stands_among (l ∷ []) xs ≡ is_among l xs
-stands_alone l [] = refl
-stands_alone l (x ∷ xs) =
-    ap (λ b. (b || false) || stands_among (l ∷ []) xs) (bytes_eq_sym x l)
-    ∙ (plain_first (bytes_eq l x) (stands_among (l ∷ []) xs) ∙ ap (λ b. bytes_eq l x || b) (stands_alone l xs))
+occurs_alone : (l : List ℕ) (xs : List (List ℕ)) → occurs_among (l ∷ []) xs ≡ is_among l xs
+occurs_alone l [] = refl
+occurs_alone l (x ∷ xs) =
+    ap (λ b. (b || false) || occurs_among (l ∷ []) xs) (bytes_eq_sym x l)
+    ∙ (plain_first (bytes_eq l x) (occurs_among (l ∷ []) xs) ∙ ap (λ b. bytes_eq l x || b) (occurs_alone l xs))
 
-stands_turned : (xs ls : List (List ℕ)) → stands_among xs ls ≡ stands_among ls xs
-stands_turned xs [] = sym (stands_nowhere xs)
-stands_turned xs (l ∷ ls) =
-    ap (λ b. is_among l xs || b) (stands_turned xs ls)
-    ∙ (ap (λ b. b || stands_among ls xs) (sym (stands_alone l xs)) ∙ sym (stands_over (l ∷ []) ls xs))
+occurs_turned : (xs ls : List (List ℕ)) → occurs_among xs ls ≡ occurs_among ls xs
+occurs_turned xs [] = sym (occurs_nowhere xs)
+occurs_turned xs (l ∷ ls) =
+    ap (λ b. is_among l xs || b) (occurs_turned xs ls)
+    ∙ (ap (λ b. b || occurs_among ls xs) (sym (occurs_alone l xs)) ∙ sym (occurs_over (l ∷ []) ls xs))
 
-shares_over : (xs ys : List (List ℕ)) (ps : List (List Triple)) → shares_labels (xs ++ ys) ps ≡ (shares_labels xs ps || stands_among ys (flat_map labels_of ps))
+shares_over : (xs ys : List (List ℕ)) (ps : List (List Triple)) → shares_labels (xs ++ ys) ps ≡ (shares_labels xs ps || occurs_among ys (flat_map labels_of ps))
 shares_over xs ys [] = refl
 shares_over xs ys (p ∷ ps) =
     let ls = labels_of p in
     let ms = flat_map labels_of ps in
-    ap (λ b. b || shares_labels ((xs ++ ys) ++ ls) ps) (stands_over xs ys ls)
-    ∙ (ap (λ b. (stands_among xs ls || stands_among ys ls) || b) (shares_same (same_behind xs ys ls) ps ∙ shares_over (xs ++ ls) ys ps)
-    ∙ (or_parts (stands_among xs ls) (stands_among ys ls) (shares_labels (xs ++ ls) ps) (stands_among ys ms)
-    ∙ ap (λ b. (stands_among xs ls || shares_labels (xs ++ ls) ps) || b) (sym (stands_append ys ls ms))))
+    ap (λ b. b || shares_labels ((xs ++ ys) ++ ls) ps) (occurs_over xs ys ls)
+    ∙ (ap (λ b. (occurs_among xs ls || occurs_among ys ls) || b) (shares_same (same_swapped xs ys ls) ps ∙ shares_over (xs ++ ls) ys ps)
+    ∙ (or_parts (occurs_among xs ls) (occurs_among ys ls) (shares_labels (xs ++ ls) ps) (occurs_among ys ms)
+    ∙ ap (λ b. (occurs_among xs ls || shares_labels (xs ++ ls) ps) || b) (sym (occurs_append ys ls ms))))
 
 or_turned : (a b c : Bool) → (a || (b || c)) ≡ (b || (a || c))
 or_turned true true c = refl
@@ -249,8 +249,8 @@ shares_turned xs ps qs =
     let ms = flat_map labels_of qs in
     shares_append xs ps qs
     ∙ (ap (λ b. shares_labels xs ps || b) (shares_over xs ls qs)
-    ∙ (or_turned (shares_labels xs ps) (shares_labels xs qs) (stands_among ls ms)
-    ∙ (ap (λ b. shares_labels xs qs || (shares_labels xs ps || b)) (stands_turned ls ms)
+    ∙ (or_turned (shares_labels xs ps) (shares_labels xs qs) (occurs_among ls ms)
+    ∙ (ap (λ b. shares_labels xs qs || (shares_labels xs ps || b)) (occurs_turned ls ms)
     ∙ (ap (λ b. shares_labels xs qs || b) (sym (shares_over xs ms ps)) ∙ sym (shares_append xs qs ps)))))
 
 -- patterns are added, and then those before them
@@ -266,5 +266,5 @@ patterns_before false ps qs xs ys zs g h = shares_turned xs ps qs ∙ patterns_c
 pub last_clash : (xs : List (List ℕ)) (ps qs : List (List Triple)) → shares_labels xs qs ≡ true → shares_labels xs (ps ++ qs) ≡ true
 last_clash xs ps qs h = shares_turned xs ps qs ∙ first_clash xs qs ps h
 
-pub pattern_clash : (ts : List Triple) (xs : List (List ℕ)) → stands_among xs (labels_of ts) ≡ true → shares_labels xs (ts ∷ []) ≡ true
+pub pattern_clash : (ts : List Triple) (xs : List (List ℕ)) → occurs_among xs (labels_of ts) ≡ true → shares_labels xs (ts ∷ []) ≡ true
 pattern_clash ts xs h = or_left false h

@@ -3,5 +3,5 @@ pub mod GroupLaws
 pub mod PrologueSteps
 pub mod ScopeSteps
 pub mod LabelLaws
-pub mod RefusalLaws
-pub mod AnswerLaws
+pub mod RejectionLaws
+pub mod ResultLaws

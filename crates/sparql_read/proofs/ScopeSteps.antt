@@ -79,8 +79,8 @@ scope_before true e g xs ys zs h k = (
 )
 scope_before false e g xs ys zs h k = first (breaks_inside e) _ k
 
-pub scope_behind_broken : (e : ElementTree) (g : GroupTree) → breaks_bind_scope g ≡ true → breaks_inside (union e g) ≡ true
-scope_behind_broken e g h = either_true (breaks_inside e) h
+pub scope_after_broken : (e : ElementTree) (g : GroupTree) → breaks_bind_scope g ≡ true → breaks_inside (union e g) ≡ true
+scope_after_broken e g h = either_true (breaks_inside e) h
 
 pub scope_named : (b : Bool) (i : GraphName) (g : GroupTree) (xs ys zs : List Name) → HaveSame ys (xs ++ graph_names i) → AddsScope (group g) b ys zs → AddsScope (graph i g) b xs zs
 scope_named true i g xs ys zs h k = (k.0, same_then xs (graph_names i) (element_names false (group g)) h k.1)

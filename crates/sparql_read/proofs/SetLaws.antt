@@ -67,18 +67,18 @@ or_turned true false = refl
 or_turned false true = refl
 or_turned false false = refl
 
-or_behind : (a b c : Bool) → ((a || b) || c) ≡ ((a || c) || b)
-or_behind true b c = refl
-or_behind false b c = or_turned b c
+or_swapped : (a b c : Bool) → ((a || b) || c) ≡ ((a || c) || b)
+or_swapped true b c = refl
+or_swapped false b c = or_turned b c
 
 -- the order of two lists of names does not matter
 pub same_turned : (us vs : List (List ℕ)) → HaveSame (us ++ vs) (vs ++ us)
 same_turned us vs = record { each = λ x. list_any-append (bytes_eq x) us vs ∙ (or_turned (is_among x us) (is_among x vs) ∙ sym (list_any-append (bytes_eq x) vs us)) }
 
-pub same_behind : (xs us vs : List (List ℕ)) → HaveSame ((xs ++ us) ++ vs) ((xs ++ vs) ++ us)
-same_behind xs us vs = record {
+pub same_swapped : (xs us vs : List (List ℕ)) → HaveSame ((xs ++ us) ++ vs) ((xs ++ vs) ++ us)
+same_swapped xs us vs = record {
   each = λ x.
       list_any-append (bytes_eq x) (xs ++ us) vs ∙ (ap (λ b. b || is_among x vs) (list_any-append (bytes_eq x) xs us)
-      ∙ (or_behind (is_among x xs) (is_among x us) (is_among x vs)
+      ∙ (or_swapped (is_among x xs) (is_among x us) (is_among x vs)
       ∙ sym (list_any-append (bytes_eq x) (xs ++ vs) us ∙ ap (λ b. b || is_among x us) (list_any-append (bytes_eq x) xs vs))));
 }

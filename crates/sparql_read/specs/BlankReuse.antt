@@ -14,6 +14,7 @@ place_labels (place.Variable x) = []
 place_labels (place.Blank l) = l ∷ []
 place_labels (place.Term t) = []
 
+-- the labels of a triple, in the order of the text
 abbrev pub triple_labels : Triple → List (List ℕ)
 triple_labels t = place_labels t.subject ++ (place_labels t.predicate ++ place_labels t.object)
 
@@ -69,6 +70,7 @@ abbrev mutual
 abbrev pub basic_patterns : GroupTree → List (List Triple)
 basic_patterns g = closed_patterns g ++ open_pattern g ∷ []
 
+-- the labels of a basic graph pattern
 abbrev pub labels_of : List Triple → List (List ℕ)
 labels_of ts = flat_map triple_labels ts
 

@@ -15,10 +15,15 @@ open_after (kind.Sign sign.CloseBrace) n = n - 1
 open_after (kind.Sign sign.CloseParenthesis) n = n - 1
 open_after _ n = n
 
--- more than 100 brackets are open at some place, with n open brackets before the terminals
+-- the maximum number of brackets that may be open at once
+abbrev pub max_depth : ℕ
+max_depth = 100
+
+-- more brackets are open at some place, with n open brackets before the terminals
 abbrev pub goes_over : ℕ → List Terminal → Bool
 goes_over n [] = false
-goes_over n (terminal k x ∷ ts) = nat_lt 100 (open_after k n) || goes_over (open_after k n) ts
+goes_over n (terminal k x ∷ ts) = nat_lt max_depth (open_after k n) || goes_over (open_after k n) ts
 
+-- more brackets are open at some place of the text
 abbrev pub is_too_deep : List Terminal → Bool
 is_too_deep ts = goes_over 0 ts

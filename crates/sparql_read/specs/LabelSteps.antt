@@ -14,14 +14,14 @@ AddsPatterns ps true xs ys = (shares_labels xs ps ≡ false) × HaveSame ys (xs 
 AddsPatterns ps false xs ys = shares_labels xs ps ≡ true
 
 -- one of the labels occurs in an earlier pattern
-abbrev pub stands_among : List (List ℕ) → List (List ℕ) → Bool
-stands_among before ls = list_any (λ l. is_among l before) ls
+abbrev pub occurs_among : List (List ℕ) → List (List ℕ) → Bool
+occurs_among before ls = list_any (λ l. is_among l before) ls
 
 -- The labels of the open pattern before and after others are added. The result is true if none of
 -- the others occurs in an earlier pattern.
 abbrev pub AddsLabels : List (List ℕ) → List (List ℕ) → Bool → List (List ℕ) → List (List ℕ) → Type 0
-AddsLabels before ls true xs ys = (stands_among before ls ≡ false) × HaveSame ys (xs ++ ls)
-AddsLabels before ls false xs ys = stands_among before ls ≡ true
+AddsLabels before ls true xs ys = (occurs_among before ls ≡ false) × HaveSame ys (xs ++ ls)
+AddsLabels before ls false xs ys = occurs_among before ls ≡ true
 
 -- the triples with which an element continues the run before it
 abbrev pub run_of : ElementTree → List Triple
@@ -35,7 +35,7 @@ closed_by us e = cond (ends_run e) (us ∷ patterns_inside e) []
 -- these are the labels of the run, and none of them occurs in an earlier pattern
 pub record IsOpenRun (earlier labels : List (List ℕ)) (us : List Triple) : Type 0 where
   pub same : HaveSame labels (labels_of us)
-  pub apart : stands_among earlier (labels_of us) ≡ false
+  pub apart : occurs_among earlier (labels_of us) ≡ false
 
 -- the labels of the earlier patterns and of the run, before and after an element
 abbrev pub AddsElement : ElementTree → Bool → List (List ℕ) → List (List ℕ) → List (List ℕ) → List (List ℕ) → Type 0

@@ -3,6 +3,7 @@ use Rattle.std.specs.Prelude.{ℕ, List, [], ◌∷◌, Option, Some, None}
 use Rattle.sparql_lexer.specs.Terminal.{Terminal, terminal}
 use Rattle.sparql_grammar.specs.Class.{variable_of}
 
+-- the name, if there is one, before the others
 abbrev pub and_name : Option (List ℕ) → List (List ℕ) → List (List ℕ)
 and_name None xs = xs
 and_name (Some x) xs = x ∷ xs

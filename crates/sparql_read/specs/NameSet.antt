@@ -3,6 +3,7 @@ use Rattle.std.specs.Prelude.{◌≡◌, ℕ, List, Bool}
 use Rattle.std.specs.List.{list_any}
 use Rattle.std.specs.Str.{bytes_eq}
 
+-- the name is in the set
 abbrev pub is_among : List ℕ → List (List ℕ) → Bool
 is_among x xs = list_any (bytes_eq x) xs
 

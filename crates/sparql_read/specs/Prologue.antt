@@ -11,14 +11,17 @@ use Rattle.sparql_lexer.specs.Values.{iri_value}
 use Rattle.sparql_grammar.specs.Values.{Names, prefix_of, declaration_of}
 use Rattle.sparql_grammar.specs.declared.declarations.Declaration.{Declaration}
 
+-- 'PREFIX'
 abbrev pub is_prefix_word : Kind → Bool
 is_prefix_word (kind.Keyword word.Prefix) = true
 is_prefix_word _ = false
 
+-- [140] PNAME_NS
 abbrev pub is_namespace : Kind → Bool
 is_namespace kind.PrefixedNamespace = true
 is_namespace _ = false
 
+-- [139] IRIREF
 abbrev pub is_reference : Kind → Bool
 is_reference kind.IriRef = true
 is_reference _ = false
@@ -40,6 +43,7 @@ declaration_at (terminal k w ∷ (terminal l x ∷ (terminal m i ∷ ts))) =
     if is_prefix_word k && (is_namespace l && is_reference m) then declared x (iri_value i) else None
 declaration_at _ = None
 
+-- the declaration, if there is one, before the others
 abbrev pub and_declared : Option Declaration → Names → Names
 and_declared None ns = ns
 and_declared (Some d) ns = d ∷ ns
@@ -50,6 +54,7 @@ abbrev pub declared_onto : Names → List Terminal → Names
 declared_onto ns [] = ns
 declared_onto ns (t ∷ ts) = declared_onto (and_declared (declaration_at (t ∷ ts)) ns) ts
 
+-- the declarations among the terminals, the last one first
 abbrev pub declarations : List Terminal → Names
 declarations ts = declared_onto [] ts
 

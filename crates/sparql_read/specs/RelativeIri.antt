@@ -7,6 +7,7 @@ use Rattle.sparql_lexer.specs.declared.token.Kind.TheVariants as kind
 use Rattle.sparql_lexer.specs.Terminal.{Terminal, terminal}
 use Rattle.sparql_grammar.specs.Class.{reference_of}
 
+-- an IRI is relative if it has no scheme
 abbrev pub lacks_scheme : Option (List ℕ) → Bool
 lacks_scheme None = false
 lacks_scheme (Some i) = not (has_scheme i)

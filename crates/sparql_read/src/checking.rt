@@ -28,7 +28,7 @@ pub(crate) fn check_rules(
     group: &[Element],
 ) -> Result<(), QueryFault>
     requires names { names.now ≡ declarations (terminals tokens.now) }
-    ensures judged { IsChecked (terminals tokens.now) (group_of group.now) result }
+    ensures checked { IsChecked (terminals tokens.now) (group_of group.now) result }
 {
     if has_undefined_prefix(alloc, names, tokens)? {
         return Err(QueryFault::UndefinedPrefix);

@@ -2,7 +2,7 @@
 
 ghost use Rattle.std.specs.Prelude.{◌≡◌, ◌≤◌};
 ghost use Rattle.sparql_lexer.specs.Terminal.{terminals};
-ghost use Rattle.sparql_read.specs.Depth.{is_too_deep, open_after};
+ghost use Rattle.sparql_read.specs.Depth.{is_too_deep, max_depth, open_after};
 
 use sparql_lexer::{Kind, Sign, Token};
 
@@ -11,7 +11,7 @@ const MAX_DEPTH: usize = 100;
 
 /// Returns the number of open brackets after a terminal, given the number before it.
 fn open_after(kind: Kind, depth: usize) -> usize
-    requires room { depth ≤ 100 }
+    requires room { depth ≤ max_depth }
     ensures value { result ≡ open_after kind depth }
 {
     match kind {

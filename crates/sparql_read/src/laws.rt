@@ -17,7 +17,7 @@ pub fn one_tree()
 {}
 
 /// A text has at most one result, apart from `Memory`: one query, or one rule that rejects it.
-pub fn one_answer()
+pub fn one_result()
     ensures unique { (text : List ℕ) (r s : Result QueryTree QueryFault)
         → IsReadResult text r → IsReadResult text s
         → (r ≡ Err Memory → ⊥) → (s ≡ Err Memory → ⊥) → r ≡ s }

@@ -3,7 +3,7 @@
 //! [`read_query`] is the main call. It returns the syntax tree that the grammar derives from the
 //! text, a [`Query`], whose types this crate re-exports. If a rule rejects the text, it returns the
 //! first such rule as a [`QueryFault`] (`IsReadResult` of specs/Rejection.antt). The law [`one_tree`]
-//! states that a text derives at most one query, rejected or not. The law [`one_answer`] states
+//! states that a text derives at most one query, rejected or not. The law [`one_result`] states
 //! that a text has at most one result, apart from `Memory`.
 //!
 //! These calls check a rule each:
@@ -27,7 +27,7 @@
 //! specs/BindScope.antt, specs/BlankReuse.antt, specs/Derives.antt, specs/Rejection.antt; then
 //! `depth`, `prologue`, `iris`, `name_set`, `scope`, `labels`, `checking`, `reader`, `laws`.
 //!
-//! Tests: `texts` of the crate query_tests; `each_rule_is_answered` has a text for each rule.
+//! Tests: `texts` of the crate query_tests; `each_rule_is_reported` has a text for each rule.
 //!
 //! Not guaranteed: the time that a text takes. By design it is the time to sort its names and to
 //! write the triples of the tree, each of which owns its subject and verb.
@@ -49,7 +49,7 @@ pub use depth::is_too_deep;
 pub use fault::QueryFault;
 pub use iris::has_relative_iri;
 pub use labels::reuses_blank;
-pub use laws::{one_answer, one_tree};
+pub use laws::{one_result, one_tree};
 pub use prologue::{declarations_of, has_undefined_prefix};
 pub use reader::read_query;
 pub use scope::breaks_bind_scope;

@@ -34,7 +34,7 @@ fn check_select(
     requires shallow { is_too_deep (terminals tokens.now) ≡ false }
     requires names { names.now ≡ declarations (terminals tokens.now) }
     requires parsed { IsQuery names.now (terminals tokens.now) (select_of select) }
-    ensures answers { IsReadResult text.now (seen result) }
+    ensures read { IsReadResult text.now (seen result) }
 {
     one_scan();
     one_query();
@@ -65,7 +65,7 @@ fn check_select(
 fn read_whole(alloc: Global, text: &[char], tokens: &[Token<'_>]) -> Result<Query, QueryFault>
     requires scans { Scans text.now (terminals tokens.now) [] }
     requires shallow { is_too_deep (terminals tokens.now) ≡ false }
-    ensures answers { IsReadResult text.now (seen result) }
+    ensures read { IsReadResult text.now (seen result) }
 {
     one_scan();
     let names = declarations_of(alloc, tokens)?;
@@ -85,7 +85,7 @@ fn read_terminals(
     rest: &[char],
 ) -> Result<Query, QueryFault>
     requires scans { Scans text.now (terminals tokens.now) rest.now }
-    ensures answers { IsReadResult text.now (seen result) }
+    ensures read { IsReadResult text.now (seen result) }
 {
     one_scan();
     if is_too_deep(tokens) {
@@ -104,7 +104,7 @@ fn read_terminals(
 /// - The first rule that rejects the text, in the order of [`QueryFault`].
 /// - `Memory` if an allocation fails. It says nothing about the text.
 pub fn read_query(alloc: Global, text: &str) -> Result<Query, QueryFault>
-    ensures answers { IsReadResult (chars text.now) (seen result) }
+    ensures read { IsReadResult (chars text.now) (seen result) }
 {
     let characters = characters_of(alloc, text)?;
     let scan = scan_text(alloc, &characters)?;

@@ -49,5 +49,6 @@ expression_step (Expression-F.Constant t) = constant t
 abbrev pub expression_of : Expression → ExpressionTree
 expression_of = fold-Expression ExpressionTree expression_step
 
+-- the same for a list of expressions
 abbrev pub expressions_of : List Expression → Expressions
 expressions_of es = onto none (map expression_of es)

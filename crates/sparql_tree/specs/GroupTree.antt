@@ -50,5 +50,6 @@ element_step (Element-F.Values xs rows) = values xs.items (map (λ row. row.item
 abbrev pub element_of : Element → ElementTree
 element_of = fold-Element ElementTree element_step
 
+-- the same for a list of elements
 abbrev pub group_of : List Element → GroupTree
 group_of es = onto none (map element_of es)

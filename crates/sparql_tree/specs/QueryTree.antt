@@ -6,6 +6,7 @@ use Rattle.sparql_tree.specs.declared.query.Selection.{Selection}
 use Rattle.sparql_tree.specs.declared.query.Selection.TheVariants.{All, Variables}
 use Rattle.sparql_tree.specs.GroupTree.{GroupTree, group_of}
 
+-- the parts of [7] SelectQuery, and the variables of its text
 pub record QueryTree : Type 0 where
   pub distinct : Bool
   -- the names of the projected variables; None is `*`
@@ -16,6 +17,7 @@ pub record QueryTree : Type 0 where
   -- the name of each variable occurrence, in the order of the text
   pub mentioned : List (List ℕ)
 
+-- the names of the projected variables, or None for `*`
 abbrev pub selection_of : Selection → Option (List (List ℕ))
 selection_of All = None
 selection_of (Variables xs) = Some xs.items

@@ -8,17 +8,21 @@ use Rattle.sparql_tree.specs.declared.group.PatternTerm.TheVariants as place
 use Rattle.sparql_tree.specs.declared.group.Triple.{Triple}
 use Rattle.sparql_tree.specs.GroupTree.{GroupTree, ElementTree, none, then, triples, group, union, optional, minus, graph, filter, bind, values}
 
+-- the name of a variable
 abbrev pub Name : Type 0
 Name = List ℕ
 
+-- the variable of one position of a triple, if it has one
 abbrev pub place_names : PatternTerm → List Name
 place_names (place.Variable x) = x ∷ []
 place_names (place.Blank l) = []
 place_names (place.Term t) = []
 
+-- the variables of a triple, in the order of the text
 abbrev pub triple_names : Triple → List Name
 triple_names t = place_names t.subject ++ (place_names t.predicate ++ place_names t.object)
 
+-- the variable of [58] GraphGraphPattern, if it has one
 abbrev pub graph_names : GraphName → List Name
 graph_names (graph.Variable x) = x ∷ []
 graph_names (graph.Iri t) = []

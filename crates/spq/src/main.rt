@@ -2,9 +2,12 @@
 //!
 //! The document comes on standard input, and the output goes to standard output, also the line of a
 //! fault. The exit status is 0, or that of the fault. All that is promised is promised by `run_words`
-//! and `finish` of `spq_core`; here they meet the words of the command line and the two devices.
+//! and `finish` of `spq_core`; here they meet the arguments and the two devices.
 //! Then `report` of `spq_report` says on standard error why a run failed and where. At a terminal, a thread of
 //! its own shows how far a long run is.
+//!
+//! Tests: `tests/tour.py`, `tests/hostile.py` and `tests/messages.py` run the executable; the crate
+//! program_tests tests `run_words`.
 #![tactic(auto)]
 
 use nquads_core::{Sink, Source};
@@ -23,7 +26,7 @@ use std::{env, thread};
 fn words_of(rt: &HostRuntime) -> Result<Vec<String>, RunFault> {
     let args = match env::args(rt) {
         Ok(args) => args,
-        Err(refused) if refused.kind() == ErrorKind::OutOfMemory => return Err(RunFault::Memory),
+        Err(failed) if failed.kind() == ErrorKind::OutOfMemory => return Err(RunFault::Memory),
         Err(_no_text) => return Err(RunFault::Line),
     };
     let mut words = Vec::new(rt.alloc());
@@ -56,7 +59,7 @@ fn end_without_words(rt: &HostRuntime, fault: RunFault, terminals: Terminals) ->
         write_error: None,
         is_repeated: !terminals.output,
     };
-    let _told = report(&mut rt.stderr(), rt.alloc(), &done, &account);
+    let _reported = report(&mut rt.stderr(), rt.alloc(), &done, &account);
     status
 }
 
@@ -76,7 +79,7 @@ fn end<M: Meter>(
         write_error,
         is_repeated: !terminals.output,
     };
-    let _told = report(&mut rt.stderr(), rt.alloc(), &ran.done, &account);
+    let _reported = report(&mut rt.stderr(), rt.alloc(), &ran.done, &account);
     status
 }
 

@@ -35,14 +35,14 @@ pub enum CommandFault {
     #[error("the command line is none of the program's")]
     Line,
     /// Out of memory.
-    #[error("a growth was refused")]
+    #[error("out of memory")]
     Memory,
 }
 
 impl From<AllocError> for CommandFault {
     ghost from_gives = { λ _ e. e ≡ Memory };
 
-    fn from(_refused: AllocError) -> CommandFault {
+    fn from(_failed: AllocError) -> CommandFault {
         CommandFault::Memory
     }
 }

@@ -91,15 +91,15 @@ printed one q D E names given A S vs offset bytes n g a h bag d v o e =
 
 -- ---- the answer over a document that was loaded
 
-pub answered : DatasetIsSet → BagHasOneList → (q : QueryTree) (doc : List ℕ) (store : StoreView) (bytes : List ℕ) → IsLoaded (lines doc) store
+pub json_of_store : DatasetIsSet → BagHasOneList → (q : QueryTree) (doc : List ℕ) (store : StoreView) (bytes : List ℕ) → IsLoaded (lines doc) store
     → bytes ≡ json (selected_names q) (rows q (quads_at store.dict store.index)) → IsJsonOf doc q bytes
-answered set one q doc store bytes l e = record {
+json_of_store set one q doc store bytes l e = record {
   quads = l.quads;
-  spelled = l.spelled;
+  statements = l.statements;
   printed = e ∙ ap (json (selected_names q)) (same_rows set one q (quads_at store.dict store.index) l.quads l.dataset);
 }
 
 -- the same of bytes that were joined from borrowed blocks
-pub answered_in_blocks : DatasetIsSet → BagHasOneList → (q : QueryTree) (doc : List ℕ) (store : StoreView) (bytes : List ℕ) (lent blocks : List (Vec ℕ Global)) → IsLoaded (lines doc) store
-    → bytes ≡ joined_blocks lent → lent ≡ blocks → joined_blocks blocks ≡ json (selected_names q) (rows q (quads_at store.dict store.index)) → IsJsonOf doc q bytes
-answered_in_blocks set one q doc store bytes lent blocks l j v e = answered set one q doc store bytes l (j ∙ ap joined_blocks v ∙ e)
+pub json_of_blocks : DatasetIsSet → BagHasOneList → (q : QueryTree) (doc : List ℕ) (store : StoreView) (bytes : List ℕ) (borrowed blocks : List (Vec ℕ Global)) → IsLoaded (lines doc) store
+    → bytes ≡ joined_blocks borrowed → borrowed ≡ blocks → joined_blocks blocks ≡ json (selected_names q) (rows q (quads_at store.dict store.index)) → IsJsonOf doc q bytes
+json_of_blocks set one q doc store bytes borrowed blocks l j v e = json_of_store set one q doc store bytes l (j ∙ ap joined_blocks v ∙ e)

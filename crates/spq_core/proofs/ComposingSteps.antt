@@ -25,7 +25,7 @@ module _ {S T : Type 0} (left : S → Option (List ℕ)) (failures : S → Optio
   not_loaded f answerable bad h = record {
     composed = tt;
     query = λ q e. absurd (h.query q (cc));
-    judged_first = inr answerable;
+    query_first = inr answerable;
     answerable = λ e. answerable;
     bad_line = λ n e. bad n (h.bad_line n (cc));
     taken = h.taken;
@@ -43,7 +43,7 @@ module _ {S T : Type 0} (left : S → Option (List ℕ)) (failures : S → Optio
   loaded value answerable part h (Ok blocks) c m = record {
     composed = c;
     query = λ q e. absurd (cc);
-    judged_first = tt;
+    query_first = tt;
     answerable = λ e. answerable;
     bad_line = λ n e. absurd (cc);
     taken = tt;
@@ -56,7 +56,7 @@ module _ {S T : Type 0} (left : S → Option (List ℕ)) (failures : S → Optio
   loaded value answerable part h (Err f) c m = record {
     composed = tt;
     query = λ q e. absurd (cc);
-    judged_first = inr answerable;
+    query_first = inr answerable;
     answerable = λ e. answerable;
     bad_line = λ n e. absurd (cc);
     taken = part;
@@ -93,7 +93,7 @@ pub not_composed : {S K T : Type 0} (left : S → Option (List ℕ)) (failures :
 not_composed left failures held write_failures gives request alone reader reader' writer f h = record {
   done = tt;
   query = λ q e. h.query q (cc);
-  judged_first = h.judged_first;
+  query_first = h.query_first;
   bad_line = λ n e. h.bad_line n (cc);
   taken = h.taken;
   read = λ e. h.read (cc);

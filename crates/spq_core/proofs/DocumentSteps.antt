@@ -24,7 +24,7 @@ use Rattle.sparql_algebra.specs.Names.{selected_names}
 use Rattle.spq_core.specs.Outcome.{rows}
 use Rattle.spq_core.specs.Output.{check, select, terms}
 use Rattle.result_json.specs.Results.{json}
-use Rattle.spq_core.proofs.AnsweringSteps.{answered}
+use Rattle.spq_core.proofs.AnsweringSteps.{json_of_store}
 use Rattle.spq_core.specs.Run.{IsBadLineFrom, IsBadLineOf, IsComposed, IsLoadedFrom}
 
 pub counts_are : (ls : List (List ℕ)) (store : StoreView) (l : load.IsLoaded ls store)
@@ -45,7 +45,7 @@ composed_check left left' store text h e = record {
   doc = h.doc;
   consumed = h.consumed;
   at_end = h.at_end;
-  output = record { quads = h.loaded.quads; spelled = h.loaded.spelled; printed = e ∙ counts_are (lines h.doc) store h.loaded };
+  output = record { quads = h.loaded.quads; statements = h.loaded.statements; printed = e ∙ counts_are (lines h.doc) store h.loaded };
 }
 
 pub composed_terms : (left left' : Option (List ℕ)) (store : StoreView) (dict : List Term) (text : List ℕ) → IsLoadedFrom left left' store
@@ -54,7 +54,7 @@ composed_terms left left' store dict text h d e = record {
   doc = h.doc;
   consumed = h.consumed;
   at_end = h.at_end;
-  output = record { quads = h.loaded.quads; spelled = h.loaded.spelled; printed = e ∙ ap term_lines (d ∙ h.loaded.terms) };
+  output = record { quads = h.loaded.quads; statements = h.loaded.statements; printed = e ∙ ap term_lines (d ∙ h.loaded.terms) };
 }
 
 pub composed_select : DatasetIsSet → BagHasOneList → (left left' : Option (List ℕ)) (query : List ℕ) (q : QueryTree) (store : StoreView) (text : List ℕ) → IsValidQuery (chars query) q → IsLoadedFrom left left' store
@@ -63,7 +63,7 @@ composed_select set one left left' query q store text r h e = record {
   doc = h.doc;
   consumed = h.consumed;
   at_end = h.at_end;
-  output = record { query = q; read = r; answered = answered set one q h.doc store text h.loaded e };
+  output = record { query = q; read = r; results = json_of_store set one q h.doc store text h.loaded e };
 }
 
 -- ---- the first malformed line is the output's

@@ -40,6 +40,7 @@ fault_of_loading (load.BadLine n) = BadLine n
 fault_of_loading load.WorkerRefused = WorkerRefused
 fault_of_loading load.Memory = Memory
 
+-- a fault of the evaluation, under the same name
 abbrev pub fault_of_evaluation : EvalFault → Fault
 fault_of_evaluation eval.WorkerRefused = WorkerRefused
 fault_of_evaluation eval.Memory = Memory

@@ -36,14 +36,14 @@ rows q quads =
 -- statements of its lines.
 pub record IsJsonOf (doc : List ℕ) (query : QueryTree) (bytes : List ℕ) : Type 0 where
   pub quads : List QuadParts
-  pub spelled : HaveStatements (lines doc) quads
+  pub statements : HaveStatements (lines doc) quads
   pub printed : bytes ≡ json (selected_names query) (rows query quads)
 
 -- no rule rejects the text, and the bytes are the JSON of the query that it is
 pub record IsAnswer (doc text bytes : List ℕ) : Type 0 where
   pub query : QueryTree
   pub read : IsValidQuery (chars text) query
-  pub answered : IsJsonOf doc query bytes
+  pub results : IsJsonOf doc query bytes
 
 -- no rule rejects the text, and line n is the first malformed line
 abbrev pub FailsAtLine : List ℕ → List ℕ → ℕ → Type 0

@@ -14,6 +14,7 @@ pub data Request : Type 0 where
   check : Request
   terms : Request
 
+-- what a command requests
 abbrev pub request_of : Command → Request
 request_of (Select text reading rows) = select text
 request_of (Check reading) = check
@@ -22,7 +23,7 @@ request_of (Terms reading) = terms
 -- every line is well-formed, and this is the text of their statements
 pub record IsTextOf (text_of : List QuadParts → List ℕ) (doc text : List ℕ) : Type 0 where
   pub quads : List QuadParts
-  pub spelled : HaveStatements (lines doc) quads
+  pub statements : HaveStatements (lines doc) quads
   pub printed : text ≡ text_of quads
 
 -- the text of the quads, or the first malformed line
@@ -31,6 +32,7 @@ IsListing text_of doc (Ok text) = IsTextOf text_of doc text
 IsListing text_of doc (Err (query f)) = ⊥
 IsListing text_of doc (Err (bad_line n)) = IsBadLine (lines doc) n
 
+-- the output of a request for a document, or what is wrong with one of them
 abbrev pub IsOutput : Request → List ℕ → Result (List ℕ) Failure → Type 0
 IsOutput (select text) doc result = IsQueryResult doc text result
 IsOutput check doc result = IsListing counts_of doc result

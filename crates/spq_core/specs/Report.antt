@@ -21,6 +21,7 @@ query_line BlankReuse = codes "error: query blank label\n"
 query_line TooDeep = codes "error: query depth\n"
 query_line query_fault.Memory = codes "error: memory\n"
 
+-- the line of a fault
 abbrev pub fault_line : RunFault → List ℕ
 fault_line (BadLine n) = codes "error: line " ++ (decimal n ++ codes "\n")
 fault_line (Query f) = query_line f
@@ -30,6 +31,7 @@ fault_line Memory = codes "error: memory\n"
 fault_line Read = codes "error: input\n"
 fault_line Write = codes "error: output\n"
 
+-- the status of a rejected query
 abbrev pub query_status : QueryFault → ℕ
 query_status Syntax = 2
 query_status UndefinedPrefix = 2
@@ -39,6 +41,7 @@ query_status BlankReuse = 2
 query_status TooDeep = 2
 query_status query_fault.Memory = 4
 
+-- the exit status of a fault
 abbrev pub status_of : RunFault → ℕ
 status_of (BadLine n) = 1
 status_of (Query f) = query_status f

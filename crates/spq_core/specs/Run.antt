@@ -25,6 +25,7 @@ use Rattle.sparql_read.specs.Rejection.{IsValidQuery, IsRejectedBy}
 use Rattle.spq_core.specs.declared.program.RunFault.{RunFault}
 use Rattle.spq_core.specs.declared.program.RunFault.TheVariants.{Query, BadLine, WorkerRefused, Memory, Read, Write, Line}
 
+-- a fault of `answer`, under the same name
 abbrev pub run_fault_of : Fault → RunFault
 run_fault_of (fault.Query f) = Query f
 run_fault_of (fault.BadLine n) = BadLine n
@@ -132,7 +133,7 @@ pub record IsComposing {S : Type 0} (left : S → Option (List ℕ)) (read_failu
     (result : Result (Vec (Vec ℕ Global) Global) RunFault) : Type 0 where
   pub composed : IfOk result (λ blocks. IsComposed request (left reader) (left reader') (joined_blocks blocks.items))
   pub query : (f : QueryFault) → result ≡ Err (Query f) → IsQueryOf request f × (reader' ≡ reader)
-  pub judged_first : OnErr result ((reader' ≡ reader) ⊎ IsAnswerable request)
+  pub query_first : OnErr result ((reader' ≡ reader) ⊎ IsAnswerable request)
   pub answerable : result ≡ Err WorkerRefused → IsAnswerable request
   pub bad_line : (n : ℕ) → result ≡ Err (BadLine n) → IsBadLineOf request (left reader) (left reader') n
   pub taken : OnErr result (IsReadInPart (left reader) (left reader'))
@@ -153,7 +154,7 @@ pub record IsRun {S K T : Type 0} (left : S → Option (List ℕ)) (read_failure
   pub done : OnOk result (IsDone request (left reader) (left reader') (held writer) (held writer'))
   -- the query is rejected before anything is read
   pub query : (f : QueryFault) → result ≡ Err (Query f) → IsQueryOf request f × (reader' ≡ reader)
-  pub judged_first : OnErr result ((reader' ≡ reader) ⊎ IsAnswerable request)
+  pub query_first : OnErr result ((reader' ≡ reader) ⊎ IsAnswerable request)
   -- the first malformed line, and all was read
   pub bad_line : (n : ℕ) → result ≡ Err (BadLine n) → IsBadLineOf request (left reader) (left reader') n
   -- what was taken from the reader, and whether it failed

@@ -23,7 +23,7 @@ IsWordsFault words Line = (command : Command) → IsCommandLine words command �
 pub record IsNotRun {S K T : Type 0} (words : List (List ℕ)) (reader reader' : S)
     (writer writer' : K) (result : Result T RunFault) : Type 0 where
   pub fault : RunFault
-  pub refused : result ≡ Err fault
+  pub failed : result ≡ Err fault
   pub cause : IsWordsFault words fault
   pub unread : reader' ≡ reader
   pub unwritten : writer' ≡ writer
@@ -41,7 +41,7 @@ pub record IsRunOf {S K T : Type 0} (left : S → Option (List ℕ)) (read_failu
     (gives : K → List ℕ → Result ℕ DeviceFailed → K → Type 0) (words : List (List ℕ))
     (reader reader' : S) (writer writer' : K) (result : Result T RunFault) : Type 0 where
   pub command : Command
-  pub told : IsCommandLine words command
+  pub command_line : IsCommandLine words command
   pub run : IsRun left read_failures held write_failures gives (request_of command) reader reader' writer writer' result
   pub alone : IsDoneAlone command → result ≡ Err WorkerRefused → ⊥
   pub unread : IsByOneWorker command → result ≡ Err WorkerRefused → reader' ≡ reader

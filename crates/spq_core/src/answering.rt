@@ -38,7 +38,7 @@ use std::thread::Threads;
 /// - `Memory` if an allocation fails. It says nothing of the text.
 pub fn valid_query(alloc: Global, text: &str) -> Result<Query, Fault>
     ensures query { IfOk result (λ q. IsValidQuery (chars text.now) (query_of q)) }
-    ensures refused { IfErr result (IsQueryFaultOf text.now) }
+    ensures rejected { IfErr result (IsQueryFaultOf text.now) }
 {
     match read_query(alloc, text) {
         Ok(query) => Ok(query),
@@ -53,7 +53,7 @@ pub fn valid_query(alloc: Global, text: &str) -> Result<Query, Fault>
 /// As `valid_query`.
 pub fn check_query(alloc: Global, text: &str) -> Result<(), Fault>
     ensures query { OnOk result ((q : QueryTree) × IsValidQuery (chars text.now) q) }
-    ensures refused { IfErr result (IsQueryFaultOf text.now) }
+    ensures rejected { IfErr result (IsQueryFaultOf text.now) }
 {
     match valid_query(alloc, text) {
         Ok(_query) => Ok(()),
@@ -169,7 +169,7 @@ pub fn answer<R: Threads + Wait + RandomSource, G: Gate + Sync>(
     requires fits { AreCuts doc.now cuts.now }
     requires how { IsRunnable how.now }
     ensures answer { IfOk result (λ bytes. IsQueryResult doc.now query.now (Ok bytes.items)) }
-    ensures refused { IfErr result (IsFaultOf doc.now query.now) }
+    ensures err { IfErr result (IsFaultOf doc.now query.now) }
     ensures one_worker { HasOneWorker how.now → IfErr result IsOneWorkerFault }
 {
     a_dataset_is_a_set();

@@ -25,7 +25,7 @@ impl From<AllocError> for Fault {
 
     ghost from_gives = { λ _ e. e ≡ Memory };
 
-    fn from(_refused: AllocError) -> Fault {
+    fn from(_failed: AllocError) -> Fault {
         Fault::Memory
     }
 }
@@ -34,10 +34,10 @@ impl From<LoadFault> for Fault {
     ghost use Rattle.std.specs.Prelude.{◌≡◌};
     ghost use Rattle.spq_core.specs.Faults.{fault_of_loading};
 
-    ghost from_gives = { λ refused e. e ≡ fault_of_loading refused };
+    ghost from_gives = { λ failed e. e ≡ fault_of_loading failed };
 
-    fn from(refused: LoadFault) -> Fault {
-        match refused {
+    fn from(failed: LoadFault) -> Fault {
+        match failed {
             LoadFault::BadLine(line) => Fault::BadLine(line),
             LoadFault::WorkerRefused => Fault::WorkerRefused,
             LoadFault::Memory => Fault::Memory,
@@ -49,10 +49,10 @@ impl From<EvalFault> for Fault {
     ghost use Rattle.std.specs.Prelude.{◌≡◌};
     ghost use Rattle.spq_core.specs.Faults.{fault_of_evaluation};
 
-    ghost from_gives = { λ refused e. e ≡ fault_of_evaluation refused };
+    ghost from_gives = { λ failed e. e ≡ fault_of_evaluation failed };
 
-    fn from(refused: EvalFault) -> Fault {
-        match refused {
+    fn from(failed: EvalFault) -> Fault {
+        match failed {
             EvalFault::WorkerRefused => Fault::WorkerRefused,
             EvalFault::Memory => Fault::Memory,
         }

@@ -78,7 +78,7 @@ impl From<AllocError> for RunFault {
 
     ghost from_gives = { λ _ e. e ≡ Memory };
 
-    fn from(_refused: AllocError) -> RunFault {
+    fn from(_failed: AllocError) -> RunFault {
         RunFault::Memory
     }
 }

@@ -148,7 +148,7 @@ pub fn write_fault<K: Sink>(fault: &RunFault, writer: &mut K) -> Result<(), Devi
 pub fn finish<K: Sink>(done: &Result<(), RunFault>, writer: &mut K) -> u8
     ensures status { result ≡ exit_status done.now }
     ensures silent { OnOk done.now (writer.new ≡ writer.old) }
-    ensures told { IfErr done.now (λ fault. WroteOrFailed K.write_gives
+    ensures fault_written { IfErr done.now (λ fault. WroteOrFailed K.write_gives
         (K.failures writer.old) (K.failures writer.new) writer.new
         (K.held writer.old) (K.held writer.new) (fault_line fault)) }
 {

@@ -110,7 +110,7 @@ fn run_if_started<R: Threads + Wait + RandomSource, S: Source, K: Sink, P: Progr
     rt: &R,
     alloc: Global,
     command: &Command,
-    refused: &AtomicBool,
+    not_started: &AtomicBool,
     reader: S,
     writer: K,
     progress: &P,
@@ -120,7 +120,7 @@ fn run_if_started<R: Threads + Wait + RandomSource, S: Source, K: Sink, P: Progr
     ensures unread { IsByOneWorker command.now
         → result.done ≡ Err WorkerRefused → result.reader ≡ reader }
 {
-    if refused.load(Ordering::SeqCst) {
+    if not_started.load(Ordering::SeqCst) {
         return Ran {
             done: Err(RunFault::WorkerRefused),
             reader,
@@ -146,7 +146,7 @@ fn start_and_join<
     alloc: Global,
     command: &'s Command,
     stack: usize,
-    refused: &'s AtomicBool,
+    not_started: &'s AtomicBool,
     reader: S,
     writer: K,
     progress: &'s P,
@@ -162,11 +162,11 @@ fn start_and_join<
         writer: Snapshot::of(&writer),
     };
     let stack = Stack::new().stack_size(stack);
-    let worker = move || run_if_started(rt, alloc, command, refused, reader, writer, progress);
+    let worker = move || run_if_started(rt, alloc, command, not_started, reader, writer, progress);
     match stack.spawn_scoped_with(scope, promise, worker) {
         Ok(thread) => thread.join(rt),
         Err(unstarted) => {
-            refused.store(true, Ordering::SeqCst);
+            not_started.store(true, Ordering::SeqCst);
             (unstarted.value)()
         }
     }
@@ -192,8 +192,8 @@ fn run_apart<
     ensures unread { IsByOneWorker command.now
         → result.done ≡ Err WorkerRefused → result.reader ≡ reader }
 {
-    let refused = AtomicBool::new(false);
-    let refused = &refused;
+    let not_started = AtomicBool::new(false);
+    let not_started = &not_started;
     thread::scope(
         thread::scope_env(),
         rt,
@@ -205,7 +205,15 @@ fn run_apart<
                 → result.done ≡ Err WorkerRefused → result.reader ≡ reader }
         {
             start_and_join(
-                rt, scope, alloc, command, stack, refused, reader, writer, progress,
+                rt,
+                scope,
+                alloc,
+                command,
+                stack,
+                not_started,
+                reader,
+                writer,
+                progress,
             )
         },
     )

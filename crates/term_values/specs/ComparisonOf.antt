@@ -3,6 +3,7 @@ use Rattle.algebra_model.specs.Comparison as comparison
 use Rattle.sparql_tree.specs.declared.expression.Comparison.{Comparison}
 use Rattle.sparql_tree.specs.declared.expression.Comparison.TheVariants.{Equal, NotEqual, Less, Greater, LessOrEqual, GreaterOrEqual}
 
+-- the same operator of the algebra
 abbrev pub comparison_of : Comparison → comparison.Comparison
 comparison_of Equal = comparison.equal
 comparison_of NotEqual = comparison.not_equal

@@ -4,6 +4,7 @@ use Rattle.std.specs.Str.Parse.{digits_value}
 use Rattle.algebra_model.specs.Number.{Number}
 use Rattle.term_values.specs.declared.digits.Digits.{Digits}
 
+-- its sign, its digits, and how many of them follow the decimal point
 abbrev pub number_shown : Digits → Number
 number_shown d = record {
   negative = d.negative;

@@ -5,6 +5,7 @@ use Rattle.term_values.specs.NumberShown.{number_shown}
 use Rattle.term_values.specs.declared.literal.LiteralValue.{LiteralValue}
 use Rattle.term_values.specs.declared.literal.LiteralValue.TheVariants.{Number, Boolean, String, Other}
 
+-- a value of the same kind
 abbrev pub value_shown : LiteralValue → model.LiteralValue
 value_shown (Number d) = number (number_shown d)
 value_shown (Boolean b) = boolean b

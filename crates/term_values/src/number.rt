@@ -146,8 +146,8 @@ fn without_leading_zeros(digits: &[u8]) -> &[u8]
     ensures value { result.now ≡ without_leading_zeros digits.now }
 {
     let mut rest = digits;
-    while let [b'0', behind @ ..] = rest {
-        rest = behind;
+    while let [b'0', remaining @ ..] = rest {
+        rest = remaining;
     }
     rest
 }

@@ -190,7 +190,7 @@ fn played(alloc: Global, n: u64, script: &str) -> Result<(Vec<Option<u64>>, Clos
 
 /// Plays a script, and prints the numbers of its steps, with `-` for none, and the totals of the
 /// closed board.
-fn told(alloc: Global, n: u64, script: &str) -> Result<String, BoardFault>
+fn transcript(alloc: Global, n: u64, script: &str) -> Result<String, BoardFault>
     requires pieces { n ≤ most_pieces }
 {
     let (found, closed) = played(alloc, n, script)?;
@@ -211,7 +211,7 @@ fn told(alloc: Global, n: u64, script: &str) -> Result<String, BoardFault>
 /// A pass sees what the other pass reports, and skips larger numbers.
 #[test]
 fn a_skip_is_above_a_seen_report(rt: HostRuntime) -> Result<(), BoardFault> {
-    let text = told(rt.alloc(), 4, "dDdRlsDLSdDfF")?;
+    let text = transcript(rt.alloc(), 4, "dDdRlsDLSdDfF")?;
     assert!(rt;
         text.as_str() == "0 1 2 1 1 2 3 1 3 - - 1 1 drawn 4 skipped 2 least 1",
         "{text}"
@@ -223,7 +223,7 @@ fn a_skip_is_above_a_seen_report(rt: HostRuntime) -> Result<(), BoardFault> {
 /// the first one.
 #[test]
 fn one_piece_and_two_passes(rt: HostRuntime) -> Result<(), BoardFault> {
-    let text = told(rt.alloc(), 1, "dDrL")?;
+    let text = transcript(rt.alloc(), 1, "dDrL")?;
     assert!(rt;
         text.as_str() == "0 - 0 0 drawn 1 skipped 0 least 0",
         "{text}"

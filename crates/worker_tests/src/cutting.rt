@@ -33,7 +33,7 @@ fn pieces_of_size(alloc: Global, doc: &str, size: usize) -> Result<String, Alloc
 }
 
 #[test]
-fn every_cuts_behind_line_feeds(rt: HostRuntime) -> Result<(), AllocError> {
+fn every_cuts_after_line_feeds(rt: HostRuntime) -> Result<(), AllocError> {
     let cases = [
         (DOCUMENT, 1, "|a\n|b\n|\n|c"),
         (DOCUMENT, 3, "|a\nb\n|\nc"),

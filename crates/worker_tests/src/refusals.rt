@@ -49,7 +49,7 @@ fn print_fault<R: Print>(rt: &R, fault: PoolFault) {
 
 /// Each started worker has been joined, and an error is not replaced by outputs.
 #[test]
-fn a_refused_run_joins_its_workers(rt: HostRuntime) {
+fn a_failed_run_joins_its_workers(rt: HostRuntime) {
     for workers in [1usize, 2, 4] {
         let Some(Outcome::All(outs)) = outcome_of(&rt, rt.alloc(), workers, 100) else {
             panic!(rt; "no results with {workers} workers")
@@ -64,7 +64,7 @@ fn a_refused_run_joins_its_workers(rt: HostRuntime) {
 
 /// No other piece is returned in place of the least faulty one.
 #[test]
-fn a_refused_run_names_no_other_fault(rt: HostRuntime) {
+fn a_failed_run_names_no_other_fault(rt: HostRuntime) {
     for workers in [1usize, 2, 4] {
         let Some(Outcome::First { piece, fault }) = outcome_of(&rt, rt.alloc(), workers, 4) else {
             panic!(rt; "no fault with {workers} workers")

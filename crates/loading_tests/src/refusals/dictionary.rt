@@ -60,7 +60,7 @@ fn is_term_returned(alloc: Global, state: RandomState) -> bool {
 
 /// On error `intern` returns the term, and the dictionary is unchanged.
 #[test]
-fn a_refused_term_comes_back(rt: HostRuntime) {
+fn a_term_that_is_not_added_comes_back(rt: HostRuntime) {
     let Ok(state) = RandomState::new(&rt) else {
         return;
     };
@@ -103,7 +103,7 @@ fn is_absorbed(alloc: Global, state: RandomState) -> bool {
 
 /// On error `absorb` leaves the dictionary unchanged, for any new terms of the other one.
 #[test]
-fn a_refused_absorption_changes_nothing(rt: HostRuntime) {
+fn a_failed_absorption_changes_nothing(rt: HostRuntime) {
     let Ok(state) = RandomState::new(&rt) else {
         return;
     };
@@ -142,7 +142,7 @@ fn is_merged(alloc: Global, state: RandomState) -> bool {
 
 /// On error `merge` drops its pieces, and equal pieces merge.
 #[test]
-fn a_refused_merge_drops_its_pieces(rt: HostRuntime) {
+fn a_failed_merge_drops_its_pieces(rt: HostRuntime) {
     let Ok(state) = RandomState::new(&rt) else {
         return;
     };
@@ -192,7 +192,7 @@ fn is_round_added(alloc: Global, state: RandomState) -> bool {
 
 /// `look_up` only borrows the dictionary. On error `add_piece` leaves dictionary and quads unchanged.
 #[test]
-fn a_refused_round_changes_nothing(rt: HostRuntime) {
+fn a_failed_round_changes_nothing(rt: HostRuntime) {
     let Ok(state) = RandomState::new(&rt) else {
         return;
     };

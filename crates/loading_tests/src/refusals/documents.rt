@@ -127,7 +127,7 @@ fn by_counting<R: Threads + Wait + RandomSource>(
 }
 
 /// Returns whether an allocation or the start of a worker thread failed. Prints it, for the script to see.
-fn is_refused<R: Print>(rt: &R, counts: &Counts) -> bool {
+fn lacks_resources<R: Print>(rt: &R, counts: &Counts) -> bool {
     let what = match counts {
         Err(LoadFault::Memory) => "memory",
         Err(LoadFault::WorkerRefused) => "a worker",
@@ -144,19 +144,19 @@ fn lines_come_to<R: Threads + Wait + RandomSource + Print>(
     alloc: Global,
     doc: &[u8],
     workers: usize,
-    want: Counts,
+    expected: Counts,
 ) -> bool
     requires workers { (1 ≤ workers) × (workers ≤ 64) }
 {
     let gate = Passages::none();
     let mut given = by_lines(rt, alloc, doc, workers, &gate);
-    if is_refused(rt, &given) {
+    if lacks_resources(rt, &given) {
         if !gate.is_balanced() {
             return false;
         }
         given = by_lines(rt, alloc, doc, workers, &gate);
     }
-    given == want && gate.is_balanced()
+    given == expected && gate.is_balanced()
 }
 
 /// Does the same with the document in blocks.
@@ -165,19 +165,19 @@ fn blocks_come_to<R: Threads + Wait + RandomSource + Print>(
     alloc: Global,
     doc: &[u8],
     workers: usize,
-    want: Counts,
+    expected: Counts,
 ) -> bool
     requires workers { (1 ≤ workers) × (workers ≤ 64) }
 {
     let gate = Passages::none();
     let mut given = by_blocks(rt, alloc, doc, workers, &gate);
-    if is_refused(rt, &given) {
+    if lacks_resources(rt, &given) {
         if !gate.is_balanced() {
             return false;
         }
         given = by_blocks(rt, alloc, doc, workers, &gate);
     }
-    given == want && gate.is_balanced()
+    given == expected && gate.is_balanced()
 }
 
 /// Does the same with the document from a reader.
@@ -186,19 +186,19 @@ fn reader_comes_to<R: Threads + Wait + RandomSource + Print>(
     alloc: Global,
     doc: &[u8],
     workers: usize,
-    want: Counts,
+    expected: Counts,
 ) -> bool
     requires workers { (1 ≤ workers) × (workers ≤ 64) }
 {
     let gate = Passages::none();
     let mut given = by_reader(rt, alloc, doc, workers, &gate);
-    if is_refused(rt, &given) {
+    if lacks_resources(rt, &given) {
         if !gate.is_balanced() {
             return false;
         }
         given = by_reader(rt, alloc, doc, workers, &gate);
     }
-    given == want && gate.is_balanced()
+    given == expected && gate.is_balanced()
 }
 
 /// Does the same with a document that is counted.
@@ -207,19 +207,19 @@ fn counting_comes_to<R: Threads + Wait + RandomSource + Print>(
     alloc: Global,
     doc: &[u8],
     workers: usize,
-    want: Counts,
+    expected: Counts,
 ) -> bool
     requires workers { (1 ≤ workers) × (workers ≤ 64) }
 {
     let gate = Passages::none();
     let mut given = by_counting(rt, alloc, doc, workers, &gate);
-    if is_refused(rt, &given) {
+    if lacks_resources(rt, &given) {
         if !gate.is_balanced() {
             return false;
         }
         given = by_counting(rt, alloc, doc, workers, &gate);
     }
-    given == want && gate.is_balanced()
+    given == expected && gate.is_balanced()
 }
 
 /// Does each of these, with one worker and with two.
@@ -227,19 +227,19 @@ fn comes_to<R: Threads + Wait + RandomSource + Print>(
     rt: &R,
     alloc: Global,
     doc: &[u8],
-    want: Counts,
+    expected: Counts,
 ) -> bool {
     for workers in [1, 2] {
-        if !lines_come_to(rt, alloc, doc, workers, want) {
+        if !lines_come_to(rt, alloc, doc, workers, expected) {
             return false;
         }
-        if !blocks_come_to(rt, alloc, doc, workers, want) {
+        if !blocks_come_to(rt, alloc, doc, workers, expected) {
             return false;
         }
-        if !reader_comes_to(rt, alloc, doc, workers, want) {
+        if !reader_comes_to(rt, alloc, doc, workers, expected) {
             return false;
         }
-        if !counting_comes_to(rt, alloc, doc, workers, want) {
+        if !counting_comes_to(rt, alloc, doc, workers, expected) {
             return false;
         }
     }
@@ -248,7 +248,7 @@ fn comes_to<R: Threads + Wait + RandomSource + Print>(
 
 /// A valid document is never rejected, and its counts are always the same.
 #[test]
-fn a_good_document_is_loaded_or_memory_is_refused(rt: HostRuntime) {
+fn a_good_document_is_loaded_or_memory_runs_out(rt: HostRuntime) {
     let alloc = rt.alloc();
     assert!(rt;
         comes_to(&rt, alloc, REPEATED, Ok((2, 4, 0))),
@@ -258,27 +258,27 @@ fn a_good_document_is_loaded_or_memory_is_refused(rt: HostRuntime) {
 }
 
 #[test]
-fn escapes_are_loaded_or_memory_is_refused(rt: HostRuntime) {
+fn escapes_are_loaded_or_memory_runs_out(rt: HostRuntime) {
     assert!(rt; comes_to(&rt, rt.alloc(), TWO_LINES, Ok((2, 5, 0))));
 }
 
 #[test]
-fn typed_literals_are_loaded_or_memory_is_refused(rt: HostRuntime) {
+fn typed_literals_are_loaded_or_memory_runs_out(rt: HostRuntime) {
     assert!(rt; comes_to(&rt, rt.alloc(), TYPED, Ok((6, 9, 0))));
 }
 
 #[test]
-fn plain_literals_are_loaded_or_memory_is_refused(rt: HostRuntime) {
+fn plain_literals_are_loaded_or_memory_runs_out(rt: HostRuntime) {
     assert!(rt; comes_to(&rt, rt.alloc(), NUMBERED, Ok((5, 9, 0))));
 }
 
 #[test]
-fn a_tag_is_loaded_or_memory_is_refused(rt: HostRuntime) {
+fn a_tag_is_loaded_or_memory_runs_out(rt: HostRuntime) {
     assert!(rt; comes_to(&rt, rt.alloc(), TAGGED, Ok((1, 3, 0))));
 }
 
 /// A document with a malformed line is never accepted, and the first malformed line is always the same.
 #[test]
-fn a_bad_document_is_refused_or_memory_is(rt: HostRuntime) {
+fn a_bad_document_is_rejected_or_memory_runs_out(rt: HostRuntime) {
     assert!(rt; comes_to(&rt, rt.alloc(), BAD, Err(LoadFault::BadLine(3))));
 }

@@ -42,7 +42,7 @@ fn is_built(alloc: Global) -> bool {
 
 /// On error `Index::build` drops its list, and an equal list is built.
 #[test]
-fn a_refused_build_drops_its_list(rt: HostRuntime) {
+fn a_failed_build_drops_its_list(rt: HostRuntime) {
     assert!(rt; is_built(rt.alloc()));
 }
 
@@ -70,7 +70,7 @@ fn is_listed(alloc: Global) -> bool {
 
 /// On error `sorted_list` leaves the quads that it borrows, and `of_lists` drops its lists.
 #[test]
-fn a_refused_list_is_sorted_again(rt: HostRuntime) {
+fn a_list_is_sorted_again_after_a_failure(rt: HostRuntime) {
     assert!(rt; is_sorted(rt.alloc()));
     assert!(rt; is_listed(rt.alloc()));
 }

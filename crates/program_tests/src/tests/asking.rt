@@ -86,7 +86,7 @@ pub(crate) fn ran<R: Threads + Wait + RandomSource>(
 }
 
 /// Returns the output of a command, or the line of its fault.
-fn told<R: Threads + Wait + RandomSource>(
+fn output_of<R: Threads + Wait + RandomSource>(
     rt: &R,
     alloc: Global,
     command: &Command,
@@ -109,7 +109,7 @@ pub(crate) fn gives<R: Threads + Wait + RandomSource + Print>(
     doc: &[u8],
     expected: &[u8],
 ) -> bool {
-    let given = told(rt, alloc, command, doc);
+    let given = output_of(rt, alloc, command, doc);
     let is_expected = given.as_slice() == expected;
     if !is_expected {
         print_difference(rt, expected, &given);
@@ -143,7 +143,7 @@ pub(crate) fn json(alloc: Global, vars: &str, bindings: &str) -> Result<Vec<u8>,
 
 /// Returns whether an example has its output for each number of workers, size of blocks and size of
 /// pieces.
-fn is_answered<R: Threads + Wait + RandomSource + Print>(
+fn is_result<R: Threads + Wait + RandomSource + Print>(
     rt: &R,
     alloc: Global,
     example: &Example,
@@ -172,7 +172,7 @@ pub(crate) fn first_wrong<R: Threads + Wait + RandomSource + Print>(
     examples: &[Example],
 ) -> Result<Option<&'static str>, AllocError> {
     for example in examples {
-        if !is_answered(rt, alloc, example)? {
+        if !is_result(rt, alloc, example)? {
             return Ok(Some(example.0));
         }
     }

@@ -158,7 +158,7 @@ const LISTED: [(&str, &str, &str); 5] = [
         "<http://e/a>\n<http://e/p>\n_:o_:g\n",
     ),
     (
-        "a dot behind a tag",
+        "a dot after a tag",
         "<http://e/a> <http://e/p> \"x\"@en-GB.\n",
         "<http://e/a>\n<http://e/p>\n\"x\"@en-gb\n",
     ),
@@ -199,7 +199,7 @@ const NOT_SELECTED: [(&str, &str, &str); 3] = [
 ];
 
 #[test]
-fn a_bad_line_refuses_a_select(rt: HostRuntime) {
+fn a_bad_line_fails_a_select(rt: HostRuntime) {
     for (query, doc, expected) in NOT_SELECTED {
         let command = select(rt.alloc(), query, WHOLE);
         assert!(rt;
@@ -231,7 +231,7 @@ fn expected_of_prefix(count: usize) -> &'static [u8] {
 }
 
 #[test]
-fn every_front_of_a_document_is_judged(rt: HostRuntime) {
+fn every_front_of_a_document_is_checked(rt: HostRuntime) {
     for count in 0..TWICE.len() + 1 {
         assert!(rt;
             gives(

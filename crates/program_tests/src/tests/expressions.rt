@@ -37,7 +37,7 @@ const FILTERS: [Example; 9] = [
         "{}",
     ),
     (
-        "what an error leaves open is bound behind it",
+        "what an error leaves open is bound after it",
         BLANK,
         "SELECT ?y { ?s ?p ?o BIND(STR(?s) AS ?y) ?z <http://e/p> ?y }",
         "'y'",

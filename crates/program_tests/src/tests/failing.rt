@@ -18,7 +18,7 @@ const OUTPUT: &[u8] =
     b"{\"head\":{\"vars\":[\"o\"]},\"results\":{\"bindings\":[{\"o\":{\"type\":\"uri\",\"value\":\"http://e/b\"}},{\"o\":{\"type\":\"literal\",\"value\":\"x\"}}]}}\n";
 
 /// Returns whether a select over devices of the standard library has its output.
-fn is_answered_by_std<R: Threads + Wait + RandomSource>(rt: &R, alloc: Global, way: Way) -> bool {
+fn agrees_with_std<R: Threads + Wait + RandomSource>(rt: &R, alloc: Global, way: Way) -> bool {
     let command = select(alloc, OBJECTS, way);
     let mut reader = Device {
         inner: REPEATED.as_bytes(),
@@ -34,7 +34,7 @@ fn is_answered_by_std<R: Threads + Wait + RandomSource>(rt: &R, alloc: Global, w
 #[test]
 fn devices_that_count_no_failures_do_not_fail(rt: HostRuntime) {
     for way in [WHOLE, (2, 1, 1)] {
-        assert!(rt; is_answered_by_std(&rt, rt.alloc(), way), "{way:?}");
+        assert!(rt; agrees_with_std(&rt, rt.alloc(), way), "{way:?}");
     }
 }
 
@@ -49,7 +49,7 @@ struct Ended {
     /// The number of calls of the reader.
     reads: usize,
     /// The exit status of the program, and whether the line that it prints is the expected one.
-    told: (u8, bool),
+    reported: (u8, bool),
 }
 
 /// Runs a select. `line` is the line to expect if it fails.
@@ -75,7 +75,7 @@ fn run_select<R: Threads + Wait + RandomSource>(
         },
         failed: (reader.failed, writer.failed),
         reads: reader.calls,
-        told: (status, last.bytes.as_slice() == line),
+        reported: (status, last.bytes.as_slice() == line),
     }
 }
 
@@ -101,7 +101,7 @@ fn a_writer_that_takes_nothing_has_failed(rt: HostRuntime) {
         end.done == Err(RunFault::Write)
             && end.written == Some(0)
             && end.failed == (0, 0)
-            && end.told == (5, true),
+            && end.reported == (5, true),
         "{end:?}"
     );
 }
@@ -116,7 +116,7 @@ fn each_read_that_fails_writes_nothing(rt: HostRuntime) {
             end.done == Err(RunFault::Read)
                 && end.written == Some(0)
                 && end.failed == (1, 0)
-                && end.told == (5, true),
+                && end.reported == (5, true),
             "the read after {k} bytes: {end:?}"
         );
     }
@@ -138,7 +138,7 @@ fn a_bad_query_reads_nothing(rt: HostRuntime) {
     assert!(rt;
         end.done == Err(RunFault::Query(QueryFault::Syntax))
             && end.reads == 0
-            && end.told == (2, true),
+            && end.reported == (2, true),
         "{end:?}"
     );
 }
@@ -190,13 +190,13 @@ fn run_sample<R: Threads + Wait + RandomSource>(
 }
 
 /// Checks a command with each of its reads failing in turn. The command must end at once with the
-/// fault `wanted`. Only the bytes of the reads before are taken from the reader, and nothing is
+/// fault `expected`. Only the bytes of the reads before are taken from the reader, and nothing is
 /// written.
-fn tells_each_failed_read<R: Threads + Wait + RandomSource>(
+fn reports_each_failed_read<R: Threads + Wait + RandomSource>(
     rt: &R,
     alloc: Global,
     sample: Sample<'_>,
-    wanted: Result<(), RunFault>,
+    expected: Result<(), RunFault>,
 ) -> bool {
     let doc = sample.1;
     for k in 0..MANY {
@@ -204,10 +204,10 @@ fn tells_each_failed_read<R: Threads + Wait + RandomSource>(
         let end = run_sample(rt, alloc, sample, reader, VecSink::new(alloc, 1000));
         let read = (CHUNK * k).min(doc.len());
         if end.failed_reads == 0 {
-            return end.done == wanted && end.reads == k && read == doc.len();
+            return end.done == expected && end.reads == k && read == doc.len();
         }
-        let is_told = end.done == Err(RunFault::Read) && end.reads == k + 1;
-        if !is_told || end.rest != doc.len() - read || end.writes > 0 {
+        let is_reported = end.done == Err(RunFault::Read) && end.reads == k + 1;
+        if !is_reported || end.rest != doc.len() - read || end.writes > 0 {
             return false;
         }
     }
@@ -217,7 +217,7 @@ fn tells_each_failed_read<R: Threads + Wait + RandomSource>(
 /// Checks a command with each of its writes failing in turn. The command must end at once, with the
 /// document read to its end. The bytes written before are a prefix of the output that grows from
 /// one write to the next.
-fn tells_each_failed_write<R: Threads + Wait + RandomSource>(
+fn reports_each_failed_write<R: Threads + Wait + RandomSource>(
     rt: &R,
     alloc: Global,
     sample: Sample<'_>,
@@ -252,7 +252,7 @@ fn tells_each_failed_write<R: Threads + Wait + RandomSource>(
 }
 
 /// Returns whether a command reports each failing call, of its reader and of its writer.
-fn tells_each_failed_call<R: Threads + Wait + RandomSource>(
+fn reports_each_failed_call<R: Threads + Wait + RandomSource>(
     rt: &R,
     alloc: Global,
     command: &Command,
@@ -260,34 +260,35 @@ fn tells_each_failed_call<R: Threads + Wait + RandomSource>(
     output: &[u8],
 ) -> bool {
     let sample = (command, doc.as_bytes(), output);
-    tells_each_failed_read(rt, alloc, sample, Ok(())) && tells_each_failed_write(rt, alloc, sample)
+    reports_each_failed_read(rt, alloc, sample, Ok(()))
+        && reports_each_failed_write(rt, alloc, sample)
 }
 
 #[test]
-fn each_call_of_a_select_that_fails_is_told(rt: HostRuntime) {
+fn each_call_of_a_select_that_fails_is_reported(rt: HostRuntime) {
     for way in [WHOLE, (2, 1, 1)] {
         let command = select(rt.alloc(), OBJECTS, way);
         assert!(rt;
-            tells_each_failed_call(&rt, rt.alloc(), &command, REPEATED, OUTPUT),
+            reports_each_failed_call(&rt, rt.alloc(), &command, REPEATED, OUTPUT),
             "{way:?}"
         );
     }
 }
 
 #[test]
-fn each_call_of_a_check_that_fails_is_told(rt: HostRuntime) {
+fn each_call_of_a_check_that_fails_is_reported(rt: HostRuntime) {
     let output = b"ok 3 quads 7 terms 2 graphs\n";
-    assert!(rt; tells_each_failed_call(&rt, rt.alloc(), &check(2, 1), GRAPHS, output));
+    assert!(rt; reports_each_failed_call(&rt, rt.alloc(), &check(2, 1), GRAPHS, output));
     let bad = b"<http://e/a> <http://e/p> <http://e/b> .\nx\n".as_slice();
     let sample = (&check(2, 1), bad, b"".as_slice());
     assert!(rt;
-        tells_each_failed_read(&rt, rt.alloc(), sample, Err(RunFault::BadLine(2))),
+        reports_each_failed_read(&rt, rt.alloc(), sample, Err(RunFault::BadLine(2))),
         "a malformed document"
     );
 }
 
 #[test]
-fn each_call_of_a_list_of_terms_that_fails_is_told(rt: HostRuntime) {
+fn each_call_of_a_list_of_terms_that_fails_is_reported(rt: HostRuntime) {
     let output = b"<http://e/a>\n<http://e/p>\n_:b\n<http://e/q>\n\"\xC3\xA9\\n\"@en\n";
-    assert!(rt; tells_each_failed_call(&rt, rt.alloc(), &terms(1, 65536), TWO_LINES, output));
+    assert!(rt; reports_each_failed_call(&rt, rt.alloc(), &terms(1, 65536), TWO_LINES, output));
 }

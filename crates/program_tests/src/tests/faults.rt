@@ -53,7 +53,7 @@ const FAULTS: [(RunFault, u8, &str); 14] = [
 
 /// Prints the status and the line of a fault, from `status` and `write_fault`, and then from
 /// `finish`.
-fn told(alloc: Global, fault: RunFault) -> Result<String, AllocError> {
+fn fault_text(alloc: Global, fault: RunFault) -> Result<String, AllocError> {
     let mut written = VecSink::new(alloc, 1000);
     if write_fault(&fault, &mut written).is_err() {
         return String::from_str(alloc, "not written");
@@ -69,24 +69,29 @@ fn told(alloc: Global, fault: RunFault) -> Result<String, AllocError> {
 }
 
 /// Returns whether a fault has this status and this line.
-fn is_told(alloc: Global, fault: RunFault, wanted: u8, line: &str) -> Result<bool, AllocError> {
-    Ok(told(alloc, fault)? == format!(in alloc; "{wanted} {line}{wanted} {line}")?)
+fn is_written(
+    alloc: Global,
+    fault: RunFault,
+    expected: u8,
+    line: &str,
+) -> Result<bool, AllocError> {
+    Ok(fault_text(alloc, fault)? == format!(in alloc; "{expected} {line}{expected} {line}")?)
 }
 
 #[test]
-fn faults_are_told(rt: HostRuntime) -> Result<(), AllocError> {
-    for (fault, wanted, line) in FAULTS {
+fn faults_are_written(rt: HostRuntime) -> Result<(), AllocError> {
+    for (fault, expected, line) in FAULTS {
         assert!(rt;
-            is_told(rt.alloc(), fault, wanted, line)?,
-            "expected {wanted} {line}, got {:?}",
-            told(rt.alloc(), fault)
+            is_written(rt.alloc(), fault, expected, line)?,
+            "expected {expected} {line}, got {:?}",
+            fault_text(rt.alloc(), fault)
         );
     }
     Ok(())
 }
 
 #[test]
-fn an_end_without_a_fault_is_told_by_nothing(rt: HostRuntime) {
+fn an_end_without_a_fault_writes_nothing(rt: HostRuntime) {
     let mut writer = VecSink::new(rt.alloc(), 1000);
     let end = finish(&Ok(()), &mut writer);
     assert!(rt; end == 0 && writer.bytes.is_empty(), "status {end}");

@@ -106,7 +106,7 @@ const PATTERNS: [Example; 14] = [
 ];
 
 #[test]
-fn patterns_are_answered(rt: HostRuntime) -> Result<(), AllocError> {
+fn patterns_are_evaluated(rt: HostRuntime) -> Result<(), AllocError> {
     let wrong = first_wrong(&rt, rt.alloc(), &PATTERNS)?;
     assert!(rt; wrong.is_none(), "{wrong:?}");
     Ok(())

@@ -9,7 +9,7 @@ use std::thread::Threads;
 
 /// Returns whether a query has this output, over the empty document and over one whose first line
 /// is malformed.
-fn is_told<R: Threads + Wait + RandomSource + Print>(
+fn gives_line<R: Threads + Wait + RandomSource + Print>(
     rt: &R,
     alloc: Global,
     query: &str,
@@ -94,9 +94,9 @@ const REJECTED: [(&str, &str, &str); 14] = [
 ];
 
 #[test]
-fn the_first_rule_is_told(rt: HostRuntime) {
+fn the_first_rule_is_reported(rt: HostRuntime) {
     for (name, query, expected) in REJECTED {
-        assert!(rt; is_told(&rt, rt.alloc(), query, expected), "{name}");
+        assert!(rt; gives_line(&rt, rt.alloc(), query, expected), "{name}");
     }
 }
 
@@ -151,7 +151,7 @@ fn is_rejected<R: Threads + Wait + RandomSource + Print>(
     (parts, count, expected): Nested,
 ) -> Result<bool, AllocError> {
     let query = nested(alloc, parts, count)?;
-    Ok(is_told(rt, alloc, query.as_str(), expected))
+    Ok(gives_line(rt, alloc, query.as_str(), expected))
 }
 
 /// Queries with 100 open brackets, the largest number that is accepted.
@@ -195,7 +195,7 @@ fn no_front_of_a_query_is_one(rt: HostRuntime) {
     for count in 0..query.len() {
         if let Ok(front) = str::from_utf8(&query.as_bytes()[..count]) {
             assert!(rt;
-                is_told(&rt, rt.alloc(), front, "error: query syntax\n"),
+                gives_line(&rt, rt.alloc(), front, "error: query syntax\n"),
                 "the first {count} bytes"
             );
         }

@@ -79,7 +79,7 @@ const REJECTED: [(&[&str], RunFault); 4] = [
 ];
 
 #[test]
-fn words_that_are_refused_write_nothing(rt: HostRuntime) {
+fn words_that_are_rejected_write_nothing(rt: HostRuntime) {
     for (line, fault) in REJECTED {
         assert!(rt; end_so(&rt, rt.alloc(), line, Err(fault), b""), "{line:?}");
     }

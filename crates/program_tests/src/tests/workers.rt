@@ -61,14 +61,14 @@ fn two_pieces_of_a_document_are_read_at_once(rt: HostRuntime) -> Result<(), Faul
 /// A gate at which piece 2 waits until piece 3 has left, for at most 10,000,000 turns. A fault in
 /// piece 3 is thus found before one in piece 2.
 #[derive(Drop)]
-struct ThirdBehindFourth {
+struct ThirdAfterFourth {
     left: AtomicU64,
     late: AtomicU64,
 }
 
-impl ThirdBehindFourth {
-    fn fresh() -> ThirdBehindFourth {
-        ThirdBehindFourth {
+impl ThirdAfterFourth {
+    fn fresh() -> ThirdAfterFourth {
+        ThirdAfterFourth {
             left: AtomicU64::new(0),
             late: AtomicU64::new(0),
         }
@@ -80,7 +80,7 @@ impl ThirdBehindFourth {
     }
 }
 
-impl Gate for ThirdBehindFourth {
+impl Gate for ThirdAfterFourth {
     fn enter(&self, i: u64) {
         if i != 2 {
             return;
@@ -121,7 +121,7 @@ fn load_fault<R: Threads + Wait + RandomSource>(
     alloc: Global,
     doc: &[u8],
     workers: usize,
-    gate: &ThirdBehindFourth,
+    gate: &ThirdAfterFourth,
 ) -> Result<Option<LoadFault>, AllocError>
     requires workers { (1 ≤ workers) × (workers ≤ 64) }
 {
@@ -138,10 +138,10 @@ fn names_line_3<R: Threads + Wait + RandomSource>(
     requires workers { (1 ≤ workers) × (workers ≤ 64) }
 {
     let doc = with_bad_lines(alloc)?;
-    let gate = ThirdBehindFourth::fresh();
+    let gate = ThirdAfterFourth::fresh();
     let loaded = load_fault(rt, alloc, &doc, workers, &gate)?;
     let is_loaded = matches!(loaded, Some(LoadFault::BadLine(3))) && gate.is_kept();
-    let gate = ThirdBehindFourth::fresh();
+    let gate = ThirdAfterFourth::fresh();
     let given = by_lines(rt, alloc, &doc, "SELECT * { }", workers, &gate);
     Ok(is_loaded && given == Err(Fault::BadLine(3)) && gate.is_kept())
 }

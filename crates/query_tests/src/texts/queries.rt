@@ -49,7 +49,7 @@ const RULES: &[Case] = &[
 ];
 
 #[test]
-fn each_rule_is_answered(rt: HostRuntime) {
+fn each_rule_is_reported(rt: HostRuntime) {
     assert!(rt; all_hold(&rt, rt.alloc(), Reader::Verdict, RULES));
 }
 

@@ -51,11 +51,11 @@ fn read_parts(
             return Ok(Some((value, after)));
         }
         if c == '\\' {
-            let Some((meant, behind)) = escape(kind, after) else {
+            let Some((meant, remaining)) = escape(kind, after) else {
                 return Ok(None);
             };
             value.push(meant)?;
-            rest = behind;
+            rest = remaining;
         } else if is_raw(kind, c) {
             value.push(c)?;
             rest = after;

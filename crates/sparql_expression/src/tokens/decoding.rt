@@ -46,11 +46,11 @@ pub fn function_of(kind: Kind) -> Option<Function>
 }
 
 /// Returns the text after the first `count` characters.
-fn behind(alloc: Global, text: &[char], count: usize) -> Result<Text, AllocError>
+fn text_after(alloc: Global, text: &[char], count: usize) -> Result<Text, AllocError>
     ensures { IfOk result (λ t. t ≡ encodes (drop count text.now)) }
 {
-    let (_, behind) = text.split_at(count.min(text.len()));
-    Ok(Text::from_string(text_of(alloc, behind)?))
+    let (_, remaining) = text.split_at(count.min(text.len()));
+    Ok(Text::from_string(text_of(alloc, remaining)?))
 }
 
 /// Returns the name of a variable without its `?` or `$`, or None if the terminal is not a
@@ -62,7 +62,7 @@ pub fn variable_of(alloc: Global, kind: Kind, text: &[char]) -> Result<Option<Te
     ensures { IfOk result (λ found. found ≡ variable_of kind text.now) }
 {
     match kind {
-        Kind::Variable => Ok(Some(behind(alloc, text, 1)?)),
+        Kind::Variable => Ok(Some(text_after(alloc, text, 1)?)),
         _ => Ok(None),
     }
 }
@@ -75,7 +75,7 @@ pub fn blank_of(alloc: Global, kind: Kind, text: &[char]) -> Result<Option<Text>
     ensures { IfOk result (λ found. found ≡ blank_of kind text.now) }
 {
     match kind {
-        Kind::BlankLabel => Ok(Some(behind(alloc, text, 2)?)),
+        Kind::BlankLabel => Ok(Some(text_after(alloc, text, 2)?)),
         _ => Ok(None),
     }
 }
@@ -193,7 +193,7 @@ pub fn language_of(alloc: Global, kind: Kind, text: &[char]) -> Result<Option<Te
 {
     match kind {
         Kind::LanguageTag => {
-            let tag = behind(alloc, text, 1)?;
+            let tag = text_after(alloc, text, 1)?;
             Ok(Some(lower_tag(alloc, tag.as_str())?))
         }
         _ => Ok(None),

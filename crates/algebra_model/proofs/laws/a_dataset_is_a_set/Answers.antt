@@ -2,4 +2,4 @@ use Rattle.algebra_model.proofs.EvalLaws.{eval-IsSameSet}
 use Rattle.algebra_model.proofs.laws.a_dataset_is_a_set.Goals as goal
 
 pub returns : goal.returns
-returns c = record { answers = eval-IsSameSet }
+returns c = record { same_results = eval-IsSameSet }

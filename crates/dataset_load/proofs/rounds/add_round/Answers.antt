@@ -7,7 +7,7 @@ pub returns-in-First-clause-bad_line : goal.returns-in-First-clause-bad_line
 returns-in-First-clause-bad_line g c = λ before was.
     let first = rw c.in-First.is at c.in_ok-outcome.ensures.outcome in
     round_bad before c.args.pieces.now c.args.so_far.now.dict c.args.so_far.now.dict c.args.so_far.now.quads.items c.args.so_far.now.lines c.in-First.piece c.in-First.fault _
-    was.numbered was.count first.below first.answered first.faulted (omega (arith, c.line_number.ensures.number))
+    was.numbered was.count first.below first.returned first.faulted (omega (arith, c.line_number.ensures.number))
 
 pub returns-in_ok-add_read_pieces-in-All-clause-numbered : goal.returns-in_ok-add_read_pieces-in-All-clause-numbered
 returns-in_ok-add_read_pieces-in-All-clause-numbered g c = λ before was.

@@ -18,4 +18,4 @@ returns-clause-lines c = (all_read (map parts_of c.loop-rest.quads.items) c.loop
 
 pub loop-rest-preserved : goal.loop-rest-preserved
 loop-rest-preserved c =
-    one_more (map parts_of c.loop-rest.quads.items) (map parts_of c.add.new.quads.items) c.loop-rest.count c.loop-rest.rest.now c.args.bytes.now c.first_line.result.0.now c.first_line.result.1.now (option_map parts_of c.in-Ok.quad) c.loop-rest.invariant c.first_line.ensures.lines c.first_line.ensures.shorter c.in-Ok.ensures.spells c.in_ok-add.ensures
+    one_more (map parts_of c.loop-rest.quads.items) (map parts_of c.add.new.quads.items) c.loop-rest.count c.loop-rest.rest.now c.args.bytes.now c.first_line.result.0.now c.first_line.result.1.now (option_map parts_of c.in-Ok.quad) c.loop-rest.invariant c.first_line.ensures.lines c.first_line.ensures.shorter c.in-Ok.ensures.has_statement c.in_ok-add.ensures

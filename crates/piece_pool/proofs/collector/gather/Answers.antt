@@ -13,15 +13,15 @@ pub returns-then-closed-n : goal.returns-then-closed-n
 returns-then-closed-n g c =
     let all = c.in_ok-passes.ensures.collected in
     let some : 0 < length c.in_ok-passes.field-0.passes.items = search rules in
-    let answered : (i : ℕ) → i < c.close-closed.result.least → (out : _) × g.J.Job.answers c.args.job.now i out = λ i low.
+    let returned : (i : ℕ) → i < c.close-closed.result.least → (out : _) × g.J.Job.answers c.args.job.now i out = λ i low.
     let pair = Contains-pair _ i (Contains-below_least _ _ _ _ _ _ _ _ all (IsSettled-closed _ _ _ _ _ c.close-closed.ensures.closed) some i low) in
-    (pair.0, All-contains (λ p. g.J.Job.answers c.args.job.now p.0 p.1) _ _ all.answered pair.1) in record {
+    (pair.0, All-contains (λ p. g.J.Job.answers c.args.job.now p.0 p.1) _ _ all.returned pair.1) in record {
       stopped = c.in_ok-passes.ensures.stopped;
       outcome = record {
         below = omega arith;
         faulted = All-contains (λ p. g.J.Job.faults c.args.job.now p.0 p.1) _ _ all.faulted c.fault_of-fault.ensures.fault;
-        answered = answered;
-        least = λ i other low h. let a = answered i low in g.met.J.Job.exclusive c.args.job.now i a.0 other a.1 h;
+        returned = returned;
+        least = λ i other low h. let a = returned i low in g.met.J.Job.exclusive c.args.job.now i a.0 other a.1 h;
       };
     }
 
@@ -40,7 +40,7 @@ returns g c =
     let some : 0 < length c.in_ok-passes.field-0.passes.items = search rules in
     let drawn = drawn-all _ _ _ _ _ _ _ _ all (IsSettled-closed _ _ _ _ _ c.close-closed.ensures.closed) some in
     let each : (i : ℕ) (d : _) → i < c.args.board.pieces → g.J.Job.answers c.args.job.now i (get_or outs i d) = λ i d low.
-    All-contains (λ p. g.J.Job.answers c.args.job.now p.0 p.1) _ _ all.answered (c.in_ok-in_order.ensures.each i d (omega (arith, low, drawn))) in
+    All-contains (λ p. g.J.Job.answers c.args.job.now p.0 p.1) _ _ all.returned (c.in_ok-in_order.ensures.each i d (omega (arith, low, drawn))) in
     let count : length outs ≡ c.args.board.pieces = omega (arith, drawn, c.in_ok-in_order.field-0.ok.0, c.in_ok-in_order.ensures.count) in record {
       stopped = c.in_ok-passes.ensures.stopped;
       outcome = record {

@@ -1,5 +1,5 @@
 use Rattle.std.proofs.Common.{rules, length-append, ◌∷◌, []}
-use Rattle.piece_pool.proofs.WorkerSteps.{IsWorkOf-draw, IsWorkOf-answer, IsWorkOf-fault, CoversUpTo-done, Contains-answer_old, Contains-answer_new, Contains-fault_old, Contains-fault_new}
+use Rattle.piece_pool.proofs.WorkerSteps.{IsWorkOf-draw, IsWorkOf-output, IsWorkOf-fault, CoversUpTo-done, Contains-output_old, Contains-output_new, Contains-fault_old, Contains-fault_new}
 use Rattle.piece_pool.proofs.worker.next_piece.Goals as goal
 
 pub returns-then-least-i-clause-work : goal.returns-then-least-i-clause-work
@@ -20,7 +20,7 @@ returns-in-Err-Memory-clause-work g c =
 
 pub returns-in-Ok-push-clause-work : goal.returns-in-Ok-push-clause-work
 returns-in-Ok-push-clause-work g c =
-    rw (c.in-Ok-push.ensures.items, c.least.ensures.event, c.in-Some.ensures.event) (IsWorkOf-answer _ _ _ _ _ _ c.requires.work c.in-Some.i _ c.in-Ok.ensures.answers)
+    rw (c.in-Ok-push.ensures.items, c.least.ensures.event, c.in-Some.ensures.event) (IsWorkOf-output _ _ _ _ _ _ c.requires.work c.in-Some.i _ c.in-Ok.ensures.answers)
 
 pub returns-in-Ok-push-clause-done : goal.returns-in-Ok-push-clause-done
 returns-in-Ok-push-clause-done g c e =
@@ -30,7 +30,7 @@ returns-in-Ok-push-clause-done g c e =
       c.requires.unfinished,
       length-append c.args.pass.now.history.draws (c.in-Some.i ∷ []),
       rw c.in-Some.ensures.event at c.in-Some.ensures.room,
-      CoversUpTo-done _ _ c.in-Some.i _ _ _ c.requires.covers (search rules) (Contains-answer_old outs failed c.in-Some.i c.in-Ok.out) (Contains-answer_new outs failed c.in-Some.i c.in-Ok.out),
+      CoversUpTo-done _ _ c.in-Some.i _ _ _ c.requires.covers (search rules) (Contains-output_old outs failed c.in-Some.i c.in-Ok.out) (Contains-output_new outs failed c.in-Some.i c.in-Ok.out),
     )
 
 pub returns-in-Ok-push-2-clause-work : goal.returns-in-Ok-push-2-clause-work

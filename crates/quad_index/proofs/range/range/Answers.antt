@@ -7,9 +7,9 @@ use Rattle.quad_index.proofs.range.range.Goals as goal
 
 pub returns : goal.returns
 returns c = record {
-  quads = found_is (prefix_cmp c.args.by) c.args.list.now c.args.wanted c.partition_point-start.result c.partition_point-count.result
-      (IsPartitionPoint-from_clause (λ q. is_lt (prefix_cmp c.args.by q c.args.wanted)) _ _ c.partition_point-start.ensures.partitioned
-      (parted_front (prefix_cmp c.args.by) (prefix_total c.args.by) c.args.list.now c.requires.sorted c.args.wanted) (λ a r q k. search rules))
-      (IsPartitionPoint-from_clause (λ q. is_le (prefix_cmp c.args.by q c.args.wanted)) _ _ c.partition_point-count.ensures.partitioned
-      (parted_rest (prefix_cmp c.args.by) (prefix_total c.args.by) c.args.list.now c.requires.sorted c.args.wanted c.partition_point-start.result) (λ a r q k. search rules));
+  quads = found_is (prefix_cmp c.args.by) c.args.list.now c.args.key c.partition_point-start.result c.partition_point-count.result
+      (IsPartitionPoint-from_clause (λ q. is_lt (prefix_cmp c.args.by q c.args.key)) _ _ c.partition_point-start.ensures.partitioned
+      (parted_front (prefix_cmp c.args.by) (prefix_total c.args.by) c.args.list.now c.requires.sorted c.args.key) (λ a r q k. search rules))
+      (IsPartitionPoint-from_clause (λ q. is_le (prefix_cmp c.args.by q c.args.key)) _ _ c.partition_point-count.ensures.partitioned
+      (parted_rest (prefix_cmp c.args.by) (prefix_total c.args.by) c.args.list.now c.requires.sorted c.args.key c.partition_point-start.result) (λ a r q k. search rules));
 }

@@ -32,11 +32,11 @@ returns-clause-json g c =
     let rows = rows_of (length solutions) ranks in
     let wide : length ranks ≡ c.in_ok-ranks.ranks.len = omega (arith, c.rank.auto.codes, ap length c.deref_mut.ensures.value, c.in_ok-ranks.ranks.ok.0) in
     let ranked = with_items c.in_ok-ranks.ranks ranks in
-    let lent : c.deref_mut-2.result.now ≡ ranks = c.deref_mut-2.ensures.value ∙ with_items_is c.in_ok-ranks.ranks ranks wide in
-    let there : c.deref.result.now ≡ ordered = c.deref.ensures.value ∙ with_items_is ranked ordered (c.order_pairs.auto.ranks ∙ ap length lent ∙ wide) in
+    let ranks_are : c.deref_mut-2.result.now ≡ ranks = c.deref_mut-2.ensures.value ∙ with_items_is c.in_ok-ranks.ranks ranks wide in
+    let there : c.deref.result.now ≡ ordered = c.deref.ensures.value ∙ with_items_is ranked ordered (c.order_pairs.auto.ranks ∙ ap length ranks_are ∙ wide) in
     let by_pairs : IsPermutation rows (rows_of (length solutions) ordered) =
     subst (λ (n : ℕ). IsPermutation (rows_of n ranks) (rows_of n ordered)) c.len.ensures.value
-    (subst (λ (rs : List ℕ). IsPermutation (rows_of c.len.result rs) (rows_of c.len.result ordered)) lent c.in_ok-order_pairs.ensures.permutation) in
+    (subst (λ (rs : List ℕ). IsPermutation (rows_of c.len.result rs) (rows_of c.len.result ordered)) ranks_are c.in_ok-order_pairs.ensures.permutation) in
     let by_rows : IsPermutation (rows_of (length solutions) ordered) (ranks_of sorted) =
     subst (λ (n : ℕ). IsPermutation (rows_of n ordered) (ranks_of sorted)) c.len-2.ensures.value
     (subst (λ (rs : List ℕ). IsPermutation (rows_of c.len-2.result rs) (ranks_of sorted)) there c.in_ok-sorted.ensures.permutation) in

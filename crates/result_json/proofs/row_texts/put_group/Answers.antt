@@ -16,14 +16,14 @@ loop-i-preserved c =
     let out = c.loop-i.out.items in
     let later = c.loop-i.later in
     let text = begun_row terms (map begun_column columns) in
-    let behind = ranks_of (drop (i + 1) rows) in
-    let cut : ranks_of (drop i rows) ≡ row.ranks.now ∷ behind = ap ranks_of (drop-cons rows i row (omega arith)) ∙ (λ t. (sym c.index-rows-i.is t).ranks.now ∷ ranks_of (drop (sym (add-one i) t) rows)) in
+    let following = ranks_of (drop (i + 1) rows) in
+    let cut : ranks_of (drop i rows) ≡ row.ranks.now ∷ following = ap ranks_of (drop-cons rows i row (omega arith)) ∙ (λ t. (sym c.index-rows-i.is t).ranks.now ∷ ranks_of (drop (sym (add-one i) t) rows)) in
     let comma : c.if-later.out.items ≡ out ++ comma_texts later ([] ∷ []) = elim c.if-later.branch [
       | then-later+in_ok-push w ↦ (λ t. (w.out-is t).items) ∙ w.in_ok-push.ensures.items ∙ (λ t. out ++ comma_texts (sym w.if-later.true t) ([] ∷ []))
       | else-later w ↦ (λ t. (w.out-is t).items) ∙ sym (append-nil out) ∙ (λ t. out ++ comma_texts (sym w.if-later.false t) ([] ∷ []))
     ] in
-    ap (λ t. t ++ comma_texts true (map text behind)) (c.in_ok-put_row.ensures.text ∙ ap (λ t. t ++ text row.ranks.now) comma)
-    ∙ append_assoc (out ++ comma_texts later ([] ∷ [])) (text row.ranks.now) (comma_texts true (map text behind))
-    ∙ append_assoc out (comma_texts later ([] ∷ [])) (text row.ranks.now ++ comma_texts true (map text behind))
-    ∙ ap (λ t. out ++ t) (sym (comma_texts-cons later (text row.ranks.now) (map text behind)) ∙ ap (λ (rs : List (List ℕ)). comma_texts later (map text rs)) (sym cut))
+    ap (λ t. t ++ comma_texts true (map text following)) (c.in_ok-put_row.ensures.text ∙ ap (λ t. t ++ text row.ranks.now) comma)
+    ∙ append_assoc (out ++ comma_texts later ([] ∷ [])) (text row.ranks.now) (comma_texts true (map text following))
+    ∙ append_assoc out (comma_texts later ([] ∷ [])) (text row.ranks.now ++ comma_texts true (map text following))
+    ∙ ap (λ t. out ++ t) (sym (comma_texts-cons later (text row.ranks.now) (map text following)) ∙ ap (λ (rs : List (List ℕ)). comma_texts later (map text rs)) (sym cut))
     ∙ c.loop-i.invariant

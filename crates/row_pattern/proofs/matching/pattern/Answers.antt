@@ -18,7 +18,7 @@ returns-in-None-clause-rows g c =
     let cells = c.saturating_add-cells.result in
     let long = ap length c.in_ok-row.ensures.row ∙ length-replicate cells None in
     let wide : cells ≡ c.args.width + c.args.labels = omega (arith, c.saturating_add-cells.ensures, long, c.in_ok-row.row.ok, c.in_ok-row.row.small) in
-    rows-solve c.args.width c.args.labels cells (map pattern_of c.args.patterns.now) c.args.graph c.args.index.now c.in_ok-steps.steps.items wide c.quads_stand_once.ensures.distinct c.requires.below c.in_ok-steps.ensures.same
+    rows-solve c.args.width c.args.labels cells (map pattern_of c.args.patterns.now) c.args.graph c.args.index.now c.in_ok-steps.steps.items wide c.quads_occur_once.ensures.distinct c.requires.below c.in_ok-steps.ensures.same
     [] c.in_ok-empty_pattern-in-None.field-0.rows (sym c.as_slice.ensures.value ∙ nil_from_length c.as_slice.result.now c.in-None.ensures.cases) c.in_ok-empty_pattern-in-None.ensures.rows
 
 pub returns-in-None-clause-known : goal.returns-in-None-clause-known
@@ -26,7 +26,7 @@ returns-in-None-clause-known g c =
     let cells = c.saturating_add-cells.result in
     let long = ap length c.in_ok-row.ensures.row ∙ length-replicate cells None in
     let wide : cells ≡ c.args.width + c.args.labels = omega (arith, c.saturating_add-cells.ensures, long, c.in_ok-row.row.ok, c.in_ok-row.row.small) in
-    numbers-known c.args.width c.args.labels cells (map pattern_of c.args.patterns.now) c.args.graph c.args.index.now c.in_ok-steps.steps.items wide c.quads_stand_once.ensures.distinct c.requires.below c.in_ok-steps.ensures.same
+    numbers-known c.args.width c.args.labels cells (map pattern_of c.args.patterns.now) c.args.graph c.args.index.now c.in_ok-steps.steps.items wide c.quads_occur_once.ensures.distinct c.requires.below c.in_ok-steps.ensures.same
     c.in_ok-empty_pattern-in-None.field-0.rows (returns-in-None-clause-rows g c)
 
 pub returns-clause-rows : goal.returns-clause-rows
@@ -38,7 +38,7 @@ returns-clause-rows g c =
     let rest = c.in-Some.rest.now in
     let G = triples_of c.args.graph c.args.index.now in
     IfOk-weaker c.over_pieces.result _ _
-    (λ found h. rows-solve c.args.width c.args.labels cells (map pattern_of c.args.patterns.now) c.args.graph c.args.index.now c.in_ok-steps.steps.items wide c.quads_stand_once.ensures.distinct c.requires.below c.in_ok-steps.ensures.same
+    (λ found h. rows-solve c.args.width c.args.labels cells (map pattern_of c.args.patterns.now) c.args.graph c.args.index.now c.in_ok-steps.steps.items wide c.quads_occur_once.ensures.distinct c.requires.below c.in_ok-steps.ensures.same
     (first ∷ rest) found.rows (sym c.as_slice.ensures.value ∙ c.in-Some.ensures.cases.0)
     (all-rows c.args.width G first rest cells c.matches.result.now c.deref.result.now found.rows (c.deref.ensures.value ∙ c.in_ok-row.ensures.row) c.matches.ensures.same h.1))
     c.over_pieces.ensures.rows
@@ -49,5 +49,5 @@ returns-clause-known g c =
     let long = ap length c.in_ok-row.ensures.row ∙ length-replicate cells None in
     let wide : cells ≡ c.args.width + c.args.labels = omega (arith, c.saturating_add-cells.ensures, long, c.in_ok-row.row.ok, c.in_ok-row.row.small) in
     IfOk-weaker c.over_pieces.result _ _
-    (λ found h. numbers-known c.args.width c.args.labels cells (map pattern_of c.args.patterns.now) c.args.graph c.args.index.now c.in_ok-steps.steps.items wide c.quads_stand_once.ensures.distinct c.requires.below c.in_ok-steps.ensures.same found.rows h)
+    (λ found h. numbers-known c.args.width c.args.labels cells (map pattern_of c.args.patterns.now) c.args.graph c.args.index.now c.in_ok-steps.steps.items wide c.quads_occur_once.ensures.distinct c.requires.below c.in_ok-steps.ensures.same found.rows h)
     (returns-clause-rows g c)

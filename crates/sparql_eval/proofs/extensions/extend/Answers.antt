@@ -3,21 +3,21 @@ use Rattle.algebra_model.specs.Expression.{val}
 use Rattle.algebra_model.specs.Operators.{extend}
 use Rattle.sparql_algebra.specs.ExpressionOf.{expression_of}
 use Rattle.sparql_eval.specs.Computed.{IsValue, TakesOnly}
-use Rattle.sparql_eval.proofs.AnswerSteps.{on_ok_so}
+use Rattle.sparql_eval.proofs.ReturnSteps.{on_ok_so}
 use Rattle.row_pieces.specs.declared.fault.EvalFault.TheVariants.{Memory}
 use Rattle.sparql_eval.specs.Evaluated.{IsEvaluated, solutions_of}
-use Rattle.sparql_eval.proofs.AnswerSteps.{answered, faulted}
+use Rattle.sparql_eval.proofs.ReturnSteps.{returned, faulted}
 use Rattle.sparql_eval.proofs.extensions.extend.Goals as goal
 
 pub returns-clause-evaluated : goal.returns-clause-evaluated
 returns-clause-evaluated g c =
-    answered c.extended-made.result c.with_dict.result
+    returned c.extended-made.result c.with_dict.result
     (λ m t. IsEvaluated c.args.dict c.args.rows.now.width (extend c.args.variable (val (expression_of c.args.expression.now)) (solutions_of c.args.dict c.args.rows.now)) m t) c.extended-made.new.dict
     c.with_dict.ensures.rows c.with_dict.ensures.same_dict c.extended-made.ensures.evaluated
 
 pub returns-clause-needed : goal.returns-clause-needed
 returns-clause-needed g c =
-    answered c.extended-made.result c.with_dict.result (λ m t. TakesOnly (IsValue (val (expression_of c.args.expression.now)) (solutions_of c.args.dict c.args.rows.now)) c.args.dict t) c.extended-made.new.dict
+    returned c.extended-made.result c.with_dict.result (λ m t. TakesOnly (IsValue (val (expression_of c.args.expression.now)) (solutions_of c.args.dict c.args.rows.now)) c.args.dict t) c.extended-made.new.dict
     c.with_dict.ensures.rows c.with_dict.ensures.same_dict (on_ok_so _ c.extended-made.result c.extended-made.ensures.needed)
 
 pub returns-clause-alone : goal.returns-clause-alone

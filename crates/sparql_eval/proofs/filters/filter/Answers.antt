@@ -4,12 +4,12 @@ use Rattle.algebra_model.specs.Expression.{holds}
 use Rattle.sparql_algebra.specs.ExpressionOf.{expression_of}
 use Rattle.row_pieces.specs.declared.fault.EvalFault.TheVariants.{Memory}
 use Rattle.sparql_eval.specs.Evaluated.{IsEvaluated, solutions_of}
-use Rattle.sparql_eval.proofs.AnswerSteps.{answered, faulted}
+use Rattle.sparql_eval.proofs.ReturnSteps.{returned, faulted}
 use Rattle.sparql_eval.proofs.filters.filter.Goals as goal
 
 pub returns-clause-evaluated : goal.returns-clause-evaluated
 returns-clause-evaluated g c =
-    answered c.filtered-made.result c.with_dict.result
+    returned c.filtered-made.result c.with_dict.result
     (λ m t. IsEvaluated c.args.dict c.args.rows.now.width (filter (holds (expression_of c.args.condition.now)) (solutions_of c.args.dict c.args.rows.now)) m t) c.args.dict
     c.with_dict.ensures.rows c.with_dict.ensures.same_dict c.filtered-made.ensures.evaluated
 

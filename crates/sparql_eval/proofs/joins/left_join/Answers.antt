@@ -5,12 +5,12 @@ use Rattle.algebra_model.specs.Operators.{left_join}
 use Rattle.sparql_algebra.specs.ExpressionOf.{expression_of}
 use Rattle.row_pieces.specs.declared.fault.EvalFault.TheVariants.{Memory}
 use Rattle.sparql_eval.specs.Evaluated.{IsEvaluated, solutions_of}
-use Rattle.sparql_eval.proofs.AnswerSteps.{answered, faulted}
+use Rattle.sparql_eval.proofs.ReturnSteps.{returned, faulted}
 use Rattle.sparql_eval.proofs.joins.left_join.Goals as goal
 
 pub returns-clause-evaluated : goal.returns-clause-evaluated
 returns-clause-evaluated g c =
-    answered c.left_joined-made.result c.with_dict.result
+    returned c.left_joined-made.result c.with_dict.result
     (λ m t. IsEvaluated c.args.dict c.args.left.now.width (left_join term_eq (holds (expression_of c.args.condition.now)) (solutions_of c.args.dict c.args.left.now) (solutions_of c.args.dict c.args.right.now)) m t) c.args.dict
     c.with_dict.ensures.rows c.with_dict.ensures.same_dict c.left_joined-made.ensures.evaluated
 

@@ -3,12 +3,12 @@ use Rattle.rdf_core.proofs.TermLaws.{term_eq}
 use Rattle.algebra_model.specs.Operators.{minus}
 use Rattle.row_pieces.specs.declared.fault.EvalFault.TheVariants.{Memory}
 use Rattle.sparql_eval.specs.Evaluated.{IsEvaluated, solutions_of}
-use Rattle.sparql_eval.proofs.AnswerSteps.{answered, faulted}
+use Rattle.sparql_eval.proofs.ReturnSteps.{returned, faulted}
 use Rattle.sparql_eval.proofs.joins.minus.Goals as goal
 
 pub returns-clause-evaluated : goal.returns-clause-evaluated
 returns-clause-evaluated g c =
-    answered c.subtracted-made.result c.with_dict.result
+    returned c.subtracted-made.result c.with_dict.result
     (λ m t. IsEvaluated c.args.dict c.args.left.now.width (minus term_eq (solutions_of c.args.dict c.args.left.now) (solutions_of c.args.dict c.args.right.now)) m t) c.args.dict
     c.with_dict.ensures.rows c.with_dict.ensures.same_dict c.subtracted-made.ensures.evaluated
 

@@ -3,7 +3,7 @@ use Rattle.rdf_core.proofs.TermLaws.{term_eq}
 use Rattle.algebra_model.specs.Bag.{IsSameBag}
 use Rattle.algebra_model.specs.Operators.{minus}
 use Rattle.sparql_eval.specs.Evaluated.{IsEvaluated, solutions_of}
-use Rattle.sparql_eval.proofs.AnswerSteps.{IfOk-both}
+use Rattle.sparql_eval.proofs.ReturnSteps.{IfOk-both}
 use Rattle.sparql_eval.proofs.JoinSteps.{subtracted}
 use Rattle.sparql_eval.proofs.joins.subtracted.Goals as goal
 

@@ -10,7 +10,7 @@ use Rattle.row_pattern.specs.declared.numbered.NumberedTriple.{NumberedTriple}
 use Rattle.sparql_algebra.specs.AlgebraOf.{triple_pattern_of}
 use Rattle.sparql_eval.specs.Constants.{ArePatternsOf}
 use Rattle.sparql_eval.specs.Evaluated.{IsEvaluated}
-use Rattle.sparql_eval.proofs.AnswerSteps.{IfOk-both}
+use Rattle.sparql_eval.proofs.ReturnSteps.{IfOk-both}
 use Rattle.sparql_eval.proofs.PatternSteps.{numbers_below, lacking, solved, none_lacks}
 use Rattle.sparql_eval.proofs.patterns.matches.Goals as goal
 

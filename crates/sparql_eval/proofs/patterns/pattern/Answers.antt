@@ -9,12 +9,12 @@ use Rattle.dict_core.specs.NumQuad.{quads_at}
 use Rattle.sparql_algebra.specs.AlgebraOf.{triple_pattern_of}
 use Rattle.row_pieces.specs.declared.fault.EvalFault.TheVariants.{Memory}
 use Rattle.sparql_eval.specs.Evaluated.{IsEvaluated}
-use Rattle.sparql_eval.proofs.AnswerSteps.{answered, faulted}
+use Rattle.sparql_eval.proofs.ReturnSteps.{returned, faulted}
 use Rattle.sparql_eval.proofs.patterns.pattern.Goals as goal
 
 pub returns-clause-evaluated : goal.returns-clause-evaluated
 returns-clause-evaluated g c =
-    answered c.matches-made.result c.with_dict.result
+    returned c.matches-made.result c.with_dict.result
     (λ m t. IsEvaluated c.args.dict c.args.width (bgp term_eq c.args.width c.args.labels (map triple_pattern_of c.args.triples.now) (graph (quads_at c.args.dict c.args.index.now) (option_map (term_at c.args.dict) c.args.active))) m t) c.args.dict
     c.with_dict.ensures.rows c.with_dict.ensures.same_dict c.matches-made.ensures.evaluated
 

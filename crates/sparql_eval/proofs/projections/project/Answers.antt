@@ -4,12 +4,12 @@ use Rattle.algebra_model.specs.Operators.{project}
 use Rattle.row_pieces.specs.declared.fault.EvalFault.TheVariants.{Memory}
 use Rattle.sparql_eval.specs.Evaluated.{IsEvaluated, solutions_of}
 use Rattle.sparql_eval.proofs.ProjectSteps.{project_evaluated}
-use Rattle.sparql_eval.proofs.AnswerSteps.{answered, faulted}
+use Rattle.sparql_eval.proofs.ReturnSteps.{returned, faulted}
 use Rattle.sparql_eval.proofs.projections.project.Goals as goal
 
 pub returns-clause-evaluated : goal.returns-clause-evaluated
 returns-clause-evaluated c =
-    answered c.projected-made.result c.with_dict.result
+    returned c.projected-made.result c.with_dict.result
     (λ m t. IsEvaluated c.args.dict c.args.rows.now.width (project c.args.variables.now (solutions_of c.args.dict c.args.rows.now)) m t) c.args.dict
     c.with_dict.ensures.rows c.with_dict.ensures.same_dict (IfOk-weaker c.projected-made.result _ (λ m. IsEvaluated c.args.dict c.args.rows.now.width (project c.args.variables.now (solutions_of c.args.dict c.args.rows.now)) m c.args.dict) (λ m h. project_evaluated c.args.dict c.args.variables.now c.args.rows.now m c.requires.known h.0 h.1) c.projected-made.ensures.made)
 

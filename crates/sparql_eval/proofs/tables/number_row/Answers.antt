@@ -35,7 +35,7 @@ loop-i-preserved c =
     let s : i + 1 ≡ c.loop-i.i = omega arith in
     let low : i < length vs = omega arith in
     let low' : i < length cells = omega arith in
-    let wanted = λ (t : Term). Contains (take (length vs) cells) (Some t) in
+    let is_needed = λ (t : Term). Contains (take (length vs) cells) (Some t) in
     let at = get_from cells i x low' c.index-cells-i.is in
     let more = row_more c.loop-i.dict c.number_cell.new.dict c.in_ok-row.ensures.grown row v n x was.known c.in_ok-row.ensures.known c.in_ok-row.ensures.read in
     record {
@@ -46,6 +46,6 @@ loop-i-preserved c =
           more.1 ∙ ap (λ r. set r v x) (was.read ∙ ap (λ (k : ℕ). table_row w (drop k vs) (drop k cells)) (sym s))
           ∙ sym (table_row-step w vs cells i v x (slice_get-get_or vs i 0 low) at);
       needed =
-          takes_twice wanted c.args.dict.now c.loop-i.dict c.number_cell.new.dict was.needed
-          (takes_more (λ t. x ≡ Some t) wanted c.loop-i.dict c.number_cell.new.dict (λ t is. Contains-take (length vs) cells i (Some t) low (at ∙ ap Some is)) c.in_ok-row.ensures.needed);
+          takes_twice is_needed c.args.dict.now c.loop-i.dict c.number_cell.new.dict was.needed
+          (takes_more (λ t. x ≡ Some t) is_needed c.loop-i.dict c.number_cell.new.dict (λ t is. Contains-take (length vs) cells i (Some t) low (at ∙ ap Some is)) c.in_ok-row.ensures.needed);
     }

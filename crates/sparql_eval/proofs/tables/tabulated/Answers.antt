@@ -25,14 +25,14 @@ loop-cells-preserved c =
     let more = table_more c.loop-cells.dict later c.in_ok-number_row.ensures.grown w vs made (map (λ row. row.items) (take k rows)) c.number_row.new.row.items item.items
     was.known was.made c.in_ok-number_row.ensures.known (c.in_ok-number_row.ensures.read ∙ ap (table_row w vs) c.as_slice.ensures.value) in
     let at = get_from rows k item (omega arith) c.cells-item.is in
-    let wanted = IsCell vs (map (λ row. row.items) rows) in
+    let is_needed = IsCell vs (map (λ row. row.items) rows) in
     record {
       width = c.in_ok-push.ensures.width ∙ was.width;
       grown = grown_twice c.args.dict.now c.loop-cells.dict later was.grown c.in_ok-number_row.ensures.grown;
       known = subst (Each (Known later)) (sym e) more.0;
       made = ap (map (read_by later)) e ∙ more.1 ∙ ap (table w vs) (sym (map-take (λ row. row.items) rows k item at));
       needed =
-          takes_twice wanted c.args.dict.now c.loop-cells.dict later was.needed
-          (takes_more (λ t. Contains (take (length vs) cells) (Some t)) wanted c.loop-cells.dict later
+          takes_twice is_needed c.args.dict.now c.loop-cells.dict later was.needed
+          (takes_more (λ t. Contains (take (length vs) cells) (Some t)) is_needed c.loop-cells.dict later
           (λ t h. cell_of (λ row. row.items) vs rows k item t at (subst (λ (l : List (Option Term)). Contains (take (length vs) l) (Some t)) c.as_slice.ensures.value h)) here);
     }

@@ -1,10 +1,10 @@
 use Rattle.std.proofs.Common.{refl, arith}
-use Rattle.sparql_lexer.proofs.PatternLaws.{behind}
+use Rattle.sparql_lexer.proofs.PatternLaws.{rest_suffix}
 use Rattle.sparql_lexer.proofs.ColonlessLaws.{clear_to, clear_here, clear_dotted}
 use Rattle.sparql_lexer.proofs.names.clear_end.Goals as goal
 
 pub ends_with_dot-requires : goal.ends_with_dot-requires
-ends_with_dot-requires c = behind c.requires.matches
+ends_with_dot-requires c = rest_suffix c.requires.matches
 
 pub returns-in-None : goal.returns-in-None
 returns-in-None c = clear_to c.args.text.now c.args.end.now c.requires c.in-None.ensures

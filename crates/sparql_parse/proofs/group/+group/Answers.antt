@@ -9,7 +9,7 @@ use Rattle.sparql_expression.proofs.Steps.{begin, took, then_read, part_fails, e
 use Rattle.sparql_parse.proofs.TripleSteps.{tail, whole, shorter_thrice, up_to, up_twice}
 use Rattle.sparql_parse.proofs.ValueSteps.{body_at, union_at}
 use Rattle.sparql_parse.proofs.ElementSteps.{group_seen, union_seen, optional_seen, minus_seen, graph_seen}
-use Rattle.sparql_parse.proofs.GroupSteps.{group-push, behind_run, behind_dot}
+use Rattle.sparql_parse.proofs.GroupSteps.{group-push, after_run, after_dot}
 use Rattle.sparql_parse.proofs.group.+group.Goals as goal
 
 pub read_group-returns-in_default-clause-reads : goal.read_group-returns-in_default-clause-reads
@@ -20,7 +20,7 @@ read_group-returns-in_err-rest-clause-reads t c = (let p = err_from_is_err_and c
 
 pub read_group-elements-init : goal.read_group-elements-init
 read_group-elements-init t c = record {
-  left = behind_run (body_at (ap group_of (sym c.new-elements.ensures.items)) (enter (took (begin c.args.names.now (the.group) (terminals c.args.tokens.now)) (c.in-Some.ensures.accepts c.args.names.now)))) c.in_ok-rest.ensures.reads;
+  left = after_run (body_at (ap group_of (sym c.new-elements.ensures.items)) (enter (took (begin c.args.names.now (the.group) (terminals c.args.tokens.now)) (c.in-Some.ensures.accepts c.args.names.now)))) c.in_ok-rest.ensures.reads;
   shorter = up_to c.in_ok-rest.ensures.shorter c.in-Some.ensures.shorter;
 }
 
@@ -31,11 +31,11 @@ pub read_group-returns-in_err-element-clause-reads : goal.read_group-returns-in_
 read_group-returns-in_err-element-clause-reads t c = (let p = err_from_is_err_and c.from_residual-in_err-element.result c.from_residual-in_err-element.ensures.1 in rw (p.1, p.2) (part_fails (skipped c.elements.invariant.left (c.in_default-accept.ensures.accepts c.args.names.now)) c.in_err-element.ensures.reads))
 
 pub read_group-returns-in_err-rest-2-clause-reads : goal.read_group-returns-in_err-rest-2-clause-reads
-read_group-returns-in_err-rest-2-clause-reads t c = (let p = err_from_is_err_and c.from_residual-in_err-rest-2.result c.from_residual-in_err-rest-2.ensures.1 in rw (p.1, p.2) (whole (body_at (sym (ap group_of c.in_ok-push.ensures.items ∙ group-push c.elements.elements.items c.in_ok-element.element)) (behind_dot (enter (then_read (skipped c.elements.invariant.left (c.in_default-accept.ensures.accepts c.args.names.now)) c.in_ok-element.ensures.reads)) c.skip_dot.ensures.reads)) c.in_err-rest-2.ensures.reads))
+read_group-returns-in_err-rest-2-clause-reads t c = (let p = err_from_is_err_and c.from_residual-in_err-rest-2.result c.from_residual-in_err-rest-2.ensures.1 in rw (p.1, p.2) (whole (body_at (sym (ap group_of c.in_ok-push.ensures.items ∙ group-push c.elements.elements.items c.in_ok-element.element)) (after_dot (enter (then_read (skipped c.elements.invariant.left (c.in_default-accept.ensures.accepts c.args.names.now)) c.in_ok-element.ensures.reads)) c.skip_dot.ensures.reads)) c.in_err-rest-2.ensures.reads))
 
 pub read_group-elements-preserved : goal.read_group-elements-preserved
 read_group-elements-preserved t c = record {
-  left = behind_run (body_at (sym (ap group_of c.in_ok-push.ensures.items ∙ group-push c.elements.elements.items c.in_ok-element.element)) (behind_dot (enter (then_read (skipped c.elements.invariant.left (c.in_default-accept.ensures.accepts c.args.names.now)) c.in_ok-element.ensures.reads)) c.skip_dot.ensures.reads)) c.in_ok-rest-2.ensures.reads;
+  left = after_run (body_at (sym (ap group_of c.in_ok-push.ensures.items ∙ group-push c.elements.elements.items c.in_ok-element.element)) (after_dot (enter (then_read (skipped c.elements.invariant.left (c.in_default-accept.ensures.accepts c.args.names.now)) c.in_ok-element.ensures.reads)) c.skip_dot.ensures.reads)) c.in_ok-rest-2.ensures.reads;
   shorter = up_twice c.in_ok-rest-2.ensures.shorter c.skip_dot.ensures.shorter c.in_ok-element.ensures.shorter c.elements.invariant.shorter;
 }
 

@@ -6,7 +6,7 @@ use Rattle.sparql_tree.specs.declared.group.PatternTerm.TheVariants as place
 use Rattle.sparql_grammar.specs.Values.{anonymous_label}
 use Rattle.sparql_grammar.specs.Class.{variable, blank}
 use Rattle.sparql_grammar.specs.Symbol as the
-use Rattle.sparql_expression.proofs.Steps.{begin, last_reads, last_fails, done, done_behind, here, left, took_branch, skipped}
+use Rattle.sparql_expression.proofs.Steps.{begin, last_reads, last_fails, done, done_counted, here, left, took_branch, skipped}
 use Rattle.sparql_parse.proofs.FrontSteps.{some_taken, none_untaken}
 use Rattle.sparql_parse.proofs.triples.read_pattern_term.Goals as goal
 
@@ -27,7 +27,7 @@ returns-in-Some-accept_anonymous-clause-reads c =
     let m = skipped l (none_untaken {c = variable} (c.in_ok-name.ensures.accepts c.args.names.now) c.in_default.is) in
     let n = skipped m (none_untaken {c = blank} (c.in_ok-label.ensures.accepts c.args.names.now) c.in_default-2.is) in
     let e : c.in_ok-made.made ≡ anonymous_label (length (terminals c.in-Some-accept_anonymous.after.now)) = c.in_ok-made.ensures.label ∙ ap anonymous_label (sym (length-map c.in-Some-accept_anonymous.after.now terminal_of)) in
-    done_behind (took_branch n (left here) (c.in-Some-accept_anonymous.ensures.accepts c.args.names.now)) (ap place.Blank e)
+    done_counted (took_branch n (left here) (c.in-Some-accept_anonymous.ensures.accepts c.args.names.now)) (ap place.Blank e)
 
 pub returns-in_err-term-clause-reads : goal.returns-in_err-term-clause-reads
 returns-in_err-term-clause-reads c =

@@ -3,7 +3,7 @@ use Rattle.std.proofs.lemmas.Result.{err_from_is_err_and}
 use Rattle.sparql_lexer.specs.Terminal.{terminals}
 use Rattle.sparql_grammar.specs.Symbol as the
 use Rattle.sparql_expression.proofs.Steps.{begin, then_read, part_fails, enter, done, here, left, took_branch, skipped}
-use Rattle.sparql_parse.proofs.TripleSteps.{behind_property, whole, shorter_twice, no_longer}
+use Rattle.sparql_parse.proofs.TripleSteps.{after_property, whole, shorter_twice, no_longer}
 use Rattle.sparql_parse.proofs.triples.read_same_subject.Goals as goal
 
 pub returns-in_err-subject-clause-reads : goal.returns-in_err-subject-clause-reads
@@ -32,7 +32,7 @@ pub properties-preserved : goal.properties-preserved
 properties-preserved c =
     let l = c.properties.invariant.left in
     record {
-      left = behind_property (enter (took_branch l (left here) (c.in-Some.ensures.accepts c.args.names.now))) c.in_ok-rest-2.ensures.reads;
+      left = after_property (enter (took_branch l (left here) (c.in-Some.ensures.accepts c.args.names.now))) c.in_ok-rest-2.ensures.reads;
       shorter = no_longer c.in_ok-rest-2.ensures.shorter c.in-Some.ensures.shorter c.properties.invariant.shorter;
     }
 

@@ -6,7 +6,7 @@ use Rattle.sparql_tree.specs.GroupTree.{element_of, group_of}
 use Rattle.sparql_read.specs.NameSet.{HaveSame}
 use Rattle.sparql_read.specs.BlankReuse.{basic_patterns, closed_patterns, open_pattern, patterns_inside, shares_labels}
 use Rattle.sparql_read.specs.LabelSteps.{AddsElement, AddsPatterns, IsOpenRun}
-use Rattle.sparql_read.proofs.GroupLaws.{union_deeper, union_stands_for}
+use Rattle.sparql_read.proofs.GroupLaws.{union_deeper, union_denotes}
 use Rattle.sparql_read.proofs.LabelLaws.{element_runs_on, element_ends_run, labels_clash, labels_more, last_clash, patterns_before, patterns_then, run_added}
 use Rattle.sparql_read.proofs.labels.+labels.Goals as goal
 
@@ -60,7 +60,7 @@ add_inside-returns-then-not-branch t c =
     let f : c.in_ok-add_group-in-Union.field-0 ≡ false = grind (arith, c.if-not-branch.true) in
     let h = subst (λ b. AddsPatterns (basic_patterns (group_of c.deref-in-Union.result.now)) b xs c.add_group-in-Union.new.earlier) f c.in_ok-add_group-in-Union.ensures.labels in
     record {
-      labels = ap (λ e. shares_labels xs (patterns_inside e)) (ap element_of c.in-Union.is ∙ union_stands_for c.in-Union.left c.in-Union.right)
+      labels = ap (λ e. shares_labels xs (patterns_inside e)) (ap element_of c.in-Union.is ∙ union_denotes c.in-Union.left c.in-Union.right)
           ∙ last_clash xs (patterns_inside left) (basic_patterns g) (sym (ap (λ es. shares_labels xs (basic_patterns (group_of es))) c.deref-in-Union.ensures.value) ∙ h);
     }
 
@@ -74,7 +74,7 @@ add_inside-returns-else-not-branch t c =
     let f : c.in_ok-add_group-in-Union.field-0 ≡ true = grind (arith, c.if-not-branch.false) in
     let h = subst (λ b. AddsPatterns (basic_patterns (group_of c.deref-in-Union.result.now)) b xs ys) f c.in_ok-add_group-in-Union.ensures.labels in
     let r = subst (λ es. AddsPatterns (basic_patterns (group_of es)) true xs ys) c.deref-in-Union.ensures.value h in
-    let e = ap element_of c.in-Union.is ∙ union_stands_for c.in-Union.left c.in-Union.right in
+    let e = ap element_of c.in-Union.is ∙ union_denotes c.in-Union.left c.in-Union.right in
     record {
       labels = IfOk-weaker c.add_left.result _ _
           (λ b k. subst (λ e. AddsPatterns (patterns_inside e) b xs zs) (sym e)
@@ -92,7 +92,7 @@ add_left-groups-preserved t c =
     let f : c.in_ok-add_group.field-0 ≡ true = grind (arith, c.if-not-branch.false) in
     let h = subst (λ b. AddsPatterns (basic_patterns (group_of c.deref.result.now)) b xs ys) f c.in_ok-add_group.ensures.labels in
     let r = subst (λ es. AddsPatterns (basic_patterns (group_of es)) true xs ys) c.deref.ensures.value h in
-    let e = ap element_of c.in-Union.is ∙ union_stands_for c.in-Union.left c.in-Union.right in
+    let e = ap element_of c.in-Union.is ∙ union_denotes c.in-Union.left c.in-Union.right in
     record {
       no_deeper = rw c.deref-rest.ensures (omega (arith, union_deeper c.in-Union.left c.in-Union.right, ap size-Element c.in-Union.is));
       adds = λ b zs k. c.groups.invariant.adds b zs (subst (λ e. AddsPatterns (patterns_inside e) b xs zs) (sym e)
@@ -109,7 +109,7 @@ add_left-returns-then-not-branch t c =
     let h = subst (λ b. AddsPatterns (basic_patterns (group_of c.deref.result.now)) b xs c.add_group.new.earlier) f c.in_ok-add_group.ensures.labels in
     record {
       labels = c.groups.invariant.adds false c.add_group.new.earlier
-          (ap (λ e. shares_labels xs (patterns_inside e)) (ap element_of c.in-Union.is ∙ union_stands_for c.in-Union.left c.in-Union.right)
+          (ap (λ e. shares_labels xs (patterns_inside e)) (ap element_of c.in-Union.is ∙ union_denotes c.in-Union.left c.in-Union.right)
           ∙ last_clash xs (patterns_inside left) (basic_patterns g) (sym (ap (λ es. shares_labels xs (basic_patterns (group_of es))) c.deref.ensures.value) ∙ h));
     }
 

@@ -2,7 +2,7 @@ use Rattle.sparql_lexer.proofs.KindLaws.{one_scan}
 use Rattle.sparql_grammar.specs.Symbol as the
 use Rattle.sparql_grammar.proofs.ProductionLaws.{good}
 use Rattle.sparql_grammar.proofs.MatchLaws.{unique, ends_low}
-use Rattle.sparql_read.proofs.AnswerLaws as laws
+use Rattle.sparql_read.proofs.ResultLaws as laws
 use Rattle.sparql_read.proofs.laws.one_tree.Goals as goal
 
 pub returns : goal.returns

@@ -3,7 +3,7 @@ use Rattle.sparql_lexer.specs.Terminal.{terminals}
 use Rattle.sparql_tree.specs.GroupTree.{group_of}
 use Rattle.sparql_parse.specs.Queries.{IsQuery, select_of}
 use Rattle.sparql_read.specs.Checked.{IsChecked}
-use Rattle.sparql_read.proofs.RefusalLaws.{Known, allowed_as, refused}
+use Rattle.sparql_read.proofs.RejectionLaws.{Known, allowed_as, rejected}
 use Rattle.sparql_read.proofs.reader.check_select.Goals as goal
 
 pub returns-in_ok-mentioned-in-Ok : goal.returns-in_ok-mentioned-in-Ok
@@ -18,7 +18,7 @@ returns-in_ok-mentioned-in-Ok c =
       derived = subst (λ ns. IsQuery ns ts s) c.requires.names c.requires.parsed;
     } in
     record {
-      answers = allowed_as k (subst (λ es. IsChecked ts (group_of es) (Ok tt)) c.deref.ensures.value c.in-Ok.ensures.judged) _ c.in_ok-mentioned-in-Ok.ensures.value;
+      read = allowed_as k (subst (λ es. IsChecked ts (group_of es) (Ok tt)) c.deref.ensures.value c.in-Ok.ensures.checked) _ c.in_ok-mentioned-in-Ok.ensures.value;
     }
 
 pub returns-in-Err : goal.returns-in-Err
@@ -33,5 +33,5 @@ returns-in-Err c =
       derived = subst (λ ns. IsQuery ns ts s) c.requires.names c.requires.parsed;
     } in
     record {
-      answers = refused k c.in-Err.fault (subst (λ es. IsChecked ts (group_of es) (Err c.in-Err.fault)) c.deref.ensures.value c.in-Err.ensures.judged);
+      read = rejected k c.in-Err.fault (subst (λ es. IsChecked ts (group_of es) (Err c.in-Err.fault)) c.deref.ensures.value c.in-Err.ensures.checked);
     }

@@ -4,5 +4,5 @@ use Rattle.sparql_read.proofs.reader.read_query.Goals as goal
 
 pub returns : goal.returns
 returns c = record {
-  answers = subst (λ text. IsReadResult text (seen c.read_terminals.result)) (c.deref-2.ensures.value ∙ c.in_ok-characters.ensures) c.read_terminals.ensures.answers;
+  read = subst (λ text. IsReadResult text (seen c.read_terminals.result)) (c.deref-2.ensures.value ∙ c.in_ok-characters.ensures) c.read_terminals.ensures.read;
 }

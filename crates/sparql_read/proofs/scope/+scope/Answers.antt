@@ -4,17 +4,17 @@ use Rattle.sparql_tree.specs.declared.group.Element.{size-Element}
 use Rattle.sparql_tree.specs.GroupTree.{element_of, group, group_of}
 use Rattle.sparql_read.specs.BindScope.{breaks_bind_scope, breaks_inside}
 use Rattle.sparql_read.specs.ScopeSteps.{AddsScope, IsScopeOf}
-use Rattle.sparql_read.proofs.GroupLaws.{graph_stands_for, union_deeper, union_stands_for}
-use Rattle.sparql_read.proofs.ScopeSteps.{scope_before, scope_behind_broken, scope_bound, scope_broken, scope_joined, scope_more, scope_named}
+use Rattle.sparql_read.proofs.GroupLaws.{graph_denotes, union_deeper, union_denotes}
+use Rattle.sparql_read.proofs.ScopeSteps.{scope_before, scope_after_broken, scope_bound, scope_broken, scope_joined, scope_more, scope_named}
 use Rattle.sparql_read.proofs.scope.+scope.Goals as goal
 
 pub add_element-returns-then-not-branch : goal.add_element-returns-then-not-branch
 add_element-returns-then-not-branch t c =
     let f : c.in_ok-add_group-in-Union.field-0 ≡ false = grind (arith, c.if-not-branch.true) in
     let h = subst (λ b. AddsScope (group (group_of c.deref-in-Union.result.now)) b c.args.scope.now c.add_group-in-Union.new.scope) f c.in_ok-add_group-in-Union.ensures.scope in
-    let e = ap element_of c.in-Union.is ∙ union_stands_for c.in-Union.left c.in-Union.right in
+    let e = ap element_of c.in-Union.is ∙ union_denotes c.in-Union.left c.in-Union.right in
     record {
-      scope = ap breaks_inside e ∙ scope_behind_broken (element_of c.in-Union.left.value) (group_of c.in-Union.right.items)
+      scope = ap breaks_inside e ∙ scope_after_broken (element_of c.in-Union.left.value) (group_of c.in-Union.right.items)
           (sym (ap (λ es. breaks_bind_scope (group_of es)) c.deref-in-Union.ensures.value) ∙ h);
     }
 
@@ -26,7 +26,7 @@ add_element-returns-else-not-branch t c =
     let f : c.in_ok-add_group-in-Union.field-0 ≡ true = grind (arith, c.if-not-branch.false) in
     let h = subst (λ b. AddsScope (group (group_of c.deref-in-Union.result.now)) b xs ys) f c.in_ok-add_group-in-Union.ensures.scope in
     let g = subst (λ es. AddsScope (group (group_of es)) true xs ys) c.deref-in-Union.ensures.value h in
-    let e = ap element_of c.in-Union.is ∙ union_stands_for c.in-Union.left c.in-Union.right in
+    let e = ap element_of c.in-Union.is ∙ union_denotes c.in-Union.left c.in-Union.right in
     record {
       scope = IfOk-weaker c.add_left.result _ _
           (λ b k. subst (λ e. AddsScope e b xs zs) (sym e)
@@ -42,7 +42,7 @@ add_left-groups-preserved t c =
     let f : c.in_ok-add_group.field-0 ≡ true = grind (arith, c.if-not-branch.false) in
     let h = subst (λ b. AddsScope (group (group_of c.deref.result.now)) b xs ys) f c.in_ok-add_group.ensures.scope in
     let g = subst (λ es. AddsScope (group (group_of es)) true xs ys) c.deref.ensures.value h in
-    let e = ap element_of c.in-Union.is ∙ union_stands_for c.in-Union.left c.in-Union.right in
+    let e = ap element_of c.in-Union.is ∙ union_denotes c.in-Union.left c.in-Union.right in
     record {
       no_deeper = rw c.deref-rest.ensures (omega (arith, union_deeper c.in-Union.left c.in-Union.right, ap size-Element c.in-Union.is));
       adds = λ b zs k. c.groups.invariant.adds b zs (subst (λ e. AddsScope e b xs zs) (sym e)
@@ -54,10 +54,10 @@ pub add_left-returns-then-not-branch : goal.add_left-returns-then-not-branch
 add_left-returns-then-not-branch t c =
     let f : c.in_ok-add_group.field-0 ≡ false = grind (arith, c.if-not-branch.true) in
     let h = subst (λ b. AddsScope (group (group_of c.deref.result.now)) b c.groups.scope c.add_group.new.scope) f c.in_ok-add_group.ensures.scope in
-    let e = ap element_of c.in-Union.is ∙ union_stands_for c.in-Union.left c.in-Union.right in
+    let e = ap element_of c.in-Union.is ∙ union_denotes c.in-Union.left c.in-Union.right in
     record {
       scope = c.groups.invariant.adds false c.add_group.new.scope (ap breaks_inside e
-          ∙ scope_behind_broken (element_of c.in-Union.left.value) (group_of c.in-Union.right.items)
+          ∙ scope_after_broken (element_of c.in-Union.left.value) (group_of c.in-Union.right.items)
           (sym (ap (λ es. breaks_bind_scope (group_of es)) c.deref.ensures.value) ∙ h));
     }
 
@@ -71,7 +71,7 @@ add_element-returns-in_ok-add_graph_name-in-Graph t c =
     let xs = c.args.scope.now in
     let ys = c.add_graph_name.new.scope in
     let zs = c.add_group-in-Graph.new.scope in
-    let e = ap element_of c.in-Graph.is ∙ graph_stands_for c.in-Graph.name c.in-Graph.elements in
+    let e = ap element_of c.in-Graph.is ∙ graph_denotes c.in-Graph.name c.in-Graph.elements in
     record {
       scope = IfOk-weaker c.add_group-in-Graph.result _ _
           (λ b k. subst (λ e. AddsScope e b xs zs) (sym e)

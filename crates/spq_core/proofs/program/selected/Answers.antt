@@ -17,4 +17,4 @@ pub returns-in-Ok-answer_query : goal.returns-in-Ok-answer_query
 returns-in-Ok-answer_query g c =
     let query = query_of c.in-Ok.query in
     loaded g.S.Source.left g.S.Source.failures IsLoadedFrom (select c.args.query.now) _ _ _ c.in_ok-store.store (query, c.in-Ok.ensures.query) (part_loaded _ _ c.in_ok-store.store c.in_ok-store.ensures.loaded) c.in_ok-store.ensures (Ok _)
-    (composed_select c.a_dataset_is_a_set.ensures.answers c.a_bag_has_one_sorted_list.ensures.same _ _ c.args.query.now query c.in_ok-store.store _ c.in-Ok.ensures.query c.in_ok-store.ensures.loaded c.in-Ok-answer_query.ensures.answer) tt
+    (composed_select c.a_dataset_is_a_set.ensures.same_results c.a_bag_has_one_sorted_list.ensures.same _ _ c.args.query.now query c.in_ok-store.store _ c.in-Ok.ensures.query c.in_ok-store.ensures.loaded c.in-Ok-answer_query.ensures.answer) tt

@@ -5,7 +5,7 @@ pub returns-in-Ok : goal.returns-in-Ok
 returns-in-Ok g c = record {
   run = inl (record {
     command = c.in-Ok.command;
-    told = c.in-Ok.ensures.ok;
+    command_line = c.in-Ok.ensures.ok;
     run = c.run_command.ensures.run;
     alone = c.run_command.ensures.alone;
     unread = c.run_command.ensures.unread;

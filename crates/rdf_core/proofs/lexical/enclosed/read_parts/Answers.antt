@@ -17,7 +17,7 @@ returns-in_default-escape-clause-value c =
 pub loop-c-preserved-then-c-eq92 : goal.loop-c-preserved-then-c-eq92
 loop-c-preserved-then-c-eq92 c =
     let e = c.in-Some-escape.ensures in
-    goes_on c.args.kind c.args.close (string_bytes c.loop-c.value) c.loop-c.rest.now c.args.text.now c.in-Some-escape.meant c.in-Some-escape.behind.now (string_bytes c.push.new.self) c.loop-c.invariant
+    goes_on c.args.kind c.args.close (string_bytes c.loop-c.value) c.loop-c.rest.now c.args.text.now c.in-Some-escape.meant c.in-Some-escape.remaining.now (string_bytes c.push.new.self) c.loop-c.invariant
     (at_escape c.args.kind c.args.close c.in-Some.c _ _ c.in-Some-escape.meant e.skipped c.in-Some.ensures.0 (sym c.is_close.ensures ∙ c.if-is_close.false) c.if-c-eq92.true e.is ∙ ap (λ cs. with_char c.in-Some-escape.meant (parts_at c.args.kind c.args.close 0 cs)) (sym e.left))
     c.in_ok-push.ensures.bytes e.utf8
 

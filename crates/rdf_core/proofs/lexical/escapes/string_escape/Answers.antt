@@ -1,5 +1,5 @@
 use Rattle.std.proofs.Common.{◌∙◌, refl, sym}
-use Rattle.rdf_core.proofs.EscapeSteps.{string_nil, string_echar, string_uchar, option_weaker, names_behind, NamesChar-same}
+use Rattle.rdf_core.proofs.EscapeSteps.{string_nil, string_echar, string_uchar, option_weaker, names_after, NamesChar-same}
 use Rattle.rdf_core.proofs.lexical.escapes.string_escape.Goals as goal
 
 pub returns-in_err-letter : goal.returns-in_err-letter
@@ -9,7 +9,7 @@ pub returns-in-Some : goal.returns-in-Some
 returns-in-Some c =
     let e = c.in_ok-letter.ensures in
     let read = string_echar _ _ _ c.in-Some.c e.0 (sym c.in-Some.ensures.value) in
-    names_behind _ c.args.text.now c.in_ok-letter.after.now c.in_ok-letter.letter c.in-Some.c 0 c.in_ok-letter.after.now e.0 read refl e.1
+    names_after _ c.args.text.now c.in_ok-letter.after.now c.in_ok-letter.letter c.in-Some.c 0 c.in_ok-letter.after.now e.0 read refl e.1
 
 pub returns-in-None : goal.returns-in-None
 returns-in-None c =

@@ -1,6 +1,6 @@
 use Rattle.std.proofs.Common.{arith}
 use Rattle.rdf_core.specs.declared.lexical.escapes.Inside.TheVariants.{Quoted}
-use Rattle.rdf_core.proofs.PlainSteps.{plain_found, before_sign, behind_sign}
+use Rattle.rdf_core.proofs.PlainSteps.{plain_found, before_sign, after_sign}
 use Rattle.rdf_core.proofs.lexical.plain.plain_string.Goals as goal
 
 pub range-requires-clause-end_boundary : goal.range-requires-clause-end_boundary
@@ -9,7 +9,7 @@ range-requires-clause-end_boundary c =
 
 pub range_from-requires : goal.range_from-requires
 range_from-requires c =
-    λ _. behind_sign Quoted 34 c.args.text.now c.as_bytes.result.now c.in_ok-end.end c.as_bytes.ensures.value c.utf8.text (omega arith) c.in_ok-end.ensures
+    λ _. after_sign Quoted 34 c.args.text.now c.as_bytes.result.now c.in_ok-end.end c.as_bytes.ensures.value c.utf8.text (omega arith) c.in_ok-end.ensures
 
 pub returns : goal.returns
 returns c =

@@ -21,12 +21,12 @@ use Rattle.sparql_algebra.specs.declared.operator.GraphName.{GraphName}
 use Rattle.sparql_algebra.specs.declared.operator.Operator.{Operator}
 use Rattle.sparql_eval.specs.Computed.{TakesOnly}
 use Rattle.sparql_eval.specs.Evaluated.{IsEvaluated}
-use Rattle.sparql_eval.specs.TreeSolutions.{Wanted, graph_solutions, tree_solutions}
+use Rattle.sparql_eval.specs.TreeSolutions.{Needed, graph_solutions, tree_solutions}
 use Rattle.sparql_eval.proofs.NamedSteps.{each_done, each_more, graph_known}
 use Rattle.sparql_eval.proofs.ReadingLaws.{Known, all_taken, grown_itself, grown_twice, read_by, rows_kept}
 use Rattle.sparql_eval.proofs.EvaluateSteps.{active_kept, after_left, after_one, after_right, all_below, as_whole, index_kept, tree_kept, join_keeps, left_join_keeps, union_keeps, minus_keeps, filter_keeps, extend_keeps, project_keeps, distinct_keeps}
-use Rattle.sparql_eval.proofs.TreeSteps.{distinct_stands_for, distinct_tree, extend_stands_for, extend_tree, filter_stands_for, filter_tree, graph_stands_for, graph_tree, join_stands_for, join_tree, left_join_stands_for, left_join_tree, minus_stands_for, minus_tree, project_stands_for, project_tree, table_stands_for, table_tree, union_stands_for, union_tree}
-use Rattle.sparql_eval.proofs.ComputedSteps.{WantedIn, takes_as, takes_both, takes_in_each, takes_nothing, takes_still, takes_values}
+use Rattle.sparql_eval.proofs.TreeSteps.{distinct_denotes, distinct_tree, extend_denotes, extend_tree, filter_denotes, filter_tree, graph_denotes, graph_tree, join_denotes, join_tree, left_join_denotes, left_join_tree, minus_denotes, minus_tree, project_denotes, project_tree, table_denotes, table_tree, union_denotes, union_tree}
+use Rattle.sparql_eval.proofs.ComputedSteps.{NeededIn, takes_as, takes_both, takes_in_each, takes_nothing, takes_still, takes_values}
 use Rattle.sparql_eval.proofs.TakingLaws.{takes_none}
 use Rattle.sparql_eval.proofs.evaluator.Evaluator.+solve.Goals as goal
 
@@ -35,7 +35,7 @@ use Rattle.sparql_eval.proofs.evaluator.Evaluator.+solve.Goals as goal
 pub solve-returns-in-Pattern-clause-needed : goal.solve-returns-in-Pattern-clause-needed
 solve-returns-in-Pattern-clause-needed g t c =
     let s = c.args.self.now in
-    takes_nothing (Wanted c.args.dict s.index.now s.width c.args.active (algebra_of c.args.tree.now)) c.args.dict c.pattern.result c.pattern.ensures.same_dict
+    takes_nothing (Needed c.args.dict s.index.now s.width c.args.active (algebra_of c.args.tree.now)) c.args.dict c.pattern.result c.pattern.ensures.same_dict
 
 -- ---- Join
 
@@ -62,7 +62,7 @@ solve-returns-in_ok-left-in-Join-clause-needed g t c =
     let L = algebra_of c.deref.result.now in
     let R = algebra_of c.deref-in-Join.result.now in
     takes_both c.args.dict c.in_ok-left-in-Join.dict c.in_ok-left-in-Join.ensures.evaluated.grown s.index.now c.requires.index s.width c.args.active c.requires.active c.solve_join.result
-    L R (algebra_of c.args.tree.now) (algebra.Join L R) (ap algebra_of c.in-Join.is ∙ join_stands_for c.in-Join.left c.in-Join.right ∙ (λ i. algebra.Join (algebra_of ((sym c.deref.ensures) i)) (algebra_of ((sym c.deref-in-Join.ensures) i)))) (λ x m. m)
+    L R (algebra_of c.args.tree.now) (algebra.Join L R) (ap algebra_of c.in-Join.is ∙ join_denotes c.in-Join.left c.in-Join.right ∙ (λ i. algebra.Join (algebra_of ((sym c.deref.ensures) i)) (algebra_of ((sym c.deref-in-Join.ensures) i)))) (λ x m. m)
     c.in_ok-left-in-Join.ensures.needed c.solve_join.ensures.needed
 
 -- ---- LeftJoin
@@ -90,7 +90,7 @@ solve-returns-in_ok-left-in-LeftJoin-clause-needed g t c =
     let L = algebra_of c.deref-in-LeftJoin.result.now in
     let R = algebra_of c.deref-in-LeftJoin-2.result.now in
     takes_both c.args.dict c.in_ok-left-in-LeftJoin.dict c.in_ok-left-in-LeftJoin.ensures.evaluated.grown s.index.now c.requires.index s.width c.args.active c.requires.active c.solve_left_join.result
-    L R (algebra_of c.args.tree.now) (algebra.LeftJoin L R (expression_of c.in-LeftJoin.condition)) (ap algebra_of c.in-LeftJoin.is ∙ left_join_stands_for c.in-LeftJoin.left c.in-LeftJoin.right c.in-LeftJoin.condition ∙ (λ i. algebra.LeftJoin (algebra_of ((sym c.deref-in-LeftJoin.ensures) i)) (algebra_of ((sym c.deref-in-LeftJoin-2.ensures) i)) (expression_of c.in-LeftJoin.condition))) (λ x m. m)
+    L R (algebra_of c.args.tree.now) (algebra.LeftJoin L R (expression_of c.in-LeftJoin.condition)) (ap algebra_of c.in-LeftJoin.is ∙ left_join_denotes c.in-LeftJoin.left c.in-LeftJoin.right c.in-LeftJoin.condition ∙ (λ i. algebra.LeftJoin (algebra_of ((sym c.deref-in-LeftJoin.ensures) i)) (algebra_of ((sym c.deref-in-LeftJoin-2.ensures) i)) (expression_of c.in-LeftJoin.condition))) (λ x m. m)
     c.in_ok-left-in-LeftJoin.ensures.needed c.solve_left_join.ensures.needed
 
 -- ---- Union
@@ -118,7 +118,7 @@ solve-returns-in_ok-left-in-Union-clause-needed g t c =
     let L = algebra_of c.deref-in-Union.result.now in
     let R = algebra_of c.deref-in-Union-2.result.now in
     takes_both c.args.dict c.in_ok-left-in-Union.dict c.in_ok-left-in-Union.ensures.evaluated.grown s.index.now c.requires.index s.width c.args.active c.requires.active c.solve_union.result
-    L R (algebra_of c.args.tree.now) (algebra.Union L R) (ap algebra_of c.in-Union.is ∙ union_stands_for c.in-Union.left c.in-Union.right ∙ (λ i. algebra.Union (algebra_of ((sym c.deref-in-Union.ensures) i)) (algebra_of ((sym c.deref-in-Union-2.ensures) i)))) (λ x m. m)
+    L R (algebra_of c.args.tree.now) (algebra.Union L R) (ap algebra_of c.in-Union.is ∙ union_denotes c.in-Union.left c.in-Union.right ∙ (λ i. algebra.Union (algebra_of ((sym c.deref-in-Union.ensures) i)) (algebra_of ((sym c.deref-in-Union-2.ensures) i)))) (λ x m. m)
     c.in_ok-left-in-Union.ensures.needed c.solve_union.ensures.needed
 
 -- ---- Minus
@@ -146,7 +146,7 @@ solve-returns-in_ok-left-in-Minus-clause-needed g t c =
     let L = algebra_of c.deref-in-Minus.result.now in
     let R = algebra_of c.deref-in-Minus-2.result.now in
     takes_both c.args.dict c.in_ok-left-in-Minus.dict c.in_ok-left-in-Minus.ensures.evaluated.grown s.index.now c.requires.index s.width c.args.active c.requires.active c.solve_minus.result
-    L R (algebra_of c.args.tree.now) (algebra.Minus L R) (ap algebra_of c.in-Minus.is ∙ minus_stands_for c.in-Minus.left c.in-Minus.right ∙ (λ i. algebra.Minus (algebra_of ((sym c.deref-in-Minus.ensures) i)) (algebra_of ((sym c.deref-in-Minus-2.ensures) i)))) (λ x m. m)
+    L R (algebra_of c.args.tree.now) (algebra.Minus L R) (ap algebra_of c.in-Minus.is ∙ minus_denotes c.in-Minus.left c.in-Minus.right ∙ (λ i. algebra.Minus (algebra_of ((sym c.deref-in-Minus.ensures) i)) (algebra_of ((sym c.deref-in-Minus-2.ensures) i)))) (λ x m. m)
     c.in_ok-left-in-Minus.ensures.needed c.solve_minus.ensures.needed
 
 -- ---- Filter
@@ -163,7 +163,7 @@ pub solve-returns-in-Filter-clause-needed : goal.solve-returns-in-Filter-clause-
 solve-returns-in-Filter-clause-needed g t c =
     let s = c.args.self.now in
     takes_as c.args.dict s.index.now s.width c.args.active c.solve_filter.result (algebra_of c.args.tree.now) (algebra.Filter (expression_of c.in-Filter.condition) (algebra_of c.deref-in-Filter.result.now))
-    (ap algebra_of c.in-Filter.is ∙ filter_stands_for c.in-Filter.condition c.in-Filter.inner ∙ (λ i. algebra.Filter (expression_of c.in-Filter.condition) (algebra_of ((sym c.deref-in-Filter.ensures) i))))
+    (ap algebra_of c.in-Filter.is ∙ filter_denotes c.in-Filter.condition c.in-Filter.inner ∙ (λ i. algebra.Filter (expression_of c.in-Filter.condition) (algebra_of ((sym c.deref-in-Filter.ensures) i))))
     c.solve_filter.ensures.needed
 
 -- ---- Extend
@@ -180,7 +180,7 @@ pub solve-returns-in-Extend-clause-needed : goal.solve-returns-in-Extend-clause-
 solve-returns-in-Extend-clause-needed g t c =
     let s = c.args.self.now in
     takes_as c.args.dict s.index.now s.width c.args.active c.solve_extend.result (algebra_of c.args.tree.now) (algebra.Extend c.in-Extend.variable (expression_of c.in-Extend.expression) (algebra_of c.deref-in-Extend.result.now))
-    (ap algebra_of c.in-Extend.is ∙ extend_stands_for c.in-Extend.variable c.in-Extend.expression c.in-Extend.inner ∙ (λ i. algebra.Extend c.in-Extend.variable (expression_of c.in-Extend.expression) (algebra_of ((sym c.deref-in-Extend.ensures) i))))
+    (ap algebra_of c.in-Extend.is ∙ extend_denotes c.in-Extend.variable c.in-Extend.expression c.in-Extend.inner ∙ (λ i. algebra.Extend c.in-Extend.variable (expression_of c.in-Extend.expression) (algebra_of ((sym c.deref-in-Extend.ensures) i))))
     c.solve_extend.ensures.needed
 
 -- ---- Project
@@ -197,7 +197,7 @@ pub solve-returns-in-Project-clause-needed : goal.solve-returns-in-Project-claus
 solve-returns-in-Project-clause-needed g t c =
     let s = c.args.self.now in
     takes_as c.args.dict s.index.now s.width c.args.active c.solve_project.result (algebra_of c.args.tree.now) (algebra.Project c.as_slice-in-Project.result.now (algebra_of c.deref-in-Project.result.now))
-    (ap algebra_of c.in-Project.is ∙ project_stands_for c.in-Project.variables c.in-Project.inner ∙ (λ i. algebra.Project ((sym c.as_slice-in-Project.ensures.value) i) (algebra_of ((sym c.deref-in-Project.ensures) i))))
+    (ap algebra_of c.in-Project.is ∙ project_denotes c.in-Project.variables c.in-Project.inner ∙ (λ i. algebra.Project ((sym c.as_slice-in-Project.ensures.value) i) (algebra_of ((sym c.deref-in-Project.ensures) i))))
     c.solve_project.ensures.needed
 
 -- ---- Distinct
@@ -214,7 +214,7 @@ pub solve-returns-in-Distinct-clause-needed : goal.solve-returns-in-Distinct-cla
 solve-returns-in-Distinct-clause-needed g t c =
     let s = c.args.self.now in
     takes_as c.args.dict s.index.now s.width c.args.active c.solve_distinct.result (algebra_of c.args.tree.now) (algebra.Distinct (algebra_of c.deref-in-Distinct.result.now))
-    (ap algebra_of c.in-Distinct.is ∙ distinct_stands_for c.in-Distinct.inner ∙ (λ i. algebra.Distinct (algebra_of ((sym c.deref-in-Distinct.ensures) i))))
+    (ap algebra_of c.in-Distinct.is ∙ distinct_denotes c.in-Distinct.inner ∙ (λ i. algebra.Distinct (algebra_of ((sym c.deref-in-Distinct.ensures) i))))
     c.solve_distinct.ensures.needed
 
 -- ---- an operator over the rows of its inputs
@@ -231,7 +231,7 @@ solve_join-returns-clause-evaluated g t c =
 pub solve_join-returns-clause-needed : goal.solve_join-returns-clause-needed
 solve_join-returns-clause-needed g t c =
     let s = c.args.self.now in
-    takes_still (Wanted c.args.dict s.index.now s.width c.args.active (algebra_of c.args.right.now)) c.args.dict c.in_ok-right.dict c.join.result c.in_ok-right.ensures.needed c.join.ensures.same_dict
+    takes_still (Needed c.args.dict s.index.now s.width c.args.active (algebra_of c.args.right.now)) c.args.dict c.in_ok-right.dict c.join.result c.in_ok-right.ensures.needed c.join.ensures.same_dict
 
 pub solve_left_join-left_join-requires-clause-known_left : goal.solve_left_join-left_join-requires-clause-known_left
 solve_left_join-left_join-requires-clause-known_left g t c κs within = (rows_kept c.args.dict c.in_ok-right.dict c.in_ok-right.ensures.evaluated.grown c.args.left.rows c.requires.known_left).0
@@ -245,7 +245,7 @@ solve_left_join-returns-clause-evaluated g t c =
 pub solve_left_join-returns-clause-needed : goal.solve_left_join-returns-clause-needed
 solve_left_join-returns-clause-needed g t c =
     let s = c.args.self.now in
-    takes_still (Wanted c.args.dict s.index.now s.width c.args.active (algebra_of c.args.right.now)) c.args.dict c.in_ok-right.dict c.left_join.result c.in_ok-right.ensures.needed c.left_join.ensures.same_dict
+    takes_still (Needed c.args.dict s.index.now s.width c.args.active (algebra_of c.args.right.now)) c.args.dict c.in_ok-right.dict c.left_join.result c.in_ok-right.ensures.needed c.left_join.ensures.same_dict
 
 pub solve_union-union_of-requires-clause-known_left : goal.solve_union-union_of-requires-clause-known_left
 solve_union-union_of-requires-clause-known_left g t c = (rows_kept c.args.dict c.in_ok-right.dict c.in_ok-right.ensures.evaluated.grown c.args.left.rows c.requires.known_left).0
@@ -259,7 +259,7 @@ solve_union-returns-clause-evaluated g t c =
 pub solve_union-returns-clause-needed : goal.solve_union-returns-clause-needed
 solve_union-returns-clause-needed g t c =
     let s = c.args.self.now in
-    takes_still (Wanted c.args.dict s.index.now s.width c.args.active (algebra_of c.args.right.now)) c.args.dict c.in_ok-right.dict c.union_of.result c.in_ok-right.ensures.needed c.union_of.ensures.same_dict
+    takes_still (Needed c.args.dict s.index.now s.width c.args.active (algebra_of c.args.right.now)) c.args.dict c.in_ok-right.dict c.union_of.result c.in_ok-right.ensures.needed c.union_of.ensures.same_dict
 
 pub solve_minus-minus-requires-clause-known_left : goal.solve_minus-minus-requires-clause-known_left
 solve_minus-minus-requires-clause-known_left g t c κs within = (rows_kept c.args.dict c.in_ok-right.dict c.in_ok-right.ensures.evaluated.grown c.args.left.rows c.requires.known_left).0
@@ -273,7 +273,7 @@ solve_minus-returns-clause-evaluated g t c =
 pub solve_minus-returns-clause-needed : goal.solve_minus-returns-clause-needed
 solve_minus-returns-clause-needed g t c =
     let s = c.args.self.now in
-    takes_still (Wanted c.args.dict s.index.now s.width c.args.active (algebra_of c.args.right.now)) c.args.dict c.in_ok-right.dict c.minus.result c.in_ok-right.ensures.needed c.minus.ensures.same_dict
+    takes_still (Needed c.args.dict s.index.now s.width c.args.active (algebra_of c.args.right.now)) c.args.dict c.in_ok-right.dict c.minus.result c.in_ok-right.ensures.needed c.minus.ensures.same_dict
 
 pub solve_filter-returns-clause-evaluated : goal.solve_filter-returns-clause-evaluated
 solve_filter-returns-clause-evaluated g t c =
@@ -284,7 +284,7 @@ solve_filter-returns-clause-evaluated g t c =
 pub solve_filter-returns-clause-needed : goal.solve_filter-returns-clause-needed
 solve_filter-returns-clause-needed g t c =
     let s = c.args.self.now in
-    takes_still (Wanted c.args.dict s.index.now s.width c.args.active (algebra_of c.args.inner.now)) c.args.dict c.in_ok-rows.dict c.filter.result c.in_ok-rows.ensures.needed c.filter.ensures.same_dict
+    takes_still (Needed c.args.dict s.index.now s.width c.args.active (algebra_of c.args.inner.now)) c.args.dict c.in_ok-rows.dict c.filter.result c.in_ok-rows.ensures.needed c.filter.ensures.same_dict
 
 pub solve_extend-returns-clause-evaluated : goal.solve_extend-returns-clause-evaluated
 solve_extend-returns-clause-evaluated g t c =
@@ -307,7 +307,7 @@ solve_project-returns-clause-evaluated g t c =
 pub solve_project-returns-clause-needed : goal.solve_project-returns-clause-needed
 solve_project-returns-clause-needed g t c =
     let s = c.args.self.now in
-    takes_still (Wanted c.args.dict s.index.now s.width c.args.active (algebra_of c.args.inner.now)) c.args.dict c.in_ok-rows.dict c.project.result c.in_ok-rows.ensures.needed c.project.ensures.same_dict
+    takes_still (Needed c.args.dict s.index.now s.width c.args.active (algebra_of c.args.inner.now)) c.args.dict c.in_ok-rows.dict c.project.result c.in_ok-rows.ensures.needed c.project.ensures.same_dict
 
 pub solve_distinct-returns-clause-evaluated : goal.solve_distinct-returns-clause-evaluated
 solve_distinct-returns-clause-evaluated g t c =
@@ -318,7 +318,7 @@ solve_distinct-returns-clause-evaluated g t c =
 pub solve_distinct-returns-clause-needed : goal.solve_distinct-returns-clause-needed
 solve_distinct-returns-clause-needed g t c =
     let s = c.args.self.now in
-    takes_still (Wanted c.args.dict s.index.now s.width c.args.active (algebra_of c.args.inner.now)) c.args.dict c.in_ok-rows.dict c.distinct.result c.in_ok-rows.ensures.needed c.distinct.ensures.same_dict
+    takes_still (Needed c.args.dict s.index.now s.width c.args.active (algebra_of c.args.inner.now)) c.args.dict c.in_ok-rows.dict c.distinct.result c.in_ok-rows.ensures.needed c.distinct.ensures.same_dict
 
 -- ---- Table
 
@@ -326,7 +326,7 @@ pub solve-table-requires : goal.solve-table-requires
 solve-table-requires g t c = record {
   below = all_below c.args.self.now.width c.as_slice-variables.result.now
       (subst (λ (vs : List ℕ). list_all (λ v. nat_lt v c.args.self.now.width) vs ≡ true) (sym c.as_slice-variables.ensures.value)
-      (subst (λ (A : Algebra). is_within c.args.self.now.width A ≡ true) (ap algebra_of c.in-Table.is ∙ table_stands_for c.in-Table.variables c.in-Table.rows) c.requires.within));
+      (subst (λ (A : Algebra). is_within c.args.self.now.width A ≡ true) (ap algebra_of c.in-Table.is ∙ table_denotes c.in-Table.variables c.in-Table.rows) c.requires.within));
 }
 
 pub solve-returns-in-Table-clause-evaluated : goal.solve-returns-in-Table-clause-evaluated
@@ -341,7 +341,7 @@ pub solve-returns-in-Table-clause-needed : goal.solve-returns-in-Table-clause-ne
 solve-returns-in-Table-clause-needed g t c =
     let s = c.args.self.now in
     takes_as c.args.dict s.index.now s.width c.args.active c.table.result (algebra_of c.args.tree.now) (algebra.Table c.as_slice-variables.result.now (map (λ row. row.items) c.as_slice-in-Table.result.now))
-    (ap algebra_of c.in-Table.is ∙ table_stands_for c.in-Table.variables c.in-Table.rows ∙ (λ i. algebra.Table ((sym c.as_slice-variables.ensures.value) i) (map (λ row. row.items) ((sym c.as_slice-in-Table.ensures.value) i)))) c.table.ensures.needed
+    (ap algebra_of c.in-Table.is ∙ table_denotes c.in-Table.variables c.in-Table.rows ∙ (λ i. algebra.Table ((sym c.as_slice-variables.ensures.value) i) (map (λ row. row.items) ((sym c.as_slice-in-Table.ensures.value) i)))) c.table.ensures.needed
 
 -- ---- Graph
 
@@ -357,12 +357,12 @@ pub solve-returns-in-Graph-clause-needed : goal.solve-returns-in-Graph-clause-ne
 solve-returns-in-Graph-clause-needed g t c =
     let s = c.args.self.now in
     takes_as c.args.dict s.index.now s.width c.args.active c.solve_graph.result (algebra_of c.args.tree.now) (algebra.Graph (graph_name_of c.in-Graph.name) (algebra_of c.deref-in-Graph.result.now))
-    (ap algebra_of c.in-Graph.is ∙ graph_stands_for c.in-Graph.name c.in-Graph.inner ∙ (λ i. algebra.Graph (graph_name_of c.in-Graph.name) (algebra_of ((sym c.deref-in-Graph.ensures) i)))) c.solve_graph.ensures.needed
+    (ap algebra_of c.in-Graph.is ∙ graph_denotes c.in-Graph.name c.in-Graph.inner ∙ (λ i. algebra.Graph (graph_name_of c.in-Graph.name) (algebra_of ((sym c.deref-in-Graph.ensures) i)))) c.solve_graph.ensures.needed
 
 pub solve_graph-returns-in-Variable-clause-needed : goal.solve_graph-returns-in-Variable-clause-needed
 solve_graph-returns-in-Variable-clause-needed g t c =
     let s = c.args.self.now in
-    subst (λ (n : GraphName). IfOk c.solve_each.result (λ r. TakesOnly (WantedIn c.args.dict s.index.now s.width (algebra_of c.args.inner.now) (graph_name_of n)) c.args.dict r.1)) (sym c.in-Variable.is) c.solve_each.ensures.needed
+    subst (λ (n : GraphName). IfOk c.solve_each.result (λ r. TakesOnly (NeededIn c.args.dict s.index.now s.width (algebra_of c.args.inner.now) (graph_name_of n)) c.args.dict r.1)) (sym c.in-Variable.is) c.solve_each.ensures.needed
 
 pub solve_each-solve-requires-clause-active : goal.solve_each-solve-requires-clause-active
 solve_each-solve-requires-clause-active g t c κs within =
@@ -380,7 +380,7 @@ solve_each-loop-i-init g t c =
     record {
       width = ap (λ (r : RowList). r.width) e;
       grown = grown_itself c.args.dict;
-      takes = takes_none (WantedIn c.args.dict c.args.self.now.index.now c.args.self.now.width (algebra_of c.args.inner.now) (each_graph c.args.variable)) c.args.dict;
+      takes = takes_none (NeededIn c.args.dict c.args.self.now.index.now c.args.self.now.width (algebra_of c.args.inner.now) (each_graph c.args.variable)) c.args.dict;
       known = subst (Each (Known c.args.dict)) (sym none) tt;
       bag = subst (λ (l : List (Solution ℕ)). IsSameBag (map (read_by c.args.dict) l) []) (sym none) (IsPermutation-refl []);
     }

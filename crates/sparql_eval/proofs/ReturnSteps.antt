@@ -5,8 +5,8 @@ use Rattle.row_core.specs.RowList.{RowList}
 
 module _ {E : Type 0} (made : Result RowList E) (r : Result (RowList × List Term) E) where
   -- what is true of the rows with the dictionary is true of the result
-  pub answered : (P : RowList → List Term → Type 0) (terms : List Term) → IfOk r (λ x. made ≡ Ok x.0) → IfOk r (λ x. x.1 ≡ terms) → IfOk made (λ m. P m terms) → IfOk r (λ x. P x.0 x.1)
-  answered P terms rows same h = by r rows same
+  pub returned : (P : RowList → List Term → Type 0) (terms : List Term) → IfOk r (λ x. made ≡ Ok x.0) → IfOk r (λ x. x.1 ≡ terms) → IfOk made (λ m. P m terms) → IfOk r (λ x. P x.0 x.1)
+  returned P terms rows same h = by r rows same
     where
       by : (r : Result (RowList × List Term) E) → IfOk r (λ x. made ≡ Ok x.0) → IfOk r (λ x. x.1 ≡ terms) → IfOk r (λ x. P x.0 x.1)
       by (Ok x) e f = subst (λ t. P x.0 t) (sym f) (subst (λ (m : Result RowList E). IfOk m (λ m. P m terms)) e h)

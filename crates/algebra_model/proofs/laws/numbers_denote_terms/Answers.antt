@@ -5,27 +5,27 @@ use Rattle.rdf_core.proofs.TermLaws.{term_eq, term_decides}
 use Rattle.algebra_model.specs.Operators.{join, left_join, minus, extend, project, distinct, table}
 use Rattle.algebra_model.specs.Renaming.{read_row}
 use Rattle.algebra_model.proofs.BagLaws.{same_bag}
-use Rattle.algebra_model.proofs.NumberLaws.{reading_tells, nothing_asked_of_all}
+use Rattle.algebra_model.proofs.NumberLaws.{equal_when_read, nothing_asked_of_all}
 use Rattle.algebra_model.proofs.ReadingLaws.{join-read, minus-read, filter-read}
 use Rattle.algebra_model.proofs.OperatorReadingLaws.{left_join-read, extend-read, project-read, distinct-read, table-read}
 use Rattle.algebra_model.proofs.BgpReadingLaws.{bgp-read}
-use Rattle.algebra_model.proofs.laws.numbers_stand_for_terms.Goals as goal
+use Rattle.algebra_model.proofs.laws.numbers_denote_terms.Goals as goal
 
 pub returns-clause-pattern : goal.returns-clause-pattern
-returns-clause-pattern c = λ n f h. bgp-read nat_eq term_eq (λ x. x < n) f (reading_tells n f h) Decides-eqb term_decides
+returns-clause-pattern c = λ n f h. bgp-read nat_eq term_eq (λ x. x < n) f (equal_when_read n f h) Decides-eqb term_decides
 
 pub returns-clause-join : goal.returns-clause-join
 returns-clause-join c = λ n f h A B i j.
-    same_bag (map (read_row f) (join nat_eq A B)) (join term_eq (map (read_row f) A) (map (read_row f) B)) (sym (join-read nat_eq term_eq (λ x. x < n) f (reading_tells n f h) A B i j))
+    same_bag (map (read_row f) (join nat_eq A B)) (join term_eq (map (read_row f) A) (map (read_row f) B)) (sym (join-read nat_eq term_eq (λ x. x < n) f (equal_when_read n f h) A B i j))
 
 pub returns-clause-left_join : goal.returns-clause-left_join
 returns-clause-left_join c = λ n f h keeps A B i j.
     same_bag (map (read_row f) (left_join nat_eq (λ μ. keeps (read_row f μ)) A B)) (left_join term_eq keeps (map (read_row f) A) (map (read_row f) B))
-    (sym (left_join-read nat_eq term_eq (λ x. x < n) f (reading_tells n f h) keeps (λ μ. keeps (read_row f μ)) (λ μ e. refl) A B i j))
+    (sym (left_join-read nat_eq term_eq (λ x. x < n) f (equal_when_read n f h) keeps (λ μ. keeps (read_row f μ)) (λ μ e. refl) A B i j))
 
 pub returns-clause-minus : goal.returns-clause-minus
 returns-clause-minus c = λ n f h A B i j.
-    same_bag (map (read_row f) (minus nat_eq A B)) (minus term_eq (map (read_row f) A) (map (read_row f) B)) (sym (minus-read nat_eq term_eq (λ x. x < n) f (reading_tells n f h) A B i j))
+    same_bag (map (read_row f) (minus nat_eq A B)) (minus term_eq (map (read_row f) A) (map (read_row f) B)) (sym (minus-read nat_eq term_eq (λ x. x < n) f (equal_when_read n f h) A B i j))
 
 pub returns-clause-union : goal.returns-clause-union
 returns-clause-union c = λ f A B. same_bag (map (read_row f) (A ++ B)) (map (read_row f) A ++ map (read_row f) B) (map-append (read_row f) A B)
@@ -46,7 +46,7 @@ returns-clause-project c = λ f vs A.
 
 pub returns-clause-distinct : goal.returns-clause-distinct
 returns-clause-distinct c = λ n f h A i.
-    same_bag (map (read_row f) (distinct nat_eq A)) (distinct term_eq (map (read_row f) A)) (sym (distinct-read nat_eq term_eq (λ x. x < n) f (reading_tells n f h) A i))
+    same_bag (map (read_row f) (distinct nat_eq A)) (distinct term_eq (map (read_row f) A)) (sym (distinct-read nat_eq term_eq (λ x. x < n) f (equal_when_read n f h) A i))
 
 pub returns-clause-table : goal.returns-clause-table
 returns-clause-table c = λ f w vs rows.

@@ -10,7 +10,7 @@ use Rattle.sparql_read.specs.declared.fault.QueryFault.TheVariants.{Syntax, Unde
 use Rattle.sparql_read.specs.Prologue.{declarations}
 use Rattle.sparql_read.specs.Derives.{Derives, tree_of}
 use Rattle.sparql_read.specs.Rejection.{IsReadResult, IsRejectedBy, rank}
-use Rattle.sparql_read.proofs.RefusalLaws.{OneScan, OneQuery}
+use Rattle.sparql_read.proofs.RejectionLaws.{OneScan, OneQuery}
 
 pub one_tree : OneScan → OneQuery → (text : List ℕ) (q r : QueryTree) → Derives text q → Derives text r → q ≡ r
 one_tree one only text q r d e =
@@ -34,23 +34,23 @@ same_place : (m n : ℕ) → (m < n → ⊥) → (n < m → ⊥) → m ≡ n
 same_place m n a b =
     elim (cases_lt m n) [ inl l ↦ absurd (a l) | inr h ↦ elim (cases_lt n m) [ inl l ↦ absurd (b l) | inr k ↦ omega (arith, h, k) ] ]
 
-one_refusal : (text : List ℕ) (e f : QueryFault) → IsRejectedBy text e → IsRejectedBy text f → e ≡ f
-one_refusal text e f h k =
+one_rejection : (text : List ℕ) (e f : QueryFault) → IsRejectedBy text e → IsRejectedBy text f → e ≡ f
+one_rejection text e f h k =
     let same = same_place (rank e) (rank f) (λ l. k.first e l h.applies) (λ l. h.first f l k.applies) in
     sym (by_its_rank e) ∙ (ap by_rank same ∙ by_its_rank f)
 
-told : (text : List ℕ) (e : QueryFault) → (e ≡ Memory → ⊥) → IsReadResult text (Err e) → IsRejectedBy text e
-told text TooDeep n h = h
-told text Syntax n h = h
-told text UndefinedPrefix n h = h
-told text RelativeIri n h = h
-told text BindScope n h = h
-told text BlankReuse n h = h
-told text Memory n h = absurd (n refl)
+rejected_by : (text : List ℕ) (e : QueryFault) → (e ≡ Memory → ⊥) → IsReadResult text (Err e) → IsRejectedBy text e
+rejected_by text TooDeep n h = h
+rejected_by text Syntax n h = h
+rejected_by text UndefinedPrefix n h = h
+rejected_by text RelativeIri n h = h
+rejected_by text BindScope n h = h
+rejected_by text BlankReuse n h = h
+rejected_by text Memory n h = absurd (n refl)
 
-pub one_answer : OneScan → OneQuery → (text : List ℕ) (r s : Result QueryTree QueryFault) → IsReadResult text r → IsReadResult text s
+pub one_result : OneScan → OneQuery → (text : List ℕ) (r s : Result QueryTree QueryFault) → IsReadResult text r → IsReadResult text s
     → (r ≡ Err Memory → ⊥) → (s ≡ Err Memory → ⊥) → r ≡ s
-one_answer one only text (Ok q) (Ok r) h k m n = ap Ok (one_tree one only text q r h.derives k.derives)
-one_answer one only text (Ok q) (Err f) h k m n = absurd (h.allowed f (told text f (λ e. n (ap Err e)) k).applies)
-one_answer one only text (Err e) (Ok r) h k m n = absurd (k.allowed e (told text e (λ x. m (ap Err x)) h).applies)
-one_answer one only text (Err e) (Err f) h k m n = ap Err (one_refusal text e f (told text e (λ x. m (ap Err x)) h) (told text f (λ x. n (ap Err x)) k))
+one_result one only text (Ok q) (Ok r) h k m n = ap Ok (one_tree one only text q r h.derives k.derives)
+one_result one only text (Ok q) (Err f) h k m n = absurd (h.allowed f (rejected_by text f (λ e. n (ap Err e)) k).applies)
+one_result one only text (Err e) (Ok r) h k m n = absurd (k.allowed e (rejected_by text e (λ x. m (ap Err x)) h).applies)
+one_result one only text (Err e) (Err f) h k m n = ap Err (one_rejection text e f (rejected_by text e (λ x. m (ap Err x)) h) (rejected_by text f (λ x. n (ap Err x)) k))

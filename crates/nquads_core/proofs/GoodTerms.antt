@@ -120,9 +120,9 @@ all_good cs (k ∷ ks) s h =
     let q = sc_parts b.word h.0 p.1 in
     (good_terminal b.word k q.0 b.terminal, all_good h.0 ks q.1 h.2)
 
-good_behind : (a b : List Terminal) → AllGood (a ++ b) → AllGood b
-good_behind [] b h = h
-good_behind (k ∷ a) b h = good_behind a b h.1
+good_after : (a b : List Terminal) → AllGood (a ++ b) → AllGood b
+good_after [] b h = h
+good_after (k ∷ a) b h = good_after a b h.1
 
 subject_good : {s : List Terminal} {t : Term} → Subject s t → (more : List Terminal) → AllGood (s ++ more) → GoodTerm t
 subject_good (iri_subject {text}) more h = h.0
@@ -148,9 +148,9 @@ term_good line q t s o =
     let st = s.derives in
     let good = all_good (chars line) s.terminals (scalars-chars line s.utf8) s.splits in
     let g0 = subst AllGood st.parts good in
-    let g1 = good_behind st.s (st.p ++ (st.o ++ (st.g ++ (dot ∷ [])))) g0 in
-    let g2 = good_behind st.p (st.o ++ (st.g ++ (dot ∷ []))) g1 in
-    let g3 = good_behind st.o (st.g ++ (dot ∷ [])) g2 in
+    let g1 = good_after st.s (st.p ++ (st.o ++ (st.g ++ (dot ∷ [])))) g0 in
+    let g2 = good_after st.p (st.o ++ (st.g ++ (dot ∷ []))) g1 in
+    let g3 = good_after st.o (st.g ++ (dot ∷ [])) g2 in
     elim o [
       | inl e ↦ subst GoodTerm (sym e) (subject_good st.subject (st.p ++ (st.o ++ (st.g ++ (dot ∷ [])))) g0)
       | inr o2 ↦ elim o2 [

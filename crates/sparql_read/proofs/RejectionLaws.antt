@@ -62,19 +62,19 @@ too_deep text end ts scans h = record {
 }
 
 -- a text that is not read whole, or whose terminals derive nothing
-syntax_refused : (text : List ℕ) → (IsTooDeep text → ⊥) → ((q : QueryTree) → Derives text q → ⊥) → IsReadResult text (Err Syntax)
-syntax_refused text deep none = record {
+syntax_rejected : (text : List ℕ) → (IsTooDeep text → ⊥) → ((q : QueryTree) → Derives text q → ⊥) → IsReadResult text (Err Syntax)
+syntax_rejected text deep none = record {
   applies = none;
   first = below text 1 (λ h. deep) (over 1 1 (omega arith)) (over 2 1 (omega arith)) (over 3 1 (omega arith)) (over 4 1 (omega arith)) (over 5 1 (omega arith));
 }
 
 pub not_whole : OneScan → (text end : List ℕ) (ts : List Terminal) → Scans text ts end → is_too_deep ts ≡ false → (end ≡ [] → ⊥) → IsReadResult text (Err Syntax)
-not_whole one text end ts scans e other = syntax_refused text (not_deep one text end ts scans e)
+not_whole one text end ts scans e other = syntax_rejected text (not_deep one text end ts scans e)
     (λ q d. other (one text end [] ts d.terminals scans d.scans).1)
 
 pub not_derived : OneScan → (text : List ℕ) (ts : List Terminal) → Scans text ts [] → is_too_deep ts ≡ false
     → ((s : Select) → Derivation (declarations ts) the.query (right_side the.query) ts s [] → ⊥) → IsReadResult text (Err Syntax)
-not_derived one text ts scans e none = syntax_refused text (not_deep one text [] ts scans e)
+not_derived one text ts scans e none = syntax_rejected text (not_deep one text [] ts scans e)
     (λ q d. none d.select (subst (λ us. Derivation (declarations us) the.query (right_side the.query) us d.select []) (one text [] [] d.terminals ts d.scans scans).0 d.derived))
 
 pub empty_list : {A : Type 0} (xs : List A) → true ≡ (length xs == 0) → xs ≡ []
@@ -125,26 +125,26 @@ module _ {text : List ℕ} {ts : List Terminal} {s : Select} (known : Known text
   blank_not : reuses_blank s.group ≡ false → Applies BlankReuse text → ⊥
   blank_not = fails_with (λ us q. reuses_blank q.group)
 
-  pub refused : (e : QueryFault) → IsChecked ts s.group (Err e) → IsReadResult text (Err e)
-  refused UndefinedPrefix h = record {
+  pub rejected : (e : QueryFault) → IsChecked ts s.group (Err e) → IsReadResult text (Err e)
+  rejected UndefinedPrefix h = record {
     applies = holds_with (λ us q. has_undefined_prefix us) h;
     first = below text 2 (λ k. deep_not) (λ k. syntax_not) (over 2 2 (omega arith)) (over 3 2 (omega arith)) (over 4 2 (omega arith)) (over 5 2 (omega arith));
   }
-  refused RelativeIri h = record {
+  rejected RelativeIri h = record {
     applies = holds_with (λ us q. has_relative_iri us) h.1;
     first = below text 3 (λ k. deep_not) (λ k. syntax_not) (λ k. undefined_not h.0) (over 3 3 (omega arith)) (over 4 3 (omega arith)) (over 5 3 (omega arith));
   }
-  refused BindScope h = record {
+  rejected BindScope h = record {
     applies = holds_with (λ us q. breaks_bind_scope q.group) h.2;
     first = below text 4 (λ k. deep_not) (λ k. syntax_not) (λ k. undefined_not h.0) (λ k. relative_not h.1) (over 4 4 (omega arith)) (over 5 4 (omega arith));
   }
-  refused BlankReuse h = record {
+  rejected BlankReuse h = record {
     applies = holds_with (λ us q. reuses_blank q.group) h.3;
     first = below text 5 (λ k. deep_not) (λ k. syntax_not) (λ k. undefined_not h.0) (λ k. relative_not h.1) (λ k. scope_not h.2) (over 5 5 (omega arith));
   }
-  refused Syntax h = absurd h
-  refused TooDeep h = absurd h
-  refused Memory h = tt
+  rejected Syntax h = absurd h
+  rejected TooDeep h = absurd h
+  rejected Memory h = tt
 
   none_applies : IsChecked ts s.group (Ok tt) → (r : QueryFault) → Applies r text → ⊥
   none_applies h TooDeep = deep_not

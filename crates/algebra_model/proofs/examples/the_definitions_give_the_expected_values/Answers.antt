@@ -1,5 +1,5 @@
 use Rattle.std.proofs.Common.{refl}
-use Rattle.algebra_model.proofs.examples.the_definitions_answer_as_expected.Goals as goal
+use Rattle.algebra_model.proofs.examples.the_definitions_give_the_expected_values.Goals as goal
 
 pub returns-clause-labels : goal.returns-clause-labels
 returns-clause-labels c = refl
