@@ -78,7 +78,7 @@ def parts():
     yield box(640, 296, 180, "sparql_expression", "terms and expressions")
     yield box(840, 296, 180, "sparql_parse", "patterns and the query")
     yield box(620, 400, 200, "sparql_tree", "the syntax tree", kind="types")
-    yield box(840, 400, 200, "sparql_algebra", "plans; expressions, whose", "terms term_values compares")
+    yield box(840, 400, 200, "sparql_algebra", "plans; expression_values", "and term_values: expressions")
     yield arrow((830, 124), (830, 149))
     yield arrow((730, 232), (730, 295))
     yield arrow((820, 319), (839, 319))

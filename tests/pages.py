@@ -62,7 +62,7 @@ SECTIONS = [
     ("sparql_read", "Reading a query", ["read_query"],
      ["Query", "Selection", "Element", "Triple", "PatternTerm", "GraphName", "Expression", "Function", "Comparison", "QueryFault"]),
     ("sparql_algebra", "Translation to the algebra", ["translate"], ["Plan", "Operator", "TriplePattern", "PatternTerm", "GraphName"]),
-    ("sparql_algebra", "Expressions", ["value", "Lookup::get", "truth", "compare"], ["Expr", "Lookup", "ExprFault", "Comparison", "Function"]),
+    ("expression_values", "Expressions", ["value", "Lookup::get", "truth", "compare"], ["Expr", "Lookup", "ExprFault", "Comparison", "Function"]),
     ("sparql_eval", "Rows of solutions", ["Rows::width", "Rows::len", "Rows::get"], ["Rows", "How", "EvalFault"]),
     ("sparql_eval", "Evaluation of a plan", ["evaluate"], []),
     ("sparql_eval", "The operators of the algebra",

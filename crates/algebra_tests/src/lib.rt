@@ -1,5 +1,5 @@
-//! Tests of the algebra: `comparisons`, `expressions` and `plans` of sparql_algebra, and
-//! `operators` and `solutions` of plain_eval. `cases` runs their tables, and `terms` reads and
+//! Tests of the algebra: `comparisons` of term_values, `expressions` of expression_values, `plans`
+//! of sparql_algebra, and `operators` and `solutions` of plain_eval. `cases` runs their tables, and `terms` reads and
 //! prints terms.
 //!
 //! Standard: SPARQL 1.1 Query Language, sections 17 and 18.

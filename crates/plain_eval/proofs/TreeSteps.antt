@@ -1,9 +1,9 @@
 -- The algebra expression of a LeftJoin of the program.
 use Rattle.std.proofs.Common.{◌≡◌, sym, ◌∙◌, ap, Box, Global}
 use Rattle.algebra_model.specs.Algebra.{Algebra, LeftJoin}
+use Rattle.expression_values.specs.ExpressionOf.{expression_of}
+use Rattle.expression_values.specs.declared.expression.Expr.{Expr}
 use Rattle.sparql_algebra.specs.AlgebraOf.{algebra_of, algebra_step}
-use Rattle.sparql_algebra.specs.ExpressionOf.{expression_of}
-use Rattle.sparql_algebra.specs.declared.expression.Expr.{Expr}
 use Rattle.sparql_algebra.specs.declared.operator.Operator.{Operator}
 use Rattle.sparql_algebra.specs.declared.operator.Operator.TheFolds.{fold-roll-Operator}
 use Rattle.sparql_algebra.specs.declared.operator.Operator.TheOpen.{Operator-F}

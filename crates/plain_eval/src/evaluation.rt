@@ -7,8 +7,8 @@ ghost use Rattle.algebra_model.specs.Dataset.{graph as dataset_graph, names};
 ghost use Rattle.algebra_model.specs.Eval.{eval, in_graphs, named};
 ghost use Rattle.algebra_model.specs.Expression.{holds, val};
 ghost use Rattle.algebra_model.specs.Operators.{distinct, extend, join, left_join, minus, project};
+ghost use Rattle.expression_values.specs.ExpressionOf.{expression_of};
 ghost use Rattle.sparql_algebra.specs.AlgebraOf.{algebra_of, graph_name_of, triple_pattern_of};
-ghost use Rattle.sparql_algebra.specs.ExpressionOf.{expression_of};
 
 use crate::dataset::{graph, names};
 use crate::operators::{distinct, extend, filter, join, left_join, minus, project, table, union};

@@ -21,7 +21,7 @@ impl Lookup for Solution {
 
 impl Condition for Expr {
     ghost use Rattle.algebra_model.specs.Expression as expression;
-    ghost use Rattle.sparql_algebra.specs.ExpressionOf.{expression_of};
+    ghost use Rattle.expression_values.specs.ExpressionOf.{expression_of};
 
     ghost holds = { λ e μ. expression.holds (expression_of e) μ };
 
@@ -32,7 +32,7 @@ impl Condition for Expr {
 
 impl Value for Expr {
     ghost use Rattle.algebra_model.specs.Expression.{val};
-    ghost use Rattle.sparql_algebra.specs.ExpressionOf.{expression_of};
+    ghost use Rattle.expression_values.specs.ExpressionOf.{expression_of};
 
     ghost gives = { λ e μ. val (expression_of e) μ };
 

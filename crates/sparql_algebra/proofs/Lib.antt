@@ -1,8 +1,4 @@
-pub mod FoldSteps
-pub mod LogicSteps
-pub mod MemorySteps
 pub mod NameSteps
-pub mod OperandSteps
 pub mod PartSteps
 pub mod PatternSteps
 pub mod ProjectionSteps

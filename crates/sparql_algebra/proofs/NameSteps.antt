@@ -50,8 +50,8 @@ noted_first xs ys old new p = (length (take p.0 xs), p.1 ∙ ap (insert_all byte
         ∙ take-append_seam (take p.0 xs) (drop p.0 xs ++ ys)
 
 -- a part of the later names, after all of the first ones, is a part of all names
-pub noted_behind : (xs ys old names new : List Name) → names ≡ insert_all bytes_eq old xs → IsNotedInPart names ys new → IsNotedInPart old (xs ++ ys) new
-noted_behind xs ys old names new e p = (
+pub noted_after : (xs ys old names new : List Name) → names ≡ insert_all bytes_eq old xs → IsNotedInPart names ys new → IsNotedInPart old (xs ++ ys) new
+noted_after xs ys old names new e p = (
   length xs + p.0,
   p.1 ∙ ap (λ n. insert_all bytes_eq n (take p.0 ys)) e
       ∙ sym (insert_all-append bytes_eq old xs (take p.0 ys))
@@ -66,7 +66,7 @@ pub noted_within : {A : Type 0} (f : A → List Name) (xs : List A) (i : ℕ) (x
     → IsNotedInPart old (flat_map f xs) new
 noted_within {A} f xs i x old names new lt e is p =
     subst (λ l. IsNotedInPart old l new) whole
-    (noted_behind (flat_map f (take i xs)) (f x ++ flat_map f (drop (suc i) xs)) old names new e
+    (noted_after (flat_map f (take i xs)) (f x ++ flat_map f (drop (suc i) xs)) old names new e
     (noted_first (f x) (flat_map f (drop (suc i) xs)) names new p))
   where
     whole : flat_map f (take i xs) ++ (f x ++ flat_map f (drop (suc i) xs)) ≡ flat_map f xs

@@ -26,8 +26,8 @@ pub converted_step : {A B : Type 0} (view : A → Triple) (shown : B → bgp.Tri
 converted_step {A} {B} view shown names labels ts i d made b all lt e h =
     let first = ap (λ l. map shown made ++ map (translate_triple names labels) (map view l)) (drop-cons ts i d lt) in
     let here = ap (λ p. map shown made ++ p ∷ map (translate_triple names labels) (map view (drop (suc i) ts))) e in
-    rw add-one (behind made (map (translate_triple names labels) (map view (drop (suc i) ts))) ∙ here ∙ sym first ∙ h)
+    rw add-one (append_one made (map (translate_triple names labels) (map view (drop (suc i) ts))) ∙ here ∙ sym first ∙ h)
   where
-    behind : (xs : List B) (rest : List (bgp.TriplePattern Term)) → map shown (xs ++ b ∷ []) ++ rest ≡ map shown xs ++ shown b ∷ rest
-    behind [] rest = refl
-    behind (x ∷ xs) rest = ap (λ l. shown x ∷ l) (behind xs rest)
+    append_one : (xs : List B) (rest : List (bgp.TriplePattern Term)) → map shown (xs ++ b ∷ []) ++ rest ≡ map shown xs ++ shown b ∷ rest
+    append_one [] rest = refl
+    append_one (x ∷ xs) rest = ap (λ l. shown x ∷ l) (append_one xs rest)

@@ -4,7 +4,7 @@ use Rattle.rdf_core.specs.declared.term.Term.{Term}
 use Rattle.algebra_model.specs.Algebra as algebra
 use Rattle.algebra_model.specs.Algebra.{Algebra, each_graph, one_graph}
 use Rattle.algebra_model.specs.Bgp as bgp
-use Rattle.sparql_algebra.specs.ExpressionOf.{expression_of}
+use Rattle.expression_values.specs.ExpressionOf.{expression_of}
 use Rattle.sparql_algebra.specs.declared.operator.GraphName.{GraphName}
 use Rattle.sparql_algebra.specs.declared.operator.GraphName.TheVariants as name
 use Rattle.sparql_algebra.specs.declared.operator.PatternTerm.{PatternTerm}

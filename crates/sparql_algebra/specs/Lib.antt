@@ -1,9 +1,5 @@
-pub mod ExpressionOf
 pub mod AlgebraOf
 pub mod Projected
-pub mod HeldTerm
-pub mod MemberTruth
-pub mod Memory
 pub mod Names
 pub mod Translation
 pub mod PartOf

@@ -1,8 +1,8 @@
 -- The part of a group that the program holds while it translates the group, without its layout in
 -- memory. Only private clauses use this definition.
 use Rattle.std.specs.Prelude.{map, option_map}
+use Rattle.expression_values.specs.ExpressionOf.{expression_of}
 use Rattle.sparql_algebra.specs.AlgebraOf.{algebra_of}
-use Rattle.sparql_algebra.specs.ExpressionOf.{expression_of}
 use Rattle.sparql_algebra.specs.Translation as translation
 use Rattle.sparql_algebra.specs.declared.part.Part.{Part}
 

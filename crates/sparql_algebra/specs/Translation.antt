@@ -20,7 +20,7 @@ use Rattle.algebra_model.specs.Bag.{without_repeats}
 use Rattle.algebra_model.specs.Bgp as bgp
 use Rattle.algebra_model.specs.Call.{boolean_term}
 use Rattle.algebra_model.specs.Expression.{Expression, variable, constant, either, both, negation, comparison, member, call, bound, same_term}
-use Rattle.sparql_algebra.specs.ExpressionOf.{comparison_of, function_of}
+use Rattle.expression_values.specs.ExpressionOf.{comparison_of, function_of}
 use Rattle.sparql_algebra.specs.Names.{Name, number_of, names_of, selected_names}
 
 -- The first elements of a group: the algebra expression before the open basic graph pattern, the
@@ -46,9 +46,9 @@ abbrev pub filtered : Option Expression → Algebra → Algebra
 filtered None A = A
 filtered (Some e) A = algebra.Filter e A
 
--- an element that ends the basic graph pattern, and after which the expression is A
-abbrev pub behind : Part → Algebra → Part
-behind p A = record { before = A; triples = []; filters = p.filters }
+-- the part whose basic graph pattern has ended, with A as its expression
+abbrev pub closed_as : Part → Algebra → Part
+closed_as p A = record { before = A; triples = []; filters = p.filters }
 
 -- The blank node labels of a basic graph pattern are numbered in the order of their first
 -- occurrence.
@@ -134,17 +134,17 @@ module _ (names : List Name) where
       filters = joined_filters p.filters (translate_expression e);
     }
     add_element p (element.optional g) =
-        behind p (algebra.LeftJoin (closed p) (closed (group_part g)) (condition_of (group_part g).filters))
-    add_element p (element.minus g) = behind p (algebra.Minus (closed p) (finished (group_part g)))
+        closed_as p (algebra.LeftJoin (closed p) (closed (group_part g)) (condition_of (group_part g).filters))
+    add_element p (element.minus g) = closed_as p (algebra.Minus (closed p) (finished (group_part g)))
     add_element p (element.bind e x) =
-        behind p (algebra.Extend (number_of names x) (translate_expression e) (closed p))
-    add_element p (element.group g) = behind p (algebra.Join (closed p) (finished (group_part g)))
+        closed_as p (algebra.Extend (number_of names x) (translate_expression e) (closed p))
+    add_element p (element.group g) = closed_as p (algebra.Join (closed p) (finished (group_part g)))
     add_element p (element.union e g) =
-        behind p (algebra.Join (closed p) (algebra.Union (translate_side e) (finished (group_part g))))
+        closed_as p (algebra.Join (closed p) (algebra.Union (translate_side e) (finished (group_part g))))
     add_element p (element.graph i g) =
-        behind p (algebra.Join (closed p) (algebra.Graph (translate_graph_name i) (finished (group_part g))))
+        closed_as p (algebra.Join (closed p) (algebra.Graph (translate_graph_name i) (finished (group_part g))))
     add_element p (element.values xs rows) =
-        behind p (algebra.Join (closed p) (algebra.Table (map (number_of names) xs) rows))
+        closed_as p (algebra.Join (closed p) (algebra.Table (map (number_of names) xs) rows))
 
     -- The left side of a UNION ([67] `GroupOrUnionGraphPattern`) is a group, or a UNION with two or
     -- more groups. Every other element, which no parser makes there, is translated as the empty

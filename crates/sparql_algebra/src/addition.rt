@@ -1,17 +1,17 @@
 //! The part of a group that one element adds.
 ghost use Rattle.std.specs.Prelude.{◌≡◌, IfOk};
 ghost use Rattle.algebra_model.specs.Algebra.{Extend, Join, LeftJoin, Minus};
+ghost use Rattle.expression_values.specs.ExpressionOf.{expression_of};
 ghost use Rattle.sparql_algebra.specs.Added.{added};
 ghost use Rattle.sparql_algebra.specs.AlgebraOf.{algebra_of};
-ghost use Rattle.sparql_algebra.specs.ExpressionOf.{expression_of};
 ghost use Rattle.sparql_algebra.specs.PartOf.{part_of};
-ghost use Rattle.sparql_algebra.specs.Translation.{behind, closed};
+ghost use Rattle.sparql_algebra.specs.Translation.{closed, closed_as};
 
 use crate::constructors;
-use crate::expression::Expr;
 use crate::names::Names;
 use crate::operator::Operator;
 use crate::part::Part;
+use expression_values::Expr;
 use sparql_tree::Triple;
 use std::alloc::{AllocError, Global};
 
@@ -63,10 +63,10 @@ fn with_join<'a>(
     right: Box<Operator>,
 ) -> Result<Part<'a>, AllocError>
     ensures part { IfOk result (λ made. part_of made
-        ≡ behind (part_of part.entry) (Join (closed names.now (part_of part.entry)) (algebra_of right.value))) }
+        ≡ closed_as (part_of part.entry) (Join (closed names.now (part_of part.entry)) (algebra_of right.value))) }
 {
     let (left, filters) = part.close(alloc, names)?;
-    Ok(Part::behind(alloc, constructors::join(alloc, left, right)?, filters))
+    Ok(Part::closed_as(alloc, constructors::join(alloc, left, right)?, filters))
 }
 
 fn with_optional<'a>(
@@ -76,12 +76,12 @@ fn with_optional<'a>(
     right: Box<Operator>,
     condition: Box<Expr>,
 ) -> Result<Part<'a>, AllocError>
-    ensures part { IfOk result (λ made. part_of made ≡ behind (part_of part.entry)
+    ensures part { IfOk result (λ made. part_of made ≡ closed_as (part_of part.entry)
         (LeftJoin (closed names.now (part_of part.entry)) (algebra_of right.value) (expression_of condition.value))) }
 {
     let (left, filters) = part.close(alloc, names)?;
     let made = constructors::left_join(alloc, left, right, condition)?;
-    Ok(Part::behind(alloc, made, filters))
+    Ok(Part::closed_as(alloc, made, filters))
 }
 
 fn with_minus<'a>(
@@ -91,10 +91,10 @@ fn with_minus<'a>(
     right: Box<Operator>,
 ) -> Result<Part<'a>, AllocError>
     ensures part { IfOk result (λ made. part_of made
-        ≡ behind (part_of part.entry) (Minus (closed names.now (part_of part.entry)) (algebra_of right.value))) }
+        ≡ closed_as (part_of part.entry) (Minus (closed names.now (part_of part.entry)) (algebra_of right.value))) }
 {
     let (left, filters) = part.close(alloc, names)?;
-    Ok(Part::behind(alloc, constructors::minus(alloc, left, right)?, filters))
+    Ok(Part::closed_as(alloc, constructors::minus(alloc, left, right)?, filters))
 }
 
 fn with_extend<'a>(
@@ -104,11 +104,11 @@ fn with_extend<'a>(
     variable: usize,
     value: Box<Expr>,
 ) -> Result<Part<'a>, AllocError>
-    ensures part { IfOk result (λ made. part_of made ≡ behind (part_of part.entry)
+    ensures part { IfOk result (λ made. part_of made ≡ closed_as (part_of part.entry)
         (Extend variable (expression_of value.value) (closed names.now (part_of part.entry)))) }
 {
     let (inner, filters) = part.close(alloc, names)?;
-    Ok(Part::behind(
+    Ok(Part::closed_as(
         alloc,
         constructors::extend(alloc, variable, value, inner)?,
         filters,

@@ -2,12 +2,12 @@
 //! owns one box at a time.
 ghost use Rattle.std.specs.Prelude.{◌≡◌, IfOk};
 ghost use Rattle.algebra_model.specs.Algebra.{Distinct, Extend, Filter, Graph, Join, LeftJoin, Minus, Project, Union};
+ghost use Rattle.expression_values.specs.ExpressionOf.{expression_of};
 ghost use Rattle.sparql_algebra.specs.AlgebraOf.{algebra_of, graph_name_of};
-ghost use Rattle.sparql_algebra.specs.ExpressionOf.{expression_of};
 ghost use Rattle.sparql_algebra.specs.Translation.{empty_pattern};
 
-use crate::expression::Expr;
 use crate::operator::{GraphName, Operator};
+use expression_values::Expr;
 use std::alloc::{AllocError, Global};
 
 /// Puts a tree into a box.

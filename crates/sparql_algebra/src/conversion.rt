@@ -1,11 +1,11 @@
 //! Expressions of a query's syntax tree as expressions over numbered variables.
 ghost use Rattle.std.specs.Prelude.{◌≡◌, IfOk, map};
 ghost use Rattle.sparql_tree.specs.ExpressionTree.{expression_of as tree_of};
-ghost use Rattle.sparql_algebra.specs.ExpressionOf.{expression_of};
+ghost use Rattle.expression_values.specs.ExpressionOf.{expression_of};
 ghost use Rattle.sparql_algebra.specs.Translation.{translate_expression};
 
-use crate::expression::Expr;
 use crate::names::Names;
+use expression_values::Expr;
 use sparql_tree::Expression;
 use std::alloc::{AllocError, Global};
 

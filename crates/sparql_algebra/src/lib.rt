@@ -1,4 +1,4 @@
-//! Translates queries to plans of the SPARQL algebra, and evaluates expressions over a row.
+//! Translates queries to plans of the SPARQL algebra.
 //!
 //! [`translate`] returns the plan of a query, exactly as specs/Translation.antt defines it. A
 //! [`Plan`] holds the names of a query's variables and a tree of [`Operator`]s over their numbers.
@@ -6,38 +6,29 @@
 //! `Algebra` of the crate algebra_model. It is an invariant of a plan that its variables have
 //! names, so an evaluator needs no condition on it.
 //!
-//! [`value`] returns the value of an expression over a row, or `Error` exactly if the expression is
-//! an error. A row is any type that implements [`Lookup`]. [`test`] evaluates the condition of a
-//! filter. [`truth`] is the effective boolean value of a term, and [`compare`] compares two terms.
-//! They compare numbers of any length exactly, by their digits, and allocate nothing.
+//! The expressions in a plan are [`Expr`]s of the crate expression_values. That crate evaluates
+//! them over a row with [`value`] and [`test`]. Its public names are reexported here, so a user of
+//! plans needs this crate alone.
 //!
-//! Standards: SPARQL 1.1 Query Language, sections 17 and 18.2; XML Schema 1.1 Part 2, sections 3.3
-//! and 3.4 (lexical forms of numbers and booleans). The crate algebra_model states their
-//! definitions.
+//! Standard: SPARQL 1.1 Query Language, section 18.2. The crate algebra_model states the
+//! definitions of the algebra.
 //!
-//! Reading order: `operator`, `plan`, `expression` (the trees); `lookup`, `held`, `evaluation`
-//! (expressions over a row); `names`, `naming` (the variables of a query and their numbers);
-//! `conversion`, `pattern`, `table`, `constructors`, `part`, `addition`, `group`, `translation` (a query,
-//! element by element). Comparisons and effective boolean values are in the crate term_values.
-//! Tests: the crate algebra_tests.
+//! Reading order: `operator`, `plan` (the tree); `names`, `naming` (the variables of a query and
+//! their numbers); `conversion`, `pattern`, `table`, `constructors`, `part`, `addition`, `group`,
+//! `translation` (a query, element by element). Tests: the crate algebra_tests.
 //!
 //! ```text
-//! compare(Comparison::Equal, &one, &one_point_zero)   // "01"^^xsd:integer and 1.0: Some(true)
-//! compare(Comparison::Equal, &one, &text)             // an error: None
-//! truth(&ill_formed)                                  // "abc"^^xsd:integer: Some(false)
+//! translate(alloc, &query)   // SELECT ?x { ?x ?p ?o FILTER (?o < 3) }:
+//!                            // Project([0], Filter(2 < 3, Join(Pattern(), Pattern(0 1 2))))
 //! ```
 //!
-//! Not guaranteed: enough stack for a query or an expression of any depth.
+//! Not guaranteed: enough stack for a query of any depth.
 #![tactic(auto)]
 
 mod addition;
 mod constructors;
 mod conversion;
-mod evaluation;
-mod expression;
 mod group;
-mod held;
-mod lookup;
 mod names;
 mod naming;
 mod operator;
@@ -47,11 +38,9 @@ mod plan;
 mod table;
 mod translation;
 
-pub use evaluation::{ExprFault, test, value};
-pub use expression::Expr;
-pub use lookup::Lookup;
+pub use expression_values::{
+    Comparison, Expr, ExprFault, Function, Lookup, compare, test, truth, value,
+};
 pub use operator::{GraphName, Operator, PatternTerm, TriplePattern};
 pub use plan::Plan;
-pub use sparql_tree::{Comparison, Function};
-pub use term_values::{compare, truth};
 pub use translation::translate;

@@ -1,5 +1,5 @@
 //! The tree of a plan (SPARQL 1.1 Query Language, section 18.2).
-use crate::expression::Expr;
+use expression_values::Expr;
 use rdf_core::Term;
 
 /// A place of a triple pattern: a variable of the plan, a blank node label of the pattern, or a

@@ -1,16 +1,16 @@
 //! The translation of the first elements of a group.
 ghost use Rattle.std.specs.Prelude.{◌≡◌, [], ◌++◌, IfOk, None, Some, map, option_map, true};
 ghost use Rattle.algebra_model.specs.Call.{boolean_term};
+ghost use Rattle.expression_values.specs.ExpressionOf.{expression_of};
 ghost use Rattle.sparql_algebra.specs.AlgebraOf.{algebra_of};
-ghost use Rattle.sparql_algebra.specs.ExpressionOf.{expression_of};
 ghost use Rattle.sparql_algebra.specs.PartOf.{part_of};
 ghost use Rattle.sparql_algebra.specs.Translation.{closed, condition_of, empty_pattern, finished, joined_filters};
 
 use crate::constructors;
-use crate::expression::Expr;
 use crate::names::Names;
 use crate::operator::Operator;
 use crate::pattern::basic_pattern;
+use expression_values::Expr;
 use rdf_core::vocabulary::XSD_BOOLEAN;
 use rdf_core::{Term, Text};
 use sparql_tree::Triple;
@@ -130,7 +130,7 @@ impl<'a> Part<'a> {
 
     /// Creates the part of a group after an element that ended the basic graph pattern, with the
     /// filters of the group.
-    pub fn behind(alloc: Global, before: Box<Operator>, filters: Option<Box<Expr>>) -> Part<'a>
+    pub fn closed_as(alloc: Global, before: Box<Operator>, filters: Option<Box<Expr>>) -> Part<'a>
         ensures part { part_of result ≡ record {
           before = algebra_of before.value;
           triples = [];

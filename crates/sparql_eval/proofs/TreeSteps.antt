@@ -12,9 +12,9 @@ use Rattle.algebra_model.specs.Solution.{Solution}
 use Rattle.dict_core.specs.Dict.{term_at}
 use Rattle.dict_core.specs.NumQuad.{quads_at}
 use Rattle.dict_core.specs.declared.num_quad.NumQuad.{NumQuad}
+use Rattle.expression_values.specs.ExpressionOf.{expression_of}
+use Rattle.expression_values.specs.declared.expression.Expr.{Expr}
 use Rattle.sparql_algebra.specs.AlgebraOf.{algebra_of, algebra_step, graph_name_of}
-use Rattle.sparql_algebra.specs.ExpressionOf.{expression_of}
-use Rattle.sparql_algebra.specs.declared.expression.Expr.{Expr}
 use Rattle.sparql_algebra.specs.declared.operator.GraphName.{GraphName}
 use Rattle.sparql_algebra.specs.declared.operator.Operator.{Operator}
 use Rattle.sparql_algebra.specs.declared.operator.Operator.TheFolds.{fold-roll-Operator}

@@ -4,7 +4,7 @@ ghost use Rattle.algebra_model.specs.Expression.{val};
 ghost use Rattle.algebra_model.specs.Operators.{bind, extend};
 ghost use Rattle.row_pieces.specs.How.{IsRunnable, HasOneWorker};
 ghost use Rattle.row_pieces.specs.declared.fault.EvalFault.TheVariants.{Memory};
-ghost use Rattle.sparql_algebra.specs.ExpressionOf.{expression_of};
+ghost use Rattle.expression_values.specs.ExpressionOf.{expression_of};
 ghost use Rattle.sparql_eval.specs.Computed.{IsValue, TakesOnly};
 ghost use Rattle.sparql_eval.specs.Evaluated.{AreKnown, IsEvaluated, solutions_of};
 ghost use Rattle.sparql_eval.specs.Values.{bind_each};

@@ -3,7 +3,7 @@ ghost use Rattle.std.specs.Prelude.{◌≡◌, ◌≤◌, filter, length, IfErr,
 ghost use Rattle.algebra_model.specs.Expression.{holds};
 ghost use Rattle.row_pieces.specs.How.{IsRunnable, HasOneWorker};
 ghost use Rattle.row_pieces.specs.declared.fault.EvalFault.TheVariants.{Memory};
-ghost use Rattle.sparql_algebra.specs.ExpressionOf.{expression_of};
+ghost use Rattle.expression_values.specs.ExpressionOf.{expression_of};
 ghost use Rattle.sparql_eval.specs.Evaluated.{AreKnown, IsEvaluated, solutions_of};
 ghost use Rattle.sparql_eval.specs.Numbered.{AreKnownAt};
 
@@ -87,7 +87,7 @@ struct FilterWork<'a> {
 }
 
 impl<'a> RowWork for FilterWork<'a> {
-    ghost use Rattle.sparql_algebra.specs.ExpressionOf.{expression_of};
+    ghost use Rattle.expression_values.specs.ExpressionOf.{expression_of};
     ghost use Rattle.sparql_eval.specs.FilterParts.{filter_parts};
 
     ghost width = { λ work. work.rows.now.width };

@@ -7,7 +7,7 @@ ghost use Rattle.algebra_model.specs.Expression.{holds};
 ghost use Rattle.algebra_model.specs.Operators.{join, left_join, minus};
 ghost use Rattle.row_pieces.specs.How.{IsRunnable, HasOneWorker};
 ghost use Rattle.row_pieces.specs.declared.fault.EvalFault.TheVariants.{Memory};
-ghost use Rattle.sparql_algebra.specs.ExpressionOf.{expression_of};
+ghost use Rattle.expression_values.specs.ExpressionOf.{expression_of};
 ghost use Rattle.sparql_eval.specs.Evaluated.{AreKnown, IsEvaluated, solutions_of};
 
 use crate::operator_result::with_dict;
@@ -272,7 +272,7 @@ impl<'a> RowTest for Condition<'a> {
     ghost use Rattle.algebra_model.specs.Expression.{holds};
     ghost use Rattle.algebra_model.specs.Renaming.{read_row};
     ghost use Rattle.dict_core.specs.Dict.{term_at};
-    ghost use Rattle.sparql_algebra.specs.ExpressionOf.{expression_of};
+    ghost use Rattle.expression_values.specs.ExpressionOf.{expression_of};
 
     ghost knows = { λ t n. nat_lt n (length t.dict.now) };
 

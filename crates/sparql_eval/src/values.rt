@@ -5,7 +5,7 @@ ghost use Rattle.algebra_model.specs.Renaming.{read_row};
 ghost use Rattle.dict_core.specs.Dict.{IsGrown, term_at};
 ghost use Rattle.row_pieces.specs.How.{IsRunnable, HasOneWorker};
 ghost use Rattle.row_pieces.specs.declared.fault.EvalFault.TheVariants.{Memory};
-ghost use Rattle.sparql_algebra.specs.ExpressionOf.{expression_of};
+ghost use Rattle.expression_values.specs.ExpressionOf.{expression_of};
 ghost use Rattle.sparql_eval.specs.Computed.{TakesOnly};
 ghost use Rattle.sparql_eval.specs.Evaluated.{AreKnown};
 ghost use Rattle.sparql_eval.specs.Numbered.{AreKnownAt};
@@ -73,7 +73,7 @@ struct ValueJob<'a> {
 
 impl<'a> Job for ValueJob<'a> {
     ghost use Rattle.row_pieces.specs.Pieces.{piece_of};
-    ghost use Rattle.sparql_algebra.specs.ExpressionOf.{expression_of};
+    ghost use Rattle.expression_values.specs.ExpressionOf.{expression_of};
     ghost use Rattle.sparql_eval.specs.Values.{ArePieceValues};
 
     type Out = PieceValues;

@@ -5,7 +5,7 @@
 //! Both return what the tables of the crate algebra_model define (`compares`, `ebv`), with None for
 //! an error. Neither of them allocates.
 //!
-//! The crate sparql_algebra evaluates expressions with these two functions, and reexports both.
+//! The crate expression_values evaluates expressions with these two functions, and reexports both.
 //!
 //! Standards: SPARQL 1.1 Query Language, sections 17.2 and 17.3; XML Schema 1.1 Part 2, sections
 //! 3.3 and 3.4 (lexical forms of numbers and booleans).

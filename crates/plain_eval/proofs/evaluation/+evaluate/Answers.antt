@@ -5,8 +5,8 @@ use Rattle.rdf_core.specs.QuadParts.{parts_of}
 use Rattle.algebra_model.specs.Eval.{eval}
 use Rattle.algebra_model.specs.Expression.{holds}
 use Rattle.algebra_model.specs.Operators.{left_join}
+use Rattle.expression_values.specs.ExpressionOf.{expression_of}
 use Rattle.sparql_algebra.specs.AlgebraOf.{algebra_of}
-use Rattle.sparql_algebra.specs.ExpressionOf.{expression_of}
 use Rattle.plain_eval.proofs.TreeSteps.{left_join_stands_for}
 use Rattle.plain_eval.proofs.evaluation.+evaluate.Goals as goal
 

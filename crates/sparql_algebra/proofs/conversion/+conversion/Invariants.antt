@@ -1,6 +1,6 @@
 use Rattle.std.proofs.Common.{◌≡◌, ◌++◌, drop, map}
 use Rattle.sparql_tree.specs.ExpressionTree.{expression_of as tree_of}
-use Rattle.sparql_algebra.specs.ExpressionOf.{expression_of}
+use Rattle.expression_values.specs.ExpressionOf.{expression_of}
 use Rattle.sparql_algebra.specs.Translation.{translate_expression}
 use Rattle.sparql_algebra.proofs.conversion.+conversion.Given as goal
 

@@ -6,7 +6,7 @@ use Rattle.indexmap.specs.IndexSet.{insert_all}
 use Rattle.sparql_tree.specs.GroupTree.{element_of, group_of}
 use Rattle.sparql_tree.specs.Scope.{element_names, group_names, graph_names}
 use Rattle.sparql_algebra.specs.Names.{IsNotedInPart}
-use Rattle.sparql_algebra.proofs.NameSteps.{at_refusal, names_of_group, noted_first, noted_behind, noted_within, values_stands_for}
+use Rattle.sparql_algebra.proofs.NameSteps.{at_refusal, names_of_group, noted_after, noted_first, noted_within, values_stands_for}
 use Rattle.sparql_algebra.proofs.RepeatSteps.{insert_all-append}
 use Rattle.sparql_algebra.proofs.TreeSteps.{union_stands_for, graph_stands_for}
 use Rattle.sparql_algebra.proofs.naming.+naming.Goals as goal
@@ -57,14 +57,14 @@ note_element-returns-in_ok-note_element-in-Union-clause-refused t c =
     let first : c.note_element.new.names ≡ insert_all bytes_eq c.args.names.now left = rw c.deref-in-Union.ensures at c.in_ok-note_element-in-Union.ensures.noted in
     rw (c.in-Union.is, union_stands_for c.in-Union.left c.in-Union.right)
     (on_err_weaker c.note_group-in-Union.result
-    (noted_behind left right c.args.names.now c.note_element.new.names c.note_group-in-Union.new.names first)
+    (noted_after left right c.args.names.now c.note_element.new.names c.note_group-in-Union.new.names first)
     (rw c.deref-in-Union-2.ensures.value at c.note_group-in-Union.ensures.refused))
 
 pub note_element-returns-in_ok-note_graph_name-in-Graph-clause-refused : goal.note_element-returns-in_ok-note_graph_name-in-Graph-clause-refused
 note_element-returns-in_ok-note_graph_name-in-Graph-clause-refused t c =
     rw (c.in-Graph.is, graph_stands_for c.in-Graph.name c.in-Graph.group)
     (on_err_weaker c.note_group-in-Graph.result
-    (noted_behind (graph_names c.in-Graph.name) (group_names c.args.all (group_of c.in-Graph.group.items)) c.args.names.now c.note_graph_name.new.names c.note_group-in-Graph.new.names
+    (noted_after (graph_names c.in-Graph.name) (group_names c.args.all (group_of c.in-Graph.group.items)) c.args.names.now c.note_graph_name.new.names c.note_group-in-Graph.new.names
     c.in_ok-note_graph_name-in-Graph.ensures.noted)
     (rw c.deref-in-Graph.ensures.value at c.note_group-in-Graph.ensures.refused))
 

@@ -1,7 +1,7 @@
 use Rattle.std.proofs.Common.{◌++◌}
 use Rattle.std.proofs.lemmas.Result.{on_err_weaker}
 use Rattle.sparql_tree.specs.Scope.{place_names}
-use Rattle.sparql_algebra.proofs.NameSteps.{at_refusal, noted_first, noted_behind}
+use Rattle.sparql_algebra.proofs.NameSteps.{at_refusal, noted_after, noted_first}
 use Rattle.sparql_algebra.proofs.naming.note_triple.Goals as goal
 
 pub returns-in_err-note_place-clause-refused : goal.returns-in_err-note_place-clause-refused
@@ -14,13 +14,13 @@ pub returns-in_err-note_place-2-clause-refused : goal.returns-in_err-note_place-
 returns-in_err-note_place-2-clause-refused c =
     let t = c.args.triple.now in
     at_refusal c.from_residual-in_err-note_place-2.result
-    (noted_behind (place_names t.subject) (place_names t.predicate ++ place_names t.object) c.args.names.now c.note_place.new.names c.note_place-2.new.names c.in_ok-note_place.ensures.noted
+    (noted_after (place_names t.subject) (place_names t.predicate ++ place_names t.object) c.args.names.now c.note_place.new.names c.note_place-2.new.names c.in_ok-note_place.ensures.noted
     (noted_first (place_names t.predicate) (place_names t.object) c.note_place.new.names c.note_place-2.new.names c.in_err-note_place-2.ensures.refused))
 
 pub returns-clause-refused : goal.returns-clause-refused
 returns-clause-refused c =
     let t = c.args.triple.now in
     on_err_weaker c.note_place-3.result
-    (λ part. noted_behind (place_names t.subject) (place_names t.predicate ++ place_names t.object) c.args.names.now c.note_place.new.names c.note_place-3.new.names c.in_ok-note_place.ensures.noted
-    (noted_behind (place_names t.predicate) (place_names t.object) c.note_place.new.names c.note_place-2.new.names c.note_place-3.new.names c.in_ok-note_place-2.ensures.noted part))
+    (λ part. noted_after (place_names t.subject) (place_names t.predicate ++ place_names t.object) c.args.names.now c.note_place.new.names c.note_place-3.new.names c.in_ok-note_place.ensures.noted
+    (noted_after (place_names t.predicate) (place_names t.object) c.note_place.new.names c.note_place-2.new.names c.note_place-3.new.names c.in_ok-note_place-2.ensures.noted part))
     c.note_place-3.ensures.refused

@@ -1,7 +1,7 @@
 use Rattle.std.proofs.Common.{◌≡◌}
 use Rattle.algebra_model.specs.Expression.{val}
 use Rattle.algebra_model.specs.Operators.{extend}
-use Rattle.sparql_algebra.specs.ExpressionOf.{expression_of}
+use Rattle.expression_values.specs.ExpressionOf.{expression_of}
 use Rattle.sparql_eval.specs.Computed.{IsValue, TakesOnly}
 use Rattle.sparql_eval.proofs.ReturnSteps.{on_ok_so}
 use Rattle.row_pieces.specs.declared.fault.EvalFault.TheVariants.{Memory}

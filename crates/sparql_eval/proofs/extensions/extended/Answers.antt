@@ -6,7 +6,7 @@ use Rattle.algebra_model.specs.Operators.{extend}
 use Rattle.algebra_model.specs.Renaming.{Each}
 use Rattle.algebra_model.proofs.BagLaws.{same_bag}
 use Rattle.dict_core.specs.Dict.{term_at}
-use Rattle.sparql_algebra.specs.ExpressionOf.{expression_of}
+use Rattle.expression_values.specs.ExpressionOf.{expression_of}
 use Rattle.sparql_eval.specs.Computed.{IsValue}
 use Rattle.sparql_eval.specs.Values.{bind_each, own_terms}
 use Rattle.sparql_eval.proofs.ReadingLaws.{Known, read_by}

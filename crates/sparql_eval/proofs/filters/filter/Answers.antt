@@ -1,7 +1,7 @@
 use Rattle.std.proofs.Common.{◌≡◌}
 use Rattle.std.proofs.Common.{filter}
 use Rattle.algebra_model.specs.Expression.{holds}
-use Rattle.sparql_algebra.specs.ExpressionOf.{expression_of}
+use Rattle.expression_values.specs.ExpressionOf.{expression_of}
 use Rattle.row_pieces.specs.declared.fault.EvalFault.TheVariants.{Memory}
 use Rattle.sparql_eval.specs.Evaluated.{IsEvaluated, solutions_of}
 use Rattle.sparql_eval.proofs.ReturnSteps.{returned, faulted}

@@ -4,7 +4,7 @@ use Rattle.algebra_model.specs.Expression.{holds}
 use Rattle.row_pieces.specs.Pieces.{AreRowsOf}
 use Rattle.sparql_eval.specs.Evaluated.{IsEvaluated, solutions_of}
 use Rattle.sparql_eval.specs.FilterParts.{filter_parts}
-use Rattle.sparql_algebra.specs.ExpressionOf.{expression_of}
+use Rattle.expression_values.specs.ExpressionOf.{expression_of}
 use Rattle.sparql_eval.proofs.FilterSteps.{filtered}
 use Rattle.sparql_eval.proofs.ReadingLaws.{rows_known_at}
 use Rattle.sparql_eval.proofs.filters.filtered.Goals as goal

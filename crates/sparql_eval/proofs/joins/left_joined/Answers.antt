@@ -6,7 +6,7 @@ use Rattle.algebra_model.specs.Expression.{holds}
 use Rattle.sparql_eval.proofs.ReadingLaws.{read_by}
 use Rattle.sparql_eval.specs.Evaluated.{IsEvaluated, solutions_of}
 use Rattle.sparql_eval.proofs.ReturnSteps.{IfOk-both}
-use Rattle.sparql_algebra.specs.ExpressionOf.{expression_of}
+use Rattle.expression_values.specs.ExpressionOf.{expression_of}
 use Rattle.sparql_eval.proofs.JoinSteps.{left_joined, rows_pass}
 use Rattle.sparql_eval.proofs.joins.left_joined.Goals as goal
 

@@ -1,7 +1,7 @@
 use Rattle.algebra_model.specs.Expression.{val}
 use Rattle.algebra_model.specs.Renaming.{read_row}
 use Rattle.dict_core.specs.Dict.{term_at}
-use Rattle.sparql_algebra.specs.ExpressionOf.{expression_of}
+use Rattle.expression_values.specs.ExpressionOf.{expression_of}
 use Rattle.sparql_eval.proofs.TakingLaws.{took_value}
 use Rattle.sparql_eval.proofs.values.value_at.Goals as goal
 

@@ -1,5 +1,5 @@
 use Rattle.std.proofs.Common.{rules, arith, ◌<◌, ℕ, length, subst}
-use Rattle.sparql_algebra.specs.ExpressionOf.{expression_of}
+use Rattle.expression_values.specs.ExpressionOf.{expression_of}
 use Rattle.sparql_eval.proofs.ReadingLaws.{rows_known_at}
 use Rattle.sparql_eval.proofs.ValueSteps.{values_joined, enough, one_piece}
 use Rattle.sparql_eval.proofs.values.values_of.Goals as goal

@@ -15,8 +15,8 @@ use Rattle.algebra_model.specs.Solution.{Solution}
 use Rattle.dict_core.specs.Dict.{term_at}
 use Rattle.dict_core.specs.NumQuad.{quads_at}
 use Rattle.row_core.specs.RowList.{RowList}
+use Rattle.expression_values.specs.ExpressionOf.{expression_of}
 use Rattle.sparql_algebra.specs.AlgebraOf.{algebra_of, graph_name_of}
-use Rattle.sparql_algebra.specs.ExpressionOf.{expression_of}
 use Rattle.sparql_algebra.specs.declared.operator.GraphName.{GraphName}
 use Rattle.sparql_algebra.specs.declared.operator.Operator.{Operator}
 use Rattle.sparql_eval.specs.Computed.{TakesOnly}

@@ -1,5 +1,5 @@
 use Rattle.std.proofs.Common.{◌≡◌, ℕ, ◌-◌, Bool, cond, [], ◌∷◌, ◌++◌, take, drop, filter, sym, ap, ◌∙◌, append-nil, arith}
-use Rattle.sparql_algebra.specs.ExpressionOf.{expression_of}
+use Rattle.expression_values.specs.ExpressionOf.{expression_of}
 use Rattle.sparql_eval.proofs.FilterSteps.{passes, filter_more, made_between}
 use Rattle.sparql_eval.proofs.filters.FilterWorkRowWork.run.Goals as goal
 use Rattle.sparql_eval.proofs.filters.FilterWorkRowWork.run.Goals.{then-branch+in_ok-push, else-branch}

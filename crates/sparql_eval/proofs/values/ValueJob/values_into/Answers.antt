@@ -1,5 +1,5 @@
 use Rattle.std.proofs.Common.{◌≡◌, ℕ, ◌+◌, ◌-◌, List, take, drop, sym, subst, arith}
-use Rattle.sparql_algebra.specs.ExpressionOf.{expression_of}
+use Rattle.expression_values.specs.ExpressionOf.{expression_of}
 use Rattle.sparql_eval.specs.declared.piece_values.PieceValue.{PieceValue}
 use Rattle.sparql_eval.specs.Values.{AreValues}
 use Rattle.sparql_eval.proofs.ReadingLaws.{grown_itself}

@@ -1,5 +1,5 @@
 use Rattle.std.proofs.Common.{◌-◌, take, drop}
-use Rattle.sparql_algebra.specs.ExpressionOf.{expression_of}
+use Rattle.expression_values.specs.ExpressionOf.{expression_of}
 use Rattle.sparql_eval.specs.Values.{AreValues}
 use Rattle.sparql_eval.proofs.values.ValueJob.values_into.Given as goal
 

@@ -1,6 +1,6 @@
 use Rattle.std.proofs.Common.{◌≡◌, ℕ, ◌+◌, ◌*◌, List, length, min, subst, arith}
 use Rattle.algebra_model.specs.Solution.{Solution}
-use Rattle.sparql_algebra.specs.ExpressionOf.{expression_of}
+use Rattle.expression_values.specs.ExpressionOf.{expression_of}
 use Rattle.sparql_eval.specs.Values.{ArePieceValues}
 use Rattle.sparql_eval.proofs.ValueSteps.{piece_between}
 use Rattle.sparql_eval.proofs.values.ValueJobJob.run.Goals as goal

@@ -6,7 +6,7 @@ use Rattle.algebra_model.specs.BooleanValue.{logical_and, logical_or}
 use Rattle.algebra_model.specs.Call.{boolean_term}
 use Rattle.algebra_model.specs.Comparison.{equal, compares}
 use Rattle.algebra_model.specs.Expression.{Expression, boolean_result, member, truth_of, val, with_values}
-use Rattle.sparql_algebra.specs.MemberTruth.{member_truth}
+use Rattle.expression_values.specs.MemberTruth.{member_truth}
 
 pub or_true : (b : Option Bool) → Some true ≡ logical_or (Some true) b
 or_true (Some true) = refl

@@ -4,11 +4,11 @@ use Rattle.rdf_core.specs.declared.term.Term.{Term}
 use Rattle.algebra_model.specs.Solution.{Solution}
 use Rattle.algebra_model.specs.BooleanValue.{logical_and, logical_or}
 use Rattle.algebra_model.specs.Expression.{truth_of, val}
-use Rattle.sparql_algebra.specs.ExpressionOf.{expression_of}
-use Rattle.sparql_algebra.specs.declared.expression.Expr.{Expr}
-use Rattle.sparql_algebra.specs.declared.expression.Expr.TheViews as views
-use Rattle.sparql_algebra.proofs.FoldSteps.{and_stands_for, or_stands_for}
-use Rattle.sparql_algebra.proofs.LogicSteps.{and_assoc, or_assoc, truth_of_result}
+use Rattle.expression_values.specs.ExpressionOf.{expression_of}
+use Rattle.expression_values.specs.declared.expression.Expr.{Expr}
+use Rattle.expression_values.specs.declared.expression.Expr.TheViews as views
+use Rattle.expression_values.proofs.FoldSteps.{and_stands_for, or_stands_for}
+use Rattle.expression_values.proofs.LogicSteps.{and_assoc, or_assoc, truth_of_result}
 
 abbrev pub truth : Expr → Solution Term → Option Bool
 truth expr μ = truth_of (val (expression_of expr) μ)

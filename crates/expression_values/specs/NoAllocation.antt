@@ -3,9 +3,9 @@
 -- truth value becomes a literal if it is compared or is the argument of a function.
 use Rattle.std.specs.Prelude.{Bool, true, false, ◌&&◌, List, [], ◌∷◌, map}
 use Rattle.algebra_model.specs.Call.{Function, str, lang, datatype, is_iri, is_blank, is_literal}
-use Rattle.sparql_algebra.specs.ExpressionOf.{function_of}
-use Rattle.sparql_algebra.specs.declared.expression.Expr.{Expr, fold-Expr}
-use Rattle.sparql_algebra.specs.declared.expression.Expr.TheOpen.{Expr-F}
+use Rattle.expression_values.specs.ExpressionOf.{function_of}
+use Rattle.expression_values.specs.declared.expression.Expr.{Expr, fold-Expr}
+use Rattle.expression_values.specs.declared.expression.Expr.TheOpen.{Expr-F}
 
 -- isIRI, isBlank and isLiteral return a truth value
 abbrev pub is_test : Function → Bool

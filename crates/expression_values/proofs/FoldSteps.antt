@@ -1,12 +1,12 @@
 -- The meaning of an expression of the program, variant by variant, and its depth.
 use Rattle.std.proofs.Common.{◌≡◌, ◌≤◌, List, map, sym, ◌∙◌, ap, arith, Box, Vec, Global}
 use Rattle.algebra_model.specs.Expression.{Expression, both, either, member}
-use Rattle.sparql_algebra.specs.ExpressionOf.{expression_of, expression_step}
-use Rattle.sparql_algebra.specs.declared.expression.Expr.{Expr, size-Expr}
-use Rattle.sparql_algebra.specs.declared.expression.Expr.TheFolds.{fold-roll-Expr}
-use Rattle.sparql_algebra.specs.declared.expression.Expr.TheOpen.{Expr-F}
-use Rattle.sparql_algebra.specs.declared.expression.Expr.TheVariants as variants
-use Rattle.sparql_algebra.specs.declared.expression.Expr.TheViews as views
+use Rattle.expression_values.specs.ExpressionOf.{expression_of, expression_step}
+use Rattle.expression_values.specs.declared.expression.Expr.{Expr, size-Expr}
+use Rattle.expression_values.specs.declared.expression.Expr.TheFolds.{fold-roll-Expr}
+use Rattle.expression_values.specs.declared.expression.Expr.TheOpen.{Expr-F}
+use Rattle.expression_values.specs.declared.expression.Expr.TheVariants as variants
+use Rattle.expression_values.specs.declared.expression.Expr.TheViews as views
 
 pub in_stands_for : (item : Box Expr Global) (list : Vec Expr Global)
     → expression_of (views.In item list) ≡ member (expression_of item.value) (map expression_of list.items)

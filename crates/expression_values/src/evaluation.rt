@@ -5,10 +5,10 @@ ghost use Rattle.algebra_model.specs.BooleanValue.{logical_and, logical_not, log
 ghost use Rattle.algebra_model.specs.Call.{call_value};
 ghost use Rattle.algebra_model.specs.Comparison.{compares};
 ghost use Rattle.algebra_model.specs.Expression.{boolean_result, holds, truth_of, val, with_value, with_values};
-ghost use Rattle.sparql_algebra.specs.ExpressionOf.{comparison_of, expression_of, function_of};
-ghost use Rattle.sparql_algebra.specs.MemberTruth.{member_truth};
-ghost use Rattle.sparql_algebra.specs.HeldTerm.{held_term, is_held, value_term};
-ghost use Rattle.sparql_algebra.specs.Memory.{are_lent, is_lent, is_test, takes_none};
+ghost use Rattle.expression_values.specs.ExpressionOf.{comparison_of, expression_of, function_of};
+ghost use Rattle.expression_values.specs.MemberTruth.{member_truth};
+ghost use Rattle.expression_values.specs.HeldTerm.{held_term, is_held, value_term};
+ghost use Rattle.expression_values.specs.NoAllocation.{are_lent, is_lent, is_test, takes_none};
 
 use crate::expression::Expr;
 use crate::held::{Held, Value, boolean_value, call};

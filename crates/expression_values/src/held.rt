@@ -3,9 +3,9 @@ ghost use Rattle.std.specs.Prelude.{◌≡◌, IfOk, IsOk, None, option_map, tru
 ghost use Rattle.algebra_model.specs.BooleanValue.{ebv};
 ghost use Rattle.algebra_model.specs.Call.{boolean_term, call_value, datatype, lang, str, string_term};
 ghost use Rattle.algebra_model.specs.Expression.{boolean_result};
-ghost use Rattle.sparql_algebra.specs.ExpressionOf.{function_of};
-ghost use Rattle.sparql_algebra.specs.HeldTerm.{held_term, is_held, value_term};
-ghost use Rattle.sparql_algebra.specs.Memory.{is_test};
+ghost use Rattle.expression_values.specs.ExpressionOf.{function_of};
+ghost use Rattle.expression_values.specs.HeldTerm.{held_term, is_held, value_term};
+ghost use Rattle.expression_values.specs.NoAllocation.{is_test};
 
 use rdf_core::vocabulary::{XSD_BOOLEAN, XSD_STRING};
 use rdf_core::{Term, Text};

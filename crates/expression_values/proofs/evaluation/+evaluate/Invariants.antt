@@ -1,12 +1,12 @@
 use Rattle.std.proofs.Common.{◌≡◌, ◌≤◌, drop, map, option_map, true}
 use Rattle.algebra_model.specs.BooleanValue.{logical_and, logical_or}
-use Rattle.sparql_algebra.specs.ExpressionOf.{expression_of}
-use Rattle.sparql_algebra.specs.HeldTerm.{held_term}
-use Rattle.sparql_algebra.specs.MemberTruth.{member_truth}
-use Rattle.sparql_algebra.specs.Memory.{takes_none}
-use Rattle.sparql_algebra.specs.declared.expression.Expr.{size-Expr}
-use Rattle.sparql_algebra.proofs.OperandSteps.{truth}
-use Rattle.sparql_algebra.proofs.evaluation.+evaluate.Given as goal
+use Rattle.expression_values.specs.ExpressionOf.{expression_of}
+use Rattle.expression_values.specs.HeldTerm.{held_term}
+use Rattle.expression_values.specs.MemberTruth.{member_truth}
+use Rattle.expression_values.specs.NoAllocation.{takes_none}
+use Rattle.expression_values.specs.declared.expression.Expr.{size-Expr}
+use Rattle.expression_values.proofs.OperandSteps.{truth}
+use Rattle.expression_values.proofs.evaluation.+evaluate.Given as goal
 
 abbrev pub invariant-evaluate_member-loop-member : goal.invariant-evaluate_member-loop-member
 invariant-evaluate_member-loop-member g l =

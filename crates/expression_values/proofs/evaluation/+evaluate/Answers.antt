@@ -4,16 +4,16 @@ use Rattle.std.proofs.lemmas.Result.{IfOk-weaker}
 use Rattle.algebra_model.specs.BooleanValue.{logical_and, logical_or}
 use Rattle.algebra_model.specs.Comparison.{compares, equal}
 use Rattle.algebra_model.specs.Expression.{boolean_result, val, with_values}
-use Rattle.sparql_algebra.specs.ExpressionOf.{expression_of}
-use Rattle.sparql_algebra.specs.HeldTerm.{held_term, value_term}
-use Rattle.sparql_algebra.specs.MemberTruth.{member_truth}
-use Rattle.sparql_algebra.specs.Memory.{is_lent, takes_none}
-use Rattle.sparql_algebra.specs.declared.expression.Expr.{size-Expr}
-use Rattle.sparql_algebra.proofs.FoldSteps.{and_deeper, in_stands_for, or_deeper}
-use Rattle.sparql_algebra.proofs.LogicSteps.{in_value, member_step}
-use Rattle.sparql_algebra.proofs.MemorySteps.{and_sides, member_lent, or_sides}
-use Rattle.sparql_algebra.proofs.OperandSteps.{and_moves, or_moves, truth}
-use Rattle.sparql_algebra.proofs.evaluation.+evaluate.Goals as goal
+use Rattle.expression_values.specs.ExpressionOf.{expression_of}
+use Rattle.expression_values.specs.HeldTerm.{held_term, value_term}
+use Rattle.expression_values.specs.MemberTruth.{member_truth}
+use Rattle.expression_values.specs.NoAllocation.{is_lent, takes_none}
+use Rattle.expression_values.specs.declared.expression.Expr.{size-Expr}
+use Rattle.expression_values.proofs.FoldSteps.{and_deeper, in_stands_for, or_deeper}
+use Rattle.expression_values.proofs.LogicSteps.{in_value, member_step}
+use Rattle.expression_values.proofs.MemorySteps.{and_sides, member_lent, or_sides}
+use Rattle.expression_values.proofs.OperandSteps.{and_moves, or_moves, truth}
+use Rattle.expression_values.proofs.evaluation.+evaluate.Goals as goal
 
 pub evaluate-returns-in_ok-item-in-In-clause-value : goal.evaluate-returns-in_ok-item-in-In-clause-value
 evaluate-returns-in_ok-item-in-In-clause-value g t c =

@@ -2,12 +2,12 @@
 -- each of its members is.
 use Rattle.std.proofs.Common.{◌≡◌, ℕ, zero, suc, ◌<◌, length, get_or, true, List, [], ◌∷◌, sym, ◌∙◌, ap, arith, Box, Global}
 use Rattle.std.proofs.lemmas.Bool.{and_parts}
-use Rattle.sparql_algebra.specs.Memory.{Need, are_lent, is_lent, need, need_step, takes_none}
-use Rattle.sparql_algebra.specs.declared.expression.Expr.{Expr}
-use Rattle.sparql_algebra.specs.declared.expression.Expr.TheFolds.{fold-roll-Expr}
-use Rattle.sparql_algebra.specs.declared.expression.Expr.TheOpen.{Expr-F}
-use Rattle.sparql_algebra.specs.declared.expression.Expr.TheVariants as variants
-use Rattle.sparql_algebra.specs.declared.expression.Expr.TheViews as views
+use Rattle.expression_values.specs.NoAllocation.{Need, are_lent, is_lent, need, need_step, takes_none}
+use Rattle.expression_values.specs.declared.expression.Expr.{Expr}
+use Rattle.expression_values.specs.declared.expression.Expr.TheFolds.{fold-roll-Expr}
+use Rattle.expression_values.specs.declared.expression.Expr.TheOpen.{Expr-F}
+use Rattle.expression_values.specs.declared.expression.Expr.TheVariants as variants
+use Rattle.expression_values.specs.declared.expression.Expr.TheViews as views
 
 pub or_sides : (left right : Box Expr Global) → takes_none (views.Or left right) ≡ true
     → (takes_none left.value ≡ true) × (takes_none right.value ≡ true)

@@ -5,8 +5,8 @@ use Rattle.algebra_model.specs.Expression.{Expression, variable, constant, eithe
 use Rattle.sparql_tree.specs.declared.expression.Function.{Function}
 use Rattle.sparql_tree.specs.declared.expression.Function.TheVariants.{Str, Lang, Datatype, IsIri, IsBlank, IsLiteral}
 pub use Rattle.term_values.specs.ComparisonOf.{comparison_of}
-use Rattle.sparql_algebra.specs.declared.expression.Expr.{Expr, fold-Expr}
-use Rattle.sparql_algebra.specs.declared.expression.Expr.TheOpen.{Expr-F}
+use Rattle.expression_values.specs.declared.expression.Expr.{Expr, fold-Expr}
+use Rattle.expression_values.specs.declared.expression.Expr.TheOpen.{Expr-F}
 
 abbrev pub function_of : Function → call.Function
 function_of Str = call.str

@@ -1,0 +1,4 @@
+pub mod FoldSteps
+pub mod LogicSteps
+pub mod MemorySteps
+pub mod OperandSteps

@@ -1,0 +1,4 @@
+pub mod ExpressionOf
+pub mod HeldTerm
+pub mod MemberTruth
+pub mod NoAllocation
