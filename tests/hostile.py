@@ -11,14 +11,21 @@ Time and memory may grow by twice that factor, but not by its square.
 Needs the Python 3 standard library, and cc for two cases that replace calls of the C library.
 """
 import argparse
+import contextlib
+import ctypes
+import fcntl
 import itertools
+import mmap
 import os
 import resource
 import shutil
 import signal
+import socket
+import struct
 import subprocess
 import sys
 import tempfile
+import termios
 import time
 
 HERE = os.path.dirname(os.path.abspath(__file__))
@@ -289,7 +296,161 @@ def an_input_that_fails(program):
         expect((status, text) == (5, b"error: input\n"), f"{what}: status {status} and {text[:200]!r}")
 
 
+# ---- inputs that fail in mid-stream
+
+A_LINE = b"<http://example/subject> <http://e/predicate> <http://e/%04d> .\n"
+FAILED_INPUT = (5, b"error: input\n")
+# The readers of documents parse at least this many bytes at a time, except at the end.
+ROUND = 8 * MIB
+# Larger than what this script maps while a program runs, so that the place after the bytes stays unmapped.
+HOLE = 64 * MIB
+
+
+def lines_of_64_bytes(size):
+    """Returns a document of this many bytes, in lines of 64 bytes with ten distinct objects."""
+    ten = b"".join(A_LINE % k for k in range(10))
+    return ten * (size // len(ten)) + ten[:size % len(ten)]
+
+
+@contextlib.contextmanager
+def input_that_fails(document):
+    """Opens an input that gives a document and then fails with EIO: the memory of this script, up to an unmapped page."""
+    c = ctypes.CDLL(None, use_errno=True)
+    c.mmap.restype = ctypes.c_void_p
+    c.mmap.argtypes = [ctypes.c_void_p, ctypes.c_size_t, ctypes.c_int, ctypes.c_int, ctypes.c_int, ctypes.c_long]
+    c.munmap.argtypes = [ctypes.c_void_p, ctypes.c_size_t]
+    size = -(-len(document) // mmap.PAGESIZE) * mmap.PAGESIZE
+    start = c.mmap(None, size + HOLE, mmap.PROT_READ | mmap.PROT_WRITE, mmap.MAP_PRIVATE | mmap.MAP_ANONYMOUS, -1, 0)
+    end = start + size
+    c.munmap(end, HOLE)
+    source = os.open("/proc/self/mem", os.O_RDONLY)
+    try:
+        ctypes.memmove(end - len(document), document, len(document))
+        os.lseek(source, end - len(document), os.SEEK_SET)
+        yield source
+    finally:
+        os.close(source)
+        if size:
+            c.munmap(start, size)
+
+
+def result_of(program, words, source):
+    """Runs the program on an open input. Returns its status and output."""
+    kept = os.path.join(program.folder, "output")
+    with open(kept, "wb") as sink:
+        child = subprocess.Popen([program.path, *words], stdin=source, stdout=sink)
+        status, _, _ = program.wait(child)
+    with open(kept, "rb") as made:
+        return status, made.read()
+
+
+def expect_result(what, got, *wanted):
+    expect(got in wanted, f"{what}: status {got[0]} and {got[1][:200]!r}")
+
+
+COMMANDS = [["check"], ["terms"], ["select", "--query", "SELECT * {}"]]
+
+
+def an_input_that_fails_at_each_place(program):
+    """Lets a read fail at the start, in the first blocks, at the end of the first round, between rounds, and later."""
+    for size in (0, 64, 64 * 1024, 64 * 1024 + 8192, ROUND - 64, ROUND, ROUND + 64, ROUND + 8192, 2 * ROUND + 8192, 3 * ROUND):
+        document = lines_of_64_bytes(size)
+        for words, workers in itertools.product(COMMANDS, ("1", "4")):
+            with input_that_fails(document) as source:
+                got = result_of(program, [*words, "--workers", workers], source)
+            expect_result(f"{words[0]}, {workers} workers, {size} bytes", got, FAILED_INPUT)
+    with input_that_fails(lines_of_64_bytes(0)) as source:
+        got = result_of(program, ["select", "--query", "SELECT * {"], source)
+    expect_result("a malformed query", got, (2, b"error: query syntax\n"))
+
+
+def an_input_that_fails_after_a_malformed_line(program):
+    """Lets a read fail while the rest of a document is read. Only a document that was read to its end has a malformed line."""
+    for before, after in itertools.product((0, 64 * 1024, ROUND + 8192), (0, 8192, 64 * 1024, ROUND + 64, 3 * ROUND)):
+        document = lines_of_64_bytes(before) + b"x\n" + lines_of_64_bytes(after)
+        for words, workers in itertools.product(COMMANDS, ("1", "4")):
+            what = f"{words[0]}, {workers} workers, {before} bytes before and {after} after"
+            with input_that_fails(document) as source:
+                expect_result(what, result_of(program, [*words, "--workers", workers], source), FAILED_INPUT)
+        answer = program.run(["check"], [document])
+        expect_result("no failure", (answer.status, answer.output), (1, bad_line(before // 64 + 1)))
+
+
+def a_connection_that_is_reset(program):
+    """Lets the peer of a connection reset it after it sent a document: the read after its bytes fails."""
+    for size, line in itertools.product((64, ROUND + 8192), (b"", b"x\n")):
+        with socket.create_server(("127.0.0.1", 0)) as server:
+            sender = socket.create_connection(server.getsockname())
+            source, _ = server.accept()
+        kept = os.path.join(program.folder, "output")
+        with open(kept, "wb") as sink:
+            child = subprocess.Popen([program.path, "check"], stdin=source, stdout=sink)
+        source.close()
+        sender.sendall(line + lines_of_64_bytes(size))
+        while struct.unpack("i", fcntl.ioctl(sender, termios.TIOCOUTQ, bytes(4)))[0]:
+            time.sleep(0.001)
+        # (a connection that is closed without waiting is reset)
+        sender.setsockopt(socket.SOL_SOCKET, socket.SO_LINGER, struct.pack("ii", 1, 0))
+        sender.close()
+        status, _, _ = program.wait(child)
+        with open(kept, "rb") as made:
+            expect_result(f"{line!r} and {size} bytes", (status, made.read()), FAILED_INPUT)
+
+
+def a_file_that_is_truncated(program):
+    """Truncates a file between two lines while it is read: the result is that of a beginning of the file."""
+    whole, kept_lines = 4 * ROUND, ROUND // 64
+    path = program.file([lines_of_64_bytes(whole)])
+    kept = os.path.join(program.folder, "output")
+    with open(path, "rb") as source, open(kept, "wb") as sink:
+        child = subprocess.Popen([program.path, "check"], stdin=source, stdout=sink)
+        os.truncate(path, 64 * kept_lines)
+        status, _, _ = program.wait(child)
+    with open(kept, "rb") as made:
+        expect_result("a truncated file", (status, made.read()), (0, counts(10, 12, 0)))
+    document = [lines_of_64_bytes(ROUND), b"x\n", lines_of_64_bytes(2 * ROUND)]
+    with open(program.file(document), "rb") as source, open(kept, "wb") as sink:
+        child = subprocess.Popen([program.path, "check"], stdin=source, stdout=sink)
+        os.truncate(path, ROUND)
+        status, _, _ = program.wait(child)
+    with open(kept, "rb") as made:
+        got = status, made.read()
+    expect_result("a file without its malformed line", got, (0, counts(10, 12, 0)), (1, bad_line(kept_lines + 1)))
+
+
 # ---- failures of the system
+
+def documents_of_each_kind():
+    """Yields documents of five blocks, each with its result: escapes, lone CRs, and a malformed line at each place of a block."""
+    count, block = 5 * 1024, 1024
+    lines = [b"<http://example/subject> <http://e/predicate> <http://e/%04d> .\n" % k for k in range(count)]
+    escaped = [rb'<http://\u0065xample/subject> <http://e/predicate> "\u00e9%04d"@EN .' % k + b"\n" for k in range(count)]
+    yield "escapes", escaped, (0, counts(count, count + 2, 0))
+    returns = [line[:-1] + b"\r" for line in lines]
+    yield "lone CRs", returns, (0, counts(count, count + 2, 0))
+    mixed = [made[k % 3] for k, made in enumerate(zip(lines, escaped, returns))]
+    yield "each of these in turn", mixed, (0, counts(count, count + 2, 0))
+    for at in (0, 1, block // 2, block - 1, block, 2 * block, count - 1):
+        for bad in (b"x\n", b"<http://e/s> <http://e/p> \"\\q\" .\n", b"\xff\r"):
+            yield f"{bad!r} as line {at + 1}", [*lines[:at], bad, *lines[at + 1:]], (1, bad_line(at + 1))
+            yield f"{bad!r} as line {at + 1}, with escapes", [*mixed[:at], bad, *mixed[at + 1:]], (1, bad_line(at + 1))
+
+
+def little_memory_for_each_kind(program):
+    """Checks documents of each kind under limits on the address space: the result is right, or the error is memory or worker."""
+    seen = set()
+    for what, document, wanted in documents_of_each_kind():
+        path = program.file(document)
+        for size, workers in itertools.product((6, 8, 10, 12, 16, 24, 48, 256, 2048), ("1", "4")):
+            room = size * MIB
+            limit = lambda: resource.setrlimit(resource.RLIMIT_AS, (room, room))
+            answer = program.run(["check", "--workers", workers], path, limit=limit)
+            got = (answer.status, answer.output)
+            expect_result(f"{what}, {size} MiB, {workers} workers", got, wanted, (4, b"error: memory\n"), (4, b"error: worker\n"))
+            seen.add(answer.status)
+        expect_result(f"{what}, 2048 MiB", got, wanted)
+    expect(seen == {0, 1, 4}, f"the statuses were {sorted(seen)}")
+
 
 def little_memory(program):
     """Checks under limits on the address space that the result is right, or that the error is memory or worker."""
@@ -656,7 +817,9 @@ CASES = [
     a_long_literal, a_long_literal_of_escapes, a_long_iri_and_label_and_tag, a_label_of_dots, many_empty_lines,
     many_lone_returns, one_statement_many_times, many_graphs, many_workers_over_many_pieces,
     many_workers_over_many_rows, the_least_of_many_bad_lines, a_full_output, a_reader_that_closes_early,
-    a_closed_output, an_input_that_fails, little_memory, few_processes, each_call_refused,
+    a_closed_output, an_input_that_fails, an_input_that_fails_at_each_place, an_input_that_fails_after_a_malformed_line,
+    a_connection_that_is_reset, a_file_that_is_truncated, little_memory_for_each_kind, little_memory, few_processes,
+    each_call_refused,
     nothing_left_behind, wrong_words, growth, terms_of_one_weak_hash, brackets, growing_answers, many_graphs_in_turn,
     a_graph_within_many_graphs, long_lists, a_query_before_a_bad_document, long_queries, long_queries_and_little_memory,
 ]

@@ -1,11 +1,13 @@
 -- A run of unescaped bytes writes the characters that it encodes.
-use Rattle.std.proofs.Common.{◌≡◌, ℕ, ◌+◌, ◌-◌, ◌<◌, ◌≤◌, Bool, true, eqb, List, [], ◌∷◌, ◌++◌, length, take, drop, get_or, refl, sym, ap, subst, ◌∙◌, arith, inl, inr, not}
+use Rattle.std.proofs.Common.{◌≡◌, ℕ, ◌+◌, ◌-◌, ◌<◌, ◌≤◌, Bool, true, eqb, List, [], ◌∷◌, ◌++◌, length, take, drop, get_or, refl, sym, ap, subst, ◌∙◌, ◌&&◌, arith, inl, inr, not}
 use Rattle.std.specs.List.{list_all, slice_range}
 use Rattle.std.specs.Char.{encode_utf8}
 use Rattle.std.specs.Str.{IsUtf8, IsCharBoundary, chars, encode_utf8_all}
 use Rattle.std.proofs.lemmas.Bool.{cases_lt}
 use Rattle.std.proofs.lemmas.Bool.Decides.{nat_tests}
+use Rattle.std.proofs.Math.Seq.{take-add}
 use Rattle.std.proofs.lemmas.List.{take-append-drop, drop_more}
+use Rattle.std.proofs.lemmas.List.Folds.{list_all-append}
 use Rattle.std.proofs.lemmas.Str.{encode_ascii, encodes-chars, chars-append, chars_past_char, IsUtf8-take, IsUtf8-drop, IsCharBoundary-before_ascii, IsCharBoundary-after_ascii}
 use Rattle.rdf_core.specs.declared.lexical.escapes.Inside.{Inside}
 use Rattle.rdf_core.specs.declared.lexical.escapes.Inside.TheVariants.{Iri, Quoted, Any}
@@ -60,6 +62,13 @@ plain_enclosed k close text front rest l h =
     }
 
 -- ---- the end of a run of unescaped bytes
+
+-- one more block of bytes that all pass
+pub block_more : (p : ℕ → Bool) (bytes : List ℕ) (from to : ℕ) → from ≤ to → list_all p (take from bytes) ≡ true → list_all p (slice_range bytes from to) ≡ true → list_all p (take to bytes) ≡ true
+block_more p bytes from to rising front block =
+    let n : from + (to - from) ≡ to = omega arith in
+    ap (λ (k : ℕ). list_all p (take k bytes)) (sym n) ∙ ap (list_all p) (take-add from (to - from) bytes)
+    ∙ list_all-append p (take from bytes) (slice_range bytes from to) ∙ (λ i. front i && block i)
 
 pub plain_at : (k : Inside) (close : ℕ) (text : List ℕ) (end : ℕ) → IsUtf8 text → end < length text → close < 128 → get_or text end 0 ≡ close → list_all (is_raw k) (take end text) ≡ true → IsPlain k close text (take end text) (drop (end + 1) text)
 plain_at k close text end u l low e raw =

@@ -1,0 +1,10 @@
+use Rattle.std.proofs.Common.{◌+◌, sym, ◌∙◌, arith}
+use Rattle.rdf_core.specs.Characters.{is_string_char}
+use Rattle.rdf_core.proofs.PlainSteps.{block_more}
+use Rattle.rdf_core.proofs.lexical.plain.string_blocks.Goals as goal
+
+pub loop-at-preserved : goal.loop-at-preserved
+loop-at-preserved c = (
+  omega (arith, c.loop-at-test.true),
+  block_more is_string_char c.args.bytes.now c.loop-at.at (c.loop-at.at + 16) (omega arith) c.loop-at.invariant.1 (sym c.are_string_bytes.ensures ∙ c.if-are_string_bytes.true),
+)
