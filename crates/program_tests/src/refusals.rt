@@ -47,6 +47,28 @@ fn is_refused<R: Print>(rt: &R, fault: Fault) -> bool {
     true
 }
 
+/// Evaluates a query again after a fault, if memory or a worker was missing. Returns None if a piece
+/// that entered the gate has not left it.
+fn answered_again<R: Threads + Wait + RandomSource + Print>(
+    rt: &R,
+    alloc: Global,
+    doc: &[u8],
+    query: &str,
+    workers: usize,
+    gate: &Counter,
+    fault: Fault,
+) -> Option<Result<Vec<u8>, Fault>>
+    requires workers { (1 ≤ workers) × (workers ≤ 64) }
+{
+    if !is_refused(rt, fault) {
+        return Some(Err(fault));
+    }
+    if !gate.is_balanced() {
+        return None;
+    }
+    Some(by_lines(rt, alloc, doc, query, workers, gate))
+}
+
 /// Evaluates a query. If memory or a worker is missing, it is evaluated again. Returns None if a
 /// piece that entered the gate has not left it.
 fn answered<R: Threads + Wait + RandomSource + Print>(
@@ -59,17 +81,19 @@ fn answered<R: Threads + Wait + RandomSource + Print>(
 ) -> Option<Result<Vec<u8>, Fault>>
     requires workers { (1 ≤ workers) × (workers ≤ 64) }
 {
-    let given = by_lines(rt, alloc, doc, query, workers, gate);
-    let Err(fault) = given else {
-        return Some(given)
-    };
-    if !is_refused(rt, fault) {
-        return Some(Err(fault));
+    match by_lines(rt, alloc, doc, query, workers, gate) {
+        Ok(bytes) => Some(Ok(bytes)),
+        Err(fault) => answered_again(rt, alloc, doc, query, workers, gate, fault),
     }
-    if !gate.is_balanced() {
-        return None;
+}
+
+/// Returns whether a result is the expected one.
+fn is_wanted(given: &Option<Result<Vec<u8>, Fault>>, wanted: Result<&[u8], Fault>) -> bool {
+    match (given, wanted) {
+        (Some(Ok(bytes)), Ok(wanted)) => bytes.as_slice() == wanted,
+        (Some(Err(fault)), Err(wanted)) => *fault == wanted,
+        _ => false,
     }
-    Some(by_lines(rt, alloc, doc, query, workers, gate))
 }
 
 /// Returns whether a query has this result, at the first or the second attempt, and each piece that
@@ -85,12 +109,8 @@ fn comes_to<R: Threads + Wait + RandomSource + Print>(
     requires workers { (1 ≤ workers) × (workers ≤ 64) }
 {
     let gate = Counter::new();
-    let is_wanted = match (answered(rt, alloc, doc, query, workers, &gate), wanted) {
-        (Some(Ok(bytes)), Ok(wanted)) => bytes.as_slice() == wanted,
-        (Some(Err(fault)), Err(wanted)) => fault == wanted,
-        _ => false,
-    };
-    is_wanted && gate.is_balanced()
+    let given = answered(rt, alloc, doc, query, workers, &gate);
+    is_wanted(&given, wanted) && gate.is_balanced()
 }
 
 /// Returns whether a query has this result with one worker and with two.
@@ -190,19 +210,38 @@ fn long_literal(alloc: Global) -> Result<Term, AllocError> {
 const SPELLED: &[u8] =
     b"> \"\\\"a line\\\"\\nand another one, with a \\\\ in it\"^^<http://e/a/datatype/with/a/long/name>";
 
+/// Returns whether a fact holds. Prints it if it does not.
+fn holds<R: Print>(rt: &R, fact: &str, is_true: bool) -> bool {
+    if !is_true {
+        let _ = println!(rt; "not so: {fact}");
+    }
+    is_true
+}
+
+/// Returns whether the term is appended to the first two bytes, at the first or the second attempt.
+/// A failed attempt must leave these bytes alone.
+fn is_spelled<R: Print>(rt: &R, term: &Term, out: &mut Vec<u8>) -> bool {
+    if write_term(term, out).is_err() {
+        let _ = println!(rt; "memory was refused");
+        if !holds(rt, "what was there before", out.as_slice() == &SPELLED[..2])
+            || !holds(rt, "a second try", write_term(term, out).is_ok())
+        {
+            return false;
+        }
+    }
+    holds(rt, "the spelling", out.as_slice() == SPELLED)
+}
+
+/// Returns whether the term is spelled. It is also true if there is no memory for the two bytes.
+fn is_appended<R: Print>(rt: &R, alloc: Global, term: &Term) -> bool {
+    let mut out = Vec::new(alloc);
+    out.extend_from_slice(&SPELLED[..2]).is_err() || is_spelled(rt, term, &mut out)
+}
+
 #[test]
 fn a_term_is_spelled_or_nothing_is_written(rt: HostRuntime) {
     let Ok(term) = long_literal(rt.alloc()) else {
         return;
     };
-    let mut out = Vec::new(rt.alloc());
-    if out.extend_from_slice(&SPELLED[..2]).is_err() {
-        return;
-    }
-    if write_term(&term, &mut out).is_err() {
-        let _ = println!(rt; "memory was refused");
-        assert!(rt; out.as_slice() == &SPELLED[..2], "what was there before");
-        assert!(rt; write_term(&term, &mut out).is_ok(), "a second try");
-    }
-    assert!(rt; out.as_slice() == SPELLED, "the spelling");
+    assert!(rt; is_appended(&rt, rt.alloc(), &term));
 }
