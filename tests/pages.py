@@ -31,8 +31,8 @@ from sources import GHOST_MEMBER, ROOT, crates, mutants, sources_of
 MOST_IN_THE_GATE = 80
 # Tests that the page names for one call and one crate; it counts the others.
 MOST_TESTS = 6
-# Programs and crates for tests, and an evaluator that only tests use: none of them offers a public call.
-INNER = {"spq", "pool_time", "plain_eval", "test_fixtures"} | {it for it in crates() if it.endswith("_tests")}
+# The program, crates for tests, and an evaluator that only tests use: none of them offers a public call.
+INNER = {"spq", "plain_eval", "test_fixtures"} | {it for it in crates() if it.endswith("_tests")}
 PART = re.compile(r"(<!-- generated: (\w+), by tests/pages\.py -->\n).*?(<!-- end of the generated part -->)", re.S)
 # Methods whose names standard types have too: a call counts only on a receiver with one of these names.
 RECEIVERS = {

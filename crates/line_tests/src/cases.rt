@@ -40,7 +40,7 @@ fn printed(alloc: Global, reader: Reader, text: &str) -> Result<String, AllocErr
 }
 
 /// Returns whether the two are equal. Prints the case and both if they are not.
-fn is_same<R: Print>(rt: &R, case: &str, expected: &str, found: &str) -> bool {
+pub(crate) fn is_same<R: Print>(rt: &R, case: &str, expected: &str, found: &str) -> bool {
     if found == expected {
         return true;
     }

@@ -45,11 +45,21 @@ fn classes(c: char) -> [bool; 5] {
     ]
 }
 
+/// Returns whether each character is of its classes. Prints the first that is not.
+fn are_of_classes<R: Print>(rt: &R) -> bool {
+    for (c, expected) in CHARACTERS {
+        let found = classes(*c);
+        if found != *expected {
+            let _ = println!(rt; "{c}: expected {expected:?}, found {found:?}");
+            return false;
+        }
+    }
+    true
+}
+
 #[test]
 fn characters_are_of_their_classes(rt: HostRuntime) {
-    for (c, expected) in CHARACTERS {
-        assert_eq!(rt; classes(*c), *expected, "{c}");
-    }
+    assert!(rt; are_of_classes(&rt));
     assert!(rt;
         is_iri_char('#') && !is_iri_char(' ') && !is_iri_char('`') && is_iri_char('\u{7F}')
     );
@@ -81,14 +91,33 @@ const HEX: &[(char, bool)] = &[
     ('\u{FF11}', false),
 ];
 
+/// Returns whether each letter denotes its character. Prints the first that does not.
+fn are_escapes<R: Print>(rt: &R) -> bool {
+    for (letter, expected) in ESCAPES {
+        let found = echar(*letter);
+        if found != *expected {
+            let _ = println!(rt; "{letter}: expected {expected:?}, found {found:?}");
+            return false;
+        }
+    }
+    true
+}
+
+/// Returns whether each character is a digit as expected. Prints the first that is not.
+fn are_digits<R: Print>(rt: &R) -> bool {
+    for (c, expected) in HEX {
+        if is_hex(*c) != *expected {
+            let _ = println!(rt; "{c}: expected {expected}");
+            return false;
+        }
+    }
+    true
+}
+
 #[test]
 fn escapes_have_their_letters_and_digits(rt: HostRuntime) {
-    for (letter, expected) in ESCAPES {
-        assert_eq!(rt; echar(*letter), *expected, "{letter}");
-    }
-    for (c, expected) in HEX {
-        assert_eq!(rt; is_hex(*c), *expected, "{c}");
-    }
+    assert!(rt; are_escapes(&rt));
+    assert!(rt; are_digits(&rt));
 }
 
 /// Prints the value of the text between the quotes of a string.
@@ -208,10 +237,19 @@ fn is_lowered(alloc: Global, tag: &str, expected: &str) -> bool {
     lowered.as_str() == expected
 }
 
+/// Returns whether each text begins with a scheme as expected. Prints the first that does not.
+fn are_schemes<R: Print>(rt: &R) -> bool {
+    for (iri, expected) in SCHEMES {
+        if has_scheme(*iri) != *expected {
+            let _ = println!(rt; "{iri}: expected {expected}");
+            return false;
+        }
+    }
+    true
+}
+
 #[test]
 fn schemes_and_tags(rt: HostRuntime) {
-    for (iri, expected) in SCHEMES {
-        assert_eq!(rt; has_scheme(*iri), *expected, "{iri}");
-    }
+    assert!(rt; are_schemes(&rt));
     assert!(rt; is_lowered(rt.alloc(), "en-GB", "en-gb"));
 }

@@ -100,14 +100,20 @@ fn is_written(alloc: Global, parts: Parts, form: &str) -> Result<bool, AllocErro
     Ok(out.as_slice() == form.as_bytes())
 }
 
+/// Returns whether each term has its form. Prints the first form that a term does not have.
+fn are_written<R: Print>(rt: &R, alloc: Global) -> bool {
+    for (parts, form) in FORMS {
+        if !matches!(is_written(alloc, *parts, *form), Ok(true)) {
+            let _ = println!(rt; "not written: {form}");
+            return false;
+        }
+    }
+    true
+}
+
 #[test]
 fn terms_have_their_forms(rt: HostRuntime) {
-    for (parts, form) in FORMS {
-        assert!(rt;
-            matches!(is_written(rt.alloc(), *parts, *form), Ok(true)),
-            "{form}"
-        );
-    }
+    assert!(rt; are_written(&rt, rt.alloc()));
 }
 
 /// Terms in ascending order: blank nodes, IRIs, literals.

@@ -2,10 +2,11 @@
 //! byte.
 ghost use Rattle.std.specs.Prelude.{◌<◌};
 
+use crate::cases::is_same;
 use nquads_core::{
     Device, DeviceFailed, ReadFault, Sink, Source, read_more, read_to_end, write_all,
 };
-use std::alloc::Global;
+use std::alloc::{AllocError, AllocGlobal, Global};
 
 /// A source that gives at most `chunk` bytes with each call, and fails after `until` bytes.
 #[derive(Drop)]
@@ -82,6 +83,14 @@ fn sink(alloc: Global, until: usize) -> VecSink {
     }
 }
 
+/// Returns whether all bytes of a reader are these.
+fn are_all<S: Source>(alloc: Global, reader: &mut S, expected: &[u8]) -> bool {
+    match read_to_end(alloc, reader) {
+        Ok(bytes) => bytes.as_slice() == expected,
+        Err(_) => false,
+    }
+}
+
 #[test]
 fn reads_to_the_end_a_few_bytes_a_call(rt: HostRuntime) {
     let text = b"<http://e/a> <http://e/p> <http://e/b> .\n";
@@ -91,10 +100,31 @@ fn reads_to_the_end_a_few_bytes_a_call(rt: HostRuntime) {
         until: 1000,
         failed: 0,
     };
-    let bytes = read_to_end(rt.alloc(), &mut reader).unwrap_or(Vec::new(rt.alloc()));
-    assert!(rt; bytes.as_slice() == text.as_slice(), "all bytes in order");
+    assert!(rt; are_all(rt.alloc(), &mut reader, text), "all bytes in order");
     assert!(rt; reader.rest.is_empty(), "nothing is left");
     assert!(rt; reader.failed == 0, "no call failed");
+}
+
+/// Reads three times, and prints the results and the bytes.
+fn three_reads(
+    alloc: Global,
+    reader: &mut SliceSource<'_>,
+    bytes: &mut Vec<u8>,
+) -> Result<String, AllocError> {
+    let first = read_more(reader, bytes);
+    let second = read_more(reader, bytes);
+    let third = read_more(reader, bytes);
+    let text = str::from_utf8(bytes).unwrap_or("?");
+    format!(in alloc; "{first:?} {second:?} {third:?} {text}")
+}
+
+/// Returns whether three reads append two bytes, one and none. Prints what they do if not.
+fn are_read<R: Print>(rt: &R, alloc: Global, reader: &mut SliceSource<'_>) -> bool {
+    let mut bytes = Vec::new(alloc);
+    match three_reads(alloc, reader, &mut bytes) {
+        Ok(text) => is_same(rt, "three reads", "Ok(2) Ok(1) Ok(0) abc", text.as_str()),
+        Err(_) => false,
+    }
 }
 
 #[test]
@@ -105,14 +135,7 @@ fn one_read_appends_what_it_gives(rt: HostRuntime) {
         until: 1000,
         failed: 0,
     };
-    let mut bytes = Vec::new(rt.alloc());
-    for expected in [2, 1, 0] {
-        match read_more(&mut reader, &mut bytes) {
-            Ok(n) => assert!(rt; n == expected, "{expected}"),
-            Err(_) => assert!(rt; false, "{expected}"),
-        }
-    }
-    assert!(rt; bytes.as_slice() == b"abc".as_slice(), "all bytes in order");
+    assert!(rt; are_read(&rt, rt.alloc(), &mut reader));
 }
 
 #[test]
@@ -123,50 +146,60 @@ fn a_reader_that_fails_differs_from_the_end(rt: HostRuntime) {
         until: 4,
         failed: 0,
     };
-    let read = read_to_end(rt.alloc(), &mut reader);
+    let fault = read_to_end(rt.alloc(), &mut reader).err();
     assert!(rt;
-        matches!(read, Err(ReadFault::Read)),
+        fault == Some(ReadFault::Read),
         "four bytes were there, and then a failure"
     );
     assert!(rt; reader.failed == 1, "it failed once");
 }
 
+/// Writes five bytes, no bytes and a sixth byte. Returns the first fact that does not hold.
+fn first_wrong(writer: &mut VecSink) -> Option<&'static str> {
+    if write_all(writer, b"abcde").is_err() {
+        return Some("as many bytes as it takes");
+    }
+    if write_all(writer, b"").is_err() {
+        return Some("an empty text needs no write");
+    }
+    if write_all(writer, b"f").is_ok() {
+        return Some("one more byte is refused");
+    }
+    if writer.bytes.as_slice() != b"abcde" {
+        return Some("what was written before stays");
+    }
+    if writer.failed == 1 {
+        None
+    } else {
+        Some("it failed once")
+    }
+}
+
 #[test]
 fn writes_a_byte_a_call_up_to_the_failure(rt: HostRuntime) {
     let mut writer = sink(rt.alloc(), 5);
-    assert!(rt;
-        write_all(&mut writer, b"abcde").is_ok(),
-        "as many bytes as it takes"
-    );
-    assert!(rt;
-        write_all(&mut writer, b"").is_ok(),
-        "an empty text needs no write"
-    );
-    assert!(rt;
-        write_all(&mut writer, b"f").is_err(),
-        "one more byte is refused"
-    );
-    assert!(rt;
-        writer.bytes.as_slice() == b"abcde".as_slice(),
-        "what was written before stays"
-    );
-    assert!(rt; writer.failed == 1, "it failed once");
+    let wrong = first_wrong(&mut writer);
+    assert!(rt; wrong.is_none(), "{wrong:?}");
+}
+
+/// Returns whether a vector takes all bytes of a slice, both as devices.
+fn is_passed_on(alloc: Global, text: &[u8]) -> bool {
+    let mut reader = Device { inner: text };
+    match read_to_end(alloc, &mut reader) {
+        Ok(bytes) => is_taken(alloc, &bytes, text),
+        Err(_) => false,
+    }
+}
+
+/// Returns whether a vector takes the bytes, and then holds these.
+fn is_taken(alloc: Global, bytes: &[u8], expected: &[u8]) -> bool {
+    let mut writer = Device {
+        inner: Vec::new(alloc),
+    };
+    write_all(&mut writer, bytes).is_ok() && writer.inner.as_slice() == expected
 }
 
 #[test]
 fn devices_of_std_give_and_take_the_same_bytes(rt: HostRuntime) {
-    let text: &[u8] = b"abc";
-    let mut reader = Device { inner: text };
-    let bytes = read_to_end(rt.alloc(), &mut reader).unwrap_or(Vec::new(rt.alloc()));
-    let mut writer = Device {
-        inner: Vec::new(rt.alloc()),
-    };
-    assert!(rt;
-        write_all(&mut writer, &bytes).is_ok(),
-        "a vector takes all"
-    );
-    assert!(rt;
-        writer.inner.as_slice() == b"abc".as_slice(),
-        "what was read was written"
-    );
+    assert!(rt; is_passed_on(rt.alloc(), b"abc"));
 }

@@ -87,6 +87,17 @@ const DOCUMENTS: &[(&str, &[u8], &str)] = &[
     ("the empty document", b"", "Ok((0, 0, 0))"),
 ];
 
+/// Returns whether these are the expected counts. Prints the case and both if they are not.
+fn are_counts<R: Print>(
+    rt: &R,
+    alloc: Global,
+    name: &str,
+    expected: &str,
+    found: Counts,
+) -> bool {
+    holds(rt, name, expected, format!(in alloc; "{found:?}"))
+}
+
 /// Returns whether each document is loaded as expected.
 fn are_right<R: Threads + Wait + RandomSource + Print>(
     rt: &R,
@@ -99,7 +110,7 @@ fn are_right<R: Threads + Wait + RandomSource + Print>(
 {
     for (name, doc, expected) in DOCUMENTS {
         let found = counts(loaded(rt, alloc, *doc, size, workers));
-        if !holds(rt, *name, *expected, format!(in alloc; "{found:?}")) {
+        if !are_counts(rt, alloc, *name, *expected, found) {
             return false;
         }
     }
@@ -108,12 +119,11 @@ fn are_right<R: Threads + Wait + RandomSource + Print>(
 
 #[test]
 fn every_cut_loads_the_same(rt: HostRuntime) {
-    for (size, workers) in [(1, 1), (1, 2), (1, 8), (65536, 4)] {
-        assert!(rt;
-            are_right(&rt, rt.alloc(), size, workers),
-            "pieces of {size} bytes, {workers} workers"
-        );
-    }
+    let alloc = rt.alloc();
+    assert!(rt; are_right(&rt, alloc, 1, 1), "pieces of 1 byte, 1 worker");
+    assert!(rt; are_right(&rt, alloc, 1, 2), "pieces of 1 byte, 2 workers");
+    assert!(rt; are_right(&rt, alloc, 1, 8), "pieces of 1 byte, 8 workers");
+    assert!(rt; are_right(&rt, alloc, 65536, 4), "pieces of 65536 bytes, 4 workers");
 }
 
 /// Documents, the smallest size of their blocks in bytes, and what is loaded of each.
@@ -124,16 +134,33 @@ const BLOCKS: &[(&str, &[u8], usize, &str)] = &[
     ("the empty document", b"", 1, "Ok((0, 0, 0))"),
 ];
 
+/// Returns whether the document in blocks is loaded as expected.
+fn is_loaded<R: Threads + Wait + RandomSource + Print>(
+    rt: &R,
+    alloc: Global,
+    name: &str,
+    doc: &[u8],
+    size: usize,
+    expected: &str,
+) -> bool
+    requires size { 1 ≤ size }
+{
+    let found = counts(loaded_blocks(rt, alloc, doc, size));
+    are_counts(rt, alloc, name, expected, found)
+}
+
+fn are_loaded<R: Threads + Wait + RandomSource + Print>(rt: &R, alloc: Global) -> bool {
+    for (name, doc, size, expected) in BLOCKS {
+        if !is_loaded(rt, alloc, *name, *doc, *size, *expected) {
+            return false;
+        }
+    }
+    true
+}
+
 #[test]
 fn blocks_load_as_the_document(rt: HostRuntime) {
-    let alloc = rt.alloc();
-    for (name, doc, size, expected) in BLOCKS {
-        let found = counts(loaded_blocks(&rt, alloc, *doc, *size));
-        assert!(rt;
-            holds(&rt, *name, *expected, format!(in alloc; "{found:?}")),
-            "{name}"
-        );
-    }
+    assert!(rt; are_loaded(&rt, rt.alloc()));
 }
 
 /// Returns whether the store of the two graphs has its terms, quads and graphs, also in its parts.
@@ -145,10 +172,15 @@ fn has_parts(store: Store) -> bool {
     dict.len() == 7 && index.graphs().len() == 2
 }
 
+/// Returns whether the two graphs are loaded, with their terms, quads and graphs.
+fn are_parts_lent<R: Threads + Wait + RandomSource>(rt: &R, alloc: Global) -> bool {
+    match loaded(rt, alloc, GRAPHS, 1, 2) {
+        Ok(store) => has_parts(store),
+        Err(_) => false,
+    }
+}
+
 #[test]
 fn a_store_exposes_its_parts(rt: HostRuntime) {
-    let Ok(store) = loaded(&rt, rt.alloc(), GRAPHS, 1, 2) else {
-        panic!(rt; "not loaded");
-    };
-    assert!(rt; has_parts(store));
+    assert!(rt; are_parts_lent(&rt, rt.alloc()));
 }

@@ -59,47 +59,78 @@ fn counts_once(index: &Index) -> bool {
         && index.scan(None, None, Some(1), Some(3)).len() == 1
 }
 
+/// Returns whether there is such an index.
+fn is_counted_once(index: Result<Index, AllocError>) -> bool {
+    match index {
+        Ok(index) => counts_once(&index),
+        Err(_) => false,
+    }
+}
+
 /// A repeated statement counts once, and a graph has a name if a quad names it.
 #[test]
 fn an_index_counts_each_quad_once(rt: HostRuntime) {
-    let index = built(rt.alloc()).expect(&rt, "memory");
-    assert!(rt; counts_once(&index), "built");
-    let index = side_by_side(rt.alloc(), &QUADS).expect(&rt, "memory");
-    assert!(rt; counts_once(&index), "sorted");
+    assert!(rt; is_counted_once(built(rt.alloc())), "built");
+    assert!(rt; is_counted_once(side_by_side(rt.alloc(), &QUADS)), "sorted");
     index_reads_the_quads();
     index_counts_the_quads();
     index_names_the_graphs();
 }
 
+/// Returns the numbers of quads and of graph names.
+fn counted(alloc: Global, quads: &[NumQuad]) -> Result<(u64, u64), AllocError> {
+    let counts = count_quads(alloc, Vec::from_slice(alloc, quads)?)?;
+    Ok((counts.quads, counts.graphs))
+}
+
 /// The counts of an index that is not built: of numbers that are packed, and of a number that is too large.
 #[test]
 fn quads_are_counted_once(rt: HostRuntime) {
-    let alloc = rt.alloc();
-    let mut quads = Vec::from_slice(alloc, &QUADS).expect(&rt, "memory");
-    let counts = count_quads(alloc, quads.clone().expect(&rt, "memory")).expect(&rt, "memory");
-    assert!(rt; counts.quads == 3 && counts.graphs == 1, "packed");
+    let found = counted(rt.alloc(), &QUADS);
+    assert!(rt; found == Ok((3, 1)), "packed: {found:?}");
+    let [a, b, c, d] = QUADS;
     let large = quad(Some(1 << 40), 0, 1, 2);
-    quads.push(large).expect(&rt, "memory");
-    let counts = count_quads(alloc, quads).expect(&rt, "memory");
-    assert!(rt; counts.quads == 4 && counts.graphs == 2, "not packed");
+    let found = counted(rt.alloc(), &[a, b, c, d, large]);
+    assert!(rt; found == Ok((4, 2)), "not packed: {found:?}");
+}
+
+/// Returns whether the packed list gives these quads back.
+fn gives_back(alloc: Global, list: &PackedList, expected: &[NumQuad]) -> bool {
+    match list.quads(alloc) {
+        Ok(quads) => quads.as_slice() == expected,
+        Err(_) => false,
+    }
+}
+
+/// Returns whether the packed list of the quads gives these quads back. None is expected if there is no packed list.
+fn is_packed_as(
+    alloc: Global,
+    quads: &[NumQuad],
+    order: SortOrder,
+    expected: Option<&[NumQuad]>,
+) -> bool {
+    match PackedList::of(alloc, quads, order) {
+        Ok(Some(list)) => match expected {
+            Some(expected) => gives_back(alloc, &list, expected),
+            None => false,
+        },
+        Ok(None) => expected.is_none(),
+        Err(_) => false,
+    }
 }
 
 /// A packed list has each quad once, in its order, and there is none with a number that is too large.
 #[test]
 fn a_packed_list_gives_its_quads_back(rt: HostRuntime) {
     let alloc = rt.alloc();
-    let found = PackedList::of(alloc, &QUADS, SortOrder::Gpos).expect(&rt, "memory");
-    let list = found.expect(&rt, "small numbers");
-    let quads = list.quads(alloc).expect(&rt, "memory");
-    let expected = [
+    let packed = [
         quad(None, 0, 1, 2),
         quad(None, 0, 1, 3),
         quad(Some(5), 0, 1, 2),
     ];
-    assert!(rt; quads.as_slice() == &expected[..]);
+    assert!(rt; is_packed_as(alloc, &QUADS, SortOrder::Gpos, Some(&packed)), "small numbers");
     let large = [quad(None, 0, 1, 0xFFFF_FFFF)];
-    let found = PackedList::of(alloc, &large, SortOrder::Gspo).expect(&rt, "memory");
-    assert!(rt; found.is_none());
+    assert!(rt; is_packed_as(alloc, &large, SortOrder::Gspo, None), "a large number");
 }
 
 /// A name, the given graph, subject, predicate and object, and the number of quads.
@@ -125,58 +156,64 @@ const SCANS: &[Scan] = &[
     ("s p o of no quad", [Some(5), Some(0), Some(1), Some(3)], 0),
 ];
 
-#[test]
-fn scans_give_what_agrees(rt: HostRuntime) {
-    let index = built(rt.alloc()).expect(&rt, "memory");
+/// Returns whether each scan has its number of quads. Prints the first that has another one.
+fn are_counted<R: Print>(rt: &R, index: &Index) -> bool {
     for (name, given, count) in SCANS {
         let [g, s, p, o] = *given;
-        assert_eq!(rt; index.scan(g, s, p, o).len(), *count, "{name}");
+        let found = index.scan(g, s, p, o).len();
+        if found != *count {
+            let _ = println!(rt; "{name}: expected {count}, found {found}");
+            return false;
+        }
     }
-    assert!(rt; index.scan(None, None, None, Some(3)) == [quad(None, 0, 1, 3)].as_slice());
-    assert!(rt; index.scan(Some(5), Some(0), None, None) == [quad(Some(5), 0, 1, 2)].as_slice());
+    true
+}
+
+/// Returns whether each of two scans gives its quad.
+fn are_given(index: &Index) -> bool {
+    index.scan(None, None, None, Some(3)) == [quad(None, 0, 1, 3)].as_slice()
+        && index.scan(Some(5), Some(0), None, None) == [quad(Some(5), 0, 1, 2)].as_slice()
+}
+
+/// Returns whether the scans of the four quads give what agrees.
+fn are_scans_right<R: Print>(rt: &R, alloc: Global) -> bool {
+    match built(alloc) {
+        Ok(index) => are_counted(rt, &index) && are_given(&index),
+        Err(_) => false,
+    }
+}
+
+#[test]
+fn scans_give_what_agrees(rt: HostRuntime) {
+    assert!(rt; are_scans_right(&rt, rt.alloc()));
+}
+
+/// Returns whether the sorted list of the quads is this one.
+fn is_sorted_as(
+    alloc: Global,
+    quads: &[NumQuad],
+    order: SortOrder,
+    expected: &[NumQuad],
+) -> bool {
+    match sorted_list(alloc, quads, order) {
+        Ok(list) => list.as_slice() == expected,
+        Err(_) => false,
+    }
 }
 
 /// Each order alone: no graph comes first, then the positions of the name.
 #[test]
 fn lists_are_in_their_orders(rt: HostRuntime) {
     let alloc = rt.alloc();
-    let quads = [
-        quad(Some(0), 0, 0, 0),
-        quad(None, 1, 3, 2),
-        quad(None, 2, 1, 3),
-        quad(None, 3, 2, 1),
-        quad(None, 1, 3, 2),
-    ];
-    for (order, expected) in [
-        (
-            SortOrder::Gspo,
-            [
-                quad(None, 1, 3, 2),
-                quad(None, 2, 1, 3),
-                quad(None, 3, 2, 1),
-                quad(Some(0), 0, 0, 0),
-            ],
-        ),
-        (
-            SortOrder::Gpos,
-            [
-                quad(None, 2, 1, 3),
-                quad(None, 3, 2, 1),
-                quad(None, 1, 3, 2),
-                quad(Some(0), 0, 0, 0),
-            ],
-        ),
-        (
-            SortOrder::Gosp,
-            [
-                quad(None, 3, 2, 1),
-                quad(None, 1, 3, 2),
-                quad(None, 2, 1, 3),
-                quad(Some(0), 0, 0, 0),
-            ],
-        ),
-    ] {
-        let list = sorted_list(alloc, &quads, order).expect(&rt, "memory");
-        assert!(rt; list.as_slice() == expected.as_slice());
-    }
+    let named = quad(Some(0), 0, 0, 0);
+    let a = quad(None, 1, 3, 2);
+    let b = quad(None, 2, 1, 3);
+    let c = quad(None, 3, 2, 1);
+    let quads = [named, a, b, c, a];
+    let gspo = [a, b, c, named];
+    assert!(rt; is_sorted_as(alloc, &quads, SortOrder::Gspo, &gspo), "gspo");
+    let gpos = [b, c, a, named];
+    assert!(rt; is_sorted_as(alloc, &quads, SortOrder::Gpos, &gpos), "gpos");
+    let gosp = [c, a, b, named];
+    assert!(rt; is_sorted_as(alloc, &quads, SortOrder::Gosp, &gosp), "gosp");
 }

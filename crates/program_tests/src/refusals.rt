@@ -47,9 +47,31 @@ fn lacks_resources<R: Print>(rt: &R, fault: Fault) -> bool {
     true
 }
 
+/// Evaluates a query again after a fault, if memory or a worker was missing. Returns None if a piece
+/// that entered the gate has not left it.
+fn answered_again<R: Threads + Wait + RandomSource + Print>(
+    rt: &R,
+    alloc: Global,
+    doc: &[u8],
+    query: &str,
+    workers: usize,
+    gate: &Counter,
+    fault: Fault,
+) -> Option<Result<Vec<u8>, Fault>>
+    requires workers { (1 ≤ workers) × (workers ≤ 64) }
+{
+    if !lacks_resources(rt, fault) {
+        return Some(Err(fault));
+    }
+    if !gate.is_balanced() {
+        return None;
+    }
+    Some(by_lines(rt, alloc, doc, query, workers, gate))
+}
+
 /// Evaluates a query. If memory or a worker is missing, it is evaluated again. Returns None if a
 /// piece that entered the gate has not left it.
-fn evaluated<R: Threads + Wait + RandomSource + Print>(
+fn answered<R: Threads + Wait + RandomSource + Print>(
     rt: &R,
     alloc: Global,
     doc: &[u8],
@@ -59,17 +81,19 @@ fn evaluated<R: Threads + Wait + RandomSource + Print>(
 ) -> Option<Result<Vec<u8>, Fault>>
     requires workers { (1 ≤ workers) × (workers ≤ 64) }
 {
-    let given = by_lines(rt, alloc, doc, query, workers, gate);
-    let Err(fault) = given else {
-        return Some(given)
-    };
-    if !lacks_resources(rt, fault) {
-        return Some(Err(fault));
+    match by_lines(rt, alloc, doc, query, workers, gate) {
+        Ok(bytes) => Some(Ok(bytes)),
+        Err(fault) => answered_again(rt, alloc, doc, query, workers, gate, fault),
     }
-    if !gate.is_balanced() {
-        return None;
+}
+
+/// Returns whether a result is the expected one.
+fn is_expected(given: &Option<Result<Vec<u8>, Fault>>, wanted: Result<&[u8], Fault>) -> bool {
+    match (given, wanted) {
+        (Some(Ok(bytes)), Ok(wanted)) => bytes.as_slice() == wanted,
+        (Some(Err(fault)), Err(wanted)) => *fault == wanted,
+        _ => false,
     }
-    Some(by_lines(rt, alloc, doc, query, workers, gate))
 }
 
 /// Returns whether a query has this result, at the first or the second attempt, and each piece that
@@ -80,17 +104,13 @@ fn comes_to<R: Threads + Wait + RandomSource + Print>(
     doc: &[u8],
     query: &str,
     workers: usize,
-    expected: Result<&[u8], Fault>,
+    wanted: Result<&[u8], Fault>,
 ) -> bool
     requires workers { (1 ≤ workers) × (workers ≤ 64) }
 {
     let gate = Counter::new();
-    let is_expected = match (evaluated(rt, alloc, doc, query, workers, &gate), expected) {
-        (Some(Ok(bytes)), Ok(expected)) => bytes.as_slice() == expected,
-        (Some(Err(fault)), Err(expected)) => fault == expected,
-        _ => false,
-    };
-    is_expected && gate.is_balanced()
+    let given = answered(rt, alloc, doc, query, workers, &gate);
+    is_expected(&given, wanted) && gate.is_balanced()
 }
 
 /// Returns whether a query has this result with one worker and with two.
@@ -99,10 +119,10 @@ fn has_outcome<R: Threads + Wait + RandomSource + Print>(
     alloc: Global,
     doc: &str,
     query: &str,
-    expected: Result<&[u8], Fault>,
+    wanted: Result<&[u8], Fault>,
 ) -> bool {
-    comes_to(rt, alloc, doc.as_bytes(), query, 1, expected)
-        && comes_to(rt, alloc, doc.as_bytes(), query, 2, expected)
+    comes_to(rt, alloc, doc.as_bytes(), query, 1, wanted)
+        && comes_to(rt, alloc, doc.as_bytes(), query, 2, wanted)
 }
 
 /// Returns whether a query has these variables and bindings. It is also true if there is no memory
@@ -115,7 +135,7 @@ fn has_rows<R: Threads + Wait + RandomSource + Print>(
     rows: (&str, &str),
 ) -> bool {
     match json(alloc, rows.0, rows.1) {
-        Ok(expected) => has_outcome(rt, alloc, doc, query, Ok(&expected)),
+        Ok(wanted) => has_outcome(rt, alloc, doc, query, Ok(&wanted)),
         Err(_) => true,
     }
 }
@@ -165,14 +185,14 @@ fn a_computed_term_is_returned_or_memory_runs_out(rt: HostRuntime) {
 #[test]
 fn a_bad_line_is_named_or_memory_runs_out(rt: HostRuntime) {
     let doc = "<http://e/a> <http://e/p> <http://e/b> .\nx\n";
-    let expected = Err(Fault::BadLine(2));
-    assert!(rt; has_outcome(&rt, rt.alloc(), doc, "SELECT * {}", expected));
+    let wanted = Err(Fault::BadLine(2));
+    assert!(rt; has_outcome(&rt, rt.alloc(), doc, "SELECT * {}", wanted));
 }
 
 #[test]
 fn a_query_is_rejected_by_its_rule_or_memory_runs_out(rt: HostRuntime) {
-    let expected = Err(Fault::Query(QueryFault::Syntax));
-    assert!(rt; has_outcome(&rt, rt.alloc(), "x\n", "SELECT", expected));
+    let wanted = Err(Fault::Query(QueryFault::Syntax));
+    assert!(rt; has_outcome(&rt, rt.alloc(), "x\n", "SELECT", wanted));
 }
 
 /// Creates a literal whose N-Quads form is longer than the first capacity of a buffer.
@@ -190,19 +210,38 @@ fn long_literal(alloc: Global) -> Result<Term, AllocError> {
 const WRITTEN: &[u8] =
     b"> \"\\\"a line\\\"\\nand another one, with a \\\\ in it\"^^<http://e/a/datatype/with/a/long/name>";
 
+/// Returns whether a fact holds. Prints it if it does not.
+fn holds<R: Print>(rt: &R, fact: &str, is_true: bool) -> bool {
+    if !is_true {
+        let _ = println!(rt; "not so: {fact}");
+    }
+    is_true
+}
+
+/// Returns whether the term is appended to the first two bytes, at the first or the second attempt.
+/// A failed attempt must leave these bytes alone.
+fn has_letters<R: Print>(rt: &R, term: &Term, out: &mut Vec<u8>) -> bool {
+    if write_term(term, out).is_err() {
+        let _ = println!(rt; "memory was refused");
+        if !holds(rt, "what was there before", out.as_slice() == &WRITTEN[..2])
+            || !holds(rt, "a second try", write_term(term, out).is_ok())
+        {
+            return false;
+        }
+    }
+    holds(rt, "the spelling", out.as_slice() == WRITTEN)
+}
+
+/// Returns whether the term is spelled. It is also true if there is no memory for the two bytes.
+fn is_appended<R: Print>(rt: &R, alloc: Global, term: &Term) -> bool {
+    let mut out = Vec::new(alloc);
+    out.extend_from_slice(&WRITTEN[..2]).is_err() || has_letters(rt, term, &mut out)
+}
+
 #[test]
 fn a_term_is_written_or_nothing_is(rt: HostRuntime) {
     let Ok(term) = long_literal(rt.alloc()) else {
         return;
     };
-    let mut out = Vec::new(rt.alloc());
-    if out.extend_from_slice(&WRITTEN[..2]).is_err() {
-        return;
-    }
-    if write_term(&term, &mut out).is_err() {
-        let _ = println!(rt; "memory was refused");
-        assert!(rt; out.as_slice() == &WRITTEN[..2], "what was there before");
-        assert!(rt; write_term(&term, &mut out).is_ok(), "a second try");
-    }
-    assert!(rt; out.as_slice() == WRITTEN, "the N-Quads form");
+    assert!(rt; is_appended(&rt, rt.alloc(), &term));
 }

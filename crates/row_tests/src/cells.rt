@@ -52,3 +52,21 @@ pub(crate) fn shown(alloc: Global, rows: &Rows) -> Result<String, AllocError> {
     }
     Ok(text)
 }
+
+/// Returns whether a case has the expected text. Prints the case and both if it does not.
+pub(crate) fn holds<R: Print>(
+    rt: &R,
+    case: &str,
+    expected: &str,
+    found: Result<String, AllocError>,
+) -> bool {
+    match found {
+        Ok(found) => {
+            if found.as_str() != expected {
+                let _ = println!(rt; "{case}: expected {expected}, got {found}");
+            }
+            found.as_str() == expected
+        }
+        Err(_) => false,
+    }
+}

@@ -2,7 +2,7 @@
 ghost use Rattle.std.specs.Prelude.{◌≡◌, IfOk};
 ghost use Rattle.row_pieces.specs.How.{IsRunnable};
 
-use crate::cells::{pairs, shown};
+use crate::cells::{holds, pairs, shown};
 use piece_pool::OpenGate;
 use row_core::Rows;
 use row_join::{Keyed, RowTest, join, left_join, minus};
@@ -82,7 +82,28 @@ fn operated<R: Threads + Wait>(
 }
 
 /// Prints the rows of an operator.
-fn joined_text<R: RandomSource + Threads + Wait>(
+fn shown_operator<R: RandomSource + Threads + Wait>(
+    rt: &R,
+    alloc: Global,
+    operator: Operator,
+    left: &Rows,
+    right: &Rows,
+    how: &How,
+) -> Result<String, EvalFault>
+    requires same_width { left.now.width ≡ right.now.width }
+    requires how { IsRunnable how.now }
+{
+    match RandomState::new(rt) {
+        Ok(state) => {
+            let rows = operated(rt, alloc, state, operator, left, right, how)?;
+            Ok(shown(alloc, &rows)?)
+        }
+        Err(_) => Err(EvalFault::Memory),
+    }
+}
+
+/// Prints the rows of an operator.
+fn told<R: RandomSource + Threads + Wait>(
     rt: &R,
     alloc: Global,
     operator: Operator,
@@ -92,24 +113,41 @@ fn joined_text<R: RandomSource + Threads + Wait>(
 ) -> Result<String, EvalFault>
     requires how { IsRunnable how.now }
 {
-    let Ok(state) = RandomState::new(rt) else {
-        return Err(EvalFault::Memory);
-    };
     let left = rows_of(alloc, left)?;
     let right = rows_of(alloc, right)?;
-    let rows = operated(rt, alloc, state, operator, &left, &right, how)?;
-    Ok(shown(alloc, &rows)?)
+    shown_operator(rt, alloc, operator, &left, &right, how)
 }
 
-/// Returns whether an operator gives these rows. It runs with one worker in one piece, and with two workers in
-/// pieces of one row. Prints the rows if they differ.
+/// Returns whether an operator gives these rows. Prints the rows if they differ.
 fn gives<R: RandomSource + Threads + Wait + Print>(
     rt: &R,
     alloc: Global,
     operator: Operator,
     case: &[&str; 4],
-) -> Result<bool, EvalFault> {
+    how: &How,
+) -> bool
+    requires how { IsRunnable how.now }
+{
     let [name, left, right, expected] = *case;
+    match told(rt, alloc, operator, left, right, how) {
+        Ok(given) => {
+            if given.as_str() != expected {
+                let _ = println!(rt; "{name}, {how:?}: {left} and {right}: expected {expected}, got {given}");
+            }
+            given.as_str() == expected
+        }
+        Err(_) => false,
+    }
+}
+
+/// Returns whether an operator gives these rows. It runs with one worker in one piece, and with two workers in
+/// pieces of one row.
+fn gives_twice<R: RandomSource + Threads + Wait + Print>(
+    rt: &R,
+    alloc: Global,
+    operator: Operator,
+    case: &[&str; 4],
+) -> bool {
     let whole = How {
         workers: 1,
         rows: 100,
@@ -118,14 +156,22 @@ fn gives<R: RandomSource + Threads + Wait + Print>(
         workers: 2,
         rows: 1,
     };
-    for how in [whole, cut] {
-        let given = joined_text(rt, alloc, operator, left, right, &how)?;
-        if given.as_str() != expected {
-            let _ = println!(rt; "{name}, {how:?}: {left} and {right} give {given}");
-            return Ok(false);
+    gives(rt, alloc, operator, case, &whole) && gives(rt, alloc, operator, case, &cut)
+}
+
+/// Returns whether an operator gives its rows in each case.
+fn gives_all<R: RandomSource + Threads + Wait + Print>(
+    rt: &R,
+    alloc: Global,
+    operator: Operator,
+    cases: &[[&str; 4]],
+) -> bool {
+    for case in cases {
+        if !gives_twice(rt, alloc, operator, case) {
+            return false;
         }
     }
-    Ok(true)
+    true
 }
 
 /// The name of a case, the left rows, the right rows, and the expected rows.
@@ -146,26 +192,20 @@ const JOINS: [[&str; 4]; 3] = [
 ];
 
 #[test]
-fn unbound_meets_everything(rt: HostRuntime) -> Result<(), EvalFault> {
-    for case in &JOINS {
-        assert!(rt; gives(&rt, rt.alloc(), Operator::Join, case)?, "{case:?}");
-    }
-    Ok(())
+fn unbound_meets_everything(rt: HostRuntime) {
+    assert!(rt; gives_all(&rt, rt.alloc(), Operator::Join, &JOINS));
 }
 
+const CONDITIONS: [[&str; 4]; 1] = [[
+    "the condition fails for one of two rows",
+    "1- 2-",
+    "17 2-",
+    "2: 17 2-",
+]];
+
 #[test]
-fn a_condition_that_fails_keeps_the_left_row(rt: HostRuntime) -> Result<(), EvalFault> {
-    let case = [
-        "the condition fails for one of two rows",
-        "1- 2-",
-        "17 2-",
-        "2: 17 2-",
-    ];
-    assert!(rt;
-        gives(&rt, rt.alloc(), Operator::LeftJoin, &case)?,
-        "{case:?}"
-    );
-    Ok(())
+fn a_condition_that_fails_keeps_the_left_row(rt: HostRuntime) {
+    assert!(rt; gives_all(&rt, rt.alloc(), Operator::LeftJoin, &CONDITIONS));
 }
 
 const DIFFERENCES: [[&str; 4]; 4] = [
@@ -186,11 +226,8 @@ const DIFFERENCES: [[&str; 4]; 4] = [
 ];
 
 #[test]
-fn minus_keeps_what_shares_nothing(rt: HostRuntime) -> Result<(), EvalFault> {
-    for case in &DIFFERENCES {
-        assert!(rt; gives(&rt, rt.alloc(), Operator::Minus, case)?, "{case:?}");
-    }
-    Ok(())
+fn minus_keeps_what_shares_nothing(rt: HostRuntime) {
+    assert!(rt; gives_all(&rt, rt.alloc(), Operator::Minus, &DIFFERENCES));
 }
 
 /// Appends places, each after a space, and a bar.
@@ -213,25 +250,35 @@ fn append_places(
     append(text, keyed.places(&key))
 }
 
-/// Prints the places under the keys 0 and 1 of the first variable, and the places without a key.
-fn places<R: RandomSource>(rt: &R, alloc: Global, rows: &Rows) -> Result<String, AllocError>
-    requires width { rows.now.width ≡ 2 }
-{
-    let Ok(state) = RandomState::new(rt) else {
-        return Err(AllocError);
-    };
-    let keyed = Keyed::build(alloc, state, rows, &[0])?;
+/// Prints the places under the keys 0 and 1, and the places without a key.
+fn shown_places(alloc: Global, keyed: &Keyed) -> Result<String, AllocError> {
     let mut text = String::new(alloc);
-    append_places(alloc, &mut text, &keyed, 0)?;
-    append_places(alloc, &mut text, &keyed, 1)?;
+    append_places(alloc, &mut text, keyed, 0)?;
+    append_places(alloc, &mut text, keyed, 1)?;
     append(&mut text, keyed.apart())?;
     Ok(text)
 }
 
+/// Prints the places under the keys 0 and 1 of the first variable, and the places without a key.
+fn places_of<R: RandomSource>(rt: &R, alloc: Global, rows: &Rows) -> Result<String, AllocError>
+    requires width { rows.now.width ≡ 2 }
+{
+    match RandomState::new(rt) {
+        Ok(state) => {
+            let keyed = Keyed::build(alloc, state, rows, &[0])?;
+            shown_places(alloc, &keyed)
+        }
+        Err(_) => Err(AllocError),
+    }
+}
+
+/// Prints the places of the rows of a text.
+fn places<R: RandomSource>(rt: &R, alloc: Global, text: &str) -> Result<String, AllocError> {
+    let rows = rows_of(alloc, text)?;
+    places_of(rt, alloc, &rows)
+}
+
 #[test]
-fn rows_are_under_their_key_or_apart(rt: HostRuntime) -> Result<(), AllocError> {
-    let rows = rows_of(rt.alloc(), "05 -5 0-")?;
-    let text = places(&rt, rt.alloc(), &rows)?;
-    assert!(rt; text.as_str() == " 0 2 | | 1 |", "{text}");
-    Ok(())
+fn rows_are_under_their_key_or_apart(rt: HostRuntime) {
+    assert!(rt; holds(&rt, "05 -5 0-", " 0 2 | | 1 |", places(&rt, rt.alloc(), "05 -5 0-")));
 }

@@ -157,6 +157,21 @@ fn document<R: Threads + Wait>(
     Ok(joined(alloc, &blocks)?)
 }
 
+/// Prints the document of a selection over a dictionary.
+fn printed_over<R: Threads + Wait>(
+    rt: &R,
+    alloc: Global,
+    dict: &Dict,
+    selection: &Selection,
+    how: &How,
+) -> Result<String, EvalFault>
+    requires how { IsRunnable how.now }
+{
+    let cells = pairs(alloc, selection.rows)?;
+    let rows = rows_of(alloc, dict, &cells)?;
+    document(rt, alloc, dict, &rows, selection, how)
+}
+
 /// Prints the document of a selection, with `workers` workers and pieces of `rows` rows.
 fn printed<R: RandomSource + Threads + Wait>(
     rt: &R,
@@ -168,9 +183,40 @@ fn printed<R: RandomSource + Threads + Wait>(
     requires how { (1 ≤ workers) × (workers ≤ most_workers) × (1 ≤ rows) }
 {
     let dict = dict_of(rt, alloc)?;
-    let cells = pairs(alloc, selection.rows)?;
-    let all = rows_of(alloc, &dict, &cells)?;
-    document(rt, alloc, &dict, &all, selection, &How { workers, rows })
+    printed_over(rt, alloc, &dict, selection, &How { workers, rows })
+}
+
+/// Returns whether the two documents are the same. Prints the selection, the numbers of workers and of
+/// rows in a piece, and both documents if they are not.
+fn is_same<R: Print>(
+    rt: &R,
+    selection: &Selection,
+    numbers: (usize, usize),
+    expected: &str,
+    given: &str,
+) -> bool {
+    if given == expected {
+        return true;
+    }
+    let _ = println!(rt; "{selection:?}, workers and rows {numbers:?}: expected {expected}got {given}");
+    false
+}
+
+/// Returns whether a document is this one, with `workers` workers and pieces of `rows` rows.
+fn is_document<R: RandomSource + Threads + Wait + Print>(
+    rt: &R,
+    alloc: Global,
+    selection: &Selection,
+    workers: usize,
+    rows: usize,
+    expected: &str,
+) -> bool
+    requires how { (1 ≤ workers) × (workers ≤ most_workers) × (1 ≤ rows) }
+{
+    match printed(rt, alloc, selection, workers, rows) {
+        Ok(given) => is_same(rt, selection, (workers, rows), expected, given.as_str()),
+        Err(_) => false,
+    }
 }
 
 /// Returns whether a document has these variables and bindings, with two workers and pieces of one row. Prints it if
@@ -181,15 +227,14 @@ fn is_printed<R: RandomSource + Threads + Wait + Print>(
     selection: &Selection,
     variables: &str,
     bindings: &str,
-) -> Result<bool, EvalFault> {
-    let given = printed(rt, alloc, selection, 2, 1)?;
+) -> bool {
     let expected = format!(in alloc;
         "{{'head':{{'vars':[{variables}]}},'results':{{'bindings':[{bindings}]}}}}\n"
-    )?;
-    if given != expected {
-        let _ = println!(rt; "expected {expected}got {given}");
+    );
+    match expected {
+        Ok(expected) => is_document(rt, alloc, selection, 2, 1, expected.as_str()),
+        Err(_) => false,
     }
-    Ok(given == expected)
 }
 
 /// Projected variables and rows, with the variables and bindings of their documents.
@@ -222,21 +267,24 @@ const DOCUMENTS: [(&[usize], &str, &str, &str); 4] = [
     (&[], "0-", "", "{}"),
 ];
 
-#[test]
-fn every_term_and_row_has_its_form_and_place(rt: HostRuntime) -> Result<(), EvalFault> {
-    for (listed, rows, variables, bindings) in DOCUMENTS {
+fn are_printed<R: RandomSource + Threads + Wait + Print>(rt: &R, alloc: Global) -> bool {
+    for (listed, rows, variables, bindings) in &DOCUMENTS {
         let selection = Selection {
-            listed,
-            rows,
+            listed: *listed,
+            rows: *rows,
             offset: 0,
             limit: None,
         };
-        assert!(rt;
-            is_printed(&rt, rt.alloc(), &selection, variables, bindings)?,
-            "{selection:?}"
-        );
+        if !is_printed(rt, alloc, &selection, *variables, *bindings) {
+            return false;
+        }
     }
-    Ok(())
+    true
+}
+
+#[test]
+fn every_term_and_row_has_its_form_and_place(rt: HostRuntime) {
+    assert!(rt; are_printed(&rt, rt.alloc()));
 }
 
 /// An offset, a limit, and the bindings that they keep of three rows: a blank node, an IRI and a
@@ -264,49 +312,60 @@ const SLICES: [(u64, Option<u64>, &str); 8] = [
     (u64::MAX, Some(u64::MAX), ""),
 ];
 
-#[test]
-fn offset_and_limit_cut_the_sorted_rows(rt: HostRuntime) -> Result<(), EvalFault> {
-    for (offset, limit, bindings) in SLICES {
+fn are_cut<R: RandomSource + Threads + Wait + Print>(rt: &R, alloc: Global) -> bool {
+    for (offset, limit, bindings) in &SLICES {
         let selection = Selection {
             listed: &[0],
             rows: "0- 5- 4-",
-            offset,
-            limit,
+            offset: *offset,
+            limit: *limit,
         };
-        assert!(rt;
-            is_printed(&rt, rt.alloc(), &selection, "'b'", bindings)?,
-            "{selection:?}"
-        );
+        if !is_printed(rt, alloc, &selection, "'b'", *bindings) {
+            return false;
+        }
     }
-    Ok(())
+    true
+}
+
+#[test]
+fn offset_and_limit_cut_the_sorted_rows(rt: HostRuntime) {
+    assert!(rt; are_cut(&rt, rt.alloc()));
 }
 
 /// Seventy rows, in which row `i` has the cells `i` modulo 9 and `i` modulo 7.
 const SEVENTY: &str =
     "00 11 22 33 44 55 66 70 81 02 13 24 35 46 50 61 72 83 04 15 26 30 41 52 63 74 85 06 10 21 32 43 54 65 76 80 01 12 23 34 45 56 60 71 82 03 14 25 36 40 51 62 73 84 05 16 20 31 42 53 64 75 86 00 11 22 33 44 55 66";
 
+/// The projection of the seventy rows, and their slice.
+const OF_SEVENTY: Selection = Selection {
+    listed: &[1, 0],
+    rows: SEVENTY,
+    offset: 3,
+    limit: Some(65),
+};
+
+/// Returns whether the document has the same bytes with other numbers of workers and pieces of other sizes.
+fn are_same<R: RandomSource + Threads + Wait + Print>(rt: &R, alloc: Global, whole: &str) -> bool {
+    is_document(rt, alloc, &OF_SEVENTY, 1, 1, whole)
+        && is_document(rt, alloc, &OF_SEVENTY, 2, 1, whole)
+        && is_document(rt, alloc, &OF_SEVENTY, 3, 7, whole)
+        && is_document(rt, alloc, &OF_SEVENTY, 4, 64, whole)
+        && is_document(rt, alloc, &OF_SEVENTY, 64, 33, whole)
+        && is_document(rt, alloc, &OF_SEVENTY, 2, 65, whole)
+        && is_document(rt, alloc, &OF_SEVENTY, 5, usize::MAX, whole)
+}
+
+/// Returns whether the document is the same with every number of workers and pieces of every size.
+fn is_whole<R: RandomSource + Threads + Wait + Print>(rt: &R, alloc: Global) -> bool {
+    match printed(rt, alloc, &OF_SEVENTY, 1, 1000) {
+        Ok(whole) => are_same(rt, alloc, whole.as_str()),
+        Err(_) => false,
+    }
+}
+
 /// Seventy rows, which are more than one group of a piece, have the same bytes with every number of workers and
 /// pieces of every size.
 #[test]
-fn workers_and_pieces_change_no_byte(rt: HostRuntime) -> Result<(), EvalFault> {
-    let selection = Selection {
-        listed: &[1, 0],
-        rows: SEVENTY,
-        offset: 3,
-        limit: Some(65),
-    };
-    let whole = printed(&rt, rt.alloc(), &selection, 1, 1000)?;
-    for (workers, rows) in [
-        (1, 1),
-        (2, 1),
-        (3, 7),
-        (4, 64),
-        (64, 33),
-        (2, 65),
-        (5, usize::MAX),
-    ] {
-        let cut = printed(&rt, rt.alloc(), &selection, workers, rows)?;
-        assert!(rt; cut == whole, "{workers} workers, {rows} rows a piece");
-    }
-    Ok(())
+fn workers_and_pieces_change_no_byte(rt: HostRuntime) {
+    assert!(rt; is_whole(&rt, rt.alloc()));
 }

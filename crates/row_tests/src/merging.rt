@@ -1,6 +1,7 @@
 //! One call of each public function.
-ghost use Rattle.std.specs.Prelude.{◌≡◌, IfOk};
+ghost use Rattle.std.specs.Prelude.{◌≡◌, IfOk, length};
 
+use crate::cells::holds;
 use row_core::{Rows, is_compatible, merge_into, shares};
 use std::alloc::{AllocError, AllocGlobal, Global};
 
@@ -13,7 +14,7 @@ fn symbol(cell: Option<u64>) -> char {
 }
 
 /// Prints the width, and for each row its cells and after `=` the same cells one by one.
-fn text_of(alloc: Global, rows: &Rows) -> Result<String, AllocError> {
+pub(crate) fn told(alloc: Global, rows: &Rows) -> Result<String, AllocError> {
     let mut text = format!(in alloc; "{}:", rows.width())?;
     for i in 0..rows.len() {
         text.push(' ')?;
@@ -54,29 +55,60 @@ fn empty_rows(alloc: Global) -> Result<Rows, AllocError> {
     Ok(rows)
 }
 
-#[test]
-fn rows_are_as_they_were_pushed(rt: HostRuntime) -> Result<(), AllocError> {
-    let text = text_of(rt.alloc(), &appended(rt.alloc())?)?;
-    assert!(rt; text.as_str() == "2: 1-=1- -7=-7 34=34", "{text}");
-    Ok(())
+/// Prints rows that are made.
+fn told_made(alloc: Global, rows: Result<Rows, AllocError>) -> Result<String, AllocError> {
+    match rows {
+        Ok(rows) => told(alloc, &rows),
+        Err(fault) => Err(fault),
+    }
 }
 
 #[test]
-fn rows_of_no_width_are_counted(rt: HostRuntime) -> Result<(), AllocError> {
-    let text = text_of(rt.alloc(), &empty_rows(rt.alloc())?)?;
-    assert!(rt; text.as_str() == "0: = =", "{text}");
-    Ok(())
+fn rows_are_as_they_were_pushed(rt: HostRuntime) {
+    let found = told_made(rt.alloc(), appended(rt.alloc()));
+    assert!(rt; holds(&rt, "pushed and appended", "2: 1-=1- -7=-7 34=34", found));
 }
 
 #[test]
-fn two_rows_agree_share_and_merge(rt: HostRuntime) -> Result<(), AllocError> {
+fn rows_of_no_width_are_counted(rt: HostRuntime) {
+    let found = told_made(rt.alloc(), empty_rows(rt.alloc()));
+    assert!(rt; holds(&rt, "no width", "0: = =", found));
+}
+
+/// Returns the merge of two rows, in place of a row with other cells.
+fn merged(
+    alloc: Global,
+    a: &[Option<u64>],
+    b: &[Option<u64>],
+) -> Result<Vec<Option<u64>>, AllocError>
+    requires same_width { length a.now ≡ length b.now }
+{
+    let mut row = vec![in alloc; Some(9)]?;
+    merge_into(&mut row, a, b)?;
+    Ok(row)
+}
+
+/// Returns whether the merge of two rows is this row.
+fn is_merged(
+    alloc: Global,
+    a: &[Option<u64>],
+    b: &[Option<u64>],
+    expected: &[Option<u64>],
+) -> bool
+    requires same_width { length a.now ≡ length b.now }
+{
+    match merged(alloc, a, b) {
+        Ok(row) => row.as_slice() == expected,
+        Err(_) => false,
+    }
+}
+
+#[test]
+fn two_rows_agree_share_and_merge(rt: HostRuntime) {
     let a = [Some(1), None, Some(3)];
     let b = [Some(1), Some(2), None];
     let c = [Some(2), None, None];
     assert!(rt; is_compatible(&a, &b) && !is_compatible(&a, &c));
     assert!(rt; shares(&a, &b) && !shares(&[None, Some(1)], &[Some(1), None]));
-    let mut row = vec![in rt.alloc(); Some(9)]?;
-    merge_into(&mut row, &a, &b)?;
-    assert!(rt; row.as_slice() == [Some(1), Some(2), Some(3)].as_slice());
-    Ok(())
+    assert!(rt; is_merged(rt.alloc(), &a, &b, &[Some(1), Some(2), Some(3)]));
 }

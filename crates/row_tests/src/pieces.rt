@@ -3,6 +3,7 @@
 ghost use Rattle.std.specs.Prelude.{◌≤◌};
 ghost use Rattle.piece_pool.specs.Limits.{most_pieces, most_workers};
 
+use crate::cells::holds;
 use piece_pool::{Outcome, PoolFault, run_all};
 use row_pieces::{EvalFault, piece_size};
 use std::alloc::{AllocError, Global};
@@ -10,18 +11,30 @@ use std::sync::Wait;
 use std::thread::Threads;
 use test_fixtures::{Counter, Numbers};
 
+/// A number of elements, the requested size of a piece, and its size.
+const SIZES: [(usize, usize, usize); 4] = [
+    (10, 3, 3),
+    (0, 1, 1),
+    (2, 1073741824, 1073741824),
+    (usize::MAX, 1, 4),
+];
+
+/// Returns whether each piece has its size. Prints the first that has another one.
+fn are_sizes<R: Print>(rt: &R) -> bool {
+    for (elements, size, expected) in &SIZES {
+        let given = piece_size(*elements, *size);
+        if given != *expected {
+            let _ = println!(rt; "{elements} by {size}: expected {expected}, got {given}");
+            return false;
+        }
+    }
+    true
+}
+
 /// A piece has as many elements as requested, and more only if there would be too many pieces.
 #[test]
 fn a_piece_has_what_was_asked_for(rt: HostRuntime) {
-    for (elements, size, expected) in [
-        (10, 3, 3),
-        (0, 1, 1),
-        (2, 1073741824, 1073741824),
-        (usize::MAX, 1, 4),
-    ] {
-        let given = piece_size(elements, size);
-        assert!(rt; given == expected, "{elements} by {size}: {given}");
-    }
+    assert!(rt; are_sizes(&rt));
 }
 
 #[test]
@@ -43,7 +56,7 @@ fn a_fault_keeps_its_name(rt: HostRuntime) {
 /// Prints the result of `n` pieces; those below `sound` are not faulty. The result is the number of
 /// outputs at their indexes, or the least faulty piece with its fault. Also prints how many pieces
 /// entered and left the gate.
-fn outcome_text<R: Threads + Wait>(
+fn told<R: Threads + Wait>(
     rt: &R,
     alloc: Global,
     workers: usize,
@@ -78,25 +91,32 @@ fn in_place(outs: &[u64]) -> u64 {
     count
 }
 
+/// The number of pieces, the number of those that are sound, and the result.
+const RUNS: [(u64, u64, &str); 5] = [
+    (0, 9, "results 0 0 entered 0 left 0"),
+    (1, 9, "results 1 1 entered 1 left 1"),
+    (2, 9, "results 2 2 entered 2 left 2"),
+    (9, 9, "results 9 9 entered 9 left 9"),
+    (1, 0, "faulty 0 0 entered 1 left 1"),
+];
+
+/// Returns whether each run has its result.
+fn are_answered<R: Threads + Wait + Print>(rt: &R, alloc: Global, workers: usize) -> bool
+    requires workers { (1 ≤ workers) × (workers ≤ most_workers) }
+{
+    for (n, sound, expected) in &RUNS {
+        if !holds(rt, *expected, *expected, told(rt, alloc, workers, *n, *sound)) {
+            return false;
+        }
+    }
+    true
+}
+
 /// Runs zero pieces, one piece and more pieces, with one worker and with two. The caller runs a
 /// single piece, and all pieces if there is one worker. A single faulty piece is named, and has
 /// left the gate.
 #[test]
-fn each_piece_has_its_output_in_its_place(rt: HostRuntime) -> Result<(), AllocError> {
-    for (n, sound, expected) in [
-        (0, 9, "results 0 0 entered 0 left 0"),
-        (1, 9, "results 1 1 entered 1 left 1"),
-        (2, 9, "results 2 2 entered 2 left 2"),
-        (9, 9, "results 9 9 entered 9 left 9"),
-        (1, 0, "faulty 0 0 entered 1 left 1"),
-    ] {
-        for workers in [2, 1] {
-            let given = outcome_text(&rt, rt.alloc(), workers, n, sound)?;
-            assert!(rt;
-                given.as_str() == expected,
-                "{n} pieces, {workers} workers: expected {expected}, got {given}"
-            );
-        }
-    }
-    Ok(())
+fn each_piece_has_its_output_in_its_place(rt: HostRuntime) {
+    assert!(rt; are_answered(&rt, rt.alloc(), 2), "2 workers");
+    assert!(rt; are_answered(&rt, rt.alloc(), 1), "1 worker");
 }

@@ -188,47 +188,64 @@ fn played(alloc: Global, n: u64, script: &str) -> Result<(Vec<Option<u64>>, Clos
     Ok((found, closed))
 }
 
-/// Plays a script, and prints the numbers of its steps, with `-` for none, and the totals of the
-/// closed board.
-fn transcript(alloc: Global, n: u64, script: &str) -> Result<String, BoardFault>
+/// Appends a number, or `-` for none, and a space.
+fn append(text: &mut String, number: Option<u64>) -> Result<(), AllocError> {
+    match number {
+        Some(number) => write!(text, "{number} "),
+        None => text.push_str("- "),
+    }
+}
+
+/// Prints the numbers of steps, with `-` for none, and the totals of a closed board.
+fn shown(alloc: Global, found: &[Option<u64>], closed: &Closed) -> Result<String, AllocError> {
+    let mut text = String::new(alloc);
+    for number in found {
+        append(&mut text, *number)?;
+    }
+    write!(
+        text,
+        "drawn {} skipped {} least {}",
+        closed.drawn, closed.skipped, closed.least
+    )?;
+    Ok(text)
+}
+
+/// Plays a script, and prints the numbers of its steps and the totals of the closed board.
+fn told(alloc: Global, n: u64, script: &str) -> Result<String, BoardFault>
     requires pieces { n ≤ most_pieces }
 {
     let (found, closed) = played(alloc, n, script)?;
-    let mut text = String::new(alloc);
-    for number in &found {
-        match number {
-            Some(number) => text.push_str(&format!(in alloc; "{number} ")?)?,
-            None => text.push_str("- ")?,
+    Ok(shown(alloc, &found, &closed)?)
+}
+
+/// Returns whether a script on a board of `n` numbers is printed like this. Prints the script and both texts if not.
+fn is_told<R: Print>(rt: &R, alloc: Global, n: u64, script: &str, expected: &str) -> bool
+    requires pieces { n ≤ most_pieces }
+{
+    match told(alloc, n, script) {
+        Ok(text) => {
+            if text.as_str() != expected {
+                let _ = println!(rt; "{script}: expected {expected}, got {text}");
+            }
+            text.as_str() == expected
         }
+        Err(_) => false,
     }
-    text.push_str(&format!(in alloc;
-        "drawn {} skipped {} least {}",
-        closed.drawn, closed.skipped, closed.least
-    )?)?;
-    Ok(text)
 }
 
 /// A pass sees what the other pass reports, and skips larger numbers.
 #[test]
-fn a_skip_is_above_a_seen_report(rt: HostRuntime) -> Result<(), BoardFault> {
-    let text = transcript(rt.alloc(), 4, "dDdRlsDLSdDfF")?;
-    assert!(rt;
-        text.as_str() == "0 1 2 1 1 2 3 1 3 - - 1 1 drawn 4 skipped 2 least 1",
-        "{text}"
-    );
-    Ok(())
+fn a_skip_is_above_a_seen_report(rt: HostRuntime) {
+    let expected = "0 1 2 1 1 2 3 1 3 - - 1 1 drawn 4 skipped 2 least 1";
+    assert!(rt; is_told(&rt, rt.alloc(), 4, "dDdRlsDLSdDfF", expected));
 }
 
 /// With one number and two passes, the second pass to draw gets no number, and sees the report of
 /// the first one.
 #[test]
-fn one_piece_and_two_passes(rt: HostRuntime) -> Result<(), BoardFault> {
-    let text = transcript(rt.alloc(), 1, "dDrL")?;
-    assert!(rt;
-        text.as_str() == "0 - 0 0 drawn 1 skipped 0 least 0",
-        "{text}"
-    );
-    Ok(())
+fn one_piece_and_two_passes(rt: HostRuntime) {
+    let expected = "0 - 0 0 drawn 1 skipped 0 least 0";
+    assert!(rt; is_told(&rt, rt.alloc(), 1, "dDrL", expected));
 }
 
 /// Draws once with each pass that is not finished.
@@ -270,6 +287,25 @@ fn draw_rounds(
     Ok(passes)
 }
 
+/// Returns whether each pass is finished and has no last draw.
+fn are_over(passes: &[Pass]) -> bool {
+    for pass in passes {
+        if !pass.is_finished() || pass.last().is_some() {
+            return false;
+        }
+    }
+    true
+}
+
+/// Returns whether the passes are over, and the totals of the board that is then closed.
+fn closed_over(board: Board, passes: Vec<Pass>) -> (bool, Closed)
+    requires of_board { All (λ p. IsPassOf board p) passes.items }
+    requires all { vec_len passes ≡ board.seats }
+{
+    let are_over = are_over(&passes);
+    (are_over, board.close(passes))
+}
+
 /// Returns whether three rounds draw all numbers of a board and finish each of its passes.
 fn are_drawn_in_turn(alloc: Global, n: u64, seats: usize) -> Result<bool, BoardFault>
     requires pieces { n ≤ most_pieces }
@@ -278,21 +314,31 @@ fn are_drawn_in_turn(alloc: Global, n: u64, seats: usize) -> Result<bool, BoardF
     let (board, passes) = Board::open(alloc, n, seats)?;
     let is_opened = board.pieces() == n && board.seats() == seats;
     let passes = draw_rounds(alloc, &board, passes, 3)?;
-    let are_over = passes
-        .iter()
-        .all(|pass| pass.is_finished() && pass.last().is_none());
-    Ok(is_opened && are_over && is_closed(&board.close(passes), n, 0, n))
+    let (are_over, closed) = closed_over(board, passes);
+    Ok(is_opened && are_over && is_closed(&closed, n, 0, n))
+}
+
+/// Returns whether three rounds draw all numbers of a board. Prints the numbers if not.
+fn is_drawn<R: Print>(rt: &R, alloc: Global, n: u64, seats: usize) -> bool
+    requires pieces { n ≤ most_pieces }
+    requires seats { (1 ≤ seats) × (seats ≤ most_seats) }
+{
+    let is_drawn = are_drawn_in_turn(alloc, n, seats) == Ok(true);
+    if !is_drawn {
+        let _ = println!(rt; "{n} numbers, {seats} seats");
+    }
+    is_drawn
 }
 
 /// The largest number of seats, and about as many numbers: the last round finishes every pass. An
 /// empty board finishes a pass at its first draw.
 #[test]
-fn seats_draw_in_turn(rt: HostRuntime) -> Result<(), BoardFault> {
-    for (n, seats) in [(0, 1), (0, 64), (1, 64), (63, 64), (64, 64), (65, 64)] {
-        assert!(rt;
-            are_drawn_in_turn(rt.alloc(), n, seats)?,
-            "{n} numbers, {seats} seats"
-        );
-    }
-    Ok(())
+fn seats_draw_in_turn(rt: HostRuntime) {
+    let alloc = rt.alloc();
+    assert!(rt; is_drawn(&rt, alloc, 0, 1));
+    assert!(rt; is_drawn(&rt, alloc, 0, 64));
+    assert!(rt; is_drawn(&rt, alloc, 1, 64));
+    assert!(rt; is_drawn(&rt, alloc, 63, 64));
+    assert!(rt; is_drawn(&rt, alloc, 64, 64));
+    assert!(rt; is_drawn(&rt, alloc, 65, 64));
 }

@@ -32,27 +32,50 @@ fn pieces_of_size(alloc: Global, doc: &str, size: usize) -> Result<String, Alloc
     pieces(alloc, doc, &cuts)
 }
 
-#[test]
-fn every_cuts_after_line_feeds(rt: HostRuntime) -> Result<(), AllocError> {
-    let cases = [
-        (DOCUMENT, 1, "|a\n|b\n|\n|c"),
-        (DOCUMENT, 3, "|a\nb\n|\nc"),
-        (DOCUMENT, 6, "|a\nb\n\nc"),
-        ("a\n", 1, "|a\n"),
-        ("a\n", 2, "|a\n"),
-        ("a\n", 3, "|a\n"),
-        ("", 1, "|"),
-        ("", 2, "|"),
-        ("", 3, "|"),
-    ];
-    for (doc, size, expected) in cases {
-        let text = pieces_of_size(rt.alloc(), doc, size)?;
-        assert!(rt;
-            text.as_str() == expected,
-            "{doc:?} by {size} bytes: expected {expected:?}, got {text:?}"
-        );
+/// Returns whether a text is the expected one. Prints the document, the number and both if not.
+fn is_text<R: Print>(
+    rt: &R,
+    doc: &str,
+    number: usize,
+    expected: &str,
+    text: Result<String, AllocError>,
+) -> bool {
+    match text {
+        Ok(text) => {
+            if text.as_str() != expected {
+                let _ = println!(rt; "{doc:?} by {number}: expected {expected:?}, got {text:?}");
+            }
+            text.as_str() == expected
+        }
+        Err(_) => false,
     }
-    Ok(())
+}
+
+/// A document, the least number of bytes of a piece, and the pieces.
+const PIECES: &[(&str, usize, &str)] = &[
+    (DOCUMENT, 1, "|a\n|b\n|\n|c"),
+    (DOCUMENT, 3, "|a\nb\n|\nc"),
+    (DOCUMENT, 6, "|a\nb\n\nc"),
+    ("a\n", 1, "|a\n"),
+    ("a\n", 2, "|a\n"),
+    ("a\n", 3, "|a\n"),
+    ("", 1, "|"),
+    ("", 2, "|"),
+    ("", 3, "|"),
+];
+
+fn are_cut<R: Print>(rt: &R, alloc: Global) -> bool {
+    for (doc, size, expected) in PIECES {
+        if !is_text(rt, *doc, *size, *expected, pieces_of_size(alloc, *doc, *size)) {
+            return false;
+        }
+    }
+    true
+}
+
+#[test]
+fn every_cuts_after_line_feeds(rt: HostRuntime) {
+    assert!(rt; are_cut(&rt, rt.alloc()));
 }
 
 /// Prints the pieces of the document that is split at these places, or `none` if the places do not
@@ -64,24 +87,24 @@ fn pieces_at(alloc: Global, places: &[usize]) -> Result<String, AllocError> {
     }
 }
 
-#[test]
-fn given_places_are_taken_where_they_cut(rt: HostRuntime) -> Result<(), AllocError> {
-    let cases: [(&[usize], &str); 6] = [
-        (&[2, 5], "|a\n|b\n\n|c"),
-        (&[], "|a\nb\n\nc"),
-        (&[0], "none"),
-        (&[3], "none"),
-        (&[6], "none"),
-        (&[2, 2], "none"),
-    ];
-    for (places, expected) in cases {
-        let text = pieces_at(rt.alloc(), places)?;
-        assert!(rt;
-            text.as_str() == expected,
-            "at {places:?}: expected {expected:?}, got {text:?}"
-        );
+/// Returns whether the places cut the document like this. Prints the places if not.
+fn is_cut_at<R: Print>(rt: &R, alloc: Global, places: &[usize], expected: &str) -> bool {
+    if is_text(rt, DOCUMENT, places.len(), expected, pieces_at(alloc, places)) {
+        return true;
     }
-    Ok(())
+    let _ = println!(rt; "at {places:?}");
+    false
+}
+
+#[test]
+fn given_places_are_taken_where_they_cut(rt: HostRuntime) {
+    let alloc = rt.alloc();
+    assert!(rt; is_cut_at(&rt, alloc, &[2, 5], "|a\n|b\n\n|c"));
+    assert!(rt; is_cut_at(&rt, alloc, &[], "|a\nb\n\nc"));
+    assert!(rt; is_cut_at(&rt, alloc, &[0], "none"));
+    assert!(rt; is_cut_at(&rt, alloc, &[3], "none"));
+    assert!(rt; is_cut_at(&rt, alloc, &[6], "none"));
+    assert!(rt; is_cut_at(&rt, alloc, &[2, 2], "none"));
 }
 
 /// Appends the next block after a bar, or `.` at the end, or `!` if the reader failed.
@@ -98,6 +121,19 @@ fn append_next(
     }
 }
 
+/// Prints the results of six calls for the blocks of a document.
+fn six_blocks(
+    alloc: Global,
+    blocks: &mut Blocks,
+    reader: &mut SliceSource<'_>,
+) -> Result<String, AllocError> {
+    let mut text = String::new(alloc);
+    for _call in 0..6 {
+        append_next(&mut text, blocks, reader)?;
+    }
+    Ok(text)
+}
+
 /// Prints the results of six calls for the blocks of a document. The reader gives one byte per
 /// call, until it fails.
 fn blocks(alloc: Global, doc: &str, size: usize, until: usize) -> Result<String, AllocError>
@@ -105,31 +141,32 @@ fn blocks(alloc: Global, doc: &str, size: usize, until: usize) -> Result<String,
 {
     let mut reader = SliceSource::failing_after(doc.as_bytes(), 1, until);
     let mut blocks = Blocks::new(alloc, size)?;
-    let mut text = String::new(alloc);
-    for _call in 0..6 {
-        append_next(&mut text, &mut blocks, &mut reader)?;
+    six_blocks(alloc, &mut blocks, &mut reader)
+}
+
+/// A document, the least number of bytes of a block, the number of bytes after which the reader
+/// fails, and the results.
+const BLOCKS: &[(&str, usize, usize, &str)] = &[
+    (DOCUMENT, 3, 100, "|a\nb\n|\nc...."),
+    (DOCUMENT, 1, 100, "|a\n|b\n|\n|c.."),
+    ("", 1, 100, "......"),
+    (DOCUMENT, 1, 3, "|a\n!!!!!"),
+];
+
+fn are_blocks<R: Print>(rt: &R, alloc: Global) -> bool {
+    for (doc, size, until, expected) in BLOCKS {
+        if !is_text(rt, *doc, *size, *expected, blocks(alloc, *doc, *size, *until)) {
+            return false;
+        }
     }
-    Ok(text)
+    true
 }
 
 /// The blocks are the pieces. Each call after the last block returns none, and each call after a
 /// fault the same fault.
 #[test]
-fn blocks_are_the_pieces_and_a_fault_is_repeated(rt: HostRuntime) -> Result<(), AllocError> {
-    let cases = [
-        (DOCUMENT, 3, 100, "|a\nb\n|\nc...."),
-        (DOCUMENT, 1, 100, "|a\n|b\n|\n|c.."),
-        ("", 1, 100, "......"),
-        (DOCUMENT, 1, 3, "|a\n!!!!!"),
-    ];
-    for (doc, size, until, expected) in cases {
-        let text = blocks(rt.alloc(), doc, size, until)?;
-        assert!(rt;
-            text.as_str() == expected,
-            "{doc:?} by {size} bytes, failing after {until}: expected {expected:?}, got {text:?}"
-        );
-    }
-    Ok(())
+fn blocks_are_the_pieces_and_a_fault_is_repeated(rt: HostRuntime) {
+    assert!(rt; are_blocks(&rt, rt.alloc()));
 }
 
 /// Returns the capacity of the first block.

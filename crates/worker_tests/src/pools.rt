@@ -62,48 +62,65 @@ fn run<R: Threads + Wait, G: Gate + Sync>(
     }
 }
 
+/// Returns whether each output is at its index, and each piece passed the gate once. Prints what was
+/// found if not.
+fn is_in_place<R: Threads + Wait + Print>(rt: &R, alloc: Global, workers: usize, n: u64) -> bool
+    requires workers { (1 ≤ workers) × (workers ≤ most_workers) }
+    requires pieces { n ≤ most_pieces }
+{
+    let gate = Counter::new();
+    let job = Numbers::sound_below(100);
+    let ran = run(rt, alloc, workers, n, &job, &gate);
+    let counts = (gate.entered(), gate.left(), job.runs());
+    let is_right = ran == Ran::InPlace(n) && counts == (n, n, n);
+    if !is_right {
+        let _ = println!(rt; "{workers} workers, {n} pieces: got {ran:?}, entered, left and run {counts:?}");
+    }
+    is_right
+}
+
 /// Each output is at its index, and each piece passed the gate once, for every number of workers.
 /// Without pieces, neither the gate nor the job is called.
 #[test]
 fn each_piece_in_its_place(rt: HostRuntime) {
-    for (workers, n) in [
-        (1usize, 1u64),
-        (1, 9),
-        (2, 9),
-        (8, 9),
-        (8, 3),
-        (64, 100),
-        (4, 0),
-    ] {
-        let gate = Counter::new();
-        let job = Numbers::sound_below(100);
-        let ran = run(&rt, rt.alloc(), workers, n, &job, &gate);
-        let counts = (gate.entered(), gate.left(), job.runs());
-        assert!(rt;
-            ran == Ran::InPlace(n) && counts == (n, n, n),
-            "{workers} workers, {n} pieces: got {ran:?}, entered, left and run {counts:?}"
-        );
+    let alloc = rt.alloc();
+    assert!(rt; is_in_place(&rt, alloc, 1, 1));
+    assert!(rt; is_in_place(&rt, alloc, 1, 9));
+    assert!(rt; is_in_place(&rt, alloc, 2, 9));
+    assert!(rt; is_in_place(&rt, alloc, 8, 9));
+    assert!(rt; is_in_place(&rt, alloc, 8, 3));
+    assert!(rt; is_in_place(&rt, alloc, 64, 100));
+    assert!(rt; is_in_place(&rt, alloc, 4, 0));
+}
+
+/// Returns whether the result of 1000 pieces is the first of those from 100 on, which are faulty.
+/// Prints what was found if not.
+fn is_least<R: Threads + Wait + Print>(rt: &R, alloc: Global, workers: usize) -> bool
+    requires workers { (1 ≤ workers) × (workers ≤ most_workers) }
+{
+    let gate = Counter::new();
+    let job = Numbers::sound_below(100);
+    let ran = run(rt, alloc, workers, 1000, &job, &gate);
+    let expected = Ran::Faulty {
+        piece: 100,
+        fault: 100,
+    };
+    let is_right = ran == expected && gate.is_balanced();
+    if !is_right {
+        let counts = (gate.entered(), gate.left());
+        let _ = println!(rt; "{workers} workers: got {ran:?}, entered and left {counts:?}");
     }
+    is_right
 }
 
 /// The result is the least faulty piece, whichever fault was found first.
 #[test]
 fn the_least_fault_is_named(rt: HostRuntime) {
-    let expected = Ran::Faulty {
-        piece: 100,
-        fault: 100,
-    };
-    for workers in [1usize, 2, 4, 8] {
-        let gate = Counter::new();
-        let job = Numbers::sound_below(100);
-        let ran = run(&rt, rt.alloc(), workers, 1000, &job, &gate);
-        assert!(rt;
-            ran == expected && gate.is_balanced(),
-            "{workers} workers: got {ran:?}, entered {}, left {}",
-            gate.entered(),
-            gate.left()
-        );
-    }
+    let alloc = rt.alloc();
+    assert!(rt; is_least(&rt, alloc, 1));
+    assert!(rt; is_least(&rt, alloc, 2));
+    assert!(rt; is_least(&rt, alloc, 4));
+    assert!(rt; is_least(&rt, alloc, 8));
 }
 
 /// If all pieces are faulty, one worker runs the first piece and skips the others.
@@ -275,16 +292,19 @@ impl<'a> Job for Words<'a> {
     ghost exclusive = { λ _ _ _ _ _ f. f };
 }
 
+/// Returns whether the results are these words.
+fn are_words(outcome: &Result<Outcome<Option<u64>, u64>, PoolFault>, words: &[Option<u64>]) -> bool {
+    match outcome {
+        Ok(Outcome::All(outs)) => outs.as_slice() == words,
+        _ => false,
+    }
+}
+
 /// A job may borrow its input.
 #[test]
 fn a_job_that_borrows(rt: HostRuntime) {
     let words = [7u64, 8, 9];
     let job = Words { words: &words };
-    let Ok(Outcome::All(outs)) = run_pieces(&rt, rt.alloc(), 2, 4, &job, &OpenGate) else {
-        panic!(rt; "no results")
-    };
-    assert_eq!(rt;
-        outs.as_slice(),
-        [Some(7u64), Some(8), Some(9), None].as_slice()
-    );
+    let outcome = run_pieces(&rt, rt.alloc(), 2, 4, &job, &OpenGate);
+    assert!(rt; are_words(&outcome, &[Some(7), Some(8), Some(9), None]));
 }

@@ -14,6 +14,26 @@ use std::sync::Wait;
 use std::thread::Threads;
 use test_fixtures::{Counter, Numbers};
 
+/// Runs nine pieces again after a fault. Returns None if a piece that entered the gate has not left
+/// it.
+fn outcome_again<R: Threads + Wait + Print>(
+    rt: &R,
+    alloc: Global,
+    workers: usize,
+    job: &Numbers,
+    gate: &Counter,
+    fault: PoolFault,
+) -> Option<Outcome<u64, u64>>
+    requires workers { (1 ≤ workers) × (workers ≤ most_workers) }
+{
+    print_fault(rt, fault);
+    if gate.is_balanced() {
+        run_pieces(rt, alloc, workers, 9, job, gate).ok()
+    } else {
+        None
+    }
+}
+
 /// Runs nine pieces; those below `sound` are not faulty. If an allocation or a start of a worker
 /// fails, this is printed for the script, and the pieces are run again. Returns None if a piece
 /// that entered the gate has not left it.
@@ -29,13 +49,7 @@ fn outcome_of<R: Threads + Wait + Print>(
     let job = Numbers::sound_below(sound);
     match run_pieces(rt, alloc, workers, 9, &job, &gate) {
         Ok(outcome) => Some(outcome),
-        Err(fault) => {
-            print_fault(rt, fault);
-            if !gate.is_balanced() {
-                return None;
-            }
-            run_pieces(rt, alloc, workers, 9, &job, &gate).ok()
-        }
+        Err(fault) => outcome_again(rt, alloc, workers, &job, &gate, fault),
     }
 }
 
@@ -47,31 +61,45 @@ fn print_fault<R: Print>(rt: &R, fault: PoolFault) {
     let _ = println!(rt; "{what} was refused");
 }
 
+/// Returns whether the outputs are the numbers of the nine pieces.
+fn are_outputs(outcome: &Option<Outcome<u64, u64>>) -> bool {
+    match outcome {
+        Some(Outcome::All(outs)) => outs.as_slice() == [0u64, 1, 2, 3, 4, 5, 6, 7, 8].as_slice(),
+        _ => false,
+    }
+}
+
+/// Returns whether all nine pieces have their outputs.
+fn is_result<R: Threads + Wait + Print>(rt: &R, alloc: Global, workers: usize) -> bool
+    requires workers { (1 ≤ workers) × (workers ≤ most_workers) }
+{
+    are_outputs(&outcome_of(rt, alloc, workers, 100))
+}
+
 /// Each started worker has been joined, and an error is not replaced by outputs.
 #[test]
 fn a_failed_run_joins_its_workers(rt: HostRuntime) {
-    for workers in [1usize, 2, 4] {
-        let Some(Outcome::All(outs)) = outcome_of(&rt, rt.alloc(), workers, 100) else {
-            panic!(rt; "no results with {workers} workers")
-        };
-        assert_eq!(rt;
-            outs.as_slice(),
-            [0u64, 1, 2, 3, 4, 5, 6, 7, 8].as_slice(),
-            "{workers} workers"
-        );
-    }
+    assert!(rt; is_result(&rt, rt.alloc(), 1), "1 worker");
+    assert!(rt; is_result(&rt, rt.alloc(), 2), "2 workers");
+    assert!(rt; is_result(&rt, rt.alloc(), 4), "4 workers");
+}
+
+/// Returns whether the faulty piece is the one with number 4.
+fn is_fourth(outcome: &Option<Outcome<u64, u64>>) -> bool {
+    matches!(outcome, Some(Outcome::First { piece: 4, fault: 4 }))
+}
+
+/// Returns whether the least of the faulty pieces is named.
+fn is_named<R: Threads + Wait + Print>(rt: &R, alloc: Global, workers: usize) -> bool
+    requires workers { (1 ≤ workers) × (workers ≤ most_workers) }
+{
+    is_fourth(&outcome_of(rt, alloc, workers, 4))
 }
 
 /// No other piece is returned in place of the least faulty one.
 #[test]
 fn a_failed_run_names_no_other_fault(rt: HostRuntime) {
-    for workers in [1usize, 2, 4] {
-        let Some(Outcome::First { piece, fault }) = outcome_of(&rt, rt.alloc(), workers, 4) else {
-            panic!(rt; "no fault with {workers} workers")
-        };
-        assert!(rt;
-            piece == 4 && fault == 4,
-            "{workers} workers: piece {piece}, fault {fault}"
-        );
-    }
+    assert!(rt; is_named(&rt, rt.alloc(), 1), "1 worker");
+    assert!(rt; is_named(&rt, rt.alloc(), 2), "2 workers");
+    assert!(rt; is_named(&rt, rt.alloc(), 4), "4 workers");
 }

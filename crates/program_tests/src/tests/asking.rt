@@ -43,6 +43,42 @@ pub(crate) type Example = (
     &'static str,
 );
 
+/// A command without its numbers. The query is borrowed.
+#[derive(Clone, Copy)]
+enum Verb<'a> {
+    Select(&'a str),
+    Check,
+    Terms,
+}
+
+/// A command whose query is borrowed.
+#[derive(Clone, Copy)]
+pub(crate) struct Asked<'a> {
+    verb: Verb<'a>,
+    way: Way,
+}
+
+pub(crate) fn select<'a>(query: &'a str, way: Way) -> Asked<'a> {
+    Asked {
+        verb: Verb::Select(query),
+        way,
+    }
+}
+
+pub(crate) fn check(workers: usize, piece: usize) -> Asked<'static> {
+    Asked {
+        verb: Verb::Check,
+        way: (workers, piece, 1),
+    }
+}
+
+pub(crate) fn terms(workers: usize, piece: usize) -> Asked<'static> {
+    Asked {
+        verb: Verb::Terms,
+        way: (workers, piece, 1),
+    }
+}
+
 /// Creates the settings for reading a document. A number that is out of range is replaced by the
 /// nearest one in range.
 fn reading(workers: usize, piece: usize) -> ReadOptions {
@@ -52,25 +88,21 @@ fn reading(workers: usize, piece: usize) -> ReadOptions {
     }
 }
 
-pub(crate) fn select(alloc: Global, query: &str, way: Way) -> Command {
-    let (workers, piece, rows) = way;
-    let string = String::from_str(alloc, query).unwrap_or(String::new(alloc));
-    Command::Select {
-        query: Text::from_string(string),
-        reading: reading(workers, piece),
-        rows,
-    }
+fn text_of(alloc: Global, query: &str) -> Text {
+    Text::from_string(String::from_str(alloc, query).unwrap_or(String::new(alloc)))
 }
 
-pub(crate) fn check(workers: usize, piece: usize) -> Command {
-    Command::Check {
-        reading: reading(workers, piece),
-    }
-}
-
-pub(crate) fn terms(workers: usize, piece: usize) -> Command {
-    Command::Terms {
-        reading: reading(workers, piece),
+pub(crate) fn command(alloc: Global, asked: Asked<'_>) -> Command {
+    let (workers, piece, rows) = asked.way;
+    let reading = reading(workers, piece);
+    match asked.verb {
+        Verb::Select(query) => Command::Select {
+            query: text_of(alloc, query),
+            reading,
+            rows,
+        },
+        Verb::Check => Command::Check { reading },
+        Verb::Terms => Command::Terms { reading },
     }
 }
 
@@ -78,49 +110,58 @@ pub(crate) fn terms(workers: usize, piece: usize) -> Command {
 pub(crate) fn ran<R: Threads + Wait + RandomSource>(
     rt: &R,
     alloc: Global,
-    command: &Command,
+    asked: Asked<'_>,
     reader: &mut SliceSource<'_>,
     writer: &mut VecSink,
 ) -> Result<(), RunFault> {
-    run(rt, alloc, command, reader, writer)
+    let command = command(alloc, asked);
+    run(rt, alloc, &command, reader, writer)
 }
 
 /// Returns the output of a command, or the line of its fault.
-fn output_of<R: Threads + Wait + RandomSource>(
+fn told<R: Threads + Wait + RandomSource>(
     rt: &R,
     alloc: Global,
-    command: &Command,
+    asked: Asked<'_>,
     doc: &[u8],
 ) -> Vec<u8> {
     let mut reader = SliceSource::new(doc, CHUNK);
     let mut writer = VecSink::new(alloc, 1000);
-    if let Err(fault) = ran(rt, alloc, command, &mut reader, &mut writer) {
+    if let Err(fault) = ran(rt, alloc, asked, &mut reader, &mut writer) {
         let _tried = write_fault(&fault, &mut writer);
     }
     writer.bytes
 }
 
-/// Returns whether a command has this output, or this line of its fault. Prints the output if it
-/// differs.
+/// Returns whether a command has this output, or this line of its fault. Prints the case, the way
+/// and both outputs if they differ.
 pub(crate) fn gives<R: Threads + Wait + RandomSource + Print>(
     rt: &R,
     alloc: Global,
-    command: &Command,
+    case: &str,
+    asked: Asked<'_>,
     doc: &[u8],
     expected: &[u8],
 ) -> bool {
-    let given = output_of(rt, alloc, command, doc);
-    let is_expected = given.as_slice() == expected;
-    if !is_expected {
-        print_difference(rt, expected, &given);
-    }
-    is_expected
+    let given = told(rt, alloc, asked, doc);
+    is_same(rt, case, asked.way, expected, &given)
 }
 
-pub(crate) fn print_difference<R: Print>(rt: &R, expected: &[u8], given: &[u8]) {
+/// Returns whether the two outputs are the same. Prints the case, the way and both if they differ.
+pub(crate) fn is_same<R: Print>(
+    rt: &R,
+    case: &str,
+    way: Way,
+    expected: &[u8],
+    given: &[u8],
+) -> bool {
+    if given == expected {
+        return true;
+    }
     let expected = str::from_utf8(expected).unwrap_or("?");
     let given = str::from_utf8(given).unwrap_or("?");
-    let _ = println!(rt; "expected {expected}\ngot {given}");
+    let _ = println!(rt; "{case}, by workers, bytes and rows {way:?}: expected {expected}\ngot {given}");
+    false
 }
 
 /// Returns the JSON document of these variables and bindings, which are given with `'` for `"`.
@@ -141,40 +182,45 @@ pub(crate) fn json(alloc: Global, vars: &str, bindings: &str) -> Result<Vec<u8>,
     Ok(made)
 }
 
-/// Returns whether an example has its output for each number of workers, size of blocks and size of
+/// Returns whether an example has this output for each number of workers, size of blocks and size of
 /// pieces.
+fn is_given_in_every_way<R: Threads + Wait + RandomSource + Print>(
+    rt: &R,
+    alloc: Global,
+    example: &Example,
+    expected: &[u8],
+) -> bool {
+    let (name, doc, query, _, _) = *example;
+    for way in &WAYS {
+        if !gives(rt, alloc, name, select(query, *way), doc.as_bytes(), expected) {
+            return false;
+        }
+    }
+    true
+}
+
+/// Returns whether an example has its output.
 fn is_result<R: Threads + Wait + RandomSource + Print>(
     rt: &R,
     alloc: Global,
     example: &Example,
-) -> Result<bool, AllocError> {
-    let (name, doc, query, vars, bindings) = *example;
-    let expected = json(alloc, vars, bindings)?;
-    for way in WAYS {
-        if !gives(
-            rt,
-            alloc,
-            &select(alloc, query, way),
-            doc.as_bytes(),
-            &expected,
-        ) {
-            let _ = println!(rt; "{name}, by workers, bytes and rows {way:?}");
-            return Ok(false);
-        }
+) -> bool {
+    match json(alloc, example.3, example.4) {
+        Ok(expected) => is_given_in_every_way(rt, alloc, example, &expected),
+        Err(_) => false,
     }
-    Ok(true)
 }
 
-/// Returns the name of the first example with another output.
-pub(crate) fn first_wrong<R: Threads + Wait + RandomSource + Print>(
+/// Returns whether each example has its output. Prints the first that has another one.
+pub(crate) fn are_answered<R: Threads + Wait + RandomSource + Print>(
     rt: &R,
     alloc: Global,
     examples: &[Example],
-) -> Result<Option<&'static str>, AllocError> {
+) -> bool {
     for example in examples {
-        if !is_result(rt, alloc, example)? {
-            return Ok(Some(example.0));
+        if !is_result(rt, alloc, example) {
+            return false;
         }
     }
-    Ok(None)
+    true
 }

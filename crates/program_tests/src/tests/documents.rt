@@ -1,6 +1,6 @@
 //! Documents that are checked, and documents whose terms are listed.
 
-use super::asking::{WHOLE, check, gives, select, terms};
+use super::asking::{Asked, WHOLE, check, gives, select, terms};
 use super::samples::{ESCAPED, GRAPHS, REPEATED, TWO_LINES};
 use std::alloc::{AllocError, Global};
 use std::random::RandomSource;
@@ -75,25 +75,26 @@ const NO_TEXT: &[u8] = b"# \xFF\n";
 fn is_checked<R: Threads + Wait + RandomSource + Print>(
     rt: &R,
     alloc: Global,
+    name: &str,
     doc: &[u8],
     expected: &str,
 ) -> bool {
-    gives(rt, alloc, &check(1, 65536), doc, expected.as_bytes())
-        && gives(rt, alloc, &check(8, 1), doc, expected.as_bytes())
+    gives(rt, alloc, name, check(1, 65536), doc, expected.as_bytes())
+        && gives(rt, alloc, name, check(8, 1), doc, expected.as_bytes())
+}
+
+fn are_checked<R: Threads + Wait + RandomSource + Print>(rt: &R, alloc: Global) -> bool {
+    for (name, doc, expected) in &CHECKED {
+        if !is_checked(rt, alloc, *name, doc.as_bytes(), *expected) {
+            return false;
+        }
+    }
+    is_checked(rt, alloc, "no UTF-8", NO_TEXT, "error: line 1\n")
 }
 
 #[test]
 fn documents_are_checked(rt: HostRuntime) {
-    for (name, doc, expected) in CHECKED {
-        assert!(rt;
-            is_checked(&rt, rt.alloc(), doc.as_bytes(), expected),
-            "{name}"
-        );
-    }
-    assert!(rt;
-        is_checked(&rt, rt.alloc(), NO_TEXT, "error: line 1\n"),
-        "no UTF-8"
-    );
+    assert!(rt; are_checked(&rt, rt.alloc()));
 }
 
 /// Creates a document of `count` lines, of which the lines with these two numbers are malformed.
@@ -111,28 +112,37 @@ fn with_bad_lines(alloc: Global, count: u64, bad: (u64, u64)) -> Result<Vec<u8>,
     Ok(doc)
 }
 
+/// Returns whether `check` names this line of a document.
+fn is_line<R: Threads + Wait + RandomSource + Print>(
+    rt: &R,
+    alloc: Global,
+    asked: Asked<'_>,
+    doc: &[u8],
+    line: u64,
+) -> bool {
+    match format!(in alloc; "error: line {line}\n") {
+        Ok(expected) => gives(rt, alloc, "malformed lines", asked, doc, expected.as_bytes()),
+        Err(_) => false,
+    }
+}
+
 /// Returns whether the first of two malformed lines is named.
 fn is_named<R: Threads + Wait + RandomSource + Print>(
     rt: &R,
     alloc: Global,
     (count, first, second): (u64, u64, u64),
-    workers: usize,
-    piece: usize,
-) -> Result<bool, AllocError> {
-    let doc = with_bad_lines(alloc, count, (first, second))?;
-    let expected = format!(in alloc; "error: line {first}\n")?;
-    Ok(gives(rt, alloc, &check(workers, piece), &doc, expected.as_bytes()))
+    asked: Asked<'_>,
+) -> bool {
+    match with_bad_lines(alloc, count, (first, second)) {
+        Ok(doc) => is_line(rt, alloc, asked, &doc, first),
+        Err(_) => false,
+    }
 }
 
 #[test]
-fn the_first_of_two_bad_lines_is_named(rt: HostRuntime) -> Result<(), AllocError> {
-    for piece in [1, 65536] {
-        assert!(rt;
-            is_named(&rt, rt.alloc(), (1000, 2, 900), 8, piece)?,
-            "blocks of {piece} bytes"
-        );
-    }
-    Ok(())
+fn the_first_of_two_bad_lines_is_named(rt: HostRuntime) {
+    assert!(rt; is_named(&rt, rt.alloc(), (1000, 2, 900), check(8, 1)));
+    assert!(rt; is_named(&rt, rt.alloc(), (1000, 2, 900), check(8, 65536)));
 }
 
 /// A name, a document, and the output of `terms`.
@@ -158,29 +168,30 @@ const LISTED: [(&str, &str, &str); 5] = [
         "<http://e/a>\n<http://e/p>\n_:o_:g\n",
     ),
     (
-        "a dot after a tag",
+        "a dot behind a tag",
         "<http://e/a> <http://e/p> \"x\"@en-GB.\n",
         "<http://e/a>\n<http://e/p>\n\"x\"@en-gb\n",
     ),
 ];
 
-#[test]
-fn terms_are_listed(rt: HostRuntime) {
-    for (name, doc, expected) in LISTED {
-        for (workers, piece) in [(4, 65536), (2, 1)] {
-            let command = terms(workers, piece);
-            assert!(rt;
-                gives(
-                    &rt,
-                    rt.alloc(),
-                    &command,
-                    doc.as_bytes(),
-                    expected.as_bytes()
-                ),
-                "{name}, {workers} workers, blocks of {piece} bytes"
-            );
+/// Returns whether `terms` has its output for each document.
+fn are_listed<R: Threads + Wait + RandomSource + Print>(
+    rt: &R,
+    alloc: Global,
+    asked: Asked<'_>,
+) -> bool {
+    for (name, doc, expected) in &LISTED {
+        if !gives(rt, alloc, *name, asked, doc.as_bytes(), expected.as_bytes()) {
+            return false;
         }
     }
+    true
+}
+
+#[test]
+fn terms_are_listed(rt: HostRuntime) {
+    assert!(rt; are_listed(&rt, rt.alloc(), terms(4, 65536)));
+    assert!(rt; are_listed(&rt, rt.alloc(), terms(2, 1)));
 }
 
 /// A query, a document whose last line is malformed, and the output.
@@ -198,21 +209,19 @@ const NOT_SELECTED: [(&str, &str, &str); 3] = [
     ),
 ];
 
+fn are_refused<R: Threads + Wait + RandomSource + Print>(rt: &R, alloc: Global) -> bool {
+    for (query, doc, expected) in &NOT_SELECTED {
+        let asked = select(*query, WHOLE);
+        if !gives(rt, alloc, *query, asked, doc.as_bytes(), expected.as_bytes()) {
+            return false;
+        }
+    }
+    true
+}
+
 #[test]
 fn a_bad_line_fails_a_select(rt: HostRuntime) {
-    for (query, doc, expected) in NOT_SELECTED {
-        let command = select(rt.alloc(), query, WHOLE);
-        assert!(rt;
-            gives(
-                &rt,
-                rt.alloc(),
-                &command,
-                doc.as_bytes(),
-                expected.as_bytes()
-            ),
-            "{query}"
-        );
-    }
+    assert!(rt; are_refused(&rt, rt.alloc()));
 }
 
 /// One statement per line.
@@ -230,32 +239,41 @@ fn expected_of_prefix(count: usize) -> &'static [u8] {
     }
 }
 
+/// Returns whether each prefix of `TWICE` has its output.
+fn are_prefixes_checked<R: Threads + Wait + RandomSource + Print>(rt: &R, alloc: Global) -> bool {
+    for count in 0..TWICE.len() + 1 {
+        let front = &TWICE[..count];
+        let text = str::from_utf8(front).unwrap_or("?");
+        if !gives(rt, alloc, text, check(4, 1), front, expected_of_prefix(count)) {
+            return false;
+        }
+    }
+    true
+}
+
 #[test]
 fn every_front_of_a_document_is_checked(rt: HostRuntime) {
-    for count in 0..TWICE.len() + 1 {
-        assert!(rt;
-            gives(
-                &rt,
-                rt.alloc(),
-                &check(4, 1),
-                &TWICE[..count],
-                expected_of_prefix(count)
-            ),
-            "the first {count} bytes"
-        );
+    assert!(rt; are_prefixes_checked(&rt, rt.alloc()));
+}
+
+/// Returns whether a malformed line is named at each of sixteen places.
+fn is_each_named<R: Threads + Wait + RandomSource + Print>(
+    rt: &R,
+    alloc: Global,
+    workers: usize,
+) -> bool {
+    for bad in 1..17 {
+        if !is_named(rt, alloc, (16, bad, bad), check(workers, 1)) {
+            return false;
+        }
     }
+    true
 }
 
 /// A malformed line is found wherever it is, with every number of workers.
 #[test]
-fn each_bad_line_is_named(rt: HostRuntime) -> Result<(), AllocError> {
-    for bad in 1..17 {
-        for workers in [1, 2, 8] {
-            assert!(rt;
-                is_named(&rt, rt.alloc(), (16, bad, bad), workers, 1)?,
-                "line {bad}, {workers} workers"
-            );
-        }
-    }
-    Ok(())
+fn each_bad_line_is_named(rt: HostRuntime) {
+    assert!(rt; is_each_named(&rt, rt.alloc(), 1));
+    assert!(rt; is_each_named(&rt, rt.alloc(), 2));
+    assert!(rt; is_each_named(&rt, rt.alloc(), 8));
 }

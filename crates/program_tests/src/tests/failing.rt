@@ -1,10 +1,9 @@
 //! Readers and writers that fail.
 
-use super::asking::{CHUNK, WHOLE, Way, check, ran, select, terms};
+use super::asking::{Asked, CHUNK, WHOLE, Way, check, command, ran, select, terms};
 use super::samples::{GRAPHS, REPEATED, TWO_LINES};
 use nquads_core::Device;
 use sparql_read::QueryFault;
-use spq_command::Command;
 use spq_core::{RunFault, finish, run};
 use std::alloc::Global;
 use std::random::RandomSource;
@@ -19,7 +18,7 @@ const OUTPUT: &[u8] =
 
 /// Returns whether a select over devices of the standard library has its output.
 fn agrees_with_std<R: Threads + Wait + RandomSource>(rt: &R, alloc: Global, way: Way) -> bool {
-    let command = select(alloc, OBJECTS, way);
+    let command = command(alloc, select(OBJECTS, way));
     let mut reader = Device {
         inner: REPEATED.as_bytes(),
     };
@@ -33,9 +32,8 @@ fn agrees_with_std<R: Threads + Wait + RandomSource>(rt: &R, alloc: Global, way:
 /// Devices of the standard library do not count failures, so no clause can say that none failed.
 #[test]
 fn devices_that_count_no_failures_do_not_fail(rt: HostRuntime) {
-    for way in [WHOLE, (2, 1, 1)] {
-        assert!(rt; agrees_with_std(&rt, rt.alloc(), way), "{way:?}");
-    }
+    assert!(rt; agrees_with_std(&rt, rt.alloc(), WHOLE), "one worker");
+    assert!(rt; agrees_with_std(&rt, rt.alloc(), (2, 1, 1)), "two workers");
 }
 
 /// The end of a run over `REPEATED`.
@@ -46,10 +44,27 @@ struct Ended {
     written: Option<usize>,
     /// The numbers of calls of the reader and of the writer that failed.
     failed: (u64, u64),
-    /// The number of calls of the reader.
-    reads: usize,
+    /// Whether the reader was called.
+    is_read: bool,
     /// The exit status of the program, and whether the line that it prints is the expected one.
-    reported: (u8, bool),
+    told: (u8, bool),
+}
+
+/// Returns the number of bytes written, if they are a prefix of the output.
+fn written_of(output: &[u8], writer: &VecSink) -> Option<usize> {
+    if output.starts_with(&writer.bytes) {
+        Some(writer.bytes.len())
+    } else {
+        None
+    }
+}
+
+/// Returns the exit status after a run, and whether the line that the program prints is the expected
+/// one.
+fn told_of(alloc: Global, done: Result<(), RunFault>, line: &[u8]) -> (u8, bool) {
+    let mut last = VecSink::new(alloc, 1000);
+    let status = finish(&done, &mut last);
+    (status, last.bytes.as_slice() == line)
 }
 
 /// Runs a select. `line` is the line to expect if it fails.
@@ -61,35 +76,52 @@ fn run_select<R: Threads + Wait + RandomSource>(
     mut writer: VecSink,
     line: &[u8],
 ) -> Ended {
-    let command = select(alloc, query, WHOLE);
-    let done = ran(rt, alloc, &command, &mut reader, &mut writer);
-    let is_prefix = OUTPUT.starts_with(&writer.bytes);
-    let mut last = VecSink::new(alloc, 1000);
-    let status = finish(&done, &mut last);
+    let done = ran(rt, alloc, select(query, WHOLE), &mut reader, &mut writer);
     Ended {
         done,
-        written: if is_prefix {
-            Some(writer.bytes.len())
-        } else {
-            None
-        },
+        written: written_of(OUTPUT, &writer),
         failed: (reader.failed, writer.failed),
-        reads: reader.calls,
-        reported: (status, last.bytes.as_slice() == line),
+        is_read: reader.calls > 0,
+        told: told_of(alloc, done, line),
     }
+}
+
+/// Returns whether the two ends are the same. Prints the case and both if they differ.
+fn is_same_end<R: Print>(rt: &R, case: &str, k: usize, expected: &Ended, end: &Ended) -> bool {
+    if end == expected {
+        return true;
+    }
+    let _ = println!(rt; "{case} {k}: expected {expected:?}, got {end:?}");
+    false
+}
+
+/// Returns whether a run whose writer fails after `k` bytes has written just these.
+fn is_cut_after<R: Threads + Wait + RandomSource + Print>(rt: &R, alloc: Global, k: usize) -> bool {
+    let reader = SliceSource::new(REPEATED.as_bytes(), CHUNK);
+    let writer = VecSink::failing_after(alloc, 1, k);
+    let end = run_select(rt, alloc, OBJECTS, reader, writer, b"error: output\n");
+    let expected = Ended {
+        done: Err(RunFault::Write),
+        written: Some(k),
+        failed: (0, 1),
+        is_read: true,
+        told: (5, true),
+    };
+    is_same_end(rt, "write", k, &expected, &end)
+}
+
+fn are_cut<R: Threads + Wait + RandomSource + Print>(rt: &R, alloc: Global) -> bool {
+    for k in 0..OUTPUT.len() {
+        if !is_cut_after(rt, alloc, k) {
+            return false;
+        }
+    }
+    true
 }
 
 #[test]
 fn each_write_that_fails_leaves_a_beginning(rt: HostRuntime) {
-    for k in 0..OUTPUT.len() {
-        let reader = SliceSource::new(REPEATED.as_bytes(), CHUNK);
-        let writer = VecSink::failing_after(rt.alloc(), 1, k);
-        let end = run_select(&rt, rt.alloc(), OBJECTS, reader, writer, b"error: output\n");
-        assert!(rt;
-            end.done == Err(RunFault::Write) && end.written == Some(k) && end.failed == (0, 1),
-            "write {k}: {end:?}"
-        );
-    }
+    assert!(rt; are_cut(&rt, rt.alloc()));
 }
 
 #[test]
@@ -97,29 +129,47 @@ fn a_writer_that_takes_nothing_has_failed(rt: HostRuntime) {
     let reader = SliceSource::new(REPEATED.as_bytes(), CHUNK);
     let writer = VecSink::new(rt.alloc(), 0);
     let end = run_select(&rt, rt.alloc(), OBJECTS, reader, writer, b"error: output\n");
-    assert!(rt;
-        end.done == Err(RunFault::Write)
-            && end.written == Some(0)
-            && end.failed == (0, 0)
-            && end.reported == (5, true),
-        "{end:?}"
-    );
+    let expected = Ended {
+        done: Err(RunFault::Write),
+        written: Some(0),
+        failed: (0, 0),
+        is_read: true,
+        told: (5, true),
+    };
+    assert!(rt; is_same_end(&rt, "a writer of chunks of", 0, &expected, &end));
+}
+
+/// Returns whether a run whose reader fails after `k` bytes has written nothing.
+fn is_not_written<R: Threads + Wait + RandomSource + Print>(
+    rt: &R,
+    alloc: Global,
+    k: usize,
+) -> bool {
+    let reader = SliceSource::failing_after(REPEATED.as_bytes(), CHUNK, k);
+    let writer = VecSink::new(alloc, 1000);
+    let end = run_select(rt, alloc, OBJECTS, reader, writer, b"error: input\n");
+    let expected = Ended {
+        done: Err(RunFault::Read),
+        written: Some(0),
+        failed: (1, 0),
+        is_read: true,
+        told: (5, true),
+    };
+    is_same_end(rt, "the read after bytes", k, &expected, &end)
+}
+
+fn are_not_written<R: Threads + Wait + RandomSource + Print>(rt: &R, alloc: Global) -> bool {
+    for k in 0..REPEATED.len() + 1 {
+        if !is_not_written(rt, alloc, k) {
+            return false;
+        }
+    }
+    true
 }
 
 #[test]
 fn each_read_that_fails_writes_nothing(rt: HostRuntime) {
-    for k in 0..REPEATED.len() + 1 {
-        let reader = SliceSource::failing_after(REPEATED.as_bytes(), CHUNK, k);
-        let writer = VecSink::new(rt.alloc(), 1000);
-        let end = run_select(&rt, rt.alloc(), OBJECTS, reader, writer, b"error: input\n");
-        assert!(rt;
-            end.done == Err(RunFault::Read)
-                && end.written == Some(0)
-                && end.failed == (1, 0)
-                && end.reported == (5, true),
-            "the read after {k} bytes: {end:?}"
-        );
-    }
+    assert!(rt; are_not_written(&rt, rt.alloc()));
 }
 
 #[test]
@@ -127,20 +177,16 @@ fn a_bad_query_reads_nothing(rt: HostRuntime) {
     let reader = SliceSource::failing_after(REPEATED.as_bytes(), CHUNK, 0);
     let writer = VecSink::new(rt.alloc(), 1000);
     let query = "SELECT ?x { ?x <http://e/p> }";
-    let end = run_select(
-        &rt,
-        rt.alloc(),
-        query,
-        reader,
-        writer,
-        b"error: query syntax\n",
-    );
-    assert!(rt;
-        end.done == Err(RunFault::Query(QueryFault::Syntax))
-            && end.reads == 0
-            && end.reported == (2, true),
-        "{end:?}"
-    );
+    let line = b"error: query syntax\n";
+    let end = run_select(&rt, rt.alloc(), query, reader, writer, line);
+    let expected = Ended {
+        done: Err(RunFault::Query(QueryFault::Syntax)),
+        written: Some(0),
+        failed: (0, 0),
+        is_read: false,
+        told: (2, true),
+    };
+    assert!(rt; is_same_end(&rt, "a bad query", 0, &expected, &end));
 }
 
 /// A number of calls that no reader or writer here reaches.
@@ -163,40 +209,36 @@ struct Effects {
 }
 
 /// A command, its document and its output.
-type Sample<'a> = (&'a Command, &'a [u8], &'a [u8]);
+type Sample<'a> = (Asked<'a>, &'a [u8], &'a [u8]);
 
 /// Runs a command over these devices.
 fn run_sample<R: Threads + Wait + RandomSource>(
     rt: &R,
     alloc: Global,
-    (command, _doc, output): Sample<'_>,
+    (asked, _doc, output): Sample<'_>,
     mut reader: SliceSource<'_>,
     mut writer: VecSink,
 ) -> Effects {
-    let done = ran(rt, alloc, command, &mut reader, &mut writer);
+    let done = ran(rt, alloc, asked, &mut reader, &mut writer);
     Effects {
         done,
         rest: reader.rest.len(),
         reads: reader.calls,
         failed_reads: reader.failed,
-        written: if output.starts_with(&writer.bytes) {
-            Some(writer.bytes.len())
-        } else {
-            None
-        },
+        written: written_of(output, &writer),
         writes: writer.calls,
         failed_writes: writer.failed,
     }
 }
 
 /// Checks a command with each of its reads failing in turn. The command must end at once with the
-/// fault `expected`. Only the bytes of the reads before are taken from the reader, and nothing is
+/// fault `wanted`. Only the bytes of the reads before are taken from the reader, and nothing is
 /// written.
 fn reports_each_failed_read<R: Threads + Wait + RandomSource>(
     rt: &R,
     alloc: Global,
     sample: Sample<'_>,
-    expected: Result<(), RunFault>,
+    wanted: Result<(), RunFault>,
 ) -> bool {
     let doc = sample.1;
     for k in 0..MANY {
@@ -204,10 +246,10 @@ fn reports_each_failed_read<R: Threads + Wait + RandomSource>(
         let end = run_sample(rt, alloc, sample, reader, VecSink::new(alloc, 1000));
         let read = (CHUNK * k).min(doc.len());
         if end.failed_reads == 0 {
-            return end.done == expected && end.reads == k && read == doc.len();
+            return end.done == wanted && end.reads == k && read == doc.len();
         }
-        let is_reported = end.done == Err(RunFault::Read) && end.reads == k + 1;
-        if !is_reported || end.rest != doc.len() - read || end.writes > 0 {
+        let is_told = end.done == Err(RunFault::Read) && end.reads == k + 1;
+        if !is_told || end.rest != doc.len() - read || end.writes > 0 {
             return false;
         }
     }
@@ -255,32 +297,37 @@ fn reports_each_failed_write<R: Threads + Wait + RandomSource>(
 fn reports_each_failed_call<R: Threads + Wait + RandomSource>(
     rt: &R,
     alloc: Global,
-    command: &Command,
+    asked: Asked<'_>,
     doc: &str,
     output: &[u8],
 ) -> bool {
-    let sample = (command, doc.as_bytes(), output);
-    reports_each_failed_read(rt, alloc, sample, Ok(()))
-        && reports_each_failed_write(rt, alloc, sample)
+    let sample = (asked, doc.as_bytes(), output);
+    reports_each_failed_read(rt, alloc, sample, Ok(())) && reports_each_failed_write(rt, alloc, sample)
+}
+
+fn select_tells_each_failed_call<R: Threads + Wait + RandomSource>(
+    rt: &R,
+    alloc: Global,
+    way: Way,
+) -> bool {
+    reports_each_failed_call(rt, alloc, select(OBJECTS, way), REPEATED, OUTPUT)
 }
 
 #[test]
 fn each_call_of_a_select_that_fails_is_reported(rt: HostRuntime) {
-    for way in [WHOLE, (2, 1, 1)] {
-        let command = select(rt.alloc(), OBJECTS, way);
-        assert!(rt;
-            reports_each_failed_call(&rt, rt.alloc(), &command, REPEATED, OUTPUT),
-            "{way:?}"
-        );
-    }
+    assert!(rt; select_tells_each_failed_call(&rt, rt.alloc(), WHOLE), "one worker");
+    assert!(rt;
+        select_tells_each_failed_call(&rt, rt.alloc(), (2, 1, 1)),
+        "two workers"
+    );
 }
 
 #[test]
 fn each_call_of_a_check_that_fails_is_reported(rt: HostRuntime) {
     let output = b"ok 3 quads 7 terms 2 graphs\n";
-    assert!(rt; reports_each_failed_call(&rt, rt.alloc(), &check(2, 1), GRAPHS, output));
+    assert!(rt; reports_each_failed_call(&rt, rt.alloc(), check(2, 1), GRAPHS, output));
     let bad = b"<http://e/a> <http://e/p> <http://e/b> .\nx\n".as_slice();
-    let sample = (&check(2, 1), bad, b"".as_slice());
+    let sample = (check(2, 1), bad, b"".as_slice());
     assert!(rt;
         reports_each_failed_read(&rt, rt.alloc(), sample, Err(RunFault::BadLine(2))),
         "a malformed document"
@@ -290,5 +337,5 @@ fn each_call_of_a_check_that_fails_is_reported(rt: HostRuntime) {
 #[test]
 fn each_call_of_a_list_of_terms_that_fails_is_reported(rt: HostRuntime) {
     let output = b"<http://e/a>\n<http://e/p>\n_:b\n<http://e/q>\n\"\xC3\xA9\\n\"@en\n";
-    assert!(rt; reports_each_failed_call(&rt, rt.alloc(), &terms(1, 65536), TWO_LINES, output));
+    assert!(rt; reports_each_failed_call(&rt, rt.alloc(), terms(1, 65536), TWO_LINES, output));
 }

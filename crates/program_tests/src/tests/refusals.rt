@@ -9,15 +9,16 @@ use std::thread::Threads;
 
 /// Returns whether a query has this output, over the empty document and over one whose first line
 /// is malformed.
-fn gives_line<R: Threads + Wait + RandomSource + Print>(
+fn is_told<R: Threads + Wait + RandomSource + Print>(
     rt: &R,
     alloc: Global,
+    name: &str,
     query: &str,
     expected: &str,
 ) -> bool {
-    let command = select(alloc, query, WHOLE);
-    gives(rt, alloc, &command, b"", expected.as_bytes())
-        && gives(rt, alloc, &command, b"x\n", expected.as_bytes())
+    let asked = select(query, WHOLE);
+    gives(rt, alloc, name, asked, b"", expected.as_bytes())
+        && gives(rt, alloc, name, asked, b"x\n", expected.as_bytes())
 }
 
 const REJECTED: [(&str, &str, &str); 14] = [
@@ -93,11 +94,18 @@ const REJECTED: [(&str, &str, &str); 14] = [
     ),
 ];
 
+fn are_told<R: Threads + Wait + RandomSource + Print>(rt: &R, alloc: Global) -> bool {
+    for (name, query, expected) in &REJECTED {
+        if !is_told(rt, alloc, *name, *query, *expected) {
+            return false;
+        }
+    }
+    true
+}
+
 #[test]
 fn the_first_rule_is_reported(rt: HostRuntime) {
-    for (name, query, expected) in REJECTED {
-        assert!(rt; gives_line(&rt, rt.alloc(), query, expected), "{name}");
-    }
+    assert!(rt; are_told(&rt, rt.alloc()));
 }
 
 /// Returns a text: a front, `count` times a second part, a middle, `count` times a fourth part, and
@@ -149,9 +157,11 @@ fn is_rejected<R: Threads + Wait + RandomSource + Print>(
     rt: &R,
     alloc: Global,
     (parts, count, expected): Nested,
-) -> Result<bool, AllocError> {
-    let query = nested(alloc, parts, count)?;
-    Ok(gives_line(rt, alloc, query.as_str(), expected))
+) -> bool {
+    match nested(alloc, parts, count) {
+        Ok(query) => is_told(rt, alloc, query.as_str(), query.as_str(), expected),
+        Err(_) => false,
+    }
 }
 
 /// Queries with 100 open brackets, the largest number that is accepted.
@@ -160,44 +170,74 @@ const DEEPEST: [Nested; 2] = [
     (("SELECT * { FILTER", "(", "true", ")", " }"), 99, "{}"),
 ];
 
+/// Returns whether a query without variables has these bindings over the empty document.
+fn has_bindings<R: Threads + Wait + RandomSource + Print>(
+    rt: &R,
+    alloc: Global,
+    query: &str,
+    bindings: &str,
+) -> bool {
+    match json(alloc, "", bindings) {
+        Ok(expected) => gives(rt, alloc, query, select(query, WHOLE), b"", &expected),
+        Err(_) => false,
+    }
+}
+
 /// Returns whether a nested query without variables has these bindings over the empty document.
 fn is_read<R: Threads + Wait + RandomSource + Print>(
     rt: &R,
     alloc: Global,
     (parts, count, bindings): Nested,
-) -> Result<bool, AllocError> {
-    let query = nested(alloc, parts, count)?;
-    let expected = json(alloc, "", bindings)?;
-    Ok(gives(
-        rt,
-        alloc,
-        &select(alloc, query.as_str(), WHOLE),
-        b"",
-        &expected,
-    ))
+) -> bool {
+    match nested(alloc, parts, count) {
+        Ok(query) => has_bindings(rt, alloc, query.as_str(), bindings),
+        Err(_) => false,
+    }
+}
+
+fn are_read<R: Threads + Wait + RandomSource + Print>(rt: &R, alloc: Global) -> bool {
+    for query in &DEEPEST {
+        if !is_read(rt, alloc, *query) {
+            return false;
+        }
+    }
+    true
+}
+
+fn are_rejected<R: Threads + Wait + RandomSource + Print>(rt: &R, alloc: Global) -> bool {
+    for query in &TOO_DEEP {
+        if !is_rejected(rt, alloc, *query) {
+            return false;
+        }
+    }
+    true
 }
 
 #[test]
-fn brackets_are_nested_at_most_100_deep(rt: HostRuntime) -> Result<(), AllocError> {
-    for query in DEEPEST {
-        assert!(rt; is_read(&rt, rt.alloc(), query)?, "{query:?}");
+fn brackets_are_nested_at_most_100_deep(rt: HostRuntime) {
+    assert!(rt; are_read(&rt, rt.alloc()));
+    assert!(rt; are_rejected(&rt, rt.alloc()));
+}
+
+/// Returns whether each prefix of a query is rejected.
+fn are_prefixes_rejected<R: Threads + Wait + RandomSource + Print>(
+    rt: &R,
+    alloc: Global,
+    query: &str,
+) -> bool {
+    for count in 0..query.len() {
+        if let Ok(front) = str::from_utf8(&query.as_bytes()[..count]) {
+            if !is_told(rt, alloc, front, front, "error: query syntax\n") {
+                return false;
+            }
+        }
     }
-    for query in TOO_DEEP {
-        assert!(rt; is_rejected(&rt, rt.alloc(), query)?, "{query:?}");
-    }
-    Ok(())
+    true
 }
 
 #[test]
 fn no_front_of_a_query_is_one(rt: HostRuntime) {
     let query =
         "SELECT ?n { ?s <http://e/t> <http://e/k> OPTIONAL { ?s <http://e/n> ?n FILTER(?n < 3) } }";
-    for count in 0..query.len() {
-        if let Ok(front) = str::from_utf8(&query.as_bytes()[..count]) {
-            assert!(rt;
-                gives_line(&rt, rt.alloc(), front, "error: query syntax\n"),
-                "the first {count} bytes"
-            );
-        }
-    }
+    assert!(rt; are_prefixes_rejected(&rt, rt.alloc(), query));
 }

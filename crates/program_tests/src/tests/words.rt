@@ -1,6 +1,6 @@
 //! Command lines that are run over devices in memory.
 
-use super::asking::{CHUNK, print_difference};
+use super::asking::{CHUNK, WHOLE, is_same};
 use sparql_read::QueryFault;
 use spq_core::{NoProgress, RunFault, run_words};
 use std::alloc::{AllocError, Global};
@@ -20,6 +20,37 @@ pub(crate) fn words_of(alloc: Global, line: &[&str]) -> Result<Vec<String>, Allo
     Ok(words)
 }
 
+/// Returns whether the results and the outputs are the same. Prints the case and both if they
+/// differ.
+fn is_expected<R: Print>(
+    rt: &R,
+    line: &[&str],
+    (done, output): (Result<(), RunFault>, &[u8]),
+    (given, written): (Result<(), RunFault>, &[u8]),
+) -> bool {
+    let is_same = given == done && is_same(rt, "words", WHOLE, output, written);
+    if !is_same {
+        let _ = println!(rt; "{line:?}: expected {done:?}, got {given:?}");
+    }
+    is_same
+}
+
+/// Returns whether the words of a command line have this result over a document of one statement,
+/// and write these bytes.
+fn words_end_so<R: Threads + Wait + RandomSource + Sync + Print>(
+    rt: &R,
+    alloc: Global,
+    line: &[&str],
+    words: &[String],
+    done: Result<(), RunFault>,
+    expected: &[u8],
+) -> bool {
+    let reader = SliceSource::new(STATEMENT, CHUNK);
+    let writer = VecSink::new(alloc, 1000);
+    let ran = run_words(rt, alloc, words, reader, writer, &NoProgress);
+    is_expected(rt, line, (done, expected), (ran.done, &ran.writer.bytes))
+}
+
 /// Returns whether a command line has this result over a document of one statement, and writes
 /// these bytes.
 fn end_so<R: Threads + Wait + RandomSource + Sync + Print>(
@@ -29,18 +60,10 @@ fn end_so<R: Threads + Wait + RandomSource + Sync + Print>(
     done: Result<(), RunFault>,
     expected: &[u8],
 ) -> bool {
-    let Ok(words) = words_of(alloc, line) else {
-        return false;
-    };
-    let reader = SliceSource::new(STATEMENT, CHUNK);
-    let writer = VecSink::new(alloc, 1000);
-    let ran = run_words(rt, alloc, &words, reader, writer, &NoProgress);
-    if ran.done != done || ran.writer.bytes.as_slice() != expected {
-        let _ = println!(rt; "expected {done:?}, got {:?}", ran.done);
-        print_difference(rt, expected, &ran.writer.bytes);
-        return false;
+    match words_of(alloc, line) {
+        Ok(words) => words_end_so(rt, alloc, line, &words, done, expected),
+        Err(_) => false,
     }
-    true
 }
 
 /// Command lines, and the bytes that they write.
@@ -60,11 +83,18 @@ const RUN: [(&[&str], &[u8]); 4] = [
     ),
 ];
 
+fn are_run<R: Threads + Wait + RandomSource + Sync + Print>(rt: &R, alloc: Global) -> bool {
+    for (line, expected) in &RUN {
+        if !end_so(rt, alloc, *line, Ok(()), *expected) {
+            return false;
+        }
+    }
+    true
+}
+
 #[test]
 fn words_are_run(rt: HostRuntime) {
-    for (line, expected) in RUN {
-        assert!(rt; end_so(&rt, rt.alloc(), line, Ok(()), expected), "{line:?}");
-    }
+    assert!(rt; are_run(&rt, rt.alloc()));
 }
 
 /// Command lines that write nothing, and their fault.
@@ -78,9 +108,16 @@ const REJECTED: [(&[&str], RunFault); 4] = [
     ),
 ];
 
+fn are_rejected<R: Threads + Wait + RandomSource + Sync + Print>(rt: &R, alloc: Global) -> bool {
+    for (line, fault) in &REJECTED {
+        if !end_so(rt, alloc, *line, Err(*fault), b"") {
+            return false;
+        }
+    }
+    true
+}
+
 #[test]
 fn words_that_are_rejected_write_nothing(rt: HostRuntime) {
-    for (line, fault) in REJECTED {
-        assert!(rt; end_so(&rt, rt.alloc(), line, Err(fault), b""), "{line:?}");
-    }
+    assert!(rt; are_rejected(&rt, rt.alloc()));
 }
