@@ -144,7 +144,9 @@ fn is_term(found: Found) -> bool {
 /// Returns the text for a dot that is missing, or None if something else is.
 fn missing_dot(next: Next, found: Found) -> Option<&'static str> {
     match (next, found) {
-        (Next::Graph | Next::Dot, Found::LineEnd) => Some("missing '.' at the end of the statement"),
+        (Next::Graph | Next::Dot, Found::LineEnd) => Some(
+            "missing '.' at the end of the statement",
+        ),
         (Next::Graph | Next::Dot, Found::Comment) => Some("missing '.' before the comment"),
         _ => None,
     }

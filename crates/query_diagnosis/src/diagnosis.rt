@@ -278,14 +278,7 @@ fn relative(alloc: Global, text: Text<'_>) -> Result<Option<Found>, AllocError> 
         return Ok(None);
     };
     let after = " is relative: it has no scheme";
-    let found = found_at(
-        alloc,
-        text,
-        at,
-        "the IRI ",
-        after,
-        Some(Hint::WholeIri),
-    )?;
+    let found = found_at(alloc, text, at, "the IRI ", after, Some(Hint::WholeIri))?;
     Ok(Some(found))
 }
 
@@ -318,14 +311,7 @@ fn bind(alloc: Global, text: Text<'_>) -> Result<Option<Found>, AllocError> {
         return Ok(None);
     };
     let after = ", which the group already binds at ";
-    let found = clashing(
-        alloc,
-        text,
-        clash,
-        "BIND to ",
-        after,
-        Hint::OtherVariable,
-    )?;
+    let found = clashing(alloc, text, clash, "BIND to ", after, Hint::OtherVariable)?;
     Ok(Some(found))
 }
 
@@ -369,11 +355,7 @@ fn unknown(alloc: Global) -> Result<Found, AllocError> {
 }
 
 /// Returns the place and the reason of a fault, or the beginning of the text if there is none.
-fn found_or_unknown(
-    alloc: Global,
-    text: Text<'_>,
-    fault: QueryFault,
-) -> Result<Found, AllocError> {
+fn found_or_unknown(alloc: Global, text: Text<'_>, fault: QueryFault) -> Result<Found, AllocError> {
     match find(alloc, text, fault)? {
         Some(found) => Ok(found),
         None => unknown(alloc),

@@ -41,7 +41,7 @@ pub struct Stop {
 }
 
 /// The state of the machine between two terminals.
-#[derive(Debug, Drop)]
+#[derive(Drop)]
 pub struct Machine {
     /// The symbols that are still to be read, the next one last.
     pub stack: Vec<Symbol>,

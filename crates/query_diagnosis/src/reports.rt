@@ -28,10 +28,7 @@ impl fmt::Display for Place {
 fn shown(alloc: Global, text: &str, offset: usize) -> Result<(String, usize), AllocError> {
     let characters = characters_of(alloc, text)?;
     let line = text_of(alloc, line_at(&characters, offset))?;
-    Ok((
-        line,
-        offset.saturating_sub(line_start(&characters, offset)),
-    ))
+    Ok((line, offset.saturating_sub(line_start(&characters, offset))))
 }
 
 /// Returns the message about a diagnosis.

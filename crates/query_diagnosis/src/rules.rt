@@ -12,7 +12,7 @@ use std::collections::BTreeMap;
 const MAX_DEPTH: usize = 100;
 
 /// A terminal that clashes with an earlier one.
-#[derive(Clone, Copy, Debug, PartialEq, Eq)]
+#[derive(Clone, Copy)]
 pub struct Clash {
     /// The place of the terminal in the list.
     pub at: usize,
@@ -27,11 +27,7 @@ pub fn prefix_of<'a>(name: &'a [char]) -> &'a [char] {
 }
 
 /// Returns whether a terminal is no prefixed name, or one with a declaration.
-fn is_declared(
-    alloc: Global,
-    names: &Declarations,
-    token: Token<'_>,
-) -> Result<bool, AllocError> {
+fn is_declared(alloc: Global, names: &Declarations, token: Token<'_>) -> Result<bool, AllocError> {
     if !matches!(token.kind, Kind::PrefixedName | Kind::PrefixedNamespace) {
         return Ok(true);
     }
@@ -160,7 +156,7 @@ pub fn reused_blank(alloc: Global, tokens: &[Token<'_>]) -> Result<Option<Clash>
 }
 
 /// A group that is open.
-#[derive(Clone, Copy, Debug)]
+#[derive(Clone, Copy)]
 struct Frame {
     /// The number of variables in scope before it.
     first: usize,

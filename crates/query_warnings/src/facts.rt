@@ -155,10 +155,10 @@ pub fn facts_of(compares: bool, store: &Store) -> Facts
 {
     let dict = store.dict();
     Facts {
-        double: compares && has_literal_of(dict, Datatype::Double.iri()),
-        float: compares && has_literal_of(dict, Datatype::Float.iri()),
-        date_time: compares && has_literal_of(dict, Datatype::DateTime.iri()),
-        date: compares && has_literal_of(dict, Datatype::Date.iri()),
+        double: compares && has_literal_of(dict, XSD_DOUBLE),
+        float: compares && has_literal_of(dict, XSD_FLOAT),
+        date_time: compares && has_literal_of(dict, XSD_DATE_TIME),
+        date: compares && has_literal_of(dict, XSD_DATE),
         is_named_only: is_named_only(store),
     }
 }

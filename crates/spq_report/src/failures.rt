@@ -112,9 +112,8 @@ pub fn no_memory<W: Write>(out: &mut W, stage: Stage) -> io::Result<()> {
 /// Returns the number of workers of a command.
 fn workers_of(command: &Command) -> usize {
     match command {
-        Command::Select { reading, .. }
-        | Command::Check { reading }
-        | Command::Terms { reading } => reading.workers,
+        Command::Select { reading, .. } | Command::Check { reading } | Command::Terms { reading } =>
+            reading.workers,
     }
 }
 
