@@ -31,11 +31,9 @@ front_of start = if nat_lt 0 start then 0x2026 ∷ [] else []
 abbrev pub back_of : ℕ → ℕ → List ℕ
 back_of start len = if nat_lt (start + width) len then 0x2026 ∷ [] else []
 
--- the first character that is shown; an ellipsis replaces the one before it
 abbrev pub first_of : ℕ → ℕ
 first_of start = if nat_lt 0 start then start + 1 else 0
 
--- the place after the last character that is shown; an ellipsis replaces the next one
 abbrev pub last_of : ℕ → ℕ → ℕ
 last_of start len = if nat_lt (start + width) len then (start + width) - 1 else len
 
@@ -43,7 +41,6 @@ last_of start len = if nat_lt (start + width) len then (start + width) - 1 else 
 abbrev pub seen : List ℕ → ℕ → ℕ → List ℕ
 seen cs first last = map visible (take (last - first) (drop first cs))
 
--- the line of the message: what is shown of the characters, from the column `start` on
 abbrev pub shown : List ℕ → ℕ → List ℕ
 shown cs start = front_of start ++ (seen cs (first_of start) (last_of start (length cs)) ++ back_of start (length cs))
 

@@ -126,7 +126,7 @@ checks_pass false false false h = (refl, refl)
 level_stops : (s : Shape) (names : Names) (words : List Text) (has : Bool) (below : Kinds)
     → s.disable_help_subcommand ≡ false → s.subcommand_required ≡ true → level_fault s names nothing_held words has below ≡ []
     → StopsAtNoHelp (stop_after s.rules names words) × (below ≡ []) × (has ≡ true)
-level_stops s names words has below enabled required_is none =
+level_stops s names words has below enabled wanted none =
     let passes = level_passes s names words has below none in
     let rows = rows_after s.rules names words in
     let checks = checks_pass (not has && (s.arg_required_else_help && not (list_any (λ r. explicit_source r.source) rows)))
@@ -134,7 +134,7 @@ level_stops s names words has below enabled required_is none =
     (not (s.subcommand_negates_reqs && has) && list_any (λ a. a.required && not (is_given a.id rows)) s.rules) passes.3 in (
       walk_stops s enabled names (walk_from nothing_held) words passes.0 tt,
       passes.1,
-      met has (subst (λ b. (not has && b) ≡ false) required_is checks.0),
+      met has (subst (λ b. (not has && b) ≡ false) wanted checks.0),
     )
   where
     met : (b : Bool) → (not b && true) ≡ false → b ≡ true
@@ -244,20 +244,20 @@ terms_taken s words name is none =
     (Terms reading.0, (name, reading.1))
 
 -- of the arguments of the command, only the query is required
-abbrev NeedsQuery : Shape → Type 0
-NeedsQuery s = (rows : List Row)
+abbrev WantsQuery : Shape → Type 0
+WantsQuery s = (rows : List Row)
     → (not (s.subcommand_negates_reqs && false) && list_any (λ a. a.required && not (is_given a.id rows)) s.rules)
     ≡ (not (is_given (codes "query") rows) || false)
 
 select_taken : (s : Shape) (words : List Text) → s.name ≡ codes "select" → IsReadingShape s
-    → TakesNumber s.rules (codes "rows") 1073741824 → NeedsQuery s → Taken s words
-select_taken s words name is takes needs none =
+    → TakesNumber s.rules (codes "rows") 1073741824 → WantsQuery s → Taken s words
+select_taken s words name is takes wants none =
     let level = level_fine s [] words false [] is.single is.rules is.defaults none in
     let found = rows_after s.rules [] words in
     let reading = reading_taken s found is level.0 in
     let rows = number_taken s.rules (codes "rows") 1024 1073741824 found level.0 takes (omega arith) (omega arith) in
     let query = text_taken s.rules (codes "query") found level.0
-    (given (is_given (codes "query") found) (sym (needs found) ∙ (checks_pass _ _ _ level.1).1)) in
+    (given (is_given (codes "query") found) (sym (wants found) ∙ (checks_pass _ _ _ level.1).1)) in
     (Select query.0 reading.0 rows.0, (name, record { text = query.1; how = reading.1; size = rows.1.0 }))
   where
     given : (b : Bool) → (not b || false) ≡ false → b ≡ true

@@ -5,7 +5,6 @@ use Rattle.std.specs.Prelude.{ℕ}
 abbrev pub workers_limit : ℕ
 workers_limit = 64
 
--- without `--workers`
 abbrev pub workers_default : ℕ
 workers_default = 4
 
@@ -13,7 +12,6 @@ workers_default = 4
 abbrev pub piece_limit : ℕ
 piece_limit = 1073741824
 
--- without `--piece`
 abbrev pub piece_default : ℕ
 piece_default = 65536
 
@@ -21,6 +19,5 @@ piece_default = 65536
 abbrev pub rows_limit : ℕ
 rows_limit = 1073741824
 
--- without `--rows`
 abbrev pub rows_default : ℕ
 rows_default = 1024

@@ -21,19 +21,15 @@ text_option name = record (new_rule name) { long = Some name }
 abbrev pub number_option : Text → ℕ → Rule
 number_option name most = record (text_option name) { parser = Some (Unsigned 1 most) }
 
--- `--query TEXT`, which is required
 abbrev pub query_option : Rule
 query_option = record (text_option (codes "query")) { required = true }
 
--- `--rows N`
 abbrev pub rows_option : Rule
 rows_option = number_option (codes "rows") rows_limit
 
--- `--workers N`
 abbrev pub workers_option : Rule
 workers_option = number_option (codes "workers") workers_limit
 
--- `--piece N`
 abbrev pub piece_option : Rule
 piece_option = number_option (codes "piece") piece_limit
 
@@ -41,7 +37,6 @@ piece_option = number_option (codes "piece") piece_limit
 abbrev pub reading_options : List Rule
 reading_options = workers_option ∷ piece_option ∷ []
 
--- the options of `select`
 abbrev pub select_options : List Rule
 select_options = reading_options ++ query_option ∷ rows_option ∷ []
 
@@ -67,16 +62,13 @@ IsNumber default most None n = n ≡ default
 IsNumber default most (Some text) n =
     IsUnsignedIn 1 most text × (n ≡ digits_value 10 (without_leading_plus text))
 
--- the number of the option of this name
 abbrev pub HasNumber : Text → ℕ → ℕ → List Row → ℕ → Type 0
 HasNumber name default most found n = IsNumber default most (one_of name found) n
 
--- the values of `--workers` and `--piece`
 pub record HasReadOptions (found : List Row) (reading : ReadOptions) : Type 0 where
   pub workers : HasNumber (codes "workers") workers_default workers_limit found reading.workers
   pub piece : HasNumber (codes "piece") piece_default piece_limit found reading.piece
 
--- the values of the options of `select`
 pub record HasSelect (found : List Row) (query : Text) (reading : ReadOptions) (rows : ℕ) : Type 0 where
   pub text : first_of (codes "query") found ≡ Some query
   pub how : HasReadOptions found reading

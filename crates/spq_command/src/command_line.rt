@@ -35,14 +35,14 @@ pub enum CommandFault {
     #[error("the command line is none of the program's")]
     Line,
     /// Out of memory.
-    #[error("out of memory")]
+    #[error("a growth was refused")]
     Memory,
 }
 
 impl From<AllocError> for CommandFault {
     ghost from_gives = { λ _ e. e ≡ Memory };
 
-    fn from(_failed: AllocError) -> CommandFault {
+    fn from(_refused: AllocError) -> CommandFault {
         CommandFault::Memory
     }
 }

@@ -196,7 +196,7 @@ impl<R: Wait, C: Clock, W: Write> Meter for Console<R, C, W> {
         let mut screen = self.screen.lock(&self.rt);
         if !screen.is_begun {
             screen.is_begun = true;
-            let _reported = screen.out.write_all(
+            let _told = screen.out.write_all(
                 b"spq: N-Quads is read from the terminal; end it with Ctrl-D\n",
             );
         }
