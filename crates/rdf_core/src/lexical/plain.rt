@@ -13,28 +13,10 @@ ghost use Rattle.rdf_core.specs.Characters.{is_iri_char, is_string_char};
 ghost use Rattle.rdf_core.specs.LexicalReading.{IsPlain};
 ghost use Rattle.rdf_core.specs.declared.lexical.escapes.Inside.TheVariants as inside;
 
-#[inline(always)]
-fn is_iri_byte(b: u8) -> bool
-    ensures { result ≡ is_iri_char b }
-{
-    b > b' '
-        && !matches!(
-            b,
-            b'<' | b'>' | b'"' | b'{' | b'}' | b'|' | b'^' | b'`' | b'\\'
-        )
-}
-
-#[inline(always)]
-fn is_string_byte(b: u8) -> bool
-    ensures { result ≡ is_string_char b }
-{
-    !matches!(b, b'"' | b'\\' | b'\n' | b'\r')
-}
-
 /// How many bytes are checked at once.
 const BLOCK: usize = 16;
 
-/// Returns whether an IRI must not have this byte, or has it only as its end.
+/// Returns whether this byte may not occur unescaped in an IRI.
 #[inline(always)]
 fn ends_iri(b: u8) -> bool
     ensures { is_iri_char b ≡ not result }
@@ -75,7 +57,7 @@ fn iri_blocks(bytes: &[u8]) -> usize
     at
 }
 
-/// Returns whether a string must not have this byte, or has it only as its end or in an escape.
+/// Returns whether this byte may not occur unescaped in a string.
 #[inline(always)]
 fn ends_string(b: u8) -> bool
     ensures { is_string_char b ≡ not result }
@@ -113,11 +95,8 @@ fn end_of_iri(bytes: &[u8]) -> Option<usize>
         × (list_all is_iri_char (take end bytes.now) ≡ true)) }
 {
     for i in iri_blocks(bytes)..bytes.len() {
-        if bytes[i] == b'>' {
-            return Some(i);
-        }
-        if !is_iri_byte(bytes[i]) {
-            return None;
+        if ends_iri(bytes[i]) {
+            return if bytes[i] == b'>' { Some(i) } else { None };
         }
     }
     None
@@ -129,11 +108,8 @@ fn end_of_string(bytes: &[u8]) -> Option<usize>
         × (list_all is_string_char (take end bytes.now) ≡ true)) }
 {
     for i in string_blocks(bytes)..bytes.len() {
-        if bytes[i] == b'"' {
-            return Some(i);
-        }
-        if !is_string_byte(bytes[i]) {
-            return None;
+        if ends_string(bytes[i]) {
+            return if bytes[i] == b'"' { Some(i) } else { None };
         }
     }
     None
