@@ -88,13 +88,7 @@ const DOCUMENTS: &[(&str, &[u8], &str)] = &[
 ];
 
 /// Returns whether these are the expected counts. Prints the case and both if they are not.
-fn are_counts<R: Print>(
-    rt: &R,
-    alloc: Global,
-    name: &str,
-    expected: &str,
-    found: Counts,
-) -> bool {
+fn are_counts<R: Print>(rt: &R, alloc: Global, name: &str, expected: &str, found: Counts) -> bool {
     holds(rt, name, expected, format!(in alloc; "{found:?}"))
 }
 
@@ -123,7 +117,10 @@ fn every_cut_loads_the_same(rt: HostRuntime) {
     assert!(rt; are_right(&rt, alloc, 1, 1), "pieces of 1 byte, 1 worker");
     assert!(rt; are_right(&rt, alloc, 1, 2), "pieces of 1 byte, 2 workers");
     assert!(rt; are_right(&rt, alloc, 1, 8), "pieces of 1 byte, 8 workers");
-    assert!(rt; are_right(&rt, alloc, 65536, 4), "pieces of 65536 bytes, 4 workers");
+    assert!(rt;
+        are_right(&rt, alloc, 65536, 4),
+        "pieces of 65536 bytes, 4 workers"
+    );
 }
 
 /// Documents, the smallest size of their blocks in bytes, and what is loaded of each.

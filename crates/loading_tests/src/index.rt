@@ -128,9 +128,15 @@ fn a_packed_list_gives_its_quads_back(rt: HostRuntime) {
         quad(None, 0, 1, 3),
         quad(Some(5), 0, 1, 2),
     ];
-    assert!(rt; is_packed_as(alloc, &QUADS, SortOrder::Gpos, Some(&packed)), "small numbers");
+    assert!(rt;
+        is_packed_as(alloc, &QUADS, SortOrder::Gpos, Some(&packed)),
+        "small numbers"
+    );
     let large = [quad(None, 0, 1, 0xFFFF_FFFF)];
-    assert!(rt; is_packed_as(alloc, &large, SortOrder::Gspo, None), "a large number");
+    assert!(rt;
+        is_packed_as(alloc, &large, SortOrder::Gspo, None),
+        "a large number"
+    );
 }
 
 /// A name, the given graph, subject, predicate and object, and the number of quads.
@@ -189,12 +195,7 @@ fn scans_give_what_agrees(rt: HostRuntime) {
 }
 
 /// Returns whether the sorted list of the quads is this one.
-fn is_sorted_as(
-    alloc: Global,
-    quads: &[NumQuad],
-    order: SortOrder,
-    expected: &[NumQuad],
-) -> bool {
+fn is_sorted_as(alloc: Global, quads: &[NumQuad], order: SortOrder, expected: &[NumQuad]) -> bool {
     match sorted_list(alloc, quads, order) {
         Ok(list) => list.as_slice() == expected,
         Err(_) => false,

@@ -194,34 +194,6 @@ pub(crate) fn open_cells(alloc: Global, width: usize) -> Result<Vec<Option<Term>
     Ok(cells)
 }
 
-/// Returns the cell if it is bound, and the term otherwise.
-fn bound_cell(
-    alloc: Global,
-    cell: &Option<Term>,
-    term: Option<Term>,
-) -> Result<Option<Term>, AllocError>
-    ensures value { IfOk result (λ bound. bound ≡ bound_or cell.now term) }
-{
-    match cell {
-        None => Ok(term),
-        Some(bound) => Ok(Some(bound.copy(alloc)?)),
-    }
-}
-
-/// Prepends a cell to a copy of the cells. If the cell is unbound, it is bound to the term.
-fn with_bound(
-    alloc: Global,
-    cell: &Option<Term>,
-    term: Option<Term>,
-    cells: &[Option<Term>],
-) -> Result<Vec<Option<Term>>, AllocError>
-    ensures value { IfOk result (λ list. list.items ≡ bound_or cell.now term ∷ cells.now) }
-{
-    let first = bound_cell(alloc, cell, term)?;
-    let rest = copy_cells(alloc, cells)?;
-    with_first(first, rest)
-}
-
 /// Binds the variable to the term, if there is a term and the variable is unbound.
 pub(crate) fn bound_cells(
     alloc: Global,
@@ -234,11 +206,15 @@ pub(crate) fn bound_cells(
     match cells.split_first() {
         None => Ok(Vec::new(alloc)),
         Some((x, rest)) => {
-            if variable == 0 {
-                return with_bound(alloc, x, term, rest);
+            if variable > 0 {
+                let bound = bound_cells(alloc, variable - 1, term, rest)?;
+                return with_copy(alloc, x, bound);
             }
-            let bound = bound_cells(alloc, variable - 1, term, rest)?;
-            with_copy(alloc, x, bound)
+            let rest = copy_cells(alloc, rest)?;
+            match x {
+                None => with_first(term, rest),
+                Some(x) => with_first(Some(x.copy(alloc)?), rest),
+            }
         }
     }
 }

@@ -132,7 +132,9 @@ fn gives<R: RandomSource + Threads + Wait + Print>(
     match told(rt, alloc, operator, left, right, how) {
         Ok(given) => {
             if given.as_str() != expected {
-                let _ = println!(rt; "{name}, {how:?}: {left} and {right}: expected {expected}, got {given}");
+                let _ = println!(rt;
+                    "{name}, {how:?}: {left} and {right}: expected {expected}, got {given}"
+                );
             }
             given.as_str() == expected
         }
@@ -280,5 +282,12 @@ fn places<R: RandomSource>(rt: &R, alloc: Global, text: &str) -> Result<String, 
 
 #[test]
 fn rows_are_under_their_key_or_apart(rt: HostRuntime) {
-    assert!(rt; holds(&rt, "05 -5 0-", " 0 2 | | 1 |", places(&rt, rt.alloc(), "05 -5 0-")));
+    assert!(rt;
+        holds(
+            &rt,
+            "05 -5 0-",
+            " 0 2 | | 1 |",
+            places(&rt, rt.alloc(), "05 -5 0-")
+        )
+    );
 }

@@ -198,7 +198,9 @@ fn is_same<R: Print>(
     if given == expected {
         return true;
     }
-    let _ = println!(rt; "{selection:?}, workers and rows {numbers:?}: expected {expected}got {given}");
+    let _ = println!(rt;
+        "{selection:?}, workers and rows {numbers:?}: expected {expected}got {given}"
+    );
     false
 }
 

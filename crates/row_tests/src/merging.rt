@@ -89,12 +89,7 @@ fn merged(
 }
 
 /// Returns whether the merge of two rows is this row.
-fn is_merged(
-    alloc: Global,
-    a: &[Option<u64>],
-    b: &[Option<u64>],
-    expected: &[Option<u64>],
-) -> bool
+fn is_merged(alloc: Global, a: &[Option<u64>], b: &[Option<u64>], expected: &[Option<u64>]) -> bool
     requires same_width { length a.now ≡ length b.now }
 {
     match merged(alloc, a, b) {

@@ -95,7 +95,15 @@ fn the_empty_pattern_has_one_row(rt: HostRuntime) {
     let rows = solve(&rt, rt.alloc(), &quads, None, 2, &[]);
     assert!(rt; has_rows(&rt, rt.alloc(), "the default graph", "2: --=--", rows));
     let rows = solve(&rt, rt.alloc(), &quads, Some(9), 2, &[]);
-    assert!(rt; has_rows(&rt, rt.alloc(), "a graph that nothing names", "2: --=--", rows));
+    assert!(rt;
+        has_rows(
+            &rt,
+            rt.alloc(),
+            "a graph that nothing names",
+            "2: --=--",
+            rows
+        )
+    );
 }
 
 /// `?0 2 ?0`: the subject is the object.

@@ -105,7 +105,12 @@ fn are_answered<R: Threads + Wait + Print>(rt: &R, alloc: Global, workers: usize
     requires workers { (1 ≤ workers) × (workers ≤ most_workers) }
 {
     for (n, sound, expected) in &RUNS {
-        if !holds(rt, *expected, *expected, told(rt, alloc, workers, *n, *sound)) {
+        if !holds(
+            rt,
+            *expected,
+            *expected,
+            told(rt, alloc, workers, *n, *sound),
+        ) {
             return false;
         }
     }

@@ -66,7 +66,13 @@ const PIECES: &[(&str, usize, &str)] = &[
 
 fn are_cut<R: Print>(rt: &R, alloc: Global) -> bool {
     for (doc, size, expected) in PIECES {
-        if !is_text(rt, *doc, *size, *expected, pieces_of_size(alloc, *doc, *size)) {
+        if !is_text(
+            rt,
+            *doc,
+            *size,
+            *expected,
+            pieces_of_size(alloc, *doc, *size),
+        ) {
             return false;
         }
     }
@@ -89,7 +95,13 @@ fn pieces_at(alloc: Global, places: &[usize]) -> Result<String, AllocError> {
 
 /// Returns whether the places cut the document like this. Prints the places if not.
 fn is_cut_at<R: Print>(rt: &R, alloc: Global, places: &[usize], expected: &str) -> bool {
-    if is_text(rt, DOCUMENT, places.len(), expected, pieces_at(alloc, places)) {
+    if is_text(
+        rt,
+        DOCUMENT,
+        places.len(),
+        expected,
+        pieces_at(alloc, places),
+    ) {
         return true;
     }
     let _ = println!(rt; "at {places:?}");
@@ -155,7 +167,13 @@ const BLOCKS: &[(&str, usize, usize, &str)] = &[
 
 fn are_blocks<R: Print>(rt: &R, alloc: Global) -> bool {
     for (doc, size, until, expected) in BLOCKS {
-        if !is_text(rt, *doc, *size, *expected, blocks(alloc, *doc, *size, *until)) {
+        if !is_text(
+            rt,
+            *doc,
+            *size,
+            *expected,
+            blocks(alloc, *doc, *size, *until),
+        ) {
             return false;
         }
     }

@@ -74,7 +74,9 @@ fn is_in_place<R: Threads + Wait + Print>(rt: &R, alloc: Global, workers: usize,
     let counts = (gate.entered(), gate.left(), job.runs());
     let is_right = ran == Ran::InPlace(n) && counts == (n, n, n);
     if !is_right {
-        let _ = println!(rt; "{workers} workers, {n} pieces: got {ran:?}, entered, left and run {counts:?}");
+        let _ = println!(rt;
+            "{workers} workers, {n} pieces: got {ran:?}, entered, left and run {counts:?}"
+        );
     }
     is_right
 }
@@ -293,7 +295,10 @@ impl<'a> Job for Words<'a> {
 }
 
 /// Returns whether the results are these words.
-fn are_words(outcome: &Result<Outcome<Option<u64>, u64>, PoolFault>, words: &[Option<u64>]) -> bool {
+fn are_words(
+    outcome: &Result<Outcome<Option<u64>, u64>, PoolFault>,
+    words: &[Option<u64>],
+) -> bool {
     match outcome {
         Ok(Outcome::All(outs)) => outs.as_slice() == words,
         _ => false,

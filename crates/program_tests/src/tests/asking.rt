@@ -160,7 +160,9 @@ pub(crate) fn is_same<R: Print>(
     }
     let expected = str::from_utf8(expected).unwrap_or("?");
     let given = str::from_utf8(given).unwrap_or("?");
-    let _ = println!(rt; "{case}, by workers, bytes and rows {way:?}: expected {expected}\ngot {given}");
+    let _ = println!(rt;
+        "{case}, by workers, bytes and rows {way:?}: expected {expected}\ngot {given}"
+    );
     false
 }
 
@@ -192,7 +194,14 @@ fn is_given_in_every_way<R: Threads + Wait + RandomSource + Print>(
 ) -> bool {
     let (name, doc, query, _, _) = *example;
     for way in &WAYS {
-        if !gives(rt, alloc, name, select(query, *way), doc.as_bytes(), expected) {
+        if !gives(
+            rt,
+            alloc,
+            name,
+            select(query, *way),
+            doc.as_bytes(),
+            expected,
+        ) {
             return false;
         }
     }

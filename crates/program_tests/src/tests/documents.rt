@@ -121,7 +121,14 @@ fn is_line<R: Threads + Wait + RandomSource + Print>(
     line: u64,
 ) -> bool {
     match format!(in alloc; "error: line {line}\n") {
-        Ok(expected) => gives(rt, alloc, "malformed lines", asked, doc, expected.as_bytes()),
+        Ok(expected) => gives(
+            rt,
+            alloc,
+            "malformed lines",
+            asked,
+            doc,
+            expected.as_bytes(),
+        ),
         Err(_) => false,
     }
 }
@@ -212,7 +219,14 @@ const NOT_SELECTED: [(&str, &str, &str); 3] = [
 fn are_refused<R: Threads + Wait + RandomSource + Print>(rt: &R, alloc: Global) -> bool {
     for (query, doc, expected) in &NOT_SELECTED {
         let asked = select(*query, WHOLE);
-        if !gives(rt, alloc, *query, asked, doc.as_bytes(), expected.as_bytes()) {
+        if !gives(
+            rt,
+            alloc,
+            *query,
+            asked,
+            doc.as_bytes(),
+            expected.as_bytes(),
+        ) {
             return false;
         }
     }
@@ -244,7 +258,14 @@ fn are_prefixes_checked<R: Threads + Wait + RandomSource + Print>(rt: &R, alloc:
     for count in 0..TWICE.len() + 1 {
         let front = &TWICE[..count];
         let text = str::from_utf8(front).unwrap_or("?");
-        if !gives(rt, alloc, text, check(4, 1), front, expected_of_prefix(count)) {
+        if !gives(
+            rt,
+            alloc,
+            text,
+            check(4, 1),
+            front,
+            expected_of_prefix(count),
+        ) {
             return false;
         }
     }

@@ -33,7 +33,10 @@ fn agrees_with_std<R: Threads + Wait + RandomSource>(rt: &R, alloc: Global, way:
 #[test]
 fn devices_that_count_no_failures_do_not_fail(rt: HostRuntime) {
     assert!(rt; agrees_with_std(&rt, rt.alloc(), WHOLE), "one worker");
-    assert!(rt; agrees_with_std(&rt, rt.alloc(), (2, 1, 1)), "two workers");
+    assert!(rt;
+        agrees_with_std(&rt, rt.alloc(), (2, 1, 1)),
+        "two workers"
+    );
 }
 
 /// The end of a run over `REPEATED`.
@@ -315,7 +318,10 @@ fn select_tells_each_failed_call<R: Threads + Wait + RandomSource>(
 
 #[test]
 fn each_call_of_a_select_that_fails_is_reported(rt: HostRuntime) {
-    assert!(rt; select_tells_each_failed_call(&rt, rt.alloc(), WHOLE), "one worker");
+    assert!(rt;
+        select_tells_each_failed_call(&rt, rt.alloc(), WHOLE),
+        "one worker"
+    );
     assert!(rt;
         select_tells_each_failed_call(&rt, rt.alloc(), (2, 1, 1)),
         "two workers"

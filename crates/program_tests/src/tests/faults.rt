@@ -12,7 +12,10 @@ const FAULTS: [(RunFault, &str); 14] = [
         RunFault::BadLine(340282366920938463463374607431768211455),
         "1 error: line 340282366920938463463374607431768211455\n",
     ),
-    (RunFault::Query(QueryFault::Syntax), "2 error: query syntax\n"),
+    (
+        RunFault::Query(QueryFault::Syntax),
+        "2 error: query syntax\n",
+    ),
     (
         RunFault::Query(QueryFault::UndefinedPrefix),
         "2 error: query prefix\n",
@@ -21,12 +24,18 @@ const FAULTS: [(RunFault, &str); 14] = [
         RunFault::Query(QueryFault::RelativeIri),
         "2 error: query relative iri\n",
     ),
-    (RunFault::Query(QueryFault::BindScope), "2 error: query bind\n"),
+    (
+        RunFault::Query(QueryFault::BindScope),
+        "2 error: query bind\n",
+    ),
     (
         RunFault::Query(QueryFault::BlankReuse),
         "2 error: query blank label\n",
     ),
-    (RunFault::Query(QueryFault::TooDeep), "2 error: query depth\n"),
+    (
+        RunFault::Query(QueryFault::TooDeep),
+        "2 error: query depth\n",
+    ),
     (RunFault::Query(QueryFault::Memory), "4 error: memory\n"),
     (RunFault::Line, "3 error: command line\n"),
     (RunFault::Memory, "4 error: memory\n"),
