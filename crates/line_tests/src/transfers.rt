@@ -100,7 +100,10 @@ fn reads_to_the_end_a_few_bytes_a_call(rt: HostRuntime) {
         until: 1000,
         failed: 0,
     };
-    assert!(rt; are_all(rt.alloc(), &mut reader, text), "all bytes in order");
+    assert!(rt;
+        are_all(rt.alloc(), &mut reader, text),
+        "all bytes in order"
+    );
     assert!(rt; reader.rest.is_empty(), "nothing is left");
     assert!(rt; reader.failed == 0, "no call failed");
 }
@@ -165,7 +168,7 @@ fn first_wrong(writer: &mut VecSink) -> Option<&'static str> {
     if write_all(writer, b"f").is_ok() {
         return Some("one more byte is refused");
     }
-    if writer.bytes.as_slice() != b"abcde" {
+    if writer.bytes.as_slice() != b"abcde".as_slice() {
         return Some("what was written before stays");
     }
     if writer.failed == 1 {

@@ -59,7 +59,7 @@ fn counts_once(index: &Index) -> bool {
         && index.scan(None, None, Some(1), Some(3)).len() == 1
 }
 
-/// Returns whether there is such an index.
+/// Returns whether the index is built and counts each quad once.
 fn is_counted_once(index: Result<Index, AllocError>) -> bool {
     match index {
         Ok(index) => counts_once(&index),

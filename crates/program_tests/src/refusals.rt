@@ -232,7 +232,7 @@ fn has_letters<R: Print>(rt: &R, term: &Term, out: &mut Vec<u8>) -> bool {
     holds(rt, "the spelling", out.as_slice() == WRITTEN)
 }
 
-/// Returns whether the term is spelled. It is also true if there is no memory for the two bytes.
+/// Returns whether the term is appended to two bytes. It is also true if there is no memory for these.
 fn is_appended<R: Print>(rt: &R, alloc: Global, term: &Term) -> bool {
     let mut out = Vec::new(alloc);
     out.extend_from_slice(&WRITTEN[..2]).is_err() || has_letters(rt, term, &mut out)
