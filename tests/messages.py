@@ -9,6 +9,7 @@ what has to come. Standard output is a pipe in most cases, so standard error fir
 Python 3 standard library, and cc for two cases that replace calls of the C library.
 """
 import argparse
+import functools
 import os
 import re
 import resource
@@ -21,6 +22,8 @@ import terminal
 
 HERE = os.path.dirname(os.path.abspath(__file__))
 ROOT = os.path.dirname(HERE)
+# The seconds that a run may take. A run takes milliseconds; the limit is for a machine that is busy.
+LIMIT = 120
 STATEMENT = b"<http://e/a> <http://e/p> <http://e/b> .\n"
 XSD = "http://www.w3.org/2001/XMLSchema#"
 USAGE = """
@@ -53,15 +56,18 @@ def failed(name, words, given, status, line, said, **how):
 # first character that no line of the grammar can have there (RDF 1.1 N-Quads, section 4).
 TURTLE = "this looks like Turtle; N-Quads has no prefixes and no abbreviations: write each term in full"
 CUT_OFF = "the document ends inside its last line: truncated?"
+NO_SUBJECT = "expected a subject (an IRI or a blank node), found "
+NO_DOT = "missing '.' at the end of the statement"
+OPEN_LITERAL = "the literal is not closed: expected '\"', found the end of the line"
 LINES = [
     ('"x" <a:p> <a:o> .', 1, "a subject must be an IRI or a blank node, found a literal", None),
     ('<a:s> "x" <a:o> .', 7, "a predicate must be an IRI, found a literal", None),
     ("<a:s> _:p <a:o> .", 7, "a predicate must be an IRI, found a blank node", None),
     ("<a:s> <a:p> .", 13, "missing object: expected an IRI, a blank node or a literal, found '.'", None),
-    ("<a:s> <a:p> <a:o>", 18, "missing '.' at the end of the statement", None),
+    ("<a:s> <a:p> <a:o>", 18, NO_DOT, None),
     ("<a:s> <a:p> <a:o> . <a:s>", 21, "text after the '.' that ends the statement: found an IRI", None),
     ("<a:s> <a:p> <a:o", 17, "the IRI is not closed: expected '>', found the end of the line", None),
-    ('<a:s> <a:p> "abc .', 19, "the literal is not closed: expected '\"', found the end of the line", "write a line break inside a literal as \\n"),
+    ('<a:s> <a:p> "abc .', 19, OPEN_LITERAL, "write a line break inside a literal as \\n"),
     ('<a:s> <a:p> "a\\qb" .', 16, "unknown escape: found 'q' after '\\'", "write a backslash as \\\\ in a literal, and as %5C in an IRI"),
     ('<a:s> <a:p> "\\uD800" .', 17, "this escape is for a surrogate (U+D800 to U+DFFF), which is no character", None),
     ("<http://e/a b> <a:p> <a:o> .", 12, "a space is not allowed in an IRI", "write a space in an IRI as %20"),
@@ -71,10 +77,10 @@ LINES = [
     ('<a:s> <a:p> "x"@1 .', 17, "a language tag must begin with a letter, found '1'", None),
     ("_:-a <a:p> <a:o> .", 3, "a blank node label must begin with a letter, a digit, '_' or ':', found '-'", None),
     ('<a:s> <a:p> "x"^^ .', 19, "expected a datatype (an IRI) after '^^', found '.'", None),
-    ("@prefix e: <http://e/> .", 1, "expected a subject (an IRI or a blank node), found '@'", TURTLE),
-    ("@base <http://e/> .", 1, "expected a subject (an IRI or a blank node), found '@'", TURTLE),
-    ("PREFIX e: <http://e/>", 1, "expected a subject (an IRI or a blank node), found 'P'", TURTLE),
-    ("e:s <a:p> <a:o> .", 1, "expected a subject (an IRI or a blank node), found 'e'", TURTLE),
+    ("@prefix e: <http://e/> .", 1, NO_SUBJECT + "'@'", TURTLE),
+    ("@base <http://e/> .", 1, NO_SUBJECT + "'@'", TURTLE),
+    ("PREFIX e: <http://e/>", 1, NO_SUBJECT + "'P'", TURTLE),
+    ("e:s <a:p> <a:o> .", 1, NO_SUBJECT + "'e'", TURTLE),
     ("<a:s> e:p <a:o> .", 7, "expected a predicate (an IRI), found 'e'", TURTLE),
     ("<a:s> <a:p> e:o .", 13, "expected an object (an IRI, a blank node or a literal), found 'e'", TURTLE),
     ("<< <a:s> <a:p> <a:o> >> <a:p> <a:o> .", 2, "'<<': quoted triples (RDF-star) are not supported", None),
@@ -149,6 +155,11 @@ def under(line, column):
     return line + "\n" + " " * (column - 1) + "^"
 
 
+def bad_line(name, given, place, reason, shown, hint):
+    """A document whose first line is malformed."""
+    return failed(name, ["check"], given, 1, "error: line 1", message(f"line 1, {place}", reason, shown, hint))
+
+
 def query(name, text, line, said):
     return failed(name, ["select", "--query", text], b"x\n", 2, line, said)
 
@@ -191,14 +202,12 @@ def lines():
 def reasons_of_lines():
     """Each reason for a malformed line."""
     for line, column, reason, hint in LINES:
-        yield failed(f"the line {line}", ["check"], line.encode() + b"\n", 1, "error: line 1",
-                     message(f"line 1, column {column}", reason, under(line, column), hint))
+        yield bad_line(f"the line {line}", line.encode() + b"\n", f"column {column}", reason, under(line, column), hint)
     for given, place, reason, shown, hint in BYTES:
-        yield failed(f"the bytes {given}", ["check"], given, 1, "error: line 1", message(f"line 1, {place}", reason, shown, hint))
-    for line in ('<a:s> <a:p> "abc', "<a:s> <a:p> <a:o> <a:g>"):
-        reason = "the literal is not closed: expected '\"', found the end of the line" if '"' in line else "missing '.' at the end of the statement"
-        yield failed(f"the end of a document in {line}", ["check"], line.encode(), 1, "error: line 1",
-                     message(f"line 1, column {len(line) + 1}", reason, under(line, len(line) + 1), CUT_OFF))
+        yield bad_line(f"the bytes {given}", given, place, reason, shown, hint)
+    for line, reason in (('<a:s> <a:p> "abc', OPEN_LITERAL), ("<a:s> <a:p> <a:o> <a:g>", NO_DOT)):
+        column = len(line) + 1
+        yield bad_line(f"the end of a document in {line}", line.encode(), f"column {column}", reason, under(line, column), CUT_OFF)
 
 
 def reasons_of_queries():
@@ -337,7 +346,7 @@ class Runner:
             if how.get("output") == "none":
                 os.close(1)
         ran = subprocess.run([self.program, *case.words], stdin=self.source(case), stdout=output, stderr=subprocess.PIPE,
-                             env=words, preexec_fn=before, timeout=20)
+                             env=words, preexec_fn=before, timeout=LIMIT)
         self.has_failed = "LD_PRELOAD" in words and b"refused\n" in ran.stderr
         return ran.returncode, ran.stdout or b"", ran.stderr.replace(b"refused\n", b"", 1) if self.has_failed else ran.stderr
 
@@ -391,7 +400,7 @@ def at_the_keyboard(program):
     ]
     for name, words, typed, status, pattern in cases:
         def run(words=words, typed=typed):
-            return terminal.run([program, *words], None, ("input", "output", "error"), typed, 10)
+            return terminal.run([program, *words], None, ("input", "output", "error"), typed, LIMIT)
         yield "at a terminal, " + name, run, status, pattern, {}
 
 
@@ -400,12 +409,18 @@ def slow(document):
     def give(source, screen):
         source.write(document)
         source.flush()
-        screen.wait_for(b", reading")
+        screen.wait_for(b", reading", LIMIT)
     return give
 
 
-def slow_blindly(source, _screen):
-    """Gives a document that takes more than a second."""
+def at_once(source, _screen):
+    """Gives a document and its end."""
+    source.write(STATEMENT)
+
+
+def slow_unseen(source, _screen):
+    """Gives a document that takes more than a second. Nothing is shown that could be waited for, so a longer time changes
+    nothing."""
     source.write(STATEMENT)
     source.flush()
     time.sleep(1.5)
@@ -435,21 +450,22 @@ def with_progress(program):
          progress(["reading", "indexing"]) + begins_with("error: line 2\nspq: line 2, column 1: "), {}),
         ("a warning", ["select", "--query", "SELECT ?o ?x { ?s ?p ?o }"], slow(STATEMENT), error, 0,
          four + re.escape("spq: warning: ?x is selected and occurs nowhere in the pattern\n"), {}),
-        ("a rejected query", ["select", "--query", "SELECT"], slow_blindly, both, 2, begins_with("error: query syntax\nspq: query, "), {}),
-        ("standard error is no terminal", select, slow_blindly, ("output",), 0, re.escape(rows), {"error": ""}),
+        ("a rejected query", ["select", "--query", "SELECT"], at_once, both, 2, begins_with("error: query syntax\nspq: query, "), {}),
+        ("standard error is no terminal", select, slow_unseen, ("output",), 0, re.escape(rows), {"error": ""}),
     ]
     for name, words, give, at, status, pattern, pipes in cases:
         def run(words=words, give=give, at=at):
-            return terminal.run([program, *words], give, at, seconds=30)
+            return terminal.run([program, *words], give, at, seconds=LIMIT)
         yield "progress, " + name, run, status, pattern, pipes
 
     def run_fast():
-        # A run that takes more than a second on a busy machine may show a line.
+        """A run in less than a second. If the machine is too busy for it, a line may be shown, which is cleared."""
         for _ in range(5):
-            ran = terminal.run([program, "check"], lambda source, _: source.write(STATEMENT), both, seconds=30)
-            if ran[1].decode() == counts:
-                break
-        return ran
+            start = time.monotonic()
+            status, shown, came = terminal.run([program, "check"], at_once, both, seconds=LIMIT)
+            if time.monotonic() - start < 1:
+                return status, shown, came
+        return status, terminal.left_of(shown.decode()).encode(), came
     yield "progress, less than a second", run_fast, 0, re.escape(counts), {}
 
 
@@ -466,6 +482,29 @@ def wrong_at_a_terminal(run, status, pattern, pipes):
     return ""
 
 
+def cases(runner):
+    """The name of each case, and a function that returns what is wrong of it, or nothing."""
+    for kind in (lines, reasons_of_lines, queries, reasons_of_queries, command_lines, devices, memory, warnings, silent):
+        for case in kind():
+            yield case.name, functools.partial(runner.wrong, case)
+    for kind in (at_the_keyboard, with_progress):
+        for name, *case in kind(runner.program):
+            yield name, functools.partial(wrong_at_a_terminal, *case)
+
+
+def tried(found, only):
+    """Runs the cases with this word in their name, prints what is wrong, and returns how many there are and how many are
+    wrong."""
+    count = bad = 0
+    for name, wrong_of in found:
+        if only in name:
+            wrong = wrong_of()
+            count, bad = count + 1, bad + bool(wrong)
+            if wrong:
+                print(f"{name}: {wrong}", flush=True)
+    return count, bad
+
+
 def main():
     words = argparse.ArgumentParser(description=__doc__.split("\n")[0])
     words.add_argument("program", nargs="?", default=os.path.join(ROOT, "crates", "spq", "out", "spq"))
@@ -473,27 +512,8 @@ def main():
     given = words.parse_args()
     if not os.path.exists(given.program):
         sys.exit(f"no program at {given.program}: build it first (see README)")
-    count = bad = 0
     with tempfile.TemporaryDirectory() as room:
-        runner = Runner(given.program, room)
-        for kind in (lines, reasons_of_lines, queries, reasons_of_queries, command_lines, devices, memory, warnings, silent):
-            for case in kind():
-                if given.only not in case.name:
-                    continue
-                count += 1
-                wrong = runner.wrong(case)
-                if wrong:
-                    bad += 1
-                    print(f"{case.name}: {wrong}", flush=True)
-        for kind in (at_the_keyboard, with_progress):
-            for name, *case in kind(runner.program):
-                if given.only not in name:
-                    continue
-                count += 1
-                wrong = wrong_at_a_terminal(*case)
-                if wrong:
-                    bad += 1
-                    print(f"{name}: {wrong}", flush=True)
+        count, bad = tried(cases(Runner(given.program, room)), given.only)
     print(f"{count - bad} of {count} cases say what they have to")
     sys.exit(1 if bad else 0)
 

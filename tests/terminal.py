@@ -27,8 +27,8 @@ class Terminal:
         termios.tcsetattr(self.follower, termios.TCSANOW, attributes)
         self.shown = b""
 
-    def wait_for(self, text, seconds=20):
-        """Waits until this text is shown."""
+    def wait_for(self, text, seconds=120):
+        """Waits until this text is shown, at most this many seconds."""
         end = time.monotonic() + seconds
         while text not in self.shown and time.monotonic() < end:
             time.sleep(0.02)
@@ -78,7 +78,7 @@ def run(command, give, at, typed=b"", seconds=600, **how):
         helper.start()
     terminal.read_all(seconds)
     try:
-        status = process.wait(timeout=10)
+        status = process.wait(timeout=seconds)
     except subprocess.TimeoutExpired:
         process.kill()
         status = process.wait()

@@ -1,5 +1,7 @@
 //! The text for arguments that are not a command.
 
+ghost use Rattle.std.specs.Prelude.{◌≡◌, false, slice_index};
+
 use crate::program::program;
 use clap::Error;
 use clap::error::ErrorKind;
@@ -15,7 +17,9 @@ const ENDINGS: [&str; 14] = [
 
 /// Returns whether an argument looks like the name of a file: it has a slash and does not begin
 /// with a hyphen, or it has an ending that these names have.
-pub fn is_file_name(word: &str) -> bool {
+pub fn is_file_name(word: &str) -> bool
+    ensures option { slice_index word.now 0 ≡ 45 → result ≡ false }
+{
     !word.starts_with('-') && (word.contains('/') || ENDINGS.iter().any(|end| word.ends_with(*end)))
 }
 

@@ -16,6 +16,9 @@ pub(crate) enum Reader {
     Command,
 }
 
+/// The kind of the inputs, and the cases.
+pub(crate) type Table = (Reader, &'static str);
+
 fn printed(alloc: Global, reader: Reader, case: &str) -> Result<String, AllocError> {
     match reader {
         Reader::Line { number, is_cut } => lines::message(alloc, case, number, is_cut),
@@ -71,19 +74,32 @@ fn check_block(
     }
 }
 
-/// Returns the cases of a table that are wrong, each with its expected and its actual message. The
-/// text is empty if all are right.
-fn report(alloc: Global, reader: Reader, table: &str) -> Result<String, AllocError> {
-    let mut report = String::new(alloc);
+/// Checks each block of a table.
+fn check_table(
+    alloc: Global,
+    reader: Reader,
+    table: &str,
+    report: &mut String,
+) -> Result<(), AllocError> {
     for block in table.split("\n\n") {
-        check_block(alloc, reader, block, &mut report)?;
+        check_block(alloc, reader, block, report)?;
+    }
+    Ok(())
+}
+
+/// Returns the cases of the tables that are wrong, each with its expected and its actual message.
+/// The text is empty if all are right.
+fn report(alloc: Global, tables: &[Table]) -> Result<String, AllocError> {
+    let mut report = String::new(alloc);
+    for table in tables {
+        check_table(alloc, table.0, table.1, &mut report)?;
     }
     Ok(report)
 }
 
-/// Returns whether each case of the table is right. Prints those that are not.
-pub(crate) fn are_right<R: Print>(rt: &R, alloc: Global, reader: Reader, table: &str) -> bool {
-    match report(alloc, reader, table) {
+/// Returns whether each case of the tables is right. Prints those that are not.
+pub(crate) fn are_right<R: Print>(rt: &R, alloc: Global, tables: &[Table]) -> bool {
+    match report(alloc, tables) {
         Ok(report) => {
             let _ = print!(rt; "{report}");
             report.is_empty()

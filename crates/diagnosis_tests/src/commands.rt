@@ -1,6 +1,6 @@
 //! Command lines and their messages. The wording is that of the library, so most cases have only
 //! lines that the message must have.
-use crate::cases::{Reader, are_right};
+use crate::cases::{Reader, Table, are_right};
 use command_help::message;
 use std::alloc::{AllocError, AllocGlobal, Global};
 
@@ -40,11 +40,6 @@ spq select --rows 1 --query data.nq --workers 1
 no message
 ";
 
-#[test]
-fn commands_have_no_message(rt: HostRuntime) {
-    assert!(rt; are_right(&rt, rt.alloc(), Reader::Command, COMMANDS));
-}
-
 /// The help and the version.
 const HELP: &str = "
 spq --help
@@ -82,11 +77,6 @@ spq 0.1.0
 spq -V
 spq 0.1.0
 ";
-
-#[test]
-fn help_and_version_are_shown(rt: HostRuntime) {
-    assert!(rt; are_right(&rt, rt.alloc(), Reader::Command, HELP));
-}
 
 /// The errors of other arguments, with the usage and a similar word if there is one.
 const WRONG: &str = "
@@ -126,11 +116,6 @@ spq check --query SELECT*{}
 error: unexpected argument '--query' found
 ";
 
-#[test]
-fn wrong_words_are_named(rt: HostRuntime) {
-    assert!(rt; are_right(&rt, rt.alloc(), Reader::Command, WRONG));
-}
-
 /// An argument that is not allowed and looks like a file name: it has a slash, or it ends as files
 /// with RDF do.
 const FILES: &str = "
@@ -154,7 +139,14 @@ spq terms dump.trig
 hint: spq reads standard input: use spq check < dump.trig
 ";
 
+const TABLES: &[Table] = &[
+    (Reader::Command, COMMANDS),
+    (Reader::Command, HELP),
+    (Reader::Command, WRONG),
+    (Reader::Command, FILES),
+];
+
 #[test]
-fn names_of_files_have_a_hint(rt: HostRuntime) {
-    assert!(rt; are_right(&rt, rt.alloc(), Reader::Command, FILES));
+fn wrong_command_lines_are_explained(rt: HostRuntime) {
+    assert!(rt; are_right(&rt, rt.alloc(), TABLES));
 }

@@ -3,7 +3,8 @@
 //! message, which is written from the grammars (RDF 1.1 N-Quads, section 4; SPARQL 1.1 Query
 //! Language, section 19.8) and docs/DIAGNOSTICS.md.
 //!
-//! `cases` runs the tables, and `texts` decodes the bytes in them.
+//! `cases` runs the tables, and `texts` decodes the bytes in them. A module has one test, which runs
+//! all its tables.
 #![tactic(auto)]
 
 #[cfg(test)]

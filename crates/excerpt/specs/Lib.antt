@@ -1,1 +1,2 @@
 pub mod Excerpt
+pub mod Message

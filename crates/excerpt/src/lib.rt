@@ -8,7 +8,7 @@
 //!
 //! No standard defines these messages; they are a choice of this project.
 //!
-//! Reading order: specs/Excerpt.antt, `excerpt`, `message`. Tests: `lines` and `queries` of the
+//! Reading order: specs/Excerpt.antt, `excerpt`; specs/Message.antt, `message`. Tests: `lines` and `queries` of the
 //! crate diagnosis_tests compare whole messages. Example:
 //!
 //! ```text

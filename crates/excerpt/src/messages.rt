@@ -1,8 +1,46 @@
 //! Whole messages.
 
+ghost use Rattle.std.specs.Prelude.{IfOk, OnOk, ◌≡◌, ◌++◌, string_bytes};
+ghost use Rattle.std.specs.Str.{chars};
+ghost use Rattle.excerpt.specs.Message.{IsMessage, heading_of};
+
 use crate::columns::excerpt;
 use std::alloc::{AllocError, Global};
 use std::fmt::Display;
+
+/// Appends the first line of a message.
+fn push_heading(out: &mut String, heading: &str) -> Result<(), AllocError>
+    ensures line { OnOk result (string_bytes out.new ≡ string_bytes out.old ++ heading_of heading.now) }
+{
+    out.push_str("spq: ")?;
+    out.push_str(heading)?;
+    out.push('\n')
+}
+
+/// Returns the line with the hint, or the empty text if there is none.
+fn hint_line<H: Display>(alloc: Global, hint: Option<&H>) -> Result<String, AllocError> {
+    match hint {
+        Some(hint) => format!(in alloc; "hint: {hint}\n"),
+        None => Ok(String::new(alloc)),
+    }
+}
+
+/// Returns the message with this heading and hint.
+fn composed(
+    alloc: Global,
+    heading: &str,
+    line: &str,
+    at: usize,
+    hint: &str,
+) -> Result<String, AllocError>
+    ensures message { IfOk result (λ s. IsMessage (chars line.now) at (string_bytes s)) }
+{
+    let mut out = String::new(alloc);
+    push_heading(&mut out, heading)?;
+    excerpt(&mut out, line, at)?;
+    out.push_str(hint)?;
+    Ok(out)
+}
 
 /// Returns the message about a place in a line of text: `spq: PLACE: REASON`, the excerpt with a
 /// caret under the place, and the hint if there is one. Each line ends with LF.
@@ -18,12 +56,10 @@ pub fn message<P: Display, R: Display, H: Display>(
     line: &str,
     at: usize,
     hint: Option<&H>,
-) -> Result<String, AllocError> {
-    let mut out = String::new(alloc);
-    write!(out, "spq: {place}: {reason}\n")?;
-    excerpt(&mut out, line, at)?;
-    if let Some(hint) = hint {
-        write!(out, "hint: {hint}\n")?;
-    }
-    Ok(out)
+) -> Result<String, AllocError>
+    ensures message { IfOk result (λ s. IsMessage (chars line.now) at (string_bytes s)) }
+{
+    let heading = format!(in alloc; "{place}: {reason}")?;
+    let hint = hint_line(alloc, hint)?;
+    composed(alloc, heading.as_str(), line, at, hint.as_str())
 }

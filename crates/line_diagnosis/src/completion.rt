@@ -3,7 +3,7 @@
 use crate::escapes::{SCALARS, iri_ranges, least_named};
 use crate::iris::scheme_after;
 use crate::reason::Next;
-use crate::state::{Digits, Part, Scheme, State, after};
+use crate::state::{Digits, Scheme, State, after};
 use std::alloc::{AllocError, Global};
 
 /// Returns the end of the statement, with a space before it.
@@ -40,44 +40,55 @@ fn push_digits(out: &mut String, digits: Digits, ranges: &[(u64, u64)]) -> Resul
     Ok(code)
 }
 
-fn push_iri(out: &mut String, part: Part, scheme: Scheme) -> Result<(), AllocError> {
-    out.push_str(rest_of_iri(scheme))?;
-    out.push_str(rest_of(after(part)))
+/// Appends the end of an escape, and returns the state after it.
+fn push_escape(out: &mut String, state: State) -> Result<State, AllocError> {
+    match state {
+        State::IriBackslash(part, scheme) => {
+            out.push_str("u0061")?;
+            Ok(State::Iri(part, scheme_after(scheme, 0x61)))
+        }
+        State::IriDigits(part, scheme, digits) => {
+            let code = push_digits(out, digits, iri_ranges(scheme))?;
+            Ok(State::Iri(part, scheme_after(scheme, code)))
+        }
+        State::StringBackslash => {
+            out.push('n')?;
+            Ok(State::String)
+        }
+        State::StringDigits(digits) => {
+            let _code = push_digits(out, digits, &SCALARS)?;
+            Ok(State::String)
+        }
+        _ => Ok(state),
+    }
+}
+
+/// Returns the end of the terminal that a state is in, and the part that comes next. An escape has
+/// ended.
+fn end_of(state: State) -> (&'static str, Next) {
+    match state {
+        State::Between(next) => ("", next),
+        State::Comment => ("", Next::End),
+        State::AfterString | State::Tag | State::Subtag => ("", Next::Graph),
+        State::Iri(part, scheme)
+        | State::IriBackslash(part, scheme)
+        | State::IriDigits(part, scheme, _) => (rest_of_iri(scheme), after(part)),
+        State::String | State::StringBackslash | State::StringDigits(_) => ("\"", Next::Graph),
+        State::Caret => ("^<a:>", Next::Graph),
+        State::At | State::Hyphen => ("a", Next::Graph),
+        State::Underscore(part) => (":a", after(part)),
+        State::LabelStart(part) | State::LabelDot(part) | State::LabelDots(part) => {
+            ("a", after(part))
+        }
+        State::Label(part) => ("", after(part)),
+    }
 }
 
 /// Appends an end that completes a well-formed line, given the state after its beginning.
 fn push_completion(out: &mut String, state: State) -> Result<(), AllocError> {
-    match state {
-        State::Between(next) => out.push_str(rest_of(next)),
-        State::Comment => Ok(()),
-        State::AfterString | State::Tag | State::Subtag => out.push_str(" ."),
-        State::Iri(part, scheme) => push_iri(out, part, scheme),
-        State::IriBackslash(part, scheme) => {
-            out.push_str("u0061")?;
-            push_iri(out, part, scheme_after(scheme, 0x61))
-        }
-        State::IriDigits(part, scheme, digits) => {
-            let code = push_digits(out, digits, iri_ranges(scheme))?;
-            push_iri(out, part, scheme_after(scheme, code))
-        }
-        State::String => out.push_str("\" ."),
-        State::StringBackslash => out.push_str("n\" ."),
-        State::StringDigits(digits) => {
-            push_digits(out, digits, &SCALARS)?;
-            out.push_str("\" .")
-        }
-        State::Caret => out.push_str("^<a:> ."),
-        State::At | State::Hyphen => out.push_str("a ."),
-        State::Underscore(part) => {
-            out.push_str(":a")?;
-            out.push_str(rest_of(after(part)))
-        }
-        State::LabelStart(part) | State::LabelDot(part) | State::LabelDots(part) => {
-            out.push_str("a")?;
-            out.push_str(rest_of(after(part)))
-        }
-        State::Label(part) => out.push_str(rest_of(after(part))),
-    }
+    let (end, next) = end_of(push_escape(out, state)?);
+    out.push_str(end)?;
+    out.push_str(rest_of(next))
 }
 
 /// Returns an end that completes a well-formed line, given the state after its beginning.

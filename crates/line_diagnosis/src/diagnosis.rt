@@ -146,15 +146,22 @@ fn text_of(line: &[u8]) -> (&str, Option<Reason>) {
     }
 }
 
+/// The first bytes of compressed files.
+const MAGIC: [(&[u8], Packing); 4] = [
+    (b"\x1F\x8B", Packing::Gzip),
+    (b"\xFD7zXZ", Packing::Xz),
+    (b"\x28\xB5\x2F\xFD", Packing::Zstd),
+    (b"BZh", Packing::Bzip2),
+];
+
 /// Returns the format of a compressed file that begins with these bytes.
 fn packing_of(line: &[u8]) -> Option<Packing> {
-    match line {
-        [0x1F, 0x8B, ..] => Some(Packing::Gzip),
-        [0xFD, b'7', b'z', b'X', b'Z', ..] => Some(Packing::Xz),
-        [0x28, 0xB5, 0x2F, 0xFD, ..] => Some(Packing::Zstd),
-        [b'B', b'Z', b'h', ..] => Some(Packing::Bzip2),
-        _ => None,
+    for (magic, packing) in MAGIC {
+        if line.starts_with(magic) {
+            return Some(packing);
+        }
     }
+    None
 }
 
 /// Returns whether the bytes begin as a UTF-16 text does: with its byte order mark, or with an

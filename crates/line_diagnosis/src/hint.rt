@@ -1,5 +1,10 @@
 //! The hint for a malformed line.
 
+ghost use Rattle.std.specs.Prelude.{◌≡◌, ◌≢◌, Some, true};
+ghost use Rattle.line_diagnosis.specs.declared.hint.Hint.TheVariants.{Truncated, Unpack};
+ghost use Rattle.line_diagnosis.specs.declared.reason.Packing.{Packing};
+ghost use Rattle.line_diagnosis.specs.declared.reason.Reason.TheVariants.{Packed};
+
 use crate::diagnosis::Diagnosis;
 use crate::reason::{Found, Next, Packing, Reason};
 use std::fmt;
@@ -67,7 +72,9 @@ fn ends_with_tag(front: &[u8]) -> bool {
 }
 
 /// Returns the hint for a character that begins no terminal, after these bytes of the line.
-fn hint_of_char(before: &[u8], next: Next, c: char) -> Option<Hint> {
+fn hint_of_char(before: &[u8], next: Next, c: char) -> Option<Hint>
+    ensures whole { result ≢ Some Truncated }
+{
     let touches_quote = next == Next::Graph && before.last().copied() == Some(b'"');
     match c {
         '\'' => Some(Hint::DoubleQuotes),
@@ -82,7 +89,9 @@ fn hint_of_char(before: &[u8], next: Next, c: char) -> Option<Hint> {
 }
 
 /// Returns the hint for a line that ends too early.
-fn hint_at_end(reason: Reason, is_cut: bool) -> Option<Hint> {
+fn hint_at_end(reason: Reason, is_cut: bool) -> Option<Hint>
+    ensures truncated { result ≡ Some Truncated → is_cut ≡ true }
+{
     if is_cut {
         Some(Hint::Truncated)
     } else if reason == Reason::OpenLiteral {
@@ -94,7 +103,13 @@ fn hint_at_end(reason: Reason, is_cut: bool) -> Option<Hint> {
 
 /// Returns the hint for a malformed line, or None if there is none. `is_cut` is true if the line is
 /// the last of its document and no line end follows it.
-pub fn hint_of(line: &[u8], diagnosis: &Diagnosis, is_cut: bool) -> Option<Hint> {
+///
+/// Only a line with `is_cut` can be truncated. A compressed file has the hint for its format.
+pub fn hint_of(line: &[u8], diagnosis: &Diagnosis, is_cut: bool) -> Option<Hint>
+    ensures truncated { result ≡ Some Truncated → is_cut ≡ true }
+    ensures packed { (packing : Packing) → diagnosis.now.reason ≡ Packed packing
+        → result ≡ Some (Unpack packing) }
+{
     let before = line.get(..diagnosis.offset).unwrap_or(line);
     match diagnosis.reason {
         Reason::Packed(packing) => Some(Hint::Unpack(packing)),

@@ -133,122 +133,126 @@ impl fmt::Display for Packing {
     }
 }
 
+fn is_end(found: Found) -> bool {
+    matches!(found, Found::LineEnd | Found::Comment | Found::Char('.'))
+}
+
+fn is_term(found: Found) -> bool {
+    matches!(found, Found::Iri | Found::BlankNode | Found::Literal)
+}
+
+/// Returns the text for a dot that is missing, or None if something else is.
+fn missing_dot(next: Next, found: Found) -> Option<&'static str> {
+    match (next, found) {
+        (Next::Graph | Next::Dot, Found::LineEnd) => Some(
+            "missing '.' at the end of the statement",
+        ),
+        (Next::Graph | Next::Dot, Found::Comment) => Some("missing '.' before the comment"),
+        _ => None,
+    }
+}
+
+/// Returns the text for what was expected, up to what was found.
+fn expected(next: Next, found: Found) -> &'static str {
+    match next {
+        Next::Subject if is_term(found) => "a subject must be an IRI or a blank node, found ",
+        Next::Subject => "expected a subject (an IRI or a blank node), found ",
+        Next::Predicate if is_term(found) => "a predicate must be an IRI, found ",
+        Next::Predicate if is_end(found) => "missing predicate: expected an IRI, found ",
+        Next::Predicate => "expected a predicate (an IRI), found ",
+        Next::Object if is_end(found) => {
+            "missing object: expected an IRI, a blank node or a literal, found "
+        }
+        Next::Object => "expected an object (an IRI, a blank node or a literal), found ",
+        Next::Datatype => "expected a datatype (an IRI) after '^^', found ",
+        Next::Graph if is_term(found) => "a graph name must be an IRI or a blank node, found ",
+        Next::Graph => "expected '.' or a graph name (an IRI or a blank node), found ",
+        Next::Dot => "expected '.' after the graph name, found ",
+        Next::End => "text after the '.' that ends the statement: found ",
+    }
+}
+
 /// Writes what was expected, and what was found instead.
 fn write_unexpected<W: fmt::Write>(
     f: &mut fmt::Formatter<W>,
     next: Next,
     found: Found,
 ) -> fmt::Result {
-    let is_end = matches!(found, Found::LineEnd | Found::Comment | Found::Char('.'));
-    let is_term = matches!(found, Found::Iri | Found::BlankNode | Found::Literal);
-    match next {
-        Next::Subject if is_term => {
-            write!(f, "a subject must be an IRI or a blank node, found {found}")
+    match missing_dot(next, found) {
+        Some(words) => f.write_str(words),
+        None => {
+            f.write_str(expected(next, found))?;
+            write!(f, "{found}")
         }
-        Next::Subject => {
-            write!(
-                f,
-                "expected a subject (an IRI or a blank node), found {found}"
-            )
+    }
+}
+
+impl Reason {
+    /// Returns the text of the reason, up to what was found.
+    fn words(self) -> &'static str {
+        match self {
+            Reason::InvalidUtf8(_) => "invalid UTF-8: byte 0x",
+            Reason::CutCharacter => "invalid UTF-8: the line ends inside a character",
+            Reason::ByteOrderMark => "a byte order mark (U+FEFF) at the beginning of a line",
+            Reason::Utf16 => "the input looks like UTF-16; N-Quads is UTF-8",
+            Reason::Packed(_) => "the input looks like ",
+            Reason::LineBreak => "a line break inside a line",
+            Reason::Unexpected(next, found) => expected(next, found),
+            Reason::QuotedTriple => "'<<': quoted triples (RDF-star) are not supported",
+            Reason::NoScheme(_) => "an IRI must begin with a scheme, such as 'http:', found ",
+            Reason::IriChar(_) => " is not allowed in an IRI",
+            Reason::IriEscape => {
+                "this escape is for a character that is not allowed here in an IRI"
+            }
+            Reason::OpenIri => "the IRI is not closed: expected '>', found the end of the line",
+            Reason::OpenLiteral => {
+                "the literal is not closed: expected '\"', found the end of the line"
+            }
+            Reason::UnknownEscape(_) => "unknown escape: found ",
+            Reason::NoDigit(_) => {
+                "expected a hexadecimal digit (4 after '\\u', 8 after '\\U'), found "
+            }
+            Reason::Surrogate => {
+                "this escape is for a surrogate (U+D800 to U+DFFF), which is no character"
+            }
+            Reason::TooLarge => {
+                "this escape is for a number over U+10FFFF, which is no character"
+            }
+            Reason::NoColon(_) => "expected ':' after '_', found ",
+            Reason::LabelStart(_) => {
+                "a blank node label must begin with a letter, a digit, '_' or ':', found "
+            }
+            Reason::LabelDot => "a blank node label must not end with '.'",
+            Reason::NoTag(_) => "a language tag must begin with a letter, found ",
+            Reason::NoSubtag(_) => {
+                "expected a letter or a digit after '-' in a language tag, found "
+            }
+            Reason::OneCaret(_) => "expected '^^' before a datatype, found ",
+            Reason::Unexplained => "this is not a line of N-Quads",
         }
-        Next::Predicate if is_term => write!(f, "a predicate must be an IRI, found {found}"),
-        Next::Predicate if is_end => {
-            write!(f, "missing predicate: expected an IRI, found {found}")
-        }
-        Next::Predicate => write!(f, "expected a predicate (an IRI), found {found}"),
-        Next::Object if is_end => write!(
-            f,
-            "missing object: expected an IRI, a blank node or a literal, found {found}"
-        ),
-        Next::Object => write!(
-            f,
-            "expected an object (an IRI, a blank node or a literal), found {found}"
-        ),
-        Next::Datatype => write!(f, "expected a datatype (an IRI) after '^^', found {found}"),
-        Next::Graph | Next::Dot if found == Found::LineEnd => {
-            f.write_str("missing '.' at the end of the statement")
-        }
-        Next::Graph | Next::Dot if found == Found::Comment => {
-            f.write_str("missing '.' before the comment")
-        }
-        Next::Graph if is_term => {
-            write!(
-                f,
-                "a graph name must be an IRI or a blank node, found {found}"
-            )
-        }
-        Next::Graph => write!(
-            f,
-            "expected '.' or a graph name (an IRI or a blank node), found {found}"
-        ),
-        Next::Dot => write!(f, "expected '.' after the graph name, found {found}"),
-        Next::End => write!(
-            f,
-            "text after the '.' that ends the statement: found {found}"
-        ),
     }
 }
 
 impl fmt::Display for Reason {
     fn fmt<W: fmt::Write>(&self, f: &mut fmt::Formatter<W>) -> fmt::Result {
-        match self {
-            Reason::InvalidUtf8(byte) => write!(f, "invalid UTF-8: byte 0x{byte:02X}"),
-            Reason::CutCharacter => f.write_str("invalid UTF-8: the line ends inside a character"),
-            Reason::ByteOrderMark => {
-                f.write_str("a byte order mark (U+FEFF) at the beginning of a line")
-            }
-            Reason::Utf16 => f.write_str("the input looks like UTF-16; N-Quads is UTF-8"),
-            Reason::Packed(packing) => write!(f, "the input looks like {packing}"),
-            Reason::LineBreak => f.write_str("a line break inside a line"),
-            Reason::Unexpected(next, found) => write_unexpected(f, *next, *found),
-            Reason::QuotedTriple => f.write_str(
-                "'<<': quoted triples (RDF-star) are not supported",
-            ),
-            Reason::NoScheme(found) => write!(
-                f,
-                "an IRI must begin with a scheme, such as 'http:', found {found}"
-            ),
+        let words = self.words();
+        match *self {
+            Reason::Unexpected(next, found) => write_unexpected(f, next, found),
+            Reason::InvalidUtf8(byte) => write!(f, "{words}{byte:02X}"),
+            Reason::Packed(packing) => write!(f, "{words}{packing}"),
             Reason::IriChar(c) => {
-                write_char(f, *c)?;
-                f.write_str(" is not allowed in an IRI")
+                write_char(f, c)?;
+                f.write_str(words)
             }
-            Reason::IriEscape => {
-                f.write_str("this escape is for a character that is not allowed here in an IRI")
-            }
-            Reason::OpenIri => {
-                f.write_str("the IRI is not closed: expected '>', found the end of the line")
-            }
-            Reason::OpenLiteral => {
-                f.write_str("the literal is not closed: expected '\"', found the end of the line")
-            }
-            Reason::UnknownEscape(found) => write!(f, "unknown escape: found {found} after '\\'"),
-            Reason::NoDigit(found) => write!(
-                f,
-                "expected a hexadecimal digit (4 after '\\u', 8 after '\\U'), found {found}"
-            ),
-            Reason::Surrogate => {
-                f.write_str(
-                    "this escape is for a surrogate (U+D800 to U+DFFF), which is no character",
-                )
-            }
-            Reason::TooLarge => {
-                f.write_str("this escape is for a number over U+10FFFF, which is no character")
-            }
-            Reason::NoColon(found) => write!(f, "expected ':' after '_', found {found}"),
-            Reason::LabelStart(found) => write!(
-                f,
-                "a blank node label must begin with a letter, a digit, '_' or ':', found {found}"
-            ),
-            Reason::LabelDot => f.write_str("a blank node label must not end with '.'"),
-            Reason::NoTag(found) => {
-                write!(f, "a language tag must begin with a letter, found {found}")
-            }
-            Reason::NoSubtag(found) => write!(
-                f,
-                "expected a letter or a digit after '-' in a language tag, found {found}"
-            ),
-            Reason::OneCaret(found) => write!(f, "expected '^^' before a datatype, found {found}"),
-            Reason::Unexplained => f.write_str("this is not a line of N-Quads"),
+            Reason::UnknownEscape(found) => write!(f, "{words}{found} after '\\'"),
+            Reason::NoScheme(found)
+            | Reason::NoDigit(found)
+            | Reason::NoColon(found)
+            | Reason::LabelStart(found)
+            | Reason::NoTag(found)
+            | Reason::NoSubtag(found)
+            | Reason::OneCaret(found) => write!(f, "{words}{found}"),
+            _ => f.write_str(words),
         }
     }
 }

@@ -1,8 +1,13 @@
 //! The message for a malformed line.
 
+ghost use Rattle.std.specs.Prelude.{IfOk, IfNone, IfSome, OnSome, string_bytes};
+ghost use Rattle.excerpt.specs.Message.{IsSomeMessage};
+ghost use Rattle.nquads_core.specs.Grammar.{IsMalformed};
+ghost use Rattle.line_diagnosis.specs.Place.{IsWellFormed};
+
 use crate::diagnosis::{Counted, Diagnosis, diagnose};
 use crate::hint::hint_of;
-use excerpt::message;
+use excerpt::{count_of, message};
 use std::alloc::{AllocError, Global};
 use std::fmt;
 
@@ -24,6 +29,12 @@ impl fmt::Display for Place {
     }
 }
 
+/// Returns the number of characters before a place, given by the number of bytes before it.
+fn characters_before(alloc: Global, line: &[u8], offset: usize) -> Result<usize, AllocError> {
+    let before = String::from_utf8_lossy(alloc, line.get(..offset).unwrap_or(line))?;
+    Ok(count_of(before.as_str()))
+}
+
 /// Returns the message about a diagnosis.
 fn message_of(
     alloc: Global,
@@ -31,17 +42,17 @@ fn message_of(
     line: &[u8],
     diagnosis: &Diagnosis,
     is_cut: bool,
-) -> Result<String, AllocError> {
+) -> Result<String, AllocError>
+    ensures message { IfOk result (λ s. IsSomeMessage (string_bytes s)) }
+{
     let place = Place {
         line: number,
         column: diagnosis.column,
         counted: diagnosis.counted,
     };
-    let text = String::from_utf8_lossy(alloc, line)?;
-    let offset = diagnosis.offset.min(line.len());
-    let before = String::from_utf8_lossy(alloc, &line[..offset])?;
-    let at = before.as_str().chars().count();
+    let at = characters_before(alloc, line, diagnosis.offset)?;
     let hint = hint_of(line, diagnosis, is_cut);
+    let text = String::from_utf8_lossy(alloc, line)?;
     message(
         alloc,
         &place,
@@ -65,7 +76,11 @@ pub fn report(
     number: u128,
     line: &[u8],
     is_cut: bool,
-) -> Result<Option<String>, AllocError> {
+) -> Result<Option<String>, AllocError>
+    ensures well_formed { IfOk result (λ found. IfNone found (IsWellFormed line.now)) }
+    ensures malformed { IfOk result (λ found. OnSome found (IsMalformed line.now)) }
+    ensures message { IfOk result (λ found. IfSome found (λ s. IsSomeMessage (string_bytes s))) }
+{
     match diagnose(alloc, line)? {
         None => Ok(None),
         Some(diagnosis) => Ok(Some(message_of(alloc, number, line, &diagnosis, is_cut)?)),

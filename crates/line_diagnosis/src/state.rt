@@ -4,7 +4,7 @@
 use crate::reason::Next;
 
 /// The position of a term in a statement.
-#[derive(Clone, Copy, Debug, PartialEq, Eq)]
+#[derive(Clone, Copy)]
 pub enum Part {
     Subject,
     Predicate,
@@ -14,7 +14,7 @@ pub enum Part {
 }
 
 /// The part of an IRI's scheme that is read (RFC 3987, section 2.2).
-#[derive(Clone, Copy, Debug, PartialEq, Eq)]
+#[derive(Clone, Copy, PartialEq, Eq)]
 pub enum Scheme {
     /// Its first letter comes next
     Unread,
@@ -26,7 +26,7 @@ pub enum Scheme {
 
 /// The digits of a [12] UCHAR that are read. With further digits they can denote `span` numbers,
 /// the least of which is `low`.
-#[derive(Clone, Copy, Debug, PartialEq, Eq)]
+#[derive(Clone, Copy)]
 pub struct Digits {
     /// The least number that they can still denote.
     pub low: u64,
@@ -56,7 +56,7 @@ impl Digits {
 }
 
 /// A state between two characters of a line.
-#[derive(Clone, Copy, Debug, PartialEq, Eq)]
+#[derive(Clone, Copy)]
 pub enum State {
     /// Before or between terminals, where this part or blanks may come
     Between(Next),

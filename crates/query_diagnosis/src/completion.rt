@@ -117,6 +117,26 @@ fn end_of(symbol: Symbol) -> &'static [Token<'static>] {
     }
 }
 
+/// Appends the values that complete a row of VALUES.
+fn push_cells(end: &mut Vec<Token<'static>>, machine: &Machine) -> Result<(), AllocError> {
+    for _ in machine.cells..machine.width {
+        end.push(UNDEF)?;
+    }
+    Ok(())
+}
+
+/// Appends terminals that a symbol of the machine derives.
+fn push_end(
+    end: &mut Vec<Token<'static>>,
+    machine: &Machine,
+    symbol: Symbol,
+) -> Result<(), AllocError> {
+    if symbol == Symbol::Cells {
+        push_cells(end, machine)?;
+    }
+    end.extend_from_slice(end_of(symbol))
+}
+
 /// Returns terminals that complete a query, given the state of the machine after its beginning.
 ///
 /// # Errors
@@ -124,12 +144,7 @@ fn end_of(symbol: Symbol) -> &'static [Token<'static>] {
 pub fn completion(alloc: Global, machine: &Machine) -> Result<Vec<Token<'static>>, AllocError> {
     let mut end = Vec::new(alloc);
     for symbol in machine.stack.iter().rev() {
-        if *symbol == Symbol::Cells {
-            for _ in machine.cells..machine.width {
-                end.push(UNDEF)?;
-            }
-        }
-        end.extend_from_slice(end_of(*symbol))?;
+        push_end(&mut end, machine, *symbol)?;
     }
     Ok(end)
 }

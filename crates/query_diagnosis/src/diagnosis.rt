@@ -80,21 +80,30 @@ fn push_token(out: &mut String, token: Token<'_>) -> Result<(), AllocError> {
     out.push('\'')
 }
 
-/// Returns `expected ..`, without the text that was found.
-fn expected(alloc: Global, stop: &Stop) -> Result<String, AllocError> {
-    let mut reason = String::from_str(alloc, "expected ")?;
-    push_expected(&mut reason, &stop.stack)?;
-    Ok(reason)
+/// Appends `expected ..`, without the text that was found.
+fn push_expectation(out: &mut String, stop: &Stop) -> Result<(), AllocError> {
+    out.push_str("expected ")?;
+    push_expected(out, &stop.stack)
+}
+
+/// Appends the reason for a terminal that is not allowed, or for the end.
+fn push_unexpected(
+    out: &mut String,
+    token: Option<&Token<'_>>,
+    stop: &Stop,
+) -> Result<(), AllocError> {
+    push_expectation(out, stop)?;
+    out.push_str(", found ")?;
+    match token {
+        Some(token) => push_token(out, *token),
+        None => out.push_str("the end of the query"),
+    }
 }
 
 /// Returns the place and the reason for a terminal that is not allowed.
 fn unexpected(alloc: Global, text: Text<'_>, stop: &Stop) -> Result<Found, AllocError> {
-    let mut reason = expected(alloc, stop)?;
-    reason.push_str(", found ")?;
-    match text.tokens.get(stop.at) {
-        Some(token) => push_token(&mut reason, *token)?,
-        None => reason.push_str("the end of the query")?,
-    }
+    let mut reason = String::new(alloc);
+    push_unexpected(&mut reason, text.tokens.get(stop.at), stop)?;
     Ok(Found {
         offset: text.offset(stop.at),
         reason,
@@ -126,15 +135,26 @@ fn no_string(rest: &[char], quote: char) -> &'static str {
     }
 }
 
+/// Appends the reason for a character that begins no terminal.
+fn push_unreadable(
+    out: &mut String,
+    rest: &[char],
+    c: char,
+    stop: &Stop,
+) -> Result<(), AllocError> {
+    if c == '"' || c == '\'' {
+        return out.push_str(no_string(rest, c));
+    }
+    push_expectation(out, stop)?;
+    out.push_str(", found '")?;
+    out.push(visible(c))?;
+    out.push('\'')
+}
+
 /// Returns the place and the reason for a character that begins no terminal.
 fn unreadable(alloc: Global, text: Text<'_>, c: char, stop: &Stop) -> Result<Found, AllocError> {
-    let reason = if c == '"' || c == '\'' {
-        String::from_str(alloc, no_string(text.rest, c))?
-    } else {
-        let mut reason = expected(alloc, stop)?;
-        write!(reason, ", found '{}'", visible(c))?;
-        reason
-    };
+    let mut reason = String::new(alloc);
+    push_unreadable(&mut reason, text.rest, c, stop)?;
     Ok(Found {
         offset: text.offset(stop.at),
         reason,
@@ -154,42 +174,35 @@ fn words_of(cause: Cause) -> &'static str {
     }
 }
 
-/// Finds the first terminal after which no query continues.
-fn syntax(alloc: Global, text: Text<'_>) -> Result<Option<Found>, AllocError> {
-    let Some(stop) = stop_of(alloc, text.tokens)? else {
-        return Ok(None);
-    };
+/// Returns the place and the reason for a terminal whose kind is allowed.
+fn misused(alloc: Global, text: Text<'_>, stop: &Stop) -> Result<Found, AllocError> {
+    Ok(Found {
+        offset: text.offset(stop.at),
+        reason: String::from_str(alloc, words_of(stop.cause))?,
+        hint: None,
+    })
+}
+
+/// Returns the place and the reason for the place where the machine stopped.
+fn stopped(alloc: Global, text: Text<'_>, stop: &Stop) -> Result<Found, AllocError> {
     if stop.cause != Cause::Kind {
-        return Ok(Some(Found {
-            offset: text.offset(stop.at),
-            reason: String::from_str(alloc, words_of(stop.cause))?,
-            hint: None,
-        }));
+        return misused(alloc, text, stop);
     }
     match text.rest.first() {
-        Some(c) if stop.at >= text.tokens.len() => { Ok(Some(unreadable(alloc, text, *c, &stop)?)) }
-        _ => Ok(Some(unexpected(alloc, text, &stop)?)),
+        Some(c) if stop.at >= text.tokens.len() => unreadable(alloc, text, *c, stop),
+        _ => unexpected(alloc, text, stop),
     }
 }
 
-/// Finds the first prefixed name without a declaration.
-fn prefix(alloc: Global, text: Text<'_>) -> Result<Option<Found>, AllocError> {
-    let names = declarations_of(alloc, text.tokens)?;
-    let Some(at) = undefined_prefix(alloc, &names, text.tokens)? else {
-        return Ok(None);
-    };
-    let Some(token) = text.tokens.get(at) else {
-        return Ok(None);
-    };
-    let name = text_of(alloc, prefix_of(token.text))?;
-    Ok(Some(Found {
-        offset: text.offset(at),
-        reason: format!(in alloc; "the prefix '{name}:' is not declared")?,
-        hint: Some(Hint::Declare),
-    }))
+/// Finds the first terminal after which no query continues.
+fn syntax(alloc: Global, text: Text<'_>) -> Result<Option<Found>, AllocError> {
+    match stop_of(alloc, text.tokens)? {
+        Some(stop) => Ok(Some(stopped(alloc, text, &stop)?)),
+        None => Ok(None),
+    }
 }
 
-/// Returns a reason about a terminal: text, the terminal, and more text.
+/// Returns a reason about the terminal at a place: text, the terminal, and more text.
 fn about(
     alloc: Global,
     text: Text<'_>,
@@ -197,12 +210,66 @@ fn about(
     before: &str,
     after: &str,
 ) -> Result<String, AllocError> {
-    let mut reason = String::from_str(alloc, before)?;
-    if let Some(token) = text.tokens.get(at) {
-        push_token(&mut reason, *token)?;
-    }
-    reason.push_str(after)?;
+    let mut reason = String::new(alloc);
+    push_about(&mut reason, text.tokens.get(at), before, after)?;
     Ok(reason)
+}
+
+/// Appends a reason about a terminal.
+fn push_about(
+    out: &mut String,
+    token: Option<&Token<'_>>,
+    before: &str,
+    after: &str,
+) -> Result<(), AllocError> {
+    out.push_str(before)?;
+    if let Some(token) = token {
+        push_token(out, *token)?;
+    }
+    out.push_str(after)
+}
+
+/// Returns the place and the reason for the terminal at a place.
+fn found_at(
+    alloc: Global,
+    text: Text<'_>,
+    at: usize,
+    before: &str,
+    after: &str,
+    hint: Option<Hint>,
+) -> Result<Found, AllocError> {
+    Ok(Found {
+        offset: text.offset(at),
+        reason: about(alloc, text, at, before, after)?,
+        hint,
+    })
+}
+
+/// Returns the place of the first prefixed name without a declaration.
+fn undeclared(alloc: Global, tokens: &[Token<'_>]) -> Result<Option<usize>, AllocError> {
+    let names = declarations_of(alloc, tokens)?;
+    undefined_prefix(alloc, &names, tokens)
+}
+
+/// Returns the reason for a prefix without a declaration.
+fn no_prefix(alloc: Global, token: &Token<'_>) -> Result<String, AllocError> {
+    let name = text_of(alloc, prefix_of(token.text))?;
+    format!(in alloc; "the prefix '{name}:' is not declared")
+}
+
+/// Finds the first prefixed name without a declaration.
+fn prefix(alloc: Global, text: Text<'_>) -> Result<Option<Found>, AllocError> {
+    let Some(at) = undeclared(alloc, text.tokens)? else {
+        return Ok(None);
+    };
+    let Some(token) = text.tokens.get(at) else {
+        return Ok(None);
+    };
+    Ok(Some(Found {
+        offset: text.offset(at),
+        reason: no_prefix(alloc, token)?,
+        hint: Some(Hint::Declare),
+    }))
 }
 
 /// Finds the first IRI without a scheme.
@@ -210,38 +277,9 @@ fn relative(alloc: Global, text: Text<'_>) -> Result<Option<Found>, AllocError> 
     let Some(at) = relative_iri(alloc, text.tokens)? else {
         return Ok(None);
     };
-    Ok(Some(Found {
-        offset: text.offset(at),
-        reason: about(
-            alloc,
-            text,
-            at,
-            "the IRI ",
-            " is relative: it has no scheme",
-        )?,
-        hint: Some(Hint::WholeIri),
-    }))
-}
-
-/// Returns the place and the reason for a clash of two terminals.
-fn clashing(
-    alloc: Global,
-    text: Text<'_>,
-    clash: Option<Clash>,
-    before: &str,
-    after: &str,
-    hint: Hint,
-) -> Result<Option<Found>, AllocError> {
-    let Some(clash) = clash else {
-        return Ok(None);
-    };
-    let mut reason = about(alloc, text, clash.at, before, after)?;
-    write!(reason, "{}", text.position(clash.earlier))?;
-    Ok(Some(Found {
-        offset: text.offset(clash.at),
-        reason,
-        hint: Some(hint),
-    }))
+    let after = " is relative: it has no scheme";
+    let found = found_at(alloc, text, at, "the IRI ", after, Some(Hint::WholeIri))?;
+    Ok(Some(found))
 }
 
 /// Finds the first bracket that is nested too deep.
@@ -249,11 +287,49 @@ fn depth(alloc: Global, text: Text<'_>) -> Result<Option<Found>, AllocError> {
     let Some(at) = deepest(text.tokens) else {
         return Ok(None);
     };
-    Ok(Some(Found {
-        offset: text.offset(at),
-        reason: about(alloc, text, at, "brackets are nested over 100 deep at ", "")?,
-        hint: None,
-    }))
+    let before = "brackets are nested over 100 deep at ";
+    Ok(Some(found_at(alloc, text, at, before, "", None)?))
+}
+
+/// Returns the place and the reason for a clash of two terminals.
+fn clashing(
+    alloc: Global,
+    text: Text<'_>,
+    clash: Clash,
+    before: &str,
+    after: &str,
+    hint: Hint,
+) -> Result<Found, AllocError> {
+    let mut found = found_at(alloc, text, clash.at, before, after, Some(hint))?;
+    write!(found.reason, "{}", text.position(clash.earlier))?;
+    Ok(found)
+}
+
+/// Finds the first BIND to a variable that is in scope.
+fn bind(alloc: Global, text: Text<'_>) -> Result<Option<Found>, AllocError> {
+    let Some(clash) = bound_twice(alloc, text.tokens)? else {
+        return Ok(None);
+    };
+    let after = ", which the group already binds at ";
+    let found = clashing(alloc, text, clash, "BIND to ", after, Hint::OtherVariable)?;
+    Ok(Some(found))
+}
+
+/// Finds the first blank node label that is in two basic graph patterns.
+fn label(alloc: Global, text: Text<'_>) -> Result<Option<Found>, AllocError> {
+    let Some(clash) = reused_blank(alloc, text.tokens)? else {
+        return Ok(None);
+    };
+    let after = " is in another basic graph pattern too, at ";
+    let found = clashing(
+        alloc,
+        text,
+        clash,
+        "the blank node label ",
+        after,
+        Hint::VariableForBlank,
+    )?;
+    Ok(Some(found))
 }
 
 /// Finds the place and the reason of a fault.
@@ -262,22 +338,8 @@ fn find(alloc: Global, text: Text<'_>, fault: QueryFault) -> Result<Option<Found
         QueryFault::Syntax => syntax(alloc, text),
         QueryFault::UndefinedPrefix => prefix(alloc, text),
         QueryFault::RelativeIri => relative(alloc, text),
-        QueryFault::BindScope => clashing(
-            alloc,
-            text,
-            bound_twice(alloc, text.tokens)?,
-            "BIND to ",
-            ", which the group already binds at ",
-            Hint::OtherVariable,
-        ),
-        QueryFault::BlankReuse => clashing(
-            alloc,
-            text,
-            reused_blank(alloc, text.tokens)?,
-            "the blank node label ",
-            " is in another basic graph pattern too, at ",
-            Hint::VariableForBlank,
-        ),
+        QueryFault::BindScope => bind(alloc, text),
+        QueryFault::BlankReuse => label(alloc, text),
         QueryFault::TooDeep => depth(alloc, text),
         QueryFault::Memory => Ok(None),
     }
@@ -292,21 +354,31 @@ fn unknown(alloc: Global) -> Result<Found, AllocError> {
     })
 }
 
+/// Returns the place and the reason of a fault, or the beginning of the text if there is none.
+fn found_or_unknown(alloc: Global, text: Text<'_>, fault: QueryFault) -> Result<Found, AllocError> {
+    match find(alloc, text, fault)? {
+        Some(found) => Ok(found),
+        None => unknown(alloc),
+    }
+}
+
+/// Returns the place and the reason of a fault of these characters.
+fn located(alloc: Global, characters: &[char], fault: QueryFault) -> Result<Found, AllocError> {
+    let scan = scan_text(alloc, characters)?;
+    let text = Text {
+        characters,
+        tokens: &scan.tokens,
+        rest: scan.rest,
+    };
+    found_or_unknown(alloc, text, fault)
+}
+
 /// Returns the diagnosis of a fault of a text.
 fn explain(alloc: Global, text: &str, fault: QueryFault) -> Result<Diagnosis, AllocError>
     ensures fault { IfOk result (λ d. d.fault ≡ fault) }
 {
     let characters = characters_of(alloc, text)?;
-    let scan = scan_text(alloc, &characters)?;
-    let parts = Text {
-        characters: &characters,
-        tokens: &scan.tokens,
-        rest: scan.rest,
-    };
-    let found = match find(alloc, parts, fault)? {
-        Some(found) => found,
-        None => unknown(alloc)?,
-    };
+    let found = located(alloc, &characters, fault)?;
     Ok(Diagnosis {
         fault,
         offset: found.offset,

@@ -6,7 +6,7 @@ use sparql_lexer::{Keyword, Kind, Sign};
 use std::alloc::{AllocError, Global};
 
 /// The text for each terminal, in the order in which they are listed.
-const SINGLE: [(Kind, &str); 18] = [
+const SINGLE: &[(Kind, &str)] = &[
     (Kind::LanguageTag, "a language tag"),
     (Kind::Sign(Sign::Carets), "'^^'"),
     (Kind::Sign(Sign::OpenBrace), "'{'"),
@@ -94,33 +94,46 @@ fn add_operators(list: &mut List, stack: &[Symbol]) -> Result<(), AllocError> {
 /// Adds the other terminals that may come, except `(` where an expression may come.
 fn add_single(list: &mut List, stack: &[Symbol]) -> Result<(), AllocError> {
     let is_operand = may_come_expression(stack);
-    for (kind, words) in SINGLE {
-        let is_part = is_operand && kind == Kind::Sign(Sign::OpenParenthesis);
+    for entry in SINGLE {
+        let is_part = is_operand && entry.0 == Kind::Sign(Sign::OpenParenthesis);
         if !is_part {
-            list.add_if(stack, kind, words)?;
+            list.add_if(stack, entry.0, entry.1)?;
         }
     }
     Ok(())
 }
 
-/// Returns the terminals that may come with these symbols on the stack.
-fn list_of(alloc: Global, stack: &[Symbol]) -> Result<List, AllocError> {
-    let mut list = List {
-        items: Vec::new(alloc),
-    };
-    add_terms(&mut list, stack)?;
-    add_operators(&mut list, stack)?;
-    add_single(&mut list, stack)?;
+/// Adds the phrases for functions, patterns and the end, if they may come.
+fn add_others(list: &mut List, stack: &[Symbol]) -> Result<(), AllocError> {
     if may_come(stack, Kind::Keyword(Keyword::Bound)) && !may_come(stack, Kind::Variable) {
         list.add("a function (such as BOUND)")?;
     }
-    if may_come(stack, Kind::Keyword(Keyword::Optional)) {
-        list.add("a pattern (such as OPTIONAL or FILTER)")?;
-    }
+    let pattern = "a pattern (such as OPTIONAL or FILTER)";
+    list.add_if(stack, Kind::Keyword(Keyword::Optional), pattern)?;
     if may_end(stack) {
         list.add("the end of the query")?;
     }
-    Ok(list)
+    Ok(())
+}
+
+/// Adds the terminals that may come with these symbols on the stack.
+fn add_all(list: &mut List, stack: &[Symbol]) -> Result<(), AllocError> {
+    add_terms(list, stack)?;
+    add_operators(list, stack)?;
+    add_single(list, stack)?;
+    add_others(list, stack)
+}
+
+/// Appends texts as `a, b or c`.
+fn push_items(out: &mut String, items: &[&str]) -> Result<(), AllocError> {
+    let count = items.len();
+    for i in 0..count {
+        if i > 0 {
+            out.push_str(if i + 1 == count { " or " } else { ", " })?;
+        }
+        out.push_str(items[i])?;
+    }
+    Ok(())
 }
 
 /// Appends the terminals that may come with these symbols on the stack, as `a, b or c`.
@@ -128,13 +141,9 @@ fn list_of(alloc: Global, stack: &[Symbol]) -> Result<List, AllocError> {
 /// # Errors
 /// `AllocError` if an allocation fails. `out` may then have a part of the text.
 pub fn push_expected(out: &mut String, stack: &[Symbol]) -> Result<(), AllocError> {
-    let list = list_of(*out.allocator(), stack)?;
-    let count = list.items.len();
-    for i in 0..count {
-        if i > 0 {
-            out.push_str(if i + 1 == count { " or " } else { ", " })?;
-        }
-        out.push_str(list.items[i])?;
-    }
-    Ok(())
+    let mut list = List {
+        items: Vec::new(*out.allocator()),
+    };
+    add_all(&mut list, stack)?;
+    push_items(out, &list.items)
 }

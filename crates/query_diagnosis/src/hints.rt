@@ -6,7 +6,7 @@ use crate::symbol::Symbol;
 use sparql_lexer::{Keyword, Kind, Sign, Token};
 
 /// Words of SPARQL 1.1 that are not keywords here, and the hint for each.
-const WORDS: [(&str, Hint); 35] = [
+const WORDS: &[(&str, Hint)] = &[
     ("ORDER", Hint::OrderBy),
     ("GROUP", Hint::Aggregate),
     ("HAVING", Hint::Aggregate),
@@ -55,9 +55,9 @@ fn is_word(text: &[char], word: &str) -> bool {
 
 /// Returns the hint for a word, or None if it has no hint.
 fn hint_of_word(text: &[char]) -> Option<Hint> {
-    for (word, hint) in WORDS {
-        if is_word(text, word) {
-            return Some(hint);
+    for entry in WORDS {
+        if is_word(text, entry.0) {
+            return Some(entry.1);
         }
     }
     None

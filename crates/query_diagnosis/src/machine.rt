@@ -41,7 +41,7 @@ pub struct Stop {
 }
 
 /// The state of the machine between two terminals.
-#[derive(Debug, Drop)]
+#[derive(Drop)]
 pub struct Machine {
     /// The symbols that are still to be read, the next one last.
     pub stack: Vec<Symbol>,
@@ -210,6 +210,40 @@ fn is_beginning<'a>(
     is_query(alloc, &tokens)
 }
 
+/// Reads terminals up to the first after which no query continues. Returns its place and the cause.
+fn read_all(
+    machine: &mut Machine,
+    alloc: Global,
+    tokens: &[Token<'_>],
+) -> Result<(usize, Cause), AllocError>
+    ensures place { IfOk result (λ found. found.0 ≤ length tokens.now) }
+{
+    for at in 0..tokens.len() {
+        if let Some(cause) = machine.read(alloc, tokens, at)? {
+            return Ok((at, cause));
+        }
+    }
+    Ok((tokens.len(), Cause::Kind))
+}
+
+/// Returns whether the terminals before a place are the beginning of a query. The end of this query
+/// completes the state of the machine.
+fn is_verified(
+    machine: &Machine,
+    alloc: Global,
+    tokens: &[Token<'_>],
+    at: usize,
+) -> Result<bool, AllocError>
+    ensures beginning { IfOk result (λ found.
+        found ≡ true → IsQueryPrefix (terminals (take at tokens.now))) }
+{
+    let Some(front) = tokens.get(..at) else {
+        return Ok(false);
+    };
+    let end = completion(alloc, machine)?;
+    is_beginning(alloc, front, &end)
+}
+
 /// Returns the place after which no query continues the terminals: the first terminal after which
 /// no query continues, or the end if there is no such terminal (SPARQL 1.1 Query Language, section
 /// 19.8).
@@ -225,21 +259,8 @@ pub fn stop_of(alloc: Global, tokens: &[Token<'_>]) -> Result<Option<Stop>, Allo
         IfSome stop (λ s. IsQueryPrefix (terminals (take s.at tokens.now)))) }
 {
     let mut machine = Machine::new(alloc)?;
-    let mut cause = Cause::Kind;
-    let mut at = 0;
-    for i in 0..tokens.len() {
-        at = i;
-        if let Some(found) = machine.read(alloc, tokens, i)? {
-            cause = found;
-            break;
-        }
-        at = i + 1;
-    }
-    let end = completion(alloc, &machine)?;
-    let Some(front) = tokens.get(..at) else {
-        return Ok(None);
-    };
-    if !is_beginning(alloc, front, &end)? {
+    let (at, cause) = read_all(&mut machine, alloc, tokens)?;
+    if !is_verified(&machine, alloc, tokens, at)? {
         return Ok(None);
     }
     Ok(Some(Stop {

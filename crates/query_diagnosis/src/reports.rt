@@ -1,5 +1,10 @@
 //! The message for a rejected query.
 
+ghost use Rattle.std.specs.Prelude.{IfOk, IfNone, IfSome, OnSome, string_bytes};
+ghost use Rattle.std.specs.Str.{chars};
+ghost use Rattle.excerpt.specs.Message.{IsSomeMessage};
+ghost use Rattle.query_diagnosis.specs.Accepted.{IsAcceptedText, IsRejectedText};
+
 use crate::diagnosis::{Diagnosis, diagnose};
 use crate::places::{Position, line_at, line_start};
 use excerpt::message;
@@ -19,20 +24,27 @@ impl fmt::Display for Place {
     }
 }
 
-/// Returns the message about a diagnosis.
-fn message_of(alloc: Global, text: &str, diagnosis: &Diagnosis) -> Result<String, AllocError> {
+/// Returns the line of a place, and the number of its characters before the place.
+fn shown(alloc: Global, text: &str, offset: usize) -> Result<(String, usize), AllocError> {
     let characters = characters_of(alloc, text)?;
-    let line = text_of(alloc, line_at(&characters, diagnosis.offset))?;
-    let start = line_start(&characters, diagnosis.offset);
+    let line = text_of(alloc, line_at(&characters, offset))?;
+    Ok((line, offset.saturating_sub(line_start(&characters, offset))))
+}
+
+/// Returns the message about a diagnosis.
+fn message_of(alloc: Global, text: &str, diagnosis: &Diagnosis) -> Result<String, AllocError>
+    ensures message { IfOk result (λ s. IsSomeMessage (string_bytes s)) }
+{
     let place = Place {
         position: diagnosis.position,
     };
+    let (line, at) = shown(alloc, text, diagnosis.offset)?;
     message(
         alloc,
         &place,
         &diagnosis.reason,
         line.as_str(),
-        diagnosis.offset.saturating_sub(start),
+        at,
         diagnosis.hint.as_ref(),
     )
 }
@@ -42,7 +54,11 @@ fn message_of(alloc: Global, text: &str, diagnosis: &Diagnosis) -> Result<String
 ///
 /// # Errors
 /// `AllocError` if an allocation fails.
-pub fn report(alloc: Global, text: &str) -> Result<Option<String>, AllocError> {
+pub fn report(alloc: Global, text: &str) -> Result<Option<String>, AllocError>
+    ensures read { IfOk result (λ found. IfNone found (IsAcceptedText (chars text.now))) }
+    ensures rejected { IfOk result (λ found. OnSome found (IsRejectedText (chars text.now))) }
+    ensures message { IfOk result (λ found. IfSome found (λ s. IsSomeMessage (string_bytes s))) }
+{
     match diagnose(alloc, text)? {
         None => Ok(None),
         Some(diagnosis) => Ok(Some(message_of(alloc, text, &diagnosis)?)),

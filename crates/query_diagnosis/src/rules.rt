@@ -12,7 +12,7 @@ use std::collections::BTreeMap;
 const MAX_DEPTH: usize = 100;
 
 /// A terminal that clashes with an earlier one.
-#[derive(Clone, Copy, Debug, PartialEq, Eq)]
+#[derive(Clone, Copy)]
 pub struct Clash {
     /// The place of the terminal in the list.
     pub at: usize,
@@ -26,6 +26,15 @@ pub fn prefix_of<'a>(name: &'a [char]) -> &'a [char] {
     name.get(..end).unwrap_or(name)
 }
 
+/// Returns whether a terminal is no prefixed name, or one with a declaration.
+fn is_declared(alloc: Global, names: &Declarations, token: Token<'_>) -> Result<bool, AllocError> {
+    if !matches!(token.kind, Kind::PrefixedName | Kind::PrefixedNamespace) {
+        return Ok(true);
+    }
+    let prefix = text_of(alloc, prefix_of(token.text))?;
+    Ok(names.find(prefix.as_str()).is_some())
+}
+
 /// Returns the place of the first prefixed name without a declaration (SPARQL 1.1 Query Language,
 /// section 4.1.1).
 ///
@@ -37,14 +46,22 @@ pub fn undefined_prefix(
     tokens: &[Token<'_>],
 ) -> Result<Option<usize>, AllocError> {
     for i in 0..tokens.len() {
-        if matches!(tokens[i].kind, Kind::PrefixedName | Kind::PrefixedNamespace) {
-            let prefix = text_of(alloc, prefix_of(tokens[i].text))?;
-            if names.find(prefix.as_str()).is_none() {
-                return Ok(Some(i));
-            }
+        if !is_declared(alloc, names, tokens[i])? {
+            return Ok(Some(i));
         }
     }
     Ok(None)
+}
+
+/// Returns whether a terminal is an IRI without a scheme.
+fn is_relative(alloc: Global, token: Token<'_>) -> Result<bool, AllocError> {
+    if token.kind != Kind::IriRef {
+        return Ok(false);
+    }
+    match iri_value(alloc, token.text)? {
+        Some(iri) => Ok(!has_scheme(iri.as_str())),
+        None => Ok(false),
+    }
 }
 
 /// Returns the place of the first [139] IRIREF without a scheme.
@@ -53,12 +70,8 @@ pub fn undefined_prefix(
 /// `AllocError` if an allocation fails.
 pub fn relative_iri(alloc: Global, tokens: &[Token<'_>]) -> Result<Option<usize>, AllocError> {
     for i in 0..tokens.len() {
-        if tokens[i].kind == Kind::IriRef {
-            if let Some(iri) = iri_value(alloc, tokens[i].text)? {
-                if !has_scheme(iri.as_str()) {
-                    return Ok(Some(i));
-                }
-            }
+        if is_relative(alloc, tokens[i])? {
+            return Ok(Some(i));
         }
     }
     Ok(None)
@@ -84,39 +97,66 @@ pub fn deepest(tokens: &[Token<'_>]) -> Option<usize> {
     None
 }
 
+/// The blank node labels that were read.
+#[derive(Drop)]
+struct Labels {
+    /// The first place of each label, and its basic graph pattern.
+    seen: BTreeMap<String, (usize, usize)>,
+    /// The basic graph pattern, by the place before it.
+    pattern: usize,
+}
+
+impl Labels {
+    /// Adds the label at a place. Returns a clash if it is in another basic graph pattern too.
+    fn add(&mut self, label: String, at: usize) -> Result<Option<Clash>, AllocError> {
+        match self.seen.get(label.as_str()).copied() {
+            Some((earlier, pattern)) if pattern != self.pattern => Ok(Some(Clash { at, earlier })),
+            Some(_) => Ok(None),
+            None => {
+                self.seen.insert(label, (at, self.pattern))?;
+                Ok(None)
+            }
+        }
+    }
+
+    /// Reads the terminal at a place, and returns a clash of its label.
+    fn read(
+        &mut self,
+        alloc: Global,
+        token: Token<'_>,
+        at: usize,
+    ) -> Result<Option<Clash>, AllocError> {
+        match token.kind {
+            Kind::Sign(Sign::OpenBrace | Sign::CloseBrace) | Kind::Keyword(Keyword::Bind) => {
+                self.pattern = at;
+                Ok(None)
+            }
+            Kind::BlankLabel => self.add(text_of(alloc, token.text)?, at),
+            _ => Ok(None),
+        }
+    }
+}
+
 /// Returns the first blank node label that occurs in two basic graph patterns (SPARQL 1.1 Query
 /// Language, section 5.1.1). A brace or a BIND ends a basic graph pattern.
 ///
 /// # Errors
 /// `AllocError` if an allocation fails.
 pub fn reused_blank(alloc: Global, tokens: &[Token<'_>]) -> Result<Option<Clash>, AllocError> {
-    let mut pattern = 0usize;
-    let mut seen: BTreeMap<String, (usize, usize)> = BTreeMap::new(alloc);
+    let mut labels = Labels {
+        seen: BTreeMap::new(alloc),
+        pattern: 0,
+    };
     for i in 0..tokens.len() {
-        match tokens[i].kind {
-            Kind::Sign(Sign::OpenBrace | Sign::CloseBrace) | Kind::Keyword(Keyword::Bind) => {
-                pattern = i;
-            }
-            Kind::BlankLabel => {
-                let label = text_of(alloc, tokens[i].text)?;
-                match seen.get(label.as_str()).copied() {
-                    Some((earlier, p)) if p != pattern => {
-                        return Ok(Some(Clash { at: i, earlier }));
-                    }
-                    Some(_) => {}
-                    None => {
-                        seen.insert(label, (i, pattern))?;
-                    }
-                }
-            }
-            _ => {}
+        if let Some(clash) = labels.read(alloc, tokens[i], i)? {
+            return Ok(Some(clash));
         }
     }
     Ok(None)
 }
 
 /// A group that is open.
-#[derive(Clone, Copy, Debug)]
+#[derive(Clone, Copy)]
 struct Frame {
     /// The number of variables in scope before it.
     first: usize,

@@ -60,7 +60,7 @@ pub enum Symbol {
 }
 
 /// The step of a symbol for a terminal.
-#[derive(Clone, Copy, Debug)]
+#[derive(Clone, Copy)]
 pub enum Step {
     /// The symbol takes the terminal. The symbols of the first list and then those of the second
     /// replace it.

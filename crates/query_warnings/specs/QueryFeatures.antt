@@ -1,9 +1,11 @@
 -- What of a query and of a term decides a warning (a choice of this project).
-use Rattle.std.specs.Prelude.{◌≡◌, ℕ, Bool, true, false, List, codes}
+use Rattle.std.specs.Prelude.{◌≡◌, ℕ, Bool, true, false, List, ◌++◌, codes, drop, length}
 use Rattle.std.specs.List.{list_any}
 use Rattle.std.specs.Str.{bytes_eq}
 use Rattle.rdf_core.specs.declared.term.Term.{Term}
 use Rattle.rdf_core.specs.declared.term.Term.TheVariants.{Literal}
+use Rattle.query_warnings.specs.declared.facts.Datatype.{Datatype}
+use Rattle.query_warnings.specs.declared.facts.Datatype.TheVariants as datatype
 use Rattle.sparql_lexer.specs.Scan.{Scans}
 use Rattle.sparql_lexer.specs.Terminal.{terminals}
 use Rattle.sparql_lexer.specs.declared.token.Token.{Token}
@@ -51,3 +53,17 @@ date_time = codes "http://www.w3.org/2001/XMLSchema#dateTime"
 
 abbrev pub date : List ℕ
 date = codes "http://www.w3.org/2001/XMLSchema#date"
+
+abbrev pub iri_of : Datatype → List ℕ
+iri_of datatype.Double = double
+iri_of datatype.Float = float
+iri_of datatype.DateTime = date_time
+iri_of datatype.Date = date
+
+-- the namespace of XML Schema's datatypes
+abbrev pub namespace : List ℕ
+namespace = codes "http://www.w3.org/2001/XMLSchema#"
+
+-- the name of an IRI of this namespace, with the prefix that SPARQL 1.1 Query Language uses for it
+abbrev pub short_name : List ℕ → List ℕ
+short_name iri = codes "xsd:" ++ drop (length namespace) iri

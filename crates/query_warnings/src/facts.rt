@@ -4,7 +4,7 @@ ghost use Rattle.std.specs.List.{list_any};
 ghost use Rattle.std.specs.Str.{chars};
 ghost use Rattle.quad_index.specs.Matching.{agrees};
 ghost use Rattle.dataset_load.specs.Store.{names_in};
-ghost use Rattle.query_warnings.specs.QueryFeatures.{ComparesIn, date, date_time, double, float, is_literal_of};
+ghost use Rattle.query_warnings.specs.QueryFeatures.{ComparesIn, date, date_time, double, float, iri_of, is_literal_of, short_name};
 
 use crate::query_features::compares;
 use dataset_load::Store;
@@ -42,7 +42,9 @@ impl Datatype {
     ];
 
     /// Its IRI.
-    pub fn iri(self) -> &'static str {
+    pub fn iri(self) -> &'static str
+        ensures value { result.now ≡ iri_of self }
+    {
         match self {
             Datatype::Double => XSD_DOUBLE,
             Datatype::Float => XSD_FLOAT,
@@ -51,8 +53,10 @@ impl Datatype {
         }
     }
 
-    /// Its name, as SPARQL's prologues abbreviate it.
-    pub fn name(self) -> &'static str {
+    /// Its name, as SPARQL's prologues abbreviate its IRI.
+    pub fn name(self) -> &'static str
+        ensures value { result.now ≡ short_name (iri_of self) }
+    {
         match self {
             Datatype::Double => "xsd:double",
             Datatype::Float => "xsd:float",

@@ -5,6 +5,7 @@ use spq_report::{Console, Meter, Terminals};
 use std::alloc::Global;
 use std::cell::Cell;
 use std::io;
+use std::io::Write;
 use std::sync::Wait;
 use std::time::{Clock, Duration};
 
@@ -26,14 +27,8 @@ impl Clock for Steps {
     }
 }
 
-/// Returns what is written for a run with these terminals. The run reads nine lines, then evaluates and prints. The clock
-/// advances when a stage begins and when a line may be shown.
-fn shown<R: Wait>(rt: &R, alloc: Global, terminals: Terminals) -> Vec<u8> {
-    let clock = Steps {
-        looks: Cell::new(0),
-    };
-    let mut out = Vec::new(alloc);
-    let console = Console::new(rt, &clock, &mut out, terminals);
+/// Reads nine lines.
+fn read<R: Wait, C: Clock, W: Write>(console: &Console<R, C, W>) {
     console.begin(Stage::Reading);
     console.begins();
     console.gave(b"a\nb\nc\nd\ne\nf\n");
@@ -42,50 +37,92 @@ fn shown<R: Wait>(rt: &R, alloc: Global, terminals: Terminals) -> Vec<u8> {
     console.gave(b"g\nh\ni\n");
     console.begins();
     console.gave(b"");
+}
+
+/// Evaluates and prints. Nothing is shown after the end.
+fn evaluate<R: Wait, C: Clock, W: Write, T: Wait + Clock>(console: &Console<R, C, W>, rt: &T) {
     console.begin(Stage::Joining);
     console.begin(Stage::Printing);
     console.writes();
     console.show();
     console.end();
     console.show();
+    console.watch(rt);
+}
+
+/// Returns what is written for a run with these terminals. The clock advances when a stage begins and when a line may be
+/// shown.
+fn shown<R: Wait + Clock>(rt: &R, alloc: Global, terminals: Terminals) -> Vec<u8> {
+    let clock = Steps {
+        looks: Cell::new(0),
+    };
+    let mut out = Vec::new(alloc);
+    let console = Console::new(rt, &clock, &mut out, terminals);
+    read(&console);
+    evaluate(&console, rt);
     drop(console);
     out
 }
 
-/// The terminals of a run.
-const fn terminals(input: bool, output: bool, error: bool) -> Terminals {
-    Terminals {
-        input,
-        output,
-        error,
+/// Standard error is a terminal.
+const ERROR: Terminals = Terminals {
+    input: false,
+    output: false,
+    error: true,
+};
+
+/// Only standard input is none.
+const OUTPUT_AND_ERROR: Terminals = Terminals {
+    input: false,
+    output: true,
+    error: true,
+};
+
+/// Standard output is a terminal.
+const OUTPUT: Terminals = Terminals {
+    input: false,
+    output: true,
+    error: false,
+};
+
+/// All three are terminals.
+const ALL: Terminals = Terminals {
+    input: true,
+    output: true,
+    error: true,
+};
+
+/// Which devices are terminals, and what is shown. The line of progress is cleared before the first output at the
+/// terminal. Nothing is shown if standard error is no terminal. If standard input is a terminal, it is read from the
+/// keyboard.
+const SHOWN: &[(Terminals, &str)] = &[
+    (
+        ERROR,
+        "\r\x1b[Kspq: 0 MB read, 5 statements a second, reading\r\x1b[Kspq: 0 MB read, 5 statements a second, indexing\r\x1b[Kspq: 0 MB read, 5 statements a second, evaluating\r\x1b[Kspq: 0 MB read, 5 statements a second, printing\r\x1b[Kspq: 0 MB read, 5 statements a second, printing\r\x1b[K",
+    ),
+    (
+        OUTPUT_AND_ERROR,
+        "\r\x1b[Kspq: 0 MB read, 5 statements a second, reading\r\x1b[Kspq: 0 MB read, 5 statements a second, indexing\r\x1b[Kspq: 0 MB read, 5 statements a second, evaluating\r\x1b[Kspq: 0 MB read, 5 statements a second, printing\r\x1b[K",
+    ),
+    (OUTPUT, ""),
+    (
+        ALL,
+        "spq: N-Quads is read from the terminal; end it with Ctrl-D\n",
+    ),
+];
+
+/// Returns whether each case of the table is shown.
+fn are_shown<R: Wait + Clock>(rt: &R, alloc: Global) -> bool {
+    for case in SHOWN {
+        let shown = shown(rt, alloc, case.0);
+        if shown.as_slice() != case.1.as_bytes() {
+            return false;
+        }
     }
+    true
 }
 
 #[test]
 fn a_terminal_shows_the_stages(rt: HostRuntime) {
-    let shown = shown(&rt, rt.alloc(), terminals(false, false, true));
-    let expected =
-        b"\r\x1b[Kspq: 0 MB read, 5 statements a second, reading\r\x1b[Kspq: 0 MB read, 5 statements a second, indexing\r\x1b[Kspq: 0 MB read, 5 statements a second, evaluating\r\x1b[Kspq: 0 MB read, 5 statements a second, printing\r\x1b[Kspq: 0 MB read, 5 statements a second, printing\r\x1b[K";
-    assert!(rt; shown.as_slice() == expected.as_slice());
-}
-
-#[test]
-fn the_line_is_cleared_before_output_at_the_terminal(rt: HostRuntime) {
-    let shown = shown(&rt, rt.alloc(), terminals(false, true, true));
-    let expected =
-        b"\r\x1b[Kspq: 0 MB read, 5 statements a second, reading\r\x1b[Kspq: 0 MB read, 5 statements a second, indexing\r\x1b[Kspq: 0 MB read, 5 statements a second, evaluating\r\x1b[Kspq: 0 MB read, 5 statements a second, printing\r\x1b[K";
-    assert!(rt; shown.as_slice() == expected.as_slice());
-}
-
-#[test]
-fn nothing_is_shown_if_standard_error_is_no_terminal(rt: HostRuntime) {
-    let shown = shown(&rt, rt.alloc(), terminals(false, true, false));
-    assert!(rt; shown.is_empty());
-}
-
-#[test]
-fn a_terminal_that_is_read_is_told(rt: HostRuntime) {
-    let shown = shown(&rt, rt.alloc(), terminals(true, true, true));
-    let expected = b"spq: N-Quads is read from the terminal; end it with Ctrl-D\n";
-    assert!(rt; shown.as_slice() == expected.as_slice());
+    assert!(rt; are_shown(&rt, rt.alloc()));
 }

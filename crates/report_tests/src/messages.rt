@@ -17,18 +17,17 @@ fn words_of(alloc: Global, line: &str) -> Result<Vec<String>, AllocError> {
 }
 
 /// Returns the bytes that are written to standard error for arguments and a document.
-fn said<R: Threads + Wait + RandomSource + Sync>(
+fn written<R: Threads + Wait + RandomSource + Sync>(
     rt: &R,
     alloc: Global,
-    line: &str,
+    words: &[String],
     doc: &str,
-) -> Result<String, AllocError> {
-    let words = words_of(alloc, line)?;
+) -> Vec<u8> {
     let reader = Input::new(doc.as_bytes(), &NoMeter);
     let writer = Output::new(Vec::new(alloc), &NoMeter);
-    let ran = run_words(rt, alloc, &words, reader, writer, &NoProgress);
+    let ran = run_words(rt, alloc, words, reader, writer, &NoProgress);
     let account = Account {
-        words: Some(&words),
+        words: Some(words),
         notes: &ran.notes,
         read_error: ran.reader.error,
         write_error: ran.writer.error,
@@ -36,30 +35,92 @@ fn said<R: Threads + Wait + RandomSource + Sync>(
     };
     let mut out: Vec<u8> = Vec::new(alloc);
     let _written = report(&mut out, alloc, &ran.done, &account);
+    out
+}
+
+/// Returns the text that is written to standard error for a line of arguments and a document.
+fn said<R: Threads + Wait + RandomSource + Sync>(
+    rt: &R,
+    alloc: Global,
+    line: &str,
+    doc: &str,
+) -> Result<String, AllocError> {
+    let words = words_of(alloc, line)?;
+    let out = written(rt, alloc, &words, doc);
     String::from_utf8_lossy(alloc, &out)
 }
 
-/// Returns the examples of a table that write something else, with what they write.
-///
-/// An example is the arguments, a document and the expected message, with `--` between them and
-/// `====` after each.
-fn wrong<R: Threads + Wait + RandomSource + Sync>(
+/// The parts of an example.
+#[derive(Clone, Copy)]
+struct Example<'a> {
+    /// The arguments
+    line: &'a str,
+    /// The document
+    doc: &'a str,
+    /// The message
+    expected: &'a str,
+}
+
+/// Returns the parts of an example, which have `--` between them.
+fn example_of(text: &str) -> Option<Example<'_>> {
+    let (line, rest) = text.split_once("\n--\n")?;
+    let (doc, expected) = rest.split_once("--\n")?;
+    Some(Example {
+        line,
+        doc,
+        expected,
+    })
+}
+
+/// Appends the arguments of an example and what it writes, if it writes something else.
+fn check<R: Threads + Wait + RandomSource + Sync>(
+    rt: &R,
+    alloc: Global,
+    example: Example<'_>,
+    out: &mut String,
+) -> Result<(), AllocError> {
+    let text = said(rt, alloc, example.line, example.doc)?;
+    if text.as_str() != example.expected {
+        write!(out, "{}:\n{text}\n", example.line)?;
+    }
+    Ok(())
+}
+
+/// Checks each example of a table. `====` follows each example.
+fn check_table<R: Threads + Wait + RandomSource + Sync>(
     rt: &R,
     alloc: Global,
     table: &str,
-) -> Result<String, AllocError> {
-    let mut out = String::new(alloc);
-    for example in table.split("====\n") {
-        if let Some((line, rest)) = example.split_once("\n--\n") {
-            if let Some((doc, expected)) = rest.split_once("--\n") {
-                let text = said(rt, alloc, line, doc)?;
-                if text.as_str() != expected {
-                    write!(out, "{line}:\n{text}\n")?;
-                }
-            }
+    out: &mut String,
+) -> Result<(), AllocError> {
+    for text in table.split("====\n") {
+        if let Some(example) = example_of(text) {
+            check(rt, alloc, example, out)?;
         }
     }
+    Ok(())
+}
+
+/// Returns the examples of the tables that write something else, with what they write.
+fn wrong<R: Threads + Wait + RandomSource + Sync>(
+    rt: &R,
+    alloc: Global,
+) -> Result<String, AllocError> {
+    let mut out = String::new(alloc);
+    check_table(rt, alloc, FAILURES, &mut out)?;
+    check_table(rt, alloc, WARNINGS, &mut out)?;
     Ok(out)
+}
+
+/// Returns whether each example of the tables writes what it has to. Prints those that do not.
+fn are_right<R: Threads + Wait + RandomSource + Sync + Print>(rt: &R, alloc: Global) -> bool {
+    match wrong(rt, alloc) {
+        Ok(wrong) => {
+            let _ = print!(rt; "{wrong}");
+            wrong.is_empty()
+        }
+        Err(_) => false,
+    }
 }
 
 /// Failures, by the kind of fault.
@@ -165,15 +226,6 @@ spq|select|--query|SELECT * { } LIMIT 0
 ";
 
 #[test]
-fn failures_are_explained(rt: HostRuntime) -> Result<(), AllocError> {
-    let wrong = wrong(&rt, rt.alloc(), FAILURES)?;
-    assert!(rt; wrong.is_empty(), "{wrong}");
-    Ok(())
-}
-
-#[test]
-fn lost_rows_are_told(rt: HostRuntime) -> Result<(), AllocError> {
-    let wrong = wrong(&rt, rt.alloc(), WARNINGS)?;
-    assert!(rt; wrong.is_empty(), "{wrong}");
-    Ok(())
+fn runs_are_explained(rt: HostRuntime) {
+    assert!(rt; are_right(&rt, rt.alloc()));
 }

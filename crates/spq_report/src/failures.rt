@@ -16,17 +16,30 @@ pub fn repeat<W: Write>(out: &mut W, fault: &RunFault) {
     let _tried = write_fault(fault, &mut device);
 }
 
-/// The message about a line of which all bytes are known, or the first ones.
+/// Returns whether the place of a line is known: all its bytes are, or the place is in the first ones.
 ///
 /// A place in the first bytes is a place in the line, except at their end, where the line goes on.
+fn has_place(alloc: Global, line: &Line) -> Result<bool, AllocError> {
+    if line.is_whole {
+        return Ok(true);
+    }
+    match diagnose(alloc, &line.bytes)? {
+        Some(diagnosis) => Ok(diagnosis.offset.saturating_add(4) < line.bytes.len()),
+        None => Ok(false),
+    }
+}
+
+/// The message about a line of which all bytes are known, or the first ones.
 fn line_text(alloc: Global, number: u128, line: &Line) -> Result<Option<String>, AllocError> {
-    if !line.is_whole {
-        match diagnose(alloc, &line.bytes)? {
-            Some(diagnosis) if diagnosis.offset.saturating_add(4) < line.bytes.len() => {}
-            _ => return Ok(None),
-        }
+    if !has_place(alloc, line)? {
+        return Ok(None);
     }
     line_diagnosis::report(alloc, number, &line.bytes, line.is_cut)
+}
+
+/// The message about a line that is known.
+fn known_line_text(alloc: Global, number: u128, line: Option<&Line>) -> Option<String> {
+    line_text(alloc, number, line?).ok().flatten()
 }
 
 /// Writes the message about a malformed line.
@@ -36,18 +49,15 @@ pub fn bad_line<W: Write>(
     number: u128,
     line: Option<&Line>,
 ) -> io::Result<()> {
-    if let Some(line) = line {
-        if let Ok(Some(text)) = line_text(alloc, number, line) {
-            return out.write_all(text.as_bytes());
-        }
+    match known_line_text(alloc, number, line) {
+        Some(text) => out.write_all(text.as_bytes()),
+        None => writeln!(out, "spq: line {number}: this is not a line of N-Quads"),
     }
-    writeln!(out, "spq: line {number}: this is not a line of N-Quads")
 }
 
-/// The message about a rejected query.
-fn query_text(alloc: Global, account: &Account<'_>) -> Option<String> {
-    let command = account.command(alloc)?;
-    match &command {
+/// The message about the query of a command.
+fn text_of_query(alloc: Global, command: &Command) -> Option<String> {
+    match command {
         Command::Select { query, .. } => {
             query_diagnosis::report(alloc, query.as_str())
                 .ok()
@@ -55,6 +65,12 @@ fn query_text(alloc: Global, account: &Account<'_>) -> Option<String> {
         }
         Command::Check { .. } | Command::Terms { .. } => None,
     }
+}
+
+/// The message about a rejected query.
+fn query_text(alloc: Global, account: &Account<'_>) -> Option<String> {
+    let command = account.command(alloc)?;
+    text_of_query(alloc, &command)
 }
 
 /// Writes the message about a rejected query.
@@ -74,9 +90,9 @@ pub fn no_command<W: Write>(
     let Some(words) = words else {
         return out.write_all(b"spq: command line: a word is not UTF-8\n");
     };
-    match message(alloc, words) {
-        Ok(Some(text)) => out.write_all(text.as_bytes()),
-        Ok(None) | Err(_) => out.write_all(b"spq: command line: the words are no command\n"),
+    match message(alloc, words).ok().flatten() {
+        Some(text) => out.write_all(text.as_bytes()),
+        None => out.write_all(b"spq: command line: the words are no command\n"),
     }
 }
 
@@ -93,24 +109,28 @@ pub fn no_memory<W: Write>(out: &mut W, stage: Stage) -> io::Result<()> {
     out.write_all(b"hint: docs/COST.md says how much memory a document and a query take\n")
 }
 
-/// Returns the number of workers of a command, and whether it is a query.
-fn workers_of(command: &Command) -> (usize, bool) {
+/// Returns the number of workers of a command.
+fn workers_of(command: &Command) -> usize {
     match command {
-        Command::Select { reading, .. } => (reading.workers, true),
-        Command::Check { reading } | Command::Terms { reading } => (reading.workers, false),
+        Command::Select { reading, .. } | Command::Check { reading } | Command::Terms { reading } =>
+            reading.workers,
     }
+}
+
+/// The number of workers of a run, if it is known.
+fn workers(alloc: Global, account: &Account<'_>) -> Option<usize> {
+    let command = account.command(alloc)?;
+    Some(workers_of(&command))
 }
 
 /// Writes which thread could not be started.
 pub fn no_worker<W: Write>(out: &mut W, alloc: Global, account: &Account<'_>) -> io::Result<()> {
-    let Some(command) = account.command(alloc) else {
-        return out.write_all(b"spq: a thread could not be started\nhint: use --workers 1\n");
-    };
-    match workers_of(&command) {
-        (1, _) => out.write_all(
+    match workers(alloc, account) {
+        None => out.write_all(b"spq: a thread could not be started\nhint: use --workers 1\n"),
+        Some(1) => out.write_all(
             b"spq: the thread of the query could not be started\nhint: see the limits of the system on threads and memory: ulimit -u, ulimit -v\n",
         ),
-        (workers, _) => writeln!(
+        Some(workers) => writeln!(
             out,
             "spq: a thread could not be started: {workers} workers were asked for\nhint: use --workers 1"
         ),
@@ -126,6 +146,11 @@ fn error_text(alloc: Global, error: &Error) -> Result<String, AllocError> {
     Ok(text)
 }
 
+/// The text of an error that is known.
+fn known_error_text(alloc: Global, error: Option<Error>) -> Option<String> {
+    error_text(alloc, &error?).ok()
+}
+
 /// Writes why a device failed.
 pub fn no_device<W: Write>(
     out: &mut W,
@@ -134,10 +159,8 @@ pub fn no_device<W: Write>(
     error: Option<Error>,
     otherwise: &str,
 ) -> io::Result<()> {
-    if let Some(error) = error {
-        if let Ok(text) = error_text(alloc, &error) {
-            return writeln!(out, "spq: cannot {what}: {text}");
-        }
+    match known_error_text(alloc, error) {
+        Some(text) => writeln!(out, "spq: cannot {what}: {text}"),
+        None => writeln!(out, "spq: cannot {what}: {otherwise}"),
     }
-    writeln!(out, "spq: cannot {what}: {otherwise}")
 }

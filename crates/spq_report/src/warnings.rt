@@ -20,15 +20,20 @@ fn push_datatypes(out: &mut String, facts: &Facts) -> Result<(), AllocError> {
     Ok(())
 }
 
+/// Appends the warning about a variable.
+fn push_name(out: &mut String, alloc: Global, name: &[char]) -> Result<(), AllocError> {
+    let name = text_of(alloc, name)?;
+    write!(
+        out,
+        "spq: warning: ?{name} is selected and occurs nowhere in the pattern\n"
+    )
+}
+
 /// Appends a warning for each selected variable that occurs nowhere in the pattern.
 fn push_unused(out: &mut String, alloc: Global, tokens: &[Token<'_>]) -> Result<(), AllocError> {
     let names = unused(alloc, tokens)?;
     for name in &names {
-        let name = text_of(alloc, name)?;
-        write!(
-            out,
-            "spq: warning: ?{name} is selected and occurs nowhere in the pattern\n"
-        )?;
+        push_name(out, alloc, name)?;
     }
     Ok(())
 }
@@ -43,14 +48,34 @@ fn push_graphs(out: &mut String, notes: &Notes, tokens: &[Token<'_>]) -> Result<
     Ok(())
 }
 
+/// Appends the warnings about a query with these terminals.
+fn push_all(
+    out: &mut String,
+    alloc: Global,
+    notes: &Notes,
+    tokens: &[Token<'_>],
+) -> Result<(), AllocError> {
+    push_datatypes(out, &notes.facts)?;
+    push_unused(out, alloc, tokens)?;
+    push_graphs(out, notes, tokens)
+}
+
+/// Appends the warnings about a query that was evaluated.
+fn push_warnings(
+    out: &mut String,
+    alloc: Global,
+    query: &str,
+    notes: &Notes,
+) -> Result<(), AllocError> {
+    let characters = characters_of(alloc, query)?;
+    let scan = scan_text(alloc, &characters)?;
+    push_all(out, alloc, notes, &scan.tokens)
+}
+
 /// The warnings about a query that was evaluated.
 fn warnings_of(alloc: Global, query: &str, notes: &Notes) -> Result<String, AllocError> {
     let mut out = String::new(alloc);
-    let characters = characters_of(alloc, query)?;
-    let scan = scan_text(alloc, &characters)?;
-    push_datatypes(&mut out, &notes.facts)?;
-    push_unused(&mut out, alloc, &scan.tokens)?;
-    push_graphs(&mut out, notes, &scan.tokens)?;
+    push_warnings(&mut out, alloc, query, notes)?;
     Ok(out)
 }
 
