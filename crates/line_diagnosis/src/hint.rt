@@ -104,7 +104,7 @@ fn hint_at_end(reason: Reason, is_cut: bool) -> Option<Hint>
 /// Returns the hint for a malformed line, or None if there is none. `is_cut` is true if the line is
 /// the last of its document and no line end follows it.
 ///
-/// Only such a line can be truncated. A compressed file has the hint for its format.
+/// Only a line with `is_cut` can be truncated. A compressed file has the hint for its format.
 pub fn hint_of(line: &[u8], diagnosis: &Diagnosis, is_cut: bool) -> Option<Hint>
     ensures truncated { result ≡ Some Truncated → is_cut ≡ true }
     ensures packed { (packing : Packing) → diagnosis.now.reason ≡ Packed packing
