@@ -1,8 +1,8 @@
 //! The command line.
-ghost use Rattle.std.specs.Prelude.{◌≡◌, ◌≢◌, ◌≤◌, ◌++◌, ◌∷◌, [], IfErr, IfOk, codes, false, map, string_bytes};
-ghost use Rattle.clap.specs.Words.{app_of, fault_of, found_of, rows_of, rule_of, subcommand_rows_of, with_subcommand};
+ghost use Rattle.std.specs.Prelude.{◌≡◌, ◌≢◌, ◌≤◌, [], IfErr, IfOk, codes, false, map, string_bytes};
+ghost use Rattle.clap.specs.Words.{app_of, fault_of, found_of, rows_of, rule_of, subcommand_rows_of};
 ghost use Rattle.clap.specs.declared.builder.command.Command.TheViews.{out-Command as fields_of};
-ghost use Rattle.spq_command.specs.Program.{HasNumber, HasReadOptions, HasSelect, IsCommandLine, IsCommandMet, IsCommandOf, number_option, program, query_option, reading_options, select_options, with_options, workers_option};
+ghost use Rattle.spq_command.specs.Program.{HasNumber, HasReadOptions, HasSelect, IsCommandLine, IsCommandMet, IsCommandOf, number_option, program, reading_options, select_options, with_options};
 ghost use Rattle.spq_command.specs.declared.command_line.CommandFault.TheVariants.{Memory};
 
 use crate::command::{Command, ReadOptions};
@@ -57,38 +57,14 @@ fn number<'a>(alloc: Global, name: &'a str, most: u64) -> Arg<'a>
         .value_parser(ValueParser::Unsigned(1, most))
 }
 
-/// Makes the argument for the text of a query.
-fn query_text<'a>(alloc: Global) -> Arg<'a>
-    ensures rule { rule_of result ≡ query_option }
-    ensures local { result.global ≡ false }
-{
-    Arg::new(alloc, "query").long("query").required(true)
-}
-
-/// Makes a subcommand with the number of workers.
-fn workers_line<'a>(alloc: Global, name: &'a str) -> Result<Line<'a>, AllocError>
-    ensures app { IfOk result (λ line.
-        app_of line ≡ with_options name.entry.now (workers_option ∷ [])) }
-    ensures local { IfOk result (λ line. (fields_of line).has_globals ≡ false) }
-{
-    Line::new(alloc, name).arg(number(alloc, "workers", MOST_WORKERS))
-}
-
 /// Makes a subcommand with the arguments for how a document is read.
 fn reading_line<'a>(alloc: Global, name: &'a str) -> Result<Line<'a>, AllocError>
     ensures app { IfOk result (λ line. app_of line ≡ with_options name.entry.now reading_options) }
     ensures local { IfOk result (λ line. (fields_of line).has_globals ≡ false) }
 {
-    workers_line(alloc, name)?.arg(number(alloc, "piece", MOST_BYTES))
-}
-
-/// Makes the subcommand `select` without the number of rows.
-fn query_line<'a>(alloc: Global) -> Result<Line<'a>, AllocError>
-    ensures app { IfOk result (λ line. app_of line
-        ≡ with_options (codes "select") (reading_options ++ query_option ∷ [])) }
-    ensures local { IfOk result (λ line. (fields_of line).has_globals ≡ false) }
-{
-    reading_line(alloc, "select")?.arg(query_text(alloc))
+    Line::new(alloc, name)
+        .arg(number(alloc, "workers", MOST_WORKERS))?
+        .arg(number(alloc, "piece", MOST_BYTES))
 }
 
 /// Makes the subcommand `select`.
@@ -96,34 +72,21 @@ fn select_line<'a>(alloc: Global) -> Result<Line<'a>, AllocError>
     ensures app { IfOk result (λ line. app_of line ≡ with_options (codes "select") select_options) }
     ensures local { IfOk result (λ line. (fields_of line).has_globals ≡ false) }
 {
-    query_line(alloc)?.arg(number(alloc, "rows", MOST_ROWS))
-}
-
-/// Makes the command line of the program with its first subcommand.
-fn first_line<'a>(alloc: Global) -> Result<Line<'a>, AllocError>
-    ensures app { IfOk result (λ line. app_of line
-        ≡ record program { subs = (with_options (codes "select") select_options).top ∷ [] }) }
-{
-    let select = select_line(alloc)?;
-    Line::new(alloc, "spq")
-        .subcommand_required(true)
-        .subcommand(select)
-}
-
-/// Adds a subcommand with the arguments for how a document is read.
-fn add_reading<'a>(alloc: Global, line: Line<'a>, name: &'a str) -> Result<Line<'a>, AllocError>
-    ensures app { IfOk result (λ longer. app_of longer
-        ≡ with_subcommand (app_of line) (with_options name.entry.now reading_options).top) }
-{
-    line.subcommand(reading_line(alloc, name)?)
+    let query = Arg::new(alloc, "query").long("query").required(true);
+    reading_line(alloc, "select")?
+        .arg(query)?
+        .arg(number(alloc, "rows", MOST_ROWS))
 }
 
 /// Makes the command line of the program.
 fn program_line<'a>(alloc: Global) -> Result<Line<'a>, AllocError>
     ensures app { IfOk result (λ line. app_of line ≡ program) }
 {
-    let line = add_reading(alloc, first_line(alloc)?, "check")?;
-    add_reading(alloc, line, "terms")
+    Line::new(alloc, "spq")
+        .subcommand_required(true)
+        .subcommand(select_line(alloc)?)?
+        .subcommand(reading_line(alloc, "check")?)?
+        .subcommand(reading_line(alloc, "terms")?)
 }
 
 /// Returns the number of an argument, or its default if it is not given.
