@@ -54,7 +54,7 @@ def upload_package(client: Client) -> None:
         path = os.path.join(place, "spq_dask.zip")
         with zipfile.ZipFile(path, "w") as archive:
             for name in sorted(os.listdir(folder)):
-                if name.endswith(".py"):
+                if name.endswith((".py", ".lua")):
                     archive.write(os.path.join(folder, name), f"spq_dask/{name}")
         client.upload_file(path)
 
