@@ -62,7 +62,7 @@ def with_line_feeds(text: bytes) -> bytes:
     """Ends each line of a text with a line feed, and no other way."""
     if b"\r" in text:
         text = text.replace(b"\r\n", b"\n").replace(b"\r", b"\n")
-    return text if text.endswith(b"\n") else text + b"\n"
+    return text if not text or text.endswith(b"\n") else text + b"\n"
 
 
 def quads_of(spq: Spq, text: bytes, file: io.FileIO) -> Quads:

@@ -190,8 +190,9 @@ class Hashes(unittest.TestCase):
 
 class Cutting(unittest.TestCase):
     def test_lines(self):
-        for text, lines in [(b"", 0), (b"a", 1), (b"a\n", 1), (b"a\r\nb", 2), (b"a\rb\n\r", 3), (b"\n\r\n", 2), (b"\r\r\n\n", 3)]:
-            self.assertEqual(count_lines(text), lines, text)
+        for text, count in [(b"", 0), (b"a", 1), (b"a\n", 1), (b"a\r\nb", 2), (b"a\rb\n\r", 3), (b"\n\r\n", 2), (b"\r\r\n\n", 3)]:
+            self.assertEqual(count_lines(text), count, text)
+            self.assertEqual(len(read(with_line_feeds(text)).hashes), count, text)
 
     def test_halves_and_pieces(self):
         for text in [b"", b"a", b"a\n", b"a\nb", b"\n\n\n", b"aaaaaaaa\nb\n", b"b\naaaaaaaa", b"a\rb\nc\r\nd\r\n"]:
