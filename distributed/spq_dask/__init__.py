@@ -3,7 +3,8 @@
 - `cutting`: the blocks of a document, and its lines.
 - `program`: one run of `spq` over one text; a text that needs too much memory is cut in two.
 - `canonical`: the canonical form of the quads of a block.
-- `hashing`, `hasher`: hashes of these quads.
+- `lines`: runs the program `lines.lua`, which computes a hash of each line and recognises canonical lines.
+- `hashing`: hashes of canonical quads.
 - `shuffle`: texts and hashes by partition; Dask's shuffle of bags.
 - `counting`: the commands `check` and `terms`.
 - `outline`: what the command must know of a query: DISTINCT, LIMIT, OFFSET, and whether it may be split.

@@ -1,42 +1,31 @@
 """The canonical form of the quads of a block: each quad on a line of its own, as `spq` prints its terms.
 
 Two quads are equal exactly if their canonical lines are equal. Most lines of a dump are in this form already: they
-are plain, and a pattern recognises them. The other lines are rewritten here if they differ in a known way; `spq select`
-prints the rest. The pattern is right for lines of well-formed documents only, so `spq` checks a block first.
+are plain. The program `lines.lua` recognises them, and rewrites lines with capitals in a language tag or the datatype
+xsd:string. Characters that are escaped by number are written themselves here. `spq select` prints the rest. All this is
+right for lines of well-formed documents only, so `spq` checks a block first.
 """
 from __future__ import annotations
 
 import io
 import json
-import os
 import re
-import subprocess
 from dataclasses import dataclass
-from itertools import filterfalse
+from itertools import compress
 from typing import Any, Iterator
 
+import numpy
+
+from . import lines
+from .cutting import ended
+from .lines import OTHER
 from .program import Spq, in_memory
 
 EVERY_QUAD = "SELECT ?g ?s ?p ?o { { ?s ?p ?o } UNION { GRAPH ?g { ?s ?p ?o } } }"
-XSD_STRING = "http://www.w3.org/2001/XMLSchema#string"
 
-# What a plain line consists of. Single spaces separate the terms, no IRI has an escape, the datatype xsd:string is left
-# out, and in literals only the quote, the backslash, LF and CR are escaped. Both grep and Python read these patterns.
-IRI = r"<[^>\\]*+>"
-NODE = rf"(?:{IRI}|_:[A-Za-z0-9_-]++)"
-TEXT = r'"[^"\\]*+(?:\\["\\nr][^"\\]*+)*"'
-STRING = rf"\^\^<{re.escape(XSD_STRING)}>"
-TRIPLE = rf"{NODE} {IRI} (?:{NODE}|{TEXT}(?:@[a-z0-9-]++|\^\^(?!<{re.escape(XSD_STRING)}>){IRI})?)"
-# Of a plain line, grep prints the end with the graph name, or nothing without one. It prints all of any other line.
-GREP = rf"^{TRIPLE}(?: \.$(*SKIP)(*FAIL)|\K {NODE} \.$)|^.+$"
-# The same for Python: the end with the graph name, or the other line.
-LINES = re.compile(rf"^(?:{TRIPLE}(?: \.|( {NODE} \.))|(.+))$".encode(), re.MULTILINE)
-GRAPH = re.compile(rf" ({NODE}) \.".encode())
-
-# A line that is plain but for capitals in a language tag or the datatype xsd:string.
-NEARLY = re.compile(
-    rf"{NODE} {IRI} (?:{NODE}|{TEXT}(?:@(?P<tag>[A-Za-z0-9-]++)|(?P<string>{STRING})|\^\^{IRI})?)(?: ({NODE}))? \.".encode()
-)
+# A plain line is canonical: single spaces separate the terms, labels consist of ASCII letters, digits, `_` and `-`, language
+# tags have no capitals, the datatype xsd:string is left out, no IRI has an escape, and in literals only the quote, the
+# backslash, LF and CR are escaped. The program `lines.lua` recognises these lines.
 ASCII_BY_NUMBER = re.compile(rb"\\u00[0-7]|\\U000000[0-7]")
 # Any canonical line.
 CANONICAL = re.compile(
@@ -48,17 +37,18 @@ CANONICAL = re.compile(
 class Quads:
     """The quads of a text, in canonical form: its lines without those that are left out, and more lines.
 
-    A quad that the text has twice may be here twice. Each line of the text ends with a line feed, and no other way.
+    A quad that the text has twice may be here twice. Each line of the text ends with a line feed, and no other way. Each
+    line has a hash; that of a line that is left out is `lines.OTHER`.
     """
 
     text: bytes
-    left_out: set[bytes]
+    hashes: numpy.ndarray
     more: list[bytes]
     names: set[bytes]
 
     def lines(self) -> list[bytes]:
         """Returns the canonical lines, without line feeds."""
-        return [*filterfalse(self.left_out.__contains__, self.text.split(b"\n")), *self.more]
+        return [*compress(self.text.split(b"\n"), (self.hashes != OTHER).tolist()), *self.more]
 
 
 def canonical_quads(spq: Spq, text: bytes) -> Quads:
@@ -72,59 +62,34 @@ def with_line_feeds(text: bytes) -> bytes:
     """Ends each line of a text with a line feed, and no other way."""
     if b"\r" in text:
         text = text.replace(b"\r\n", b"\n").replace(b"\r", b"\n")
-    return text if text.endswith(b"\n") else text + b"\n"
+    return text if not text or text.endswith(b"\n") else text + b"\n"
 
 
 def quads_of(spq: Spq, text: bytes, file: io.FileIO) -> Quads:
-    """Returns the quads of a well-formed text that is in a file, too. A line feed ends each line."""
-    names, others, more, rest = set(), set(), [], []
-    for line in ends_and_others(text, file):
-        match = GRAPH.fullmatch(line)
-        names.add(match[1]) if match else others.add(line)
-    for line in others:
-        quad, name = rewritten(line)
-        more.append(quad) if quad else rest.append(line)
-        names.add(name)
-    printed = set(printed_by_spq(spq, b"\n".join(rest)))
-    more += printed - others
-    names.update(map(graph_of, printed))
-    return Quads(text, others - printed | {b""}, more, names - {b""})
+    """Returns the quads of a well-formed text that is in a file in memory, too. A line feed ends each line."""
+    first = lines.read(file)
+    others = list(set(first.others) - {b""})
+    decoded = list(map(by_characters, others))
+    without_escapes = list(filter(None, decoded))
+    with in_memory(ended(without_escapes)) as file:
+        second = lines.read(file)
+    plain = compress(without_escapes, (second.hashes != OTHER).tolist())
+    rest = [*second.others, *(line for line, found in zip(others, decoded) if not found)]
+    printed = list(printed_by_spq(spq, ended(rest))) if rest else []
+    names = {*first.names, *second.names, *map(graph_of, printed)} - {b""}
+    return Quads(text, first.hashes, [*first.rewritten, *second.rewritten, *plain, *printed], names)
 
 
-def ends_and_others(text: bytes, file: io.FileIO) -> set[bytes]:
-    """Returns the ends of plain lines with a graph name, and the other lines, of a text that is in a file."""
-    command = ["grep", "--text", "--only-matching", "--perl-regexp", "--regexp", GREP]
-    try:
-        ran = subprocess.run(command, stdin=file, stdout=subprocess.PIPE, stderr=subprocess.DEVNULL, env=dict(os.environ, LC_ALL="C"))
-        if ran.returncode in (0, 1):
-            return set(ran.stdout.split(b"\n")) - {b""}
-    except OSError:
-        pass  # no grep
-    return {end or other for end, other in LINES.findall(text)} - {b""}
-
-
-def rewritten(line: bytes) -> tuple[bytes, bytes]:
-    """Returns the canonical form of a well-formed line that is nearly plain, and its graph name; both may be empty."""
-    if b"\\u" in line or b"\\U" in line:
-        if not line.isascii() or ASCII_BY_NUMBER.search(line):
-            return b"", b""
-        line = line.decode("raw_unicode_escape").encode()
-    match = NEARLY.fullmatch(line)
-    if not match:
-        return b"", b""
-    tag, string, name = match.groups(b"")
-    if tag:
-        start, end = match.span("tag")
-        line = line[:start] + tag.lower() + line[end:]
-    elif string:
-        start, end = match.span("string")
-        line = line[:start] + line[end:]
-    return line, name
+def by_characters(line: bytes) -> bytes:
+    """Writes the characters of a line that are escaped by number themselves. Returns nothing if that needs more care."""
+    if (b"\\u" in line or b"\\U" in line) and line.isascii() and not ASCII_BY_NUMBER.search(line):
+        return line.decode("raw_unicode_escape").encode()
+    return b""
 
 
 def printed_by_spq(spq: Spq, text: bytes) -> Iterator[bytes]:
     """Yields the canonical line of each quad of a well-formed text."""
-    for output in spq.outputs(["select", "--query", EVERY_QUAD], text) if text else ():
+    for output in spq.outputs(["select", "--query", EVERY_QUAD], text):
         for row in json.loads(output)["results"]["bindings"]:
             yield (" ".join(term_text(row[place]) for place in "spog" if place in row) + " .").encode()
 

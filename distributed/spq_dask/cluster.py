@@ -33,8 +33,9 @@ def connected(scheduler: Optional[str], processes: Optional[int]) -> Iterator[Cl
     if not scheduler:
         options = {"n_workers": processes, "threads_per_worker": 1, "silence_logs": logging.CRITICAL}
         memory = {"GLIBC_TUNABLES": MALLOC, "MALLOC_TRIM_THRESHOLD_": 1 << 40}
-        # On one machine compression takes longer than what it saves.
-        with dask.config.set({"distributed.comm.compression": None, "distributed.nanny.pre-spawn-environ": memory}):
+        # On one machine compression takes longer than what it saves. Dask samples what a worker does, a hundred times a second.
+        settings = {"comm.compression": None, "nanny.pre-spawn-environ": memory, "worker.profile.interval": "1s"}
+        with dask.config.set({f"distributed.{name}": value for name, value in settings.items()}):
             with LocalCluster(**options) as cluster, Client(cluster) as client:
                 yield client
         return
@@ -54,7 +55,7 @@ def upload_package(client: Client) -> None:
         path = os.path.join(place, "spq_dask.zip")
         with zipfile.ZipFile(path, "w") as archive:
             for name in sorted(os.listdir(folder)):
-                if name.endswith(".py"):
+                if name.endswith((".py", ".lua")):
                     archive.write(os.path.join(folder, name), f"spq_dask/{name}")
         client.upload_file(path)
 

@@ -10,11 +10,11 @@ import numpy
 from dask import delayed
 from dask.delayed import Delayed
 
-from . import shuffle
+from . import lines, shuffle
 from .cluster import Run
 from .cutting import Reader, Source, count_lines, ended, pieces
 from .hashing import hashed_quads, once, with_hashes
-from .program import DEVICE, Failed, Malformed, Spq
+from .program import DEVICE, Failed, Malformed, Spq, in_memory
 
 PIECE = 8 << 20  # bytes that one run of `spq` reads
 BUCKETS = 16  # of the terms of a partition: small sets are faster
@@ -70,16 +70,17 @@ def check(run: Run, sources: list[Source], spq: Spq) -> bytes:
 def examine(read: Reader, spq: Spq, partitions: int) -> tuple[Checked, numpy.ndarray, list[Item]]:
     """Checks a block. Returns the hashes of its quads, and for each partition its terms, graph names and hashes."""
     text = read()
-    terms = distinct_terms(spq, text)
-    quads, hashes = hashed_quads(spq, text)
+    with in_memory(text) as file:
+        terms = b"".join(spq.outputs(["terms"], text, file))
+        quads, hashes = hashed_quads(spq, text, file)
     numbers = once(quads, hashes)
-    texts = shuffle.texts_by_partition(terms, partitions * BUCKETS)
+    texts = lines.split(terms, partitions * BUCKETS)
     items = zip(
         [texts[number::partitions] for number in range(partitions)],
         shuffle.texts_by_partition(list(quads.names), partitions),
         shuffle.ranges(numbers, partitions),
     )
-    return Checked(count_lines(text), len(text)), numbers, list(items)
+    return Checked(len(hashes) - len(quads.more), len(text)), numbers, list(items)
 
 
 def distinct_terms(spq: Spq, text: bytes) -> list[bytes]:

@@ -43,7 +43,7 @@ def sources(urls: list[str], blocksize: Optional[int], workers: int) -> list[Sou
     sizes = [[None if compressed else filesystem.info(path)["size"] for path in paths] for _, compressed, filesystem, _, paths in files]
     if blocksize is None:
         total = sum(size or 0 for those in sizes for size in those)
-        blocksize = min(LARGEST, max(SMALLEST, -(-total // max(1, BLOCKS * workers))))
+        blocksize = min(LARGEST, max(SMALLEST, total // max(1, BLOCKS * workers)))
     found = []
     for url, compressed, *_ in files:
         _, blocks, paths = read_bytes(

@@ -1,44 +1,34 @@
 """Hashes of the canonical quads of a block, 64 bits each: equal quads have equal hashes, on every worker."""
 from __future__ import annotations
 
-import os
-import subprocess
-import sys
+import io
 from collections import Counter
+from contextlib import nullcontext
+from typing import Optional
 
 import numpy
 
+from . import lines
 from .canonical import Quads, quads_of, with_line_feeds
 from .cutting import ended, lines_at
-from .hasher import LEFT_OUT
-from .program import MEMORY, Failed, Spq, in_memory, write
-
-PACKAGES = os.path.dirname(os.path.dirname(os.path.abspath(__file__)))  # a folder, or a zip file on a worker elsewhere
+from .lines import OTHER
+from .program import Spq, in_memory
 
 
-def hashed_quads(spq: Spq, text: bytes) -> tuple[Quads, numpy.ndarray]:
+def hashed_quads(spq: Spq, text: bytes, file: Optional[io.FileIO] = None) -> tuple[Quads, numpy.ndarray]:
     """Returns the quads of a well-formed text, and a hash for each of its lines and then for each of `Quads.more`.
 
-    The hash of a line that is left out is `LEFT_OUT`, which no other line has.
+    The hash of a line that is left out is `OTHER`, which no other line has. The text may be in a file in memory already.
     """
-    text = with_line_feeds(text)
-    with in_memory(text) as file:
-        quads = quads_of(spq, text, file)
-        file.seek(0, os.SEEK_END)
-        write(file, ended(quads.more))
-        file.seek(0)
-        with in_memory(ended(quads.left_out)) as left_out:
-            command = [sys.executable, "-S", "-m", f"{__package__}.hasher", str(left_out.fileno())]
-            environment = {"PYTHONPATH": PACKAGES, "PYTHONHASHSEED": "0"}
-            ran = subprocess.run(command, stdin=file, stdout=subprocess.PIPE, env=environment, pass_fds=[left_out.fileno()])
-    if ran.returncode:
-        raise Failed(MEMORY, "error: worker", f"{sys.executable} ended with status {ran.returncode}")
-    return quads, numpy.frombuffer(ran.stdout, numpy.int64)
+    same = with_line_feeds(text)
+    with nullcontext(file) if file and same is text else in_memory(same) as source:
+        quads = quads_of(spq, same, source)
+    return quads, numpy.append(quads.hashes, lines.hashes(ended(quads.more)))
 
 
 def once(quads: Quads, hashes: numpy.ndarray) -> numpy.ndarray:
     """Returns the hashes of the distinct quads, sorted. Different quads with one hash are compared as text."""
-    numbers = numpy.sort(hashes[hashes != LEFT_OUT])
+    numbers = numpy.sort(hashes[hashes != OTHER])
     first = numpy.ones(len(numbers), bool)
     numpy.not_equal(numbers[1:], numbers[:-1], out=first[1:])
     if first.all():

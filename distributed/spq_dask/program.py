@@ -6,8 +6,9 @@ import io
 import os
 import signal
 import subprocess
+from contextlib import nullcontext
 from dataclasses import dataclass
-from typing import Iterator, Union
+from typing import Any, Iterator, Optional, Union
 
 from .cutting import count_lines, halves
 
@@ -44,31 +45,28 @@ class Spq:
     path: str = "spq"
     threads: int = 1
 
-    def run(self, words: list[str], text: Text) -> tuple[int, bytes]:
-        """Runs a command over a text. Returns the status and the standard output.
+    def run(self, words: list[str], text: Text, file: Optional[io.FileIO] = None) -> tuple[int, bytes]:
+        """Runs a command over a text, which may be in a file in memory already. Returns the status and the standard output.
 
         Raises `Failed` if the program cannot be started, or ends with a status that it does not have.
         """
         command = [self.path, words[0], "--workers", str(self.threads), "--piece", str(PIECE), *words[1:]]
         environment = dict(os.environ, GLIBC_TUNABLES=MALLOC)
-        with in_memory(text) as source:
-            try:
-                ended = subprocess.run(command, stdin=source, stdout=subprocess.PIPE, stderr=subprocess.DEVNULL, env=environment)
-            except OSError as error:
-                raise Failed(MEMORY, "error: worker", f"{self.path} cannot be started: {error.strerror}") from None
-        status = ended.returncode
+        with nullcontext(file) if file else in_memory(text) as source:
+            source.seek(0)
+            status, output = printed(command, source, env=environment)
         if status == -signal.SIGKILL:  # what the system does when memory is short
             return MEMORY, b"error: memory\n"
         if not 0 <= status <= DEVICE:
             raise Failed(MEMORY, "error: worker", f"{self.path} ended with status {status}")
-        return status, ended.stdout
+        return status, output
 
-    def run_in_halves(self, words: list[str], text: Text) -> Iterator[tuple[Text, int, bytes]]:
+    def run_in_halves(self, words: list[str], text: Text, file: Optional[io.FileIO] = None) -> Iterator[tuple[Text, int, bytes]]:
         """Runs a command over a text. A text that needs too much memory is cut in two, as often as needed.
 
         Yields each part with its status, 0 or 1, and its output. Raises `Failed` on any other status.
         """
-        status, output = self.run(words, text)
+        status, output = self.run(words, text, file)
         both = halves(bytes(text)) if status == MEMORY else None
         if both:
             for half in both:
@@ -78,18 +76,32 @@ class Spq:
         else:
             raise Failed(status, output.decode().strip())
 
-    def outputs(self, words: list[str], text: Text) -> list[bytes]:
+    def outputs(self, words: list[str], text: Text, file: Optional[io.FileIO] = None) -> list[bytes]:
         """Runs a command over a text. Returns the output, or the outputs of its parts if it was cut.
 
         Raises `Malformed` if the text has a malformed line.
         """
         parts, found = [], []
-        for part, status, output in self.run_in_halves(words, text):
+        for part, status, output in self.run_in_halves(words, text, file):
             if status == MALFORMED:
                 raise Malformed(sum(map(count_lines, parts)) + int(output.split()[-1]))
             parts.append(part)
             found.append(output)
         return found
+
+
+def printed(command: list[str], source: io.FileIO, **options: Any) -> tuple[int, bytes]:
+    """Runs a program over a file. Returns the status and the standard output, which is in memory. (A pipe takes more time.)
+
+    Raises `Failed` if the program cannot be started.
+    """
+    with in_memory(b"") as output:
+        try:
+            ended = subprocess.run(command, stdin=source, stdout=output, stderr=subprocess.DEVNULL, **options)
+        except OSError as error:
+            raise Failed(MEMORY, "error: worker", f"{command[0]} cannot be started: {error.strerror}") from None
+        output.seek(0)
+        return ended.returncode, output.read()
 
 
 @contextlib.contextmanager

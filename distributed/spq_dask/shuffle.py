@@ -47,7 +47,8 @@ def distinct(texts: Iterable[bytes]) -> int:
     found = set()
     for text in texts:
         found.update(text.split(b"\n"))
-    return len(found - {b""})
+    found.discard(b"")
+    return len(found)
 
 
 def shuffled(blocks: list[Delayed], partitions: int, function: Callable[[list[Any]], Any]) -> list[Delayed]:

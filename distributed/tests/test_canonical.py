@@ -1,6 +1,7 @@
 """Canonical lines, against the terms and counts that `spq` prints."""
 import os
 import random
+import re
 import unittest
 from unittest import mock
 
@@ -8,11 +9,27 @@ import documents
 import numpy
 import parts
 import testing
-from spq_dask import counting, shuffle
-from spq_dask.canonical import CANONICAL, LINES, canonical_quads, ends_and_others, graph_of, subject_of, with_line_feeds
+from spq_dask import counting, lines, shuffle
+from spq_dask.canonical import CANONICAL, canonical_quads, graph_of, subject_of, with_line_feeds
 from spq_dask.cutting import count_lines, halves, lines_at, pieces
 from spq_dask.hashing import hashed_quads, once, with_hashes
-from spq_dask.program import Spq, in_memory
+from spq_dask.program import Failed, Spq, in_memory
+
+
+# A plain line, and its graph name.
+IRI = r"<[^>\\]*>"
+NODE = rf"(?:{IRI}|_:[A-Za-z0-9_-]+)"
+TEXT = r'"(?:[^"\\]|\\["\\nr])*"'
+STRING = r"\^\^<http://www\.w3\.org/2001/XMLSchema#string>"
+PLAIN = re.compile(rf"{NODE} {IRI} (?:{NODE}|{TEXT}(?:@[a-z0-9-]+|(?!{STRING})\^\^{IRI})?)(?: ({NODE}))? \.".encode())
+# A line that is plain but for capitals in a language tag or the datatype xsd:string.
+NEARLY = re.compile(rf"{NODE} {IRI} (?:{NODE}|{TEXT}(?:@[A-Za-z0-9-]+|\^\^{IRI})?)(?: ({NODE}))? \.".encode())
+
+
+def read(text: bytes) -> lines.Lines:
+    """Reads the lines of a text."""
+    with in_memory(text) as file:
+        return lines.read(file)
 
 
 def quads_of(text: bytes) -> tuple[list[bytes], set[bytes]]:
@@ -47,23 +64,41 @@ class Canonical(unittest.TestCase):
         for text in documents_of("plain", 150, ["\n"]):
             every = testing.spq(["terms"], text)[1].splitlines()
             for quad in text.split(b"\n"):
-                match = LINES.fullmatch(quad)
-                if match and not match[2]:
+                match = PLAIN.fullmatch(quad)
+                if match:
                     plain += 1
                     subject, predicate, rest = quad.split(b" ", 2)
-                    graph = match[1][1:-2] if match[1] else b""
+                    graph = match[1] or b""
                     thing = rest[: -len(graph) - 3] if graph else rest[:-2]
                     for term in [subject, predicate, thing, *([graph] if graph else [])]:
                         self.assertIn(term, every, quad)
                     self.assertTrue(CANONICAL.fullmatch(quad))
         self.assertGreater(plain, 500)
 
-    def test_grep_and_python_find_the_same(self):
-        for text in map(with_line_feeds, documents_of("grep", 50, ["\n", "\r"])):
-            with in_memory(text) as file:
-                by_grep = ends_and_others(text, file)
-                with mock.patch.dict(os.environ, PATH="/nowhere"):
-                    self.assertEqual(ends_and_others(text, file), by_grep)
+    def test_plain_lines_are_found(self):
+        """The program finds the lines and names that a regular expression finds."""
+        texts = documents_of("lines", 50, ["\n", "\r"])
+        for text in map(with_line_feeds, [b"", b"\n", *texts, b"".join(texts)]):
+            quads, found = text.split(b"\n")[:-1], read(text)
+            self.assertEqual((found.hashes != lines.OTHER).tolist(), [PLAIN.fullmatch(quad) is not None for quad in quads])
+            nearly = [quad for quad in quads if NEARLY.fullmatch(quad) and not PLAIN.fullmatch(quad)]
+            self.assertEqual(len(found.rewritten), len(nearly))
+            self.assertTrue(all(map(PLAIN.fullmatch, found.rewritten)))
+            self.assertEqual(found.others, [quad for quad in quads if not NEARLY.fullmatch(quad)])
+            self.assertEqual(set(found.names), {match[1] for match in map(NEARLY.fullmatch, quads) if match and match[1]})
+
+    def test_rewritten_lines(self):
+        string = b"^^<http://www.w3.org/2001/XMLSchema#string>"
+        for line, wanted in [
+            (b'<a:s> <a:p> "@EN"@eN-Latn-gB <a:G> .', b'<a:s> <a:p> "@EN"@en-latn-gb <a:G> .'),
+            (b'<a:s> <a:p> "\\"@EN"@eN .', b'<a:s> <a:p> "\\"@EN"@en .'),
+            (b'<a:s> <a:p> "x"%b _:G .' % string, b'<a:s> <a:p> "x" _:G .'),
+            (b'<a:s> <a:p> "%b"%b .' % (string, string), b'<a:s> <a:p> "%b" .' % string),
+        ]:
+            self.assertEqual(read(line + b"\n").rewritten, [wanted])
+            self.assertEqual(quads_of(line), ([wanted], {graph_of(wanted)} - {b""}))
+        for line in [b'<a:s> <a:p> "x"^^<http://www.w3.org/2001/XMLSchema#strings> .', b'<a:s> <a:p> "x"^^<a:string> .', b"<a:s> <a:p> _:B-_ _:G ."]:
+            self.assertNotEqual(read(line + b"\n").hashes.tolist(), [lines.OTHER])
 
     def test_odd_lines(self):
         for line in [
@@ -82,6 +117,44 @@ class Canonical(unittest.TestCase):
                 self.assertEqual({graph_of(quad)} - {b""}, names)
 
 
+class Lines(unittest.TestCase):
+    TEXTS = [b"", b"\n", b"\n\n", *(b"".join(b"%d" % number * (number % times) + b"\n" for number in range(500)) for times in (2, 5, 40))]
+
+    def test_hashes_depend_on_the_line_alone(self):
+        every: dict[bytes, int] = {}
+        for text in self.TEXTS:
+            found = text.split(b"\n")[:-1]
+            for line, number in zip(found, lines.hashes(text).tolist(), strict=True):
+                self.assertEqual(every.setdefault(line, number), number)
+        for size in range(40):  # each byte counts, and the length
+            for place in range(size):
+                every[b"x" * place + b"y" + b"x" * (size - place - 1)] = 0
+            every[b"x" * size], every[b"\0" * size] = 0, 0
+        found = lines.hashes(b"\n".join([*every, b""]))
+        self.assertEqual(len(set(found.tolist())), len(every))
+        self.assertNotIn(lines.OTHER, found)
+
+    def test_split(self):
+        for text in self.TEXTS:
+            for count in (1, 2, 7, 64, 1000):
+                parts = lines.split(text, count)
+                self.assertEqual(len(parts), count)
+                self.assertEqual(sorted(b"".join(parts).split(b"\n")), sorted(text.split(b"\n")))
+                sets = [set(part.split(b"\n")[:-1]) for part in parts]
+                self.assertEqual(len(set().union(*sets)), sum(map(len, sets)))
+
+    def test_program_is_missing(self):
+        with mock.patch.dict(os.environ, PATH="/nowhere"), self.assertRaises(Failed) as failed:
+            lines.hashes(b"\n")
+        self.assertEqual(failed.exception.line, "error: worker")
+        self.assertIn("luajit", failed.exception.reason)
+
+    def test_program_fails(self):
+        with self.assertRaises(Failed) as failed:
+            lines.split(b"\n", -1)
+        self.assertEqual(failed.exception.line, "error: worker")
+
+
 class Hashes(unittest.TestCase):
     def test_are_those_of_the_distinct_quads(self):
         every: dict[int, bytes] = {}
@@ -98,8 +171,8 @@ class Hashes(unittest.TestCase):
 
     def test_check_is_exact_if_hashes_are_not(self):
         """Different quads have the same hash here, in a block and in different ones."""
-        def few(spq, text):
-            quads, hashes = hashed_quads(spq, text)
+        def few(spq, text, file=None):
+            quads, hashes = hashed_quads(spq, text, file)
             return quads, numpy.where(hashes == -1, -1, hashes % 5 << 61)
 
         program = Spq(testing.SPQ)
@@ -117,8 +190,9 @@ class Hashes(unittest.TestCase):
 
 class Cutting(unittest.TestCase):
     def test_lines(self):
-        for text, lines in [(b"", 0), (b"a", 1), (b"a\n", 1), (b"a\r\nb", 2), (b"a\rb\n\r", 3), (b"\n\r\n", 2), (b"\r\r\n\n", 3)]:
-            self.assertEqual(count_lines(text), lines, text)
+        for text, count in [(b"", 0), (b"a", 1), (b"a\n", 1), (b"a\r\nb", 2), (b"a\rb\n\r", 3), (b"\n\r\n", 2), (b"\r\r\n\n", 3)]:
+            self.assertEqual(count_lines(text), count, text)
+            self.assertEqual(len(read(with_line_feeds(text)).hashes), count, text)
 
     def test_halves_and_pieces(self):
         for text in [b"", b"a", b"a\n", b"a\nb", b"\n\n\n", b"aaaaaaaa\nb\n", b"b\naaaaaaaa", b"a\rb\nc\r\nd\r\n"]:
