@@ -33,10 +33,7 @@ fn agrees_with_std<R: Threads + Wait + RandomSource>(rt: &R, alloc: Global, way:
 #[test]
 fn devices_that_count_no_failures_do_not_fail(rt: HostRuntime) {
     assert!(rt; agrees_with_std(&rt, rt.alloc(), WHOLE), "one worker");
-    assert!(rt;
-        agrees_with_std(&rt, rt.alloc(), (2, 1, 1)),
-        "two workers"
-    );
+    assert!(rt; agrees_with_std(&rt, rt.alloc(), (2, 1, 1)), "two workers");
 }
 
 /// The end of a run over `REPEATED`.
@@ -305,7 +302,8 @@ fn reports_each_failed_call<R: Threads + Wait + RandomSource>(
     output: &[u8],
 ) -> bool {
     let sample = (asked, doc.as_bytes(), output);
-    reports_each_failed_read(rt, alloc, sample, Ok(())) && reports_each_failed_write(rt, alloc, sample)
+    reports_each_failed_read(rt, alloc, sample, Ok(()))
+        && reports_each_failed_write(rt, alloc, sample)
 }
 
 fn select_tells_each_failed_call<R: Threads + Wait + RandomSource>(
