@@ -55,7 +55,13 @@ pub(crate) fn read(alloc: Global, text: &str) -> Result<Option<Term>, AllocError
 fn kind_of<'a>(datatype: &'a str, tag: &'a Option<Text>) -> (&'static str, &'a str, &'static str) {
     match (tag, datatype.strip_prefix(XSD)) {
         (Some(tag), _) => ("@", tag.as_str(), ""),
-        (None, Some(name)) => { if datatype == XSD_STRING { ("", "", "") } else { ("^^xsd:", name, "") } }
+        (None, Some(name)) => {
+            if datatype == XSD_STRING {
+                ("", "", "")
+            } else {
+                ("^^xsd:", name, "")
+            }
+        }
         (None, None) => ("^^<", datatype, ">"),
     }
 }
