@@ -1,6 +1,8 @@
 //! Tables of cases. A line of a table is a case, `=>`, and the text that its reader prints for it.
 //! Empty lines and lines that begin with `#` are skipped.
-use crate::{comparisons, expressions, operators, plans, solutions};
+use crate::expressions::Asked;
+use crate::plans::{Task, planned};
+use crate::{comparisons, expressions, operators, solutions};
 use std::alloc::{AllocError, Global};
 
 /// What a reader prints for a case.
@@ -8,16 +10,10 @@ use std::alloc::{AllocError, Global};
 pub(crate) enum Reader {
     /// Two terms with an operator between them: the value of the comparison.
     Comparison,
-    /// Two terms: whether they are equal, in both orders.
-    Equality,
-    /// A term: whether it is equal to 5, and whether it is not.
-    EqualsFive,
     /// A term: its effective boolean value.
     Truth,
-    /// An expression, and perhaps the term of `?x`: its value.
-    Value,
-    /// An expression, and perhaps the term of `?x`: whether a filter keeps the row.
-    Filter,
+    /// An expression, and perhaps the term of `?x`: its value, or whether a filter keeps the row.
+    Expression(Asked),
     /// A query: its plan.
     Plan,
     /// An operator of plain_eval: its solutions.
@@ -35,71 +31,51 @@ pub(crate) enum Reader {
 fn printed(alloc: Global, reader: Reader, case: &str) -> Result<String, AllocError> {
     match reader {
         Reader::Comparison => comparisons::comparison(alloc, case),
-        Reader::Equality => comparisons::equality(alloc, case),
-        Reader::EqualsFive => comparisons::equals_five(alloc, case),
         Reader::Truth => comparisons::truth_of(alloc, case),
-        Reader::Value => expressions::value_of(alloc, case),
-        Reader::Filter => expressions::kept(alloc, case),
-        Reader::Plan => plans::plan(alloc, case),
+        Reader::Expression(asked) => expressions::answered(alloc, case, asked),
+        Reader::Plan => planned(alloc, case, Task::Show),
         Reader::Operator => operators::operated(alloc, case),
         Reader::Solutions => solutions::solutions(alloc, case),
-        Reader::Table => solutions::table_alone(alloc, case),
+        Reader::Table => planned(alloc, case, Task::Tabulate),
         Reader::BoundAgain => solutions::bound_again(alloc, case),
         Reader::Count => solutions::count_of(alloc, case),
     }
 }
 
-/// Appends the case, the expected text and the printed text, if these two differ.
-fn check(
-    alloc: Global,
-    reader: Reader,
-    case: &str,
-    expected: &str,
-    report: &mut String,
-) -> Result<(), AllocError> {
-    let found = printed(alloc, reader, case)?;
-    if found.as_str() == expected {
-        return Ok(());
+/// Returns whether the two texts are the same. Prints the case and both if they are not.
+fn is_same<R: Print>(rt: &R, case: &str, expected: &str, found: &str) -> bool {
+    if found != expected {
+        let _ = println!(rt; "{case}\n  expected {expected}\n  got      {found}");
     }
-    write!(
-        report,
-        "{case}\n  expected {expected}\n  got      {found}\n"
-    )
+    found == expected
 }
 
-/// Checks a line of a table.
-fn check_line(
-    alloc: Global,
-    reader: Reader,
-    line: &str,
-    report: &mut String,
-) -> Result<(), AllocError> {
+/// Returns whether the case of a line has its text. A line without a case is right.
+fn is_right<R: Print>(rt: &R, alloc: Global, reader: Reader, line: &str) -> bool {
     if line.is_empty() || line.starts_with("#") {
-        return Ok(());
+        return true;
     }
-    match line.split_once("=>") {
-        Some((case, expected)) => check(alloc, reader, case.trim(), expected.trim(), report),
-        None => write!(report, "{line}\n  is no case\n"),
+    let (case, expected) = line.split_once("=>").unwrap_or((line, "a line with `=>`"));
+    match printed(alloc, reader, case.trim()) {
+        Ok(found) => is_same(rt, case, expected.trim(), found.as_str()),
+        Err(_) => false,
     }
-}
-
-/// Returns the cases of a table that fail, each with the expected text and the printed text. The
-/// result is empty if no case fails.
-fn report(alloc: Global, reader: Reader, table: &str) -> Result<String, AllocError> {
-    let mut report = String::new(alloc);
-    for line in table.lines() {
-        check_line(alloc, reader, line.trim(), &mut report)?;
-    }
-    Ok(report)
 }
 
 /// Returns whether no case of the table fails. Prints those that fail.
 pub(crate) fn are_right<R: Print>(rt: &R, alloc: Global, reader: Reader, table: &str) -> bool {
-    match report(alloc, reader, table) {
-        Ok(report) => {
-            let _ = print!(rt; "{report}");
-            report.is_empty()
-        }
-        Err(_) => false,
+    let mut are_right = true;
+    for line in table.lines() {
+        are_right &= is_right(rt, alloc, reader, line.trim());
     }
+    are_right
+}
+
+/// Returns whether no case of the tables fails. Prints those that fail.
+pub(crate) fn are_all_right<R: Print>(rt: &R, alloc: Global, tables: &[(Reader, &str)]) -> bool {
+    let mut are_all_right = true;
+    for (reader, table) in tables {
+        are_all_right &= are_right(rt, alloc, *reader, *table);
+    }
+    are_all_right
 }

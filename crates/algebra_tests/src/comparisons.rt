@@ -1,5 +1,5 @@
 //! Comparisons and effective boolean values of terms.
-use crate::cases::{Reader, are_right};
+use crate::cases::{Reader, are_all_right};
 use crate::terms::read;
 use rdf_core::Term;
 use sparql_algebra::{Comparison, compare, truth};
@@ -23,64 +23,40 @@ fn word_of(value: Option<bool>) -> &'static str {
     }
 }
 
-/// Reads two terms.
-fn pair(alloc: Global, left: &str, right: &str) -> Result<Vec<Option<Term>>, AllocError> {
-    let mut terms = Vec::new(alloc);
-    for text in [left, right] {
-        terms.push(read(alloc, text)?)?;
+/// Splits a case at its operator.
+fn parts_of(case: &str) -> Option<(&str, Comparison, &str)> {
+    for (sign, operator) in &SIGNS {
+        if let Some((left, right)) = case.split_once(*sign) {
+            return Some((left, *operator, right));
+        }
     }
-    Ok(terms)
+    None
 }
 
-/// Compares two terms.
-fn compared(
-    alloc: Global,
-    left: &str,
-    operator: Comparison,
-    right: &str,
-) -> Result<&'static str, AllocError> {
-    let terms = pair(alloc, left, right)?;
-    match terms.as_slice() {
-        [Some(left), Some(right)] => Ok(word_of(compare(operator, left, right))),
-        _ => Ok("no term"),
+/// Returns the value of a comparison of two terms.
+fn compared(operator: Comparison, left: &Option<Term>, right: &Option<Term>) -> &'static str {
+    match (left, right) {
+        (Some(left), Some(right)) => word_of(compare(operator, left, right)),
+        _ => "no term",
     }
 }
 
 /// Prints the value of a comparison.
 pub(crate) fn comparison(alloc: Global, case: &str) -> Result<String, AllocError> {
-    for (sign, operator) in SIGNS {
-        if let Some((left, right)) = case.split_once(sign) {
-            return String::from_str(alloc, compared(alloc, left, operator, right)?);
-        }
-    }
-    String::from_str(alloc, "no operator")
-}
-
-/// Prints whether the first term equals the second, and whether the second equals the first.
-pub(crate) fn equality(alloc: Global, case: &str) -> Result<String, AllocError> {
-    let Some((left, right)) = case.split_once(" = ") else {
-        return String::from_str(alloc, "no operator");
-    };
-    let found = compared(alloc, left, Comparison::Equal, right)?;
-    let turned = compared(alloc, right, Comparison::Equal, left)?;
-    format!(in alloc; "{found} {turned}")
-}
-
-/// Prints whether a term equals the decimal 5, and whether it does not.
-pub(crate) fn equals_five(alloc: Global, case: &str) -> Result<String, AllocError> {
-    let five = "\"5\"^^xsd:decimal";
-    let found = compared(alloc, case, Comparison::Equal, five)?;
-    let negation = compared(alloc, case, Comparison::NotEqual, five)?;
-    format!(in alloc; "{found} {negation}")
+    let (left, operator, right) = parts_of(case).unwrap_or((case, Comparison::Equal, ""));
+    let left = read(alloc, left)?;
+    let right = read(alloc, right)?;
+    String::from_str(alloc, compared(operator, &left, &right))
 }
 
 /// Prints the effective boolean value of a term.
 pub(crate) fn truth_of(alloc: Global, case: &str) -> Result<String, AllocError> {
     let term = read(alloc, case)?;
-    match &term {
-        Some(term) => String::from_str(alloc, word_of(truth(term))),
-        None => String::from_str(alloc, "no term"),
-    }
+    let word = match &term {
+        Some(term) => word_of(truth(term)),
+        None => "no term",
+    };
+    String::from_str(alloc, word)
 }
 
 /// Numbers of any length are compared by value. A lexical form outside the range of its datatype is
@@ -103,72 +79,93 @@ const NUMBERS: &str = r#"
 "9.05"^^xsd:decimal < "9.5"^^xsd:decimal              => true
 "#;
 
-#[test]
-fn numbers_are_compared_by_value(rt: HostRuntime) {
-    assert!(rt; are_right(&rt, rt.alloc(), Reader::Comparison, NUMBERS));
-}
-
 /// Literals that equal the decimal 5 or do not. For a literal that is not a number, both
 /// comparisons are errors.
 const FORMS: &str = r#"
-"5."^^xsd:decimal       => true false
-"+005.000"^^xsd:decimal => true false
-".5"^^xsd:decimal       => false true
-"-5"^^xsd:decimal       => false true
-"."^^xsd:decimal        => error error
-""^^xsd:decimal         => error error
-"+"^^xsd:decimal        => error error
-" 5"^^xsd:decimal       => error error
-"5 "^^xsd:decimal       => error error
-"5e0"^^xsd:decimal      => error error
-"5.."^^xsd:decimal      => error error
-"--5"^^xsd:decimal      => error error
-"٥"^^xsd:decimal        => error error
-"5"^^xsd:integer        => true false
-"005"^^xsd:unsignedByte => true false
-"5.0"^^xsd:integer      => error error
-""^^xsd:integer         => error error
-"5"^^xsd:double         => error error
-"5"^^xsd:float          => error error
-"5"                     => error error
+"5."^^xsd:decimal = "5"^^xsd:decimal        => true
+"5."^^xsd:decimal != "5"^^xsd:decimal       => false
+"+005.000"^^xsd:decimal = "5"^^xsd:decimal  => true
+"+005.000"^^xsd:decimal != "5"^^xsd:decimal => false
+".5"^^xsd:decimal = "5"^^xsd:decimal        => false
+".5"^^xsd:decimal != "5"^^xsd:decimal       => true
+"-5"^^xsd:decimal = "5"^^xsd:decimal        => false
+"-5"^^xsd:decimal != "5"^^xsd:decimal       => true
+"."^^xsd:decimal = "5"^^xsd:decimal         => error
+"."^^xsd:decimal != "5"^^xsd:decimal        => error
+""^^xsd:decimal = "5"^^xsd:decimal          => error
+""^^xsd:decimal != "5"^^xsd:decimal         => error
+"+"^^xsd:decimal = "5"^^xsd:decimal         => error
+"+"^^xsd:decimal != "5"^^xsd:decimal        => error
+" 5"^^xsd:decimal = "5"^^xsd:decimal        => error
+" 5"^^xsd:decimal != "5"^^xsd:decimal       => error
+"5 "^^xsd:decimal = "5"^^xsd:decimal        => error
+"5 "^^xsd:decimal != "5"^^xsd:decimal       => error
+"5e0"^^xsd:decimal = "5"^^xsd:decimal       => error
+"5e0"^^xsd:decimal != "5"^^xsd:decimal      => error
+"5.."^^xsd:decimal = "5"^^xsd:decimal       => error
+"5.."^^xsd:decimal != "5"^^xsd:decimal      => error
+"--5"^^xsd:decimal = "5"^^xsd:decimal       => error
+"--5"^^xsd:decimal != "5"^^xsd:decimal      => error
+"٥"^^xsd:decimal = "5"^^xsd:decimal         => error
+"٥"^^xsd:decimal != "5"^^xsd:decimal        => error
+"5"^^xsd:integer = "5"^^xsd:decimal         => true
+"5"^^xsd:integer != "5"^^xsd:decimal        => false
+"005"^^xsd:unsignedByte = "5"^^xsd:decimal  => true
+"005"^^xsd:unsignedByte != "5"^^xsd:decimal => false
+"5.0"^^xsd:integer = "5"^^xsd:decimal       => error
+"5.0"^^xsd:integer != "5"^^xsd:decimal      => error
+""^^xsd:integer = "5"^^xsd:decimal          => error
+""^^xsd:integer != "5"^^xsd:decimal         => error
+"5"^^xsd:double = "5"^^xsd:decimal          => error
+"5"^^xsd:double != "5"^^xsd:decimal         => error
+"5"^^xsd:float = "5"^^xsd:decimal           => error
+"5"^^xsd:float != "5"^^xsd:decimal          => error
+"5" = "5"^^xsd:decimal                      => error
+"5" != "5"^^xsd:decimal                     => error
 "#;
-
-#[test]
-fn forms_of_numbers(rt: HostRuntime) {
-    assert!(rt; are_right(&rt, rt.alloc(), Reader::EqualsFive, FORMS));
-}
 
 /// Terms that are not both numbers, strings or booleans. A term equals itself, two different
-/// literals are an error, and other terms are not equal.
+/// literals are an error, and other terms are not equal. Two different terms are compared in both
+/// orders.
 const OTHERS: &str = r#"
-"1"^^xsd:integer = "1"^^xsd:double       => error error
-"1"^^xsd:double = "1"^^xsd:double        => true true
-"1"^^xsd:double = "1.0"^^xsd:double      => error error
-"NaN"^^xsd:float = "NaN"^^xsd:float      => true true
-"a"@en = "a"                             => error error
-"a"@en = "a"@en                          => true true
-<http://e/a> = "a"                       => false false
-<a:b> = "1"^^xsd:integer                 => false false
-_:a = <a>                                => false false
-_:a = _:a                                => true true
-"1"^^xsd:integer = "true"^^xsd:boolean   => error error
-"1"^^xsd:integer = "1"                   => error error
-"1"^^xsd:boolean = "true"^^xsd:boolean   => true true
-"abc"^^xsd:integer = "abc"^^xsd:integer  => true true
-"abc"^^xsd:integer = "abc"               => error error
-"abc"^^xsd:integer = "1"^^xsd:integer    => error error
-"abc"^^xsd:integer = <a:b>               => false false
-"abc"^^xsd:integer = _:a                 => false false
-"TRUE"^^xsd:boolean = "TRUE"^^xsd:boolean => true true
-"TRUE"^^xsd:boolean = "true"^^xsd:boolean => error error
-"."^^xsd:decimal = "0"^^xsd:decimal      => error error
-"5"^^xsd:dateTime = "5"^^xsd:dateTime    => true true
+"1"^^xsd:integer = "1"^^xsd:double        => error
+"1"^^xsd:double = "1"^^xsd:integer        => error
+"1"^^xsd:double = "1"^^xsd:double         => true
+"1"^^xsd:double = "1.0"^^xsd:double       => error
+"1.0"^^xsd:double = "1"^^xsd:double       => error
+"NaN"^^xsd:float = "NaN"^^xsd:float       => true
+"a"@en = "a"                              => error
+"a" = "a"@en                              => error
+"a"@en = "a"@en                           => true
+<http://e/a> = "a"                        => false
+"a" = <http://e/a>                        => false
+<a:b> = "1"^^xsd:integer                  => false
+"1"^^xsd:integer = <a:b>                  => false
+_:a = <a>                                 => false
+<a> = _:a                                 => false
+_:a = _:a                                 => true
+"1"^^xsd:integer = "true"^^xsd:boolean    => error
+"true"^^xsd:boolean = "1"^^xsd:integer    => error
+"1"^^xsd:integer = "1"                    => error
+"1" = "1"^^xsd:integer                    => error
+"1"^^xsd:boolean = "true"^^xsd:boolean    => true
+"true"^^xsd:boolean = "1"^^xsd:boolean    => true
+"abc"^^xsd:integer = "abc"^^xsd:integer   => true
+"abc"^^xsd:integer = "abc"                => error
+"abc" = "abc"^^xsd:integer                => error
+"abc"^^xsd:integer = "1"^^xsd:integer     => error
+"1"^^xsd:integer = "abc"^^xsd:integer     => error
+"abc"^^xsd:integer = <a:b>                => false
+<a:b> = "abc"^^xsd:integer                => false
+"abc"^^xsd:integer = _:a                  => false
+_:a = "abc"^^xsd:integer                  => false
+"TRUE"^^xsd:boolean = "TRUE"^^xsd:boolean => true
+"TRUE"^^xsd:boolean = "true"^^xsd:boolean => error
+"true"^^xsd:boolean = "TRUE"^^xsd:boolean => error
+"."^^xsd:decimal = "0"^^xsd:decimal       => error
+"0"^^xsd:decimal = "."^^xsd:decimal       => error
+"5"^^xsd:dateTime = "5"^^xsd:dateTime     => true
 "#;
-
-#[test]
-fn other_terms_are_equal_or_not_or_an_error(rt: HostRuntime) {
-    assert!(rt; are_right(&rt, rt.alloc(), Reader::Equality, OTHERS));
-}
 
 /// Numbers, booleans and strings have an order, and other terms have none. The two characters are
 /// U+FFFF and U+10000, which are in the order of their code points.
@@ -183,11 +180,6 @@ const ORDERED: &str = "
 <a:a> < <a:b> => error
 \"1\"^^xsd:integer > \"0\" => error
 ";
-
-#[test]
-fn only_three_kinds_have_an_order(rt: HostRuntime) {
-    assert!(rt; are_right(&rt, rt.alloc(), Reader::Comparison, ORDERED));
-}
 
 /// Effective boolean values (SPARQL 1.1 Query Language, section 17.2.2).
 const TRUTHS: &str = r#"
@@ -209,12 +201,20 @@ const TRUTHS: &str = r#"
 "abc"^^xsd:float      => error
 "x"^^xsd:dateTime     => error
 "x"^^xsd:unknown      => error
-"x"^^rdf:langString   => error
+"x"^^<http://www.w3.org/1999/02/22-rdf-syntax-ns#langString> => error
 <http://e/a>          => error
 _:a                   => error
 "#;
 
+const TABLES: [(Reader, &str); 5] = [
+    (Reader::Comparison, NUMBERS),
+    (Reader::Comparison, FORMS),
+    (Reader::Comparison, OTHERS),
+    (Reader::Comparison, ORDERED),
+    (Reader::Truth, TRUTHS),
+];
+
 #[test]
-fn effective_boolean_values(rt: HostRuntime) {
-    assert!(rt; are_right(&rt, rt.alloc(), Reader::Truth, TRUTHS));
+fn terms_are_compared_and_have_truth_values(rt: HostRuntime) {
+    assert!(rt; are_all_right(&rt, rt.alloc(), &TABLES));
 }

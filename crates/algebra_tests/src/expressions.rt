@@ -1,16 +1,14 @@
 //! Values of expressions over a row of one variable.
-use crate::cases::{Reader, are_right};
-use crate::plans::plan_of;
-use crate::terms::{RDF, XSD, read, shown};
+use crate::cases::{Reader, are_all_right};
+use crate::plans::{Task, planned};
+use crate::terms::{XSD, read, shown};
 use rdf_core::Term;
 use sparql_algebra::{Expr, ExprFault, Lookup, Operator, Plan, test, value};
-use sparql_read::read_query;
-use sparql_tree::Query;
-use std::alloc::{AllocError, AllocGlobal, Global};
+use std::alloc::{AllocError, Global};
 
 /// A row of one variable.
 #[derive(Drop)]
-struct Row {
+pub(crate) struct Row {
     term: Option<Term>,
 }
 
@@ -32,8 +30,10 @@ impl Lookup for Row {
 
 /// What is printed for an expression.
 #[derive(Clone, Copy)]
-enum Asked {
+pub(crate) enum Asked {
+    /// Its value.
     Value,
+    /// Whether a filter keeps the row.
     Filter,
 }
 
@@ -64,7 +64,12 @@ fn condition_of(tree: &Operator) -> Option<&Expr> {
 }
 
 /// Prints the value of the condition of a plan, or whether the filter keeps the row.
-fn answer(alloc: Global, plan: &Plan, row: &Row, what: Asked) -> Result<String, AllocError> {
+pub(crate) fn answer(
+    alloc: Global,
+    plan: &Plan,
+    row: &Row,
+    what: Asked,
+) -> Result<String, AllocError> {
     match (condition_of(&plan.tree), what) {
         (Some(condition), Asked::Value) => evaluated(alloc, condition, row),
         (Some(condition), Asked::Filter) => filtered(alloc, condition, row),
@@ -72,53 +77,20 @@ fn answer(alloc: Global, plan: &Plan, row: &Row, what: Asked) -> Result<String, 
     }
 }
 
-fn planned(alloc: Global, query: &Query, row: &Row, what: Asked) -> Result<String, AllocError> {
-    let plan = plan_of(alloc, query)?;
-    answer(alloc, &plan, row, what)
-}
-
-/// Prints the same for the filter of a query, from its text.
-fn read_text(alloc: Global, text: &str, row: &Row, what: Asked) -> Result<String, AllocError> {
-    match read_query(alloc, text) {
-        Ok(query) => planned(alloc, &query, row, what),
-        Err(fault) => format!(in alloc; "{fault:?}"),
-    }
-}
-
-/// Prints the same for an expression. The row has a place for `?x` and none for `?y`.
+/// Prints what is asked of an expression over a row. The row has a place for `?x` and none for `?y`.
 fn printed(alloc: Global, expr: &str, row: &Row, what: Asked) -> Result<String, AllocError> {
-    let text = format!(in alloc;
-        "PREFIX xsd: <{XSD}> PREFIX rdf: <{RDF}> SELECT ?x ?y {{ FILTER ({expr}) }}"
-    )?;
-    read_text(alloc, text.as_str(), row, what)
+    let text = format!(in alloc; "PREFIX xsd: <{XSD}> SELECT ?x ?y {{ FILTER ({expr}) }}")?;
+    planned(alloc, text.as_str(), Task::Answer(row, what))
 }
 
-/// Reads the row with this term. For any other text, the row binds nothing.
-fn row_of(alloc: Global, text: &str) -> Result<Row, AllocError> {
-    let term = read(alloc, text)?;
-    Ok(Row { term })
-}
-
-/// Splits a case at `where ?x is`.
-fn case_of(case: &str) -> (&str, &str) {
-    match case.split_once(" where ?x is ") {
-        Some((expr, term)) => (expr.trim(), term.trim()),
-        None => (case, ""),
-    }
-}
-
-/// Prints the value of an expression.
-pub(crate) fn value_of(alloc: Global, case: &str) -> Result<String, AllocError> {
-    let (expr, term) = case_of(case);
-    let row = row_of(alloc, term)?;
-    printed(alloc, expr, &row, Asked::Value)
-}
-
-/// Prints whether a filter keeps the row.
-pub(crate) fn kept(alloc: Global, case: &str) -> Result<String, AllocError> {
-    let (expr, term) = case_of(case);
-    let row = row_of(alloc, term)?;
-    printed(alloc, expr, &row, Asked::Filter)
+/// Prints what is asked of the expression of a case. After `where ?x is` the case has the term of
+/// `?x`. Without a term the row binds nothing.
+pub(crate) fn answered(alloc: Global, case: &str, what: Asked) -> Result<String, AllocError> {
+    let (expr, term) = case.split_once(" where ?x is ").unwrap_or((case, ""));
+    let row = Row {
+        term: read(alloc, term.trim())?,
+    };
+    printed(alloc, expr.trim(), &row, what)
 }
 
 /// The truth tables of `&&`, `||` and `!` (SPARQL 1.1 Query Language, section 17.2). `?x` is
@@ -147,11 +119,6 @@ false || ?x    => error
 !?x            => error
 "#;
 
-#[test]
-fn logic_has_three_values(rt: HostRuntime) {
-    assert!(rt; are_right(&rt, rt.alloc(), Reader::Value, LOGIC));
-}
-
 /// A comparison is a boolean or an error. If an operand is an error, the comparison is one.
 const COMPARISONS: &str = r#"
 "01"^^xsd:integer = "1.0"^^xsd:decimal => "true"^^xsd:boolean
@@ -170,11 +137,6 @@ const COMPARISONS: &str = r#"
 ?x = ?x                                => error
 "#;
 
-#[test]
-fn a_comparison_is_a_boolean(rt: HostRuntime) {
-    assert!(rt; are_right(&rt, rt.alloc(), Reader::Value, COMPARISONS));
-}
-
 /// Variables, bound and unbound, and sameTerm ([121] `BuiltInCall`).
 const TERMS: &str = r#"
 # A variable alone is its term, and an error if the row has no place for it. Under `||` it is a boolean.
@@ -189,11 +151,6 @@ sameTerm(?x, ?x) => error
 sameTerm("01"^^xsd:integer, "1"^^xsd:integer)  => "false"^^xsd:boolean
 sameTerm("01"^^xsd:integer, "01"^^xsd:integer) => "true"^^xsd:boolean
 "#;
-
-#[test]
-fn variables_are_terms_or_errors(rt: HostRuntime) {
-    assert!(rt; are_right(&rt, rt.alloc(), Reader::Value, TERMS));
-}
 
 /// IN and NOT IN ([114] `RelationalExpression`).
 const MEMBERSHIP: &str = r#"
@@ -225,11 +182,6 @@ const MEMBERSHIP: &str = r#"
 ?x NOT IN ()                                                                     => "true"^^xsd:boolean
 "#;
 
-#[test]
-fn membership_is_by_value(rt: HostRuntime) {
-    assert!(rt; are_right(&rt, rt.alloc(), Reader::Value, MEMBERSHIP));
-}
-
 /// Filters with IN and NOT IN.
 const KEPT: &str = r#"
 # A filter keeps a row only if its condition is true.
@@ -250,11 +202,6 @@ const KEPT: &str = r#"
 ?x NOT IN () where ?x is "1"^^xsd:double                                         => kept
 ?x NOT IN ()                                                                     => kept
 "#;
-
-#[test]
-fn a_filter_keeps_what_is_true(rt: HostRuntime) {
-    assert!(rt; are_right(&rt, rt.alloc(), Reader::Filter, KEPT));
-}
 
 /// STR, LANG, DATATYPE, isIRI, isBlank and isLiteral ([121] `BuiltInCall`) of each kind of term.
 const FUNCTIONS: &str = r#"
@@ -281,7 +228,16 @@ isIRI(?x) where ?x is _:b                  => "false"^^xsd:boolean
 isLiteral(?x) where ?x is _:b              => "false"^^xsd:boolean
 "#;
 
+const TABLES: [(Reader, &str); 6] = [
+    (Reader::Expression(Asked::Value), LOGIC),
+    (Reader::Expression(Asked::Value), COMPARISONS),
+    (Reader::Expression(Asked::Value), TERMS),
+    (Reader::Expression(Asked::Value), MEMBERSHIP),
+    (Reader::Expression(Asked::Filter), KEPT),
+    (Reader::Expression(Asked::Value), FUNCTIONS),
+];
+
 #[test]
-fn functions_of_one_term(rt: HostRuntime) {
-    assert!(rt; are_right(&rt, rt.alloc(), Reader::Value, FUNCTIONS));
+fn expressions_have_their_values(rt: HostRuntime) {
+    assert!(rt; are_all_right(&rt, rt.alloc(), &TABLES));
 }

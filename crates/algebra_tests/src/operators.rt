@@ -1,6 +1,7 @@
-//! One call of each operator of plain_eval. A solution of two variables is a word of two
+//! One call of each operator of plain_eval. A given solution of two variables is a word of two
 //! characters: a letter is the blank node with that label, and `.` is an unbound variable.
 use crate::cases::{Reader, are_right};
+use crate::solutions::listed;
 use plain_eval::condition::{Condition, Value};
 use plain_eval::operators::{distinct, extend, filter, join, left_join, minus, project, union};
 use plain_eval::solution::Solution;
@@ -64,33 +65,6 @@ fn solutions(alloc: Global, text: &str) -> Result<Vec<Solution>, AllocError> {
     Ok(all)
 }
 
-fn text_of(cell: &Option<Term>) -> &str {
-    match cell {
-        Some(Term::Blank(label)) => label.as_str(),
-        Some(_) => "?",
-        None => ".",
-    }
-}
-
-fn push_solution(out: &mut String, solution: &Solution) -> Result<(), AllocError> {
-    for cell in solution.terms() {
-        out.push_str(text_of(cell))?;
-    }
-    Ok(())
-}
-
-/// Prints solutions in their order.
-fn shown(alloc: Global, solutions: &[Solution]) -> Result<String, AllocError> {
-    let mut out = String::new(alloc);
-    for solution in solutions {
-        if !out.is_empty() {
-            out.push(' ')?;
-        }
-        push_solution(&mut out, solution)?;
-    }
-    Ok(out)
-}
-
 /// Applies an operator to two lists of solutions, or to the first one.
 fn made(
     alloc: Global,
@@ -118,7 +92,7 @@ fn shown_operator(
     right: &[Solution],
 ) -> Result<String, AllocError> {
     let made = made(alloc, operator, left, right)?;
-    shown(alloc, &made)
+    listed(alloc, &made)
 }
 
 /// Prints the solutions of an operator.
@@ -133,14 +107,14 @@ pub(crate) fn operated(alloc: Global, case: &str) -> Result<String, AllocError> 
 /// The condition of the left join and of the filter is that the second variable is bound. The value
 /// of the extension of the second variable is an error. The projection keeps the first variable.
 const OPERATORS: &str = "
-join: ab a. c. and ab ad      => ab ab ad
-left join: ab a. c. and ab ad => ab ab ad c.
-minus: ab a. c. and ab ad     => c.
-filter: ab a. ab              => ab ab
-distinct: ab a. ab            => ab a.
-extend: ab a.                 => ab a.
-union: ab c. and ab c.        => ab c. ab c.
-project: ab c.                => a. c.
+join: ab a. c. and ab ad      => 3: _:a _:b; _:a _:b; _:a _:d
+left join: ab a. c. and ab ad => 4: _:a _:b; _:a _:b; _:a _:d; _:c -
+minus: ab a. c. and ab ad     => 1: _:c -
+filter: ab a. ab              => 2: _:a _:b; _:a _:b
+distinct: ab a. ab            => 2: _:a _:b; _:a -
+extend: ab a.                 => 2: _:a _:b; _:a -
+union: ab c. and ab c.        => 4: _:a _:b; _:c -; _:a _:b; _:c -
+project: ab c.                => 2: _:a -; _:c -
 ";
 
 #[test]

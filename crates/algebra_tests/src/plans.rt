@@ -1,13 +1,37 @@
 //! Queries and their plans (SPARQL 1.1 Query Language, section 18.2).
 use crate::cases::{Reader, are_right};
+use crate::expressions::{Asked, Row, answer};
+use crate::solutions::{solved, tabulated};
 use sparql_algebra::{Plan, translate};
 use sparql_read::read_query;
 use sparql_tree::Query;
 use std::alloc::{AllocError, AllocGlobal, Global};
 
+/// What is printed for a query.
+#[derive(Clone, Copy)]
+pub(crate) enum Task<'a> {
+    /// Its plan.
+    Show,
+    /// The value of its filter over a row, or whether the filter keeps the row.
+    Answer(&'a Row, Asked),
+    /// Its solutions over a document.
+    Solve(&'a str),
+    /// The solutions of its table.
+    Tabulate,
+}
+
 /// Prints the names of the variables, the numbers of the projected ones, and the tree.
 fn shown(alloc: Global, plan: &Plan) -> Result<String, AllocError> {
     format!(in alloc; "{:?}, {:?}: {:?}", plan.names, plan.projected(), plan.tree)
+}
+
+fn done(alloc: Global, plan: &Plan, task: Task<'_>) -> Result<String, AllocError> {
+    match task {
+        Task::Show => shown(alloc, plan),
+        Task::Answer(row, what) => answer(alloc, plan, row, what),
+        Task::Solve(document) => solved(alloc, document, plan),
+        Task::Tabulate => tabulated(alloc, plan),
+    }
 }
 
 /// Returns the plan of a query in a box, because a function that owns a tree by value is slow to
@@ -16,15 +40,15 @@ pub(crate) fn plan_of(alloc: Global, query: &Query) -> Result<Box<Plan>, AllocEr
     Ok(Box::new(alloc, translate(alloc, query)?)?)
 }
 
-fn planned(alloc: Global, query: &Query) -> Result<String, AllocError> {
+fn done_for(alloc: Global, query: &Query, task: Task<'_>) -> Result<String, AllocError> {
     let plan = plan_of(alloc, query)?;
-    shown(alloc, &plan)
+    done(alloc, &plan, task)
 }
 
-/// Prints the plan of a query.
-pub(crate) fn plan(alloc: Global, case: &str) -> Result<String, AllocError> {
-    match read_query(alloc, case) {
-        Ok(query) => planned(alloc, &query),
+/// Reads a query and does a task with its plan.
+pub(crate) fn planned(alloc: Global, text: &str, task: Task<'_>) -> Result<String, AllocError> {
+    match read_query(alloc, text) {
+        Ok(query) => done_for(alloc, &query, task),
         Err(fault) => format!(in alloc; "{fault:?}"),
     }
 }

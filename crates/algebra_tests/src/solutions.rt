@@ -1,7 +1,7 @@
 //! Queries and their solutions over a document, according to plain_eval. Examples from the SPARQL
 //! 1.1 Query Language name its section.
-use crate::cases::{Reader, are_right};
-use crate::plans::plan_of;
+use crate::cases::{Reader, are_all_right};
+use crate::plans::{Task, plan_of, planned};
 use crate::terms::{push_cell, read};
 use nquads_core::{PieceFault, read_piece};
 use plain_eval::dataset::{graph, names};
@@ -25,25 +25,30 @@ fn line_of(alloc: Global, solution: &Solution) -> Result<String, AllocError> {
     Ok(line)
 }
 
-/// Prints the number of solutions, and the solutions in the order of their texts.
-fn shown(alloc: Global, solutions: &[Solution]) -> Result<String, AllocError> {
+fn lines_of(alloc: Global, solutions: &[Solution]) -> Result<Vec<String>, AllocError> {
     let mut lines = Vec::new(alloc);
     for solution in solutions {
         lines.push(line_of(alloc, solution)?)?;
     }
-    lines.sort()?;
-    joined(alloc, &lines)
+    Ok(lines)
 }
 
 fn joined(alloc: Global, lines: &[String]) -> Result<String, AllocError> {
-    let mut out = format!(in alloc; "{}:", lines.len())?;
-    let mut separator = "";
-    for line in lines {
-        out.push_str(separator)?;
-        out.push_str(line.as_str())?;
-        separator = ";";
-    }
-    Ok(out)
+    let text = lines.join(alloc, ";")?;
+    format!(in alloc; "{}:{text}", lines.len())
+}
+
+/// Prints the number of solutions, and the solutions in their order.
+pub(crate) fn listed(alloc: Global, solutions: &[Solution]) -> Result<String, AllocError> {
+    let lines = lines_of(alloc, solutions)?;
+    joined(alloc, &lines)
+}
+
+/// Prints the number of solutions, and the solutions in the order of their texts.
+fn shown(alloc: Global, solutions: &[Solution]) -> Result<String, AllocError> {
+    let mut lines = lines_of(alloc, solutions)?;
+    lines.sort()?;
+    joined(alloc, &lines)
 }
 
 /// Prints the solutions of a tree of this width over the default graph.
@@ -58,7 +63,7 @@ fn evaluated(
 }
 
 /// Prints the solutions of a plan over a document.
-fn solved(alloc: Global, document: &str, plan: &Plan) -> Result<String, AllocError> {
+pub(crate) fn solved(alloc: Global, document: &str, plan: &Plan) -> Result<String, AllocError> {
     match read_piece(alloc, document.as_bytes()) {
         Ok(piece) => evaluated(alloc, plan.names.len(), &piece.quads, &plan.tree),
         Err(PieceFault::BadLine(_)) => String::from_str(alloc, "a malformed document"),
@@ -82,7 +87,7 @@ fn table_of(tree: &Operator) -> Option<(&[usize], &[Vec<Option<Term>>])> {
 }
 
 /// Prints the solutions of the table of a plan.
-fn tabulated(alloc: Global, plan: &Plan) -> Result<String, AllocError> {
+pub(crate) fn tabulated(alloc: Global, plan: &Plan) -> Result<String, AllocError> {
     let Some((variables, rows)) = table_of(&plan.tree) else {
         return String::from_str(alloc, "no table");
     };
@@ -109,39 +114,6 @@ fn solved_again(alloc: Global, query: &Query) -> Result<String, AllocError> {
     evaluated(alloc, width, &[], &tree)
 }
 
-fn solved_query(alloc: Global, document: &str, query: &Query) -> Result<String, AllocError> {
-    let plan = plan_of(alloc, query)?;
-    solved(alloc, document, &plan)
-}
-
-fn tabulated_query(alloc: Global, query: &Query) -> Result<String, AllocError> {
-    let plan = plan_of(alloc, query)?;
-    tabulated(alloc, &plan)
-}
-
-/// What is printed for a query.
-#[derive(Clone, Copy)]
-enum Task<'a> {
-    Solve(&'a str),
-    Tabulate,
-    Extend,
-}
-
-fn done(alloc: Global, query: &Query, task: Task<'_>) -> Result<String, AllocError> {
-    match task {
-        Task::Solve(document) => solved_query(alloc, document, query),
-        Task::Tabulate => tabulated_query(alloc, query),
-        Task::Extend => solved_again(alloc, query),
-    }
-}
-
-fn read_and_done(alloc: Global, text: &str, task: Task<'_>) -> Result<String, AllocError> {
-    match read_query(alloc, text) {
-        Ok(query) => done(alloc, &query, task),
-        Err(fault) => format!(in alloc; "{fault:?}"),
-    }
-}
-
 /// Splits a case into the name of a document and the rest.
 fn case_of(case: &str) -> (&str, &str) {
     case.split_once(": ").unwrap_or(("", case))
@@ -150,17 +122,15 @@ fn case_of(case: &str) -> (&str, &str) {
 /// Prints the solutions of a query over a document: `books: SELECT ..`.
 pub(crate) fn solutions(alloc: Global, case: &str) -> Result<String, AllocError> {
     let (name, query) = case_of(case);
-    read_and_done(alloc, query, Task::Solve(document_of(name)))
-}
-
-/// Prints the solutions of the table of a query, without the rest of the plan.
-pub(crate) fn table_alone(alloc: Global, case: &str) -> Result<String, AllocError> {
-    read_and_done(alloc, case, Task::Tabulate)
+    planned(alloc, query, Task::Solve(document_of(name)))
 }
 
 /// Prints the solutions of a query after its second variable is bound to the first one.
 pub(crate) fn bound_again(alloc: Global, case: &str) -> Result<String, AllocError> {
-    read_and_done(alloc, case, Task::Extend)
+    match read_query(alloc, case) {
+        Ok(query) => solved_again(alloc, &query),
+        Err(_) => String::from_str(alloc, "no query"),
+    }
 }
 
 /// Returns the number of quads in the graph of this name. `-` is the default graph.
@@ -252,11 +222,6 @@ blank: SELECT ?x ?t { ?x <a:p> _:l BIND(STR(?x) AS ?t) FILTER(BOUND(?t)) } => 0:
 blank: SELECT ?x ?t { ?x <a:p> _:l BIND(STR(?x) AS ?t) ?x <a:p> ?t }      => 1: _:b <a:c>
 "#;
 
-#[test]
-fn what_is_not_bound_stays_open(rt: HostRuntime) {
-    assert!(rt; are_right(&rt, rt.alloc(), Reader::Solutions, OPTIONALS));
-}
-
 /// MINUS ([66] `MinusGraphPattern`).
 const DIFFERENCES: &str = r#"
 # Section 8.3.1: if no variable is shared, MINUS removes nothing.
@@ -268,11 +233,6 @@ empty: SELECT ?a ?b { VALUES (?a ?b) { (<a:a> UNDEF) (<a:b> UNDEF) } MINUS { VAL
 # Section 8.3.3: a filter in MINUS does not see the variables on the left.
 numbers: SELECT ?x ?n ?m { ?x <a:p> ?n MINUS { ?x <a:q> ?m FILTER(?n = ?m) } } => 2: <a:a> "1"^^xsd:integer -; <a:b> "3.0"^^xsd:decimal -
 "#;
-
-#[test]
-fn minus_needs_a_shared_variable(rt: HostRuntime) {
-    assert!(rt; are_right(&rt, rt.alloc(), Reader::Solutions, DIFFERENCES));
-}
 
 /// GRAPH ([58] `GraphGraphPattern`).
 const NAMED_GRAPHS: &str = r#"
@@ -289,11 +249,6 @@ graphs: SELECT ?g { GRAPH <a:none> { } } => 0:
 graphs: SELECT ?g { GRAPH ?g { } }       => 2: <a:g>; _:g
 "#;
 
-#[test]
-fn graphs_are_named(rt: HostRuntime) {
-    assert!(rt; are_right(&rt, rt.alloc(), Reader::Solutions, NAMED_GRAPHS));
-}
-
 /// Numbers of graph names, and of quads in a graph.
 const COUNTED: &str = r#"
 graphs: graph names       => 2
@@ -301,11 +256,6 @@ graphs: <a:g>             => 2
 graphs: -                 => 1
 graphs: the empty pattern => 1
 "#;
-
-#[test]
-fn a_dataset_has_graphs(rt: HostRuntime) {
-    assert!(rt; are_right(&rt, rt.alloc(), Reader::Count, COUNTED));
-}
 
 /// The multiplicities of solutions, and the variables of the cells of a table.
 const MULTIPLICITIES: &str = r#"
@@ -321,21 +271,11 @@ empty: SELECT ?a ?b { VALUES (?a ?b) { (<a:a> "A") } VALUES () { () () } } => 2:
 empty: SELECT ?x ?y { VALUES (?y ?x) { (<a:a> "A") (UNDEF "B") } } => 2: "A" <a:a>; "B" -
 "#;
 
-#[test]
-fn repeats_are_kept(rt: HostRuntime) {
-    assert!(rt; are_right(&rt, rt.alloc(), Reader::Solutions, MULTIPLICITIES));
-}
-
 /// The table of a query by itself.
 const CELLS: &str = r#"
 # The cells of a row belong to the listed variables in the order of the list.
 SELECT ?x ?y { VALUES (?y ?x) { (<a:a> "A") (UNDEF "B") } } => 2: "A" <a:a>; "B" -
 "#;
-
-#[test]
-fn cells_of_a_table_go_by_their_variables(rt: HostRuntime) {
-    assert!(rt; are_right(&rt, rt.alloc(), Reader::Table, CELLS));
-}
 
 /// An extension of a variable that may be bound. No query is translated to this plan.
 const BOUND_AGAIN: &str = r#"
@@ -343,7 +283,17 @@ const BOUND_AGAIN: &str = r#"
 SELECT ?a ?b { VALUES (?a ?b) { (<a:a> "A") (<a:b> UNDEF) } } => 2: <a:a> "A"; <a:b> <a:b>
 "#;
 
+const TABLES: [(Reader, &str); 7] = [
+    (Reader::Solutions, OPTIONALS),
+    (Reader::Solutions, DIFFERENCES),
+    (Reader::Solutions, NAMED_GRAPHS),
+    (Reader::Count, COUNTED),
+    (Reader::Solutions, MULTIPLICITIES),
+    (Reader::Table, CELLS),
+    (Reader::BoundAgain, BOUND_AGAIN),
+];
+
 #[test]
-fn a_bound_variable_is_not_bound_again(rt: HostRuntime) {
-    assert!(rt; are_right(&rt, rt.alloc(), Reader::BoundAgain, BOUND_AGAIN));
+fn queries_have_their_solutions(rt: HostRuntime) {
+    assert!(rt; are_all_right(&rt, rt.alloc(), &TABLES));
 }

@@ -1,59 +1,10 @@
-//! Terms as text: `_:b` is a blank node, and every other text is an IRI or a literal in SPARQL
-//! syntax, with the prefixes `xsd:` and `rdf:`. `-` is an unbound variable.
+//! Terms as text: N-Quads syntax with the prefix `xsd:`. `-` is an unbound variable.
 use nquads_core::{PieceFault, read_piece};
 use rdf_core::vocabulary::XSD_STRING;
 use rdf_core::{Quad, Term, Text};
-use sparql_expression::{ParseFault, read_term};
-use sparql_grammar::{Declaration, Declarations};
-use sparql_lexer::{Token, characters_of, scan_text};
 use std::alloc::{AllocError, Global};
 
 pub(crate) const XSD: &str = "http://www.w3.org/2001/XMLSchema#";
-
-pub(crate) const RDF: &str = "http://www.w3.org/1999/02/22-rdf-syntax-ns#";
-
-/// Declares a prefix.
-fn declare(
-    alloc: Global,
-    names: &mut Declarations,
-    prefix: &str,
-    iri: &str,
-) -> Result<(), AllocError> {
-    let prefix = Text::from_string(String::from_str(alloc, prefix)?);
-    let iri = Text::from_string(String::from_str(alloc, iri)?);
-    names.add(Declaration { prefix, iri })
-}
-
-/// Declares `xsd:` and `rdf:`.
-fn declarations(alloc: Global) -> Result<Declarations, AllocError> {
-    let mut names = Declarations::new(alloc);
-    declare(alloc, &mut names, "xsd", XSD)?;
-    declare(alloc, &mut names, "rdf", RDF)?;
-    Ok(names)
-}
-
-/// Reads an IRI or a literal. Returns None if the tokens are something else.
-fn read_tokens(alloc: Global, tokens: &[Token<'_>]) -> Result<Option<Term>, AllocError> {
-    let names = declarations(alloc)?;
-    match read_term(alloc, &names, tokens) {
-        Ok((term, rest)) => {
-            if rest.is_empty() {
-                Ok(Some(term))
-            } else {
-                Ok(None)
-            }
-        }
-        Err(ParseFault::Syntax) => Ok(None),
-        Err(ParseFault::Memory) => Err(AllocError),
-    }
-}
-
-/// Reads an IRI or a literal in SPARQL syntax.
-fn read_name(alloc: Global, text: &str) -> Result<Option<Term>, AllocError> {
-    let characters = characters_of(alloc, text)?;
-    let scan = scan_text(alloc, &characters)?;
-    read_tokens(alloc, &scan.tokens)
-}
 
 /// Returns the object of the first quad.
 fn first_object(alloc: Global, quads: &[Quad]) -> Result<Option<Term>, AllocError> {
@@ -72,36 +23,50 @@ fn object_of(alloc: Global, line: &str) -> Result<Option<Term>, AllocError> {
     }
 }
 
-/// Reads a blank node in N-Quads syntax.
-fn read_blank(alloc: Global, text: &str) -> Result<Option<Term>, AllocError> {
-    let line = format!(in alloc; "<a:s> <a:p> {text} .")?;
+/// Returns the line of a statement whose object is a term.
+fn line_of(alloc: Global, term: &str) -> Result<String, AllocError> {
+    match term.split_once("^^xsd:") {
+        Some((literal, name)) => format!(in alloc; "<a:s> <a:p> {literal}^^<{XSD}{name}> ."),
+        None => format!(in alloc; "<a:s> <a:p> {term} ."),
+    }
+}
+
+/// Reads a blank node or a literal.
+fn read_object(alloc: Global, term: &str) -> Result<Option<Term>, AllocError> {
+    let line = line_of(alloc, term)?;
     object_of(alloc, line.as_str())
+}
+
+/// Returns an IRI. It may be relative.
+fn iri(alloc: Global, iri: &str) -> Result<Term, AllocError> {
+    Ok(Term::Iri(Text::from_string(String::from_str(alloc, iri)?)))
 }
 
 /// Reads a term. Returns None if the text is not a term.
 pub(crate) fn read(alloc: Global, text: &str) -> Result<Option<Term>, AllocError> {
-    if text.starts_with("_:") {
-        read_blank(alloc, text)
-    } else {
-        read_name(alloc, text)
+    match text.strip_prefix("<") {
+        Some(rest) => Ok(Some(iri(alloc, rest.strip_suffix(">").unwrap_or(rest))?)),
+        None => read_object(alloc, text),
     }
 }
 
-/// Appends the language tag or the datatype of a literal. `xsd:string` is left out.
-fn push_kind(out: &mut String, datatype: &str, tag: &Option<Text>) -> Result<(), AllocError> {
-    if let Some(tag) = tag {
-        return write!(out, "@{tag}");
-    }
-    if datatype == XSD_STRING {
-        return Ok(());
-    }
-    match datatype.strip_prefix(XSD) {
-        Some(name) => write!(out, "^^xsd:{name}"),
-        None => write!(out, "^^<{datatype}>"),
+/// Returns the text before a datatype or a language tag, its name, and the text after it. There is
+/// none of them for `xsd:string`.
+fn kind_of<'a>(datatype: &'a str, tag: &'a Option<Text>) -> (&'static str, &'a str, &'static str) {
+    match (tag, datatype.strip_prefix(XSD)) {
+        (Some(tag), _) => ("@", tag.as_str(), ""),
+        (None, Some(name)) => {
+            if datatype == XSD_STRING {
+                ("", "", "")
+            } else {
+                ("^^xsd:", name, "")
+            }
+        }
+        (None, None) => ("^^<", datatype, ">"),
     }
 }
 
-/// Appends a term. `true` and `false` are the booleans with these lexical forms.
+/// Appends a term.
 fn push_term(out: &mut String, term: &Term) -> Result<(), AllocError> {
     match term {
         Term::Blank(label) => write!(out, "_:{label}"),
@@ -111,8 +76,8 @@ fn push_term(out: &mut String, term: &Term) -> Result<(), AllocError> {
             datatype,
             tag,
         } => {
-            write!(out, "\"{lexical}\"")?;
-            push_kind(out, datatype.as_str(), tag)
+            let (before, name, after) = kind_of(datatype.as_str(), tag);
+            write!(out, "\"{lexical}\"{before}{name}{after}")
         }
     }
 }
