@@ -3,6 +3,7 @@ import os
 import signal
 import threading
 import unittest
+from typing import Any
 
 import testing
 from spq_dask import counting
@@ -12,6 +13,14 @@ from spq_dask.program import Failed, Spq
 from testing import file, script, spq, spq_dask
 
 TEXT = b"".join(b"<a:s%d> <a:p> _:b%d .\n" % (k % 50, k) for k in range(400))
+
+
+def outcome(*words: Any, **options: Any) -> tuple:
+    """Returns what a run of spq-dask ends with, or the exception that it raises, for a thread that must not lose it."""
+    try:
+        return spq_dask(*words, **options)
+    except BaseException as error:
+        return (repr(error),)
 
 
 class Files(unittest.TestCase):
@@ -78,7 +87,7 @@ class Workers(unittest.TestCase):
         slow = script('sleep 0.2; exec "$SPQ" "$@"')
         for words in [["check"], ["terms"]]:
             found = []
-            run = threading.Thread(target=lambda: found.append(spq_dask([*words, "--blocksize", "400"], file(TEXT), program=slow)))
+            run = threading.Thread(target=lambda: found.append(outcome([*words, "--blocksize", "400"], file(TEXT), program=slow)))
             before = testing.workers()
             run.start()
             busy = lambda: [address for address, keys in testing.CLIENT.has_what().items() if keys and address in before]
