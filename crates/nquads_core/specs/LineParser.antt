@@ -173,6 +173,10 @@ graph_dot g (quoted lexical, rest) = None
 graph_dot g (lang_tag tag, rest) = None
 graph_dot g (carets, rest) = None
 
+-- the graph label g, and what follows the dot at the front of a text
+abbrev pub graph_dot_at : Term → List ℕ → Option (Option Term × List ℕ)
+graph_dot_at g cs = next cs >>= graph_dot g
+
 -- the graph label, if there is one, and what follows the dot
 abbrev pub graph_of : Terminal × List ℕ → Option (Option Term × List ℕ)
 graph_of (dot, rest) = Some (None, rest)

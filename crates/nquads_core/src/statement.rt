@@ -5,8 +5,9 @@ ghost use Rattle.std.specs.Str.{chars};
 ghost use Rattle.rdf_core.specs.QuadParts.{parts_of};
 ghost use Rattle.rdf_core.specs.QuadFacts.{is_node, is_graph_name};
 ghost use Rattle.rdf_core.specs.Vocabulary.{xsd_string, rdf_lang_string};
-ghost use Rattle.nquads_core.specs.LineParser.{Gives, node_of, iri_of, literal_of, object_of, graph_of, statement_at, line_at};
+ghost use Rattle.nquads_core.specs.LineParser.{Gives, graph_dot_at, node_of, iri_of, literal_of, object_of, graph_of, statement_at, line_at};
 ghost use Rattle.rdf_core.specs.LexicalReading.{Finds};
+ghost use Rattle.nquads_core.specs.Terminal.{carets, lang_tag};
 ghost use Rattle.nquads_core.specs.Views.{token_view};
 
 use crate::fault::LineFault;
@@ -47,6 +48,42 @@ pub fn rdf_lang_string(alloc: Global) -> Result<Text, AllocError>
     Ok(Text::from_string(String::from_str(alloc, RDF_LANG_STRING)?))
 }
 
+/// The literal whose datatype follows `^^`, the first terminal after it, and what follows that.
+fn typed_literal(alloc: Global, lexical: Text, rest: &str) -> Result<(Term, Token, &str), LineFault>
+    ensures { Gives (λ x. (x.0, (token_view x.1, chars x.2.now))) result (literal_of lexical (carets, chars rest.now)) }
+{
+    let (datatype, rest) = next_token(alloc, rest)?;
+    let Some(datatype) = iri_of(datatype) else {
+        return Err(LineFault::Bad);
+    };
+    let (token, rest) = next_token(alloc, rest)?;
+    let term = Term::Literal {
+        lexical,
+        datatype,
+        tag: None,
+    };
+    Ok((term, token, rest))
+}
+
+/// The literal with a language tag, the first terminal after it, and what follows that.
+fn tagged_literal(
+    alloc: Global,
+    lexical: Text,
+    tag: Text,
+    rest: &str,
+) -> Result<(Term, Token, &str), LineFault>
+    ensures { Gives (λ x. (x.0, (token_view x.1, chars x.2.now))) result (literal_of lexical (lang_tag tag, chars rest.now)) }
+{
+    let (token, rest) = next_token(alloc, rest)?;
+    let datatype = rdf_lang_string(alloc)?;
+    let term = Term::Literal {
+        lexical,
+        datatype,
+        tag: Some(tag),
+    };
+    Ok((term, token, rest))
+}
+
 /// A literal, the first terminal after it, and what follows that ([7] `literal`).
 fn literal_of(
     alloc: Global,
@@ -57,29 +94,8 @@ fn literal_of(
     ensures { Gives (λ x. (x.0, (token_view x.1, chars x.2.now))) result (literal_of lexical (token_view token, chars rest.now)) }
 {
     match token {
-        Token::Carets => {
-            let (datatype, rest) = next_token(alloc, rest)?;
-            let Some(datatype) = iri_of(datatype) else {
-                return Err(LineFault::Bad);
-            };
-            let (token, rest) = next_token(alloc, rest)?;
-            let term = Term::Literal {
-                lexical,
-                datatype,
-                tag: None,
-            };
-            Ok((term, token, rest))
-        }
-        Token::Tag(tag) => {
-            let (token, rest) = next_token(alloc, rest)?;
-            let datatype = rdf_lang_string(alloc)?;
-            let term = Term::Literal {
-                lexical,
-                datatype,
-                tag: Some(tag),
-            };
-            Ok((term, token, rest))
-        }
+        Token::Carets => typed_literal(alloc, lexical, rest),
+        Token::Tag(tag) => tagged_literal(alloc, lexical, tag, rest),
         token => {
             let datatype = xsd_string(alloc)?;
             let term = Term::Literal {
@@ -109,37 +125,33 @@ fn object_of(
     }
 }
 
+/// What follows a dot, if the text begins with one.
+fn after_dot(alloc: Global, text: &str) -> Result<&str, LineFault>
+    ensures { (name : Term) → Gives (λ rest. (Some name, chars rest.now)) result
+        (graph_dot_at name (chars text.now)) }
+{
+    let (token, rest) = next_token(alloc, text)?;
+    match token {
+        Token::Dot => Ok(rest),
+        Token::Iri(_) | Token::Blank(_) | Token::Quoted(_) | Token::Tag(_) | Token::Carets => {
+            Err(LineFault::Bad)
+        }
+    }
+}
+
 /// The graph label if there is one, and what follows the dot ([6] `graphLabel`).
 fn graph_of(alloc: Global, token: Token, rest: &str) -> Result<(Option<Term>, &str), LineFault>
     ensures found { Gives (λ x. (x.0, chars x.1.now)) result (graph_of (token_view token, chars rest.now)) }
     ensures name { IfOk result (λ x. is_graph_name x.0 ≡ true) }
 {
-    match token {
-        Token::Dot => Ok((None, rest)),
-        Token::Iri(text) => {
-            let (dot, rest) = next_token(alloc, rest)?;
-            match dot {
-                Token::Dot => Ok((Some(Term::Iri(text)), rest)),
-                Token::Iri(_)
-                | Token::Blank(_)
-                | Token::Quoted(_)
-                | Token::Tag(_)
-                | Token::Carets => Err(LineFault::Bad),
-            }
-        }
-        Token::Blank(label) => {
-            let (dot, rest) = next_token(alloc, rest)?;
-            match dot {
-                Token::Dot => Ok((Some(Term::Blank(label)), rest)),
-                Token::Iri(_)
-                | Token::Blank(_)
-                | Token::Quoted(_)
-                | Token::Tag(_)
-                | Token::Carets => Err(LineFault::Bad),
-            }
-        }
-        Token::Quoted(_) | Token::Tag(_) | Token::Carets => Err(LineFault::Bad),
-    }
+    let name = match token {
+        Token::Dot => return Ok((None, rest)),
+        Token::Iri(text) => Term::Iri(text),
+        Token::Blank(label) => Term::Blank(label),
+        Token::Quoted(_) | Token::Tag(_) | Token::Carets => return Err(LineFault::Bad),
+    };
+    let rest = after_dot(alloc, rest)?;
+    Ok((Some(name), rest))
 }
 
 /// The quad of a text that holds a statement ([2] `statement`).
