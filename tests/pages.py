@@ -7,7 +7,7 @@
 It proves nothing and needs only Python 3. Besides the generated parts it checks:
 
 - each mutant can be applied: every `old:` text is in its file once;
-- the gate has at most 80 mutants;
+- the gate has at most 80 mutants, and one for each known fault in docs/MUTANTS.md that mutants show;
 - the mutants and tests that docs/MUTANTS.md names exist;
 - docs/THEOREM.md explains each line that it quotes;
 - the calls and clauses that docs/CONTRACTS.md names exist;
@@ -471,6 +471,13 @@ def name_faults():
     return faults + [f"docs/MUTANTS.md: there is no test {it}" for it in re.findall(r"`(\w+_tests::\w+)`", page) if it not in tests]
 
 
+def known_faults():
+    """Returns a line for each known fault in docs/MUTANTS.md with mutants of which the gate checks none."""
+    in_gate = {f"{it.crate}/{it.name}" for it in mutants() if it.in_gate}
+    rows = re.findall(r"^\| (.+?) \| (`\w+/\w+`.*) \|$", PART.sub("", read("docs/MUTANTS.md")), re.M)
+    return [f"docs/MUTANTS.md: the gate checks no mutant for '{fault}'" for fault, named in rows if not in_gate.intersection(re.findall(r"`(\w+/\w+)`", named))]
+
+
 def diagram_faults():
     """Returns a line for each crate that the diagram does not show, and one if it is not drawn anew. Test crates are not shown."""
     drawn = set(re.findall(r"\w+", diagram.svg()))
@@ -489,7 +496,7 @@ def main():
         for path, text in {usage.MAN: usage.man_page(), diagram.DIAGRAM: diagram.svg()}.items():
             with open(f"{ROOT}/{path}", "w", encoding="utf-8") as file:
                 file.write(text)
-    faults = mutant_faults() + name_faults() + theorem.faults(PART.sub("", read(theorem.PAGE)))
+    faults = mutant_faults() + name_faults() + known_faults() + theorem.faults(PART.sub("", read(theorem.PAGE)))
     faults += contracts.rewritten(read(contracts.PAGE), contract_of)[1] + usage.faults() + diagram_faults()
     faults += [it for path in PAGES for it in page_faults(path)]
     for it in faults:
