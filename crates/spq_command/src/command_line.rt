@@ -1,8 +1,8 @@
 //! The command line.
 ghost use Rattle.std.specs.Prelude.{◌≡◌, ◌≢◌, ◌≤◌, [], IfErr, IfOk, codes, false, map, string_bytes};
-ghost use Rattle.clap.specs.Words.{app_of, fault_of, found_of, rows_of, rule_of, subcommand_rows_of};
+ghost use Rattle.clap.specs.Words.{app_of, fault_of, found_of, rows_of, rule_of, subcommand_rows_of, with_subcommand};
 ghost use Rattle.clap.specs.declared.builder.command.Command.TheViews.{out-Command as fields_of};
-ghost use Rattle.spq_command.specs.Program.{HasNumber, HasReadOptions, HasSelect, IsCommandLine, IsCommandMet, IsCommandOf, number_option, program, reading_options, select_options, with_options};
+ghost use Rattle.spq_command.specs.Program.{HasNumber, HasReadOptions, HasSelect, IsCommandLine, IsCommandMet, IsCommandOf, number_option, program, query_option, reading_options, select_options, with_options};
 ghost use Rattle.spq_command.specs.declared.command_line.CommandFault.TheVariants.{Memory};
 
 use crate::command::{Command, ReadOptions};
@@ -32,10 +32,10 @@ const ROWS: u64 = 1024;
 #[derive(Clone, Copy, Debug, Drop, Error, PartialEq, Eq)]
 pub enum CommandFault {
     /// It is not a command line of the program, or it requests help.
-    #[error("the command line is none of the program's")]
+    #[error("the arguments are not a command of spq")]
     Line,
     /// Out of memory.
-    #[error("a growth was refused")]
+    #[error("out of memory")]
     Memory,
 }
 
@@ -67,26 +67,40 @@ fn reading_line<'a>(alloc: Global, name: &'a str) -> Result<Line<'a>, AllocError
         .arg(number(alloc, "piece", MOST_BYTES))
 }
 
+/// Makes the argument whose value is the text of the query.
+fn query<'a>(alloc: Global) -> Arg<'a>
+    ensures rule { rule_of result ≡ query_option }
+    ensures local { result.global ≡ false }
+{
+    Arg::new(alloc, "query").long("query").required(true)
+}
+
 /// Makes the subcommand `select`.
 fn select_line<'a>(alloc: Global) -> Result<Line<'a>, AllocError>
     ensures app { IfOk result (λ line. app_of line ≡ with_options (codes "select") select_options) }
     ensures local { IfOk result (λ line. (fields_of line).has_globals ≡ false) }
 {
-    let query = Arg::new(alloc, "query").long("query").required(true);
     reading_line(alloc, "select")?
-        .arg(query)?
+        .arg(query(alloc))?
         .arg(number(alloc, "rows", MOST_ROWS))
+}
+
+/// Adds a subcommand with the arguments for how a document is read.
+fn add_reading<'a>(alloc: Global, line: Line<'a>, name: &'a str) -> Result<Line<'a>, AllocError>
+    ensures app { IfOk result (λ with. app_of with
+        ≡ with_subcommand (app_of line.entry) (with_options name.entry.now reading_options).top) }
+{
+    line.subcommand(reading_line(alloc, name)?)
 }
 
 /// Makes the command line of the program.
 fn program_line<'a>(alloc: Global) -> Result<Line<'a>, AllocError>
     ensures app { IfOk result (λ line. app_of line ≡ program) }
 {
-    Line::new(alloc, "spq")
-        .subcommand_required(true)
-        .subcommand(select_line(alloc)?)?
-        .subcommand(reading_line(alloc, "check")?)?
-        .subcommand(reading_line(alloc, "terms")?)
+    let line = Line::new(alloc, "spq").subcommand_required(true);
+    let line = line.subcommand(select_line(alloc)?)?;
+    let line = add_reading(alloc, line, "check")?;
+    add_reading(alloc, line, "terms")
 }
 
 /// Returns the number of an argument, or its default if it is not given.
