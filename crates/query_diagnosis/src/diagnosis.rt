@@ -23,7 +23,7 @@ use std::alloc::{AllocError, Global};
 const SHOWN: usize = 40;
 
 /// The place at which a query is rejected, and the reason.
-#[derive(Debug, Drop)]
+#[derive(Drop)]
 pub struct Diagnosis {
     /// The rule that rejects it.
     pub fault: QueryFault,
@@ -171,6 +171,7 @@ fn words_of(cause: Cause) -> &'static str {
         Cause::Twice => "this variable is twice in the list of VALUES",
         Cause::LongRow => "this row of VALUES has more values than there are variables",
         Cause::ShortRow => "this row of VALUES has fewer values than there are variables",
+        Cause::Unexplained => "this is not a query of SPARQL as spq reads it",
     }
 }
 
@@ -183,23 +184,27 @@ fn misused(alloc: Global, text: Text<'_>, stop: &Stop) -> Result<Found, AllocErr
     })
 }
 
-/// Returns the place and the reason for the place where the machine stopped.
-fn stopped(alloc: Global, text: Text<'_>, stop: &Stop) -> Result<Found, AllocError> {
-    if stop.cause != Cause::Kind {
-        return misused(alloc, text, stop);
-    }
+/// Returns the place and the reason for a terminal whose kind is not allowed, or for a character
+/// that begins no terminal.
+fn misplaced(alloc: Global, text: Text<'_>, stop: &Stop) -> Result<Found, AllocError> {
     match text.rest.first() {
         Some(c) if stop.at >= text.tokens.len() => unreadable(alloc, text, *c, stop),
         _ => unexpected(alloc, text, stop),
     }
 }
 
-/// Finds the first terminal after which no query continues.
-fn syntax(alloc: Global, text: Text<'_>) -> Result<Option<Found>, AllocError> {
-    match stop_of(alloc, text.tokens)? {
-        Some(stop) => Ok(Some(stopped(alloc, text, &stop)?)),
-        None => Ok(None),
+/// Returns the place and the reason for the place where the machine stopped.
+fn stopped(alloc: Global, text: Text<'_>, stop: &Stop) -> Result<Found, AllocError> {
+    match stop.cause {
+        Cause::Kind => misplaced(alloc, text, stop),
+        _ => misused(alloc, text, stop),
     }
+}
+
+/// Finds the first terminal after which no query continues.
+fn syntax(alloc: Global, text: Text<'_>) -> Result<Found, AllocError> {
+    let stop = stop_of(alloc, text.tokens)?;
+    stopped(alloc, text, &stop)
 }
 
 /// Returns a reason about the terminal at a place: text, the terminal, and more text.
@@ -335,7 +340,7 @@ fn label(alloc: Global, text: Text<'_>) -> Result<Option<Found>, AllocError> {
 /// Finds the place and the reason of a fault.
 fn find(alloc: Global, text: Text<'_>, fault: QueryFault) -> Result<Option<Found>, AllocError> {
     match fault {
-        QueryFault::Syntax => syntax(alloc, text),
+        QueryFault::Syntax => Ok(Some(syntax(alloc, text)?)),
         QueryFault::UndefinedPrefix => prefix(alloc, text),
         QueryFault::RelativeIri => relative(alloc, text),
         QueryFault::BindScope => bind(alloc, text),

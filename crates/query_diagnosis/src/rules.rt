@@ -1,7 +1,7 @@
 //! The places at which a query that the grammar derives breaks one of the other rules. Each
 //! function returns the place of a terminal in the list, or None if no terminal breaks the rule.
 
-use crate::machine::is_same_name;
+use crate::machine::{is_same_name, kind_at};
 use rdf_core::lexical::has_scheme;
 use sparql_grammar::Declarations;
 use sparql_lexer::{Keyword, Kind, Sign, Token, iri_value, text_of};
@@ -22,8 +22,12 @@ pub struct Clash {
 
 /// Returns the part of a prefixed name before its first colon.
 pub fn prefix_of<'a>(name: &'a [char]) -> &'a [char] {
-    let end = name.iter().position(|c| *c == ':').unwrap_or(name.len());
-    name.get(..end).unwrap_or(name)
+    for i in 0..name.len() {
+        if name[i] == ':' {
+            return &name[..i];
+        }
+    }
+    name
 }
 
 /// Returns whether a terminal is no prefixed name, or one with a declaration.
@@ -234,7 +238,7 @@ impl Scopes {
     fn add_values(&mut self, tokens: &[Token<'_>], at: usize) -> Result<(), AllocError> {
         let values = find(tokens, at, Kind::Sign(Sign::OpenBrace));
         for i in at..values {
-            if tokens.get(i).map(|token| token.kind) == Some(Kind::Variable) {
+            if kind_at(tokens, i) == Some(Kind::Variable) {
                 self.seen.push(i)?;
             }
         }
@@ -242,11 +246,18 @@ impl Scopes {
         Ok(())
     }
 
+    /// Returns the number of variables in scope before the open group.
+    fn first(&self) -> usize {
+        match self.frames.last() {
+            Some(frame) => frame.first,
+            None => 0,
+        }
+    }
+
     /// Returns the place in the open group that already binds the variable at a place.
     fn earlier(&self, tokens: &[Token<'_>], at: usize) -> Option<usize> {
-        let first = self.frames.last().map_or(0, |frame| frame.first);
         let variable = tokens.get(at)?;
-        for place in self.seen.get(first..)? {
+        for place in self.seen.get(self.first()..)? {
             if is_same_name(*tokens.get(*place)?, *variable) {
                 return Some(*place);
             }
