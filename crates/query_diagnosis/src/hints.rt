@@ -49,8 +49,9 @@ fn is_word(text: &[char], word: &str) -> bool {
     if text.len() != word.len() {
         return false;
     }
-    for (c, b) in text.iter().zip(word.bytes()) {
-        if c.to_ascii_uppercase() != char::from(b) {
+    let bytes = word.as_bytes();
+    for i in 0..bytes.len() {
+        if text[i].to_ascii_uppercase() != char::from(bytes[i]) {
             return false;
         }
     }

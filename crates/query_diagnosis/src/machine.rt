@@ -128,6 +128,14 @@ fn is_misspelled(alloc: Global, token: Token<'_>) -> Result<bool, AllocError> {
     }
 }
 
+/// Puts symbols on a stack, the first of them on top.
+fn push(stack: &mut Vec<Symbol>, symbols: &[Symbol]) -> Result<(), AllocError> {
+    for symbol in symbols.iter().rev() {
+        stack.push(*symbol)?;
+    }
+    Ok(())
+}
+
 impl Machine {
     fn new(alloc: Global) -> Result<Machine, AllocError> {
         let mut stack = Vec::new(alloc);
@@ -138,14 +146,6 @@ impl Machine {
             width: 0,
             cells: 0,
         })
-    }
-
-    /// Puts symbols on the stack, the first of them on top.
-    fn push(&mut self, symbols: &[Symbol]) -> Result<(), AllocError> {
-        for symbol in symbols.iter().rev() {
-            self.stack.push(*symbol)?;
-        }
-        Ok(())
     }
 
     /// Returns the error of a terminal that a symbol takes, as a part of VALUES.
@@ -201,8 +201,8 @@ impl Machine {
         self.count(symbol, token.kind, at);
         self.stack.truncate(place);
         if let Step::Take(first, then) = step(symbol, token.kind) {
-            self.push(then)?;
-            self.push(first)?;
+            push(&mut self.stack, then)?;
+            push(&mut self.stack, first)?;
         }
         Ok(None)
     }
