@@ -143,19 +143,29 @@ fn add(list: &mut Vec<&'static str>, stack: &[Symbol], phrases: Phrases) -> Resu
     Ok(())
 }
 
-/// Adds the terminals that may come with these symbols on the stack.
-fn add_all(list: &mut Vec<&'static str>, stack: &[Symbol]) -> Result<(), AllocError> {
-    add(list, stack, terms(stack))?;
-    add(list, stack, operators(stack))?;
+/// Adds the signs and keywords that may come.
+fn add_signs(list: &mut Vec<&'static str>, stack: &[Symbol]) -> Result<(), AllocError> {
     add(list, stack, BRACES)?;
     add(list, stack, open(stack))?;
-    add(list, stack, WORDS)?;
+    add(list, stack, WORDS)
+}
+
+/// Adds the phrases for functions, patterns and the end, if they may come.
+fn add_others(list: &mut Vec<&'static str>, stack: &[Symbol]) -> Result<(), AllocError> {
     add(list, stack, functions(stack))?;
     add(list, stack, PATTERN)?;
     if may_end(stack) {
         list.push("the end of the query")?;
     }
     Ok(())
+}
+
+/// Adds the terminals that may come with these symbols on the stack.
+fn add_all(list: &mut Vec<&'static str>, stack: &[Symbol]) -> Result<(), AllocError> {
+    add(list, stack, terms(stack))?;
+    add(list, stack, operators(stack))?;
+    add_signs(list, stack)?;
+    add_others(list, stack)
 }
 
 /// Appends texts as `a, b or c`.
