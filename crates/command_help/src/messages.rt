@@ -1,6 +1,7 @@
 //! The text for arguments that are not a command.
 
-ghost use Rattle.std.specs.Prelude.{◌≡◌, false, slice_index};
+ghost use Rattle.std.specs.Prelude.{◌≡◌, ◌≢◌, ◌==◌, false, slice_index, true};
+ghost use Rattle.std.specs.List.{list_any};
 
 use crate::program::program;
 use clap::Error;
@@ -15,12 +16,24 @@ const ENDINGS: [&str; 14] = [
     ".zst", ".bz2",
 ];
 
+/// Returns whether an argument has an ending that the names of files have.
+fn has_ending(word: &str) -> bool {
+    for end in ENDINGS {
+        if word.ends_with(end) {
+            return true;
+        }
+    }
+    false
+}
+
 /// Returns whether an argument looks like the name of a file: it has a slash and does not begin
 /// with a hyphen, or it has an ending that these names have.
 pub fn is_file_name(word: &str) -> bool
     ensures option { slice_index word.now 0 ≡ 45 → result ≡ false }
+    ensures slash { slice_index word.now 0 ≢ 45 → list_any (λ b. b == 47) word.now ≡ true
+        → result ≡ true }
 {
-    !word.starts_with('-') && (word.contains('/') || ENDINGS.iter().any(|end| word.ends_with(*end)))
+    !word.starts_with('-') && (word.as_bytes().contains(&b'/') || has_ending(word))
 }
 
 /// Returns the first argument that looks like the name of a file. The program's name and the text

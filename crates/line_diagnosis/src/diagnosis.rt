@@ -25,7 +25,7 @@ use nquads_core::{LineFault, read_line};
 use std::alloc::{AllocError, Global};
 
 /// The unit of a column.
-#[derive(Clone, Copy, Debug, PartialEq, Eq)]
+#[derive(Clone, Copy)]
 pub enum Counted {
     /// The unit if the line is UTF-8
     Characters,
@@ -34,7 +34,7 @@ pub enum Counted {
 }
 
 /// The place at which a line is malformed, and the reason.
-#[derive(Clone, Copy, Debug, PartialEq, Eq)]
+#[derive(Clone, Copy)]
 pub struct Diagnosis {
     /// The number of bytes of the line before the place. At the end of the line it is the length of
     /// the line; then a well-formed line begins with the whole line.

@@ -46,7 +46,12 @@ pub fn iri_ranges(scheme: Scheme) -> Ranges {
 
 /// Returns whether a code point is in one of the ranges.
 pub fn is_within(ranges: &[(u64, u64)], code: u64) -> bool {
-    ranges.iter().any(|r| r.0 <= code && code <= r.1)
+    for range in ranges {
+        if range.0 <= code && code <= range.1 {
+            return true;
+        }
+    }
+    false
 }
 
 /// Returns the least code point of the ranges that these digits and further ones can denote.

@@ -10,7 +10,7 @@ use crate::reason::{Found, Next, Packing, Reason};
 use std::fmt;
 
 /// What a user can do about a malformed line.
-#[derive(Clone, Copy, Debug, PartialEq, Eq)]
+#[derive(Clone, Copy)]
 pub enum Hint {
     Unpack(Packing),
     FromLatin1,
@@ -60,13 +60,27 @@ impl fmt::Display for Hint {
     }
 }
 
+/// Returns the place after the last byte that is not an ASCII letter.
+fn letters_at_end(bytes: &[u8]) -> usize {
+    let mut start = 0;
+    for i in 0..bytes.len() {
+        if !bytes[i].is_ascii_alphabetic() {
+            start = i + 1;
+        }
+    }
+    start
+}
+
+/// Returns whether the bytes end with `@` and ASCII letters.
+fn is_tag(bytes: &[u8]) -> bool {
+    let start = letters_at_end(bytes);
+    start < bytes.len() && start > 0 && bytes.get(start.saturating_sub(1)).copied() == Some(b'@')
+}
+
 /// Returns whether the bytes end with a language tag and an underscore.
 fn ends_with_tag(front: &[u8]) -> bool {
-    let Some((b'_', tag)) = front.split_last().map(|x| (*x.0, x.1)) else {
-        return false;
-    };
-    match tag.iter().rposition(|b| !b.is_ascii_alphabetic()) {
-        Some(at) => tag[at] == b'@' && at + 1 < tag.len(),
+    match front.split_last() {
+        Some((last, tag)) => *last == b'_' && is_tag(tag),
         None => false,
     }
 }
@@ -94,7 +108,7 @@ fn hint_at_end(reason: Reason, is_cut: bool) -> Option<Hint>
 {
     if is_cut {
         Some(Hint::Truncated)
-    } else if reason == Reason::OpenLiteral {
+    } else if matches!(reason, Reason::OpenLiteral) {
         Some(Hint::BreakInside)
     } else {
         None

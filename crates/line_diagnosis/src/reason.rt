@@ -3,7 +3,7 @@
 use std::fmt;
 
 /// The part of a statement that may come next (RDF 1.1 N-Quads, section 4, [2] statement).
-#[derive(Clone, Copy, Debug, PartialEq, Eq)]
+#[derive(Clone, Copy, PartialEq, Eq)]
 pub enum Next {
     Subject,
     Predicate,
@@ -18,7 +18,7 @@ pub enum Next {
 }
 
 /// The text that was found instead.
-#[derive(Clone, Copy, Debug, PartialEq, Eq)]
+#[derive(Clone, Copy)]
 pub enum Found {
     /// `<`
     Iri,
@@ -35,7 +35,7 @@ pub enum Found {
 }
 
 /// A format in which files are compressed.
-#[derive(Clone, Copy, Debug, PartialEq, Eq)]
+#[derive(Clone, Copy)]
 pub enum Packing {
     Gzip,
     Xz,
@@ -44,7 +44,7 @@ pub enum Packing {
 }
 
 /// The reason why no well-formed line has this character at this place.
-#[derive(Clone, Copy, Debug, PartialEq, Eq)]
+#[derive(Clone, Copy)]
 pub enum Reason {
     /// A byte that is not a part of a UTF-8 character
     InvalidUtf8(u8),
@@ -233,6 +233,26 @@ impl Reason {
     }
 }
 
+/// Writes words, what was found, and more words.
+fn write_found<W: fmt::Write>(
+    f: &mut fmt::Formatter<W>,
+    words: &str,
+    found: Found,
+    after: &str,
+) -> fmt::Result {
+    write!(f, "{words}{found}{after}")
+}
+
+/// Writes a character and words.
+fn write_char_before<W: fmt::Write>(
+    f: &mut fmt::Formatter<W>,
+    c: char,
+    words: &str,
+) -> fmt::Result {
+    write_char(f, c)?;
+    f.write_str(words)
+}
+
 impl fmt::Display for Reason {
     fn fmt<W: fmt::Write>(&self, f: &mut fmt::Formatter<W>) -> fmt::Result {
         let words = self.words();
@@ -240,18 +260,15 @@ impl fmt::Display for Reason {
             Reason::Unexpected(next, found) => write_unexpected(f, next, found),
             Reason::InvalidUtf8(byte) => write!(f, "{words}{byte:02X}"),
             Reason::Packed(packing) => write!(f, "{words}{packing}"),
-            Reason::IriChar(c) => {
-                write_char(f, c)?;
-                f.write_str(words)
-            }
-            Reason::UnknownEscape(found) => write!(f, "{words}{found} after '\\'"),
+            Reason::IriChar(c) => write_char_before(f, c, words),
+            Reason::UnknownEscape(found) => write_found(f, words, found, " after '\\'"),
             Reason::NoScheme(found)
             | Reason::NoDigit(found)
             | Reason::NoColon(found)
             | Reason::LabelStart(found)
             | Reason::NoTag(found)
             | Reason::NoSubtag(found)
-            | Reason::OneCaret(found) => write!(f, "{words}{found}"),
+            | Reason::OneCaret(found) => write_found(f, words, found, ""),
             _ => f.write_str(words),
         }
     }

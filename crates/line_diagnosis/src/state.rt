@@ -107,12 +107,3 @@ pub fn after(part: Part) -> Next {
         Part::Graph => Next::Dot,
     }
 }
-
-/// Returns whether a line may end in this state.
-pub fn is_final(state: State) -> bool {
-    match state {
-        State::Between(Next::Subject | Next::End) | State::Comment => true,
-        State::LabelDot(part) => after(part) == Next::Graph || after(part) == Next::Dot,
-        _ => false,
-    }
-}

@@ -131,7 +131,7 @@ fn push_end(
     machine: &Machine,
     symbol: Symbol,
 ) -> Result<(), AllocError> {
-    if symbol == Symbol::Cells {
+    if matches!(symbol, Symbol::Cells) {
         push_cells(end, machine)?;
     }
     end.extend_from_slice(end_of(symbol))

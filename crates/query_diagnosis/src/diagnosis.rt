@@ -11,7 +11,7 @@ use crate::hints::{hint_at, hint_at_char};
 use crate::machine::{Cause, Stop, stop_of};
 use crate::places::{Position, offset_of, position_of};
 use crate::rules::{
-    Clash, bound_twice, deepest, prefix_of, relative_iri, reused_blank, undefined_prefix,
+    Breach, bound_twice, deepest, prefix_of, relative_iri, reused_blank, undefined_prefix,
 };
 use excerpt::visible;
 use rdf_core::lexical::echar;
@@ -23,7 +23,7 @@ use std::alloc::{AllocError, Global};
 const SHOWN: usize = 40;
 
 /// The place at which a query is rejected, and the reason.
-#[derive(Debug, Drop)]
+#[derive(Drop)]
 pub struct Diagnosis {
     /// The rule that rejects it.
     pub fault: QueryFault,
@@ -100,17 +100,6 @@ fn push_unexpected(
     }
 }
 
-/// Returns the place and the reason for a terminal that is not allowed.
-fn unexpected(alloc: Global, text: Text<'_>, stop: &Stop) -> Result<Found, AllocError> {
-    let mut reason = String::new(alloc);
-    push_unexpected(&mut reason, text.tokens.get(stop.at), stop)?;
-    Ok(Found {
-        offset: text.offset(stop.at),
-        reason,
-        hint: hint_at(text.tokens, stop.at, &stop.stack),
-    })
-}
-
 /// Returns whether an unknown escape occurs between a quote and the next quote.
 fn has_unknown_escape(after: &[char], quote: char) -> bool {
     let mut is_escape = false;
@@ -151,17 +140,6 @@ fn push_unreadable(
     out.push('\'')
 }
 
-/// Returns the place and the reason for a character that begins no terminal.
-fn unreadable(alloc: Global, text: Text<'_>, c: char, stop: &Stop) -> Result<Found, AllocError> {
-    let mut reason = String::new(alloc);
-    push_unreadable(&mut reason, text.rest, c, stop)?;
-    Ok(Found {
-        offset: text.offset(stop.at),
-        reason,
-        hint: hint_at_char(c, &stop.stack),
-    })
-}
-
 /// Returns the reason for a terminal whose kind is allowed.
 fn words_of(cause: Cause) -> &'static str {
     match cause {
@@ -171,78 +149,141 @@ fn words_of(cause: Cause) -> &'static str {
         Cause::Twice => "this variable is twice in the list of VALUES",
         Cause::LongRow => "this row of VALUES has more values than there are variables",
         Cause::ShortRow => "this row of VALUES has fewer values than there are variables",
+        Cause::Unexplained => "this is not a query of SPARQL as spq reads it",
     }
 }
 
-/// Returns the place and the reason for a terminal whose kind is allowed.
-fn misused(alloc: Global, text: Text<'_>, stop: &Stop) -> Result<Found, AllocError> {
-    Ok(Found {
-        offset: text.offset(stop.at),
-        reason: String::from_str(alloc, words_of(stop.cause))?,
-        hint: None,
-    })
+/// Returns the character that begins no terminal, if the machine stopped there.
+fn unread(text: Text<'_>, stop: &Stop) -> Option<char> {
+    if stop.at < text.tokens.len() {
+        None
+    } else {
+        text.rest.first().copied()
+    }
+}
+
+/// Appends the reason for a terminal whose kind is not allowed, or for a character that begins no
+/// terminal.
+fn push_misplaced(out: &mut String, text: Text<'_>, stop: &Stop) -> Result<(), AllocError> {
+    match unread(text, stop) {
+        Some(c) => push_unreadable(out, text.rest, c, stop),
+        None => push_unexpected(out, text.tokens.get(stop.at), stop),
+    }
+}
+
+/// Appends the reason for the place where the machine stopped.
+fn push_reason(out: &mut String, text: Text<'_>, stop: &Stop) -> Result<(), AllocError> {
+    match stop.cause {
+        Cause::Kind => push_misplaced(out, text, stop),
+        cause => out.push_str(words_of(cause)),
+    }
+}
+
+/// Returns the hint for the place where the machine stopped.
+fn hint_for(text: Text<'_>, stop: &Stop) -> Option<Hint> {
+    match (stop.cause, unread(text, stop)) {
+        (Cause::Kind, Some(c)) => hint_at_char(c, &stop.stack),
+        (Cause::Kind, None) => hint_at(text.tokens, stop.at, &stop.stack),
+        _ => None,
+    }
 }
 
 /// Returns the place and the reason for the place where the machine stopped.
 fn stopped(alloc: Global, text: Text<'_>, stop: &Stop) -> Result<Found, AllocError> {
-    if stop.cause != Cause::Kind {
-        return misused(alloc, text, stop);
-    }
-    match text.rest.first() {
-        Some(c) if stop.at >= text.tokens.len() => unreadable(alloc, text, *c, stop),
-        _ => unexpected(alloc, text, stop),
-    }
+    let mut reason = String::new(alloc);
+    push_reason(&mut reason, text, stop)?;
+    Ok(Found {
+        offset: text.offset(stop.at),
+        reason,
+        hint: hint_for(text, stop),
+    })
 }
 
 /// Finds the first terminal after which no query continues.
-fn syntax(alloc: Global, text: Text<'_>) -> Result<Option<Found>, AllocError> {
-    match stop_of(alloc, text.tokens)? {
-        Some(stop) => Ok(Some(stopped(alloc, text, &stop)?)),
-        None => Ok(None),
+fn syntax(alloc: Global, text: Text<'_>) -> Result<Found, AllocError> {
+    let stop = stop_of(alloc, text.tokens)?;
+    stopped(alloc, text, &stop)
+}
+
+/// Returns the first terminal that breaks the rule of a fault.
+fn breach_of(
+    alloc: Global,
+    tokens: &[Token<'_>],
+    fault: QueryFault,
+) -> Result<Option<Breach>, AllocError> {
+    match fault {
+        QueryFault::RelativeIri => relative_iri(alloc, tokens),
+        QueryFault::BindScope => bound_twice(alloc, tokens),
+        QueryFault::BlankReuse => reused_blank(alloc, tokens),
+        QueryFault::TooDeep => Ok(deepest(tokens)),
+        _ => Ok(None),
     }
 }
 
-/// Returns a reason about the terminal at a place: text, the terminal, and more text.
-fn about(
-    alloc: Global,
-    text: Text<'_>,
-    at: usize,
-    before: &str,
-    after: &str,
-) -> Result<String, AllocError> {
-    let mut reason = String::new(alloc);
-    push_about(&mut reason, text.tokens.get(at), before, after)?;
-    Ok(reason)
+/// Returns the words of a reason before and after the terminal that breaks the rule of a fault.
+fn words_around(fault: QueryFault) -> (&'static str, &'static str) {
+    match fault {
+        QueryFault::RelativeIri => ("the IRI ", " is relative: it has no scheme"),
+        QueryFault::BindScope => ("BIND to ", ", which the group already binds at "),
+        QueryFault::BlankReuse => (
+            "the blank node label ",
+            " is in another basic graph pattern too, at ",
+        ),
+        _ => ("brackets are nested over 100 deep at ", ""),
+    }
 }
 
-/// Appends a reason about a terminal.
-fn push_about(
+/// Returns the hint for the rule of a fault.
+fn hint_of(fault: QueryFault) -> Option<Hint> {
+    match fault {
+        QueryFault::RelativeIri => Some(Hint::WholeIri),
+        QueryFault::BindScope => Some(Hint::OtherVariable),
+        QueryFault::BlankReuse => Some(Hint::VariableForBlank),
+        _ => None,
+    }
+}
+
+/// Appends the reason for a terminal that breaks the rule of a fault.
+fn push_breach(
     out: &mut String,
-    token: Option<&Token<'_>>,
-    before: &str,
-    after: &str,
+    text: Text<'_>,
+    breach: Breach,
+    fault: QueryFault,
 ) -> Result<(), AllocError> {
+    let (before, after) = words_around(fault);
     out.push_str(before)?;
-    if let Some(token) = token {
+    if let Some(token) = text.tokens.get(breach.at) {
         push_token(out, *token)?;
     }
-    out.push_str(after)
+    out.push_str(after)?;
+    match breach.earlier {
+        Some(at) => write!(out, "{}", text.position(at)),
+        None => Ok(()),
+    }
 }
 
-/// Returns the place and the reason for the terminal at a place.
-fn found_at(
+/// Returns the place and the reason for a terminal that breaks the rule of a fault.
+fn broken(
     alloc: Global,
     text: Text<'_>,
-    at: usize,
-    before: &str,
-    after: &str,
-    hint: Option<Hint>,
+    breach: Breach,
+    fault: QueryFault,
 ) -> Result<Found, AllocError> {
+    let mut reason = String::new(alloc);
+    push_breach(&mut reason, text, breach, fault)?;
     Ok(Found {
-        offset: text.offset(at),
-        reason: about(alloc, text, at, before, after)?,
-        hint,
+        offset: text.offset(breach.at),
+        reason,
+        hint: hint_of(fault),
     })
+}
+
+/// Finds the first terminal that breaks the rule of a fault.
+fn rule(alloc: Global, text: Text<'_>, fault: QueryFault) -> Result<Option<Found>, AllocError> {
+    match breach_of(alloc, text.tokens, fault)? {
+        Some(breach) => Ok(Some(broken(alloc, text, breach, fault)?)),
+        None => Ok(None),
+    }
 }
 
 /// Returns the place of the first prefixed name without a declaration.
@@ -272,76 +313,12 @@ fn prefix(alloc: Global, text: Text<'_>) -> Result<Option<Found>, AllocError> {
     }))
 }
 
-/// Finds the first IRI without a scheme.
-fn relative(alloc: Global, text: Text<'_>) -> Result<Option<Found>, AllocError> {
-    let Some(at) = relative_iri(alloc, text.tokens)? else {
-        return Ok(None);
-    };
-    let after = " is relative: it has no scheme";
-    let found = found_at(alloc, text, at, "the IRI ", after, Some(Hint::WholeIri))?;
-    Ok(Some(found))
-}
-
-/// Finds the first bracket that is nested too deep.
-fn depth(alloc: Global, text: Text<'_>) -> Result<Option<Found>, AllocError> {
-    let Some(at) = deepest(text.tokens) else {
-        return Ok(None);
-    };
-    let before = "brackets are nested over 100 deep at ";
-    Ok(Some(found_at(alloc, text, at, before, "", None)?))
-}
-
-/// Returns the place and the reason for a clash of two terminals.
-fn clashing(
-    alloc: Global,
-    text: Text<'_>,
-    clash: Clash,
-    before: &str,
-    after: &str,
-    hint: Hint,
-) -> Result<Found, AllocError> {
-    let mut found = found_at(alloc, text, clash.at, before, after, Some(hint))?;
-    write!(found.reason, "{}", text.position(clash.earlier))?;
-    Ok(found)
-}
-
-/// Finds the first BIND to a variable that is in scope.
-fn bind(alloc: Global, text: Text<'_>) -> Result<Option<Found>, AllocError> {
-    let Some(clash) = bound_twice(alloc, text.tokens)? else {
-        return Ok(None);
-    };
-    let after = ", which the group already binds at ";
-    let found = clashing(alloc, text, clash, "BIND to ", after, Hint::OtherVariable)?;
-    Ok(Some(found))
-}
-
-/// Finds the first blank node label that is in two basic graph patterns.
-fn label(alloc: Global, text: Text<'_>) -> Result<Option<Found>, AllocError> {
-    let Some(clash) = reused_blank(alloc, text.tokens)? else {
-        return Ok(None);
-    };
-    let after = " is in another basic graph pattern too, at ";
-    let found = clashing(
-        alloc,
-        text,
-        clash,
-        "the blank node label ",
-        after,
-        Hint::VariableForBlank,
-    )?;
-    Ok(Some(found))
-}
-
 /// Finds the place and the reason of a fault.
 fn find(alloc: Global, text: Text<'_>, fault: QueryFault) -> Result<Option<Found>, AllocError> {
     match fault {
-        QueryFault::Syntax => syntax(alloc, text),
+        QueryFault::Syntax => Ok(Some(syntax(alloc, text)?)),
         QueryFault::UndefinedPrefix => prefix(alloc, text),
-        QueryFault::RelativeIri => relative(alloc, text),
-        QueryFault::BindScope => bind(alloc, text),
-        QueryFault::BlankReuse => label(alloc, text),
-        QueryFault::TooDeep => depth(alloc, text),
-        QueryFault::Memory => Ok(None),
+        _ => rule(alloc, text, fault),
     }
 }
 

@@ -5,13 +5,63 @@ use crate::symbol::Symbol;
 use sparql_lexer::{Keyword, Kind, Sign};
 use std::alloc::{AllocError, Global};
 
-/// The text for each terminal, in the order in which they are listed.
-const SINGLE: &[(Kind, &str)] = &[
+/// Kinds of terminals, and the text for each, in the order in which they are listed.
+type Phrases = &'static [(Kind, &'static str)];
+
+const VERB: Phrases = &[(
+    Kind::Keyword(Keyword::A),
+    "a verb (an IRI, a prefixed name, a variable or 'a')",
+)];
+
+const EXPRESSION: Phrases = &[(Kind::Variable, "an expression")];
+
+const TERM: Phrases = &[(
+    Kind::BlankLabel,
+    "a term (an IRI, a prefixed name, a variable, a blank node or a literal)",
+)];
+
+const VALUE: Phrases = &[(
+    Kind::Keyword(Keyword::Undef),
+    "a value (an IRI, a prefixed name, a literal or UNDEF)",
+)];
+
+/// The phrases where a prefixed name may come.
+const NAMES: Phrases = &[
+    (Kind::Variable, "a variable"),
+    (Kind::IriRef, "an IRI"),
+    (Kind::PrefixedName, "a prefixed name"),
+];
+
+/// The phrases where no prefixed name may come.
+const NO_NAMES: Phrases = &[
+    (Kind::Variable, "a variable"),
+    (Kind::IriRef, "an IRI"),
+    (Kind::PrefixedNamespace, "a prefix (such as 'ex:')"),
+    (Kind::Integer, "a whole number"),
+];
+
+/// The phrase where a comparison operator may come.
+const OPERATOR: Phrases = &[(Kind::Sign(Sign::Equal), "an operator (such as '=' or '&&')")];
+
+/// The phrases where no comparison operator may come.
+const OPERATORS: Phrases = &[
+    (Kind::Sign(Sign::And), "'&&'"),
+    (Kind::Sign(Sign::Or), "'||'"),
+    (Kind::Keyword(Keyword::In), "IN"),
+];
+
+const BRACES: Phrases = &[
     (Kind::LanguageTag, "a language tag"),
     (Kind::Sign(Sign::Carets), "'^^'"),
     (Kind::Sign(Sign::OpenBrace), "'{'"),
     (Kind::Sign(Sign::CloseBrace), "'}'"),
-    (Kind::Sign(Sign::OpenParenthesis), "'('"),
+];
+
+const OPEN: Phrases = &[(Kind::Sign(Sign::OpenParenthesis), "'('")];
+
+const NONE: Phrases = &[];
+
+const WORDS: Phrases = &[
     (Kind::Sign(Sign::CloseParenthesis), "')'"),
     (Kind::Sign(Sign::Dot), "'.'"),
     (Kind::Sign(Sign::Semicolon), "';'"),
@@ -27,100 +77,94 @@ const SINGLE: &[(Kind, &str)] = &[
     (Kind::Keyword(Keyword::As), "AS"),
 ];
 
-/// The terminals that may come at a place, as a list that grows.
-#[derive(Drop)]
-struct List {
-    items: Vec<&'static str>,
-}
+const FUNCTION: Phrases = &[(Kind::Keyword(Keyword::Bound), "a function (such as BOUND)")];
 
-impl List {
-    fn add(&mut self, words: &'static str) -> Result<(), AllocError> {
-        self.items.push(words)?;
-        Ok(())
-    }
-
-    /// Adds a text if a terminal of this kind may come.
-    fn add_if(
-        &mut self,
-        stack: &[Symbol],
-        kind: Kind,
-        words: &'static str,
-    ) -> Result<(), AllocError> {
-        if may_come(stack, kind) {
-            self.add(words)?;
-        }
-        Ok(())
-    }
-}
+const PATTERN: Phrases = &[(
+    Kind::Keyword(Keyword::Optional),
+    "a pattern (such as OPTIONAL or FILTER)",
+)];
 
 /// Returns whether an operand of an expression may come.
 fn may_come_expression(stack: &[Symbol]) -> bool {
     may_come(stack, Kind::Keyword(Keyword::Bound)) && may_come(stack, Kind::Variable)
 }
 
-/// Adds the terms, variables and names that may come, with one phrase for those that come together.
-fn add_terms(list: &mut List, stack: &[Symbol]) -> Result<(), AllocError> {
+/// Returns the phrases for terms, variables and names: one phrase for those that come together.
+fn terms(stack: &[Symbol]) -> Phrases {
     if may_come(stack, Kind::Keyword(Keyword::A)) {
-        return list.add("a verb (an IRI, a prefixed name, a variable or 'a')");
+        VERB
+    } else if may_come_expression(stack) {
+        EXPRESSION
+    } else if may_come(stack, Kind::BlankLabel) {
+        TERM
+    } else if may_come(stack, Kind::Keyword(Keyword::Undef)) {
+        VALUE
+    } else if may_come(stack, Kind::PrefixedName) {
+        NAMES
+    } else {
+        NO_NAMES
     }
-    if may_come_expression(stack) {
-        return list.add("an expression");
-    }
-    if may_come(stack, Kind::BlankLabel) {
-        return list.add("a term (an IRI, a prefixed name, a variable, a blank node or a literal)");
-    }
-    if may_come(stack, Kind::Keyword(Keyword::Undef)) {
-        return list.add("a value (an IRI, a prefixed name, a literal or UNDEF)");
-    }
-    list.add_if(stack, Kind::Variable, "a variable")?;
-    list.add_if(stack, Kind::IriRef, "an IRI")?;
-    if may_come(stack, Kind::PrefixedName) {
-        return list.add("a prefixed name");
-    }
-    list.add_if(stack, Kind::PrefixedNamespace, "a prefix (such as 'ex:')")?;
-    list.add_if(stack, Kind::Integer, "a whole number")
 }
 
-/// Adds the operators of expressions that may come.
-fn add_operators(list: &mut List, stack: &[Symbol]) -> Result<(), AllocError> {
+/// Returns the phrases for the operators of expressions.
+fn operators(stack: &[Symbol]) -> Phrases {
     if may_come(stack, Kind::Sign(Sign::Equal)) {
-        return list.add("an operator (such as '=' or '&&')");
+        OPERATOR
+    } else {
+        OPERATORS
     }
-    list.add_if(stack, Kind::Sign(Sign::And), "'&&'")?;
-    list.add_if(stack, Kind::Sign(Sign::Or), "'||'")?;
-    list.add_if(stack, Kind::Keyword(Keyword::In), "IN")
 }
 
-/// Adds the other terminals that may come, except `(` where an expression may come.
-fn add_single(list: &mut List, stack: &[Symbol]) -> Result<(), AllocError> {
-    let is_operand = may_come_expression(stack);
-    for entry in SINGLE {
-        let is_part = is_operand && entry.0 == Kind::Sign(Sign::OpenParenthesis);
-        if !is_part {
-            list.add_if(stack, entry.0, entry.1)?;
+/// Returns the phrase for `(`: none where an expression may come.
+fn open(stack: &[Symbol]) -> Phrases {
+    if may_come_expression(stack) {
+        NONE
+    } else {
+        OPEN
+    }
+}
+
+/// Returns the phrase for functions: none where an expression may come.
+fn functions(stack: &[Symbol]) -> Phrases {
+    if may_come(stack, Kind::Variable) {
+        NONE
+    } else {
+        FUNCTION
+    }
+}
+
+/// Adds the phrases of the terminals that may come.
+fn add(list: &mut Vec<&'static str>, stack: &[Symbol], phrases: Phrases) -> Result<(), AllocError> {
+    for phrase in phrases {
+        if may_come(stack, phrase.0) {
+            list.push(phrase.1)?;
         }
     }
     Ok(())
 }
 
+/// Adds the signs and keywords that may come.
+fn add_signs(list: &mut Vec<&'static str>, stack: &[Symbol]) -> Result<(), AllocError> {
+    add(list, stack, BRACES)?;
+    add(list, stack, open(stack))?;
+    add(list, stack, WORDS)
+}
+
 /// Adds the phrases for functions, patterns and the end, if they may come.
-fn add_others(list: &mut List, stack: &[Symbol]) -> Result<(), AllocError> {
-    if may_come(stack, Kind::Keyword(Keyword::Bound)) && !may_come(stack, Kind::Variable) {
-        list.add("a function (such as BOUND)")?;
-    }
-    let pattern = "a pattern (such as OPTIONAL or FILTER)";
-    list.add_if(stack, Kind::Keyword(Keyword::Optional), pattern)?;
+fn add_others(list: &mut Vec<&'static str>, stack: &[Symbol]) -> Result<(), AllocError> {
+    add(list, stack, functions(stack))?;
+    add(list, stack, PATTERN)?;
     if may_end(stack) {
-        list.add("the end of the query")?;
+        list.push("the end of the query")?;
     }
     Ok(())
 }
 
 /// Adds the terminals that may come with these symbols on the stack.
-fn add_all(list: &mut List, stack: &[Symbol]) -> Result<(), AllocError> {
-    add_terms(list, stack)?;
-    add_operators(list, stack)?;
-    add_single(list, stack)?;
+fn add_all(list: &mut Vec<&'static str>, stack: &[Symbol]) -> Result<(), AllocError> {
+    add(list, stack, terms(stack))?;
+    add(list, stack, operators(stack))?;
+    add_signs(list, stack)?;
     add_others(list, stack)
 }
 
@@ -141,9 +185,7 @@ fn push_items(out: &mut String, items: &[&str]) -> Result<(), AllocError> {
 /// # Errors
 /// `AllocError` if an allocation fails. `out` may then have a part of the text.
 pub fn push_expected(out: &mut String, stack: &[Symbol]) -> Result<(), AllocError> {
-    let mut list = List {
-        items: Vec::new(*out.allocator()),
-    };
+    let mut list = Vec::new(*out.allocator());
     add_all(&mut list, stack)?;
-    push_items(out, &list.items)
+    push_items(out, &list)
 }

@@ -3,7 +3,7 @@
 use std::fmt;
 
 /// What a user can write instead.
-#[derive(Clone, Copy, Debug, PartialEq, Eq)]
+#[derive(Clone, Copy)]
 pub enum Hint {
     OrderBy,
     Aggregate,

@@ -1,7 +1,7 @@
 //! The unsupported feature of SPARQL that a query uses at a place.
 
 use crate::hint::Hint;
-use crate::machine::{may_come, may_end};
+use crate::machine::{kind_at, may_come, may_end};
 use crate::symbol::Symbol;
 use sparql_lexer::{Keyword, Kind, Sign, Token};
 
@@ -46,11 +46,16 @@ const WORDS: &[(&str, Hint)] = &[
 
 /// Returns whether the characters are those of a word, in upper or lower case.
 fn is_word(text: &[char], word: &str) -> bool {
-    text.len() == word.len()
-        && text
-            .iter()
-            .zip(word.bytes())
-            .all(|(c, b)| c.to_ascii_uppercase() == char::from(b))
+    if text.len() != word.len() {
+        return false;
+    }
+    let bytes = word.as_bytes();
+    for i in 0..bytes.len() {
+        if text[i].to_ascii_uppercase() != char::from(bytes[i]) {
+            return false;
+        }
+    }
+    true
 }
 
 /// Returns the hint for a word, or None if it has no hint.
@@ -61,10 +66,6 @@ fn hint_of_word(text: &[char]) -> Option<Hint> {
         }
     }
     None
-}
-
-fn kind_at(tokens: &[Token<'_>], at: usize) -> Option<Kind> {
-    tokens.get(at).map(|token| token.kind)
 }
 
 fn is_kind(tokens: &[Token<'_>], at: usize, kind: Kind) -> bool {
@@ -100,7 +101,7 @@ fn is_term_next(stack: &[Symbol]) -> bool {
 
 /// Returns whether the projection of SELECT may come.
 fn is_selection_next(stack: &[Symbol]) -> bool {
-    may_come(stack, Kind::Sign(Sign::Star)) || stack.last() == Some(&Symbol::Variables)
+    may_come(stack, Kind::Sign(Sign::Star)) || matches!(stack.last(), Some(Symbol::Variables))
 }
 
 /// Returns the hint for a word that is not allowed.
@@ -123,7 +124,7 @@ fn hint_at_keyword(
 ) -> Option<Hint> {
     let next = word_at(tokens, at.saturating_add(1));
     match keyword {
-        Keyword::Not if next == Some(Hint::Exists) => Some(Hint::NotExists),
+        Keyword::Not if matches!(next, Some(Hint::Exists)) => Some(Hint::NotExists),
         Keyword::Select if is_term_next(stack) => Some(Hint::Subquery),
         Keyword::Values if may_end(stack) => Some(Hint::TrailingValues),
         _ => None,

@@ -15,8 +15,8 @@
 //! Standard: SPARQL 1.1 Query Language, section 19.8 (grammar), and sections 4.1.1, 5.1.1 and 10.1
 //! for the rules on prefixes, blank node labels and BIND.
 //!
-//! Reading order: specs/QueryPrefix.antt; `symbol`, `steps`, `expressions` (the grammar as a
-//! machine), `machine`, `completion`; `expected` (the terminals that may come, as text); `places`,
+//! Reading order: specs/QueryPrefix.antt; `symbol`, `steps` (the grammar as tables), `machine`,
+//! `completion`; `expected` (the terminals that may come, as text); `places`,
 //! `rules`; `hint`, `diagnosis`, `reports`.
 //!
 //! Tests: `queries` of the crate diagnosis_tests.
@@ -27,7 +27,6 @@
 mod completion;
 mod diagnosis;
 mod expected;
-mod expressions;
 mod hint;
 mod hints;
 mod machine;

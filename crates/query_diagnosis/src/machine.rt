@@ -1,6 +1,6 @@
 //! A machine that reads terminals up to the first after which no query continues.
 
-ghost use Rattle.std.specs.Prelude.{◌≡◌, ◌≤◌, length, take, true, IfOk, IfSome};
+ghost use Rattle.std.specs.Prelude.{◌≡◌, ◌≤◌, length, take, true, IfOk};
 ghost use Rattle.sparql_lexer.specs.Terminal.{terminals};
 ghost use Rattle.query_diagnosis.specs.QueryPrefix.{IsQueryPrefix, IsSomeQuery};
 
@@ -14,7 +14,7 @@ use sparql_read::declarations_of;
 use std::alloc::{AllocError, Global};
 
 /// The reason why no query continues after a terminal.
-#[derive(Clone, Copy, Debug, PartialEq, Eq)]
+#[derive(Clone, Copy)]
 pub enum Cause {
     /// No terminal of its kind is allowed there, or the terminals end too early
     Kind,
@@ -26,10 +26,12 @@ pub enum Cause {
     LongRow,
     /// A row of VALUES has fewer values than the list has variables
     ShortRow,
+    /// The cause is not known. No test gives this cause.
+    Unexplained,
 }
 
 /// The place where the machine stopped.
-#[derive(Debug, Drop)]
+#[derive(Drop)]
 pub struct Stop {
     /// The number of terminals before the place. It is the number of all terminals if they end too
     /// early.
@@ -76,15 +78,36 @@ pub fn may_come(stack: &[Symbol], kind: Kind) -> bool {
 /// Returns whether the query may end.
 pub fn may_end(stack: &[Symbol]) -> bool {
     // No symbol takes a word that is not a keyword, so this kind represents the end here.
-    stack
-        .iter()
-        .all(|symbol| matches!(step(*symbol, Kind::Word), Step::Skip))
+    for symbol in stack {
+        if !matches!(step(*symbol, Kind::Word), Step::Skip) {
+            return false;
+        }
+    }
+    true
+}
+
+/// Returns the kind of the terminal at a place, or None if there is no terminal.
+pub fn kind_at(tokens: &[Token<'_>], at: usize) -> Option<Kind> {
+    match tokens.get(at) {
+        Some(token) => Some(token.kind),
+        None => None,
+    }
+}
+
+/// Returns whether one of these variables has the name of another one.
+fn has_name(tokens: &[Token<'_>], variable: Token<'_>) -> bool {
+    for token in tokens {
+        if is_same_name(*token, variable) {
+            return true;
+        }
+    }
+    false
 }
 
 /// Returns whether the variable at a place is among those from another place on.
 fn is_repeated(tokens: &[Token<'_>], from: usize, at: usize) -> bool {
     match (tokens.get(from..at), tokens.get(at)) {
-        (Some(before), Some(token)) => before.iter().any(|t| is_same_name(*t, *token)),
+        (Some(before), Some(token)) => has_name(before, *token),
         _ => false,
     }
 }
@@ -105,6 +128,14 @@ fn is_misspelled(alloc: Global, token: Token<'_>) -> Result<bool, AllocError> {
     }
 }
 
+/// Puts symbols on a stack, the first of them on top.
+fn push(stack: &mut Vec<Symbol>, symbols: &[Symbol]) -> Result<(), AllocError> {
+    for symbol in symbols.iter().rev() {
+        stack.push(*symbol)?;
+    }
+    Ok(())
+}
+
 impl Machine {
     fn new(alloc: Global) -> Result<Machine, AllocError> {
         let mut stack = Vec::new(alloc);
@@ -117,17 +148,9 @@ impl Machine {
         })
     }
 
-    /// Puts symbols on the stack, the first of them on top.
-    fn push(&mut self, symbols: &[Symbol]) -> Result<(), AllocError> {
-        for symbol in symbols.iter().rev() {
-            self.stack.push(*symbol)?;
-        }
-        Ok(())
-    }
-
     /// Returns the error of a terminal that a symbol takes, as a part of VALUES.
     fn cause_in_values(&self, symbol: Symbol, tokens: &[Token<'_>], at: usize) -> Option<Cause> {
-        let closes = tokens.get(at).map(|t| t.kind) == Some(Kind::Sign(Sign::CloseParenthesis));
+        let closes = kind_at(tokens, at) == Some(Kind::Sign(Sign::CloseParenthesis));
         match symbol {
             Symbol::Heading if !closes && is_repeated(tokens, self.heading, at) => {
                 Some(Cause::Twice)
@@ -178,8 +201,8 @@ impl Machine {
         self.count(symbol, token.kind, at);
         self.stack.truncate(place);
         if let Step::Take(first, then) = step(symbol, token.kind) {
-            self.push(then)?;
-            self.push(first)?;
+            push(&mut self.stack, then)?;
+            push(&mut self.stack, first)?;
         }
         Ok(None)
     }
@@ -244,28 +267,43 @@ fn is_verified(
     is_beginning(alloc, front, &end)
 }
 
+/// Returns the place and the cause that a machine finds, or the first place if it could not be shown
+/// that some query begins with the terminals before the place.
+fn found_by(
+    machine: &mut Machine,
+    alloc: Global,
+    tokens: &[Token<'_>],
+) -> Result<(usize, Cause), AllocError>
+    ensures place { IfOk result (λ found. found.0 ≤ length tokens.now) }
+    ensures beginning { IfOk result (λ found.
+        IsQueryPrefix (terminals (take found.0 tokens.now))) }
+{
+    let (at, cause) = read_all(machine, alloc, tokens)?;
+    if is_verified(machine, alloc, tokens, at)? {
+        Ok((at, cause))
+    } else {
+        Ok((0, Cause::Unexplained))
+    }
+}
+
 /// Returns the place after which no query continues the terminals: the first terminal after which
 /// no query continues, or the end if there is no such terminal (SPARQL 1.1 Query Language, section
 /// 19.8).
 ///
-/// Some query begins with the terminals before the place. Returns None if this could not be shown;
-/// no test gives None.
+/// Some query begins with the terminals before the place. If this could not be shown, the place is
+/// the first and its cause is `Unexplained`; no test gives this cause.
 ///
 /// # Errors
 /// `AllocError` if an allocation fails.
-pub fn stop_of(alloc: Global, tokens: &[Token<'_>]) -> Result<Option<Stop>, AllocError>
-    ensures place { IfOk result (λ stop. IfSome stop (λ s. s.at ≤ length tokens.now)) }
-    ensures beginning { IfOk result (λ stop.
-        IfSome stop (λ s. IsQueryPrefix (terminals (take s.at tokens.now)))) }
+pub fn stop_of(alloc: Global, tokens: &[Token<'_>]) -> Result<Stop, AllocError>
+    ensures place { IfOk result (λ s. s.at ≤ length tokens.now) }
+    ensures beginning { IfOk result (λ s. IsQueryPrefix (terminals (take s.at tokens.now))) }
 {
     let mut machine = Machine::new(alloc)?;
-    let (at, cause) = read_all(&mut machine, alloc, tokens)?;
-    if !is_verified(&machine, alloc, tokens, at)? {
-        return Ok(None);
-    }
-    Ok(Some(Stop {
+    let (at, cause) = found_by(&mut machine, alloc, tokens)?;
+    Ok(Stop {
         at,
         cause,
         stack: machine.stack,
-    }))
+    })
 }

@@ -5,7 +5,7 @@ use std::fmt;
 
 /// A line and a column of a text, both from 1. A line ends with LF, CR LF, or a CR that no LF
 /// follows.
-#[derive(Clone, Copy, Debug, PartialEq, Eq)]
+#[derive(Clone, Copy)]
 pub struct Position {
     /// The number of the line, from 1.
     pub line: usize,
@@ -42,17 +42,29 @@ pub fn line_start(text: &[char], offset: usize) -> usize {
 /// Returns the line of a place, without its line end.
 pub fn line_at(text: &[char], offset: usize) -> &[char] {
     let line = text.get(line_start(text, offset)..).unwrap_or(&[]);
-    let end = line.iter().position(|c| *c == '\n' || *c == '\r');
-    line.get(..end.unwrap_or(line.len())).unwrap_or(line)
+    for i in 0..line.len() {
+        if matches!(line[i], '\n' | '\r') {
+            return &line[..i];
+        }
+    }
+    line
+}
+
+/// Returns the number of lines that end before a place.
+fn lines_before(text: &[char], offset: usize) -> usize {
+    let mut count = 0usize;
+    for i in 0..offset.min(text.len()) {
+        if ends_line(text, i) {
+            count = count.saturating_add(1);
+        }
+    }
+    count
 }
 
 /// Returns the position of a place, given by the number of characters before it.
 pub fn position_of(text: &[char], offset: usize) -> Position {
-    let ended = (0..offset.min(text.len()))
-        .filter(|i| ends_line(text, *i))
-        .count();
     Position {
-        line: ended.saturating_add(1),
+        line: lines_before(text, offset).saturating_add(1),
         column: offset
             .saturating_sub(line_start(text, offset))
             .saturating_add(1),

@@ -1,7 +1,7 @@
 //! The places at which a query that the grammar derives breaks one of the other rules. Each
-//! function returns the place of a terminal in the list, or None if no terminal breaks the rule.
+//! function returns the first terminal that breaks the rule, or None if there is none.
 
-use crate::machine::is_same_name;
+use crate::machine::{is_same_name, kind_at};
 use rdf_core::lexical::has_scheme;
 use sparql_grammar::Declarations;
 use sparql_lexer::{Keyword, Kind, Sign, Token, iri_value, text_of};
@@ -11,19 +11,36 @@ use std::collections::BTreeMap;
 /// The maximum number of brackets that may be open at once.
 const MAX_DEPTH: usize = 100;
 
-/// A terminal that clashes with an earlier one.
+/// A terminal that breaks a rule.
 #[derive(Clone, Copy)]
-pub struct Clash {
+pub struct Breach {
     /// The place of the terminal in the list.
     pub at: usize,
-    /// The place of the earlier terminal.
-    pub earlier: usize,
+    /// The place of the earlier terminal with which it clashes, if the rule is about two terminals.
+    pub earlier: Option<usize>,
+}
+
+/// Returns a breach of a rule about one terminal.
+fn alone(at: usize) -> Breach {
+    Breach { at, earlier: None }
+}
+
+/// Returns a breach of a rule about two terminals.
+fn clash(at: usize, earlier: usize) -> Breach {
+    Breach {
+        at,
+        earlier: Some(earlier),
+    }
 }
 
 /// Returns the part of a prefixed name before its first colon.
 pub fn prefix_of<'a>(name: &'a [char]) -> &'a [char] {
-    let end = name.iter().position(|c| *c == ':').unwrap_or(name.len());
-    name.get(..end).unwrap_or(name)
+    for i in 0..name.len() {
+        if name[i] == ':' {
+            return &name[..i];
+        }
+    }
+    name
 }
 
 /// Returns whether a terminal is no prefixed name, or one with a declaration.
@@ -68,17 +85,17 @@ fn is_relative(alloc: Global, token: Token<'_>) -> Result<bool, AllocError> {
 ///
 /// # Errors
 /// `AllocError` if an allocation fails.
-pub fn relative_iri(alloc: Global, tokens: &[Token<'_>]) -> Result<Option<usize>, AllocError> {
+pub fn relative_iri(alloc: Global, tokens: &[Token<'_>]) -> Result<Option<Breach>, AllocError> {
     for i in 0..tokens.len() {
         if is_relative(alloc, tokens[i])? {
-            return Ok(Some(i));
+            return Ok(Some(alone(i)));
         }
     }
     Ok(None)
 }
 
 /// Returns the place of the first bracket after which more than 100 are open.
-pub fn deepest(tokens: &[Token<'_>]) -> Option<usize> {
+pub fn deepest(tokens: &[Token<'_>]) -> Option<Breach> {
     let mut depth = 0usize;
     for i in 0..tokens.len() {
         match tokens[i].kind {
@@ -91,7 +108,7 @@ pub fn deepest(tokens: &[Token<'_>]) -> Option<usize> {
             _ => {}
         }
         if depth > MAX_DEPTH {
-            return Some(i);
+            return Some(alone(i));
         }
     }
     None
@@ -108,9 +125,9 @@ struct Labels {
 
 impl Labels {
     /// Adds the label at a place. Returns a clash if it is in another basic graph pattern too.
-    fn add(&mut self, label: String, at: usize) -> Result<Option<Clash>, AllocError> {
+    fn add(&mut self, label: String, at: usize) -> Result<Option<Breach>, AllocError> {
         match self.seen.get(label.as_str()).copied() {
-            Some((earlier, pattern)) if pattern != self.pattern => Ok(Some(Clash { at, earlier })),
+            Some((earlier, pattern)) if pattern != self.pattern => Ok(Some(clash(at, earlier))),
             Some(_) => Ok(None),
             None => {
                 self.seen.insert(label, (at, self.pattern))?;
@@ -125,7 +142,7 @@ impl Labels {
         alloc: Global,
         token: Token<'_>,
         at: usize,
-    ) -> Result<Option<Clash>, AllocError> {
+    ) -> Result<Option<Breach>, AllocError> {
         match token.kind {
             Kind::Sign(Sign::OpenBrace | Sign::CloseBrace) | Kind::Keyword(Keyword::Bind) => {
                 self.pattern = at;
@@ -142,7 +159,7 @@ impl Labels {
 ///
 /// # Errors
 /// `AllocError` if an allocation fails.
-pub fn reused_blank(alloc: Global, tokens: &[Token<'_>]) -> Result<Option<Clash>, AllocError> {
+pub fn reused_blank(alloc: Global, tokens: &[Token<'_>]) -> Result<Option<Breach>, AllocError> {
     let mut labels = Labels {
         seen: BTreeMap::new(alloc),
         pattern: 0,
@@ -203,6 +220,18 @@ fn find(tokens: &[Token<'_>], from: usize, kind: Kind) -> usize {
     tokens.len()
 }
 
+/// Returns the first of these places at which there is a variable of the same name.
+fn place_of(tokens: &[Token<'_>], places: &[usize], variable: Token<'_>) -> Option<usize> {
+    for place in places {
+        if let Some(token) = tokens.get(*place) {
+            if is_same_name(*token, variable) {
+                return Some(*place);
+            }
+        }
+    }
+    None
+}
+
 impl Scopes {
     fn new(alloc: Global) -> Scopes {
         Scopes {
@@ -234,7 +263,7 @@ impl Scopes {
     fn add_values(&mut self, tokens: &[Token<'_>], at: usize) -> Result<(), AllocError> {
         let values = find(tokens, at, Kind::Sign(Sign::OpenBrace));
         for i in at..values {
-            if tokens.get(i).map(|token| token.kind) == Some(Kind::Variable) {
+            if kind_at(tokens, i) == Some(Kind::Variable) {
                 self.seen.push(i)?;
             }
         }
@@ -242,26 +271,25 @@ impl Scopes {
         Ok(())
     }
 
+    /// Returns the number of variables in scope before the open group.
+    fn first(&self) -> usize {
+        match self.frames.last() {
+            Some(frame) => frame.first,
+            None => 0,
+        }
+    }
+
     /// Returns the place in the open group that already binds the variable at a place.
     fn earlier(&self, tokens: &[Token<'_>], at: usize) -> Option<usize> {
-        let first = self.frames.last().map_or(0, |frame| frame.first);
         let variable = tokens.get(at)?;
-        for place in self.seen.get(first..)? {
-            if is_same_name(*tokens.get(*place)?, *variable) {
-                return Some(*place);
-            }
-        }
-        None
+        place_of(tokens, self.seen.get(self.first()..)?, *variable)
     }
 
     /// Reads BIND, and returns a clash of its variable.
-    fn add_bind(&mut self, tokens: &[Token<'_>], at: usize) -> Result<Option<Clash>, AllocError> {
+    fn add_bind(&mut self, tokens: &[Token<'_>], at: usize) -> Result<Option<Breach>, AllocError> {
         let variable = find(tokens, at, Kind::Keyword(Keyword::As)).saturating_add(1);
         if let Some(earlier) = self.earlier(tokens, variable) {
-            return Ok(Some(Clash {
-                at: variable,
-                earlier,
-            }));
+            return Ok(Some(clash(variable, earlier)));
         }
         self.seen.push(variable)?;
         self.next = variable.saturating_add(1);
@@ -269,7 +297,7 @@ impl Scopes {
     }
 
     /// Reads the terminal at a place, and returns a clash of the variable of BIND.
-    fn read(&mut self, tokens: &[Token<'_>], at: usize) -> Result<Option<Clash>, AllocError> {
+    fn read(&mut self, tokens: &[Token<'_>], at: usize) -> Result<Option<Breach>, AllocError> {
         let Some(token) = tokens.get(at) else {
             return Ok(None);
         };
@@ -292,7 +320,7 @@ impl Scopes {
 ///
 /// # Errors
 /// `AllocError` if an allocation fails.
-pub fn bound_twice(alloc: Global, tokens: &[Token<'_>]) -> Result<Option<Clash>, AllocError> {
+pub fn bound_twice(alloc: Global, tokens: &[Token<'_>]) -> Result<Option<Breach>, AllocError> {
     let mut scopes = Scopes::new(alloc);
     for i in 0..tokens.len() {
         if i < scopes.next {

@@ -1,16 +1,559 @@
-//! The steps of the symbols of the query, its groups and its triples.
+//! The grammar as tables: the terminals that each symbol takes, and the symbols that replace it
+//! (SPARQL 1.1 Query Language, section 19.8).
 
-use crate::expressions::{call, expression, more_logic, more_relation, primary, unary};
-use crate::symbol::{DONE, Step, Symbol};
+use crate::symbol::{Step, Symbol};
 use sparql_lexer::{Keyword, Kind, Sign};
 
-/// Takes only a terminal of this kind.
-fn only(kind: Kind, expected: Kind) -> Step {
-    if kind == expected { DONE } else { Step::Stop }
+/// A class of terminals.
+#[derive(Clone, Copy)]
+enum Class {
+    /// The terminals of one kind
+    Only(Kind),
+    /// [136] iri: an [139] IRIREF or a prefixed name
+    Name,
+    /// [130] NumericLiteral and [134] BooleanLiteral
+    Number,
+    /// [135] String
+    Text,
+    /// The names of the functions in [121] BuiltInCall that have one expression
+    Function,
+    /// The comparison operators of [114] RelationalExpression
+    Comparison,
+}
+
+/// Terminals that a symbol takes, and the symbols that replace it.
+type Rule = (Class, &'static [Symbol]);
+
+/// Rules, and the symbols that follow those of each rule.
+type Rules = (&'static [Rule], &'static [Symbol]);
+
+/// [2] Query: [6] PrefixDecl and [7] SelectQuery.
+const QUERY: &[Rule] = &[
+    (
+        Class::Only(Kind::Keyword(Keyword::Prefix)),
+        &[Symbol::Namespace, Symbol::Reference, Symbol::Query],
+    ),
+    (
+        Class::Only(Kind::Keyword(Keyword::Select)),
+        &[Symbol::Distinct],
+    ),
+];
+
+/// DISTINCT.
+const DISTINCT: &[Rule] = &[(
+    Class::Only(Kind::Keyword(Keyword::Distinct)),
+    &[Symbol::Selection],
+)];
+
+/// [9] SelectClause, after SELECT and DISTINCT.
+const SELECTION: &[Rule] = &[
+    (Class::Only(Kind::Sign(Sign::Star)), &[Symbol::Where]),
+    (Class::Only(Kind::Variable), &[Symbol::Variables]),
+];
+
+/// A variable of [9] SelectClause.
+const VARIABLES: &[Rule] = &[(Class::Only(Kind::Variable), &[Symbol::Variables])];
+
+/// [17] WhereClause, and what follows it.
+const WHERE: &[Rule] = &[
+    (
+        Class::Only(Kind::Keyword(Keyword::Where)),
+        &[Symbol::Group, Symbol::Modifiers],
+    ),
+    (
+        Class::Only(Kind::Sign(Sign::OpenBrace)),
+        &[Symbol::Body, Symbol::Modifiers],
+    ),
+];
+
+/// [25] LimitOffsetClauses.
+const MODIFIERS: &[Rule] = &[
+    (
+        Class::Only(Kind::Keyword(Keyword::Limit)),
+        &[Symbol::Count, Symbol::MoreOffset],
+    ),
+    (
+        Class::Only(Kind::Keyword(Keyword::Offset)),
+        &[Symbol::Count, Symbol::MoreLimit],
+    ),
+];
+
+/// [26] LimitClause.
+const LIMIT: &[Rule] = &[(Class::Only(Kind::Keyword(Keyword::Limit)), &[Symbol::Count])];
+
+/// [27] OffsetClause.
+const OFFSET: &[Rule] = &[(
+    Class::Only(Kind::Keyword(Keyword::Offset)),
+    &[Symbol::Count],
+)];
+
+/// [53] GroupGraphPattern.
+const GROUP: &[Rule] = &[(Class::Only(Kind::Sign(Sign::OpenBrace)), &[Symbol::Body])];
+
+/// The end of a group.
+const END: &[Rule] = &[(Class::Only(Kind::Sign(Sign::CloseBrace)), &[])];
+
+/// The dot after triples or another element.
+const DOT: &[Rule] = &[(Class::Only(Kind::Sign(Sign::Dot)), &[Symbol::Body])];
+
+/// [56] GraphPatternNotTriples.
+const ELEMENT: &[Rule] = &[
+    (
+        Class::Only(Kind::Sign(Sign::OpenBrace)),
+        &[Symbol::Body, Symbol::MoreUnion],
+    ),
+    (
+        Class::Only(Kind::Keyword(Keyword::Optional)),
+        &[Symbol::Group],
+    ),
+    (Class::Only(Kind::Keyword(Keyword::Minus)), &[Symbol::Group]),
+    (
+        Class::Only(Kind::Keyword(Keyword::Graph)),
+        &[Symbol::GraphName, Symbol::Group],
+    ),
+    (
+        Class::Only(Kind::Keyword(Keyword::Filter)),
+        &[Symbol::Condition],
+    ),
+    (
+        Class::Only(Kind::Keyword(Keyword::Bind)),
+        &[
+            Symbol::Open,
+            Symbol::Expression,
+            Symbol::As,
+            Symbol::Variable,
+            Symbol::Close,
+        ],
+    ),
+    (
+        Class::Only(Kind::Keyword(Keyword::Values)),
+        &[Symbol::DataBlock],
+    ),
+];
+
+/// A further group of a [67] GroupOrUnionGraphPattern.
+const UNION: &[Rule] = &[(
+    Class::Only(Kind::Keyword(Keyword::Union)),
+    &[Symbol::Group, Symbol::MoreUnion],
+)];
+
+/// [107] VarOrIri.
+const VARIABLE_OR_NAME: &[Rule] = &[(Class::Only(Kind::Variable), &[]), (Class::Name, &[])];
+
+/// [78] Verb.
+const VERB: &[Rule] = &[
+    (Class::Only(Kind::Variable), &[]),
+    (Class::Name, &[]),
+    (Class::Only(Kind::Keyword(Keyword::A)), &[]),
+];
+
+/// [109] GraphTerm without blank nodes.
+const CONSTANT: &[Rule] = &[
+    (Class::Name, &[]),
+    (Class::Number, &[]),
+    (Class::Text, &[Symbol::LiteralTail]),
+];
+
+/// [106] VarOrTerm, if it is a variable or a blank node.
+const NODE: &[Rule] = &[
+    (Class::Only(Kind::Variable), &[]),
+    (Class::Only(Kind::BlankLabel), &[]),
+    (Class::Only(Kind::Anonymous), &[]),
+];
+
+/// A further object of an [79] ObjectList.
+const MORE_OBJECTS: &[Rule] = &[(
+    Class::Only(Kind::Sign(Sign::Comma)),
+    &[Symbol::Object, Symbol::MoreObjects],
+)];
+
+/// A further verb of a [77] PropertyListNotEmpty.
+const MORE_PROPERTIES: &[Rule] = &[(
+    Class::Only(Kind::Sign(Sign::Semicolon)),
+    &[Symbol::AfterSemicolon],
+)];
+
+/// The end of an [129] RDFLiteral, after the string.
+const LITERAL_TAIL: &[Rule] = &[
+    (Class::Only(Kind::LanguageTag), &[]),
+    (Class::Only(Kind::Sign(Sign::Carets)), &[Symbol::Name]),
+];
+
+/// [136] iri.
+const NAME: &[Rule] = &[(Class::Name, &[])];
+
+/// [62] DataBlock.
+const DATA_BLOCK: &[Rule] = &[
+    (
+        Class::Only(Kind::Variable),
+        &[Symbol::OpenBrace, Symbol::Column],
+    ),
+    (
+        Class::Only(Kind::Sign(Sign::OpenParenthesis)),
+        &[Symbol::Heading],
+    ),
+];
+
+/// The list of variables of an [64] InlineDataFull.
+const HEADING: &[Rule] = &[
+    (Class::Only(Kind::Variable), &[Symbol::Heading]),
+    (
+        Class::Only(Kind::Sign(Sign::CloseParenthesis)),
+        &[Symbol::OpenBrace, Symbol::Rows],
+    ),
+];
+
+/// The rows of an [64] InlineDataFull.
+const ROWS: &[Rule] = &[
+    (Class::Only(Kind::Sign(Sign::CloseBrace)), &[]),
+    (
+        Class::Only(Kind::Sign(Sign::OpenParenthesis)),
+        &[Symbol::Cells, Symbol::Rows],
+    ),
+];
+
+/// UNDEF.
+const UNDEF: &[Rule] = &[(Class::Only(Kind::Keyword(Keyword::Undef)), &[])];
+
+/// [120] BrackettedExpression.
+const BRACKET: &[Rule] = &[(
+    Class::Only(Kind::Sign(Sign::OpenParenthesis)),
+    &[Symbol::Expression, Symbol::Close],
+)];
+
+/// [121] BuiltInCall.
+const CALL: &[Rule] = &[
+    (Class::Function, &[Symbol::Bracket]),
+    (
+        Class::Only(Kind::Keyword(Keyword::Bound)),
+        &[Symbol::Open, Symbol::Variable, Symbol::Close],
+    ),
+    (
+        Class::Only(Kind::Keyword(Keyword::SameTerm)),
+        &[
+            Symbol::Open,
+            Symbol::Expression,
+            Symbol::Comma,
+            Symbol::Expression,
+            Symbol::Close,
+        ],
+    ),
+];
+
+/// [118] UnaryExpression with `!`.
+const NOT: &[Rule] = &[(Class::Only(Kind::Sign(Sign::Not)), &[Symbol::Primary])];
+
+/// [108] Var.
+const VARIABLE: &[Rule] = &[(Class::Only(Kind::Variable), &[])];
+
+/// The second operand of a [114] RelationalExpression.
+const RELATION: &[Rule] = &[
+    (Class::Comparison, &[Symbol::Unary]),
+    (Class::Only(Kind::Keyword(Keyword::In)), &[Symbol::Members]),
+    (Class::Only(Kind::Keyword(Keyword::Not)), &[Symbol::In]),
+];
+
+/// A further operand of a [111] ConditionalOrExpression or [112] ConditionalAndExpression.
+const LOGIC: &[Rule] = &[
+    (Class::Only(Kind::Sign(Sign::And)), &[Symbol::Expression]),
+    (Class::Only(Kind::Sign(Sign::Or)), &[Symbol::Expression]),
+];
+
+/// IN, after NOT.
+const IN: &[Rule] = &[(Class::Only(Kind::Keyword(Keyword::In)), &[Symbol::Members])];
+
+/// [72] ExpressionList.
+const MEMBERS: &[Rule] = &[(
+    Class::Only(Kind::Sign(Sign::OpenParenthesis)),
+    &[Symbol::FirstMember],
+)];
+
+/// A further expression of an [72] ExpressionList.
+const MORE_MEMBERS: &[Rule] = &[(
+    Class::Only(Kind::Sign(Sign::Comma)),
+    &[Symbol::Expression, Symbol::MoreMembers],
+)];
+
+/// `(`.
+const OPEN: &[Rule] = &[(Class::Only(Kind::Sign(Sign::OpenParenthesis)), &[])];
+
+/// `)`.
+const CLOSE: &[Rule] = &[(Class::Only(Kind::Sign(Sign::CloseParenthesis)), &[])];
+
+/// `{`.
+const OPEN_BRACE: &[Rule] = &[(Class::Only(Kind::Sign(Sign::OpenBrace)), &[])];
+
+/// `,`.
+const COMMA: &[Rule] = &[(Class::Only(Kind::Sign(Sign::Comma)), &[])];
+
+/// AS.
+const AS: &[Rule] = &[(Class::Only(Kind::Keyword(Keyword::As)), &[])];
+
+/// [140] PNAME_NS.
+const NAMESPACE: &[Rule] = &[(Class::Only(Kind::PrefixedNamespace), &[])];
+
+/// [139] IRIREF.
+const REFERENCE: &[Rule] = &[(Class::Only(Kind::IriRef), &[])];
+
+/// [146] INTEGER.
+const COUNT: &[Rule] = &[(Class::Only(Kind::Integer), &[])];
+
+/// The rules of each symbol. No two rules of a symbol are for the same terminal.
+const OF_QUERY: &[Rules] = &[(QUERY, &[])];
+
+const OF_NAMESPACE: &[Rules] = &[(NAMESPACE, &[])];
+
+const OF_REFERENCE: &[Rules] = &[(REFERENCE, &[])];
+
+const OF_DISTINCT: &[Rules] = &[(DISTINCT, &[]), (SELECTION, &[])];
+
+const OF_SELECTION: &[Rules] = &[(SELECTION, &[])];
+
+const OF_VARIABLES: &[Rules] = &[(VARIABLES, &[]), (WHERE, &[])];
+
+const OF_WHERE: &[Rules] = &[(WHERE, &[])];
+
+const OF_MODIFIERS: &[Rules] = &[(MODIFIERS, &[])];
+
+const OF_MORE_LIMIT: &[Rules] = &[(LIMIT, &[])];
+
+const OF_MORE_OFFSET: &[Rules] = &[(OFFSET, &[])];
+
+const OF_COUNT: &[Rules] = &[(COUNT, &[])];
+
+const OF_GROUP: &[Rules] = &[(GROUP, &[])];
+
+const OF_BODY: &[Rules] = &[
+    (
+        NODE,
+        &[
+            Symbol::Property,
+            Symbol::MoreProperties,
+            Symbol::AfterTriples,
+        ],
+    ),
+    (
+        CONSTANT,
+        &[
+            Symbol::Property,
+            Symbol::MoreProperties,
+            Symbol::AfterTriples,
+        ],
+    ),
+    (END, &[]),
+    (ELEMENT, &[Symbol::AfterElement]),
+];
+
+const OF_AFTER_TRIPLES: &[Rules] = &[(DOT, &[]), (END, &[]), (ELEMENT, &[Symbol::AfterElement])];
+
+const OF_AFTER_ELEMENT: &[Rules] = &[
+    (DOT, &[]),
+    (
+        NODE,
+        &[
+            Symbol::Property,
+            Symbol::MoreProperties,
+            Symbol::AfterTriples,
+        ],
+    ),
+    (
+        CONSTANT,
+        &[
+            Symbol::Property,
+            Symbol::MoreProperties,
+            Symbol::AfterTriples,
+        ],
+    ),
+    (END, &[]),
+    (ELEMENT, &[Symbol::AfterElement]),
+];
+
+const OF_MORE_UNION: &[Rules] = &[(UNION, &[])];
+
+const OF_GRAPH_NAME: &[Rules] = &[(VARIABLE_OR_NAME, &[])];
+
+const OF_PROPERTY: &[Rules] = &[(VERB, &[Symbol::Object, Symbol::MoreObjects])];
+
+const OF_OBJECT: &[Rules] = &[(NODE, &[]), (CONSTANT, &[])];
+
+const OF_MORE_OBJECTS: &[Rules] = &[(MORE_OBJECTS, &[])];
+
+const OF_MORE_PROPERTIES: &[Rules] = &[(MORE_PROPERTIES, &[])];
+
+const OF_AFTER_SEMICOLON: &[Rules] = &[
+    (
+        VERB,
+        &[Symbol::Object, Symbol::MoreObjects, Symbol::MoreProperties],
+    ),
+    (MORE_PROPERTIES, &[]),
+];
+
+const OF_LITERAL_TAIL: &[Rules] = &[(LITERAL_TAIL, &[])];
+
+const OF_NAME: &[Rules] = &[(NAME, &[])];
+
+const OF_DATA_BLOCK: &[Rules] = &[(DATA_BLOCK, &[])];
+
+const OF_HEADING: &[Rules] = &[(HEADING, &[])];
+
+const OF_ROWS: &[Rules] = &[(ROWS, &[])];
+
+const OF_CELLS: &[Rules] = &[
+    (CLOSE, &[]),
+    (UNDEF, &[Symbol::Cells]),
+    (CONSTANT, &[Symbol::Cells]),
+];
+
+const OF_COLUMN: &[Rules] = &[
+    (END, &[]),
+    (UNDEF, &[Symbol::Column]),
+    (CONSTANT, &[Symbol::Column]),
+];
+
+const OF_CONDITION: &[Rules] = &[(BRACKET, &[]), (CALL, &[])];
+
+const OF_BRACKET: &[Rules] = &[(BRACKET, &[])];
+
+const OF_EXPRESSION: &[Rules] = &[
+    (NOT, &[Symbol::MoreRelation, Symbol::MoreLogic]),
+    (BRACKET, &[Symbol::MoreRelation, Symbol::MoreLogic]),
+    (CALL, &[Symbol::MoreRelation, Symbol::MoreLogic]),
+    (VARIABLE, &[Symbol::MoreRelation, Symbol::MoreLogic]),
+    (CONSTANT, &[Symbol::MoreRelation, Symbol::MoreLogic]),
+];
+
+const OF_UNARY: &[Rules] = &[
+    (NOT, &[]),
+    (BRACKET, &[]),
+    (CALL, &[]),
+    (VARIABLE, &[]),
+    (CONSTANT, &[]),
+];
+
+const OF_PRIMARY: &[Rules] = &[
+    (BRACKET, &[]),
+    (CALL, &[]),
+    (VARIABLE, &[]),
+    (CONSTANT, &[]),
+];
+
+const OF_MORE_RELATION: &[Rules] = &[(RELATION, &[])];
+
+const OF_MORE_LOGIC: &[Rules] = &[(LOGIC, &[])];
+
+const OF_IN: &[Rules] = &[(IN, &[])];
+
+const OF_MEMBERS: &[Rules] = &[(MEMBERS, &[])];
+
+const OF_FIRST_MEMBER: &[Rules] = &[
+    (CLOSE, &[]),
+    (
+        NOT,
+        &[Symbol::MoreRelation, Symbol::MoreLogic, Symbol::MoreMembers],
+    ),
+    (
+        BRACKET,
+        &[Symbol::MoreRelation, Symbol::MoreLogic, Symbol::MoreMembers],
+    ),
+    (
+        CALL,
+        &[Symbol::MoreRelation, Symbol::MoreLogic, Symbol::MoreMembers],
+    ),
+    (
+        VARIABLE,
+        &[Symbol::MoreRelation, Symbol::MoreLogic, Symbol::MoreMembers],
+    ),
+    (
+        CONSTANT,
+        &[Symbol::MoreRelation, Symbol::MoreLogic, Symbol::MoreMembers],
+    ),
+];
+
+const OF_MORE_MEMBERS: &[Rules] = &[(CLOSE, &[]), (MORE_MEMBERS, &[])];
+
+const OF_OPEN: &[Rules] = &[(OPEN, &[])];
+
+const OF_CLOSE: &[Rules] = &[(CLOSE, &[])];
+
+const OF_OPEN_BRACE: &[Rules] = &[(OPEN_BRACE, &[])];
+
+const OF_COMMA: &[Rules] = &[(COMMA, &[])];
+
+const OF_AS: &[Rules] = &[(AS, &[])];
+
+const OF_VARIABLE: &[Rules] = &[(VARIABLE, &[])];
+
+/// Returns the rules of a symbol.
+fn rules_of(symbol: Symbol) -> &'static [Rules] {
+    match symbol {
+        Symbol::Query => OF_QUERY,
+        Symbol::Namespace => OF_NAMESPACE,
+        Symbol::Reference => OF_REFERENCE,
+        Symbol::Distinct => OF_DISTINCT,
+        Symbol::Selection => OF_SELECTION,
+        Symbol::Variables => OF_VARIABLES,
+        Symbol::Where => OF_WHERE,
+        Symbol::Modifiers => OF_MODIFIERS,
+        Symbol::MoreLimit => OF_MORE_LIMIT,
+        Symbol::MoreOffset => OF_MORE_OFFSET,
+        Symbol::Count => OF_COUNT,
+        Symbol::Group => OF_GROUP,
+        Symbol::Body => OF_BODY,
+        Symbol::AfterTriples => OF_AFTER_TRIPLES,
+        Symbol::AfterElement => OF_AFTER_ELEMENT,
+        Symbol::MoreUnion => OF_MORE_UNION,
+        Symbol::GraphName => OF_GRAPH_NAME,
+        Symbol::Property => OF_PROPERTY,
+        Symbol::Object => OF_OBJECT,
+        Symbol::MoreObjects => OF_MORE_OBJECTS,
+        Symbol::MoreProperties => OF_MORE_PROPERTIES,
+        Symbol::AfterSemicolon => OF_AFTER_SEMICOLON,
+        Symbol::LiteralTail => OF_LITERAL_TAIL,
+        Symbol::Name => OF_NAME,
+        Symbol::DataBlock => OF_DATA_BLOCK,
+        Symbol::Heading => OF_HEADING,
+        Symbol::Rows => OF_ROWS,
+        Symbol::Cells => OF_CELLS,
+        Symbol::Column => OF_COLUMN,
+        Symbol::Condition => OF_CONDITION,
+        Symbol::Bracket => OF_BRACKET,
+        Symbol::Expression => OF_EXPRESSION,
+        Symbol::Unary => OF_UNARY,
+        Symbol::Primary => OF_PRIMARY,
+        Symbol::MoreRelation => OF_MORE_RELATION,
+        Symbol::MoreLogic => OF_MORE_LOGIC,
+        Symbol::In => OF_IN,
+        Symbol::Members => OF_MEMBERS,
+        Symbol::FirstMember => OF_FIRST_MEMBER,
+        Symbol::MoreMembers => OF_MORE_MEMBERS,
+        Symbol::Open => OF_OPEN,
+        Symbol::Close => OF_CLOSE,
+        Symbol::OpenBrace => OF_OPEN_BRACE,
+        Symbol::Comma => OF_COMMA,
+        Symbol::As => OF_AS,
+        Symbol::Variable => OF_VARIABLE,
+    }
+}
+
+/// Returns whether a symbol derives the empty text.
+fn may_be_empty(symbol: Symbol) -> bool {
+    matches!(
+        symbol,
+        Symbol::Modifiers
+            | Symbol::MoreLimit
+            | Symbol::MoreOffset
+            | Symbol::MoreUnion
+            | Symbol::MoreObjects
+            | Symbol::MoreProperties
+            | Symbol::AfterSemicolon
+            | Symbol::LiteralTail
+            | Symbol::MoreRelation
+            | Symbol::MoreLogic
+    )
 }
 
 /// Returns whether the terminal is an [136] iri: an [139] IRIREF or a prefixed name.
-pub fn is_name(kind: Kind) -> bool {
+fn is_name(kind: Kind) -> bool {
     matches!(
         kind,
         Kind::IriRef | Kind::PrefixedName | Kind::PrefixedNamespace
@@ -18,7 +561,7 @@ pub fn is_name(kind: Kind) -> bool {
 }
 
 /// Returns whether the terminal is a [130] NumericLiteral or a [134] BooleanLiteral.
-pub fn is_number_or_boolean(kind: Kind) -> bool {
+fn is_number_or_boolean(kind: Kind) -> bool {
     matches!(
         kind,
         Kind::Integer
@@ -36,336 +579,68 @@ pub fn is_string(kind: Kind) -> bool {
     matches!(kind, Kind::ShortString | Kind::LongString)
 }
 
-/// Reads the first terminal of an IRI or a literal; its rest and the symbols `then` follow it
-/// ([109] GraphTerm without blank nodes).
-pub fn constant(kind: Kind, then: &'static [Symbol]) -> Step {
-    if is_string(kind) {
-        Step::Take(&[Symbol::LiteralTail], then)
-    } else if is_name(kind) || is_number_or_boolean(kind) {
-        Step::Take(&[], then)
-    } else {
-        Step::Stop
-    }
-}
-
-/// Reads the first terminal of a [106] VarOrTerm; its rest and the symbols `then` follow it.
-fn pattern_term(kind: Kind, then: &'static [Symbol]) -> Step {
-    if matches!(kind, Kind::Variable | Kind::BlankLabel | Kind::Anonymous) {
-        Step::Take(&[], then)
-    } else {
-        constant(kind, then)
-    }
-}
-
-/// Reads a [78] Verb; the symbols `then` follow it.
-fn verb(kind: Kind, then: &'static [Symbol]) -> Step {
-    if kind == Kind::Variable || kind == Kind::Keyword(Keyword::A) || is_name(kind) {
-        Step::Take(&[], then)
-    } else {
-        Step::Stop
-    }
-}
-
-fn variable_or_name(kind: Kind) -> Step {
-    if kind == Kind::Variable || is_name(kind) {
-        DONE
-    } else {
-        Step::Stop
-    }
-}
-
-/// Reads the first terminal of a [2] Query: a [6] PrefixDecl or a [7] SelectQuery.
-fn query(kind: Kind) -> Step {
-    match kind {
-        Kind::Keyword(Keyword::Prefix) => Step::Take(
-            &[Symbol::Namespace, Symbol::Reference, Symbol::Query],
-            &[],
-        ),
-        Kind::Keyword(Keyword::Select) => Step::Take(&[Symbol::Distinct], &[]),
-        _ => Step::Stop,
-    }
-}
-
-/// Reads the terminal after the variables of SELECT ([17] WhereClause).
-fn where_clause(kind: Kind) -> Step {
-    match kind {
-        Kind::Keyword(Keyword::Where) => Step::Take(&[Symbol::Group, Symbol::Modifiers], &[]),
-        Kind::Sign(Sign::OpenBrace) => Step::Take(&[Symbol::Body, Symbol::Modifiers], &[]),
-        _ => Step::Stop,
-    }
-}
-
-/// Reads the terminal of a [9] SelectClause after SELECT and DISTINCT.
-fn selection(kind: Kind) -> Step {
-    match kind {
-        Kind::Sign(Sign::Star) => Step::Take(&[Symbol::Where], &[]),
-        Kind::Variable => Step::Take(&[Symbol::Variables], &[]),
-        _ => Step::Stop,
-    }
-}
-
-fn distinct(kind: Kind) -> Step {
-    match kind {
-        Kind::Keyword(Keyword::Distinct) => Step::Take(&[Symbol::Selection], &[]),
-        _ => selection(kind),
-    }
-}
-
-fn variables(kind: Kind) -> Step {
-    match kind {
-        Kind::Variable => Step::Take(&[Symbol::Variables], &[]),
-        _ => where_clause(kind),
-    }
-}
-
-/// Reads the first terminal of [25] LimitOffsetClauses.
-fn modifiers(kind: Kind) -> Step {
-    match kind {
-        Kind::Keyword(Keyword::Limit) => Step::Take(&[Symbol::Count, Symbol::MoreOffset], &[]),
-        Kind::Keyword(Keyword::Offset) => Step::Take(&[Symbol::Count, Symbol::MoreLimit], &[]),
-        _ => Step::Skip,
-    }
-}
-
-/// Takes this keyword; a number follows it.
-fn count_behind(kind: Kind, keyword: Keyword) -> Step {
-    if kind == Kind::Keyword(keyword) {
-        Step::Take(&[Symbol::Count], &[])
-    } else {
-        Step::Skip
-    }
-}
-
-/// Reads the first terminal of a [56] GraphPatternNotTriples, an element of a group other than
-/// triples.
-fn element(kind: Kind) -> Step {
-    const THEN: &[Symbol] = &[Symbol::AfterElement];
-    match kind {
-        Kind::Sign(Sign::OpenBrace) => Step::Take(&[Symbol::Body, Symbol::MoreUnion], THEN),
-        Kind::Keyword(Keyword::Optional | Keyword::Minus) => Step::Take(&[Symbol::Group], THEN),
-        Kind::Keyword(Keyword::Graph) => Step::Take(&[Symbol::GraphName, Symbol::Group], THEN),
-        Kind::Keyword(Keyword::Filter) => Step::Take(&[Symbol::Condition], THEN),
-        Kind::Keyword(Keyword::Bind) => Step::Take(
-            &[
-                Symbol::Open,
-                Symbol::Expression,
-                Symbol::As,
-                Symbol::Variable,
-                Symbol::Close,
-            ],
-            THEN,
-        ),
-        Kind::Keyword(Keyword::Values) => Step::Take(&[Symbol::DataBlock], THEN),
-        _ => Step::Stop,
-    }
-}
-
-/// Reads the end of a group, or the first terminal of an element other than triples.
-fn element_or_end(kind: Kind) -> Step {
-    if kind == Kind::Sign(Sign::CloseBrace) {
-        DONE
-    } else {
-        element(kind)
-    }
-}
-
-/// Reads the next terminal of a [54] GroupGraphPatternSub, where triples may come.
-fn body(kind: Kind) -> Step {
-    let subject = pattern_term(
+/// Returns whether the terminal is the name of a function with one expression.
+fn is_function(kind: Kind) -> bool {
+    matches!(
         kind,
-        &[
-            Symbol::Property,
-            Symbol::MoreProperties,
-            Symbol::AfterTriples,
-        ],
-    );
-    match subject {
-        Step::Stop => element_or_end(kind),
-        Step::Take(_, _) | Step::Skip => subject,
+        Kind::Keyword(
+            Keyword::Str
+                | Keyword::Lang
+                | Keyword::Datatype
+                | Keyword::IsIri
+                | Keyword::IsBlank
+                | Keyword::IsLiteral,
+        )
+    )
+}
+
+/// Returns whether the terminal is a comparison operator.
+fn is_comparison(kind: Kind) -> bool {
+    matches!(
+        kind,
+        Kind::Sign(
+            Sign::Equal
+                | Sign::NotEqual
+                | Sign::Less
+                | Sign::Greater
+                | Sign::LessOrEqual
+                | Sign::GreaterOrEqual,
+        )
+    )
+}
+
+/// Returns whether a terminal is in a class.
+fn is_in(class: Class, kind: Kind) -> bool {
+    match class {
+        Class::Only(own) => own == kind,
+        Class::Name => is_name(kind),
+        Class::Number => is_number_or_boolean(kind),
+        Class::Text => is_string(kind),
+        Class::Function => is_function(kind),
+        Class::Comparison => is_comparison(kind),
     }
 }
 
-fn after_triples(kind: Kind) -> Step {
-    if kind == Kind::Sign(Sign::Dot) {
-        Step::Take(&[Symbol::Body], &[])
-    } else {
-        element_or_end(kind)
+/// Returns the symbols of the rule for a terminal of this kind, or None if there is no such rule.
+fn replacement(rules: &[Rule], kind: Kind) -> Option<&'static [Symbol]> {
+    for rule in rules {
+        if is_in(rule.0, kind) {
+            return Some(rule.1);
+        }
     }
-}
-
-fn after_element(kind: Kind) -> Step {
-    if kind == Kind::Sign(Sign::Dot) {
-        Step::Take(&[Symbol::Body], &[])
-    } else {
-        body(kind)
-    }
-}
-
-/// Reads the terminal after a group of a [67] GroupOrUnionGraphPattern.
-fn more_union(kind: Kind) -> Step {
-    if kind == Kind::Keyword(Keyword::Union) {
-        Step::Take(&[Symbol::Group, Symbol::MoreUnion], &[])
-    } else {
-        Step::Skip
-    }
-}
-
-/// Reads the terminal after an object of an [79] ObjectList.
-fn more_objects(kind: Kind) -> Step {
-    if kind == Kind::Sign(Sign::Comma) {
-        Step::Take(&[Symbol::Object, Symbol::MoreObjects], &[])
-    } else {
-        Step::Skip
-    }
-}
-
-/// Reads the terminal after the objects of a [77] PropertyListNotEmpty.
-fn more_properties(kind: Kind) -> Step {
-    if kind == Kind::Sign(Sign::Semicolon) {
-        Step::Take(&[Symbol::AfterSemicolon], &[])
-    } else {
-        Step::Skip
-    }
-}
-
-fn after_semicolon(kind: Kind) -> Step {
-    const THEN: &[Symbol] = &[Symbol::Object, Symbol::MoreObjects, Symbol::MoreProperties];
-    match verb(kind, THEN) {
-        Step::Stop => more_properties(kind),
-        taken => taken,
-    }
-}
-
-/// Reads the terminal after the string of an [129] RDFLiteral.
-fn literal_tail(kind: Kind) -> Step {
-    match kind {
-        Kind::LanguageTag => DONE,
-        Kind::Sign(Sign::Carets) => Step::Take(&[Symbol::Name], &[]),
-        _ => Step::Skip,
-    }
-}
-
-/// Reads the first terminal of a [62] DataBlock.
-fn data_block(kind: Kind) -> Step {
-    match kind {
-        Kind::Variable => Step::Take(&[Symbol::OpenBrace, Symbol::Column], &[]),
-        Kind::Sign(Sign::OpenParenthesis) => Step::Take(&[Symbol::Heading], &[]),
-        _ => Step::Stop,
-    }
-}
-
-/// Reads the next terminal in the list of variables of an [64] InlineDataFull.
-fn heading(kind: Kind) -> Step {
-    match kind {
-        Kind::Variable => Step::Take(&[Symbol::Heading], &[]),
-        Kind::Sign(Sign::CloseParenthesis) => Step::Take(&[Symbol::OpenBrace, Symbol::Rows], &[]),
-        _ => Step::Stop,
-    }
-}
-
-/// Reads the next terminal between the rows of an [64] InlineDataFull.
-fn rows(kind: Kind) -> Step {
-    match kind {
-        Kind::Sign(Sign::CloseBrace) => DONE,
-        Kind::Sign(Sign::OpenParenthesis) => Step::Take(&[Symbol::Cells, Symbol::Rows], &[]),
-        _ => Step::Stop,
-    }
-}
-
-/// Reads the next terminal in a list of [65] DataBlockValue, up to its closing sign.
-fn cells(kind: Kind, close: Sign, then: &'static [Symbol]) -> Step {
-    if kind == Kind::Sign(close) {
-        DONE
-    } else if kind == Kind::Keyword(Keyword::Undef) {
-        Step::Take(&[], then)
-    } else {
-        constant(kind, then)
-    }
-}
-
-/// Returns the step of a symbol of expressions or lists of values.
-fn inner_step(symbol: Symbol, kind: Kind) -> Step {
-    match symbol {
-        Symbol::DataBlock => data_block(kind),
-        Symbol::Heading => heading(kind),
-        Symbol::Rows => rows(kind),
-        Symbol::Cells => cells(kind, Sign::CloseParenthesis, &[Symbol::Cells]),
-        Symbol::Column => cells(kind, Sign::CloseBrace, &[Symbol::Column]),
-        Symbol::Condition => match kind {
-            Kind::Sign(Sign::OpenParenthesis) => primary(kind, &[]),
-            _ => call(kind, &[]),
-        },
-        Symbol::Bracket => match kind {
-            Kind::Sign(Sign::OpenParenthesis) => primary(kind, &[]),
-            _ => Step::Stop,
-        },
-        Symbol::Expression => expression(kind, &[Symbol::MoreRelation, Symbol::MoreLogic]),
-        Symbol::Unary => unary(kind),
-        Symbol::Primary => primary(kind, &[]),
-        Symbol::MoreRelation => more_relation(kind),
-        Symbol::MoreLogic => more_logic(kind),
-        Symbol::In => match kind {
-            Kind::Keyword(Keyword::In) => Step::Take(&[Symbol::Members], &[]),
-            _ => Step::Stop,
-        },
-        Symbol::Members => match kind {
-            Kind::Sign(Sign::OpenParenthesis) => Step::Take(&[Symbol::FirstMember], &[]),
-            _ => Step::Stop,
-        },
-        Symbol::FirstMember => match kind {
-            Kind::Sign(Sign::CloseParenthesis) => DONE,
-            _ => expression(
-                kind,
-                &[Symbol::MoreRelation, Symbol::MoreLogic, Symbol::MoreMembers],
-            ),
-        },
-        Symbol::MoreMembers => match kind {
-            Kind::Sign(Sign::CloseParenthesis) => DONE,
-            Kind::Sign(Sign::Comma) => {
-                Step::Take(&[Symbol::Expression, Symbol::MoreMembers], &[])
-            }
-            _ => Step::Stop,
-        },
-        _ => Step::Stop,
-    }
+    None
 }
 
 /// Returns the step of a symbol for a terminal of this kind.
 pub fn step(symbol: Symbol, kind: Kind) -> Step {
-    match symbol {
-        Symbol::Query => query(kind),
-        Symbol::Namespace => only(kind, Kind::PrefixedNamespace),
-        Symbol::Reference => only(kind, Kind::IriRef),
-        Symbol::Distinct => distinct(kind),
-        Symbol::Selection => selection(kind),
-        Symbol::Variables => variables(kind),
-        Symbol::Where => where_clause(kind),
-        Symbol::Modifiers => modifiers(kind),
-        Symbol::MoreLimit => count_behind(kind, Keyword::Limit),
-        Symbol::MoreOffset => count_behind(kind, Keyword::Offset),
-        Symbol::Count => only(kind, Kind::Integer),
-        Symbol::Group => match kind {
-            Kind::Sign(Sign::OpenBrace) => Step::Take(&[Symbol::Body], &[]),
-            _ => Step::Stop,
-        },
-        Symbol::Body => body(kind),
-        Symbol::AfterTriples => after_triples(kind),
-        Symbol::AfterElement => after_element(kind),
-        Symbol::MoreUnion => more_union(kind),
-        Symbol::GraphName => variable_or_name(kind),
-        Symbol::Property => verb(kind, &[Symbol::Object, Symbol::MoreObjects]),
-        Symbol::Object => pattern_term(kind, &[]),
-        Symbol::MoreObjects => more_objects(kind),
-        Symbol::MoreProperties => more_properties(kind),
-        Symbol::AfterSemicolon => after_semicolon(kind),
-        Symbol::LiteralTail => literal_tail(kind),
-        Symbol::Name => { if is_name(kind) { DONE } else { Step::Stop } }
-        Symbol::Open => only(kind, Kind::Sign(Sign::OpenParenthesis)),
-        Symbol::Close => only(kind, Kind::Sign(Sign::CloseParenthesis)),
-        Symbol::OpenBrace => only(kind, Kind::Sign(Sign::OpenBrace)),
-        Symbol::Comma => only(kind, Kind::Sign(Sign::Comma)),
-        Symbol::As => only(kind, Kind::Keyword(Keyword::As)),
-        Symbol::Variable => only(kind, Kind::Variable),
-        _ => inner_step(symbol, kind),
+    for rules in rules_of(symbol) {
+        if let Some(first) = replacement(rules.0, kind) {
+            return Step::Take(first, rules.1);
+        }
+    }
+    if may_be_empty(symbol) {
+        Step::Skip
+    } else {
+        Step::Stop
     }
 }

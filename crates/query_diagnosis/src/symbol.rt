@@ -2,7 +2,7 @@
 //! a time (SPARQL 1.1 Query Language, section 19.8).
 
 /// A symbol of the stack.
-#[derive(Clone, Copy, Debug, PartialEq, Eq)]
+#[derive(Clone, Copy)]
 pub enum Symbol {
     // The query: [2] Query, [4] Prologue, [7] SelectQuery, [9] SelectClause
     Query,
@@ -70,6 +70,3 @@ pub enum Step {
     /// The symbol neither takes the terminal nor derives the empty text.
     Stop,
 }
-
-/// The symbol takes the terminal, and no symbols replace it.
-pub const DONE: Step = Step::Take(&[], &[]);

@@ -4,6 +4,7 @@ ghost use Rattle.std.specs.List.{list_any};
 ghost use Rattle.std.specs.Str.{chars};
 ghost use Rattle.quad_index.specs.Matching.{agrees};
 ghost use Rattle.dataset_load.specs.Store.{names_in};
+ghost use Rattle.query_warnings.specs.declared.facts.Datatype.TheVariants.{Date, DateTime, Double, Float};
 ghost use Rattle.query_warnings.specs.QueryFeatures.{ComparesIn, date, date_time, double, float, iri_of, is_literal_of, short_name};
 
 use crate::query_features::compares;
@@ -41,18 +42,6 @@ impl Datatype {
         Datatype::Date,
     ];
 
-    /// Its IRI.
-    pub fn iri(self) -> &'static str
-        ensures value { result.now ≡ iri_of self }
-    {
-        match self {
-            Datatype::Double => XSD_DOUBLE,
-            Datatype::Float => XSD_FLOAT,
-            Datatype::DateTime => XSD_DATE_TIME,
-            Datatype::Date => XSD_DATE,
-        }
-    }
-
     /// Its name, as SPARQL's prologues abbreviate its IRI.
     pub fn name(self) -> &'static str
         ensures value { result.now ≡ short_name (iri_of self) }
@@ -89,7 +78,12 @@ impl Facts {
     };
 
     /// Whether the query compares, and the dataset has a literal of this datatype.
-    pub fn has(&self, datatype: Datatype) -> bool {
+    pub fn has(&self, datatype: Datatype) -> bool
+        ensures double { datatype ≡ Double → result ≡ self.now.double }
+        ensures float { datatype ≡ Float → result ≡ self.now.float }
+        ensures date_time { datatype ≡ DateTime → result ≡ self.now.date_time }
+        ensures date { datatype ≡ Date → result ≡ self.now.date }
+    {
         match datatype {
             Datatype::Double => self.double,
             Datatype::Float => self.float,
