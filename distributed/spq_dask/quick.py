@@ -1,0 +1,63 @@
+"""Starts Dask's client faster. `command` imports this module before any module of Dask.
+
+While the client starts, the workers are idle. What is left out here is about half of that time in Dask 2022.12.
+"""
+from __future__ import annotations
+
+import contextlib
+import gc
+import sys
+from importlib.metadata import PackageNotFoundError, version
+from typing import Any, Iterator, Optional
+
+import yaml
+
+
+@contextlib.contextmanager
+def importing() -> Iterator[None]:
+    """Imports Dask faster. Its settings are YAML, which PyYAML parses in C only if it is told so; and there is no garbage."""
+    loader, collects = yaml.SafeLoader, gc.isenabled()
+    yaml.SafeLoader = getattr(yaml, "CSafeLoader", loader)
+    gc.disable()
+    try:
+        yield
+    finally:
+        yaml.SafeLoader = loader
+        if collects:
+            gc.enable()
+
+
+def version_of(package: str) -> Optional[str]:
+    """Returns the version of a package that is installed."""
+    try:
+        return version(package)
+    except PackageNotFoundError:
+        return None
+
+
+def tell_versions_without_imports() -> None:
+    """Lets the client tell its versions of packages without their import.
+
+    A client tells the scheduler its versions of packages that are not required, too. It imports them for that: pandas,
+    which nothing here uses, takes 0.2 seconds.
+    """
+    from distributed import versions
+
+    get_versions = versions.get_versions
+    unused = [name for name, _ in versions.optional_packages if name not in sys.modules]
+    versions.optional_packages = [pair for pair in versions.optional_packages if pair[0] not in unused]
+
+    def without_imports(packages: Any = None) -> dict[str, dict[str, Any]]:
+        found = get_versions(packages)
+        found["packages"].update({name: version_of(name) for name in unused})
+        return found
+
+    versions.get_versions = without_imports
+
+
+with importing():
+    import dask  # noqa: F401
+    import dask.bag  # noqa: F401
+    import dask.bytes  # noqa: F401
+    import distributed  # noqa: F401
+tell_versions_without_imports()
