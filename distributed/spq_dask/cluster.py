@@ -29,6 +29,8 @@ def connected(scheduler: Optional[str], processes: Optional[int]) -> Iterator[Cl
     for name in ("asyncio", "distributed", "tornado"):  # failures are told in one line
         logging.getLogger(name).setLevel(logging.CRITICAL + 1)
     warnings.filterwarnings("ignore", "Port .* is already in use", UserWarning)  # another port is taken then
+    # Dask would look for the Python code that starts tasks, to show it in the dashboard. That takes 0.05 seconds.
+    dask.config.set({"distributed.diagnostics.computations.ignore-modules": [""]})
     scheduler = scheduler or dask.config.get("scheduler-address", None)
     if not scheduler:
         options = {"n_workers": processes, "threads_per_worker": 1, "silence_logs": logging.CRITICAL}
@@ -65,10 +67,15 @@ class Run:
 
     def __init__(self, client: Client, quiet: bool) -> None:
         self.client, self.quiet = client, quiet
+        self.threads = client.ncores()  # by the address of the worker
 
     def workers(self) -> int:
         """Returns how many tasks run at a time."""
-        return sum(self.client.ncores().values())
+        return sum(self.threads.values())
+
+    def addresses(self) -> list[str]:
+        """Returns the address of each worker, once for each task that it runs at a time."""
+        return [address for address, threads in self.threads.items() for _ in range(threads)]
 
     def partitions(self, blocks: int) -> int:
         """Returns how many partitions what is smaller than the blocks is spread over. There are not more than blocks."""
