@@ -13,6 +13,7 @@ from typing import Any, Iterator, Optional
 import dask
 from dask.delayed import Delayed
 from distributed import Client, Future, LocalCluster, progress
+from distributed.comm import get_address_host
 from distributed.scheduler import KilledWorker
 
 from .cutting import Source
@@ -72,6 +73,10 @@ class Run:
     def workers(self) -> int:
         """Returns how many tasks run at a time."""
         return sum(self.threads.values())
+
+    def on_one_machine(self) -> bool:
+        """Returns whether all workers have the same host in their addresses."""
+        return len(set(map(get_address_host, self.threads))) < 2
 
     def addresses(self) -> list[str]:
         """Returns the address of each worker, once for each task that it runs at a time."""

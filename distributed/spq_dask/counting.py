@@ -30,7 +30,7 @@ class Checked:
 
 
 # What a block has for a partition: its terms, bucket after bucket, the size of each bucket, graph names, and hashes of quads.
-Item = tuple[numpy.ndarray, list[int], bytes, numpy.ndarray]
+Item = tuple[shuffle.Message, list[int], bytes, numpy.ndarray]
 
 
 @dataclass(frozen=True)
@@ -51,7 +51,7 @@ def check(run: Run, sources: list[Source], spq: Spq) -> bytes:
     """
     reads = [read for source in sources for read in source.blocks]
     partitions = run.partitions(len(reads))
-    blocks = [delayed(examine)(read, spq, partitions) for read in reads]
+    blocks = [delayed(examine)(read, spq, partitions, not run.on_one_machine()) for read in reads]
     checked, hashes = ([shuffle.part(block, place) for block in blocks] for place in (partitions, partitions + 1))
     counted = shuffle.shuffled(blocks, partitions, count, run.addresses())
     totals = [delayed(summary)(counts) for counts in counted]
@@ -69,17 +69,17 @@ def check(run: Run, sources: list[Source], spq: Spq) -> bytes:
     return f"ok {quads} quads {terms} terms {names} graphs\n".encode()
 
 
-def examine(read: Reader, spq: Spq, partitions: int) -> tuple[Any, ...]:
+def examine(read: Reader, spq: Spq, partitions: int, compressed: bool) -> tuple[Any, ...]:
     """Checks a block. Returns an `Item` for each partition, then a `Checked` and the hashes of its quads."""
     text = read()
-    with in_memory(text) as file:
-        terms = b"".join(spq.outputs(["terms"], text, file))
+    with in_memory(text) as file, in_memory(b"") as terms:
+        spq.write_outputs(terms, ["terms"], text, file)
         quads, hashes = hashed_quads(spq, text, file)
-    numbers = once(quads, hashes)
-    texts, sizes = lines.split(terms, partitions * BUCKETS)
+        numbers = once(quads, hashes)
+        texts, sizes = lines.split(terms, partitions * BUCKETS)
     buckets = [sizes[first : first + BUCKETS] for first in range(0, len(sizes), BUCKETS)]
     items = zip(
-        numpy.split(texts, numpy.cumsum(list(map(sum, buckets)))[:-1]),
+        [shuffle.Message(these, compressed) for these in numpy.split(texts, numpy.cumsum(list(map(sum, buckets)))[:-1])],
         buckets,
         shuffle.texts_by_partition(list(quads.names), partitions),
         shuffle.ranges(numbers, partitions),
@@ -109,7 +109,7 @@ def count(items: list[Item]) -> Counts:
     again = hashes[1:][hashes[1:] == hashes[:-1]]
     repeated = numpy.unique(again)
     single = len(hashes) - len(again) - len(repeated)
-    return Counts(distinct(texts, sizes), shuffle.distinct(names), single, repeated)
+    return Counts(distinct([message.text for message in texts], sizes), shuffle.distinct(names), single, repeated)
 
 
 def distinct(texts: Iterable[numpy.ndarray], sizes: Iterable[list[int]]) -> int:

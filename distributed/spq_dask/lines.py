@@ -55,10 +55,9 @@ def hashes(text: Text) -> numpy.ndarray:
         return numpy.frombuffer(run(file, ["hashes"]), numpy.int64)
 
 
-def split(text: Text, parts: int) -> tuple[numpy.ndarray, list[int]]:
-    """Puts the lines into parts by their hashes. Returns the text of all parts, and the size of each part."""
-    with in_memory(text) as file:
-        printed = run(file, ["split", str(parts)])
+def split(text: io.FileIO, parts: int) -> tuple[numpy.ndarray, list[int]]:
+    """Puts the lines of a file in memory into parts by their hashes. Returns the text of all parts, and the size of each part."""
+    printed = run(text, ["split", str(parts)])
     sizes = numpy.frombuffer(printed, float, parts).astype(numpy.int64)
     return numpy.frombuffer(printed, numpy.uint8, offset=8 * parts), sizes.tolist()
 

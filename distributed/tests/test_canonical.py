@@ -27,6 +27,12 @@ PLAIN = re.compile(rf"{NODE} {IRI} (?:{NODE}|{TEXT}(?:@[a-z0-9-]+|(?!{STRING})\^
 NEARLY = re.compile(rf"{NODE} {IRI} (?:{NODE}|{TEXT}(?:@[A-Za-z0-9-]+|\^\^{IRI})?)(?: ({NODE}))? \.".encode())
 
 
+def split(text: bytes, parts: int) -> tuple[numpy.ndarray, list[int]]:
+    """Puts the lines of a text into parts."""
+    with in_memory(text) as file:
+        return lines.split(file, parts)
+
+
 def read(text: bytes) -> lines.Lines:
     """Reads the lines of a text."""
     with in_memory(text) as file:
@@ -138,7 +144,7 @@ class Lines(unittest.TestCase):
     def test_split(self):
         for text in self.TEXTS:
             for count in (1, 2, 7, 64, 1000):
-                whole, sizes = lines.split(text, count)
+                whole, sizes = split(text, count)
                 ends = list(accumulate(sizes))
                 parts = [whole[end - size : end].tobytes() for size, end in zip(sizes, ends)]
                 self.assertEqual((len(parts), ends[-1]), (count, len(whole)))
@@ -157,7 +163,7 @@ class Lines(unittest.TestCase):
             text = b"\n".join([*every, b""])
             self.assertEqual(lines.distinct([[text]]), len(every))
             self.assertEqual(lines.distinct([[text, text], [], [b"\n"]]), len(every) + 1)
-            whole, sizes = lines.split(text, 5 * counting.BUCKETS)
+            whole, sizes = split(text, 5 * counting.BUCKETS)
             buckets = [sizes[first :: 5] for first in range(5)]
             texts = numpy.split(whole, numpy.cumsum(sizes)[:-1])
             found = [counting.distinct([numpy.concatenate(texts[first::5])] * 2, [buckets[first]] * 2) for first in range(5)]
@@ -191,7 +197,7 @@ class Lines(unittest.TestCase):
 
     def test_program_fails(self):
         with self.assertRaises(Failed) as failed:
-            lines.split(b"\n", -1)
+            split(b"\n", -1)
         self.assertEqual(failed.exception.line, "error: worker")
 
 
@@ -219,7 +225,7 @@ class Hashes(unittest.TestCase):
         with mock.patch.object(counting, "hashed_quads", few):
             for text in documents_of("few", 20, ["\n"]):
                 reads = [lambda piece=piece: bytes(piece) for piece in pieces(text, 200)]
-                blocks = [counting.examine(read, program, 3) for read in reads]
+                blocks = [counting.examine(read, program, 3, False) for read in reads]
                 counts = [counting.count([block[number] for block in blocks]) for number in range(3)]
                 repeated = numpy.concatenate([one.repeated for one in counts])
                 again = [counting.repeated_quads(read, program, hashes, repeated, 3) for read, (*_, hashes) in zip(reads, blocks)]
