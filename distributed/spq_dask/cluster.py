@@ -8,6 +8,7 @@ import sys
 import tempfile
 import warnings
 import zipfile
+from hashlib import sha256
 from typing import Any, Iterator, Optional
 
 import dask
@@ -51,15 +52,30 @@ def connected(scheduler: Optional[str], processes: Optional[int]) -> Iterator[Cl
         yield client
 
 
-def upload_package(client: Client) -> None:
+# The end of `__init__.py` on a worker. Dask loads only this module again if the worker has an earlier version of the package.
+LOADED_AGAIN = """
+import sys
+
+if globals().get("digest") != {digest!r}:
+    for name in [name for name in sys.modules if name.startswith("spq_dask.")]:
+        del sys.modules[name]
+digest = {digest!r}
+"""
+
+
+def upload_package(client: Client, folder: str = os.path.dirname(os.path.abspath(__file__))) -> None:
     """Gives this package to the workers, also to those that join later."""
-    folder = os.path.dirname(os.path.abspath(__file__))
+    texts = {}
+    for name in sorted(os.listdir(folder)):
+        if name.endswith((".py", ".lua")):
+            with open(os.path.join(folder, name)) as file:
+                texts[name] = file.read()
+    texts["__init__.py"] += LOADED_AGAIN.format(digest=sha256(repr(texts).encode()).hexdigest())
     with tempfile.TemporaryDirectory() as place:
         path = os.path.join(place, "spq_dask.zip")
         with zipfile.ZipFile(path, "w") as archive:
-            for name in sorted(os.listdir(folder)):
-                if name.endswith((".py", ".lua")):
-                    archive.write(os.path.join(folder, name), f"spq_dask/{name}")
+            for name, text in texts.items():
+                archive.writestr(f"spq_dask/{name}", text)
         client.upload_file(path)
 
 
