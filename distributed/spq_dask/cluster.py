@@ -57,8 +57,9 @@ LOADED_AGAIN = """
 import sys
 
 if globals().get("digest") != {digest!r}:
-    for name in [name for name in sys.modules if name.startswith("spq_dask.")]:
+    for name in [name for name in sys.modules if name.startswith("spq_dask.") and name != "spq_dask.message"]:
         del sys.modules[name]
+        globals().pop(name.removeprefix("spq_dask."), None)
 digest = {digest!r}
 """
 

@@ -15,6 +15,7 @@ from . import lines, shuffle
 from .cluster import Run
 from .cutting import Reader, Source, count_lines, ended, pieces
 from .hashing import hashed_quads, once, with_hashes
+from .message import Message
 from .program import DEVICE, Failed, Malformed, Spq, in_memory
 
 PIECE = 8 << 20  # bytes that one run of `spq` reads
@@ -30,7 +31,7 @@ class Checked:
 
 
 # What a block has for a partition: its terms, bucket after bucket, the size of each bucket, graph names, and hashes of quads.
-Item = tuple[shuffle.Message, list[int], bytes, numpy.ndarray]
+Item = tuple[Message, list[int], bytes, numpy.ndarray]
 
 
 @dataclass(frozen=True)
@@ -79,7 +80,7 @@ def examine(read: Reader, spq: Spq, partitions: int, compressed: bool) -> tuple[
         texts, sizes = lines.split(terms, partitions * BUCKETS)
     buckets = [sizes[first : first + BUCKETS] for first in range(0, len(sizes), BUCKETS)]
     items = zip(
-        [shuffle.Message(these, compressed) for these in numpy.split(texts, numpy.cumsum(list(map(sum, buckets)))[:-1])],
+        [Message(these, compressed) for these in numpy.split(texts, numpy.cumsum(list(map(sum, buckets)))[:-1])],
         buckets,
         shuffle.texts_by_partition(list(quads.names), partitions),
         shuffle.ranges(numbers, partitions),

@@ -1,7 +1,6 @@
 """Brings equal lines together: lines are spread over hash partitions, and Dask shuffles the partitions."""
 from __future__ import annotations
 
-from dataclasses import dataclass
 from operator import itemgetter
 from typing import Any, Callable, Iterable, Sequence
 from zlib import crc32
@@ -12,37 +11,9 @@ import numpy
 from dask import delayed
 from dask.base import tokenize
 from dask.delayed import Delayed
-from dask.sizeof import sizeof
-from distributed.protocol import register_serialization
 
 # What a block has for one partition: the number of the partition, and anything.
 Item = tuple[int, Any]
-
-@dataclass(frozen=True)
-class Message:
-    """A text that is sent to another worker, perhaps compressed if Dask compresses messages."""
-
-    text: numpy.ndarray
-    compressed: bool
-
-
-def _dump(message: Message) -> tuple[dict, list[memoryview]]:
-    """Returns a header for Dask, and the text. For Dask, `None` is what its settings say, and `False` no compression."""
-    return {"compression": [None if message.compressed else False], "compressed": message.compressed}, [memoryview(message.text)]
-
-
-def _load(header: dict, frames: list[Any]) -> Message:
-    """Reverses `_dump`."""
-    return Message(numpy.asarray(memoryview(frames[0]), numpy.uint8), header["compressed"])
-
-
-register_serialization(Message, _dump, _load)
-
-
-@sizeof.register(Message)
-def _size(message: Message) -> int:
-    return message.text.nbytes
-
 
 MOST_TASKS = 10_000  # if there were more pairs of a block and a partition, Dask's shuffle needs fewer tasks
 

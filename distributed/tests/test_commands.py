@@ -76,8 +76,10 @@ class Catalogue(unittest.TestCase):
         """A worker that has another version of the package loads this one."""
         def version():
             import spq_dask.program
+            from spq_dask import program
 
-            return getattr(spq_dask.program, "VERSION", "this")
+            assert program is spq_dask.program
+            return getattr(program, "VERSION", "this")
 
         folder = os.path.join(ROOT, "distributed", "spq_dask")
         other = os.path.join(os.path.dirname(file(b"")), "other")
@@ -87,6 +89,8 @@ class Catalogue(unittest.TestCase):
         for place, expected in [(folder, "this"), (other, "other"), (folder, "this")]:
             upload_package(testing.CLIENT, place)
             self.assertEqual(set(testing.CLIENT.run(version).values()), {expected})
+            with open(CATALOGUE, "rb") as source:
+                self.assertEqual(spq_dask(["check", "--blocksize", "2KiB"], CATALOGUE)[:2], spq(["check"], source.read()))
 
     def test_dashboard(self):
         link = testing.CLIENT.dashboard_link.removesuffix("/status")
