@@ -15,6 +15,7 @@ import dask
 from dask.delayed import Delayed
 from distributed import Client, Future, LocalCluster, progress
 from distributed.comm import get_address_host
+from distributed.diagnostics.plugin import UploadFile
 from distributed.scheduler import KilledWorker
 
 from .cutting import Source
@@ -77,7 +78,8 @@ def upload_package(client: Client, folder: str = os.path.dirname(os.path.abspath
         with zipfile.ZipFile(path, "w") as archive:
             for name, text in texts.items():
                 archive.writestr(f"spq_dask/{name}", text)
-        client.upload_file(path)
+        # By the name a worker that joins later gets what was uploaded last, and nothing else.
+        client.register_worker_plugin(UploadFile(path), name="spq_dask")
 
 
 class Run:

@@ -8,7 +8,7 @@ import contextlib
 import gc
 import sys
 from importlib.metadata import PackageNotFoundError, version
-from typing import Any, Iterator, Optional
+from typing import Any, Iterable, Iterator, Optional
 
 import yaml
 
@@ -36,23 +36,21 @@ def version_of(package: str) -> Optional[str]:
 
 
 def tell_versions_without_imports() -> None:
-    """Lets the client tell its versions of packages without their import.
+    """Lets Dask tell the versions of packages without their import.
 
     A client tells the scheduler its versions of packages that are not required, too. It imports them for that: pandas,
     which nothing here uses, takes 0.2 seconds.
     """
     from distributed import versions
 
-    get_versions = versions.get_versions
-    unused = [name for name, _ in versions.optional_packages if name not in sys.modules]
-    versions.optional_packages = [pair for pair in versions.optional_packages if pair[0] not in unused]
+    get_package_info = versions.get_package_info
 
-    def without_imports(packages: Any = None) -> dict[str, dict[str, Any]]:
-        found = get_versions(packages)
-        found["packages"].update({name: version_of(name) for name in unused})
-        return found
+    def without_imports(packages: Iterable[Any]) -> dict[str, Optional[str]]:
+        unused = {name for name, _ in versions.optional_packages if name not in sys.modules}
+        found = get_package_info([package for package in packages if package[0] not in unused])
+        return {**found, **{name: version_of(name) for name in unused}}
 
-    versions.get_versions = without_imports
+    versions.get_package_info = without_imports
 
 
 with importing():
