@@ -15,7 +15,7 @@ import yaml
 
 @contextlib.contextmanager
 def importing() -> Iterator[None]:
-    """Imports Dask faster. Its settings are YAML, which PyYAML parses in C only if it is told so; and there is no garbage."""
+    """Imports Dask faster. Its settings are YAML, which PyYAML parses in C only on request; and there is no garbage."""
     loader, collects = yaml.SafeLoader, gc.isenabled()
     yaml.SafeLoader = getattr(yaml, "CSafeLoader", loader)
     gc.disable()
@@ -35,18 +35,21 @@ def version_of(package: str) -> Optional[str]:
         return None
 
 
-def tell_versions_without_imports() -> None:
-    """Lets Dask tell the versions of packages without their import.
+def report_versions_without_imports() -> None:
+    """Lets Dask report the versions of packages without their import.
 
-    A client tells the scheduler its versions of packages that are not required, too. It imports them for that: pandas,
-    which nothing here uses, takes 0.2 seconds.
+    A client reports its versions of packages that are not required, too. It imports them for that: pandas, which nothing
+    here uses, takes 0.2 seconds.
     """
     from distributed import versions
 
+    if not hasattr(versions, "get_package_info") or not hasattr(versions, "optional_packages"):
+        return  # another version of Dask
     get_package_info = versions.get_package_info
 
     def without_imports(packages: Iterable[Any]) -> dict[str, Optional[str]]:
-        unused = {name for name, _ in versions.optional_packages if name not in sys.modules}
+        optional = {package[0] for package in versions.optional_packages if isinstance(package, tuple)}
+        unused = {name for name in optional if name not in sys.modules}
         found = get_package_info([package for package in packages if package[0] not in unused])
         return {**found, **{name: version_of(name) for name in unused}}
 
@@ -58,4 +61,4 @@ with importing():
     import dask.bag  # noqa: F401
     import dask.bytes  # noqa: F401
     import distributed  # noqa: F401
-tell_versions_without_imports()
+report_versions_without_imports()
