@@ -3,13 +3,15 @@
 - `cutting`: the blocks of a document, and its lines.
 - `program`: one run of `spq` over one text; a text that needs too much memory is cut in two.
 - `canonical`: the canonical form of the quads of a block.
-- `lines`: runs the program `lines.lua`, which computes a hash of each line and recognises canonical lines.
+- `lines`: runs the program `lines.lua`, which hashes lines, recognises canonical ones, and counts distinct ones.
 - `hashing`: hashes of canonical quads.
+- `message`: texts that workers send to each other.
 - `shuffle`: texts and hashes by partition; Dask's shuffle of bags.
 - `counting`: the commands `check` and `terms`.
 - `outline`: what the command must know of a query: DISTINCT, LIMIT, OFFSET, and whether it may be split.
 - `rows`: rows of SPARQL results as text, their order, and how rows of parts are merged.
 - `selecting`: the command `select`.
+- `quick`: imports Dask faster.
 - `cluster`: the scheduler, the progress bar, and failures of tasks.
 - `command`: the command line.
 

@@ -8,11 +8,14 @@ import sys
 import tempfile
 import warnings
 import zipfile
+from hashlib import sha256
 from typing import Any, Iterator, Optional
 
 import dask
 from dask.delayed import Delayed
 from distributed import Client, Future, LocalCluster, progress
+from distributed.comm import get_address_host
+from distributed.diagnostics.plugin import UploadFile
 from distributed.scheduler import KilledWorker
 
 from .cutting import Source
@@ -29,6 +32,8 @@ def connected(scheduler: Optional[str], processes: Optional[int]) -> Iterator[Cl
     for name in ("asyncio", "distributed", "tornado"):  # failures are told in one line
         logging.getLogger(name).setLevel(logging.CRITICAL + 1)
     warnings.filterwarnings("ignore", "Port .* is already in use", UserWarning)  # another port is taken then
+    # Dask would look for the Python code that starts tasks, to show it in the dashboard. That takes 0.05 seconds.
+    dask.config.set({"distributed.diagnostics.computations.ignore-modules": [""]})
     scheduler = scheduler or dask.config.get("scheduler-address", None)
     if not scheduler:
         options = {"n_workers": processes, "threads_per_worker": 1, "silence_logs": logging.CRITICAL}
@@ -48,16 +53,33 @@ def connected(scheduler: Optional[str], processes: Optional[int]) -> Iterator[Cl
         yield client
 
 
-def upload_package(client: Client) -> None:
+# The end of `__init__.py` on a worker. Dask loads only this module again if the worker has an earlier version of the package.
+LOADED_AGAIN = """
+import sys
+
+if globals().get("digest") != {digest!r}:
+    for name in [name for name in sys.modules if name.startswith("spq_dask.") and name != "spq_dask.message"]:
+        del sys.modules[name]
+        globals().pop(name.removeprefix("spq_dask."), None)
+digest = {digest!r}
+"""
+
+
+def upload_package(client: Client, folder: str = os.path.dirname(os.path.abspath(__file__))) -> None:
     """Gives this package to the workers, also to those that join later."""
-    folder = os.path.dirname(os.path.abspath(__file__))
+    texts = {}
+    for name in sorted(os.listdir(folder)):
+        if name.endswith((".py", ".lua")):
+            with open(os.path.join(folder, name)) as file:
+                texts[name] = file.read()
+    texts["__init__.py"] += LOADED_AGAIN.format(digest=sha256(repr(texts).encode()).hexdigest())
     with tempfile.TemporaryDirectory() as place:
         path = os.path.join(place, "spq_dask.zip")
         with zipfile.ZipFile(path, "w") as archive:
-            for name in sorted(os.listdir(folder)):
-                if name.endswith((".py", ".lua")):
-                    archive.write(os.path.join(folder, name), f"spq_dask/{name}")
-        client.upload_file(path)
+            for name, text in texts.items():
+                archive.writestr(f"spq_dask/{name}", text)
+        # By the name a worker that joins later gets what was uploaded last, and nothing else.
+        client.register_worker_plugin(UploadFile(path), name="spq_dask")
 
 
 class Run:
@@ -65,10 +87,19 @@ class Run:
 
     def __init__(self, client: Client, quiet: bool) -> None:
         self.client, self.quiet = client, quiet
+        self.threads = client.ncores()  # by the address of the worker
 
     def workers(self) -> int:
         """Returns how many tasks run at a time."""
-        return sum(self.client.ncores().values())
+        return sum(self.threads.values())
+
+    def on_one_machine(self) -> bool:
+        """Returns whether all workers have the same host in their addresses."""
+        return len(set(map(get_address_host, self.threads))) < 2
+
+    def addresses(self) -> list[str]:
+        """Returns the address of each worker, once for each task that it runs at a time."""
+        return [address for address, threads in self.threads.items() for _ in range(threads)]
 
     def partitions(self, blocks: int) -> int:
         """Returns how many partitions what is smaller than the blocks is spread over. There are not more than blocks."""

@@ -6,34 +6,42 @@ import os
 import sys
 from typing import BinaryIO, Iterable, NoReturn, Optional
 
+from . import quick  # noqa: F401  (imports Dask)
 from dask.utils import parse_bytes
 from distributed import Client
 
 from .cluster import Run, connected, failures
 from .counting import check, terms
 from .cutting import sources
-from .outline import CONDITIONS
 from .program import COMMAND_LINE, DEVICE, Failed, Spq
-from .selecting import select
 
-CONDITION_TEXT = f"""\
+CONDITION_TEXT = """\
 A query may be split where its condition holds (docs/PARTS.md gives the reasons):
 
-  --split lines: {CONDITIONS["lines"]}.
+  --split lines: {lines}.
 
-  --split subject: {CONDITIONS["subject"]}.
+  --split subject: {subject}.
 
-  --split graph: {CONDITIONS["graph"]}.
+  --split graph: {graph}.
 
-  --split graph --replicate-default-graph: {CONDITIONS["graph with the default graph"]}.
+  --split graph --replicate-default-graph: {graph with the default graph}.
 """
 
 
 class Parser(argparse.ArgumentParser):
-    """A parser that raises `Failed` in place of ending the program."""
+    """A parser that raises `Failed` in place of ending the program. Its help may end with the conditions of queries."""
+
+    conditions = False
 
     def error(self, message: str) -> NoReturn:
         raise Failed(COMMAND_LINE, "error: command line", message)
+
+    def format_help(self) -> str:
+        if self.conditions:
+            from .outline import CONDITIONS  # takes a while, as the import of `selecting`
+
+            self.epilog = CONDITION_TEXT.format_map(CONDITIONS)
+        return super().format_help()
 
 
 def size(text: str) -> int:
@@ -69,12 +77,9 @@ def parser() -> Parser:
     commands.add_parser("check", parents=[common], help="count the distinct quads, terms and graph names")
     commands.add_parser("terms", parents=[common], help="list the distinct terms")
     selecting = commands.add_parser(
-        "select",
-        parents=[common],
-        help="answer a query",
-        epilog=CONDITION_TEXT,
-        formatter_class=argparse.RawDescriptionHelpFormatter,
+        "select", parents=[common], help="answer a query", formatter_class=argparse.RawDescriptionHelpFormatter
     )
+    selecting.conditions = True
     selecting.add_argument("--query", required=True, metavar="TEXT")
     selecting.add_argument("--split", required=True, choices=["lines", "subject", "graph"], help="what a part consists of")
     selecting.add_argument(
@@ -92,6 +97,8 @@ def output(given: argparse.Namespace, client: Client) -> Iterable[bytes]:
         return [check(run, found, spq)]
     if given.command == "terms":
         return terms(run, found, spq)
+    from .selecting import select
+
     return select(run, found, spq, given.query, given.split, given.replicate_default_graph)
 
 
@@ -134,7 +141,7 @@ def write(texts: Iterable[bytes], out: BinaryIO) -> None:
 
 
 def main() -> None:
-    """Runs the program, and ends with its status."""
+    """Runs the program, and ends with its status, at once: Python takes 0.1 seconds to free what the program used."""
     status = run_words(sys.argv[1:], sys.stdout.buffer)
     sys.stderr.flush()
-    os._exit(status) if status == DEVICE else sys.exit(status)
+    os._exit(status)

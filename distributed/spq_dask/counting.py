@@ -3,8 +3,9 @@ from __future__ import annotations
 
 from collections import deque
 from dataclasses import dataclass
+from itertools import islice
 from operator import attrgetter, methodcaller
-from typing import Iterator
+from typing import Any, Iterable, Iterator
 
 import numpy
 from dask import delayed
@@ -14,10 +15,11 @@ from . import lines, shuffle
 from .cluster import Run
 from .cutting import Reader, Source, count_lines, ended, pieces
 from .hashing import hashed_quads, once, with_hashes
+from .message import Message
 from .program import DEVICE, Failed, Malformed, Spq, in_memory
 
 PIECE = 8 << 20  # bytes that one run of `spq` reads
-BUCKETS = 16  # of the terms of a partition: small sets are faster
+BUCKETS = 64  # of the terms of a partition: each of them fits in a processor's own cache
 
 
 @dataclass(frozen=True)
@@ -28,8 +30,8 @@ class Checked:
     size: int
 
 
-# What a block has for a partition: the terms of each bucket, graph names, and hashes of quads.
-Item = tuple[list[bytes], bytes, numpy.ndarray]
+# What a block has for a partition: its terms, bucket after bucket, the size of each bucket, graph names, and hashes of quads.
+Item = tuple[Message, list[int], bytes, numpy.ndarray]
 
 
 @dataclass(frozen=True)
@@ -50,16 +52,17 @@ def check(run: Run, sources: list[Source], spq: Spq) -> bytes:
     """
     reads = [read for source in sources for read in source.blocks]
     partitions = run.partitions(len(reads))
-    # The worker that has examined a block takes the result apart at once. So no other worker fetches all of it.
-    blocks = [tuple(delayed(examine, nout=3)(read, spq, partitions)) for read in reads]
-    started = run.start([part for block in blocks for part in block])
-    checked, hashes, items = started[::3], started[1::3], started[2::3]
+    blocks = [delayed(examine)(read, spq, partitions, not run.on_one_machine()) for read in reads]
+    checked, hashes = ([shuffle.part(block, place) for block in blocks] for place in (partitions, partitions + 1))
+    counted = shuffle.shuffled(blocks, partitions, count, run.addresses())
+    totals = [delayed(summary)(counts) for counts in counted]
+    # All tasks are started at once: a worker that has counted its blocks begins with a partition.
+    started = iter(run.start([*checked, *hashes, *counted, *totals]))
+    checked, hashes, counted, totals = (list(islice(started, len(tasks))) for tasks in (checked, hashes, counted, totals))
     run.checked(sources, checked)
     if not reads:
         return b"ok 0 quads 0 terms 0 graphs\n"
-    counted = run.start(shuffle.shuffled(items, partitions, count))
-    totals = run.results([delayed(summary)(counts) for counts in counted])
-    terms, names, quads, repeated = (sum(column) for column in zip(*totals))
+    terms, names, quads, repeated = (sum(column) for column in zip(*run.results(totals)))
     if repeated:
         some = delayed(numpy.concatenate)([delayed(attrgetter("repeated"))(counts) for counts in counted])
         again = [delayed(repeated_quads)(read, spq, those, some, partitions) for read, those in zip(reads, hashes)]
@@ -67,20 +70,22 @@ def check(run: Run, sources: list[Source], spq: Spq) -> bytes:
     return f"ok {quads} quads {terms} terms {names} graphs\n".encode()
 
 
-def examine(read: Reader, spq: Spq, partitions: int) -> tuple[Checked, numpy.ndarray, list[Item]]:
-    """Checks a block. Returns the hashes of its quads, and for each partition its terms, graph names and hashes."""
+def examine(read: Reader, spq: Spq, partitions: int, compressed: bool) -> tuple[Any, ...]:
+    """Checks a block. Returns an `Item` for each partition, then a `Checked` and the hashes of its quads."""
     text = read()
-    with in_memory(text) as file:
-        terms = b"".join(spq.outputs(["terms"], text, file))
+    with in_memory(text) as file, in_memory(b"") as terms:
+        spq.write_outputs(terms, ["terms"], text, file)
         quads, hashes = hashed_quads(spq, text, file)
-    numbers = once(quads, hashes)
-    texts = lines.split(terms, partitions * BUCKETS)
+        numbers = once(quads, hashes)
+        texts, sizes = lines.split(terms, partitions * BUCKETS)
+    buckets = [sizes[first : first + BUCKETS] for first in range(0, len(sizes), BUCKETS)]
     items = zip(
-        [texts[number::partitions] for number in range(partitions)],
+        [Message(these, compressed) for these in numpy.split(texts, numpy.cumsum(list(map(sum, buckets)))[:-1])],
+        buckets,
         shuffle.texts_by_partition(list(quads.names), partitions),
         shuffle.ranges(numbers, partitions),
     )
-    return Checked(len(hashes) - len(quads.more), len(text)), numbers, list(items)
+    return (*items, Checked(len(hashes) - len(quads.more), len(text)), numbers)
 
 
 def distinct_terms(spq: Spq, text: bytes) -> list[bytes]:
@@ -100,12 +105,20 @@ def distinct_terms(spq: Spq, text: bytes) -> list[bytes]:
 
 def count(items: list[Item]) -> Counts:
     """Counts one partition."""
-    terms, names, numbers = zip(*items) if items else ((), (), (numpy.empty(0, numpy.int64),))
+    texts, sizes, names, numbers = zip(*items) if items else ((), (), (), (numpy.empty(0, numpy.int64),))
     hashes = numpy.sort(numpy.concatenate(numbers), kind="stable")
     again = hashes[1:][hashes[1:] == hashes[:-1]]
     repeated = numpy.unique(again)
     single = len(hashes) - len(again) - len(repeated)
-    return Counts(sum(map(shuffle.distinct, zip(*terms))), shuffle.distinct(names), single, repeated)
+    return Counts(distinct([message.text for message in texts], sizes), shuffle.distinct(names), single, repeated)
+
+
+def distinct(texts: Iterable[numpy.ndarray], sizes: Iterable[list[int]]) -> int:
+    """Returns the number of distinct terms of some texts, each of which has buckets of these sizes."""
+    by_text = [numpy.split(text, numpy.cumsum(those)[:-1]) for text, those in zip(texts, sizes)]
+    buckets = list(zip(*by_text))
+    found = lines.distinct(buckets)
+    return found if found is not None else sum(shuffle.distinct(map(bytes, bucket)) for bucket in buckets)
 
 
 def summary(counts: Counts) -> tuple[int, int, int, int]:

@@ -96,7 +96,9 @@ def pieces(text: bytes, size: int) -> Iterator[memoryview]:
 def lines_at(text: bytes, numbers: numpy.ndarray) -> list[bytes]:
     """Returns the lines with these numbers, which rise and begin at 0. Here each line ends with a line feed."""
     found, first = [], 0
-    for piece in pieces(text, 1 << 16):
+    for piece in pieces(text, 1 << 18):
+        if not len(numbers) or numbers[-1] < first:
+            break
         after = first + line_feeds(piece)
         start, end = numpy.searchsorted(numbers, [first, after])
         if start < end:

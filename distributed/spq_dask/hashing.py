@@ -28,7 +28,7 @@ def hashed_quads(spq: Spq, text: bytes, file: Optional[io.FileIO] = None) -> tup
 
 def once(quads: Quads, hashes: numpy.ndarray) -> numpy.ndarray:
     """Returns the hashes of the distinct quads, sorted. Different quads with one hash are compared as text."""
-    numbers = numpy.sort(hashes[hashes != OTHER])
+    numbers = in_order(hashes[hashes != OTHER])
     first = numpy.ones(len(numbers), bool)
     numpy.not_equal(numbers[1:], numbers[:-1], out=first[1:])
     if first.all():
@@ -36,6 +36,12 @@ def once(quads: Quads, hashes: numpy.ndarray) -> numpy.ndarray:
     texts = Counter(number for number, _ in with_hashes(quads, hashes, numpy.unique(numbers[~first])))
     more = [number for number, count in texts.items() for _ in range(count - 1)]
     return numpy.sort(numpy.append(numbers[first], numpy.array(more, numpy.int64)))
+
+
+def in_order(numbers: numpy.ndarray) -> numpy.ndarray:
+    """Returns hashes in order, in less time than `numpy.sort` alone: 16 bits are sorted by counting, and hashes are even."""
+    upper = (numbers >> 48).astype(numpy.int16)
+    return numpy.sort(numbers[numpy.argsort(upper, kind="stable")], kind="stable")
 
 
 def with_hashes(quads: Quads, hashes: numpy.ndarray, some: numpy.ndarray) -> set[tuple[int, bytes]]:

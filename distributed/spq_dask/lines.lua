@@ -7,9 +7,11 @@
 --                               graph name of each line that is not one of the others, unless it is that of the line before
 --   luajit - hashes TEXT        prints the hash of each line
 --   luajit - split TEXT N       puts the lines into N parts by their hashes; prints the size of each part, then the parts
+--   luajit - distinct TEXT ..   prints the number of distinct lines, or -1 if too many lines have the same hash; the text
+--                               consists of parts of these sizes, and no line is in two parts
 --
--- The words in capitals are descriptors of files. A line feed ends each line. A number is printed as 8 bytes. What a plain line
--- consists of is in the module `canonical`.
+-- The words in capitals are descriptors of files. A line feed ends each line. A hash is printed as a whole number, a size or
+-- count as a floating-point number, of 8 bytes each. What a plain line consists of is in the module `canonical`.
 local bit, ffi = require("bit"), require("ffi")
 ffi.cdef [[
   void *mmap(void *, size_t, int, int, int, int64_t);
@@ -17,11 +19,14 @@ ffi.cdef [[
   void *memchr(const void *, int, size_t);
   int memcmp(const void *, const void *, size_t);
   void *calloc(size_t, size_t);
+  void *realloc(void *, size_t);
+  void free(void *);
   void *fdopen(int, const char *);
   size_t fwrite(const void *, size_t, size_t, void *);
   int fclose(void *);
 ]]
-local C, bxor, rshift, cast = ffi.C, bit.bxor, bit.rshift, ffi.cast
+local C, cast = ffi.C, ffi.cast
+local band, bxor, rol, rshift, tobit = bit.band, bit.bxor, bit.rol, bit.rshift, bit.tobit
 local LINE_FEED, SPACE, QUOTE, DOT, LESS, GREATER, AT, BACKSLASH, CARET, UNDERSCORE = ("\n \".<>@\\^_"):byte(1, -1)
 
 local words = { ... }
@@ -42,13 +47,11 @@ local function memory(bytes)
   return found
 end
 
--- Returns an array of one number for each line.
-local function numbers()
-  local count, place = 0, 0
-  while place < size do
-    count, place = count + 1, find(LINE_FEED, place, size) + 1
-  end
-  return cast("uint64_t *", memory(8 * count)), count
+-- Returns more memory for an array of numbers, with the numbers that it has.
+local function longer(array, kind, bytes)
+  local found = C.realloc(array, bytes)
+  assert(found ~= nil, "memory")
+  return cast(kind, found)
 end
 
 local function print_array(array, count, width)
@@ -180,9 +183,13 @@ function modes.quads(...)
   local files = {}
   for number, descriptor in ipairs({ ... }) do files[number] = C.fdopen(tonumber(descriptor), "w") end
   local names, rewritten, others = unpack(files)
-  local hashes, count = numbers()
+  local hashes, number, room = nil, 0, 0
   local start, name, name_size = 0, 0, 0 -- the name that was written last
-  for number = 0, count - 1 do
+  while start < size do
+    if number == room then
+      room = 2 * room + 65536
+      hashes = longer(hashes, "uint64_t *", 8 * room)
+    end
     local ending = find(LINE_FEED, start, size)
     change[1] = 0
     local graph = graph_of(start, ending)
@@ -203,47 +210,131 @@ function modes.quads(...)
         name, name_size = graph, length
       end
     end
-    start = ending + 1
+    start, number = ending + 1, number + 1
   end
   for _, file in ipairs(files) do assert(C.fclose(file) == 0, "write") end
-  print_array(hashes, count, 8)
+  print_array(hashes, number, 8)
 end
 
 function modes.hashes()
-  local hashes, count = numbers()
+  local hashes, number, room = nil, 0, 0
   local start = 0
-  for number = 0, count - 1 do
+  while start < size do
+    if number == room then
+      room = 2 * room + 65536
+      hashes = longer(hashes, "uint64_t *", 8 * room)
+    end
     local ending = find(LINE_FEED, start, size)
     hashes[number] = hash_of(start, ending)
-    start = ending + 1
+    start, number = ending + 1, number + 1
   end
-  print_array(hashes, count, 8)
+  print_array(hashes, number, 8)
+end
+
+-- Returns a hash of 32 bits, never 0, that depends on the bytes of a line alone. It takes less time: LuaJIT keeps 32 bits in
+-- registers of the processor, but not always 64.
+local function short_hash(start, ending)
+  local hash, place = ending - start, start
+  if hash < 4 then
+    for place = start, ending - 1 do hash = hash * 256 + text[place] end
+    hash = tobit(hash)
+  else
+    while place + 4 <= ending do
+      hash = tobit(bxor(rol(hash, 5), cast("const int32_t *", text + place)[0]) + rol(hash, 19))
+      place = place + 4
+    end
+    hash = tobit(bxor(rol(hash, 5), cast("const int32_t *", text + ending - 4)[0]) + rol(hash, 19))
+  end
+  hash = bxor(hash, rshift(hash, 15))
+  hash = tobit(hash + rol(hash, 10))
+  hash = bxor(hash, rshift(hash, 6))
+  return hash == 0 and 1 or hash
 end
 
 function modes.split(parts)
   parts = tonumber(parts)
-  local part_of, count = numbers()
-  local sizes, places = ffi.new("uint64_t[?]", parts), ffi.new("uint64_t[?]", parts)
+  local part_of, lengths, count, room = nil, nil, 0, 0
+  local sizes, places = ffi.new("double[?]", parts), ffi.new("double[?]", parts)
+  local scale = parts / 2 ^ 32
   local start = 0
-  for number = 0, count - 1 do
-    local after = find(LINE_FEED, start, size) + 1
-    local part = tonumber(rshift(hash_of(start, after - 1), 32)) % parts
-    part_of[number] = part
-    sizes[part] = sizes[part] + (after - start)
-    start = after
+  while start < size do
+    if count == room then
+      room = 2 * room + 65536
+      part_of, lengths = longer(part_of, "int32_t *", 4 * room), longer(lengths, "double *", 8 * room)
+    end
+    local ending = find(LINE_FEED, start, size)
+    local part, length = math.floor((short_hash(start, ending) + 2 ^ 31) * scale), ending + 1 - start
+    part_of[count], lengths[count] = part, length
+    sizes[part] = sizes[part] + length
+    start, count = ending + 1, count + 1
   end
   for part = 1, parts - 1 do places[part] = places[part - 1] + sizes[part - 1] end
   local texts = cast("uint8_t *", memory(size))
   start = 0
   for number = 0, count - 1 do
-    local after = find(LINE_FEED, start, size) + 1
-    local part = tonumber(part_of[number])
-    ffi.copy(texts + places[part], text + start, after - start)
-    places[part] = places[part] + (after - start)
-    start = after
+    local part, length = part_of[number], lengths[number]
+    ffi.copy(texts + places[part], text + start, length)
+    places[part] = places[part] + length
+    start = start + length
   end
   print_array(sizes, parts, 8)
   print_array(texts, size, 1)
+end
+
+-- A hash table of lines: their hashes, 0 where there is none, and their places.
+local hashes, places, room = nil, nil, 0
+
+local function enlarge()
+  local old_hashes, old_places, old_room = hashes, places, room
+  room = math.max(2 ^ 16, 4 * room)
+  hashes, places = cast("int32_t *", memory(4 * room)), cast("double *", memory(8 * room))
+  for number = 0, old_room - 1 do
+    local hash = old_hashes[number]
+    if hash ~= 0 then
+      local slot = band(hash, room - 1)
+      while hashes[slot] ~= 0 do slot = band(slot + 1, room - 1) end
+      hashes[slot], places[slot] = hash, old_places[number]
+    end
+  end
+  C.free(old_hashes)
+  C.free(old_places)
+end
+
+-- Returns the number of distinct lines of a part, or -1 if too many lines have the same hash.
+local function distinct(start, stop)
+  local count, lines, steps = 0, 0, 0
+  ffi.fill(hashes, 4 * room)
+  while start < stop do
+    if 2 * count > room then enlarge() end
+    local ending = find(LINE_FEED, start, stop)
+    local hash = short_hash(start, ending)
+    local slot = band(hash, room - 1)
+    while hashes[slot] ~= 0 and not (hashes[slot] == hash and C.memcmp(text + start, text + places[slot], ending + 1 - start) == 0) do
+      slot, steps = band(slot + 1, room - 1), steps + 1
+    end
+    if hashes[slot] == 0 then
+      hashes[slot], places[slot] = hash, start
+      count = count + 1
+    end
+    start, lines = ending + 1, lines + 1
+    if steps > 100 * lines + 100000 then return -1 end
+  end
+  return count
+end
+
+function modes.distinct(...)
+  local total, start = ffi.new("double[1]"), 0
+  enlarge()
+  for _, size in ipairs({ ... }) do
+    local stop = start + tonumber(size)
+    local count = distinct(start, stop)
+    if count == -1 then
+      total[0] = -1
+      break
+    end
+    total[0], start = total[0] + count, stop
+  end
+  print_array(total, 1, 8)
 end
 
 modes[words[1]](unpack(words, 3))

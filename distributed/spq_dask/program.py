@@ -50,23 +50,35 @@ class Spq:
 
         Raises `Failed` if the program cannot be started, or ends with a status that it does not have.
         """
-        command = [self.path, words[0], "--workers", str(self.threads), "--piece", str(PIECE), *words[1:]]
-        environment = dict(os.environ, GLIBC_TUNABLES=MALLOC)
-        with nullcontext(file) if file else in_memory(text) as source:
-            source.seek(0)
-            status, output = printed(command, source, env=environment)
-        if status == -signal.SIGKILL:  # what the system does when memory is short
-            return MEMORY, b"error: memory\n"
-        if not 0 <= status <= DEVICE:
-            raise Failed(MEMORY, "error: worker", f"{self.path} ended with status {status}")
-        return status, output
+        with nullcontext(file) if file else in_memory(text) as source, in_memory(b"") as output:
+            status = self.run_into(output, words, source)
+            return self.told(status, output)
 
-    def run_in_halves(self, words: list[str], text: Text, file: Optional[io.FileIO] = None) -> Iterator[tuple[Text, int, bytes]]:
+    def run_into(self, output: io.FileIO, words: list[str], source: io.FileIO) -> int:
+        """Runs a command over a file in memory, with such a file as its standard output. Returns the status, also of a kill.
+
+        Raises `Failed` as `run`.
+        """
+        command = [self.path, words[0], "--workers", str(self.threads), "--piece", str(PIECE), *words[1:]]
+        source.seek(0)
+        status = ended(command, source, output, env=dict(os.environ, GLIBC_TUNABLES=MALLOC))
+        if status != -signal.SIGKILL and not 0 <= status <= DEVICE:
+            raise Failed(MEMORY, "error: worker", f"{self.path} ended with status {status}")
+        return status
+
+    def told(self, status: int, output: io.FileIO) -> tuple[int, bytes]:
+        """Returns the status and the output of a run. The system kills a program when memory is short."""
+        return (status, read(output)) if status != -signal.SIGKILL else (MEMORY, b"error: memory\n")
+
+    def run_in_halves(
+        self, words: list[str], text: Text, file: Optional[io.FileIO] = None, first: Optional[tuple[int, bytes]] = None
+    ) -> Iterator[tuple[Text, int, bytes]]:
         """Runs a command over a text. A text that needs too much memory is cut in two, as often as needed.
 
-        Yields each part with its status, 0 or 1, and its output. Raises `Failed` on any other status.
+        Yields each part with its status, 0 or 1, and its output. Raises `Failed` on any other status. `first` is what the
+        command returned for the whole text, if it ran before.
         """
-        status, output = self.run(words, text, file)
+        status, output = first or self.run(words, text, file)
         both = halves(bytes(text)) if status == MEMORY else None
         if both:
             for half in both:
@@ -76,13 +88,25 @@ class Spq:
         else:
             raise Failed(status, output.decode().strip())
 
-    def outputs(self, words: list[str], text: Text, file: Optional[io.FileIO] = None) -> list[bytes]:
+    def write_outputs(self, output: io.FileIO, words: list[str], text: Text, file: io.FileIO) -> None:
+        """Does what `outputs` does, for a text that is in a file in memory, too, and writes the outputs to such a file."""
+        status = self.run_into(output, words, file)
+        if status:
+            first = self.told(status, output)
+            output.seek(0)
+            output.truncate()
+            for found in self.outputs(words, text, file, first):
+                write(output, found)
+
+    def outputs(
+        self, words: list[str], text: Text, file: Optional[io.FileIO] = None, first: Optional[tuple[int, bytes]] = None
+    ) -> list[bytes]:
         """Runs a command over a text. Returns the output, or the outputs of its parts if it was cut.
 
-        Raises `Malformed` if the text has a malformed line.
+        Raises `Malformed` if the text has a malformed line. `first` is as in `run_in_halves`.
         """
         parts, found = [], []
-        for part, status, output in self.run_in_halves(words, text, file):
+        for part, status, output in self.run_in_halves(words, text, file, first):
             if status == MALFORMED:
                 raise Malformed(sum(map(count_lines, parts)) + int(output.split()[-1]))
             parts.append(part)
@@ -91,17 +115,24 @@ class Spq:
 
 
 def printed(command: list[str], source: io.FileIO, **options: Any) -> tuple[int, bytes]:
-    """Runs a program over a file. Returns the status and the standard output, which is in memory. (A pipe takes more time.)
+    """Runs a program over a file. Returns the status and the standard output.
 
     Raises `Failed` if the program cannot be started.
     """
     with in_memory(b"") as output:
-        try:
-            ended = subprocess.run(command, stdin=source, stdout=output, stderr=subprocess.DEVNULL, **options)
-        except OSError as error:
-            raise Failed(MEMORY, "error: worker", f"{command[0]} cannot be started: {error.strerror}") from None
-        output.seek(0)
-        return ended.returncode, output.read()
+        status = ended(command, source, output, **options)
+        return status, read(output)
+
+
+def ended(command: list[str], source: io.FileIO, output: io.FileIO, **options: Any) -> int:
+    """Runs a program over a file. Its standard output is a file in memory. (A pipe takes more time.) Returns the status.
+
+    Raises `Failed` if the program cannot be started.
+    """
+    try:
+        return subprocess.run(command, stdin=source, stdout=output, stderr=subprocess.DEVNULL, **options).returncode
+    except OSError as error:
+        raise Failed(MEMORY, "error: worker", f"{command[0]} cannot be started: {error.strerror}") from None
 
 
 @contextlib.contextmanager
@@ -111,6 +142,12 @@ def in_memory(text: Text) -> Iterator[io.FileIO]:
         write(file, text)
         file.seek(0)
         yield file
+
+
+def read(file: io.FileIO) -> bytes:
+    """Returns the text of a file in memory."""
+    file.seek(0)
+    return file.read()
 
 
 def write(file: io.FileIO, text: Text) -> None:

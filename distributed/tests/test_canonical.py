@@ -3,6 +3,7 @@ import os
 import random
 import re
 import unittest
+from itertools import accumulate
 from unittest import mock
 
 import documents
@@ -24,6 +25,12 @@ STRING = r"\^\^<http://www\.w3\.org/2001/XMLSchema#string>"
 PLAIN = re.compile(rf"{NODE} {IRI} (?:{NODE}|{TEXT}(?:@[a-z0-9-]+|(?!{STRING})\^\^{IRI})?)(?: ({NODE}))? \.".encode())
 # A line that is plain but for capitals in a language tag or the datatype xsd:string.
 NEARLY = re.compile(rf"{NODE} {IRI} (?:{NODE}|{TEXT}(?:@[A-Za-z0-9-]+|\^\^{IRI})?)(?: ({NODE}))? \.".encode())
+
+
+def split(text: bytes, parts: int) -> tuple[numpy.ndarray, list[int]]:
+    """Puts the lines of a text into parts."""
+    with in_memory(text) as file:
+        return lines.split(file, parts)
 
 
 def read(text: bytes) -> lines.Lines:
@@ -137,11 +144,50 @@ class Lines(unittest.TestCase):
     def test_split(self):
         for text in self.TEXTS:
             for count in (1, 2, 7, 64, 1000):
-                parts = lines.split(text, count)
-                self.assertEqual(len(parts), count)
+                whole, sizes = split(text, count)
+                ends = list(accumulate(sizes))
+                parts = [whole[end - size : end].tobytes() for size, end in zip(sizes, ends)]
+                self.assertEqual((len(parts), ends[-1]), (count, len(whole)))
                 self.assertEqual(sorted(b"".join(parts).split(b"\n")), sorted(text.split(b"\n")))
                 sets = [set(part.split(b"\n")[:-1]) for part in parts]
                 self.assertEqual(len(set().union(*sets)), sum(map(len, sets)))
+                self.assertEqual(lines.distinct([(part, b"", part[: part.rfind(b"\n", 0, -1) + 1]) for part in parts]), sum(map(len, sets)))
+
+    def test_distinct(self):
+        """Many lines, so that the table grows; lines of all lengths; and lines that differ in one byte."""
+        for every in [
+            [b"%d" % number for number in range(100_000)],
+            [bytes([byte]) * size for size in range(1, 40) for byte in range(11, 256)],
+            [b"x" * place + b"y" + b"x" * (size - place - 1) for size in range(1, 40) for place in range(size)],
+        ]:
+            text = b"\n".join([*every, b""])
+            self.assertEqual(lines.distinct([[text]]), len(every))
+            self.assertEqual(lines.distinct([[text, text], [], [b"\n"]]), len(every) + 1)
+            whole, sizes = split(text, 5 * counting.BUCKETS)
+            buckets = [sizes[first :: 5] for first in range(5)]
+            texts = numpy.split(whole, numpy.cumsum(sizes)[:-1])
+            found = [counting.distinct([numpy.concatenate(texts[first::5])] * 2, [buckets[first]] * 2) for first in range(5)]
+            self.assertEqual(sum(found), len(every))
+
+    def test_many_lines_with_one_hash(self):
+        """Lines of four words: after any two words a third one gives the hash of another line."""
+        def turned(number, bits):
+            return (number << bits | number >> 32 - bits) & 0xFFFFFFFF
+
+        def after(number, word):
+            return ((turned(number, 5) ^ word) + turned(number, 19)) & 0xFFFFFFFF
+
+        every = []
+        for number in range(4000):
+            start = b"%08d" % number
+            state = after(after(16, int.from_bytes(start[:4], "little")), int.from_bytes(start[4:], "little"))
+            word = ((12345 - turned(state, 19)) & 0xFFFFFFFF) ^ turned(state, 5)
+            every.append(start + word.to_bytes(4, "little") + b"same")
+        every = [line for line in every if b"\n" not in line]
+        text = b"\n".join([*every, *every, b""])
+        self.assertEqual(lines.distinct([[text[: len(text) // 20 // 17 * 17]]]), len(every) // 10)
+        self.assertIsNone(lines.distinct([[text]]))
+        self.assertEqual(counting.distinct([numpy.frombuffer(text, numpy.uint8)], [[len(text), 0]]), len(every))
 
     def test_program_is_missing(self):
         with mock.patch.dict(os.environ, PATH="/nowhere"), self.assertRaises(Failed) as failed:
@@ -151,7 +197,7 @@ class Lines(unittest.TestCase):
 
     def test_program_fails(self):
         with self.assertRaises(Failed) as failed:
-            lines.split(b"\n", -1)
+            split(b"\n", -1)
         self.assertEqual(failed.exception.line, "error: worker")
 
 
@@ -179,10 +225,10 @@ class Hashes(unittest.TestCase):
         with mock.patch.object(counting, "hashed_quads", few):
             for text in documents_of("few", 20, ["\n"]):
                 reads = [lambda piece=piece: bytes(piece) for piece in pieces(text, 200)]
-                blocks = [counting.examine(read, program, 3) for read in reads]
-                counts = [counting.count([items[number] for _, _, items in blocks]) for number in range(3)]
+                blocks = [counting.examine(read, program, 3, False) for read in reads]
+                counts = [counting.count([block[number] for block in blocks]) for number in range(3)]
                 repeated = numpy.concatenate([one.repeated for one in counts])
-                again = [counting.repeated_quads(read, program, hashes, repeated, 3) for read, (_, hashes, _) in zip(reads, blocks)]
+                again = [counting.repeated_quads(read, program, hashes, repeated, 3) for read, (*_, hashes) in zip(reads, blocks)]
                 quads = sum(one.single for one in counts) + sum(map(shuffle.distinct, zip(*again)))
                 said = b"ok %d quads %d terms %d graphs\n" % (quads, sum(one.terms for one in counts), sum(one.names for one in counts))
                 self.assertEqual(testing.spq(["check"], text)[1], said)

@@ -3,11 +3,13 @@ import gzip
 import os
 import random
 import re
+import shutil
 import subprocess
 import unittest
 import urllib.request
 
 import testing
+from spq_dask.cluster import upload_package
 from testing import ROOT, file, script, spq, spq_dask
 
 CATALOGUE = os.path.join(ROOT, "docs", "tour", "library.nq")
@@ -69,6 +71,26 @@ class Catalogue(unittest.TestCase):
         lines = "exec 2>&1\n" + "".join(f"{command}\nprintf '%s' '{mark}'\n" for command, _ in commands).replace("\n> ", "\n")
         ran = subprocess.run(["bash"], input=lines, capture_output=True, text=True, cwd=place, env=testing.environment())
         self.assertEqual(ran.stdout.split(mark)[:-1], [shown for _, shown in commands])
+
+    def test_other_version(self):
+        """A worker that has another version of the package loads this one."""
+        def version():
+            import spq_dask.program
+            from spq_dask import program
+
+            assert program is spq_dask.program
+            return getattr(program, "VERSION", "this")
+
+        folder = os.path.join(ROOT, "distributed", "spq_dask")
+        other = os.path.join(os.path.dirname(file(b"")), "other")
+        shutil.copytree(folder, other)
+        with open(os.path.join(other, "program.py"), "a") as program:
+            program.write('VERSION = "other"\n')
+        for place, expected in [(folder, "this"), (other, "other"), (folder, "this")]:
+            upload_package(testing.CLIENT, place)
+            self.assertEqual(set(testing.CLIENT.run(version).values()), {expected})
+            with open(CATALOGUE, "rb") as source:
+                self.assertEqual(spq_dask(["check", "--blocksize", "2KiB"], CATALOGUE)[:2], spq(["check"], source.read()))
 
     def test_dashboard(self):
         link = testing.CLIENT.dashboard_link.removesuffix("/status")
