@@ -114,8 +114,33 @@ fn made<R: Threads + Wait, G: Gate + Sync>(
     }
 }
 
-/// Prints the rows of an operator over rows of the dictionary. May print the number of terms that
-/// the dictionary then has.
+/// Prints the rows of an operator. May print the number of terms that the dictionary then has.
+fn run_over<R: Threads + Wait, G: Gate + Sync>(
+    rt: &R,
+    alloc: Global,
+    state: RandomState,
+    dict: Dict,
+    operator: Operator,
+    left: &Rows,
+    right: &Rows,
+    expression: &Expr,
+    how: &How,
+    gate: &G,
+    is_counted: bool,
+) -> Result<String, EvalFault>
+    requires wide { left.now.width ≡ 2 }
+    requires same_width { right.now.width ≡ 2 }
+    requires known_left { AreKnown dict left.now }
+    requires known_right { AreKnown dict right.now }
+    requires how { IsRunnable how.now }
+{
+    let (rows, dict) = made(
+        rt, alloc, state, dict, operator, left, right, expression, how, gate,
+    )?;
+    Ok(shown(alloc, &dict, &rows, is_counted)?)
+}
+
+/// Prints the rows of an operator over rows of the dictionary.
 fn run<R: Threads + Wait, G: Gate + Sync>(
     rt: &R,
     alloc: Global,
@@ -131,7 +156,7 @@ fn run<R: Threads + Wait, G: Gate + Sync>(
 {
     let left = rows_of(alloc, &dict, task.left)?;
     let right = rows_of(alloc, &dict, task.right)?;
-    let (rows, dict) = made(
+    run_over(
         rt,
         alloc,
         state,
@@ -142,8 +167,8 @@ fn run<R: Threads + Wait, G: Gate + Sync>(
         expression,
         how,
         gate,
-    )?;
-    Ok(shown(alloc, &dict, &rows, is_counted)?)
+        is_counted,
+    )
 }
 
 fn shown(alloc: Global, dict: &Dict, rows: &Rows, is_counted: bool) -> Result<String, AllocError> {
