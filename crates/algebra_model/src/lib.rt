@@ -17,7 +17,7 @@
 //!
 //! Example: over the triples a p b and a p c, the pattern `?s p _:x` has the solution `?s = a`
 //! twice, once for each term of its blank node label. The prover checks the worked examples of
-//! `src/examples.rt`. The tests of the evaluators are in the crates algebra_tests (plain_eval) and
+//! `src/examples.rt`. The tests of the evaluators are in the crates query_tests (plain_eval) and
 //! evaluation_tests (sparql_eval).
 //!
 //! Not part of this crate: the translation of a query to an algebra expression (`sparql_algebra`),

@@ -1,7 +1,7 @@
 //! Pseudorandom documents and queries: the evaluator has the solutions of plain_eval.
 //!
-//! The queries are generated from the grammar, and the rules on BIND and on blank node labels are
-//! not applied to them. A BIND may thus be to a bound variable, and a label may be in two patterns.
+//! The queries are derived from `RULES`, and the rules on BIND and on blank node labels are not
+//! applied to them. A BIND may thus be to a bound variable, and a label may be in two patterns.
 use crate::cases::{compare, is_empty};
 use crate::operators::{Draws, verdict};
 use crate::plans::{evaluated, plainly, plan_of};
@@ -19,159 +19,107 @@ use std::random::RandomSource;
 use std::sync::Wait;
 use std::thread::Threads;
 
-fn name(draws: &mut Draws) -> &'static str {
-    match draws.below(3) {
-        0 => "<a:x>",
-        1 => "<a:y>",
-        _ => "<a:z>",
+/// Symbols and their alternatives. In a text, each symbol in turn is replaced at each place by one
+/// of its alternatives, which have no symbols but later ones.
+const RULES: &[(char, &[&str])] = &[
+    // A document of at most seven statements, some of them in a named graph.
+    (
+        'δ',
+        &["", "λ", "λλ", "λλλ", "λλλλ", "λλλλλ", "λλλλλλ", "λλλλλλλ"],
+    ),
+    ('λ', &["σ σ σ ρ .\n"]),
+    ('ρ', &["<a:x>", "_:h", "", ""]),
+    // A query that selects all variables of a group of at most four elements. One in four has
+    // DISTINCT.
+    (
+        'θ',
+        &[
+            "SELECT DISTINCT * { μ}",
+            "SELECT * { μ}",
+            "SELECT * { μ}",
+            "SELECT * { μ}",
+        ],
+    ),
+    ('μ', &["", "ε", "εε", "εεε", "εεεε"]),
+    // An element of any kind. About half of them are single triples, graphs and tables. An OPTIONAL
+    // may have a filter on `?g`, a filter is on a variable that a query may bind, and a BIND is to
+    // a variable that triples or graphs may have bound.
+    (
+        'ε',
+        &[
+            "OPTIONAL { πχ} ",
+            "{ π} UNION { π} ",
+            "MINUS { π} ",
+            "FILTER(BOUND(?β)) ",
+            "BIND(STR(?a) AS ?η) ",
+            "π",
+            "π",
+            "π",
+            "π",
+        ],
+    ),
+    ('χ', &["FILTER(BOUND(?g)) ", ""]),
+    ('β', &["a", "b", "g"]),
+    ('η', &["b", "g"]),
+    // A triple in one named graph or in each of them, a table of two rows, or a triple.
+    (
+        'π',
+        &[
+            "GRAPH γ { τ} ",
+            "VALUES (?a ?b) { (ξ ξ) (ξ ξ) } ",
+            "τ",
+            "τ",
+            "τ",
+        ],
+    ),
+    ('γ', &["<a:x>", "<a:y>", "?a", "?g"]),
+    // The grammar allows no labels as verbs ([78] `Verb`).
+    ('τ', &["ω φ ω . "]),
+    ('φ', &["?a", "?a", "?b", "?b", "?l", "σ"]),
+    ('ω', &["?a", "?a", "?b", "?b", "_:l", "σ"]),
+    ('ξ', &["UNDEF", "σ", "σ"]),
+    ('σ', &["<a:x>", "<a:y>", "<a:z>"]),
+    // At most five rows of two cells, each one of three terms or none.
+    (
+        'ψ',
+        &[
+            "",
+            "κκ ",
+            "κκ κκ ",
+            "κκ κκ κκ ",
+            "κκ κκ κκ κκ ",
+            "κκ κκ κκ κκ κκ ",
+        ],
+    ),
+    ('κ', &["0", "1", "2", "-"]),
+];
+
+/// Returns the text with an alternative at each place of a symbol.
+fn rewritten(
+    alloc: Global,
+    text: &str,
+    symbol: char,
+    alternatives: &[&'static str],
+    draws: &mut Draws,
+) -> Result<String, AllocError> {
+    let mut out = String::new(alloc);
+    for character in text.chars() {
+        if character == symbol {
+            out.push_str(draws.one_of(alternatives))?;
+        } else {
+            out.push(character)?;
+        }
     }
+    Ok(out)
 }
 
-/// Returns a document of at most seven statements, some of them in a named graph.
-pub(crate) fn document(alloc: Global, draws: &mut Draws) -> Result<String, AllocError> {
-    let mut lines = String::new(alloc);
-    for _ in 0..draws.below(8) {
-        let s = name(draws);
-        let p = name(draws);
-        let o = name(draws);
-        let graph = match draws.below(4) {
-            0 => "<a:x>",
-            1 => "_:h",
-            _ => "",
-        };
-        write!(lines, "{s} {p} {o} {graph} .\n")?;
+/// Returns a text that the rules derive from this one.
+pub(crate) fn drawn(alloc: Global, text: &str, draws: &mut Draws) -> Result<String, AllocError> {
+    let mut drawn = String::from_str(alloc, text)?;
+    for (symbol, alternatives) in RULES {
+        drawn = rewritten(alloc, drawn.as_str(), *symbol, *alternatives, draws)?;
     }
-    Ok(lines)
-}
-
-/// Returns a variable, a blank node label or a prefixed name.
-fn word(draws: &mut Draws) -> &'static str {
-    match draws.below(6) {
-        0 | 1 => "?a",
-        2 | 3 => "?b",
-        4 => "_:l",
-        _ => name(draws),
-    }
-}
-
-/// Returns a variable or a prefixed name. The grammar allows no labels as verbs ([78] `Verb`).
-fn verb(draws: &mut Draws) -> &'static str {
-    match word(draws) {
-        "_:l" => "?l",
-        other => other,
-    }
-}
-
-/// Appends a triple.
-fn push_triple(out: &mut String, draws: &mut Draws) -> Result<(), AllocError> {
-    let s = word(draws);
-    let p = verb(draws);
-    let o = word(draws);
-    write!(out, "{s} {p} {o} . ")
-}
-
-/// Appends a triple in one named graph, or in each of them.
-fn push_graph(out: &mut String, draws: &mut Draws) -> Result<(), AllocError> {
-    let name = match draws.below(4) {
-        0 => "<a:x>",
-        1 => "<a:y>",
-        2 => "?a",
-        _ => "?g",
-    };
-    write!(out, "GRAPH {name} {{ ")?;
-    push_triple(out, draws)?;
-    out.push_str("} ")
-}
-
-/// Returns a prefixed name, or UNDEF.
-fn cell(draws: &mut Draws) -> &'static str {
-    match draws.below(3) {
-        0 => "UNDEF",
-        _ => name(draws),
-    }
-}
-
-/// Appends a table of two rows.
-fn push_table(out: &mut String, draws: &mut Draws) -> Result<(), AllocError> {
-    let a = cell(draws);
-    let b = cell(draws);
-    let c = cell(draws);
-    let d = cell(draws);
-    write!(out, "VALUES (?a ?b) {{ ({a} {b}) ({c} {d}) }} ")
-}
-
-/// Appends a triple, a GRAPH or a table.
-fn push_part(out: &mut String, draws: &mut Draws) -> Result<(), AllocError> {
-    match draws.below(5) {
-        0 => push_graph(out, draws),
-        1 => push_table(out, draws),
-        _ => push_triple(out, draws),
-    }
-}
-
-/// Appends an OPTIONAL with one part, and perhaps a filter on `?g`.
-fn push_optional(out: &mut String, draws: &mut Draws) -> Result<(), AllocError> {
-    out.push_str("OPTIONAL { ")?;
-    push_part(out, draws)?;
-    if draws.below(2) == 0 {
-        out.push_str("FILTER(BOUND(?g)) ")?;
-    }
-    out.push_str("} ")
-}
-
-/// Appends a UNION of two parts.
-fn push_union(out: &mut String, draws: &mut Draws) -> Result<(), AllocError> {
-    out.push_str("{ ")?;
-    push_part(out, draws)?;
-    out.push_str("} UNION { ")?;
-    push_part(out, draws)?;
-    out.push_str("} ")
-}
-
-/// Appends a MINUS with one part.
-fn push_minus(out: &mut String, draws: &mut Draws) -> Result<(), AllocError> {
-    out.push_str("MINUS { ")?;
-    push_part(out, draws)?;
-    out.push_str("} ")
-}
-
-/// Appends a filter on a variable that a query may bind.
-fn push_filter(out: &mut String, draws: &mut Draws) -> Result<(), AllocError> {
-    let name = match draws.below(3) {
-        0 => "a",
-        1 => "b",
-        _ => "g",
-    };
-    write!(out, "FILTER(BOUND(?{name})) ")
-}
-
-/// Appends a BIND to a variable that triples or graphs may have bound.
-fn push_bind(out: &mut String, draws: &mut Draws) -> Result<(), AllocError> {
-    let name = if draws.below(2) == 0 { "b" } else { "g" };
-    write!(out, "BIND(STR(?a) AS ?{name}) ")
-}
-
-/// Appends an element of any kind. About half of them are single triples, graphs and tables.
-fn push_element(out: &mut String, draws: &mut Draws) -> Result<(), AllocError> {
-    match draws.below(9) {
-        0 => push_optional(out, draws),
-        1 => push_union(out, draws),
-        2 => push_minus(out, draws),
-        3 => push_filter(out, draws),
-        4 => push_bind(out, draws),
-        _ => push_part(out, draws),
-    }
-}
-
-/// Returns a query that selects all variables of a group of at most four elements. One in four has
-/// DISTINCT.
-fn query(alloc: Global, draws: &mut Draws) -> Result<String, AllocError> {
-    let mut group = String::new(alloc);
-    for _ in 0..draws.below(5) {
-        push_element(&mut group, draws)?;
-    }
-    let distinct = if draws.below(4) == 0 { "DISTINCT " } else { "" };
-    format!(in alloc; "SELECT {distinct}* {{ {group}}}")
+    Ok(drawn)
 }
 
 /// Returns the query that the parser has read, with its variables at each place.
@@ -260,8 +208,8 @@ fn compare_drawn<R: RandomSource + Threads + Wait>(
     let mut report = String::new(alloc);
     let mut draws = Draws { state: 7 };
     for _ in 0..100u32 {
-        let document = document(alloc, &mut draws)?;
-        let text = query(alloc, &mut draws)?;
+        let document = drawn(alloc, "δ", &mut draws)?;
+        let text = drawn(alloc, "θ", &mut draws)?;
         check(rt, alloc, document.as_str(), text.as_str(), &mut report)?;
     }
     Ok(report)

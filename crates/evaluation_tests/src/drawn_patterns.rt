@@ -1,16 +1,16 @@
 //! Pseudorandom basic graph patterns, with labels in every place of a triple pattern: the operator
 //! has the rows of plain_eval. They are not parsed, because no query has a label as a predicate.
-ghost use Rattle.std.specs.Prelude.{◌≡◌, true, map, IfOk};
+ghost use Rattle.std.specs.Prelude.{◌≡◌, true, map};
 ghost use Rattle.std.specs.List.{list_all};
 ghost use Rattle.algebra_model.specs.Algebra.{is_below, is_triple_below};
 ghost use Rattle.sparql_algebra.specs.AlgebraOf.{pattern_term_of, triple_pattern_of};
 
 use crate::cases::{compare, is_empty};
-use crate::drawn::document;
+use crate::drawn::drawn;
 use crate::operators::Draws;
 use crate::patterns::{name_of, rows_in};
 use crate::printing::text_of_solutions;
-use crate::stores::{iri, store};
+use crate::stores::iri;
 use nquads_core::read_piece;
 use plain_eval::{graph, pattern};
 use rdf_core::{Quad, Term};
@@ -22,31 +22,26 @@ use std::sync::Wait;
 use std::thread::Threads;
 
 /// Returns one of two variables, one of two labels, or a term.
-fn spot(alloc: Global, draws: &mut Draws) -> Result<PatternTerm, AllocError>
-    ensures below { IfOk result (λ spot. is_below 2 2 (pattern_term_of spot) ≡ true) }
+fn spot(alloc: Global, draws: &mut Draws) -> PatternTerm
+    ensures below { is_below 2 2 (pattern_term_of result) ≡ true }
 {
     match draws.below(7) {
-        0 => Ok(PatternTerm::Variable(0)),
-        1 => Ok(PatternTerm::Variable(1)),
-        2 => Ok(PatternTerm::Label(0)),
-        3 => Ok(PatternTerm::Label(1)),
-        4 => Ok(PatternTerm::Term(iri(alloc, "a:x")?)),
-        5 => Ok(PatternTerm::Term(iri(alloc, "a:y")?)),
-        _ => Ok(PatternTerm::Term(iri(alloc, "a:z")?)),
+        0 => PatternTerm::Variable(0),
+        1 => PatternTerm::Variable(1),
+        2 => PatternTerm::Label(0),
+        3 => PatternTerm::Label(1),
+        _ => PatternTerm::Term(iri(alloc, draws.one_of(&["a:x", "a:y", "a:z"]))),
     }
 }
 
-fn triple(alloc: Global, draws: &mut Draws) -> Result<TriplePattern, AllocError>
-    ensures below { IfOk result (λ t. is_triple_below 2 2 (triple_pattern_of t) ≡ true) }
+fn triple(alloc: Global, draws: &mut Draws) -> TriplePattern
+    ensures below { is_triple_below 2 2 (triple_pattern_of result) ≡ true }
 {
-    let subject = spot(alloc, draws)?;
-    let predicate = spot(alloc, draws)?;
-    let object = spot(alloc, draws)?;
-    Ok(TriplePattern {
-        subject,
-        predicate,
-        object,
-    })
+    TriplePattern {
+        subject: spot(alloc, draws),
+        predicate: spot(alloc, draws),
+        object: spot(alloc, draws),
+    }
 }
 
 fn plainly_over(
@@ -84,31 +79,41 @@ fn check<R: RandomSource + Threads + Wait>(
 ) -> Result<(), EvalFault>
     requires below { list_all (is_triple_below 2 2) (map triple_pattern_of triples.now) ≡ true }
 {
-    let name = name_of(alloc, graph)?;
+    let name = name_of(alloc, graph);
     let plain = plainly(alloc, document, &name, triples)?;
-    let (dict, index) = store(rt, alloc, document)?;
-    let found = rows_in(rt, alloc, dict, &index, &name, 2, triples)?;
+    let found = rows_in(rt, alloc, document, &name, 2, triples)?;
     let case = format!(in alloc; "{document}{triples:?} in {graph}")?;
     Ok(compare(report, case.as_str(), plain.as_str(), found.as_str())?)
 }
 
-/// Compares the rows of a pattern of two triple patterns in the default graph, and in a named graph
-/// if the document has its name.
+/// Compares the rows of a pattern in the default graph, and in a named graph if the document has its
+/// name.
+fn check_graphs<R: RandomSource + Threads + Wait>(
+    rt: &R,
+    alloc: Global,
+    document: &str,
+    triples: &[TriplePattern],
+    report: &mut String,
+) -> Result<(), EvalFault>
+    requires below { list_all (is_triple_below 2 2) (map triple_pattern_of triples.now) ≡ true }
+{
+    check(rt, alloc, document, "default", triples, report)?;
+    if document.contains("<a:x>") {
+        check(rt, alloc, document, "a:x", triples, report)?;
+    }
+    Ok(())
+}
+
+/// Compares the rows of a pattern of two triple patterns.
 fn check_drawn<R: RandomSource + Threads + Wait>(
     rt: &R,
     alloc: Global,
     draws: &mut Draws,
     report: &mut String,
 ) -> Result<(), EvalFault> {
-    let document = document(alloc, draws)?;
-    let first = triple(alloc, draws)?;
-    let second = triple(alloc, draws)?;
-    let triples = [first, second];
-    check(rt, alloc, document.as_str(), "default", &triples, report)?;
-    if document.contains("<a:x>") {
-        check(rt, alloc, document.as_str(), "a:x", &triples, report)?;
-    }
-    Ok(())
+    let document = drawn(alloc, "δ", draws)?;
+    let triples = [triple(alloc, draws), triple(alloc, draws)];
+    check_graphs(rt, alloc, document.as_str(), &triples, report)
 }
 
 /// Compares the rows of 200 patterns.

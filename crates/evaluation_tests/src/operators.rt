@@ -5,6 +5,7 @@ ghost use Rattle.row_pieces.specs.How.{IsRunnable};
 ghost use Rattle.sparql_eval.specs.Evaluated.{AreKnown};
 
 use crate::cases::{Reader, are_right, check, is_empty};
+use crate::drawn::drawn;
 use crate::plans::plan_of;
 use crate::printing::{text_of_rows, text_of_solutions};
 use crate::rows::{dict_of, rows_of, solutions_of};
@@ -113,8 +114,33 @@ fn made<R: Threads + Wait, G: Gate + Sync>(
     }
 }
 
-/// Prints the rows of an operator over rows of the dictionary. May print the number of terms that
-/// the dictionary then has.
+/// Prints the rows of an operator. May print the number of terms that the dictionary then has.
+fn run_over<R: Threads + Wait, G: Gate + Sync>(
+    rt: &R,
+    alloc: Global,
+    state: RandomState,
+    dict: Dict,
+    operator: Operator,
+    left: &Rows,
+    right: &Rows,
+    expression: &Expr,
+    how: &How,
+    gate: &G,
+    is_counted: bool,
+) -> Result<String, EvalFault>
+    requires wide { left.now.width ≡ 2 }
+    requires same_width { right.now.width ≡ 2 }
+    requires known_left { AreKnown dict left.now }
+    requires known_right { AreKnown dict right.now }
+    requires how { IsRunnable how.now }
+{
+    let (rows, dict) = made(
+        rt, alloc, state, dict, operator, left, right, expression, how, gate,
+    )?;
+    Ok(shown(alloc, &dict, &rows, is_counted)?)
+}
+
+/// Prints the rows of an operator over rows of the dictionary.
 fn run<R: Threads + Wait, G: Gate + Sync>(
     rt: &R,
     alloc: Global,
@@ -130,7 +156,7 @@ fn run<R: Threads + Wait, G: Gate + Sync>(
 {
     let left = rows_of(alloc, &dict, task.left)?;
     let right = rows_of(alloc, &dict, task.right)?;
-    let (rows, dict) = made(
+    run_over(
         rt,
         alloc,
         state,
@@ -141,8 +167,8 @@ fn run<R: Threads + Wait, G: Gate + Sync>(
         expression,
         how,
         gate,
-    )?;
-    Ok(shown(alloc, &dict, &rows, is_counted)?)
+        is_counted,
+    )
 }
 
 fn shown(alloc: Global, dict: &Dict, rows: &Rows, is_counted: bool) -> Result<String, AllocError> {
@@ -430,10 +456,15 @@ fn two_workers_meet(rt: HostRuntime) {
 /// Returns the cells x, UNDEF and y.
 fn cells(alloc: Global) -> Result<Vec<Option<Term>>, AllocError> {
     let mut cells = Vec::new(alloc);
-    cells.push(Some(iri(alloc, "a:x")?))?;
+    cells.push(Some(iri(alloc, "a:x")))?;
     cells.push(None)?;
-    cells.push(Some(iri(alloc, "a:y")?))?;
+    cells.push(Some(iri(alloc, "a:y")))?;
     Ok(cells)
+}
+
+fn table_over(alloc: Global, dict: Dict, cells: Vec<Option<Term>>) -> Result<String, EvalFault> {
+    let (rows, dict) = table(alloc, dict, 2, &[1, 0, 1], &[cells])?;
+    Ok(text_of_rows(alloc, &dict, &rows)?)
 }
 
 /// Prints the rows of a table of one row.
@@ -442,10 +473,8 @@ pub(crate) fn tabulated<R: RandomSource>(
     alloc: Global,
     _case: &str,
 ) -> Result<String, EvalFault> {
-    let rows = [cells(alloc)?];
     let dict = dict_of(alloc, state_of(rt)?)?;
-    let (rows, dict) = table(alloc, dict, 2, &[1, 0, 1], &rows)?;
-    Ok(text_of_rows(alloc, &dict, &rows)?)
+    table_over(alloc, dict, cells(alloc)?)
 }
 
 /// A cell that is UNDEF binds nothing. If a variable is listed twice, its first place is used.
@@ -477,25 +506,10 @@ impl Draws {
         (self.state >> 33) % n
     }
 
-    /// Returns one of three terms, or none.
-    fn cell(&mut self) -> char {
-        match self.below(4) {
-            0 => '0',
-            1 => '1',
-            2 => '2',
-            _ => '-',
-        }
-    }
-
-    /// Returns at most five rows.
-    fn rows(&mut self, alloc: Global) -> Result<String, AllocError> {
-        let mut rows = String::new(alloc);
-        for _ in 0..self.below(6) {
-            rows.push(self.cell())?;
-            rows.push(self.cell())?;
-            rows.push(' ')?;
-        }
-        Ok(rows)
+    /// Returns one of the texts.
+    pub(crate) fn one_of(&mut self, texts: &[&'static str]) -> &'static str {
+        let place = self.below(texts.len().max(1) as u64) as usize;
+        texts.get(place).copied().unwrap_or("")
     }
 }
 
@@ -536,8 +550,8 @@ fn compare_drawn<R: RandomSource + Threads + Wait>(
     let mut report = String::new(alloc);
     let mut draws = Draws { state: 1 };
     for _ in 0..20u32 {
-        let left = draws.rows(alloc)?;
-        let right = draws.rows(alloc)?;
+        let left = drawn(alloc, "ψ", &mut draws)?;
+        let right = drawn(alloc, "ψ", &mut draws)?;
         check_all(rt, alloc, left.as_str(), right.as_str(), &mut report)?;
     }
     Ok(report)

@@ -1,5 +1,5 @@
 //! The operator of basic graph patterns by itself.
-ghost use Rattle.std.specs.Prelude.{◌≡◌, ◌<◌, true, length, map, IfOk};
+ghost use Rattle.std.specs.Prelude.{◌≡◌, ◌<◌, true, length, map};
 ghost use Rattle.std.specs.List.{list_all};
 ghost use Rattle.std.specs.Option.{ForSome};
 ghost use Rattle.algebra_model.specs.Algebra.{is_triple_below};
@@ -17,20 +17,20 @@ use rdf_core::Term;
 use row_pieces::EvalFault;
 use sparql_algebra::{PatternTerm, TriplePattern};
 use sparql_eval::pattern;
-use std::alloc::{AllocError, AllocGlobal, Global};
+use std::alloc::{AllocGlobal, Global};
 use std::random::RandomSource;
 use std::sync::Wait;
 use std::thread::Threads;
 
 /// `?0 predicate _:0`
-fn objects_of(alloc: Global, predicate: &str) -> Result<TriplePattern, AllocError>
-    ensures below { IfOk result (λ t. is_triple_below 1 2 (triple_pattern_of t) ≡ true) }
+fn objects_of(alloc: Global, predicate: &str) -> TriplePattern
+    ensures below { is_triple_below 1 2 (triple_pattern_of result) ≡ true }
 {
-    Ok(TriplePattern {
+    TriplePattern {
         subject: PatternTerm::Variable(0),
-        predicate: PatternTerm::Term(iri(alloc, predicate)?),
+        predicate: PatternTerm::Term(iri(alloc, predicate)),
         object: PatternTerm::Label(0),
-    })
+    }
 }
 
 /// `?0 _:1 _:0`
@@ -45,22 +45,22 @@ fn anything() -> TriplePattern
 }
 
 /// Returns the pattern of a text: `?0 predicate _:0`, or `?0 _:1 _:0` if the text is `_:1`.
-fn pattern_of(alloc: Global, predicate: &str) -> Result<TriplePattern, AllocError>
-    ensures below { IfOk result (λ t. is_triple_below 1 2 (triple_pattern_of t) ≡ true) }
+fn pattern_of(alloc: Global, predicate: &str) -> TriplePattern
+    ensures below { is_triple_below 1 2 (triple_pattern_of result) ≡ true }
 {
     if predicate == "_:1" {
-        Ok(anything())
+        anything()
     } else {
         objects_of(alloc, predicate)
     }
 }
 
 /// Returns the name of a graph, or None for the default graph.
-pub(crate) fn name_of(alloc: Global, text: &str) -> Result<Option<Term>, AllocError> {
+pub(crate) fn name_of(alloc: Global, text: &str) -> Option<Term> {
     if text == "default" {
-        Ok(None)
+        None
     } else {
-        Ok(Some(iri(alloc, text)?))
+        Some(iri(alloc, text))
     }
 }
 
@@ -77,8 +77,24 @@ fn active(dict: &Dict, graph: &Option<Term>) -> Option<u64>
     }
 }
 
-/// Prints the rows of a pattern with two labels in a graph, with two workers, row by row.
-pub(crate) fn rows_in<R: Threads + Wait>(
+/// Prints the rows of a pattern with two labels in a graph of a document, with two workers, row by
+/// row.
+pub(crate) fn rows_in<R: RandomSource + Threads + Wait>(
+    rt: &R,
+    alloc: Global,
+    document: &str,
+    graph: &Option<Term>,
+    width: usize,
+    triples: &[TriplePattern],
+) -> Result<String, EvalFault>
+    requires below { list_all (is_triple_below width 2) (map triple_pattern_of triples.now) ≡ true }
+{
+    let (dict, index) = store(rt, alloc, document)?;
+    rows_over(rt, alloc, dict, &index, graph, width, triples)
+}
+
+/// Does the same over an index.
+fn rows_over<R: Threads + Wait>(
     rt: &R,
     alloc: Global,
     dict: Dict,
@@ -113,10 +129,9 @@ pub(crate) fn solved<R: RandomSource + Threads + Wait>(
     case: &str,
 ) -> Result<String, EvalFault> {
     let (predicate, graph) = case.split_once(" in ").unwrap_or((case, ""));
-    let graph = name_of(alloc, graph)?;
-    let triples = [pattern_of(alloc, predicate)?];
-    let (dict, index) = store(rt, alloc, DOCUMENT)?;
-    rows_in(rt, alloc, dict, &index, &graph, 1, &triples)
+    let graph = name_of(alloc, graph);
+    let triples = [pattern_of(alloc, predicate)];
+    rows_in(rt, alloc, DOCUMENT, &graph, 1, &triples)
 }
 
 /// A pattern is evaluated over the active graph. A triple of another graph is no solution, and

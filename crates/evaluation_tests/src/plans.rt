@@ -248,24 +248,25 @@ fn a_computed_term_gets_the_number_of_an_equal_one(rt: HostRuntime) {
     assert!(rt; are_right(&rt, rt.alloc(), Reader::Added, ADDED));
 }
 
-/// Creates the empty pattern.
-fn empty_pattern(alloc: Global) -> Operator
-    ensures within { is_within 1 (algebra_of result) ≡ true }
+/// Creates the empty pattern, in a box like a plan.
+fn empty_pattern(alloc: Global) -> Result<Box<Operator>, AllocError>
+    ensures within { IfOk result (λ made. is_within 1 (algebra_of made.value) ≡ true) }
 {
-    Operator::Pattern {
+    let tree = Operator::Pattern {
         labels: 0,
         triples: Vec::new(alloc),
-    }
+    };
+    Ok(Box::new(alloc, tree)?)
 }
 
 /// Returns the graph name of a text: `?g` is the first variable.
-fn graph_name(alloc: Global, text: &str) -> Result<GraphName, AllocError>
-    ensures below { IfOk result (λ name. is_name_below 1 (graph_name_of name) ≡ true) }
+fn graph_name(alloc: Global, text: &str) -> GraphName
+    ensures below { is_name_below 1 (graph_name_of result) ≡ true }
 {
     if text == "?g" {
-        Ok(GraphName::Variable(0))
+        GraphName::Variable(0)
     } else {
-        Ok(GraphName::Iri(iri(alloc, text)?))
+        GraphName::Iri(iri(alloc, text))
     }
 }
 
@@ -297,16 +298,28 @@ fn graph_over<R: RandomSource + Threads + Wait>(
     Ok(text_of_rows(alloc, &dict, &rows)?)
 }
 
+fn graph_of_document<R: RandomSource + Threads + Wait>(
+    rt: &R,
+    alloc: Global,
+    name: &GraphName,
+    inner: &Operator,
+) -> Result<String, EvalFault>
+    requires name { is_name_below 1 (graph_name_of name.now) ≡ true }
+    requires within { is_within 1 (algebra_of inner.now) ≡ true }
+{
+    let (dict, index) = store(rt, alloc, DOCUMENT)?;
+    graph_over(rt, alloc, dict, &index, name, inner)
+}
+
 /// Prints the solutions of the empty pattern in a graph of the document, or in each, by the operator alone.
 pub(crate) fn graph_alone<R: RandomSource + Threads + Wait>(
     rt: &R,
     alloc: Global,
     case: &str,
 ) -> Result<String, EvalFault> {
-    let name = graph_name(alloc, case)?;
-    let inner = empty_pattern(alloc);
-    let (dict, index) = store(rt, alloc, DOCUMENT)?;
-    graph_over(rt, alloc, dict, &index, &name, &inner)
+    let inner = empty_pattern(alloc)?;
+    let name = graph_name(alloc, case);
+    graph_of_document(rt, alloc, &name, &inner)
 }
 
 /// The empty pattern has one solution in each named graph, and none for a name that no graph has.

@@ -19,7 +19,7 @@ const NAMES: [&str; 3] = ["a:x", "a:y", "a:z"];
 /// Adds the three terms.
 fn add_names(alloc: Global, dict: &mut Dict) -> Result<(), EvalFault> {
     for name in NAMES {
-        if dict.intern(iri(alloc, name)?).is_err() {
+        if dict.intern(iri(alloc, name)).is_err() {
             return Err(EvalFault::Memory);
         }
     }
@@ -98,20 +98,20 @@ pub(crate) fn rows_of(alloc: Global, dict: &Dict, text: &str) -> Result<Rows, Al
 }
 
 /// Returns the term of a cell.
-fn term_of(alloc: Global, cell: Option<u64>) -> Result<Option<Term>, AllocError> {
-    match cell {
-        Some(0) => Ok(Some(iri(alloc, "a:x")?)),
-        Some(1) => Ok(Some(iri(alloc, "a:y")?)),
-        Some(_) => Ok(Some(iri(alloc, "a:z")?)),
-        None => Ok(None),
-    }
+fn term_of(alloc: Global, cell: Option<u64>) -> Option<Term> {
+    let name = match cell? {
+        0 => "a:x",
+        1 => "a:y",
+        _ => "a:z",
+    };
+    Some(iri(alloc, name))
 }
 
 /// Returns the solution of a row.
 fn solution_of(alloc: Global, pair: Pair) -> Result<Solution, AllocError> {
     let mut terms = Vec::new(alloc);
     for cell in pair {
-        terms.push(term_of(alloc, cell)?)?;
+        terms.push(term_of(alloc, cell))?;
     }
     Ok(Solution::of(terms))
 }

@@ -14,7 +14,7 @@
 //! Standard: SPARQL 1.1 Query Language, section 17. The crate algebra_model states its definitions.
 //!
 //! Reading order: `expression` (the tree), `lookup` (rows), `held` (intermediate values),
-//! `evaluation`. Tests: `expressions` of the crate algebra_tests.
+//! `evaluation`. Tests: `values` of the crate query_tests.
 //!
 //! ```text
 //! value(alloc, &str_of_x, &row)      // STR(?x), where ?x is <http://e/a>: "http://e/a"

@@ -99,9 +99,8 @@ pub(crate) fn has(dict: &Dict, terms: &[Term]) -> bool {
 }
 
 /// Appends a number, or `None`.
-fn append_number(alloc: Global, out: &mut String, number: Option<u64>) -> Result<(), AllocError> {
-    let written = format!(in alloc; "{number:?} ")?;
-    out.push_str(written.as_str())
+fn append_number(out: &mut String, number: Option<u64>) -> Result<(), AllocError> {
+    write!(out, "{number:?} ")
 }
 
 /// Appends the term, after the number by which a copy of it is found.
@@ -112,9 +111,8 @@ fn append_term(
     term: &Term,
 ) -> Result<(), AllocError> {
     let copy = term.copy(alloc)?;
-    append_number(alloc, out, dict.number_of(&copy))?;
-    let written = format!(in alloc; "{copy:?}; ")?;
-    out.push_str(written.as_str())
+    let number = dict.number_of(&copy);
+    write!(out, "{number:?} {copy:?}; ")
 }
 
 /// Appends each term of the dictionary.
@@ -126,11 +124,9 @@ fn append_terms(alloc: Global, out: &mut String, dict: &Dict) -> Result<(), Allo
 }
 
 /// Appends subject, predicate, object and graph name.
-fn append_quad(alloc: Global, out: &mut String, quad: &NumQuad) -> Result<(), AllocError> {
-    append_number(alloc, out, Some(quad.s))?;
-    append_number(alloc, out, Some(quad.p))?;
-    append_number(alloc, out, Some(quad.o))?;
-    append_number(alloc, out, quad.g)
+fn append_quad(out: &mut String, quad: &NumQuad) -> Result<(), AllocError> {
+    let NumQuad { g, s, p, o } = quad;
+    write!(out, "Some({s}) Some({p}) Some({o}) {g:?} ")
 }
 
 /// Prints a dictionary and quads.
@@ -138,7 +134,7 @@ fn printed(alloc: Global, dict: &Dict, quads: &[NumQuad]) -> Result<String, Allo
     let mut out = String::new(alloc);
     append_terms(alloc, &mut out, dict)?;
     for quad in quads {
-        append_quad(alloc, &mut out, quad)?;
+        append_quad(&mut out, quad)?;
     }
     Ok(out)
 }
@@ -151,7 +147,7 @@ fn append_added(
     name: &str,
 ) -> Result<(), AllocError> {
     let number = add(alloc, dict, name)?;
-    append_number(alloc, out, Some(number))
+    append_number(out, Some(number))
 }
 
 /// Prints the numbers of the IRIs as they are added to an empty dictionary, and the dictionary.
@@ -263,7 +259,7 @@ fn append_absorbed(
 ) -> Result<(), AllocError> {
     let numbers = dict.absorb(dict_of(alloc, state, &[B, C])?)?;
     for number in &numbers {
-        append_number(alloc, out, Some(*number))?;
+        append_number(out, Some(*number))?;
     }
     Ok(())
 }
@@ -311,7 +307,7 @@ fn seen_of(alloc: Global, piece: &SeenPiece) -> Result<String, AllocError> {
             Seen::Known(number) => Some(*number),
             Seen::New(_) => None,
         };
-        append_number(alloc, &mut out, number)?;
+        append_number(&mut out, number)?;
     }
     Ok(out)
 }

@@ -3,9 +3,9 @@ ghost use Rattle.std.specs.Prelude.{◌≤◌};
 
 use crate::cases::holds;
 use dataset_load::{LoadFault, Store, load, load_blocks, read_blocks};
-use nquads_core::Device;
+use nquads_core::{Device, ReadFault};
 use piece_cuts::Cuts;
-use piece_pool::OpenGate;
+use piece_pool::{Gate, OpenGate};
 use std::alloc::{AllocGlobal, Global};
 use std::random::RandomSource;
 use std::sync::Wait;
@@ -36,40 +36,47 @@ pub(crate) const NUMBERED: &[u8] =
 pub(crate) const TAGGED: &[u8] = b"<http://e/a> <http://e/p> \"x\"@en .\n";
 
 /// Loads the document, cut into pieces of at least `size` bytes.
-fn loaded<R: Threads + Wait + RandomSource>(
+pub(crate) fn loaded<R: Threads + Wait + RandomSource, G: Gate + Sync>(
     rt: &R,
     alloc: Global,
     doc: &[u8],
     size: usize,
     workers: usize,
+    gate: &G,
 ) -> Result<Store, LoadFault>
     requires size { 1 ≤ size }
     requires workers { (1 ≤ workers) × (workers ≤ 64) }
 {
     let cuts = Cuts::every(alloc, doc, size)?;
-    load(rt, alloc, doc, &cuts, workers, &OpenGate)
+    load(rt, alloc, doc, &cuts, workers, gate)
 }
 
-/// Loads the document in blocks of at least `size` bytes, with two workers.
-fn loaded_blocks<R: Threads + Wait + RandomSource>(
+/// Loads the document in blocks of at least `size` bytes.
+pub(crate) fn loaded_blocks<R: Threads + Wait + RandomSource, G: Gate + Sync>(
     rt: &R,
     alloc: Global,
     doc: &[u8],
     size: usize,
+    workers: usize,
+    gate: &G,
 ) -> Result<Store, LoadFault>
     requires size { 1 ≤ size }
+    requires workers { (1 ≤ workers) × (workers ≤ 64) }
 {
     let mut reader = Device { inner: doc };
-    let Ok(blocks) = read_blocks(alloc, size, &mut reader) else {
-        return Err(LoadFault::Memory);
-    };
-    load_blocks(rt, alloc, blocks.as_slice(), 2, &OpenGate)
+    match read_blocks(alloc, size, &mut reader) {
+        Ok(blocks) => load_blocks(rt, alloc, blocks.as_slice(), workers, gate),
+        Err(ReadFault::Memory) => Err(LoadFault::Memory),
+        Err(ReadFault::Read) => Err(LoadFault::BadLine(0)),
+    }
 }
 
 /// Returns the counts of quads, terms and graph names.
-pub(crate) fn counts(loaded: Result<Store, LoadFault>) -> Counts {
-    let store = loaded?;
-    Ok((store.quads(), store.terms(), store.graphs()))
+pub(crate) fn counts<E: Drop>(loaded: Result<Store, E>) -> Result<(u64, u64, u64), E> {
+    match loaded {
+        Ok(store) => Ok((store.quads(), store.terms(), store.graphs())),
+        Err(fault) => Err(fault),
+    }
 }
 
 /// The counts of quads, terms and graph names, or the fault.
@@ -103,7 +110,7 @@ fn are_right<R: Threads + Wait + RandomSource + Print>(
     requires workers { (1 ≤ workers) × (workers ≤ 64) }
 {
     for (name, doc, expected) in DOCUMENTS {
-        let found = counts(loaded(rt, alloc, *doc, size, workers));
+        let found = counts(loaded(rt, alloc, *doc, size, workers, &OpenGate));
         if !are_counts(rt, alloc, *name, *expected, found) {
             return false;
         }
@@ -131,24 +138,11 @@ const BLOCKS: &[(&str, &[u8], usize, &str)] = &[
     ("the empty document", b"", 1, "Ok((0, 0, 0))"),
 ];
 
-/// Returns whether the document in blocks is loaded as expected.
-fn is_loaded<R: Threads + Wait + RandomSource + Print>(
-    rt: &R,
-    alloc: Global,
-    name: &str,
-    doc: &[u8],
-    size: usize,
-    expected: &str,
-) -> bool
-    requires size { 1 ≤ size }
-{
-    let found = counts(loaded_blocks(rt, alloc, doc, size));
-    are_counts(rt, alloc, name, expected, found)
-}
-
+/// Returns whether each document in blocks is loaded as expected, with two workers.
 fn are_loaded<R: Threads + Wait + RandomSource + Print>(rt: &R, alloc: Global) -> bool {
     for (name, doc, size, expected) in BLOCKS {
-        if !is_loaded(rt, alloc, *name, *doc, *size, *expected) {
+        let found = counts(loaded_blocks(rt, alloc, *doc, *size, 2, &OpenGate));
+        if !are_counts(rt, alloc, *name, *expected, found) {
             return false;
         }
     }
@@ -171,7 +165,7 @@ fn has_parts(store: Store) -> bool {
 
 /// Returns whether the two graphs are loaded, with their terms, quads and graphs.
 fn are_parts_lent<R: Threads + Wait + RandomSource>(rt: &R, alloc: Global) -> bool {
-    match loaded(rt, alloc, GRAPHS, 1, 2) {
+    match loaded(rt, alloc, GRAPHS, 1, 2, &OpenGate) {
         Ok(store) => has_parts(store),
         Err(_) => false,
     }

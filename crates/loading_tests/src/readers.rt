@@ -2,24 +2,15 @@
 ghost use Rattle.std.specs.Prelude.{◌≤◌};
 
 use crate::cases::holds;
-use crate::documents::{BAD, GRAPHS, REPEATED, TWO_LINES};
-use dataset_load::{
-    LoadFault, LoadNotes, ReaderFault, Store, count_reader, load, load_reader, load_terms,
-};
+use crate::documents::{BAD, GRAPHS, REPEATED, TWO_LINES, counts, loaded};
+use dataset_load::{LoadNotes, ReaderFault, count_reader, load_reader, load_terms};
 use nquads_core::{Device, Source};
-use piece_cuts::Cuts;
-use piece_pool::OpenGate;
+use piece_pool::{Gate, OpenGate};
 use std::alloc::{AllocError, AllocGlobal, Global};
 use std::random::RandomSource;
 use std::sync::Wait;
 use std::thread::Threads;
 use test_fixtures::{Counter, SliceSource};
-
-/// Returns the counts of quads, terms and graph names.
-fn counts(loaded: Result<Store, ReaderFault>) -> Result<(u64, u64, u64), ReaderFault> {
-    let store = loaded?;
-    Ok((store.quads(), store.terms(), store.graphs()))
-}
 
 /// Prints the noted line, or nothing.
 fn noted(alloc: Global, notes: &LoadNotes) -> Result<String, AllocError> {
@@ -31,7 +22,7 @@ fn noted(alloc: Global, notes: &LoadNotes) -> Result<String, AllocError> {
 
 /// What is called with a reader.
 #[derive(Clone, Copy)]
-enum Call {
+pub(crate) enum Call {
     Load,
     Count,
     Terms,
@@ -39,26 +30,27 @@ enum Call {
 
 /// Reads a reader, in blocks of at least `size` bytes, and returns the counts of quads, terms and graph names that the
 /// call reports. `load_terms` reports the terms alone.
-fn counts_of<R: Threads + Wait + RandomSource, S: Source>(
+pub(crate) fn counts_of<R: Threads + Wait + RandomSource, S: Source, G: Gate + Sync>(
     rt: &R,
     alloc: Global,
     call: Call,
     reader: &mut S,
     size: usize,
     workers: usize,
+    gate: &G,
     notes: &mut LoadNotes,
 ) -> Result<(u64, u64, u64), ReaderFault>
     requires size { 1 ≤ size }
     requires workers { (1 ≤ workers) × (workers ≤ 64) }
 {
     match call {
-        Call::Load => counts(load_reader(rt, alloc, size, reader, workers, &OpenGate, notes)),
+        Call::Load => counts(load_reader(rt, alloc, size, reader, workers, gate, notes)),
         Call::Count => {
-            let counted = count_reader(rt, alloc, size, reader, workers, &OpenGate, notes)?;
+            let counted = count_reader(rt, alloc, size, reader, workers, gate, notes)?;
             Ok((counted.quads, counted.dict.len() as u64, counted.graphs))
         }
         Call::Terms => {
-            let dict = load_terms(rt, alloc, size, reader, workers, &OpenGate, notes)?;
+            let dict = load_terms(rt, alloc, size, reader, workers, gate, notes)?;
             Ok((0, dict.len() as u64, 0))
         }
     }
@@ -79,7 +71,16 @@ fn streamed<R: Threads + Wait + RandomSource>(
 {
     let mut reader = Device { inner: doc };
     let mut notes = LoadNotes::new();
-    let found = counts_of(rt, alloc, call, &mut reader, size, workers, &mut notes);
+    let found = counts_of(
+        rt,
+        alloc,
+        call,
+        &mut reader,
+        size,
+        workers,
+        &OpenGate,
+        &mut notes,
+    );
     let line = noted(alloc, &notes)?;
     format!(in alloc; "{found:?}, {}, {line}", notes.is_read)
 }
@@ -143,16 +144,30 @@ fn are_right<R: Threads + Wait + RandomSource + Print>(
     true
 }
 
+/// Returns whether each document is read as expected by each call. Prints the numbers if not.
+fn are_right_by_each<R: Threads + Wait + RandomSource + Print>(
+    rt: &R,
+    alloc: Global,
+    size: usize,
+    workers: usize,
+) -> bool
+    requires size { 1 ≤ size }
+    requires workers { (1 ≤ workers) × (workers ≤ 64) }
+{
+    let are_right = are_right(rt, alloc, Call::Load, size, workers)
+        && are_right(rt, alloc, Call::Count, size, workers)
+        && are_right(rt, alloc, Call::Terms, size, workers);
+    if !are_right {
+        let _ = println!(rt; "blocks of {size} bytes, {workers} workers");
+    }
+    are_right
+}
+
 #[test]
 fn a_reader_loads_as_the_document(rt: HostRuntime) {
-    for (size, workers) in [(1, 1), (1, 2), (65536, 4)] {
-        for call in [Call::Load, Call::Count, Call::Terms] {
-            assert!(rt;
-                are_right(&rt, rt.alloc(), call, size, workers),
-                "blocks of {size} bytes, {workers} workers"
-            );
-        }
-    }
+    assert!(rt; are_right_by_each(&rt, rt.alloc(), 1, 1));
+    assert!(rt; are_right_by_each(&rt, rt.alloc(), 1, 2));
+    assert!(rt; are_right_by_each(&rt, rt.alloc(), 65536, 4));
 }
 
 /// A document that is read in two rounds: 144 comments of 64 KiB, and then a malformed line.
@@ -178,7 +193,16 @@ fn two_rounds_of_a_reader<R: Threads + Wait + RandomSource>(
     };
     let gate = Counter::new();
     let mut notes = LoadNotes::new();
-    let found = counts(load_reader(rt, alloc, 65536, &mut reader, 1, &gate, &mut notes));
+    let found = counts_of(
+        rt,
+        alloc,
+        Call::Load,
+        &mut reader,
+        65536,
+        1,
+        &gate,
+        &mut notes,
+    );
     let line = noted(alloc, &notes)?;
     format!(in alloc; "{found:?}, {line}, {}, {}", gate.entered(), gate.sum())
 }
@@ -190,16 +214,9 @@ fn two_rounds_of_pieces<R: Threads + Wait + RandomSource>(
     alloc: Global,
 ) -> Result<String, AllocError> {
     let doc = two_rounds(alloc)?;
-    let cuts = Cuts::every(alloc, doc.as_slice(), 65536)?;
     let gate = Counter::new();
-    let found = fault(load(rt, alloc, doc.as_slice(), &cuts, 1, &gate));
+    let found = counts(loaded(rt, alloc, doc.as_slice(), 65536, 1, &gate));
     format!(in alloc; "{found:?}, {}, {}", gate.entered(), gate.sum())
-}
-
-/// Returns the fault.
-fn fault(loaded: Result<Store, LoadFault>) -> Result<(), LoadFault> {
-    let _store = loaded?;
-    Ok(())
 }
 
 /// A line is counted over the rounds, and a gate gets the number of a piece in the document: 145 pieces, whose numbers
@@ -240,7 +257,16 @@ fn failing<R: Threads + Wait + RandomSource>(
 ) -> Result<String, AllocError> {
     let mut reader = SliceSource::failing_after(doc, 8192, until);
     let mut notes = LoadNotes::new();
-    let found = counts_of(rt, alloc, call, &mut reader, 65536, 2, &mut notes);
+    let found = counts_of(
+        rt,
+        alloc,
+        call,
+        &mut reader,
+        65536,
+        2,
+        &OpenGate,
+        &mut notes,
+    );
     format!(in alloc; "{found:?}, {}", reader.failed)
 }
 

@@ -1,4 +1,5 @@
-//! What a failed allocation leaves, or a worker thread that could not be started.
+//! What is left if an allocation fails, or if a worker thread cannot be started.
 mod dictionary;
 mod documents;
 mod index;
+mod pools;

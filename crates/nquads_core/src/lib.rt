@@ -16,7 +16,7 @@
 //! ```text
 //! let piece = read_piece(alloc, b"<http://e/a> <http://e/p> \"x\"@en-GB.\n")?;
 //! ```
-//! returns one quad and one line. The crates `line_tests` and `loading_tests` run tables of lines like this one.
+//! returns one quad and one line. The crate `loading_tests` runs tables of lines like this one.
 //!
 //! Not promised: full checking of IRIs, or that a language tag is registered.
 #![tactic(auto)]

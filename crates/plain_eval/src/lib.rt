@@ -11,7 +11,7 @@
 //! Reading order: `solution` (one solution), `condition` (the condition of a filter and the value
 //! of an extension), `expressions` (the expressions of a plan), `lists`, `terms`, `dataset` (graphs
 //! and their names), `places`, `patterns` (basic graph patterns), `operators`, `evaluation`. Tests:
-//! `operators` and `solutions` of the crate algebra_tests.
+//! `operators` and `solutions` of the crate query_tests.
 //!
 //! Not included: the order of rows, LIMIT and OFFSET. Not guaranteed: speed, and enough stack. The
 //! functions copy terms, and most of them recurse once for each solution. A basic graph pattern

@@ -1,4 +1,4 @@
-//! Cases of the tests: texts, and the expected output for each.
+//! Cases of the tests of the query reader: texts, and the expected output for each.
 use crate::{declarations, expressions, productions, terminals, texts};
 use std::alloc::{AllocError, Global};
 
@@ -59,7 +59,7 @@ fn printed(alloc: Global, reader: Reader, text: &str) -> Result<String, AllocErr
 }
 
 /// Returns whether the two are equal. Prints the case and both if they are not.
-fn is_same<R: Print>(rt: &R, case: &str, expected: &str, found: &str) -> bool {
+pub(crate) fn is_same<R: Print>(rt: &R, case: &str, expected: &str, found: &str) -> bool {
     if found == expected {
         return true;
     }

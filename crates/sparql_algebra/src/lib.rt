@@ -15,7 +15,7 @@
 //!
 //! Reading order: `operator`, `plan` (the tree); `names`, `naming` (the variables of a query and
 //! their numbers); `conversion`, `pattern`, `table`, `constructors`, `part`, `addition`, `group`,
-//! `translation` (a query, element by element). Tests: the crate algebra_tests.
+//! `translation` (a query, element by element). Tests: `plans` of the crate query_tests.
 //!
 //! ```text
 //! translate(alloc, &query)   // SELECT ?x { ?x ?p ?o FILTER (?o < 3) }:

@@ -11,7 +11,7 @@
 //! 3.3 and 3.4 (lexical forms of numbers and booleans).
 //!
 //! Reading order: `digits`, `number`, `literal`, `comparison`. Tests: `comparisons` of the crate
-//! algebra_tests.
+//! query_tests.
 //!
 //! ```text
 //! compare(Comparison::Equal, &one, &one_point_zero)   // "01"^^xsd:integer and 1.0: Some(true)

@@ -5,124 +5,67 @@
 //! worker threads. At most one of them fails in a run, so a second try must succeed.
 ghost use Rattle.std.specs.Prelude.{◌≤◌};
 
-use crate::documents::{BAD, Counts, GRAPHS, NUMBERED, REPEATED, TAGGED, TWO_LINES, TYPED, counts};
-use dataset_load::{
-    LoadFault, LoadNotes, ReaderFault, count_reader, load, load_blocks, load_reader, read_blocks,
+use crate::documents::{
+    BAD, Counts, GRAPHS, NUMBERED, REPEATED, TAGGED, TWO_LINES, TYPED, counts, loaded,
+    loaded_blocks,
 };
-use nquads_core::{Device, ReadFault};
-use piece_cuts::Cuts;
-use piece_pool::Gate;
+use crate::readers::{Call, counts_of};
+use dataset_load::{LoadFault, LoadNotes, ReaderFault};
+use nquads_core::Device;
 use std::alloc::Global;
 use std::random::RandomSource;
 use std::sync::Wait;
-use std::sync::atomic::{AtomicU64, Ordering};
 use std::thread::Threads;
+use test_fixtures::Counter;
 
-/// Counts the pieces that entered and those that left.
-#[derive(Drop)]
-struct Passages {
-    entered: AtomicU64,
-    left: AtomicU64,
+/// How a document is read.
+#[derive(Clone, Copy)]
+enum Manner {
+    /// It is loaded line by line.
+    Lines,
+    /// It is loaded in blocks.
+    Blocks,
+    /// A call reads it from a reader.
+    Reader(Call),
 }
 
-impl Gate for Passages {
-    fn enter(&self, _i: u64) {
-        self.entered.fetch_add(1, Ordering::SeqCst);
-    }
-
-    fn leave(&self, _i: u64) {
-        self.left.fetch_add(1, Ordering::SeqCst);
-    }
-}
-
-impl Passages {
-    fn none() -> Passages {
-        Passages {
-            entered: AtomicU64::new(0),
-            left: AtomicU64::new(0),
-        }
-    }
-
-    fn is_balanced(&self) -> bool {
-        self.entered.load(Ordering::SeqCst) == self.left.load(Ordering::SeqCst)
-    }
-}
-
-/// Loads the document line by line, and returns its counts.
-fn by_lines<R: Threads + Wait + RandomSource>(
+/// Reads the document from a reader, and returns its counts. A failed read, which cannot occur, is a malformed line 0.
+fn from_reader<R: Threads + Wait + RandomSource>(
     rt: &R,
     alloc: Global,
+    call: Call,
     doc: &[u8],
     workers: usize,
-    gate: &Passages,
-) -> Counts
-    requires workers { (1 ≤ workers) × (workers ≤ 64) }
-{
-    let cuts = Cuts::every(alloc, doc, 1)?;
-    counts(load(rt, alloc, doc, &cuts, workers, gate))
-}
-
-/// Loads the document in blocks, and returns its counts.
-fn by_blocks<R: Threads + Wait + RandomSource>(
-    rt: &R,
-    alloc: Global,
-    doc: &[u8],
-    workers: usize,
-    gate: &Passages,
-) -> Counts
-    requires workers { (1 ≤ workers) × (workers ≤ 64) }
-{
-    let mut reader = Device { inner: doc };
-    match read_blocks(alloc, 1, &mut reader) {
-        Ok(blocks) => counts(load_blocks(rt, alloc, blocks.as_slice(), workers, gate)),
-        Err(ReadFault::Memory) => Err(LoadFault::Memory),
-        Err(ReadFault::Read) => Err(LoadFault::BadLine(0)),
-    }
-}
-
-/// Returns the fault of a load in place of the fault of a reader.
-fn load_fault(fault: ReaderFault) -> LoadFault {
-    match fault {
-        ReaderFault::BadLine(line) => LoadFault::BadLine(line),
-        ReaderFault::WorkerRefused => LoadFault::WorkerRefused,
-        ReaderFault::Memory => LoadFault::Memory,
-        ReaderFault::Read => LoadFault::BadLine(0),
-    }
-}
-
-/// Loads the document from a reader, and returns its counts.
-fn by_reader<R: Threads + Wait + RandomSource>(
-    rt: &R,
-    alloc: Global,
-    doc: &[u8],
-    workers: usize,
-    gate: &Passages,
+    gate: &Counter,
 ) -> Counts
     requires workers { (1 ≤ workers) × (workers ≤ 64) }
 {
     let mut reader = Device { inner: doc };
     let mut notes = LoadNotes::new();
-    match load_reader(rt, alloc, 1, &mut reader, workers, gate, &mut notes) {
-        Ok(store) => Ok((store.quads(), store.terms(), store.graphs())),
-        Err(fault) => Err(load_fault(fault)),
+    match counts_of(rt, alloc, call, &mut reader, 1, workers, gate, &mut notes) {
+        Ok(counts) => Ok(counts),
+        Err(ReaderFault::BadLine(line)) => Err(LoadFault::BadLine(line)),
+        Err(ReaderFault::WorkerRefused) => Err(LoadFault::WorkerRefused),
+        Err(ReaderFault::Memory) => Err(LoadFault::Memory),
+        Err(ReaderFault::Read) => Err(LoadFault::BadLine(0)),
     }
 }
 
-/// Counts the document from a reader.
-fn by_counting<R: Threads + Wait + RandomSource>(
+/// Reads the document, and returns its counts.
+fn read<R: Threads + Wait + RandomSource>(
     rt: &R,
     alloc: Global,
+    manner: Manner,
     doc: &[u8],
     workers: usize,
-    gate: &Passages,
+    gate: &Counter,
 ) -> Counts
     requires workers { (1 ≤ workers) × (workers ≤ 64) }
 {
-    let mut reader = Device { inner: doc };
-    let mut notes = LoadNotes::new();
-    match count_reader(rt, alloc, 1, &mut reader, workers, gate, &mut notes) {
-        Ok(counted) => Ok((counted.quads, counted.dict.len() as u64, counted.graphs)),
-        Err(fault) => Err(load_fault(fault)),
+    match manner {
+        Manner::Lines => counts(loaded(rt, alloc, doc, 1, workers, gate)),
+        Manner::Blocks => counts(loaded_blocks(rt, alloc, doc, 1, workers, gate)),
+        Manner::Reader(call) => from_reader(rt, alloc, call, doc, workers, gate),
     }
 }
 
@@ -137,109 +80,50 @@ fn lacks_resources<R: Print>(rt: &R, counts: &Counts) -> bool {
     true
 }
 
-/// Returns whether the document, loaded line by line, has these counts, at the second try if an allocation or a
-/// start fails. After each of these loads, each piece that entered the gate must have left it.
-fn lines_come_to<R: Threads + Wait + RandomSource + Print>(
-    rt: &R,
-    alloc: Global,
-    doc: &[u8],
-    workers: usize,
-    expected: Counts,
-) -> bool
-    requires workers { (1 ≤ workers) × (workers ≤ 64) }
-{
-    let gate = Passages::none();
-    let mut given = by_lines(rt, alloc, doc, workers, &gate);
-    if lacks_resources(rt, &given) {
-        if !gate.is_balanced() {
-            return false;
-        }
-        given = by_lines(rt, alloc, doc, workers, &gate);
-    }
-    given == expected && gate.is_balanced()
-}
-
-/// Does the same with the document in blocks.
-fn blocks_come_to<R: Threads + Wait + RandomSource + Print>(
-    rt: &R,
-    alloc: Global,
-    doc: &[u8],
-    workers: usize,
-    expected: Counts,
-) -> bool
-    requires workers { (1 ≤ workers) × (workers ≤ 64) }
-{
-    let gate = Passages::none();
-    let mut given = by_blocks(rt, alloc, doc, workers, &gate);
-    if lacks_resources(rt, &given) {
-        if !gate.is_balanced() {
-            return false;
-        }
-        given = by_blocks(rt, alloc, doc, workers, &gate);
-    }
-    given == expected && gate.is_balanced()
-}
-
-/// Does the same with the document from a reader.
-fn reader_comes_to<R: Threads + Wait + RandomSource + Print>(
-    rt: &R,
-    alloc: Global,
-    doc: &[u8],
-    workers: usize,
-    expected: Counts,
-) -> bool
-    requires workers { (1 ≤ workers) × (workers ≤ 64) }
-{
-    let gate = Passages::none();
-    let mut given = by_reader(rt, alloc, doc, workers, &gate);
-    if lacks_resources(rt, &given) {
-        if !gate.is_balanced() {
-            return false;
-        }
-        given = by_reader(rt, alloc, doc, workers, &gate);
-    }
-    given == expected && gate.is_balanced()
-}
-
-/// Does the same with a document that is counted.
-fn counting_comes_to<R: Threads + Wait + RandomSource + Print>(
-    rt: &R,
-    alloc: Global,
-    doc: &[u8],
-    workers: usize,
-    expected: Counts,
-) -> bool
-    requires workers { (1 ≤ workers) × (workers ≤ 64) }
-{
-    let gate = Passages::none();
-    let mut given = by_counting(rt, alloc, doc, workers, &gate);
-    if lacks_resources(rt, &given) {
-        if !gate.is_balanced() {
-            return false;
-        }
-        given = by_counting(rt, alloc, doc, workers, &gate);
-    }
-    given == expected && gate.is_balanced()
-}
-
-/// Does each of these, with one worker and with two.
+/// Returns whether the document has these counts, at the second try if an allocation or a start fails. After each try,
+/// each piece that entered the gate must have left it.
 fn comes_to<R: Threads + Wait + RandomSource + Print>(
+    rt: &R,
+    alloc: Global,
+    manner: Manner,
+    doc: &[u8],
+    workers: usize,
+    expected: Counts,
+) -> bool
+    requires workers { (1 ≤ workers) × (workers ≤ 64) }
+{
+    let gate = Counter::new();
+    let mut given = read(rt, alloc, manner, doc, workers, &gate);
+    if lacks_resources(rt, &given) {
+        if !gate.is_balanced() {
+            return false;
+        }
+        given = read(rt, alloc, manner, doc, workers, &gate);
+    }
+    given == expected && gate.is_balanced()
+}
+
+/// Every manner, with one worker and with two.
+const MANNERS: &[(Manner, usize)] = &[
+    (Manner::Lines, 1),
+    (Manner::Blocks, 1),
+    (Manner::Reader(Call::Load), 1),
+    (Manner::Reader(Call::Count), 1),
+    (Manner::Lines, 2),
+    (Manner::Blocks, 2),
+    (Manner::Reader(Call::Load), 2),
+    (Manner::Reader(Call::Count), 2),
+];
+
+/// Returns whether the document has these counts in every manner.
+fn always_comes_to<R: Threads + Wait + RandomSource + Print>(
     rt: &R,
     alloc: Global,
     doc: &[u8],
     expected: Counts,
 ) -> bool {
-    for workers in [1, 2] {
-        if !lines_come_to(rt, alloc, doc, workers, expected) {
-            return false;
-        }
-        if !blocks_come_to(rt, alloc, doc, workers, expected) {
-            return false;
-        }
-        if !reader_comes_to(rt, alloc, doc, workers, expected) {
-            return false;
-        }
-        if !counting_comes_to(rt, alloc, doc, workers, expected) {
+    for (manner, workers) in MANNERS {
+        if !comes_to(rt, alloc, *manner, doc, *workers, expected) {
             return false;
         }
     }
@@ -251,34 +135,37 @@ fn comes_to<R: Threads + Wait + RandomSource + Print>(
 fn a_good_document_is_loaded_or_memory_runs_out(rt: HostRuntime) {
     let alloc = rt.alloc();
     assert!(rt;
-        comes_to(&rt, alloc, REPEATED, Ok((2, 4, 0))),
+        always_comes_to(&rt, alloc, REPEATED, Ok((2, 4, 0))),
         "a repeated statement"
     );
-    assert!(rt; comes_to(&rt, alloc, GRAPHS, Ok((3, 7, 2))), "two graphs");
+    assert!(rt;
+        always_comes_to(&rt, alloc, GRAPHS, Ok((3, 7, 2))),
+        "two graphs"
+    );
 }
 
 #[test]
 fn escapes_are_loaded_or_memory_runs_out(rt: HostRuntime) {
-    assert!(rt; comes_to(&rt, rt.alloc(), TWO_LINES, Ok((2, 5, 0))));
+    assert!(rt; always_comes_to(&rt, rt.alloc(), TWO_LINES, Ok((2, 5, 0))));
 }
 
 #[test]
 fn typed_literals_are_loaded_or_memory_runs_out(rt: HostRuntime) {
-    assert!(rt; comes_to(&rt, rt.alloc(), TYPED, Ok((6, 9, 0))));
+    assert!(rt; always_comes_to(&rt, rt.alloc(), TYPED, Ok((6, 9, 0))));
 }
 
 #[test]
 fn plain_literals_are_loaded_or_memory_runs_out(rt: HostRuntime) {
-    assert!(rt; comes_to(&rt, rt.alloc(), NUMBERED, Ok((5, 9, 0))));
+    assert!(rt; always_comes_to(&rt, rt.alloc(), NUMBERED, Ok((5, 9, 0))));
 }
 
 #[test]
 fn a_tag_is_loaded_or_memory_runs_out(rt: HostRuntime) {
-    assert!(rt; comes_to(&rt, rt.alloc(), TAGGED, Ok((1, 3, 0))));
+    assert!(rt; always_comes_to(&rt, rt.alloc(), TAGGED, Ok((1, 3, 0))));
 }
 
 /// A document with a malformed line is never accepted, and the first malformed line is always the same.
 #[test]
 fn a_bad_document_is_rejected_or_memory_runs_out(rt: HostRuntime) {
-    assert!(rt; comes_to(&rt, rt.alloc(), BAD, Err(LoadFault::BadLine(3))));
+    assert!(rt; always_comes_to(&rt, rt.alloc(), BAD, Err(LoadFault::BadLine(3))));
 }

@@ -1,6 +1,6 @@
 //! Values of expressions over a row of one variable.
-use crate::cases::{Reader, are_all_right};
 use crate::plans::{Task, planned};
+use crate::tables::{Reader, are_all_right};
 use crate::terms::{XSD, read, shown};
 use rdf_core::Term;
 use sparql_algebra::{Expr, ExprFault, Lookup, Operator, Plan, test, value};

@@ -1,7 +1,7 @@
 use Rattle.std.proofs.Common.{rules, arith, suc}
 use Rattle.std.proofs.lemmas.List.Elements.{All-push}
 use Rattle.piece_board.specs.Board.{IsPassOf}
-use Rattle.worker_tests.proofs.boards.draw_in_turn.Goals as goal
+use Rattle.loading_tests.proofs.boards.draw_in_turn.Goals as goal
 
 pub loop-pass-preserved : goal.loop-pass-preserved
 loop-pass-preserved c =

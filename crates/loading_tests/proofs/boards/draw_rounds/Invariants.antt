@@ -1,6 +1,6 @@
 use Rattle.std.proofs.Common.{◌≡◌, All, vec_len}
 use Rattle.piece_board.specs.Board.{IsPassOf}
-use Rattle.worker_tests.proofs.boards.draw_rounds.Given as goal
+use Rattle.loading_tests.proofs.boards.draw_rounds.Given as goal
 
 abbrev pub invariant-loop : goal.invariant-loop
 invariant-loop l = record {

@@ -1,7 +1,7 @@
 //! One call of each operator of plain_eval. A given solution of two variables is a word of two
 //! characters: a letter is the blank node with that label, and `.` is an unbound variable.
-use crate::cases::{Reader, are_right};
 use crate::solutions::listed;
+use crate::tables::{Reader, are_right};
 use plain_eval::condition::{Condition, Value};
 use plain_eval::operators::{distinct, extend, filter, join, left_join, minus, project, union};
 use plain_eval::solution::Solution;

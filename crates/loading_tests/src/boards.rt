@@ -4,6 +4,7 @@ ghost use Rattle.piece_board.specs.Limits.{most_seats, most_pieces};
 ghost use Rattle.piece_board.specs.Board.{IsPassOf};
 ghost use Rattle.piece_board.specs.Pass.{unused};
 
+use crate::cases::holds;
 use piece_board::{Board, BoardFault, Closed, Pass};
 use std::alloc::{AllocError, Global};
 use std::thread;
@@ -218,26 +219,12 @@ fn told(alloc: Global, n: u64, script: &str) -> Result<String, BoardFault>
     Ok(shown(alloc, &found, &closed)?)
 }
 
-/// Returns whether a script on a board of `n` numbers is printed like this. Prints the script and both texts if not.
-fn is_told<R: Print>(rt: &R, alloc: Global, n: u64, script: &str, expected: &str) -> bool
-    requires pieces { n ≤ most_pieces }
-{
-    match told(alloc, n, script) {
-        Ok(text) => {
-            if text.as_str() != expected {
-                let _ = println!(rt; "{script}: expected {expected}, got {text}");
-            }
-            text.as_str() == expected
-        }
-        Err(_) => false,
-    }
-}
-
 /// A pass sees what the other pass reports, and skips larger numbers.
 #[test]
 fn a_skip_is_above_a_seen_report(rt: HostRuntime) {
     let expected = "0 1 2 1 1 2 3 1 3 - - 1 1 drawn 4 skipped 2 least 1";
-    assert!(rt; is_told(&rt, rt.alloc(), 4, "dDdRlsDLSdDfF", expected));
+    let script = "dDdRlsDLSdDfF";
+    assert!(rt; holds(&rt, script, expected, told(rt.alloc(), 4, script)));
 }
 
 /// With one number and two passes, the second pass to draw gets no number, and sees the report of
@@ -245,7 +232,7 @@ fn a_skip_is_above_a_seen_report(rt: HostRuntime) {
 #[test]
 fn one_piece_and_two_passes(rt: HostRuntime) {
     let expected = "0 - 0 0 drawn 1 skipped 0 least 0";
-    assert!(rt; is_told(&rt, rt.alloc(), 1, "dDrL", expected));
+    assert!(rt; holds(&rt, "dDrL", expected, told(rt.alloc(), 1, "dDrL")));
 }
 
 /// Draws once with each pass that is not finished.

@@ -1,7 +1,7 @@
 //! Queries and their plans (SPARQL 1.1 Query Language, section 18.2).
-use crate::cases::{Reader, are_right};
-use crate::expressions::{Asked, Row, answer};
 use crate::solutions::{solved, tabulated};
+use crate::tables::{Reader, are_right};
+use crate::values::{Asked, Row, answer};
 use sparql_algebra::{Plan, translate};
 use sparql_read::read_query;
 use sparql_tree::Query;

@@ -1,6 +1,6 @@
 use Rattle.std.proofs.Common.{◌≡◌, ◌-◌, length}
 use Rattle.piece_board.specs.Board.{IsPassOf}
-use Rattle.worker_tests.proofs.boards.draw_all.Given as goal
+use Rattle.loading_tests.proofs.boards.draw_all.Given as goal
 
 abbrev pub invariant-loop-count : goal.invariant-loop-count
 invariant-loop-count l = IsPassOf l.board l.pass × (l.pass.history.finished ≡ 0)

@@ -1,7 +1,7 @@
 //! Queries and their solutions over a document, according to plain_eval. Examples from the SPARQL
 //! 1.1 Query Language name its section.
-use crate::cases::{Reader, are_all_right};
 use crate::plans::{Task, plan_of, planned};
+use crate::tables::{Reader, are_all_right};
 use crate::terms::{push_cell, read};
 use nquads_core::{PieceFault, read_piece};
 use plain_eval::dataset::{graph, names};

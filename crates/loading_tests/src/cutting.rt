@@ -93,30 +93,31 @@ fn pieces_at(alloc: Global, places: &[usize]) -> Result<String, AllocError> {
     }
 }
 
-/// Returns whether the places cut the document like this. Prints the places if not.
-fn is_cut_at<R: Print>(rt: &R, alloc: Global, places: &[usize], expected: &str) -> bool {
-    if is_text(
-        rt,
-        DOCUMENT,
-        places.len(),
-        expected,
-        pieces_at(alloc, places),
-    ) {
-        return true;
+/// Places, and the pieces of the document that is split at them.
+const PLACES: &[(&[usize], &str)] = &[
+    (&[2, 5], "|a\n|b\n\n|c"),
+    (&[], "|a\nb\n\nc"),
+    (&[0], "none"),
+    (&[3], "none"),
+    (&[6], "none"),
+    (&[2, 2], "none"),
+];
+
+/// Returns whether the places cut the document like this. Prints the first that do not.
+fn are_cut_at<R: Print>(rt: &R, alloc: Global) -> bool {
+    for (places, expected) in PLACES {
+        let found = pieces_at(alloc, *places);
+        if !is_text(rt, DOCUMENT, places.len(), *expected, found) {
+            let _ = println!(rt; "at {places:?}");
+            return false;
+        }
     }
-    let _ = println!(rt; "at {places:?}");
-    false
+    true
 }
 
 #[test]
 fn given_places_are_taken_where_they_cut(rt: HostRuntime) {
-    let alloc = rt.alloc();
-    assert!(rt; is_cut_at(&rt, alloc, &[2, 5], "|a\n|b\n\n|c"));
-    assert!(rt; is_cut_at(&rt, alloc, &[], "|a\nb\n\nc"));
-    assert!(rt; is_cut_at(&rt, alloc, &[0], "none"));
-    assert!(rt; is_cut_at(&rt, alloc, &[3], "none"));
-    assert!(rt; is_cut_at(&rt, alloc, &[6], "none"));
-    assert!(rt; is_cut_at(&rt, alloc, &[2, 2], "none"));
+    assert!(rt; are_cut_at(&rt, rt.alloc()));
 }
 
 /// Appends the next block after a bar, or `.` at the end, or `!` if the reader failed.

@@ -1,7 +1,7 @@
 use Rattle.std.proofs.Common.{◌≡◌, ◌+◌, All, vec_len}
 use Rattle.std.specs.Vec.Iter.{into_iter_items, into_iter_len}
 use Rattle.piece_board.specs.Board.{IsPassOf}
-use Rattle.worker_tests.proofs.boards.draw_in_turn.Given as goal
+use Rattle.loading_tests.proofs.boards.draw_in_turn.Given as goal
 
 abbrev pub invariant-loop-pass : goal.invariant-loop-pass
 invariant-loop-pass l = record {

@@ -1,5 +1,5 @@
 //! Comparisons and effective boolean values of terms.
-use crate::cases::{Reader, are_all_right};
+use crate::tables::{Reader, are_all_right};
 use crate::terms::read;
 use rdf_core::Term;
 use sparql_algebra::{Comparison, compare, truth};

@@ -1,8 +1,9 @@
-//! Tables of cases. A line of a table is a case, `=>`, and the text that its reader prints for it.
+//! Tables of cases of the tests of the algebra. A line of a table is a case, `=>`, and the text that its reader prints for it.
 //! Empty lines and lines that begin with `#` are skipped.
-use crate::expressions::Asked;
+use crate::cases::is_same;
 use crate::plans::{Task, planned};
-use crate::{comparisons, expressions, operators, solutions};
+use crate::values::Asked;
+use crate::{comparisons, operators, solutions, values};
 use std::alloc::{AllocError, Global};
 
 /// What a reader prints for a case.
@@ -32,7 +33,7 @@ fn printed(alloc: Global, reader: Reader, case: &str) -> Result<String, AllocErr
     match reader {
         Reader::Comparison => comparisons::comparison(alloc, case),
         Reader::Truth => comparisons::truth_of(alloc, case),
-        Reader::Expression(asked) => expressions::answered(alloc, case, asked),
+        Reader::Expression(asked) => values::answered(alloc, case, asked),
         Reader::Plan => planned(alloc, case, Task::Show),
         Reader::Operator => operators::operated(alloc, case),
         Reader::Solutions => solutions::solutions(alloc, case),
@@ -40,14 +41,6 @@ fn printed(alloc: Global, reader: Reader, case: &str) -> Result<String, AllocErr
         Reader::BoundAgain => solutions::bound_again(alloc, case),
         Reader::Count => solutions::count_of(alloc, case),
     }
-}
-
-/// Returns whether the two texts are the same. Prints the case and both if they are not.
-fn is_same<R: Print>(rt: &R, case: &str, expected: &str, found: &str) -> bool {
-    if found != expected {
-        let _ = println!(rt; "{case}\n  expected {expected}\n  got      {found}");
-    }
-    found == expected
 }
 
 /// Returns whether the case of a line has its text. A line without a case is right.
