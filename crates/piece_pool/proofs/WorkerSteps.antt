@@ -1,5 +1,5 @@
 -- What one more draw, output or fault changes in the work so far.
-use Rattle.std.proofs.Common.{◌≡◌, ℕ, ◌+◌, ◌≤◌, List, [], ◌∷◌, ◌++◌, Contains, arith, ap, subst, ⊎_elim}
+use Rattle.std.proofs.Common.{◌≡◌, ℕ, ◌+◌, ◌<◌, ◌≤◌, List, [], ◌∷◌, ◌++◌, Contains, arith, ap, subst, ⊎_elim}
 use Rattle.std.proofs.lemmas.List.{map-append}
 use Rattle.std.proofs.lemmas.List.Sums.{sum_by-append}
 use Rattle.std.proofs.lemmas.List.Elements.{All-push, Contains-push, Contains-push_cases, Contains-append_left, Contains-append_right, Contains-append_cases}
@@ -26,6 +26,11 @@ IsNoMoreThan-fault outs failed draws i fault h x =
 pub CoversUpTo-done : (seen seen' i : ℕ) (draws done done' : List ℕ) → CoversUpTo seen draws done → seen' ≤ seen → ((j : ℕ) → Contains done j → Contains done' j) → Contains done' i → CoversUpTo seen' (draws ++ i ∷ []) done'
 CoversUpTo-done seen seen' i draws done done' h falls grows here j in' low =
     ⊎_elim (λ was. grows j (h j was (omega arith))) (λ is. subst (Contains done') is here) (Contains-push_cases draws i j in')
+
+-- a draw above what the pass has seen
+pub CoversUpTo-skipped : (seen seen' i : ℕ) (draws done : List ℕ) → CoversUpTo seen draws done → seen' ≤ seen → seen' < i → CoversUpTo seen' (draws ++ i ∷ []) done
+CoversUpTo-skipped seen seen' i draws done h falls above j in' low =
+    ⊎_elim (λ was. h j was (omega arith)) (λ is. absurd (omega (arith, is))) (Contains-push_cases draws i j in')
 
 pub Contains-output_old : {Out Fault : Type 0} (outs : List (ℕ × Out)) (failed : List (ℕ × Fault)) (i : ℕ) (out : Out) (j : ℕ) → Contains (done_of outs failed) j → Contains (done_of (outs ++ (i, out) ∷ []) failed) j
 Contains-output_old outs failed i out j h =

@@ -1,5 +1,5 @@
 //! Combines what the workers return.
-ghost use Rattle.std.specs.Prelude.{◌≡◌, ℕ, ◌<◌, ◌≤◌, IfOk, OnOk, map, IsSome, IsSomeAnd, Some, None, All, Contains, false, vec_len, slice_index_or};
+ghost use Rattle.std.specs.Prelude.{◌≡◌, ℕ, ◌+◌, ◌<◌, ◌≤◌, IfOk, OnOk, map, IsSome, IsSomeAnd, Some, None, All, Contains, false, vec_len, slice_index_or};
 ghost use Rattle.piece_pool.specs.Worked.{IsWorked, numbers_of};
 ghost use Rattle.piece_pool.specs.Outcome.{IsPoolOutcome};
 ghost use Rattle.piece_pool.specs.Collected.{IsCollected};
@@ -81,28 +81,48 @@ where
     ensures collected { IfOk result (λ c. IsCollected (J.answers job.now) (J.faults job.now)
         board.now c.passes.items c.outs.items c.faults.items) }
 {
-    let mut passes = Vec::with_capacity(alloc, board.seats())?;
-    let mut outs = Vec::new(alloc);
-    let mut faults = Vec::new(alloc);
+    let mut all = Collected {
+        passes: Vec::with_capacity(alloc, board.seats())?,
+        outs: Vec::new(alloc),
+        faults: Vec::new(alloc),
+    };
     for worked in works {
-        let Worked {
-            pass,
-            outs: mut more_outs,
-            faults: mut more_faults,
-            stopped,
-        } = worked;
-        if stopped {
-            return Err(AllocError);
-        }
-        passes.push(pass)?;
-        outs.append(&mut more_outs)?;
-        faults.append(&mut more_faults)?;
+        add_work(board, worked, job, &mut all)?;
     }
-    Ok(Collected {
-        passes,
-        outs,
-        faults,
-    })
+    Ok(all)
+}
+
+/// Adds the pass, the outputs and the faults of one worker.
+fn add_work<J: Job>(
+    board: &Board,
+    worked: Worked<J::Out, J::Fault>,
+    job: &J,
+    all: &mut Collected<J::Out, J::Fault>,
+) -> Result<(), AllocError>
+where
+    J::Out: Drop,
+    J::Fault: Drop,
+    requires work { IsWorked (J.answers job.now) (J.faults job.now) board.now worked }
+    requires collected { IsCollected (J.answers job.now) (J.faults job.now)
+        board.now all.old.passes.items all.old.outs.items all.old.faults.items }
+    ensures stopped { OnOk result (worked.stopped ≡ false) }
+    ensures count { OnOk result (vec_len all.new.passes ≡ vec_len all.old.passes + 1) }
+    ensures collected { OnOk result (IsCollected (J.answers job.now) (J.faults job.now)
+        board.now all.new.passes.items all.new.outs.items all.new.faults.items) }
+{
+    let Worked {
+        pass,
+        mut outs,
+        mut faults,
+        stopped,
+    } = worked;
+    if stopped {
+        return Err(AllocError);
+    }
+    all.passes.push(pass)?;
+    all.outs.append(&mut outs)?;
+    all.faults.append(&mut faults)?;
+    Ok(())
 }
 
 /// Returns the outputs in the order of their numbers.

@@ -1,8 +1,8 @@
 -- A prefix of blocks that follow each other.
-use Rattle.std.proofs.Common.{◌≡◌, ℕ, suc, ◌<◌, List, ◌∷◌, ◌++◌, length, get_or, take, drop, Option, Result, Vec, Global, sym, ap, ◌∙◌, subst}
+use Rattle.std.proofs.Common.{◌≡◌, ℕ, suc, ◌+◌, ◌<◌, List, [], ◌∷◌, ◌++◌, length, get_or, take, drop, Option, Result, Vec, Global, sym, ap, ◌∙◌, subst, append-nil}
 use Rattle.std.specs.Io.KnownBytes.{Appends}
 use Rattle.std.proofs.Math.Seq.{drop-cons}
-use Rattle.std.proofs.lemmas.List.{take-append-drop}
+use Rattle.std.proofs.lemmas.List.{take_more, take-append-drop}
 use Rattle.std.proofs.lemmas.List.Concat.{flat_map-append}
 use Rattle.nquads_core.specs.Transfer.{WroteBeginning}
 use Rattle.result_json.specs.Results.{joined_blocks}
@@ -36,3 +36,11 @@ block_failed gives a b c blocks i block text writer low at is h w =
     let failed : WriterFailed gives b c block.items writer = subst (λ (t : List ℕ). WriterFailed gives b c t writer) is w in
     subst (λ (t : List ℕ). WriterFailed gives a c t writer) (sym (joined_split blocks i block low at))
     (back_failed gives a b c (joined_blocks (take i blocks)) (block.items ++ back) writer h (front_failed gives b c block.items back writer failed))
+
+-- one more block is joined
+pub block_joined : (blocks : List (Vec ℕ Global)) (i : ℕ) (block : Vec ℕ Global) (text bytes bytes' : List ℕ) → i < length blocks → block ≡ get_or blocks i block → text ≡ block.items
+    → bytes ≡ joined_blocks (take i blocks) → bytes' ≡ bytes ++ text → bytes' ≡ joined_blocks (take (i + 1) blocks)
+block_joined blocks i block text bytes bytes' low at is was more =
+    let e : take (i + 1) blocks ≡ take i blocks ++ block ∷ [] = take_more blocks i block low ∙ ap (λ (b : Vec ℕ Global). take i blocks ++ b ∷ []) (sym at) in
+    more ∙ (λ k. was k ++ is k) ∙ ap (λ (x : List ℕ). joined_blocks (take i blocks) ++ x) (sym (append-nil block.items))
+    ∙ sym (flat_map-append (λ (b : Vec ℕ Global). b.items) (take i blocks) (block ∷ [])) ∙ ap joined_blocks (sym e)

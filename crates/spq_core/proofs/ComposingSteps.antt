@@ -1,19 +1,21 @@
 -- How composing an output follows from loading a document, and a run from composing.
-use Rattle.std.proofs.Common.{◌≡◌, inr, ℕ, List, Option, Result, Ok, Err, Vec, Global, length, refl, ◌∙◌}
+use Rattle.std.proofs.Common.{◌≡◌, inr, ℕ, List, Option, Result, Ok, Err, Vec, Global, length, refl, sym, subst, ◌∙◌}
 use Rattle.std.specs.Result.{IfOk, IfErr}
 use Rattle.nquads_core.specs.declared.device.DeviceFailed.{DeviceFailed}
-use Rattle.nquads_core.specs.Transfer.{IsReadInPart}
+use Rattle.std.specs.Io.KnownBytes.{Appends}
+use Rattle.nquads_core.specs.Device.{Stays}
+use Rattle.nquads_core.specs.Transfer.{IsReadInPart, WroteBeginning}
 use Rattle.rdf_core.specs.declared.term.Term.{Term}
 use Rattle.dataset_load.specs.declared.counted.Counted.{Counted}
 use Rattle.dataset_load.specs.Store.{StoreView}
 use Rattle.dataset_load.specs.Counted.{AreTermsFrom, IsCountedFrom}
 use Rattle.result_json.specs.Results.{joined_blocks}
-use Rattle.spq_core.specs.Output.{Request, check, terms}
+use Rattle.spq_core.specs.Output.{Request, select, check, terms}
 use Rattle.spq_core.specs.Listing.{counts_line, term_lines}
-use Rattle.spq_core.specs.Run.{IsAnswerable, IsBadLineFrom, IsBadLineOf, IsComposed, IsComposing, IsLoadedFrom, IsLoading, IsRun}
+use Rattle.spq_core.specs.Run.{IsAnswerable, IsBadLineFrom, IsBadLineOf, IsComposed, IsComposing, IsLoadedFrom, IsLoading, IsRun, WriterFailed}
 use Rattle.spq_core.proofs.DocumentSteps.{composed_check, composed_terms}
 use Rattle.spq_core.specs.declared.program.RunFault.{RunFault}
-use Rattle.spq_core.specs.declared.program.RunFault.TheVariants.{Memory}
+use Rattle.spq_core.specs.declared.program.RunFault.TheVariants.{Memory, WorkerRefused, Write}
 
 pub part_loaded : (left left' : Option (List ℕ)) (store : StoreView) → IsLoadedFrom left left' store → IsReadInPart left left'
 part_loaded left left' store h = record { taken = h.doc; consumed = h.consumed }
@@ -67,6 +69,23 @@ module _ {S T : Type 0} (left : S → Option (List ℕ)) (failures : S → Optio
     one_worker = λ a e. cc;
   }
 
+  -- a worker could not be started
+  pub not_started : (value : T) → IsAnswerable request → IsReadInPart (left reader) (left reader') → IsLoading left failures loads alone reader reader' (Ok value) → (alone → ⊥)
+      → IsComposing left failures request alone reader reader' (Err WorkerRefused)
+  not_started value answerable part h several = record {
+    composed = tt;
+    query = λ q e. absurd (cc);
+    query_first = inr answerable;
+    answerable = λ e. answerable;
+    bad_line = λ n e. absurd (cc);
+    taken = part;
+    read = λ e. absurd (cc);
+    unfailed = λ other. h.unfailed (λ e. cc);
+    write = λ e. cc;
+    line = λ e. cc;
+    one_worker = λ a e. several a;
+  }
+
 module _ {S : Type 0} (left : S → Option (List ℕ)) (failures : S → Option ℕ) (alone : Type 0) (reader reader' : S) where
   pub counted : (counts : Counted) → IsLoading left failures IsCountedFrom alone reader reader' (Ok counts) → (result : Result (Vec (Vec ℕ Global) Global) RunFault)
       → IfOk result (λ blocks. joined_blocks blocks.items ≡ counts_line counts.quads (length counts.dict) counts.graphs) → IfErr result (λ f. f ≡ Memory)
@@ -103,3 +122,51 @@ not_composed left failures held write_failures gives request alone reader reader
   unwritten = λ other. refl;
   line = λ e. h.line (cc);
 }
+
+-- what was composed says that the command can be done
+composed_answerable : (request : Request) (left left' : Option (List ℕ)) (text : List ℕ) → IsComposed request left left' text → IsAnswerable request
+composed_answerable (select query) left left' text h = (h.output.query, h.output.read)
+composed_answerable check left left' text h = tt
+composed_answerable terms left left' text h = tt
+
+composed_borrowed : (request : Request) (left left' : Option (List ℕ)) (blocks : Vec (Vec ℕ Global) Global) (borrowed : List (Vec ℕ Global)) → borrowed ≡ blocks.items
+    → IsComposed request left left' (joined_blocks blocks.items) → IsComposed request left left' (joined_blocks borrowed)
+composed_borrowed request left left' blocks borrowed is h = subst (λ (bs : List (Vec ℕ Global)). IsComposed request left left' (joined_blocks bs)) (sym is) h
+
+module _ {S K T : Type 0} (left : S → Option (List ℕ)) (failures : S → Option ℕ) (held : K → Option (List ℕ)) (write_failures : K → Option ℕ) (gives : K → List ℕ → Result ℕ DeviceFailed → K → Type 0)
+    (request : Request) (alone : Type 0) (reader reader' : S) (writer writer' : K) (blocks : Vec (Vec ℕ Global) Global) (borrowed : List (Vec ℕ Global)) (is : borrowed ≡ blocks.items)
+    (h : IsComposing left failures request alone reader reader' (Ok blocks)) where
+  -- all blocks were written
+  pub run_done : (value : T) → Appends (held writer) (held writer') (joined_blocks borrowed) → Stays (write_failures writer) (write_failures writer') → IsRun left failures held write_failures gives request reader reader' writer writer' (Ok value)
+  run_done value written stays = record {
+    done = record { text = joined_blocks borrowed; composed = composed_borrowed request (left reader) (left reader') blocks borrowed is h.composed; written = written };
+    query = λ q e. absurd (cc);
+    query_first = tt;
+    bad_line = λ n e. absurd (cc);
+    taken = tt;
+    read = λ e. absurd (cc);
+    unfailed = λ other. h.unfailed (λ e. cc);
+    write = λ e. absurd (cc);
+    write_count = stays;
+    unwritten = λ other. tt;
+    line = λ e. cc;
+  }
+
+  -- the writer failed
+  pub run_failed : WroteBeginning (held writer) (held writer') (joined_blocks borrowed) → WriterFailed gives (write_failures writer) (write_failures writer') (joined_blocks borrowed) writer'
+      → IsRun {T = T} left failures held write_failures gives request reader reader' writer writer' (Err Write)
+  run_failed part failed =
+      let c = composed_borrowed request (left reader) (left reader') blocks borrowed is h.composed in
+      record {
+        done = tt;
+        query = λ q e. absurd (cc);
+        query_first = inr (composed_answerable request (left reader) (left reader') (joined_blocks borrowed) c);
+        bad_line = λ n e. absurd (cc);
+        taken = record { taken = c.doc; consumed = c.consumed };
+        read = λ e. absurd (cc);
+        unfailed = λ other. h.unfailed (λ e. cc);
+        write = λ e. record { text = joined_blocks borrowed; composed = c; part = part; failed = failed };
+        write_count = tt;
+        unwritten = λ other. absurd (other refl);
+        line = λ e. cc;
+      }

@@ -1,5 +1,6 @@
 pub mod AnsweringSteps
 pub mod BlockSteps
+pub mod FaultSteps
 pub mod LoadingSteps
 pub mod ComposingSteps
 pub mod DocumentSteps

@@ -1,5 +1,5 @@
 -- A prefix of two texts that follow each other.
-use Rattle.std.proofs.Common.{◌⊎◌, inl, inr, ℕ, ◌+◌, ◌^◌, ◌-◌, ◌≤◌, List, [], ◌++◌, length, min, take, drop, Option, None, Some, Result, sym, ap, ◌∙◌, subst, arith, append_assoc, append-nil, length-drop}
+use Rattle.std.proofs.Common.{◌≡◌, ◌⊎◌, inl, inr, ℕ, ◌+◌, ◌^◌, ◌-◌, ◌≤◌, List, [], ◌++◌, length, min, take, drop, Option, None, Some, Result, OnOk, OnErr, sym, ap, ◌∙◌, subst, arith, append_assoc, append-nil, length-drop}
 use Rattle.std.proofs.Math.Seq.{take-append-add}
 use Rattle.std.proofs.lemmas.List.{take-append-le, take-append-drop, length-append}
 use Rattle.std.specs.Io.KnownBytes.{Appends}
@@ -7,7 +7,9 @@ use Rattle.nquads_core.proofs.TransferSteps.{Appends-more}
 use Rattle.nquads_core.specs.Device.{Rises, Stays}
 use Rattle.nquads_core.specs.Transfer.{TookNone, WroteBeginning}
 use Rattle.nquads_core.specs.declared.device.DeviceFailed.{DeviceFailed}
+use Rattle.spq_core.specs.Report.{fault_line}
 use Rattle.spq_core.specs.Run.{WriterFailed}
+use Rattle.spq_core.specs.declared.program.RunFault.{RunFault}
 
 pub front_begun : (a b : Option (List ℕ)) (front back : List ℕ) → WroteBeginning a b front → WroteBeginning a b (front ++ back)
 front_begun a b front back w =
@@ -93,3 +95,15 @@ back_failed gives a b c front back writer s (inr h) =
       },
       stays_stays a b c s h.1,
     )
+
+-- ---- a text that is the line of a fault
+
+module _ {T K : Type 0} (gives : K → List ℕ → Result ℕ DeviceFailed → K → Type 0) (f g : RunFault) (is : f ≡ g) (result : Result T DeviceFailed) where
+  pub line_written : (a b : Option (List ℕ)) → OnOk result (Appends a b (fault_line g)) → OnOk result (Appends a b (fault_line f))
+  line_written a b h = subst (λ (x : RunFault). OnOk result (Appends a b (fault_line x))) (sym is) h
+
+  pub line_begun : (a b : Option (List ℕ)) → OnErr result (WroteBeginning a b (fault_line g)) → OnErr result (WroteBeginning a b (fault_line f))
+  line_begun a b h = subst (λ (x : RunFault). OnErr result (WroteBeginning a b (fault_line x))) (sym is) h
+
+  pub line_failed : (a b : Option ℕ) (writer : K) → OnErr result (WriterFailed gives a b (fault_line g) writer) → OnErr result (WriterFailed gives a b (fault_line f) writer)
+  line_failed a b writer h = subst (λ (x : RunFault). OnErr result (WriterFailed gives a b (fault_line x) writer)) (sym is) h

@@ -1,5 +1,5 @@
 //! The result of a query over a document.
-ghost use Rattle.std.specs.Prelude.{◌≡◌, ◌-◌, ◌^◌, IfOk, IfErr, OnOk, Ok, length, min};
+ghost use Rattle.std.specs.Prelude.{◌≡◌, ◌-◌, ◌^◌, IfOk, IfErr, OnOk, Ok, length, min, unwrap_or};
 ghost use Rattle.std.specs.Str.{chars};
 ghost use Rattle.piece_cuts.specs.Cuts.{AreCuts};
 ghost use Rattle.dict_core.specs.NumQuad.{quads_at};
@@ -7,20 +7,26 @@ ghost use Rattle.row_pieces.specs.How.{IsRunnable, HasOneWorker};
 ghost use Rattle.row_pieces.specs.declared.fault.EvalFault.TheVariants.{Memory};
 ghost use Rattle.sparql_tree.specs.QueryTree.{QueryTree, query_of};
 ghost use Rattle.sparql_read.specs.Rejection.{IsValidQuery};
+ghost use Rattle.algebra_model.specs.RowOrder.{sorted_rows};
+ghost use Rattle.algebra_model.specs.Sorted.{slice};
 ghost use Rattle.sparql_algebra.specs.AlgebraOf.{algebra_of};
 ghost use Rattle.sparql_algebra.specs.Names.{names_of, selected_names};
+ghost use Rattle.sparql_algebra.specs.Projected.{projected};
 ghost use Rattle.sparql_algebra.specs.Translation.{translate};
+ghost use Rattle.sparql_eval.specs.Evaluated.{AreKnown, solutions_of};
 ghost use Rattle.spq_core.specs.Faults.{IsFaultOf, IsQueryFaultOf, IsOneWorkerFault};
 ghost use Rattle.spq_core.specs.Outcome.{IsQueryResult, rows};
-ghost use Rattle.result_json.specs.Results.{joined_blocks, json};
+ghost use Rattle.result_json.specs.Results.{joined_blocks, json, listed_names};
 
 use crate::fault::Fault;
 use crate::notes::{Log, NoProgress, Progress, Stage};
 use algebra_model::laws::{a_bag_has_one_sorted_list, a_dataset_is_a_set};
 use dataset_load::{Store, load};
+use dict_core::Dict;
 use piece_cuts::Cuts;
 use piece_pool::Gate;
 use result_json::{Table, print_rows};
+use row_core::Rows;
 use row_pieces::{EvalFault, How};
 use sparql_algebra::{Plan, translate};
 use sparql_eval::evaluate;
@@ -78,13 +84,23 @@ pub fn answer_query<R: Threads + Wait + RandomSource, G: Gate + Sync, P: Progres
     ensures one_worker { HasOneWorker how.now → IfErr result (λ fault. fault ≡ Memory) }
 {
     log.begin(Stage::Joining);
-    let plan = translate(alloc, query)?;
-    answer_plan(rt, alloc, store, query, &plan, how, gate, log)
+    match translate(alloc, query) {
+        Ok(plan) => {
+            let blocks = answer_plan(rt, alloc, store, query, &plan, how, gate, log);
+            drop(plan);
+            blocks
+        }
+        Err(_failed) => {
+            drop(store);
+            Err(EvalFault::Memory)
+        }
+    }
 }
 
 /// Evaluates the plan of a query over a loaded dataset, and prints its rows.
 ///
-/// The plan is only borrowed here: a function that owns a tree pays for its drop at each of its exits.
+/// The plan is only borrowed here, and each value that is owned here is dropped by a call: a function that owns a
+/// tree pays for its drop at each of its exits.
 fn answer_plan<R: Threads + Wait + RandomSource, G: Gate + Sync, P: Progress>(
     rt: &R,
     alloc: Global,
@@ -105,20 +121,50 @@ fn answer_plan<R: Threads + Wait + RandomSource, G: Gate + Sync, P: Progress>(
 {
     a_bag_has_one_sorted_list();
     let (dict, index) = store.into_parts();
-    let (rows, dict) = evaluate(rt, alloc, dict, &index, plan, how, gate)?;
+    let evaluated = evaluate(rt, alloc, dict, &index, plan, how, gate);
     drop(index);
-    log.evaluated(rows.len() == 0);
+    match evaluated {
+        Ok((rows, dict)) => {
+            let blocks = print_solutions(rt, alloc, query, plan, &rows, &dict, how, gate, log);
+            drop(rows);
+            drop(dict);
+            blocks
+        }
+        Err(fault) => Err(fault),
+    }
+}
+
+/// Prints the rows of a query's plan.
+fn print_solutions<R: Threads + Wait, G: Gate + Sync, P: Progress>(
+    rt: &R,
+    alloc: Global,
+    query: &Query,
+    plan: &Plan,
+    found: &Rows,
+    dict: &Dict,
+    how: &How,
+    gate: &G,
+    log: &mut Log<'_, P>,
+) -> Result<Vec<Vec<u8>>, EvalFault>
+    requires known { AreKnown dict.now found.now }
+    requires how { IsRunnable how.now }
+    ensures json { IfOk result (λ blocks. joined_blocks blocks.items
+        ≡ json (listed_names plan.now.names.items (projected (algebra_of plan.now.tree)))
+        (slice (unwrap_or (query_of query.now).offset 0) (query_of query.now).limit
+        (sorted_rows (projected (algebra_of plan.now.tree)) (solutions_of dict.now found.now)))) }
+    ensures one_worker { HasOneWorker how.now → IfErr result (λ fault. fault ≡ Memory) }
+{
+    log.evaluated(found.len() == 0);
     log.begin(Stage::Printing);
     let table = Table {
         names: &plan.names,
         listed: plan.projected(),
-        rows: &rows,
-        dict: &dict,
+        rows: found,
+        dict,
         offset: query.offset.unwrap_or(0),
         limit: query.limit,
     };
-    let blocks = print_rows(rt, alloc, &table, how, gate)?;
-    Ok(blocks)
+    print_rows(rt, alloc, &table, how, gate)
 }
 
 /// Returns the number of bytes of the blocks, or `usize::MAX` if there are more.

@@ -1,10 +1,13 @@
 //! The program: a command over a reader and a writer.
 ghost use Rattle.std.specs.Prelude.{◌≡◌, Err, IfErr, IfOk, OnErr, OnOk, length};
 ghost use Rattle.std.specs.Io.KnownBytes.{Appends};
+ghost use Rattle.std.specs.Str.{chars};
 ghost use Rattle.nquads_core.specs.Device.{Stays};
 ghost use Rattle.nquads_core.specs.Transfer.{WroteBeginning};
 ghost use Rattle.dataset_load.specs.Counted.{AreTermsFrom, IsCountedFrom};
 ghost use Rattle.dataset_load.specs.Streaming.{IsLoadedFrom};
+ghost use Rattle.sparql_tree.specs.QueryTree.{query_of};
+ghost use Rattle.sparql_read.specs.Rejection.{IsValidQuery};
 ghost use Rattle.result_json.specs.Results.{joined_blocks};
 ghost use Rattle.spq_core.specs.Output.{check, request_of, select, terms};
 ghost use Rattle.spq_core.specs.Listing.{counts_line, term_lines};
@@ -22,6 +25,7 @@ use nquads_core::{DeviceFailed, Sink, Source, write_all};
 use piece_pool::OpenGate;
 use row_pieces::{EvalFault, How};
 use sparql_read::QueryFault;
+use sparql_tree::Query;
 use spq_command::{Command, CommandFault, ReadOptions};
 use std::alloc::{AllocError, Global};
 use std::mem;
@@ -183,20 +187,40 @@ fn selected<R: Threads + Wait + RandomSource, S: Source, P: Progress>(
     ensures { IsComposing S.left S.failures (select query.now) (reading.workers ≡ 1)
         reader.old reader.new result }
 {
-    a_dataset_is_a_set();
-    a_bag_has_one_sorted_list();
-    let text = query;
-    let query = match valid_query(alloc, query) {
-        Ok(query) => query,
+    let valid = match valid_query(alloc, query) {
+        Ok(valid) => valid,
         Err(fault) => return Err(RunFault::from(fault)),
     };
+    let blocks = selected_by(rt, alloc, query, &valid, reading, rows, reader, log);
+    drop(valid);
+    blocks
+}
+
+/// Evaluates a query, which is the one of this text, over the rest of the reader. The query is only borrowed here: a
+/// function that owns a tree pays for its drop at each of its exits.
+fn selected_by<R: Threads + Wait + RandomSource, S: Source, P: Progress>(
+    rt: &R,
+    alloc: Global,
+    text: &str,
+    query: &Query,
+    reading: ReadOptions,
+    rows: usize,
+    reader: &mut S,
+    log: &mut Log<'_, P>,
+) -> Result<Vec<Vec<u8>>, RunFault>
+    requires valid { IsValidQuery (chars text.now) (query_of query.now) }
+    ensures { IsComposing S.left S.failures (select text.now) (reading.workers ≡ 1)
+        reader.old reader.new result }
+{
+    a_dataset_is_a_set();
+    a_bag_has_one_sorted_list();
     let store = load_document(rt, alloc, reading, reader, log)?;
     log.queried(alloc, text, &store);
     let how = How {
         workers: reading.workers,
         rows: rows.max(1),
     };
-    match answer_query(rt, alloc, store, &query, &how, &OpenGate, log) {
+    match answer_query(rt, alloc, store, query, &how, &OpenGate, log) {
         Ok(blocks) => Ok(blocks),
         Err(EvalFault::WorkerRefused) => Err(RunFault::WorkerRefused),
         Err(EvalFault::Memory) => Err(RunFault::Memory),

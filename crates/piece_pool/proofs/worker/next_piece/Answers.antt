@@ -1,5 +1,5 @@
-use Rattle.std.proofs.Common.{rules, length-append, ◌∷◌, []}
-use Rattle.piece_pool.proofs.WorkerSteps.{IsWorkOf-draw, IsWorkOf-output, IsWorkOf-fault, CoversUpTo-done, Contains-output_old, Contains-output_new, Contains-fault_old, Contains-fault_new}
+use Rattle.std.proofs.Common.{length-append, ◌∷◌, []}
+use Rattle.piece_pool.proofs.WorkerSteps.{IsWorkOf-draw, IsWorkOf-output, IsWorkOf-fault, CoversUpTo-done, CoversUpTo-skipped, Contains-output_old, Contains-output_new, Contains-fault_old, Contains-fault_new}
 use Rattle.piece_pool.proofs.worker.next_piece.Goals as goal
 
 pub returns-then-least-i-clause-work : goal.returns-then-least-i-clause-work
@@ -30,7 +30,7 @@ returns-in-Ok-push-clause-done g c e =
       c.requires.unfinished,
       length-append c.args.pass.now.history.draws (c.in-Some.i ∷ []),
       rw c.in-Some.ensures.event at c.in-Some.ensures.room,
-      CoversUpTo-done _ _ c.in-Some.i _ _ _ c.requires.covers (search rules) (Contains-output_old outs failed c.in-Some.i c.in-Ok.out) (Contains-output_new outs failed c.in-Some.i c.in-Ok.out),
+      CoversUpTo-done _ _ c.in-Some.i _ _ _ c.requires.covers (rw c.in-Some.ensures.event at c.least.ensures.falls) (Contains-output_old outs failed c.in-Some.i c.in-Ok.out) (Contains-output_new outs failed c.in-Some.i c.in-Ok.out),
     )
 
 pub returns-in-Ok-push-2-clause-work : goal.returns-in-Ok-push-2-clause-work
@@ -46,5 +46,14 @@ returns-in-Ok-push-2-clause-done g c e =
       c.requires.unfinished,
       length-append c.args.pass.now.history.draws (c.in-Some.i ∷ []),
       rw c.in-Some.ensures.event at c.in-Some.ensures.room,
-      CoversUpTo-done _ _ c.in-Some.i _ _ _ c.requires.covers (search rules) (Contains-fault_old outs failed c.in-Some.i c.in-Err-Own.fault) (Contains-fault_new outs failed c.in-Some.i c.in-Err-Own.fault),
+      CoversUpTo-done _ _ c.in-Some.i _ _ _ c.requires.covers (rw c.in-Some.ensures.event at c.least.ensures.falls) (Contains-fault_old outs failed c.in-Some.i c.in-Err-Own.fault) (Contains-fault_new outs failed c.in-Some.i c.in-Err-Own.fault),
+    )
+
+pub returns-then-least-i-clause-done : goal.returns-then-least-i-clause-done
+returns-then-least-i-clause-done g c e =
+    rw (c.skip.ensures.same.1, c.least.ensures.event, c.in-Some.ensures.event) (
+      c.requires.unfinished,
+      length-append c.args.pass.now.history.draws (c.in-Some.i ∷ []),
+      rw c.in-Some.ensures.event at c.in-Some.ensures.room,
+      CoversUpTo-skipped _ _ c.in-Some.i _ _ c.requires.covers (rw c.in-Some.ensures.event at c.least.ensures.falls) c.if-least-i.true,
     )

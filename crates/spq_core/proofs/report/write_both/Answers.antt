@@ -1,15 +1,25 @@
-use Rattle.std.proofs.lemmas.Result.{err_from_is_err_and, on_err_weaker}
-use Rattle.spq_core.proofs.ReportSteps.{back_begun, back_failed, front_failed}
+use Rattle.std.proofs.lemmas.Result.{err_from_is_err_and, on_err_weaker, on_ok_weaker}
+use Rattle.nquads_core.proofs.TransferSteps.{Appends-more}
+use Rattle.spq_core.proofs.ReportSteps.{back_begun, back_failed, front_begun, front_failed, stays_stays}
 use Rattle.spq_core.proofs.report.write_both.Goals as goal
 
-pub returns-clause-failed : goal.returns-clause-failed
-returns-clause-failed g c = on_err_weaker c.write_text-2.result (back_begun _ _ _ c.args.front.now c.args.back.now c.in_ok-write_text.ensures.written) c.write_text-2.ensures.failed
+pub returns : goal.returns
+returns g c =
+    let first = c.in_ok-write_text.ensures in
+    let then = c.write_text-2 in
+    record {
+      written = on_ok_weaker then.result (Appends-more _ _ _ c.args.front.now c.args.back.now first.written) then.ensures.written;
+      written_count = on_ok_weaker then.result (stays_stays _ _ _ first.written_count) then.ensures.written_count;
+      failed = on_err_weaker then.result (back_begun _ _ _ c.args.front.now c.args.back.now first.written) then.ensures.failed;
+      failed_count = on_err_weaker then.result (back_failed g.K.Sink.write_gives _ _ _ c.args.front.now c.args.back.now _ first.written_count) then.ensures.failed_count;
+    }
 
-pub returns-in_err-write_text-clause-failed_count : goal.returns-in_err-write_text-clause-failed_count
-returns-in_err-write_text-clause-failed_count g c =
+pub returns-in_err-write_text : goal.returns-in_err-write_text
+returns-in_err-write_text g c =
     let p = err_from_is_err_and c.from_residual.result c.from_residual.ensures.1 in
-    rw p.1 (front_failed g.K.Sink.write_gives _ _ c.args.front.now c.args.back.now _ c.in_err-write_text.ensures.failed_count)
-
-pub returns-clause-failed_count : goal.returns-clause-failed_count
-returns-clause-failed_count g c =
-    on_err_weaker c.write_text-2.result (back_failed g.K.Sink.write_gives _ _ _ c.args.front.now c.args.back.now _ c.in_ok-write_text.ensures.written_count) c.write_text-2.ensures.failed_count
+    record {
+      written = rw p.1 tt;
+      written_count = rw p.1 tt;
+      failed = rw p.1 (front_begun _ _ c.args.front.now c.args.back.now c.in_err-write_text.ensures.failed);
+      failed_count = rw p.1 (front_failed g.K.Sink.write_gives _ _ c.args.front.now c.args.back.now _ c.in_err-write_text.ensures.failed_count);
+    }

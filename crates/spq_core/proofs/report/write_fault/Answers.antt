@@ -1,21 +1,62 @@
-use Rattle.std.proofs.Common.{subst, sym, OnOk, OnErr}
-use Rattle.std.specs.Io.KnownBytes.{Appends}
-use Rattle.nquads_core.specs.Transfer.{WroteBeginning}
-use Rattle.spq_core.specs.Report.{fault_line}
-use Rattle.spq_core.specs.declared.program.RunFault.{RunFault}
+use Rattle.spq_core.proofs.ReportSteps.{line_begun, line_failed, line_written}
 use Rattle.spq_core.proofs.report.write_fault.Goals as goal
 
-pub returns-in-Read-clause-failed : goal.returns-in-Read-clause-failed
-returns-in-Read-clause-failed g c = subst (λ (f : RunFault). OnErr c.write_text-in-Read.result (WroteBeginning (g.K.Sink.held c.args.writer.now) (g.K.Sink.held c.write_text-in-Read.new.writer) (fault_line f))) (sym c.in-Read.is) c.write_text-in-Read.ensures.failed
+pub returns-in-Line : goal.returns-in-Line
+returns-in-Line g c =
+    let gives = g.K.Sink.write_gives in
+    let is = c.in-Line.is in
+    let done = c.write_text in
+    record {
+      written = line_written gives _ _ is done.result _ _ done.ensures.written;
+      written_count = done.ensures.written_count;
+      failed = line_begun gives _ _ is done.result _ _ done.ensures.failed;
+      failed_count = line_failed gives _ _ is done.result _ _ _ done.ensures.failed_count;
+    }
 
-pub returns-in-Write-clause-written : goal.returns-in-Write-clause-written
-returns-in-Write-clause-written g c = subst (λ (f : RunFault). OnOk c.write_text-in-Write.result (Appends (g.K.Sink.held c.args.writer.now) (g.K.Sink.held c.write_text-in-Write.new.writer) (fault_line f))) (sym c.in-Write.is) c.write_text-in-Write.ensures.written
+pub returns-in-WorkerRefused : goal.returns-in-WorkerRefused
+returns-in-WorkerRefused g c =
+    let gives = g.K.Sink.write_gives in
+    let is = c.in-WorkerRefused.is in
+    let done = c.write_text-in-WorkerRefused in
+    record {
+      written = line_written gives _ _ is done.result _ _ done.ensures.written;
+      written_count = done.ensures.written_count;
+      failed = line_begun gives _ _ is done.result _ _ done.ensures.failed;
+      failed_count = line_failed gives _ _ is done.result _ _ _ done.ensures.failed_count;
+    }
 
-pub returns-in-Write-clause-failed : goal.returns-in-Write-clause-failed
-returns-in-Write-clause-failed g c = subst (λ (f : RunFault). OnErr c.write_text-in-Write.result (WroteBeginning (g.K.Sink.held c.args.writer.now) (g.K.Sink.held c.write_text-in-Write.new.writer) (fault_line f))) (sym c.in-Write.is) c.write_text-in-Write.ensures.failed
+pub returns-in-Memory : goal.returns-in-Memory
+returns-in-Memory g c =
+    let gives = g.K.Sink.write_gives in
+    let is = c.in-Memory.is in
+    let done = c.write_text-in-Memory in
+    record {
+      written = line_written gives _ _ is done.result _ _ done.ensures.written;
+      written_count = done.ensures.written_count;
+      failed = line_begun gives _ _ is done.result _ _ done.ensures.failed;
+      failed_count = line_failed gives _ _ is done.result _ _ _ done.ensures.failed_count;
+    }
 
-pub returns-in-WorkerRefused-clause-failed : goal.returns-in-WorkerRefused-clause-failed
-returns-in-WorkerRefused-clause-failed g c = subst (λ (f : RunFault). OnErr c.write_text-in-WorkerRefused.result (WroteBeginning (g.K.Sink.held c.args.writer.now) (g.K.Sink.held c.write_text-in-WorkerRefused.new.writer) (fault_line f))) (sym c.in-WorkerRefused.is) c.write_text-in-WorkerRefused.ensures.failed
+pub returns-in-Read : goal.returns-in-Read
+returns-in-Read g c =
+    let gives = g.K.Sink.write_gives in
+    let is = c.in-Read.is in
+    let done = c.write_text-in-Read in
+    record {
+      written = line_written gives _ _ is done.result _ _ done.ensures.written;
+      written_count = done.ensures.written_count;
+      failed = line_begun gives _ _ is done.result _ _ done.ensures.failed;
+      failed_count = line_failed gives _ _ is done.result _ _ _ done.ensures.failed_count;
+    }
 
-pub returns-in-Read-clause-written : goal.returns-in-Read-clause-written
-returns-in-Read-clause-written g c = subst (λ (f : RunFault). OnOk c.write_text-in-Read.result (Appends (g.K.Sink.held c.args.writer.now) (g.K.Sink.held c.write_text-in-Read.new.writer) (fault_line f))) (sym c.in-Read.is) c.write_text-in-Read.ensures.written
+pub returns-in-Write : goal.returns-in-Write
+returns-in-Write g c =
+    let gives = g.K.Sink.write_gives in
+    let is = c.in-Write.is in
+    let done = c.write_text-in-Write in
+    record {
+      written = line_written gives _ _ is done.result _ _ done.ensures.written;
+      written_count = done.ensures.written_count;
+      failed = line_begun gives _ _ is done.result _ _ done.ensures.failed;
+      failed_count = line_failed gives _ _ is done.result _ _ _ done.ensures.failed_count;
+    }
