@@ -17,7 +17,6 @@ use std::alloc::Global;
 ///
 /// # Errors
 /// `Memory` if an allocation fails. The dictionary is dropped.
-#[tactic(auto, using(crate::proofs::UnionSteps::united))]
 pub fn union(
     alloc: Global,
     dict: Dict,
@@ -40,7 +39,6 @@ pub fn union(
 
 /// Unites rows that the evaluator no longer needs: the right rows are moved after the left ones.
 /// The dictionary is returned unchanged.
-#[tactic(auto, using(crate::proofs::UnionSteps::united))]
 pub(crate) fn union_of(dict: Dict, left: Rows, right: Rows) -> Result<(Rows, Dict), EvalFault>
     requires same_width { left.width ≡ right.width }
     requires known_left { AreKnown dict left }
