@@ -15,3 +15,5 @@ mod TreeSteps
 mod EvaluateSteps
 mod ComputedSteps
 mod UnitSteps
+mod UnionSteps
+mod WithinSteps

@@ -1,5 +1,7 @@
 use Rattle.std.proofs.Common.{[], ◌∷◌, ◌++◌, length, get_or, None, sym, ap, ◌∙◌, arith}
 use Rattle.std.proofs.lemmas.Option.{slice_get-get_or}
+use Rattle.sparql_eval.specs.Values.{bind_each}
+use Rattle.sparql_eval.proofs.ReadingLaws.{all_taken}
 use Rattle.sparql_eval.proofs.ExtendSteps.{bind_long, bind_more}
 use Rattle.sparql_eval.proofs.extensions.extend_rows.Goals as goal
 
@@ -28,3 +30,9 @@ loop-i-preserved c =
           c.in_ok-push.ensures.added ∙ (λ k. was.made k ++ extended k ∷ [])
           ∙ sym (bind_more v ns rows i n row (slice_get-get_or ns i None (omega arith)) c.row.ensures.found);
     }
+
+pub returns-clause-rows : goal.returns-clause-rows
+returns-clause-rows c =
+    let ns = all_taken c.args.numbers.now c.loop-i.i (omega arith) in
+    let rows = all_taken c.args.rows.now.rows c.loop-i.i (omega arith) in
+    c.loop-i.invariant.made ∙ (λ k. bind_each c.args.variable (ns k) (rows k))

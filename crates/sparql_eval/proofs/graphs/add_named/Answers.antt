@@ -1,8 +1,10 @@
-use Rattle.std.proofs.Common.{◌++◌, ◌∷◌, [], ℕ, Bool, cond, sym, ap, ◌∙◌}
+use Rattle.std.proofs.Common.{◌≡◌, ◌++◌, ◌∷◌, [], ℕ, Bool, List, cond, nat_eq, Result, Ok, Err, OnErr, sym, ap, ◌∙◌, subst, arith}
 use Rattle.std.proofs.lemmas.List.{append-nil}
+use Rattle.algebra_model.specs.Operators.{join}
 use Rattle.algebra_model.specs.Solution.{Solution, merge}
 use Rattle.row_core.specs.RowList.{RowList}
 use Rattle.sparql_eval.proofs.GraphSteps.{named_turn}
+use Rattle.sparql_eval.proofs.ReadingLaws.{all_taken}
 use Rattle.sparql_eval.proofs.graphs.add_named.Goals as goal
 use Rattle.sparql_eval.proofs.graphs.add_named.Goals.{then-is_compatible+in_ok-merge_into+in_ok-push, else-is_compatible}
 
@@ -26,3 +28,21 @@ loop-i-preserved c =
             ∙ ap (λ (b : Bool). made ++ cond b (merge μ ν ∷ []) []) (sym w.if-is_compatible.false));
       }
     ]
+
+-- a fact that is true is also true on error
+on_error : {T E P : Type 0} (r : Result T E) → P → OnErr r P
+on_error (Ok x) p = tt
+on_error (Err e) p = p
+
+pub returns-in_err-merged-clause-refused : goal.returns-in_err-merged-clause-refused
+returns-in_err-merged-clause-refused c = on_error c.from_residual.result (0, sym (append-nil c.args.made.now.rows))
+
+pub returns-in_err-merge_into-clause-refused : goal.returns-in_err-merge_into-clause-refused
+returns-in_err-merge_into-clause-refused c = on_error c.from_residual-in_err-merge_into.result (c.loop-i.i, c.loop-i.invariant.added)
+
+pub returns-in_err-push-clause-refused : goal.returns-in_err-push-clause-refused
+returns-in_err-push-clause-refused c = on_error c.from_residual-in_err-push.result (c.loop-i.i, c.in_err-push.ensures.refused ∙ c.loop-i.invariant.added)
+
+pub returns-clause-added : goal.returns-clause-added
+returns-clause-added c =
+    subst (λ (l : List (Solution ℕ)). c.loop-i.made.rows ≡ c.args.made.now.rows ++ join nat_eq l (c.args.name.now ∷ [])) (all_taken c.args.rows.now.rows c.loop-i.i (omega arith)) c.loop-i.invariant.added

@@ -2,11 +2,13 @@ use Rattle.std.proofs.Common.{ℕ, List, [], ◌∷◌, ◌++◌, length, map, t
 use Rattle.rdf_core.specs.declared.term.Term.{Term}
 use Rattle.algebra_model.specs.Operators.{table, table_row}
 use Rattle.algebra_model.specs.Renaming.{Each}
+use Rattle.algebra_model.proofs.BagLaws.{same_bag}
+use Rattle.row_core.specs.RowList.{RowList}
 use Rattle.sparql_eval.specs.Computed.{IsCell}
 use Rattle.sparql_eval.proofs.ProjectSteps.{map-take}
-use Rattle.sparql_eval.proofs.ReadingLaws.{Known, read_by, grown_twice}
+use Rattle.sparql_eval.proofs.ReadingLaws.{Known, all_taken, grown_itself, read_by, grown_twice}
 use Rattle.sparql_eval.proofs.TableSteps.{table_more, get_from, cell_of}
-use Rattle.sparql_eval.proofs.TakingLaws.{takes_twice, takes_more}
+use Rattle.sparql_eval.proofs.TakingLaws.{takes_none, takes_twice, takes_more}
 use Rattle.sparql_eval.proofs.tables.tabulated.Goals as goal
 
 pub loop-cells-preserved : goal.loop-cells-preserved
@@ -35,4 +37,30 @@ loop-cells-preserved c =
           takes_twice is_needed c.args.dict.now c.loop-cells.dict later was.needed
           (takes_more (λ t. Contains (take (length vs) cells) (Some t)) is_needed c.loop-cells.dict later
           (λ t h. cell_of (λ row. row.items) vs rows k item t at (subst (λ (l : List (Option Term)). Contains (take (length vs) l) (Some t)) c.as_slice.ensures.value h)) here);
+    }
+
+pub loop-cells-init : goal.loop-cells-init
+loop-cells-init c =
+    let terms = c.args.dict.now in
+    let none = ap (λ (r : RowList). r.rows) c.new-made.ensures.empty in
+    record {
+      width = ap (λ (r : RowList). r.width) c.new-made.ensures.empty;
+      grown = grown_itself terms;
+      known = subst (Each (Known terms)) (sym none) tt;
+      made = ap (map (read_by terms)) none;
+      needed = takes_none (IsCell c.args.variables.now (map (λ row. row.items) c.args.rows.now)) terms;
+    }
+
+pub returns-clause-evaluated : goal.returns-clause-evaluated
+returns-clause-evaluated c =
+    let was = c.loop-cells.invariant in
+    let w = c.args.width in
+    let vs = c.args.variables.now in
+    let rows = c.args.rows.now in
+    let all = all_taken rows c.loop-cells.cells-index (omega arith) in
+    record {
+      grown = was.grown;
+      wide = was.width;
+      known = was.known;
+      bag = same_bag (map (read_by c.loop-cells.dict) c.loop-cells.made.rows) (table w vs (map (λ row. row.items) rows)) (was.made ∙ (λ i. table w vs (map (λ row. row.items) (all i))));
     }

@@ -1,4 +1,4 @@
-use Rattle.std.proofs.Common.{◌≡◌, ℕ, ◌<◌, List, [], ◌∷◌, ◌++◌, true, length, map, filter, flat_map, get_or, slice_get, nat_eq, nat_lt, replicate, set, Option, None, Some, IfOk, sym, ap, subst, ◌∙◌, arith}
+use Rattle.std.proofs.Common.{◌≡◌, ℕ, ◌<◌, List, [], ◌∷◌, ◌++◌, true, length, map, filter, flat_map, get_or, slice_get, nat_eq, nat_lt, replicate, set, None, Some, IfOk, sym, ap, subst, ◌∙◌, arith}
 use Rattle.std.specs.List.{list_all}
 use Rattle.std.proofs.lemmas.List.Sorted.{IsPermutation-refl}
 use Rattle.std.proofs.lemmas.Option.{slice_get-get_or}
@@ -28,6 +28,7 @@ use Rattle.sparql_eval.proofs.EvaluateSteps.{active_kept, after_left, after_one,
 use Rattle.sparql_eval.proofs.TreeSteps.{distinct_denotes, distinct_tree, extend_denotes, extend_tree, filter_denotes, filter_tree, graph_denotes, graph_tree, join_denotes, join_tree, left_join_denotes, left_join_tree, minus_denotes, minus_tree, project_denotes, project_tree, table_denotes, table_tree, union_denotes, union_tree}
 use Rattle.sparql_eval.proofs.ComputedSteps.{NeededIn, takes_as, takes_both, takes_in_each, takes_nothing, takes_still, takes_values}
 use Rattle.sparql_eval.proofs.TakingLaws.{takes_none}
+use Rattle.sparql_eval.proofs.WithinSteps.{distinct_within, extend_within, filter_within, graph_within, join_within, left_join_within, minus_within, project_within, union_within}
 use Rattle.sparql_eval.proofs.evaluator.Evaluator.+solve.Goals as goal
 
 -- ---- Pattern
@@ -426,3 +427,300 @@ solve_each-returns-clause-evaluated g t c =
 
 pub solve_each-returns-clause-needed : goal.solve_each-returns-clause-needed
 solve_each-returns-clause-needed g t c = c.loop-i.invariant.takes
+
+-- ---- what the calls require
+
+pub solve-pattern-requires-clause-index : goal.solve-pattern-requires-clause-index
+solve-pattern-requires-clause-index g t c κs within = c.requires.index
+
+pub solve-pattern-requires-clause-active : goal.solve-pattern-requires-clause-active
+solve-pattern-requires-clause-active g t c κs within = c.requires.active
+
+pub solve-solve-requires-clause-index : goal.solve-solve-requires-clause-index
+solve-solve-requires-clause-index g t c κs within = c.requires.index
+
+pub solve-solve-requires-clause-active : goal.solve-solve-requires-clause-active
+solve-solve-requires-clause-active g t c κs within = c.requires.active
+
+pub solve-solve-requires-in-LeftJoin-clause-index : goal.solve-solve-requires-in-LeftJoin-clause-index
+solve-solve-requires-in-LeftJoin-clause-index g t c κs within = c.requires.index
+
+pub solve-solve-requires-in-LeftJoin-clause-active : goal.solve-solve-requires-in-LeftJoin-clause-active
+solve-solve-requires-in-LeftJoin-clause-active g t c κs within = c.requires.active
+
+pub solve-solve-requires-in-Union-clause-index : goal.solve-solve-requires-in-Union-clause-index
+solve-solve-requires-in-Union-clause-index g t c κs within = c.requires.index
+
+pub solve-solve-requires-in-Union-clause-active : goal.solve-solve-requires-in-Union-clause-active
+solve-solve-requires-in-Union-clause-active g t c κs within = c.requires.active
+
+pub solve-solve-requires-in-Minus-clause-index : goal.solve-solve-requires-in-Minus-clause-index
+solve-solve-requires-in-Minus-clause-index g t c κs within = c.requires.index
+
+pub solve-solve-requires-in-Minus-clause-active : goal.solve-solve-requires-in-Minus-clause-active
+solve-solve-requires-in-Minus-clause-active g t c κs within = c.requires.active
+
+pub solve-solve_filter-requires-clause-index : goal.solve-solve_filter-requires-clause-index
+solve-solve_filter-requires-clause-index g t c κs within = c.requires.index
+
+pub solve-solve_filter-requires-clause-active : goal.solve-solve_filter-requires-clause-active
+solve-solve_filter-requires-clause-active g t c κs within = c.requires.active
+
+pub solve-solve_extend-requires-clause-index : goal.solve-solve_extend-requires-clause-index
+solve-solve_extend-requires-clause-index g t c κs within = c.requires.index
+
+pub solve-solve_extend-requires-clause-active : goal.solve-solve_extend-requires-clause-active
+solve-solve_extend-requires-clause-active g t c κs within = c.requires.active
+
+pub solve-solve_project-requires-clause-index : goal.solve-solve_project-requires-clause-index
+solve-solve_project-requires-clause-index g t c κs within = c.requires.index
+
+pub solve-solve_project-requires-clause-active : goal.solve-solve_project-requires-clause-active
+solve-solve_project-requires-clause-active g t c κs within = c.requires.active
+
+pub solve-solve_distinct-requires-clause-index : goal.solve-solve_distinct-requires-clause-index
+solve-solve_distinct-requires-clause-index g t c κs within = c.requires.index
+
+pub solve-solve_distinct-requires-clause-active : goal.solve-solve_distinct-requires-clause-active
+solve-solve_distinct-requires-clause-active g t c κs within = c.requires.active
+
+pub solve-solve_graph-requires-clause-index : goal.solve-solve_graph-requires-clause-index
+solve-solve_graph-requires-clause-index g t c κs within = c.requires.index
+
+pub solve_join-solve-requires-clause-index : goal.solve_join-solve-requires-clause-index
+solve_join-solve-requires-clause-index g t c κs within = c.requires.index
+
+pub solve_join-solve-requires-clause-active : goal.solve_join-solve-requires-clause-active
+solve_join-solve-requires-clause-active g t c κs within = c.requires.active
+
+pub solve_join-solve-requires-clause-within : goal.solve_join-solve-requires-clause-within
+solve_join-solve-requires-clause-within g t c κs within = c.requires.within
+
+pub solve_left_join-solve-requires-clause-index : goal.solve_left_join-solve-requires-clause-index
+solve_left_join-solve-requires-clause-index g t c κs within = c.requires.index
+
+pub solve_left_join-solve-requires-clause-active : goal.solve_left_join-solve-requires-clause-active
+solve_left_join-solve-requires-clause-active g t c κs within = c.requires.active
+
+pub solve_left_join-solve-requires-clause-within : goal.solve_left_join-solve-requires-clause-within
+solve_left_join-solve-requires-clause-within g t c κs within = c.requires.within
+
+pub solve_union-solve-requires-clause-index : goal.solve_union-solve-requires-clause-index
+solve_union-solve-requires-clause-index g t c κs within = c.requires.index
+
+pub solve_union-solve-requires-clause-active : goal.solve_union-solve-requires-clause-active
+solve_union-solve-requires-clause-active g t c κs within = c.requires.active
+
+pub solve_union-solve-requires-clause-within : goal.solve_union-solve-requires-clause-within
+solve_union-solve-requires-clause-within g t c κs within = c.requires.within
+
+pub solve_minus-solve-requires-clause-index : goal.solve_minus-solve-requires-clause-index
+solve_minus-solve-requires-clause-index g t c κs within = c.requires.index
+
+pub solve_minus-solve-requires-clause-active : goal.solve_minus-solve-requires-clause-active
+solve_minus-solve-requires-clause-active g t c κs within = c.requires.active
+
+pub solve_minus-solve-requires-clause-within : goal.solve_minus-solve-requires-clause-within
+solve_minus-solve-requires-clause-within g t c κs within = c.requires.within
+
+pub solve_filter-solve-requires-clause-index : goal.solve_filter-solve-requires-clause-index
+solve_filter-solve-requires-clause-index g t c κs within = c.requires.index
+
+pub solve_filter-solve-requires-clause-active : goal.solve_filter-solve-requires-clause-active
+solve_filter-solve-requires-clause-active g t c κs within = c.requires.active
+
+pub solve_filter-solve-requires-clause-within : goal.solve_filter-solve-requires-clause-within
+solve_filter-solve-requires-clause-within g t c κs within = c.requires.within
+
+pub solve_extend-solve-requires-clause-index : goal.solve_extend-solve-requires-clause-index
+solve_extend-solve-requires-clause-index g t c κs within = c.requires.index
+
+pub solve_extend-solve-requires-clause-active : goal.solve_extend-solve-requires-clause-active
+solve_extend-solve-requires-clause-active g t c κs within = c.requires.active
+
+pub solve_extend-solve-requires-clause-within : goal.solve_extend-solve-requires-clause-within
+solve_extend-solve-requires-clause-within g t c κs within = c.requires.within
+
+pub solve_project-solve-requires-clause-index : goal.solve_project-solve-requires-clause-index
+solve_project-solve-requires-clause-index g t c κs within = c.requires.index
+
+pub solve_project-solve-requires-clause-active : goal.solve_project-solve-requires-clause-active
+solve_project-solve-requires-clause-active g t c κs within = c.requires.active
+
+pub solve_project-solve-requires-clause-within : goal.solve_project-solve-requires-clause-within
+solve_project-solve-requires-clause-within g t c κs within = c.requires.within
+
+pub solve_distinct-solve-requires-clause-index : goal.solve_distinct-solve-requires-clause-index
+solve_distinct-solve-requires-clause-index g t c κs within = c.requires.index
+
+pub solve_distinct-solve-requires-clause-active : goal.solve_distinct-solve-requires-clause-active
+solve_distinct-solve-requires-clause-active g t c κs within = c.requires.active
+
+pub solve_distinct-solve-requires-clause-within : goal.solve_distinct-solve-requires-clause-within
+solve_distinct-solve-requires-clause-within g t c κs within = c.requires.within
+
+pub solve_graph-solve-requires-clause-index : goal.solve_graph-solve-requires-clause-index
+solve_graph-solve-requires-clause-index g t c κs within = c.requires.index
+
+pub solve_graph-solve-requires-clause-within : goal.solve_graph-solve-requires-clause-within
+solve_graph-solve-requires-clause-within g t c κs within = c.requires.within
+
+pub solve_graph-solve_each-requires-clause-index : goal.solve_graph-solve_each-requires-clause-index
+solve_graph-solve_each-requires-clause-index g t c κs within = c.requires.index
+
+pub solve_each-solve-requires-clause-index : goal.solve_each-solve-requires-clause-index
+solve_each-solve-requires-clause-index g t c κs within = (index_kept c.args.dict c.loop-i.dict c.loop-i.invariant.grown c.args.self.now.index.now c.requires.index).0
+
+pub solve_each-solve-requires-clause-within : goal.solve_each-solve-requires-clause-within
+solve_each-solve-requires-clause-within g t c κs within = c.requires.within
+
+pub solve-solve-requires-clause-within : goal.solve-solve-requires-clause-within
+solve-solve-requires-clause-within g t c κs within =
+    subst (λ (T : Operator). is_within c.args.self.now.width (algebra_of T) ≡ true) (sym c.deref.ensures) (join_within c.args.self.now.width c.in-Join.left c.in-Join.right c.args.tree.now c.in-Join.is c.requires.within).0
+
+pub solve-solve_join-requires-clause-within : goal.solve-solve_join-requires-clause-within
+solve-solve_join-requires-clause-within g t c κs within =
+    subst (λ (T : Operator). is_within c.args.self.now.width (algebra_of T) ≡ true) (sym c.deref-in-Join.ensures) (join_within c.args.self.now.width c.in-Join.left c.in-Join.right c.args.tree.now c.in-Join.is c.requires.within).1
+
+pub solve-solve_join-requires-clause-same_width : goal.solve-solve_join-requires-clause-same_width
+solve-solve_join-requires-clause-same_width g t c κs within = c.in_ok-left-in-Join.ensures.evaluated.wide
+
+pub solve-solve_join-requires-clause-known_left : goal.solve-solve_join-requires-clause-known_left
+solve-solve_join-requires-clause-known_left g t c κs within = c.in_ok-left-in-Join.ensures.evaluated.known
+
+pub solve-returns-in_ok-left-in-Join-clause-one_worker : goal.solve-returns-in_ok-left-in-Join-clause-one_worker
+solve-returns-in_ok-left-in-Join-clause-one_worker g t c = c.solve_join.ensures.one_worker
+
+pub solve-solve-requires-in-LeftJoin-clause-within : goal.solve-solve-requires-in-LeftJoin-clause-within
+solve-solve-requires-in-LeftJoin-clause-within g t c κs within =
+    subst (λ (T : Operator). is_within c.args.self.now.width (algebra_of T) ≡ true) (sym c.deref-in-LeftJoin.ensures) (left_join_within c.args.self.now.width c.in-LeftJoin.left c.in-LeftJoin.right c.in-LeftJoin.condition c.args.tree.now c.in-LeftJoin.is c.requires.within).0
+
+pub solve-solve_left_join-requires-clause-within : goal.solve-solve_left_join-requires-clause-within
+solve-solve_left_join-requires-clause-within g t c κs within =
+    subst (λ (T : Operator). is_within c.args.self.now.width (algebra_of T) ≡ true) (sym c.deref-in-LeftJoin-2.ensures) (left_join_within c.args.self.now.width c.in-LeftJoin.left c.in-LeftJoin.right c.in-LeftJoin.condition c.args.tree.now c.in-LeftJoin.is c.requires.within).1
+
+pub solve-solve_left_join-requires-clause-same_width : goal.solve-solve_left_join-requires-clause-same_width
+solve-solve_left_join-requires-clause-same_width g t c κs within = c.in_ok-left-in-LeftJoin.ensures.evaluated.wide
+
+pub solve-solve_left_join-requires-clause-known_left : goal.solve-solve_left_join-requires-clause-known_left
+solve-solve_left_join-requires-clause-known_left g t c κs within = c.in_ok-left-in-LeftJoin.ensures.evaluated.known
+
+pub solve-returns-in_ok-left-in-LeftJoin-clause-one_worker : goal.solve-returns-in_ok-left-in-LeftJoin-clause-one_worker
+solve-returns-in_ok-left-in-LeftJoin-clause-one_worker g t c = c.solve_left_join.ensures.one_worker
+
+pub solve-solve-requires-in-Union-clause-within : goal.solve-solve-requires-in-Union-clause-within
+solve-solve-requires-in-Union-clause-within g t c κs within =
+    subst (λ (T : Operator). is_within c.args.self.now.width (algebra_of T) ≡ true) (sym c.deref-in-Union.ensures) (union_within c.args.self.now.width c.in-Union.left c.in-Union.right c.args.tree.now c.in-Union.is c.requires.within).0
+
+pub solve-solve_union-requires-clause-within : goal.solve-solve_union-requires-clause-within
+solve-solve_union-requires-clause-within g t c κs within =
+    subst (λ (T : Operator). is_within c.args.self.now.width (algebra_of T) ≡ true) (sym c.deref-in-Union-2.ensures) (union_within c.args.self.now.width c.in-Union.left c.in-Union.right c.args.tree.now c.in-Union.is c.requires.within).1
+
+pub solve-solve_union-requires-clause-same_width : goal.solve-solve_union-requires-clause-same_width
+solve-solve_union-requires-clause-same_width g t c κs within = c.in_ok-left-in-Union.ensures.evaluated.wide
+
+pub solve-solve_union-requires-clause-known_left : goal.solve-solve_union-requires-clause-known_left
+solve-solve_union-requires-clause-known_left g t c κs within = c.in_ok-left-in-Union.ensures.evaluated.known
+
+pub solve-returns-in_ok-left-in-Union-clause-one_worker : goal.solve-returns-in_ok-left-in-Union-clause-one_worker
+solve-returns-in_ok-left-in-Union-clause-one_worker g t c = c.solve_union.ensures.one_worker
+
+pub solve-solve-requires-in-Minus-clause-within : goal.solve-solve-requires-in-Minus-clause-within
+solve-solve-requires-in-Minus-clause-within g t c κs within =
+    subst (λ (T : Operator). is_within c.args.self.now.width (algebra_of T) ≡ true) (sym c.deref-in-Minus.ensures) (minus_within c.args.self.now.width c.in-Minus.left c.in-Minus.right c.args.tree.now c.in-Minus.is c.requires.within).0
+
+pub solve-solve_minus-requires-clause-within : goal.solve-solve_minus-requires-clause-within
+solve-solve_minus-requires-clause-within g t c κs within =
+    subst (λ (T : Operator). is_within c.args.self.now.width (algebra_of T) ≡ true) (sym c.deref-in-Minus-2.ensures) (minus_within c.args.self.now.width c.in-Minus.left c.in-Minus.right c.args.tree.now c.in-Minus.is c.requires.within).1
+
+pub solve-solve_minus-requires-clause-same_width : goal.solve-solve_minus-requires-clause-same_width
+solve-solve_minus-requires-clause-same_width g t c κs within = c.in_ok-left-in-Minus.ensures.evaluated.wide
+
+pub solve-solve_minus-requires-clause-known_left : goal.solve-solve_minus-requires-clause-known_left
+solve-solve_minus-requires-clause-known_left g t c κs within = c.in_ok-left-in-Minus.ensures.evaluated.known
+
+pub solve-returns-in_ok-left-in-Minus-clause-one_worker : goal.solve-returns-in_ok-left-in-Minus-clause-one_worker
+solve-returns-in_ok-left-in-Minus-clause-one_worker g t c = c.solve_minus.ensures.one_worker
+
+pub solve-solve_filter-requires-clause-within : goal.solve-solve_filter-requires-clause-within
+solve-solve_filter-requires-clause-within g t c κs within =
+    subst (λ (T : Operator). is_within c.args.self.now.width (algebra_of T) ≡ true) (sym c.deref-in-Filter.ensures) (filter_within c.args.self.now.width c.in-Filter.condition c.in-Filter.inner c.args.tree.now c.in-Filter.is c.requires.within)
+
+pub solve-returns-in-Filter-clause-one_worker : goal.solve-returns-in-Filter-clause-one_worker
+solve-returns-in-Filter-clause-one_worker g t c = c.solve_filter.ensures.one_worker
+
+pub solve-solve_extend-requires-clause-within : goal.solve-solve_extend-requires-clause-within
+solve-solve_extend-requires-clause-within g t c κs within =
+    subst (λ (T : Operator). is_within c.args.self.now.width (algebra_of T) ≡ true) (sym c.deref-in-Extend.ensures) (extend_within c.args.self.now.width c.in-Extend.variable c.in-Extend.expression c.in-Extend.inner c.args.tree.now c.in-Extend.is c.requires.within)
+
+pub solve-returns-in-Extend-clause-one_worker : goal.solve-returns-in-Extend-clause-one_worker
+solve-returns-in-Extend-clause-one_worker g t c = c.solve_extend.ensures.one_worker
+
+pub solve-solve_project-requires-clause-within : goal.solve-solve_project-requires-clause-within
+solve-solve_project-requires-clause-within g t c κs within =
+    subst (λ (T : Operator). is_within c.args.self.now.width (algebra_of T) ≡ true) (sym c.deref-in-Project.ensures) (project_within c.args.self.now.width c.in-Project.variables c.in-Project.inner c.args.tree.now c.in-Project.is c.requires.within)
+
+pub solve-returns-in-Project-clause-one_worker : goal.solve-returns-in-Project-clause-one_worker
+solve-returns-in-Project-clause-one_worker g t c = c.solve_project.ensures.one_worker
+
+pub solve-solve_distinct-requires-clause-within : goal.solve-solve_distinct-requires-clause-within
+solve-solve_distinct-requires-clause-within g t c κs within =
+    subst (λ (T : Operator). is_within c.args.self.now.width (algebra_of T) ≡ true) (sym c.deref-in-Distinct.ensures) (distinct_within c.args.self.now.width c.in-Distinct.inner c.args.tree.now c.in-Distinct.is c.requires.within)
+
+pub solve-returns-in-Distinct-clause-one_worker : goal.solve-returns-in-Distinct-clause-one_worker
+solve-returns-in-Distinct-clause-one_worker g t c = c.solve_distinct.ensures.one_worker
+
+pub solve-solve_graph-requires-clause-within : goal.solve-solve_graph-requires-clause-within
+solve-solve_graph-requires-clause-within g t c κs within =
+    subst (λ (T : Operator). is_within c.args.self.now.width (algebra_of T) ≡ true) (sym c.deref-in-Graph.ensures) (graph_within c.args.self.now.width c.in-Graph.name c.in-Graph.inner c.args.tree.now c.in-Graph.is c.requires.within)
+
+pub solve-returns-in-Graph-clause-one_worker : goal.solve-returns-in-Graph-clause-one_worker
+solve-returns-in-Graph-clause-one_worker g t c = c.solve_graph.ensures.one_worker
+
+pub solve-returns-in-Pattern-clause-one_worker : goal.solve-returns-in-Pattern-clause-one_worker
+solve-returns-in-Pattern-clause-one_worker g t c = c.pattern.ensures.one_worker
+
+pub solve_join-join-requires-clause-same_width : goal.solve_join-join-requires-clause-same_width
+solve_join-join-requires-clause-same_width g t c κs within = c.requires.same_width ∙ sym c.in_ok-right.ensures.evaluated.wide
+
+pub solve_join-join-requires-clause-known_right : goal.solve_join-join-requires-clause-known_right
+solve_join-join-requires-clause-known_right g t c κs within = c.in_ok-right.ensures.evaluated.known
+
+pub solve_join-returns-clause-one_worker : goal.solve_join-returns-clause-one_worker
+solve_join-returns-clause-one_worker g t c = c.join.ensures.one_worker
+
+pub solve_left_join-left_join-requires-clause-same_width : goal.solve_left_join-left_join-requires-clause-same_width
+solve_left_join-left_join-requires-clause-same_width g t c κs within = c.requires.same_width ∙ sym c.in_ok-right.ensures.evaluated.wide
+
+pub solve_left_join-left_join-requires-clause-known_right : goal.solve_left_join-left_join-requires-clause-known_right
+solve_left_join-left_join-requires-clause-known_right g t c κs within = c.in_ok-right.ensures.evaluated.known
+
+pub solve_left_join-returns-clause-one_worker : goal.solve_left_join-returns-clause-one_worker
+solve_left_join-returns-clause-one_worker g t c = c.left_join.ensures.one_worker
+
+pub solve_minus-minus-requires-clause-same_width : goal.solve_minus-minus-requires-clause-same_width
+solve_minus-minus-requires-clause-same_width g t c κs within = c.requires.same_width ∙ sym c.in_ok-right.ensures.evaluated.wide
+
+pub solve_minus-minus-requires-clause-known_right : goal.solve_minus-minus-requires-clause-known_right
+solve_minus-minus-requires-clause-known_right g t c κs within = c.in_ok-right.ensures.evaluated.known
+
+pub solve_minus-returns-clause-one_worker : goal.solve_minus-returns-clause-one_worker
+solve_minus-returns-clause-one_worker g t c = c.minus.ensures.one_worker
+
+pub solve_union-union_of-requires-clause-same_width : goal.solve_union-union_of-requires-clause-same_width
+solve_union-union_of-requires-clause-same_width g t c = c.requires.same_width ∙ sym c.in_ok-right.ensures.evaluated.wide
+
+pub solve_union-union_of-requires-clause-known_right : goal.solve_union-union_of-requires-clause-known_right
+solve_union-union_of-requires-clause-known_right g t c = c.in_ok-right.ensures.evaluated.known
+
+pub solve_filter-filter-requires-clause-known : goal.solve_filter-filter-requires-clause-known
+solve_filter-filter-requires-clause-known g t c κs within = c.in_ok-rows.ensures.evaluated.known
+
+pub solve_extend-extend-requires-clause-known : goal.solve_extend-extend-requires-clause-known
+solve_extend-extend-requires-clause-known g t c κs within = c.in_ok-rows.ensures.evaluated.known
+
+pub solve_filter-returns-clause-one_worker : goal.solve_filter-returns-clause-one_worker
+solve_filter-returns-clause-one_worker g t c = c.filter.ensures.one_worker
+
+pub solve_extend-returns-clause-one_worker : goal.solve_extend-returns-clause-one_worker
+solve_extend-returns-clause-one_worker g t c = c.extend.ensures.one_worker
