@@ -54,19 +54,23 @@ pub(crate) fn shown(alloc: Global, rows: &Rows) -> Result<String, AllocError> {
 }
 
 /// Returns whether a case has the expected text. Prints the case and both if it does not.
-pub(crate) fn holds<R: Print>(
+pub(crate) fn holds<R: Print, E: Drop>(
     rt: &R,
     case: &str,
     expected: &str,
-    found: Result<String, AllocError>,
+    found: Result<String, E>,
 ) -> bool {
     match found {
-        Ok(found) => {
-            if found.as_str() != expected {
-                let _ = println!(rt; "{case}: expected {expected}, got {found}");
-            }
-            found.as_str() == expected
-        }
+        Ok(found) => is_same(rt, case, expected, found.as_str()),
         Err(_) => false,
     }
+}
+
+/// Returns whether the two are equal. Prints the case and both if they are not.
+fn is_same<R: Print>(rt: &R, case: &str, expected: &str, found: &str) -> bool {
+    if found == expected {
+        return true;
+    }
+    let _ = println!(rt; "{case}: expected {expected}, got {found}");
+    false
 }

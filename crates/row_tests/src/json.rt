@@ -42,30 +42,27 @@ const TERMS: [Sample; 8] = [
     Sample::Typed("x", XSD_INTEGER),
 ];
 
-fn text(alloc: Global, text: &str) -> Result<Text, AllocError> {
-    Ok(Text::from_string(String::from_str(alloc, text)?))
+/// Returns a text, or the empty one without memory. The tests have enough memory, and a function
+/// that owns a term is slow to prove if it has several exits.
+fn text(alloc: Global, text: &str) -> Text {
+    Text::from_string(String::from_str(alloc, text).unwrap_or(String::new(alloc)))
 }
 
-fn literal(
-    alloc: Global,
-    lexical: &str,
-    datatype: &str,
-    tag: Option<Text>,
-) -> Result<Term, AllocError> {
-    Ok(Term::Literal {
-        lexical: text(alloc, lexical)?,
-        datatype: text(alloc, datatype)?,
+fn literal(alloc: Global, lexical: &str, datatype: &str, tag: Option<Text>) -> Term {
+    Term::Literal {
+        lexical: text(alloc, lexical),
+        datatype: text(alloc, datatype),
         tag,
-    })
+    }
 }
 
-fn term(alloc: Global, sample: Sample) -> Result<Term, AllocError> {
+fn term(alloc: Global, sample: Sample) -> Term {
     match sample {
-        Sample::Iri(name) => Ok(Term::Iri(text(alloc, name)?)),
-        Sample::Blank(label) => Ok(Term::Blank(text(alloc, label)?)),
+        Sample::Iri(name) => Term::Iri(text(alloc, name)),
+        Sample::Blank(label) => Term::Blank(text(alloc, label)),
         Sample::Typed(lexical, datatype) => literal(alloc, lexical, datatype, None),
         Sample::Tagged(lexical) => {
-            literal(alloc, lexical, RDF_LANG_STRING, Some(text(alloc, "en")?))
+            literal(alloc, lexical, RDF_LANG_STRING, Some(text(alloc, "en")))
         }
     }
 }
@@ -77,7 +74,7 @@ fn dict_of<R: RandomSource>(rt: &R, alloc: Global) -> Result<Dict, AllocError> {
     };
     let mut dict = Dict::new(alloc, state)?;
     for sample in TERMS {
-        if dict.intern(term(alloc, sample)?).is_err() {
+        if dict.intern(term(alloc, sample)).is_err() {
             return Err(AllocError);
         }
     }
@@ -129,7 +126,7 @@ struct Selection {
 
 /// Returns the names of the variables: `b`, `a` and one that no row has.
 fn variables(alloc: Global) -> Result<Vec<Text>, AllocError> {
-    Ok(vec![in alloc; text(alloc, "b")?, text(alloc, "a")?, text(alloc, "é\"")?]?)
+    Ok(vec![in alloc; text(alloc, "b"), text(alloc, "a"), text(alloc, "é\"")]?)
 }
 
 /// Prints the document of rows with the variables `b`, `a` and one that no row has.
