@@ -9,32 +9,15 @@ ghost use Rattle.std.specs.Prelude.{◌≤◌};
 
 use crate::tests::asking::json;
 use crate::tests::samples::{NUMBERED, TAGGED, TWO_LINES, TYPED};
-use piece_cuts::Cuts;
+use crate::tests::workers::by_lines;
 use rdf_core::{Term, Text, write_term};
-use row_pieces::How;
 use sparql_read::QueryFault;
-use spq_core::{Fault, answer};
+use spq_core::Fault;
 use std::alloc::{AllocError, Global};
 use std::random::RandomSource;
 use std::sync::Wait;
 use std::thread::Threads;
 use test_fixtures::Counter;
-
-/// Evaluates a query over a document that is split into lines, with pieces of one row.
-fn by_lines<R: Threads + Wait + RandomSource>(
-    rt: &R,
-    alloc: Global,
-    doc: &[u8],
-    query: &str,
-    workers: usize,
-    gate: &Counter,
-) -> Result<Vec<u8>, Fault>
-    requires workers { (1 ≤ workers) × (workers ≤ 64) }
-{
-    let cuts = Cuts::every(alloc, doc, 1)?;
-    let how = How { workers, rows: 1 };
-    answer(rt, alloc, doc, query, &cuts, &how, gate)
-}
 
 /// Returns whether the fault is memory or a worker. Prints it for the script.
 fn lacks_resources<R: Print>(rt: &R, fault: Fault) -> bool {
@@ -66,7 +49,7 @@ fn answered_again<R: Threads + Wait + RandomSource + Print>(
     if !gate.is_balanced() {
         return None;
     }
-    Some(by_lines(rt, alloc, doc, query, workers, gate))
+    Some(by_lines(rt, alloc, doc, query, workers, 1, gate))
 }
 
 /// Evaluates a query. If memory or a worker is missing, it is evaluated again. Returns None if a
@@ -81,7 +64,7 @@ fn answered<R: Threads + Wait + RandomSource + Print>(
 ) -> Option<Result<Vec<u8>, Fault>>
     requires workers { (1 ≤ workers) × (workers ≤ 64) }
 {
-    match by_lines(rt, alloc, doc, query, workers, gate) {
+    match by_lines(rt, alloc, doc, query, workers, 1, gate) {
         Ok(bytes) => Some(Ok(bytes)),
         Err(fault) => answered_again(rt, alloc, doc, query, workers, gate, fault),
     }

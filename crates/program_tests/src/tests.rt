@@ -13,4 +13,4 @@ mod refusals;
 pub(crate) mod samples;
 mod tables;
 pub(crate) mod words;
-mod workers;
+pub(crate) mod workers;

@@ -3,9 +3,8 @@
 use super::asking::{Asked, CHUNK, WHOLE, Way, check, command, ran, select, terms};
 use super::samples::{GRAPHS, REPEATED, TWO_LINES};
 use nquads_core::Device;
-use sparql_read::QueryFault;
 use spq_core::{RunFault, finish, run};
-use std::alloc::Global;
+use std::alloc::{AllocError, Global};
 use std::random::RandomSource;
 use std::sync::Wait;
 use std::thread::Threads;
@@ -36,20 +35,6 @@ fn devices_that_count_no_failures_do_not_fail(rt: HostRuntime) {
     assert!(rt; agrees_with_std(&rt, rt.alloc(), (2, 1, 1)), "two workers");
 }
 
-/// The end of a run over `REPEATED`.
-#[derive(Clone, Copy, Debug, PartialEq, Eq)]
-struct Ended {
-    done: Result<(), RunFault>,
-    /// The number of bytes written, if they are a prefix of the output.
-    written: Option<usize>,
-    /// The numbers of calls of the reader and of the writer that failed.
-    failed: (u64, u64),
-    /// Whether the reader was called.
-    is_read: bool,
-    /// The exit status of the program, and whether the line that it prints is the expected one.
-    told: (u8, bool),
-}
-
 /// Returns the number of bytes written, if they are a prefix of the output.
 fn written_of(output: &[u8], writer: &VecSink) -> Option<usize> {
     if output.starts_with(&writer.bytes) {
@@ -59,55 +44,66 @@ fn written_of(output: &[u8], writer: &VecSink) -> Option<usize> {
     }
 }
 
-/// Returns the exit status after a run, and whether the line that the program prints is the expected
-/// one.
-fn told_of(alloc: Global, done: Result<(), RunFault>, line: &[u8]) -> (u8, bool) {
+/// Prints the exit status after a run, and the line that the program prints.
+fn told_of(alloc: Global, done: Result<(), RunFault>) -> Result<String, AllocError> {
     let mut last = VecSink::new(alloc, 1000);
     let status = finish(&done, &mut last);
-    (status, last.bytes.as_slice() == line)
+    let line = str::from_utf8(&last.bytes).unwrap_or("?");
+    format!(in alloc; "status {status}, {line}")
 }
 
-/// Runs a select. `line` is the line to expect if it fails.
+/// Runs a select over `REPEATED`, and prints its end: the result, the number of bytes written if
+/// they are a prefix of the output, the numbers of calls of the reader and of the writer that
+/// failed, whether the reader was called, the exit status, and the line that the program prints.
 fn run_select<R: Threads + Wait + RandomSource>(
     rt: &R,
     alloc: Global,
     query: &str,
-    mut reader: SliceSource<'_>,
-    mut writer: VecSink,
-    line: &[u8],
-) -> Ended {
-    let done = ran(rt, alloc, select(query, WHOLE), &mut reader, &mut writer);
-    Ended {
-        done,
-        written: written_of(OUTPUT, &writer),
-        failed: (reader.failed, writer.failed),
-        is_read: reader.calls > 0,
-        told: told_of(alloc, done, line),
+    reader: &mut SliceSource<'_>,
+    writer: &mut VecSink,
+) -> Result<String, AllocError> {
+    let done = ran(rt, alloc, select(query, WHOLE), reader, writer);
+    let written = written_of(OUTPUT, writer);
+    let told = told_of(alloc, done)?;
+    let is_read = reader.calls > 0;
+    format!(in alloc;
+        "{done:?}, {written:?}, {} and {}, {is_read}, {told}",
+        reader.failed, writer.failed
+    )
+}
+
+/// Returns whether a run has this end. Prints the case and both ends if it has not.
+fn has_end<R: Print>(
+    rt: &R,
+    case: &str,
+    k: usize,
+    expected: &str,
+    end: Result<String, AllocError>,
+) -> bool {
+    match end {
+        Ok(end) => is_same_end(rt, case, k, expected, end.as_str()),
+        Err(_) => false,
     }
 }
 
 /// Returns whether the two ends are the same. Prints the case and both if they differ.
-fn is_same_end<R: Print>(rt: &R, case: &str, k: usize, expected: &Ended, end: &Ended) -> bool {
+fn is_same_end<R: Print>(rt: &R, case: &str, k: usize, expected: &str, end: &str) -> bool {
     if end == expected {
         return true;
     }
-    let _ = println!(rt; "{case} {k}: expected {expected:?}, got {end:?}");
+    let _ = println!(rt; "{case} {k}: expected {expected}got {end}");
     false
 }
 
 /// Returns whether a run whose writer fails after `k` bytes has written just these.
 fn is_cut_after<R: Threads + Wait + RandomSource + Print>(rt: &R, alloc: Global, k: usize) -> bool {
-    let reader = SliceSource::new(REPEATED.as_bytes(), CHUNK);
-    let writer = VecSink::failing_after(alloc, 1, k);
-    let end = run_select(rt, alloc, OBJECTS, reader, writer, b"error: output\n");
-    let expected = Ended {
-        done: Err(RunFault::Write),
-        written: Some(k),
-        failed: (0, 1),
-        is_read: true,
-        told: (5, true),
-    };
-    is_same_end(rt, "write", k, &expected, &end)
+    let mut reader = SliceSource::new(REPEATED.as_bytes(), CHUNK);
+    let mut writer = VecSink::failing_after(alloc, 1, k);
+    let end = run_select(rt, alloc, OBJECTS, &mut reader, &mut writer);
+    match format!(in alloc; "Err(Write), Some({k}), 0 and 1, true, status 5, error: output\n") {
+        Ok(expected) => has_end(rt, "write", k, expected.as_str(), end),
+        Err(_) => false,
+    }
 }
 
 fn are_cut<R: Threads + Wait + RandomSource + Print>(rt: &R, alloc: Global) -> bool {
@@ -126,17 +122,11 @@ fn each_write_that_fails_leaves_a_beginning(rt: HostRuntime) {
 
 #[test]
 fn a_writer_that_takes_nothing_has_failed(rt: HostRuntime) {
-    let reader = SliceSource::new(REPEATED.as_bytes(), CHUNK);
-    let writer = VecSink::new(rt.alloc(), 0);
-    let end = run_select(&rt, rt.alloc(), OBJECTS, reader, writer, b"error: output\n");
-    let expected = Ended {
-        done: Err(RunFault::Write),
-        written: Some(0),
-        failed: (0, 0),
-        is_read: true,
-        told: (5, true),
-    };
-    assert!(rt; is_same_end(&rt, "a writer of chunks of", 0, &expected, &end));
+    let mut reader = SliceSource::new(REPEATED.as_bytes(), CHUNK);
+    let mut writer = VecSink::new(rt.alloc(), 0);
+    let end = run_select(&rt, rt.alloc(), OBJECTS, &mut reader, &mut writer);
+    let expected = "Err(Write), Some(0), 0 and 0, true, status 5, error: output\n";
+    assert!(rt; has_end(&rt, "a writer of chunks of", 0, expected, end));
 }
 
 /// Returns whether a run whose reader fails after `k` bytes has written nothing.
@@ -145,17 +135,11 @@ fn is_not_written<R: Threads + Wait + RandomSource + Print>(
     alloc: Global,
     k: usize,
 ) -> bool {
-    let reader = SliceSource::failing_after(REPEATED.as_bytes(), CHUNK, k);
-    let writer = VecSink::new(alloc, 1000);
-    let end = run_select(rt, alloc, OBJECTS, reader, writer, b"error: input\n");
-    let expected = Ended {
-        done: Err(RunFault::Read),
-        written: Some(0),
-        failed: (1, 0),
-        is_read: true,
-        told: (5, true),
-    };
-    is_same_end(rt, "the read after bytes", k, &expected, &end)
+    let mut reader = SliceSource::failing_after(REPEATED.as_bytes(), CHUNK, k);
+    let mut writer = VecSink::new(alloc, 1000);
+    let end = run_select(rt, alloc, OBJECTS, &mut reader, &mut writer);
+    let expected = "Err(Read), Some(0), 1 and 0, true, status 5, error: input\n";
+    has_end(rt, "the read after bytes", k, expected, end)
 }
 
 fn are_not_written<R: Threads + Wait + RandomSource + Print>(rt: &R, alloc: Global) -> bool {
@@ -174,19 +158,12 @@ fn each_read_that_fails_writes_nothing(rt: HostRuntime) {
 
 #[test]
 fn a_bad_query_reads_nothing(rt: HostRuntime) {
-    let reader = SliceSource::failing_after(REPEATED.as_bytes(), CHUNK, 0);
-    let writer = VecSink::new(rt.alloc(), 1000);
+    let mut reader = SliceSource::failing_after(REPEATED.as_bytes(), CHUNK, 0);
+    let mut writer = VecSink::new(rt.alloc(), 1000);
     let query = "SELECT ?x { ?x <http://e/p> }";
-    let line = b"error: query syntax\n";
-    let end = run_select(&rt, rt.alloc(), query, reader, writer, line);
-    let expected = Ended {
-        done: Err(RunFault::Query(QueryFault::Syntax)),
-        written: Some(0),
-        failed: (0, 0),
-        is_read: false,
-        told: (2, true),
-    };
-    assert!(rt; is_same_end(&rt, "a bad query", 0, &expected, &end));
+    let end = run_select(&rt, rt.alloc(), query, &mut reader, &mut writer);
+    let expected = "Err(Query(Syntax)), Some(0), 0 and 0, false, status 2, error: query syntax\n";
+    assert!(rt; has_end(&rt, "a bad query", 0, expected, end));
 }
 
 /// A number of calls that no reader or writer here reaches.

@@ -15,22 +15,21 @@ use std::sync::atomic::{AtomicU64, Ordering};
 use std::thread::{Threads, yield_now};
 use test_fixtures::Meeting;
 
-/// Evaluates a query over a document that is split into lines.
-fn by_lines<R: Threads + Wait + RandomSource, G: Gate + Sync>(
+/// Evaluates a query over a document that is split into lines, with pieces of `rows` rows.
+pub(crate) fn by_lines<R: Threads + Wait + RandomSource, G: Gate + Sync>(
     rt: &R,
     alloc: Global,
     doc: &[u8],
     query: &str,
     workers: usize,
+    rows: usize,
     gate: &G,
 ) -> Result<Vec<u8>, Fault>
     requires workers { (1 ≤ workers) × (workers ≤ 64) }
+    requires rows { 1 ≤ rows }
 {
     let cuts = Cuts::every(alloc, doc, 1)?;
-    let how = How {
-        workers,
-        rows: 1024,
-    };
+    let how = How { workers, rows };
     answer(rt, alloc, doc, query, &cuts, &how, gate)
 }
 
@@ -42,7 +41,7 @@ fn has_rows<R: Threads + Wait + RandomSource>(
     expected: &[u8],
 ) -> bool {
     let query = "SELECT ?s { ?s <http://e/p> _:x }";
-    match by_lines(rt, alloc, TWO_OBJECTS.as_bytes(), query, 2, gate) {
+    match by_lines(rt, alloc, TWO_OBJECTS.as_bytes(), query, 2, 1024, gate) {
         Ok(given) => given.as_slice() == expected,
         Err(_) => false,
     }
@@ -154,7 +153,7 @@ fn query_names_line_3<R: Threads + Wait + RandomSource>(
     requires workers { (1 ≤ workers) × (workers ≤ 64) }
 {
     let gate = ThirdAfterFourth::fresh();
-    let fault = by_lines(rt, alloc, doc, "SELECT * { }", workers, &gate).err();
+    let fault = by_lines(rt, alloc, doc, "SELECT * { }", workers, 1024, &gate).err();
     fault == Some(Fault::BadLine(3)) && gate.is_kept()
 }
 
