@@ -11,7 +11,7 @@ empty_end = record { blanks = []; comment = []; parts = refl; all_blank = refl; 
 empty_line : IsWellFormed []
 empty_line = record {
   meaning = None;
-  spelled = record {
+  statement = record {
     utf8 = search rules;
     one_line = λ i h. absurd (omega arith);
     terminals = [];

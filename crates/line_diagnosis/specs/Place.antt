@@ -7,7 +7,7 @@ use Rattle.nquads_core.specs.Grammar.{HasStatement}
 -- the line holds a statement, or is blank or a comment
 pub record IsWellFormed (line : List ℕ) : Type 0 where
   pub meaning : Option QuadParts
-  pub spelled : HasStatement line meaning
+  pub statement : HasStatement line meaning
 
 -- some well-formed line begins with these bytes
 pub record IsLinePrefix (front : List ℕ) : Type 0 where

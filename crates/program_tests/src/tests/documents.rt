@@ -175,7 +175,7 @@ const LISTED: [(&str, &str, &str); 5] = [
         "<http://e/a>\n<http://e/p>\n_:o_:g\n",
     ),
     (
-        "a dot behind a tag",
+        "a dot after a tag",
         "<http://e/a> <http://e/p> \"x\"@en-GB.\n",
         "<http://e/a>\n<http://e/p>\n\"x\"@en-gb\n",
     ),
