@@ -32,7 +32,7 @@ fmt crate:
 
 # check the mutants of a crate: those of the gate, then the others
 mutants crate:
-    rt must-fail {{crate}}
+    tests/wrong_bodies.py --gate {{crate}}
     tests/wrong_bodies.py {{crate}}
 
 # regenerate and check the pages

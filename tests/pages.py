@@ -388,7 +388,7 @@ def counts_part():
     return [
         "| folder | mutants | checked by |",
         "|---|---|---|",
-        f"| `crates/*/must-fail` | {in_gate} | the gate, `.ci/run` |",
+        f"| `crates/*/wrong-bodies/gate` | {in_gate} | the gate: `tests/wrong_bodies.py --gate` |",
         f"| `crates/*/wrong-bodies` | {len(mutants()) - in_gate} | `tests/wrong_bodies.py` |",
         "",
     ]
@@ -455,10 +455,10 @@ def page_faults(path):
 
 
 def mutant_faults():
-    faults = [f"crates/{it.crate}/{it.folder}/{it.name}.edit: {it.fault}" for it in mutants() if it.fault]
+    faults = [f"{it.path}: {it.fault}" for it in mutants() if it.fault]
     in_gate = sum(it.in_gate for it in mutants())
     if in_gate > MOST_IN_THE_GATE:
-        faults.append(f"crates/*/must-fail: the gate has {in_gate} mutants, and at most {MOST_IN_THE_GATE} are allowed")
+        faults.append(f"crates/*/wrong-bodies/gate: the gate has {in_gate} mutants, and at most {MOST_IN_THE_GATE} are allowed")
     return faults
 
 

@@ -194,14 +194,19 @@ def sources_of(crate):
     return found
 
 
+# The folders of a crate that hold mutants, the gate's first.
+GATE_MUTANTS, OTHER_MUTANTS = "wrong-bodies/gate", "wrong-bodies"
+
+
 class Mutant:
-    """An edit of a crate: its name, folder, the names of what it changes, and why it cannot be applied."""
+    """An edit of a crate: its name, folder, the names of what it changes, the edited texts, and why it cannot be applied."""
 
     def __init__(self, crate, folder, name):
         self.crate, self.folder, self.name = crate, folder, name
-        self.in_gate = folder == "must-fail"
-        self.changed, self.fault = [], ""
-        with open(f"{ROOT}/crates/{crate}/{folder}/{name}.edit", encoding="utf-8") as file:
+        self.in_gate = folder == GATE_MUTANTS
+        self.changed, self.prover_paths, self.texts, self.fault = [], [], {}, ""
+        self.path = f"crates/{crate}/{folder}/{name}.edit"
+        with open(f"{ROOT}/{self.path}", encoding="utf-8") as file:
             self.apply(file.read())
 
     def apply(self, edit):
@@ -225,12 +230,14 @@ class Mutant:
                 new = line.removeprefix("new:").removeprefix(" ")
                 texts[path][1] = texts[path][1].replace(old, new)
                 old, pairs = "", pairs + 1
+        self.texts = {path: now for path, (_, now) in texts.items()}
         if not pairs or all(was == now for was, now in texts.values()):
             self.fault = "it changes nothing"
 
     def note(self, path, text, old):
         """Notes the function, or else the item, at the changed place."""
         if not path.endswith(".rt"):
+            self.prover_paths.append(None)
             return
         source = sources_of(self.crate)[path]
         if text != source.text:
@@ -241,11 +248,22 @@ class Mutant:
         name = found.path if is_function else found.name if found else path
         if (name, is_function) not in self.changed:
             self.changed.append((name, is_function))
+        # (an edit outside any item is one of the imports)
+        if found:
+            self.prover_paths.append(prover_path(path, found) if is_function else None)
 
     def names(self):
         """Returns the changed functions. If no function is changed: the changed items, or else the file."""
         functions = [name for name, is_function in self.changed if is_function]
         return functions or [name for name, _ in self.changed]
+
+
+def prover_path(path, function):
+    """Returns the path below the crate under which the prover knows a function. A method of a trait is named by its module."""
+    module = path.removeprefix("src/").removesuffix(".rt").replace("/", "::")
+    in_trait = function.owner and (function.owner.kind == "trait" or function.owner.trait)
+    names = [module] * (module not in ("lib", "main")) + [function.path] * (not in_trait)
+    return "::".join(names) or None
 
 
 @functools.lru_cache(maxsize=None)
@@ -259,7 +277,7 @@ def mutants():
     """Reads all mutants, by crate and name."""
     found = []
     for crate in crates():
-        for folder in ("must-fail", "wrong-bodies"):
+        for folder in (GATE_MUTANTS, OTHER_MUTANTS):
             at = f"{ROOT}/crates/{crate}/{folder}"
             names = sorted(it for it in os.listdir(at) if it.endswith(".edit")) if os.path.isdir(at) else []
             found += [Mutant(crate, folder, it.removesuffix(".edit")) for it in names]

@@ -46,7 +46,8 @@ WORDS = [
     (r"reads? back", "round-trip"),
     (r"dear|dearer|dearest|mends?|mended|blurs?|(?:is|be|are) felt", "cost; fix; add noise; noticeable"),
 ]
-PATTERN = re.compile("|".join(rf"(?P<w{place}>(?<![\w-])(?:{word})(?![\w-]))" for place, (word, _) in enumerate(WORDS)), re.I)
+ANY = "|".join(f"(?P<w{place}>{word})" for place, (word, _) in enumerate(WORDS))
+PATTERN = re.compile(rf"(?<![\w-])(?:{ANY})(?![\w-])", re.I)
 GENERATED = re.compile(r"<!-- generated: .*?<!-- end of the generated part -->", re.S)
 BLOCK, SPAN, QUOTE = re.compile(r"^```.*?^```", re.S | re.M), re.compile(r"``[^`]+``|`[^`]+`"), re.compile(r'"[^"\n]*"|“[^”]*”')
 LINK = re.compile(r"\[\w+(?:/|::)\w+\]\([^)\s]*\)|\]\([^)\s]*\)|https?://\S+|\b[\w/]+\.(?:antt|c|md|py|rs|rt|sh)\b")
@@ -99,11 +100,9 @@ def words_of(path):
         prose = prose_of_page(text)
     else:
         prose = prose_of_source(text, COMMENTS[os.path.splitext(path)[1]])
-    found = []
-    for it in PATTERN.finditer(prose):
-        place = int(it.lastgroup[1:])
-        found.append((prose.count("\n", 0, it.start()) + 1, it[0].lower(), WORDS[place][1]))
-    return found
+    lines = [(number, line.strip()) for number, line in enumerate(prose.split("\n"), 1)]
+    found = [(number, it) for number, line in lines if line for it in PATTERN.finditer(line)]
+    return [(number, it[0].lower(), WORDS[int(it.lastgroup[1:])][1]) for number, it in found]
 
 
 def main():
