@@ -39,10 +39,19 @@ impl<T: Drop> From<AllocFailed<T>> for NamingFault {
 }
 
 /// The distinct slices of a piece by first appearance, and the number of the term that each denotes.
-#[derive(Drop)]
 struct Slices<'a> {
     texts: IndexSet<&'a str, HashState>,
     numbers: Vec<u64>,
+}
+
+impl Drop for Slices<'_> {
+    /// Drops the slices and the numbers. It is written out for the same reason as the drop of a dictionary.
+    fn drop(self) {
+        let Slices {
+            texts: _,
+            numbers: _,
+        } = self;
+    }
 }
 
 /// Where in [`Slices`] the slices of the next statement are likely to be. A wrong guess costs a comparison.
@@ -78,12 +87,11 @@ pub(crate) fn number_statements(
 {
     let state = HashState::new(state);
     let likely = raws.len().saturating_mul(2);
-    let mut dict = Dict::with_capacity(alloc, state, likely)?;
     let mut quads = Vec::with_capacity(alloc, raws.len())?;
-    let mut slices = Slices {
-        texts: IndexSet::with_capacity_and_hasher(alloc, likely, state)?,
-        numbers: Vec::with_capacity(alloc, likely)?,
-    };
+    let numbers = Vec::with_capacity(alloc, likely)?;
+    let texts = IndexSet::with_capacity_and_hasher(alloc, likely, state)?;
+    let mut slices = Slices { texts, numbers };
+    let mut dict = Dict::with_capacity(alloc, state, likely)?;
     number_all(alloc, &mut slices, &mut dict, &mut quads, raws)?;
     Ok(LocalPiece { dict, quads })
 }
