@@ -1,5 +1,5 @@
 -- The three lists of an index.
-use Rattle.std.proofs.Common.{◌≡◌, ℕ, zero, suc, ◌<◌, List, [], ◌∷◌, length, map, Option, Some, None, Result, Ok, Err, IfOk, refl, sym, ap, ◌∙◌, subst, arith, IsPermutation}
+use Rattle.std.proofs.Common.{◌≡◌, ℕ, zero, suc, ◌<◌, List, [], ◌∷◌, ◌++◌, append-nil, length, map, Option, Some, None, Result, Ok, Err, IfOk, refl, sym, ap, ◌∙◌, subst, arith, IsPermutation}
 use Rattle.std.specs.Prelude.{Vec, IfSome}
 use Rattle.std.proofs.lemmas.List.{length-map}
 use Rattle.std.specs.Global.{Global}
@@ -34,6 +34,11 @@ three_sorted quads lists a b c each e =
       same_second = same_once (without_repeats quad_eq quads) a.items b.items p.each_once q.each_once;
       same_third = same_once (without_repeats quad_eq quads) a.items c.items p.each_once r.each_once;
     }
+
+-- nothing is left to move
+pub all_moved : {A : Type 0} (done left whole : List A) → done ++ left ≡ whole → length left ≡ 0 → done ≡ whole
+all_moved done [] whole e none = sym (append-nil done) ∙ e
+all_moved done (x ∷ left) whole e none = absurd (omega (arith, none))
 
 -- the index of the three lists has each quad once
 pub index_once : (r : Result (List NumQuad) AllocError) (lists : List (Vec NumQuad Global)) (a b c : Vec NumQuad Global) → lists ≡ a ∷ b ∷ c ∷ []
