@@ -1,12 +1,18 @@
 -- Blocks that are read one after the other.
-use Rattle.std.proofs.Common.{◌≡◌, ℕ, ◌+◌, ◌-◌, ◌<◌, ◌≤◌, List, [], ◌∷◌, ◌++◌, length, get_or, take, Option, Some, None, IfSome, Ok, Vec, Global, refl, sym, ap, ◌∙◌, subst, append_assoc, append-nil, length-append, inl, inr, ◌⊎◌, arith, rules}
+use Rattle.std.proofs.Common.{◌≡◌, ℕ, ◌+◌, ◌-◌, ◌<◌, ◌≤◌, List, [], ◌∷◌, ◌++◌, length, get_or, take, Option, Some, None, IfSome, Ok, Err, Vec, Global, refl, sym, ap, ◌∙◌, subst, append_assoc, append-nil, length-append, inl, inr, ◌⊎◌, arith, rules}
 use Rattle.std.proofs.lemmas.List.{take_more, take_all, map-append, get_or_append_left}
 use Rattle.std.proofs.lemmas.Grind.{flat_map-append}
+use Rattle.std.specs.Borrow.{Bor}
 use Rattle.std.specs.Io.KnownBytes.{Consumes, IsAtEnd}
+use Rattle.nquads_core.specs.Device.{Stays}
 use Rattle.nquads_core.specs.Lines.{EndsLine}
+use Rattle.nquads_core.specs.Transfer.{CountsRead}
+use Rattle.nquads_core.specs.declared.transfer.ReadFault.{ReadFault}
+use Rattle.nquads_core.specs.declared.transfer.ReadFault.TheVariants.{Read, Memory}
+use Rattle.nquads_core.proofs.TransferSteps.{Stays-rises, Stays-stays}
 use Rattle.piece_cuts.specs.Blocks.{BothKnown, GivesKnownBlock, IsFirstPiece, IsWhole}
 use Rattle.piece_cuts.specs.Laws.{EndsWithLineFeed, FirstPieceThenTheRest}
-use Rattle.dataset_load.specs.Lines.{AreBlocksOf, AreWholeLines, EachEnds, block_texts, joined}
+use Rattle.dataset_load.specs.Lines.{AreBlocksOf, AreWholeLines, EachEnds, block_texts, joined, texts}
 use Rattle.dataset_load.specs.Streaming.{IsReadIn}
 
 pub whole_from_last : (bytes : List ℕ) → 0 < length bytes → get_or bytes (length bytes - 1) 0 ≡ 10 → EndsWithLineFeed bytes
@@ -58,6 +64,15 @@ whole_all ps h i low = h i (omega arith)
 
 pub texts_more : (old new : List (Vec ℕ Global)) (block : Vec ℕ Global) → new ≡ old ++ block ∷ [] → block_texts new ≡ block_texts old ++ block.items ∷ []
 texts_more old new block e = ap block_texts e ∙ map-append (λ (b : Vec ℕ Global). b.items) old (block ∷ [])
+
+-- one more block is borrowed
+pub borrowed_more : (pieces new : List (Bor (List ℕ))) (blocks : List (Vec ℕ Global)) (i : ℕ) (piece : Bor (List ℕ)) (block : Vec ℕ Global)
+    → i < length blocks → texts pieces ≡ block_texts (take i blocks) → piece.now ≡ block.items → block ≡ get_or blocks i block → new ≡ pieces ++ piece ∷ []
+    → texts new ≡ block_texts (take (i + 1) blocks)
+borrowed_more pieces new blocks i piece block low was value is pushed =
+    ap texts pushed ∙ map-append (λ (p : Bor (List ℕ)). p.now) pieces (piece ∷ []) ∙ (λ j. was j ++ value j ∷ [])
+    ∙ ap (λ (b : Vec ℕ Global). block_texts (take i blocks) ++ b.items ∷ []) is
+    ∙ sym (texts_more (take i blocks) (take (i + 1) blocks) (get_or blocks i block) (take_more blocks i block low))
 
 pub pushed_length : (old new : List (Vec ℕ Global)) (block : Vec ℕ Global) → new ≡ old ++ block ∷ [] → length new ≡ length old + 1
 pushed_length old new block e = ap length e ∙ length-append old (block ∷ [])
@@ -122,6 +137,11 @@ at_the_end left block (inr end) unended = end
 pub none_at_end : (left : Option (List ℕ)) → IsWhole None ⊎ IsAtEnd left → IsAtEnd left
 none_at_end left (inl whole) = absurd whole
 none_at_end left (inr end) = end
+
+-- a failure after reads that did not fail
+pub fault_counts : (a b c : Option ℕ) (fault : ReadFault) → Stays a b → CountsRead {T = ℕ} b c (Err fault) → CountsRead {T = ℕ} a c (Err fault)
+fault_counts a b c Read h k = Stays-rises a b c h k
+fault_counts a b c Memory h k = Stays-stays a b c h k
 
 -- ---- the blocks are the pieces
 

@@ -1,15 +1,16 @@
 -- The three lists of an index.
-use Rattle.std.proofs.Common.{◌≡◌, ℕ, zero, suc, ◌<◌, List, [], ◌∷◌, length, map, Option, Some, None, refl, sym, ap, ◌∙◌, subst, arith, IsPermutation}
+use Rattle.std.proofs.Common.{◌≡◌, ℕ, zero, suc, ◌<◌, List, [], ◌∷◌, ◌++◌, append-nil, length, map, Option, Some, None, Result, Ok, Err, IfOk, refl, sym, ap, ◌∙◌, subst, arith, IsPermutation}
 use Rattle.std.specs.Prelude.{Vec, IfSome}
 use Rattle.std.proofs.lemmas.List.{length-map}
 use Rattle.std.specs.Global.{Global}
+use Rattle.std.specs.declared.alloc.AllocError.{AllocError}
 use Rattle.std.specs.List.{slice_index_or}
 use Rattle.dict_core.specs.declared.num_quad.NumQuad.{NumQuad}
 use Rattle.quad_index.specs.declared.sort_order.SortOrder.TheVariants.{Gspo, Gpos, Gosp}
 use Rattle.quad_index.proofs.ReadingLaws.{same_once}
 use Rattle.dict_core.proofs.NumQuadLaws.{quad_eq}
 use Rattle.algebra_model.specs.Bag.{without_repeats}
-use Rattle.dataset_load.specs.Rounds.{AreSortedLists, IsSortedList, order_at}
+use Rattle.dataset_load.specs.Rounds.{AreOwnedSortedLists, AreSortedLists, IsSortedList, order_at}
 
 pub record AreSorted (quads gspo gpos gosp : List NumQuad) : Type 0 where
   pub first : IsSortedList Gspo quads gspo
@@ -33,6 +34,18 @@ three_sorted quads lists a b c each e =
       same_second = same_once (without_repeats quad_eq quads) a.items b.items p.each_once q.each_once;
       same_third = same_once (without_repeats quad_eq quads) a.items c.items p.each_once r.each_once;
     }
+
+-- nothing is left to move
+pub all_moved : {A : Type 0} (done left whole : List A) → done ++ left ≡ whole → length left ≡ 0 → done ≡ whole
+all_moved done [] whole e none = sym (append-nil done) ∙ e
+all_moved done (x ∷ left) whole e none = absurd (omega (arith, none))
+
+-- the index of the three lists has each quad once
+pub index_once : (r : Result (List NumQuad) AllocError) (lists : List (Vec NumQuad Global)) (a b c : Vec NumQuad Global) → lists ≡ a ∷ b ∷ c ∷ []
+    → IfOk r (λ index. index ≡ a.items) → IfOk r (λ index. (quads : List NumQuad) → AreOwnedSortedLists quads lists → IsPermutation (without_repeats quad_eq quads) index)
+index_once (Ok index) lists a b c e is = λ quads are.
+    subst (λ (list : List NumQuad). IsPermutation (without_repeats quad_eq quads) list) (sym is) (three_sorted quads lists a b c are e).first.each_once
+index_once (Err failed) lists a b c e is = tt
 
 -- the lists that were unpacked
 pub unpacked : (quads : List NumQuad) (lists : List (List NumQuad)) (outs : List (Vec NumQuad Global)) → AreSortedLists quads lists

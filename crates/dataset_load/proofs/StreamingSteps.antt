@@ -1,8 +1,9 @@
 -- Rounds of blocks that are read one after the other.
-use Rattle.std.proofs.Common.{◌≡◌, ℕ, suc, List, [], ◌∷◌, ◌++◌, Bool, true, false, Option, Some, None, Result, Ok, Vec, Global, refl, sym, ap, ◌∙◌, subst, append_assoc, append-nil, inl, inr, ◌⊎◌, arith}
+use Rattle.std.proofs.Common.{◌≡◌, ℕ, suc, List, [], ◌∷◌, ◌++◌, Bool, true, false, Option, Some, None, Result, Ok, Err, Vec, Global, refl, sym, ap, ◌∙◌, subst, append_assoc, append-nil, inl, inr, ◌⊎◌, arith}
 use Rattle.std.specs.Io.KnownBytes.{Consumes, IsAtEnd}
 use Rattle.nquads_core.specs.Lines.{lines, EndsLine}
-use Rattle.nquads_core.specs.Transfer.{IsReadInPart}
+use Rattle.nquads_core.specs.Device.{Stays}
+use Rattle.nquads_core.specs.Transfer.{CountsRead, IsReadInPart}
 use Rattle.nquads_core.proofs.LineEnds.{lines_join}
 use Rattle.nquads_core.proofs.PieceLaws.{lines_nil}
 use Rattle.nquads_core.proofs.TransferSteps.{Consumes-more, in-part-more}
@@ -10,6 +11,7 @@ use Rattle.piece_cuts.specs.Blocks.{GivesKnownBlock}
 use Rattle.piece_cuts.specs.Laws.{EndsWithLineFeed}
 use Rattle.dataset_load.specs.declared.numbered.Numbered.{Numbered}
 use Rattle.nquads_core.specs.declared.transfer.ReadFault.{ReadFault}
+use Rattle.nquads_core.specs.declared.transfer.ReadFault.TheVariants.{Read as ReadFails, Memory as ReadMemory}
 use Rattle.nquads_core.specs.Pieces.{IsBadLine}
 use Rattle.dataset_load.specs.declared.reader_fault.ReaderFault.{ReaderFault}
 use Rattle.dataset_load.specs.declared.fault.LoadFault.{LoadFault}
@@ -19,7 +21,7 @@ use Rattle.dataset_load.specs.Lines.{AreWholeLines, EachEnds, all_lines, joined}
 use Rattle.dataset_load.specs.Loaded.{IsLoaded}
 use Rattle.dataset_load.specs.Store.{StoreView}
 use Rattle.dataset_load.specs.Rounds.{HasRead}
-use Rattle.dataset_load.specs.ReaderFault.{IfBadLineRead, fault_of_load}
+use Rattle.dataset_load.specs.ReaderFault.{CountsLoading, IfBadLineRead, fault_of_load, fault_of_read}
 use Rattle.dataset_load.specs.Streaming.{IsBadLineFrom, IsBadSoFar, IsLoadedFrom, IsReadFrom, IsReadIn, IsReadUpTo, TakesRest, TakesRound}
 use Rattle.dataset_load.proofs.LineLaws.{bad_before, lines_of_pieces}
 use Rattle.dataset_load.proofs.ReaderSteps.{nothing_after, read_front, read_start, whole_all}
@@ -225,3 +227,14 @@ bad_from a b c n was rest end = by was.rest
 pub loaded_from : (a b : Option (List ℕ)) (so_far : Numbered) (store : StoreView) → IsReadFrom a b so_far
     → ((ls : List (List ℕ)) → HasRead so_far ls → IsLoaded ls store) → IsLoadedFrom a b store
 loaded_from a b so_far store was load = record { doc = was.doc; consumed = was.consumed; at_end = was.at_end; loaded = load (lines was.doc) was.read }
+
+-- ---- the count of failures
+
+pub load_counts : (a b : Option ℕ) (fault : LoadFault) → Stays a b → CountsLoading {T = ℕ} a b (Err (fault_of_load fault))
+load_counts a b (BadLine n) h = h
+load_counts a b WorkerRefused h = h
+load_counts a b Memory h = h
+
+pub read_counts : (a b : Option ℕ) (fault : ReadFault) → CountsRead {T = ℕ} a b (Err fault) → CountsLoading {T = ℕ} a b (Err (fault_of_read fault))
+read_counts a b ReadFails h = h
+read_counts a b ReadMemory h = h

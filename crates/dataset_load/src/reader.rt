@@ -37,15 +37,38 @@ pub fn read_blocks<S: Source>(
     ensures taken { OnErr result (IsReadInPart (S.left reader.old) (S.left reader.new)) }
     ensures count { CountsRead (S.failures reader.old) (S.failures reader.new) result }
 {
-    first_piece_then_the_rest();
     let Ok(mut blocks) = Blocks::new(alloc, size) else {
         return Err(ReadFault::Memory);
     };
-    let mut read: Vec<Vec<u8>> = Vec::new(alloc);
+    let mut read = Vec::new(alloc);
+    append_blocks(&mut read, &mut blocks, reader)?;
+    Ok(read)
+}
+
+/// Appends all blocks that a reader has left.
+fn append_blocks<S: Source>(
+    read: &mut Vec<Vec<u8>>,
+    blocks: &mut Blocks,
+    reader: &mut S,
+) -> Result<(), ReadFault>
+    requires none { read.old.items ≡ [] }
+    requires some { 1 ≤ blocks.old.size }
+    requires reading { blocks.old.state ≡ BlockState.Reading }
+    requires unread { blocks.old.kept ≡ [] }
+    ensures whole_lines { OnOk result (AreWholeLines (block_texts read.new.items)) }
+    ensures bytes { OnOk result (Consumes (S.left reader.old) (S.left reader.new)
+        (joined (block_texts read.new.items))) }
+    ensures pieces { OnOk result (IfSome (S.left reader.old)
+        (λ text. AreBlocksOf blocks.old.size text (block_texts read.new.items))) }
+    ensures at_end { OnOk result (IsAtEnd (S.left reader.new)) }
+    ensures taken { OnErr result (IsReadInPart (S.left reader.old) (S.left reader.new)) }
+    ensures count { CountsRead (S.failures reader.old) (S.failures reader.new) result }
+{
+    first_piece_then_the_rest();
     'reading: loop {
         let block = match blocks.next(reader) {
             Ok(Some(block)) => block,
-            Ok(None) => return Ok(read),
+            Ok(None) => return Ok(()),
             Err(fault) => return Err(fault),
         };
         let is_whole = ends_with_line_feed(block.as_slice());
@@ -53,7 +76,7 @@ pub fn read_blocks<S: Source>(
             return Err(ReadFault::Memory);
         };
         if !is_whole {
-            return Ok(read);
+            return Ok(());
         }
     }
 }

@@ -4,7 +4,7 @@ ghost use Rattle.piece_pool.specs.Limits.{most_workers};
 ghost use Rattle.algebra_model.specs.Bag.{without_repeats};
 ghost use Rattle.dict_core.specs.Equality.{quad_eq};
 ghost use Rattle.dataset_load.specs.Fault.{IfBadLine, IsOneWorkerLoadFault};
-ghost use Rattle.dataset_load.specs.Rounds.{AreSortedLists, IsSortedList, order_at};
+ghost use Rattle.dataset_load.specs.Rounds.{AreOwnedSortedLists, AreSortedLists, IsSortedList, order_at};
 
 use crate::fault::LoadFault;
 use dict_core::NumQuad;
@@ -196,10 +196,7 @@ fn unpacked_index<R: Threads + Wait>(
 {
     let job = UnpackedLists { lists };
     match run_all(rt, alloc, workers, 3, &job, &OpenGate)? {
-        Outcome::All(lists) => {
-            let (gspo, gpos, gosp) = three(lists);
-            Ok(Index::of_lists(alloc, gspo, gpos, gosp)?)
-        }
+        Outcome::All(lists) => Ok(index_of(alloc, lists)?),
         Outcome::First { .. } => unreachable!(),
     }
 }
@@ -219,20 +216,35 @@ fn plain_index<R: Threads + Wait>(
 {
     let job = SortedLists { quads };
     match run_all(rt, alloc, workers, 3, &job, &OpenGate)? {
-        Outcome::All(lists) => {
-            let (gspo, gpos, gosp) = three(lists);
-            Ok(Index::of_lists(alloc, gspo, gpos, gosp)?)
-        }
+        Outcome::All(lists) => Ok(index_of(alloc, lists)?),
         Outcome::First { .. } => unreachable!(),
     }
 }
 
+/// The index of these three lists.
+fn index_of(alloc: Global, lists: Vec<Vec<NumQuad>>) -> Result<Index, AllocError>
+    requires three { length lists.items ≡ 3 }
+    requires lists { (quads : _) × AreOwnedSortedLists quads lists.items }
+    ensures each_once { IfOk result (λ index. (quads : _) → AreOwnedSortedLists quads lists.items
+        → IsPermutation (without_repeats quad_eq quads) index) }
+{
+    let (gspo, gpos, gosp) = three(lists);
+    Index::of_lists(alloc, gspo, gpos, gosp)
+}
+
+/// The three values of a list.
 fn three<T: Drop>(list: Vec<T>) -> (T, T, T)
     requires three { length list.items ≡ 3 }
     ensures same { list.items ≡ result.0 ∷ result.1 ∷ result.2 ∷ [] }
 {
     let mut list = list;
-    let (Some(third), Some(second), Some(first)) = (list.pop(), list.pop(), list.pop()) else {
+    let Some(third) = list.pop() else {
+        unreachable!();
+    };
+    let Some(second) = list.pop() else {
+        unreachable!();
+    };
+    let Some(first) = list.pop() else {
         unreachable!();
     };
     (first, second, third)

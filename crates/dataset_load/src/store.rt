@@ -9,10 +9,17 @@ use std::marker::Model;
 
 /// A dataset: its terms, numbered by first appearance, and an index of its quads of numbers. A
 /// contract sees the terms and the numbered quads. Each number in the index is the number of a term.
-#[derive(Drop)]
 pub struct Store {
     dict: Dict,
     index: Index,
+}
+
+impl Drop for Store {
+    /// Drops the terms and the index. It is written out and not derived, so that a proof meets one call at
+    /// each exit that drops a store.
+    fn drop(self) {
+        let Store { dict: _, index: _ } = self;
+    }
 }
 
 impl Model for Store {

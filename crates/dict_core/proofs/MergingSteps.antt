@@ -1,5 +1,5 @@
 -- The steps of the functions that number and merge.
-use Rattle.std.proofs.Common.{◌≡◌, ℕ, suc, ◌<◌, Bool, true, false, List, [], ◌∷◌, ◌++◌, length, Option, None, Some, Result, Ok, Err, Vec, Global, map, slice_get, Contains, refl, sym, ap, ◌∙◌, subst, append_assoc}
+use Rattle.std.proofs.Common.{◌≡◌, ℕ, suc, ◌<◌, Bool, true, false, List, [], ◌∷◌, ◌++◌, length, Option, None, Some, Result, Ok, Err, Vec, Global, map, slice_get, Contains, refl, sym, ap, ◌∙◌, subst, append_assoc, append-nil, arith}
 use Rattle.std.specs.List.{AllZip, list_any}
 use Rattle.std.proofs.lemmas.Map.Views.{list_any-from_Contains}
 use Rattle.indexmap.specs.IndexSet.{insert_key, insert_all}
@@ -70,6 +70,10 @@ pub moved_one : {A B : Type 0} (f : A → B) (done new : List B) (left rest : Li
 moved_one f done new left rest x y whole new_is y_is left_is was =
     ap (λ l. l ++ map f rest) new_is ∙ append_assoc done (y ∷ []) (map f rest) ∙ ap (λ z. done ++ z ∷ map f rest) y_is
     ∙ ap (λ l. done ++ map f l) (sym left_is) ∙ was
+
+pub joined_all : (done : List QuadParts) (left : List (List QuadParts)) (whole : List QuadParts) → length left ≡ 0 → done ++ joined left ≡ whole → done ≡ whole
+joined_all done [] whole none was = sym (append-nil done) ∙ was
+joined_all done (piece ∷ left) whole none was = absurd (omega (arith, none))
 
 pub joined_more : (done piece : List QuadParts) (left rest : List (List QuadParts)) (whole : List QuadParts) → left ≡ piece ∷ rest → done ++ joined left ≡ whole
     → (done ++ piece) ++ joined rest ≡ whole

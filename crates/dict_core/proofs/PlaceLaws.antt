@@ -1,5 +1,5 @@
 -- The places that insertions answer are the numbers that the terms have.
-use Rattle.std.proofs.Common.{◌≡◌, ℕ, List, [], ◌∷◌, ◌++◌, Some, slice_get, refl, sym, ap, ◌∙◌, subst}
+use Rattle.std.proofs.Common.{◌≡◌, ℕ, List, [], ◌∷◌, ◌++◌, Some, slice_get, append_assoc, refl, sym, ap, ◌∙◌, subst}
 use Rattle.std.specs.List.{AllZip, position_or_len}
 use Rattle.indexmap.specs.IndexSet.{insert_key, insert_all}
 use Rattle.rdf_core.specs.declared.term.Term.{Term}
@@ -67,3 +67,16 @@ places_serve earlier later terms seen numbers apart grown looked named =
           (λ n t h. subst (λ l. slice_get l n ≡ Some t) merged (get-insert_all later (new_of seen) n t (keeps n t h)))
           terms seen numbers looked named,
     )
+
+-- ---- one more insertion
+
+pub inserted_one : (ks new : List Term) (t : Term) (left rest whole : List Term) → new ≡ insert_key term_eq ks t → left ≡ t ∷ rest
+    → insert_all term_eq ks left ≡ whole → insert_all term_eq new rest ≡ whole
+inserted_one ks new t left rest whole new_is left_is was = ap (λ l. insert_all term_eq l rest) new_is ∙ ap (insert_all term_eq ks) (sym left_is) ∙ was
+
+pub placed_one : (ks new : List Term) (t : Term) (left rest : List Term) (done more : List ℕ) (n : ℕ) (whole : List ℕ)
+    → new ≡ insert_key term_eq ks t → n ≡ position_or_len (term_eq t) ks → left ≡ t ∷ rest → more ≡ done ++ n ∷ []
+    → done ++ places_in ks left ≡ whole → more ++ places_in new rest ≡ whole
+placed_one ks new t left rest done more n whole new_is n_is left_is pushed was =
+    ap (λ l. l ++ places_in new rest) pushed ∙ append_assoc done (n ∷ []) (places_in new rest) ∙ (λ i. done ++ n_is i ∷ places_in (new_is i) rest)
+    ∙ ap (λ l. done ++ places_in ks l) (sym left_is) ∙ was

@@ -12,9 +12,16 @@ use std::hash::RandomState;
 use std::marker::Model;
 
 /// Distinct terms, numbered from 0 in the order in which they came. A contract sees their list.
-#[derive(Drop)]
 pub struct Dict {
     pub(crate) terms: IndexSet<Term, HashState>,
+}
+
+impl Drop for Dict {
+    /// Drops the terms. It is written out and not derived, so that a proof meets one call at each exit that
+    /// drops a dictionary.
+    fn drop(self) {
+        let Dict { terms: _ } = self;
+    }
 }
 
 impl Model for Dict {
@@ -106,8 +113,15 @@ impl Dict {
         ensures refused { OnErr result (self.new ≡ self.old) }
     {
         let alloc = *self.terms.allocator();
-        let Dict { terms } = other;
-        insert_terms(alloc, &mut self.terms, terms)
+        insert_terms(alloc, &mut self.terms, other)
+    }
+
+    /// Returns the terms by number.
+    pub(crate) fn into_terms(self) -> IndexSet<Term, HashState>
+        ensures terms { result.keys ≡ self }
+    {
+        let Dict { terms } = self;
+        terms
     }
 
     /// The term of a number.

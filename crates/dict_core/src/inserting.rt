@@ -5,6 +5,7 @@ ghost use Rattle.rdf_core.specs.Equality.{term_eq};
 ghost use Rattle.dict_core.specs.Inserting.{places_in, places_of};
 ghost use Rattle.dict_core.specs.Seen.{new_of};
 
+use crate::dict::Dict;
 use crate::hashing::HashState;
 use crate::seen::Seen;
 use indexmap::IndexSet;
@@ -16,16 +17,16 @@ use std::alloc::{AllocError, Global};
 pub(crate) fn insert_terms(
     alloc: Global,
     set: &mut IndexSet<Term, HashState>,
-    terms: IndexSet<Term, HashState>,
+    terms: Dict,
 ) -> Result<Vec<u64>, AllocError>
-    ensures keys { OnOk result (set.new.keys ≡ insert_all term_eq set.old.keys terms.keys) }
-    ensures places { IfOk result (λ v. v.items ≡ places_in set.old.keys terms.keys) }
+    ensures keys { OnOk result (set.new.keys ≡ insert_all term_eq set.old.keys terms) }
+    ensures places { IfOk result (λ v. v.items ≡ places_in set.old.keys terms) }
     ensures refused { OnErr result (set.new.keys ≡ set.old.keys) }
     ensures unique { IsUnique term_eq set.new }
 {
     set.reserve(terms.len())?;
     let mut places = Vec::with_capacity(alloc, terms.len())?;
-    for term in terms {
+    for term in terms.into_terms() {
         let Ok((place, _)) = set.insert_full(term) else {
             unreachable!();
         };

@@ -68,16 +68,6 @@ pub fn number_piece(
     ensures quads { IfOk result (λ local. local ≡ map parts_of piece.quads.items) }
 {
     let Piece { quads, .. } = piece;
-    number_quads(alloc, state, quads)
-}
-
-fn number_quads(
-    alloc: Global,
-    state: RandomState,
-    quads: Vec<Quad>,
-) -> Result<LocalPiece, AllocError>
-    ensures quads { IfOk result (λ piece. piece ≡ map parts_of quads.items) }
-{
     let mut dict = Dict::new(alloc, state)?;
     let mut numbered = Vec::with_capacity(alloc, quads.len())?;
     for quad in quads {

@@ -10,14 +10,12 @@ ghost use Rattle.dict_core.specs.Appearances.{first_appearances};
 ghost use Rattle.dict_core.specs.Numbered.{IsNumbered};
 
 use crate::dict::Dict;
-use crate::hashing::HashState;
 use crate::inserting::insert_new;
 use crate::local_piece::LocalPiece;
 use crate::merging::append_renamed;
 use crate::num_quad::NumQuad;
 use crate::seen::Seen;
 use crate::seen_piece::SeenPiece;
-use indexmap::IndexSet;
 use rdf_core::Term;
 use std::alloc::{AllocError, Global};
 
@@ -30,20 +28,15 @@ pub fn look_up(alloc: Global, dict: &Dict, piece: LocalPiece) -> Result<SeenPiec
     ensures looked_up { IfOk result (λ seen. IsLookedUp dict.now piece seen) }
 {
     let LocalPiece { dict: own, quads } = piece;
-    let Dict { terms } = own;
-    let seen = look_up_terms(alloc, dict, terms)?;
+    let seen = look_up_terms(alloc, dict, own)?;
     Ok(SeenPiece { seen, quads })
 }
 
-fn look_up_terms(
-    alloc: Global,
-    dict: &Dict,
-    terms: IndexSet<Term, HashState>,
-) -> Result<Vec<Seen>, AllocError>
-    ensures seen { IfOk result (λ v. AllZip (IsSeen dict.now) terms.keys v.items) }
+fn look_up_terms(alloc: Global, dict: &Dict, terms: Dict) -> Result<Vec<Seen>, AllocError>
+    ensures seen { IfOk result (λ v. AllZip (IsSeen dict.now) terms v.items) }
 {
     let mut seen = Vec::with_capacity(alloc, terms.len())?;
-    for term in terms {
+    for term in terms.into_terms() {
         seen.push_reserved(look_up_term(dict, term));
     }
     Ok(seen)

@@ -38,11 +38,37 @@ impl<T: Drop> From<AllocFailed<T>> for NamingFault {
     }
 }
 
-/// The distinct slices of a piece by first appearance, and the number of the term that each denotes.
-#[derive(Drop)]
+/// The distinct slices of a piece by first appearance, the number of the term that each denotes, and the terms.
 struct Slices<'a> {
     texts: IndexSet<&'a str, HashState>,
     numbers: Vec<u64>,
+    dict: Dict,
+}
+
+impl Drop for Slices<'_> {
+    /// Drops the slices, the numbers and the terms. It is written out for the same reason as the drop of a
+    /// dictionary.
+    fn drop(self) {
+        let Slices {
+            texts: _,
+            numbers: _,
+            dict: _,
+        } = self;
+    }
+}
+
+impl Slices<'_> {
+    /// Returns the terms by number.
+    fn into_dict(self) -> Dict
+        ensures terms { result ≡ self.entry.dict }
+    {
+        let Slices {
+            texts: _,
+            numbers: _,
+            dict,
+        } = self;
+        dict
+    }
 }
 
 /// Where in [`Slices`] the slices of the next statement are likely to be. A wrong guess costs a comparison.
@@ -78,59 +104,61 @@ pub(crate) fn number_statements(
 {
     let state = HashState::new(state);
     let likely = raws.len().saturating_mul(2);
-    let mut dict = Dict::with_capacity(alloc, state, likely)?;
     let mut quads = Vec::with_capacity(alloc, raws.len())?;
+    let numbers = Vec::with_capacity(alloc, likely)?;
+    let dict = Dict::with_capacity(alloc, state, likely)?;
+    let texts = IndexSet::with_capacity_and_hasher(alloc, likely, state)?;
     let mut slices = Slices {
-        texts: IndexSet::with_capacity_and_hasher(alloc, likely, state)?,
-        numbers: Vec::with_capacity(alloc, likely)?,
+        texts,
+        numbers,
+        dict,
     };
-    number_all(alloc, &mut slices, &mut dict, &mut quads, raws)?;
-    Ok(LocalPiece { dict, quads })
+    number_all(&mut slices, &mut quads, raws)?;
+    Ok(LocalPiece {
+        dict: slices.into_dict(),
+        quads,
+    })
 }
 
 /// Numbers the statements, one after the other.
 fn number_all<'a>(
-    alloc: Global,
     slices: &mut Slices<'a>,
-    dict: &mut Dict,
     quads: &mut Vec<NumQuad>,
     raws: &[RawStatement<'a>],
 ) -> Result<(), NamingFault>
     requires no_slices { slices.old.texts.keys ≡ [] }
     requires no_numbers { slices.old.numbers.items ≡ [] }
-    requires no_terms { dict.old ≡ [] }
+    requires no_terms { slices.old.dict ≡ [] }
     requires no_quads { quads.old.items ≡ [] }
     requires room { length raws.now ≤ vec_capacity quads.old }
-    ensures numbered { OnOk result (AreNumberedStatements raws.now dict.new quads.new.items) }
+    ensures numbered { OnOk result (AreNumberedStatements raws.now slices.new.dict quads.new.items) }
 {
     let mut guesses = Guesses::new();
     for raw in raws {
-        quads.push_reserved(number_statement(alloc, slices, dict, &mut guesses, raw)?);
+        quads.push_reserved(number_statement(slices, &mut guesses, raw)?);
     }
     Ok(())
 }
 
 /// The numbers of a statement's terms.
 fn number_statement<'a>(
-    alloc: Global,
     slices: &mut Slices<'a>,
-    dict: &mut Dict,
     guesses: &mut Guesses,
     raw: &RawStatement<'a>,
 ) -> Result<NumQuad, NamingFault>
-    requires named { AreNamed dict.old slices.old.texts.keys slices.old.numbers.items }
+    requires named { AreNamed slices.old.dict slices.old.texts.keys slices.old.numbers.items }
     ensures named { OnOk result
-        (AreNamed dict.new slices.new.texts.keys slices.new.numbers.items) }
-    ensures number { IfOk result (IsQuadNumber dict.old dict.new raw.now) }
+        (AreNamed slices.new.dict slices.new.texts.keys slices.new.numbers.items) }
+    ensures number { IfOk result (IsQuadNumber slices.old.dict slices.new.dict raw.now) }
 {
-    let s = number_node(alloc, slices, dict, &mut guesses.subject, raw.subject)?;
+    let s = number_node(slices, &mut guesses.subject, raw.subject)?;
     let following = &mut guesses.following[guesses.predicate % 64];
-    let p = number_iri(alloc, slices, dict, following, raw.predicate)?;
+    let p = number_iri(slices, following, raw.predicate)?;
     guesses.predicate = *following;
     let mut object = usize::MAX;
-    let o = number_slice(alloc, slices, dict, &mut object, raw.object)?;
+    let o = number_slice(slices, &mut object, raw.object)?;
     let g = match raw.graph {
-        Some(name) => Some(number_node(alloc, slices, dict, &mut guesses.graph, name)?),
+        Some(name) => Some(number_node(slices, &mut guesses.graph, name)?),
         None => None,
     };
     Ok(NumQuad { g, s, p, o })
@@ -138,20 +166,18 @@ fn number_statement<'a>(
 
 /// The number of the IRI or blank node that a slice denotes.
 fn number_node<'a>(
-    alloc: Global,
     slices: &mut Slices<'a>,
-    dict: &mut Dict,
     guess: &mut usize,
     raw: &'a str,
 ) -> Result<u64, NamingFault>
-    requires named { AreNamed dict.old slices.old.texts.keys slices.old.numbers.items }
+    requires named { AreNamed slices.old.dict slices.old.texts.keys slices.old.numbers.items }
     ensures named { OnOk result
-        (AreNamed dict.new slices.new.texts.keys slices.new.numbers.items) }
-    ensures number { IfOk result (λ n. (number : IsTermNumber dict.old dict.new raw.now n)
+        (AreNamed slices.new.dict slices.new.texts.keys slices.new.numbers.items) }
+    ensures number { IfOk result (λ n. (number : IsTermNumber slices.old.dict slices.new.dict raw.now n)
         × (is_node number.term ≡ true)) }
 {
-    let n = number_slice(alloc, slices, dict, guess, raw)?;
-    if is_node(dict.term(n)) {
+    let n = number_slice(slices, guess, raw)?;
+    if is_node(slices.dict.term(n)) {
         Ok(n)
     } else {
         Err(NamingFault::Doubt)
@@ -160,20 +186,18 @@ fn number_node<'a>(
 
 /// The number of the IRI that a slice denotes.
 fn number_iri<'a>(
-    alloc: Global,
     slices: &mut Slices<'a>,
-    dict: &mut Dict,
     guess: &mut usize,
     raw: &'a str,
 ) -> Result<u64, NamingFault>
-    requires named { AreNamed dict.old slices.old.texts.keys slices.old.numbers.items }
+    requires named { AreNamed slices.old.dict slices.old.texts.keys slices.old.numbers.items }
     ensures named { OnOk result
-        (AreNamed dict.new slices.new.texts.keys slices.new.numbers.items) }
-    ensures number { IfOk result (λ n. (number : IsTermNumber dict.old dict.new raw.now n)
+        (AreNamed slices.new.dict slices.new.texts.keys slices.new.numbers.items) }
+    ensures number { IfOk result (λ n. (number : IsTermNumber slices.old.dict slices.new.dict raw.now n)
         × (is_iri number.term ≡ true)) }
 {
-    let n = number_slice(alloc, slices, dict, guess, raw)?;
-    if is_iri(dict.term(n)) {
+    let n = number_slice(slices, guess, raw)?;
+    if is_iri(slices.dict.term(n)) {
         Ok(n)
     } else {
         Err(NamingFault::Doubt)
@@ -193,16 +217,14 @@ fn is_at(slices: &Slices<'_>, place: usize, raw: &str) -> bool
 /// The number of the term that a slice denotes: it is looked up, or read if the slice is new. `guess` is
 /// set to the place of the slice.
 fn number_slice<'a>(
-    alloc: Global,
     slices: &mut Slices<'a>,
-    dict: &mut Dict,
     guess: &mut usize,
     raw: &'a str,
 ) -> Result<u64, NamingFault>
-    requires named { AreNamed dict.old slices.old.texts.keys slices.old.numbers.items }
+    requires named { AreNamed slices.old.dict slices.old.texts.keys slices.old.numbers.items }
     ensures named { OnOk result
-        (AreNamed dict.new slices.new.texts.keys slices.new.numbers.items) }
-    ensures number { IfOk result (IsTermNumber dict.old dict.new raw.now) }
+        (AreNamed slices.new.dict slices.new.texts.keys slices.new.numbers.items) }
+    ensures number { IfOk result (IsTermNumber slices.old.dict slices.new.dict raw.now) }
 {
     if is_at(slices, *guess, raw) {
         return Ok(slices.numbers[*guess]);
@@ -210,22 +232,18 @@ fn number_slice<'a>(
     let (at, is_new) = slices.texts.insert_full(raw)?;
     *guess = at;
     if is_new {
-        number_new(alloc, &mut slices.numbers, dict, raw)
+        number_new(&mut slices.numbers, &mut slices.dict, raw)
     } else {
         Ok(slices.numbers[at])
     }
 }
 
 /// Reads the term that a new slice denotes, and appends its number.
-fn number_new(
-    alloc: Global,
-    numbers: &mut Vec<u64>,
-    dict: &mut Dict,
-    raw: &str,
-) -> Result<u64, NamingFault>
+fn number_new(numbers: &mut Vec<u64>, dict: &mut Dict, raw: &str) -> Result<u64, NamingFault>
     ensures pushed { IfOk result (λ n. numbers.new.items ≡ numbers.old.items ++ n ∷ []) }
     ensures number { IfOk result (IsTermNumber dict.old dict.new raw.now) }
 {
+    let alloc = *dict.terms.allocator();
     let Some(term) = read_term(alloc, raw)? else {
         return Err(NamingFault::Doubt);
     };

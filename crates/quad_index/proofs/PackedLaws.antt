@@ -1,11 +1,11 @@
 -- Packed keys have the order of their quads, and give them back.
-use Rattle.std.proofs.Common.{◌≡◌, ℕ, zero, suc, ◌+◌, ◌/◌, ◌%◌, ◌^◌, ◌<◌, Bool, true, false, cond, Option, None, Some, List, [], ◌∷◌, length, get_or, map, nat_eq, nat_lt, All, IsPermutation, IsSorted, eqb-true, ltb-true, ltb-false, eq-eqb, refl, sym, ap, ◌∙◌, subst, true≢false, inl, inr, ◌⊎◌, arith, rules}
+use Rattle.std.proofs.Common.{◌≡◌, ℕ, zero, suc, ◌+◌, ◌/◌, ◌%◌, ◌^◌, ◌<◌, ◌≤◌, Bool, true, false, cond, Option, None, Some, List, [], ◌∷◌, ◌++◌, length, get_or, map, take, nat_eq, nat_lt, All, IsPermutation, IsSorted, eqb-true, ltb-true, ltb-false, eq-eqb, refl, sym, ap, ◌∙◌, subst, true≢false, inl, inr, ◌⊎◌, arith, rules}
 use Rattle.std.specs.List.{dedup, dedup_from}
 use Rattle.std.specs.Ordering.{is_lt, nat_cmp, ordering_then}
 use Rattle.std.specs.Option.{option_cmp}
 use Rattle.std.specs.declared.cmp.Ordering.TheVariants.{Less, Equal, Greater}
 use Rattle.std.proofs.lemmas.Nat.{div-mul-add, mod-mul-add}
-use Rattle.std.proofs.lemmas.List.{length-map}
+use Rattle.std.proofs.lemmas.List.{length-map, map-append, take_all, take_more}
 use Rattle.std.proofs.lemmas.List.Elements.{All-cons, All-head, All-nil, All-tail}
 use Rattle.std.proofs.lemmas.List.Sorted.{All-permutation, IsPermutation-map}
 use Rattle.algebra_model.specs.Bag.{IsWithoutRepeats, without_repeats}
@@ -203,3 +203,16 @@ module _ (order : SortOrder) where
       packed quads (map f ks) list (list_is ∙ dedup-mapped ks all)
       (subst (λ l. IsPermutation l (map f ks)) (quads_again order quads small) (IsPermutation-map f (map (key_of order) quads) ks moved_keys))
       (sorted_mapped ks all sorted)
+
+-- ---- lists that are made item by item
+
+pub mapped_more : {A B : Type 0} (f : A → B) (xs : List A) (i : ℕ) (d : A) (old new : List B) (y : B)
+    → i < length xs → old ≡ map f (take i xs) → y ≡ f (get_or xs i d) → new ≡ old ++ y ∷ [] → new ≡ map f (take (i + 1) xs)
+mapped_more f xs i d old new y low was is pushed =
+    pushed ∙ (λ j. was j ++ is j ∷ []) ∙ sym (ap (map f) (take_more xs i d low) ∙ map-append f (take i xs) (get_or xs i d ∷ []))
+
+pub mapped_all : {A B : Type 0} (f : A → B) (xs : List A) (i : ℕ) (ys : List B) → length xs ≤ i → ys ≡ map f (take i xs) → ys ≡ map f xs
+mapped_all f xs i ys end was = was ∙ ap (map f) (take_all i xs end)
+
+pub all_of : {A : Type 0} (P : A → Type 0) (xs : List A) (i : ℕ) → length xs ≤ i → All P (take i xs) → All P xs
+all_of P xs i end h = subst (All P) (take_all i xs end) h

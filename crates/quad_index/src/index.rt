@@ -17,12 +17,24 @@ use std::marker::Model;
 
 /// A set of numbered quads that is quick to search. A contract sees it as the list of its quads, in which each
 /// quad is once.
-#[derive(Drop)]
 pub struct Index {
     gspo: Vec<NumQuad>,
     gpos: Vec<NumQuad>,
     gosp: Vec<NumQuad>,
     graphs: Vec<u64>,
+}
+
+impl Drop for Index {
+    /// Drops the lists. It is written out and not derived, so that a proof meets one call at each exit that
+    /// drops an index.
+    fn drop(self) {
+        let Index {
+            gspo: _,
+            gpos: _,
+            gosp: _,
+            graphs: _,
+        } = self;
+    }
 }
 
 impl Model for Index {

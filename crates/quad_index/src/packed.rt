@@ -16,6 +16,9 @@ use std::marker::Model;
 /// One more than the largest number of a place.
 const PLACE: u128 = 1 << 32;
 
+/// The least number that is not packed.
+const TOO_LARGE: u64 = 0xFFFF_FFFF;
+
 /// A sorted list of quads, each once, as packed keys: 16 bytes for each quad. A contract sees the list of the quads.
 #[derive(Drop)]
 pub struct PackedList {
@@ -89,11 +92,14 @@ pub(crate) fn keys_of(
     Ok(Some(keys))
 }
 
+/// Whether each number has a place in a key.
 fn is_small(quad: &NumQuad) -> bool
     ensures small { result ≡ true → IsSmall quad.now }
 {
-    let is_place = |number: u64| number < 0xFFFF_FFFF;
-    is_place(quad.g.unwrap_or(0)) && is_place(quad.s) && is_place(quad.p) && is_place(quad.o)
+    quad.g.unwrap_or(0) < TOO_LARGE
+        && quad.s < TOO_LARGE
+        && quad.p < TOO_LARGE
+        && quad.o < TOO_LARGE
 }
 
 fn key_of(order: SortOrder, quad: &NumQuad) -> u128
@@ -123,7 +129,11 @@ pub(crate) fn graph_key_of(key: u128) -> u64
 fn quads_of(alloc: Global, keys: &[u128], order: SortOrder) -> Result<Vec<NumQuad>, AllocError>
     ensures quads { IfOk result (λ quads. quads.items ≡ map (quad_of order) keys.now) }
 {
-    keys.iter().map(|key| quad_of(order, *key)).collect(alloc)
+    let mut quads = Vec::with_capacity(alloc, keys.len())?;
+    for key in keys {
+        quads.push_reserved(quad_of(order, *key));
+    }
+    Ok(quads)
 }
 
 fn quad_of(order: SortOrder, key: u128) -> NumQuad

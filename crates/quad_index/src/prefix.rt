@@ -1,7 +1,7 @@
 //! The beginnings of the three orders: the places that a scan compares.
 
 /// The graph, and the other places that are compared after it.
-#[derive(Debug, Clone, Copy, PartialEq, Eq)]
+#[derive(Clone, Copy)]
 pub(crate) enum Prefix {
     G,
     Gs,

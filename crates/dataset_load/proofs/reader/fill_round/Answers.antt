@@ -2,7 +2,7 @@ use Rattle.std.proofs.Common.{ℕ, List, ◌++◌, true≢false, refl, ap, sym, 
 use Rattle.nquads_core.proofs.TransferSteps.{Stays-stays}
 use Rattle.piece_cuts.specs.Laws.{EndsWithLineFeed}
 use Rattle.dataset_load.specs.Lines.{AreWholeLines, EachEnds, block_texts, joined}
-use Rattle.dataset_load.proofs.ReaderSteps.{at_the_end, ends_more, joined_more, none_at_end, pushed_length, texts_more, whole_but_last}
+use Rattle.dataset_load.proofs.ReaderSteps.{at_the_end, ends_more, fault_counts, joined_more, none_at_end, pushed_length, texts_more, whole_all, whole_but_last}
 use Rattle.dataset_load.proofs.StreamingSteps.{part_of_rest, part_of_round, part_then, rest_last, rest_none, round_step}
 use Rattle.dataset_load.proofs.reader.fill_round.Goals as goal
 
@@ -73,3 +73,40 @@ loop-len-preserved g c =
       bytes = round_step _ _ _ c.args.blocks.now.kept c.loop-len.blocks.kept c.next.new.self.kept (joined (block_texts c.loop-len.round.items)) _ c.loop-len.blocks.size c.in-Ok-Some.block was.bytes given e;
       failures = Stays-stays _ _ _ was.failures (c.in-Ok-Some.ensures.count was.state);
     }
+
+pub returns-then-is_full-clause-whole_lines : goal.returns-then-is_full-clause-whole_lines
+returns-then-is_full-clause-whole_lines g c = whole_all _ c.loop-len.invariant.ends
+
+pub returns-clause-whole_lines : goal.returns-clause-whole_lines
+returns-clause-whole_lines g c = whole_all _ c.loop-len.invariant.ends
+
+pub returns-in-Ok-None-clause-whole_lines : goal.returns-in-Ok-None-clause-whole_lines
+returns-in-Ok-None-clause-whole_lines g c = whole_all _ c.loop-len.invariant.ends
+
+pub returns-in-Ok-None-clause-at_end : goal.returns-in-Ok-None-clause-at_end
+returns-in-Ok-None-clause-at_end g c = λ _. none_at_end _ (rw c.in-Ok-None.field-0-is at (c.in-Ok-None.ensures.last c.loop-len.invariant.state))
+
+pub returns-in-Ok-None-clause-rest : goal.returns-in-Ok-None-clause-rest
+returns-in-Ok-None-clause-rest g c = λ _.
+    let was = c.loop-len.invariant in
+    let given = rw c.in-Ok-None.field-0-is at (c.in-Ok-None.ensures.block was.state) in
+    let last = rw c.in-Ok-None.field-0-is at (c.in-Ok-None.ensures.last was.state) in
+    rest_none _ _ _ c.args.blocks.now.kept c.loop-len.blocks.kept c.next.new.self.kept (joined (block_texts c.loop-len.round.items)) c.loop-len.blocks.size was.bytes given (none_at_end _ last)
+
+pub returns-then-is_full-clause-count : goal.returns-then-is_full-clause-count
+returns-then-is_full-clause-count g c = c.loop-len.invariant.failures
+
+pub returns-clause-count : goal.returns-clause-count
+returns-clause-count g c = c.loop-len.invariant.failures
+
+pub returns-in-Ok-None-clause-count : goal.returns-in-Ok-None-clause-count
+returns-in-Ok-None-clause-count g c = Stays-stays _ _ _ c.loop-len.invariant.failures (c.in-Ok-None.ensures.count c.loop-len.invariant.state)
+
+pub returns-in-Err-clause-count : goal.returns-in-Err-clause-count
+returns-in-Err-clause-count g c = fault_counts _ _ _ c.in-Err.fault c.loop-len.invariant.failures (c.in-Err.ensures.count c.loop-len.invariant.state)
+
+pub returns-in_default-clause-count : goal.returns-in_default-clause-count
+returns-in_default-clause-count g c = Stays-stays _ _ _ c.loop-len.invariant.failures (c.in-Ok-Some.ensures.count c.loop-len.invariant.state)
+
+pub returns-then-not-is_whole-clause-count : goal.returns-then-not-is_whole-clause-count
+returns-then-not-is_whole-clause-count g c = Stays-stays _ _ _ c.loop-len.invariant.failures (c.in-Ok-Some.ensures.count c.loop-len.invariant.state)

@@ -8,7 +8,7 @@ abbrev pub invariant-loop-term : goal.invariant-loop-term
 invariant-loop-term l = record {
   room : vec_len l.places + length l.term-iterator ≤ vec_capacity l.places;
   spare_is : length l.term-iterator ≤ spare l.set;
-  keys : insert_all term_eq l.set.keys l.term-iterator ≡ insert_all term_eq l.fn.set.keys l.fn.terms.keys;
-  places : l.places.items ++ places_in l.set.keys l.term-iterator ≡ places_in l.fn.set.keys l.fn.terms.keys;
+  keys : insert_all term_eq l.set.keys l.term-iterator ≡ insert_all term_eq l.fn.set.keys l.fn.terms;
+  places : l.places.items ++ places_in l.set.keys l.term-iterator ≡ places_in l.fn.set.keys l.fn.terms;
   unique : IsUnique term_eq l.set;
 }

@@ -5,5 +5,5 @@ use Rattle.dict_core.proofs.rounds.look_up.Goals as goal
 
 pub invariant_of-result : goal.invariant_of-result
 invariant_of-result c = record {
-  below = subst (λ n. AreBelow n c.piece.inside.quads.items) (ap length (sym c.own.view_is) ∙ length_zipped _ _ _ c.in_ok-seen.ensures.seen) c.piece.invariant.1;
+  below = subst (λ n. AreBelow n c.piece.inside.quads.items) (length_zipped _ _ _ c.in_ok-seen.ensures.seen) c.piece.invariant.1;
 }

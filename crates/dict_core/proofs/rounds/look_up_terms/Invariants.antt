@@ -7,5 +7,5 @@ use Rattle.dict_core.proofs.rounds.look_up_terms.Given as goal
 abbrev pub invariant-loop-term : goal.invariant-loop-term
 invariant-loop-term l = record {
   room : vec_len l.seen + length l.term-iterator ≤ vec_capacity l.seen;
-  so_far : (done : List Term) × AllZip (IsSeen l.dict) done l.seen.items × (done ++ l.term-iterator ≡ l.fn.terms.keys);
+  so_far : (done : List Term) × AllZip (IsSeen l.dict) done l.seen.items × (done ++ l.term-iterator ≡ l.fn.terms);
 }

@@ -6,6 +6,6 @@ abbrev pub invariant-loop-raw : goal.invariant-loop-raw
 invariant-loop-raw l = record {
   room : length l.raws ≤ vec_capacity l.quads;
   count : vec_len l.quads ≡ l.raw-index;
-  named : AreNamed l.dict l.slices.texts.keys l.slices.numbers.items;
-  numbered : AreNumberedStatements (take l.raw-index l.raws) l.dict l.quads.items;
+  named : AreNamed l.slices.dict l.slices.texts.keys l.slices.numbers.items;
+  numbered : AreNumberedStatements (take l.raw-index l.raws) l.slices.dict l.quads.items;
 }

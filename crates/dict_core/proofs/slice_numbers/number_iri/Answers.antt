@@ -7,5 +7,5 @@ pub returns-then-is_iri-clause-number : goal.returns-then-is_iri-clause-number
 returns-then-is_iri-clause-number c =
     let n = c.in_ok-n.ensures.number in (
       n,
-      ap is_iri (sym (same_place c.number_slice.new.dict c.in_ok-n.n n.term c.term.result.now n.at c.term.ensures.value)) ∙ sym c.is_iri.ensures.value ∙ c.if-is_iri.true,
+      ap is_iri (sym (same_place c.number_slice.new.slices.dict c.in_ok-n.n n.term c.term.result.now n.at c.term.ensures.value)) ∙ sym c.is_iri.ensures.value ∙ c.if-is_iri.true,
     )

@@ -7,5 +7,5 @@ pub returns-then-is_node-clause-number : goal.returns-then-is_node-clause-number
 returns-then-is_node-clause-number c =
     let n = c.in_ok-n.ensures.number in (
       n,
-      ap is_node (sym (same_place c.number_slice.new.dict c.in_ok-n.n n.term c.term.result.now n.at c.term.ensures.value)) ∙ sym c.is_node.ensures.value ∙ c.if-is_node.true,
+      ap is_node (sym (same_place c.number_slice.new.slices.dict c.in_ok-n.n n.term c.term.result.now n.at c.term.ensures.value)) ∙ sym c.is_node.ensures.value ∙ c.if-is_node.true,
     )

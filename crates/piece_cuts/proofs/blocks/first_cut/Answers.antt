@@ -1,5 +1,5 @@
 use Rattle.std.proofs.Common.{rules, arith, ◌≡◌, subst, sym, ap, ◌∙◌, max, length, List, ℕ}
-use Rattle.nquads_core.proofs.TransferSteps.{in-part-more}
+use Rattle.nquads_core.proofs.TransferSteps.{Stays-stays, in-part-more}
 use Rattle.piece_cuts.specs.Cuts.{HasNoNextCut, IsNextCut}
 use Rattle.piece_cuts.specs.Blocks.{HasNoCutUpTo}
 use Rattle.piece_cuts.proofs.BlockSteps.{Grows-start, Grows-more, same_from_none, HasNoCutUpTo-start, HasNoCutUpTo-more, IsNextCut-clear, HasNoNextCut-clear}
@@ -20,7 +20,7 @@ loop-place-preserved g c =
     let none = subst (λ (xs : List ℕ). HasNoNextCut xs c.loop-place.searched 0) c.deref.ensures.value c.in_default.ensures.cut in
     record {
       grows = Grows-more _ _ _ _ _ _ _ was.grows more;
-      count = search rules;
+      count = Stays-stays _ _ _ was.count c.in-Ok.ensures.count;
       from = (let m = c.max-searched.ensures in let f = was.from in omega arith);
       clear =
           subst (λ (x : ℕ). HasNoCutUpTo c.read_more.new.bytes.items c.args.size x) (sym (c.max-searched.ensures ∙ ap (max c.loop-place.searched) (c.len.ensures ∙ sym (ap length (sym c.deref.ensures.value) ∙ c.deref.ensures.len))))
@@ -46,3 +46,9 @@ returns-in-Some-clause-cut g c =
 
 pub returns-in-Err-clause-taken : goal.returns-in-Err-clause-taken
 returns-in-Err-clause-taken g c = in-part-more _ _ _ c.loop-place.invariant.grows.added c.loop-place.invariant.grows.consumed c.in-Err.ensures.taken
+
+pub returns-in-Ok-eq0-clause-count : goal.returns-in-Ok-eq0-clause-count
+returns-in-Ok-eq0-clause-count g c = Stays-stays _ _ _ c.loop-place.invariant.count c.in-Ok-eq0.ensures.count
+
+pub returns-in-Some-clause-count : goal.returns-in-Some-clause-count
+returns-in-Some-clause-count g c = c.loop-place.invariant.count

@@ -4,15 +4,15 @@ use Rattle.nquads_core.specs.Device.{Stays}
 use Rattle.dataset_load.specs.Lines.{EachEnds, block_texts, joined}
 use Rattle.dataset_load.specs.Streaming.{IsReadIn}
 use Rattle.dataset_load.proofs.ReaderSteps.{IsCutSo}
-use Rattle.dataset_load.proofs.reader.read_blocks.Given as goal
+use Rattle.dataset_load.proofs.reader.append_blocks.Given as goal
 
 abbrev pub invariant-reading : goal.invariant-reading
 invariant-reading g l = record {
   state : l.blocks.state ≡ Reading;
-  size : l.blocks.size ≡ l.fn.size;
+  size : l.blocks.size ≡ l.fn.blocks.size;
   ends : EachEnds (block_texts l.read.items);
   bytes : IsReadIn (g.S.Source.left l.fn.reader) (g.S.Source.left l.reader) (joined (block_texts l.read.items)) l.blocks.kept;
-  cut : IsCutSo l.fn.size (g.S.Source.left l.fn.reader) (g.S.Source.left l.reader) (block_texts l.read.items) l.blocks.kept;
+  cut : IsCutSo l.fn.blocks.size (g.S.Source.left l.fn.reader) (g.S.Source.left l.reader) (block_texts l.read.items) l.blocks.kept;
   count : Stays (g.S.Source.failures l.fn.reader) (g.S.Source.failures l.reader);
 }
 
