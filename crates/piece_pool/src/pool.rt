@@ -101,7 +101,7 @@ where
     ensures idle { n ≡ 0 → IfErr result (λ fault. fault ≡ Memory) }
 {
     if n == 0 {
-        return Ok(run_alone(alloc, n, job, gate)?);
+        return run_alone(alloc, n, job, gate);
     }
     let seats = n.min(workers as u64) as usize;
     let (board, passes) = Board::open(alloc, n, seats)?;
