@@ -74,7 +74,10 @@ impl<T: Read> Source for Device<T> {
     ghost failures = { λ _. None };
 
     fn read(&mut self, buf: &mut [u8]) -> Result<usize, DeviceFailed> {
-        self.inner.read(buf).map_err(|_| DeviceFailed)
+        match self.inner.read(buf) {
+            Ok(n) => Ok(n),
+            Err(_) => Err(DeviceFailed),
+        }
     }
 }
 
@@ -86,6 +89,9 @@ impl<T: Write> Sink for Device<T> {
     ghost failures = { λ _. None };
 
     fn write(&mut self, bytes: &[u8]) -> Result<usize, DeviceFailed> {
-        self.inner.write(bytes).map_err(|_| DeviceFailed)
+        match self.inner.write(bytes) {
+            Ok(n) => Ok(n),
+            Err(_) => Err(DeviceFailed),
+        }
     }
 }

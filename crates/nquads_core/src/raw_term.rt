@@ -7,7 +7,7 @@ ghost use Rattle.nquads_core.specs.Slices.{Denotes};
 ghost use Rattle.nquads_core.specs.Views.{token_view};
 
 use crate::fault::LineFault;
-use crate::statement::{iri_of, rdf_lang_string, xsd_string};
+use crate::statement::{iri_of, string_literal, tagged_literal};
 use crate::token::{Token, token_at};
 use rdf_core::lexical::first_char;
 use rdf_core::{Term, Text};
@@ -50,14 +50,7 @@ fn suffix_alone(alloc: Global, lexical: Text, token: Token, rest: &str) -> Resul
             };
             alone(term, rest)
         }
-        Token::Tag(tag) => {
-            let term = Term::Literal {
-                lexical,
-                datatype: rdf_lang_string(alloc)?,
-                tag: Some(tag),
-            };
-            alone(term, rest)
-        }
+        Token::Tag(tag) => alone(tagged_literal(alloc, lexical, tag)?, rest),
         Token::Iri(_) | Token::Blank(_) | Token::Quoted(_) | Token::Dot => Err(LineFault::Bad),
     }
 }
@@ -67,11 +60,7 @@ fn literal_alone(alloc: Global, lexical: Text, rest: &str) -> Result<Term, LineF
     ensures { Gives (λ t. t) result (literal_alone lexical (chars rest.now)) }
 {
     if is_over(rest) {
-        return Ok(Term::Literal {
-            lexical,
-            datatype: xsd_string(alloc)?,
-            tag: None,
-        });
+        return Ok(string_literal(alloc, lexical)?);
     }
     let (token, rest) = token_at(alloc, rest)?;
     suffix_alone(alloc, lexical, token, rest)

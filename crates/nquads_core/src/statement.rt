@@ -7,7 +7,8 @@ ghost use Rattle.rdf_core.specs.QuadFacts.{is_node, is_graph_name};
 ghost use Rattle.rdf_core.specs.Vocabulary.{xsd_string, rdf_lang_string};
 ghost use Rattle.nquads_core.specs.LineParser.{Gives, graph_dot_at, node_of, iri_of, literal_of, object_of, graph_of, statement_at, line_at};
 ghost use Rattle.rdf_core.specs.LexicalReading.{Finds};
-ghost use Rattle.nquads_core.specs.Terminal.{carets, lang_tag};
+ghost use Rattle.rdf_core.specs.declared.term.Term.TheVariants.{Literal};
+ghost use Rattle.nquads_core.specs.Terminal.{carets};
 ghost use Rattle.nquads_core.specs.Views.{token_view};
 
 use crate::fault::LineFault;
@@ -36,16 +37,28 @@ pub fn iri_of(token: Token) -> Option<Text>
     }
 }
 
-pub fn xsd_string(alloc: Global) -> Result<Text, AllocError>
-    ensures { IfOk result (λ text. text ≡ xsd_string) }
+/// The literal of a string without a suffix.
+pub fn string_literal(alloc: Global, lexical: Text) -> Result<Term, AllocError>
+    ensures { IfOk result (λ term. term ≡ Literal lexical xsd_string None) }
 {
-    Ok(Text::from_string(String::from_str(alloc, XSD_STRING)?))
+    let datatype = Text::from_string(String::from_str(alloc, XSD_STRING)?);
+    Ok(Term::Literal {
+        lexical,
+        datatype,
+        tag: None,
+    })
 }
 
-pub fn rdf_lang_string(alloc: Global) -> Result<Text, AllocError>
-    ensures { IfOk result (λ text. text ≡ rdf_lang_string) }
+/// The literal of a string with a language tag.
+pub fn tagged_literal(alloc: Global, lexical: Text, tag: Text) -> Result<Term, AllocError>
+    ensures { IfOk result (λ term. term ≡ Literal lexical rdf_lang_string (Some tag)) }
 {
-    Ok(Text::from_string(String::from_str(alloc, RDF_LANG_STRING)?))
+    let datatype = Text::from_string(String::from_str(alloc, RDF_LANG_STRING)?);
+    Ok(Term::Literal {
+        lexical,
+        datatype,
+        tag: Some(tag),
+    })
 }
 
 /// The literal whose datatype follows `^^`, the first terminal after it, and what follows that.
@@ -65,25 +78,6 @@ fn typed_literal(alloc: Global, lexical: Text, rest: &str) -> Result<(Term, Toke
     Ok((term, token, rest))
 }
 
-/// The literal with a language tag, the first terminal after it, and what follows that.
-fn tagged_literal(
-    alloc: Global,
-    lexical: Text,
-    tag: Text,
-    rest: &str,
-) -> Result<(Term, Token, &str), LineFault>
-    ensures { Gives (λ x. (x.0, (token_view x.1, chars x.2.now))) result (literal_of lexical (lang_tag tag, chars rest.now)) }
-{
-    let (token, rest) = next_token(alloc, rest)?;
-    let datatype = rdf_lang_string(alloc)?;
-    let term = Term::Literal {
-        lexical,
-        datatype,
-        tag: Some(tag),
-    };
-    Ok((term, token, rest))
-}
-
 /// A literal, the first terminal after it, and what follows that ([7] `literal`).
 fn literal_of(
     alloc: Global,
@@ -95,16 +89,12 @@ fn literal_of(
 {
     match token {
         Token::Carets => typed_literal(alloc, lexical, rest),
-        Token::Tag(tag) => tagged_literal(alloc, lexical, tag, rest),
-        token => {
-            let datatype = xsd_string(alloc)?;
-            let term = Term::Literal {
-                lexical,
-                datatype,
-                tag: None,
-            };
+        Token::Tag(tag) => {
+            let term = tagged_literal(alloc, lexical, tag)?;
+            let (token, rest) = next_token(alloc, rest)?;
             Ok((term, token, rest))
         }
+        token => Ok((string_literal(alloc, lexical)?, token, rest)),
     }
 }
 

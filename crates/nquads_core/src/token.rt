@@ -18,7 +18,7 @@ use rdf_core::lexical::{
 use std::alloc::Global;
 
 /// A terminal, with what it denotes.
-#[derive(Debug, Drop)]
+#[derive(Drop)]
 pub enum Token {
     Iri(Text),
     Blank(Text),

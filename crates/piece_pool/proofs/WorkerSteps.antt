@@ -1,10 +1,12 @@
 -- What one more draw, output or fault changes in the work so far.
-use Rattle.std.proofs.Common.{◌≡◌, ℕ, ◌+◌, ◌<◌, ◌≤◌, List, [], ◌∷◌, ◌++◌, Contains, arith, ap, subst, ⊎_elim}
+use Rattle.std.proofs.Common.{◌≡◌, ℕ, ◌+◌, ◌<◌, ◌≤◌, List, [], ◌∷◌, ◌++◌, Contains, true, true≢false, arith, ap, sym, ◌∙◌, subst, ⊎_elim}
 use Rattle.std.proofs.lemmas.List.{map-append}
 use Rattle.std.proofs.lemmas.List.Sums.{sum_by-append}
 use Rattle.std.proofs.lemmas.List.Elements.{All-push, Contains-push, Contains-push_cases, Contains-append_left, Contains-append_right, Contains-append_cases}
 use Rattle.piece_board.specs.Counts.{times}
-use Rattle.piece_pool.specs.Worked.{numbers_of, done_of, IsNoMoreThan, CoversUpTo, IsWorkOf}
+use Rattle.piece_board.specs.Board.{BoardView, IsPassOf}
+use Rattle.piece_pool.specs.Worked.{numbers_of, done_of, IsNoMoreThan, CoversUpTo, IsWorkOf, IsWorked}
+use Rattle.piece_pool.specs.declared.worker.Worked.{Worked}
 
 pub times-append : (x : ℕ) (xs ys : List ℕ) → times x (xs ++ ys) ≡ times x xs + times x ys
 times-append x xs ys = sum_by-append _ xs ys
@@ -72,3 +74,12 @@ module _ {Out Fault : Type 0} (answers : ℕ → Out → Type 0) (faults : ℕ �
     drawn = IsNoMoreThan-fault outs failed draws i fault work.drawn;
     reported = rw map-append (ap (λ xs. xs ++ i ∷ []) work.reported);
   }
+
+-- a worker that stopped
+pub IsWorked-stopped : {Out Fault : Type 0} (answers : ℕ → Out → Type 0) (faults : ℕ → Fault → Type 0) (board : BoardView) (w : Worked Out Fault) → w.stopped ≡ true → IsPassOf board w.pass → IsWorkOf answers faults w.pass.history.draws w.pass.history.reports w.outs.items w.faults.items → IsWorked answers faults board w
+IsWorked-stopped answers faults board w stopped pass work = record {
+  of_board = pass;
+  work = work;
+  finished = λ e. absurd (true≢false (sym stopped ∙ e));
+  covers = λ e. absurd (true≢false (sym stopped ∙ e));
+}

@@ -1,5 +1,5 @@
 //! Starting and joining the workers.
-ghost use Rattle.std.specs.Prelude.{◌≡◌, ◌≤◌, IfOk, IfErr, All, vec_len};
+ghost use Rattle.std.specs.Prelude.{◌≡◌, ◌≤◌, IfOk, IfErr, IfSome, All, vec_len};
 ghost use Rattle.piece_pool.specs.Limits.{most_pieces, most_workers};
 ghost use Rattle.piece_board.specs.Pass.{unused};
 ghost use Rattle.piece_pool.specs.Worked.{IsWorked};
@@ -17,7 +17,7 @@ use std::alloc::{AllocError, Global};
 use std::snapshot::Snapshot;
 use std::sync::Wait;
 use std::thread;
-use std::thread::{Promise, Scope, Threads};
+use std::thread::{Promise, PromisedHandle, Scope, Threads};
 
 /// The size of a worker's stack in bytes. It has room for a job that recurses over a long query.
 /// Only the pages that are used take memory.
@@ -101,7 +101,7 @@ where
     ensures idle { n ≡ 0 → IfErr result (λ fault. fault ≡ Memory) }
 {
     if n == 0 {
-        return Ok(run_alone(alloc, n, job, gate)?);
+        return run_alone(alloc, n, job, gate);
     }
     let seats = n.min(workers as u64) as usize;
     let (board, passes) = Board::open(alloc, n, seats)?;
@@ -157,26 +157,66 @@ where
         board.now) ws.items) }
 {
     let count = passes.len();
-    let mut handles = Vec::with_capacity(alloc, count)?;
     let mut works = Vec::with_capacity(alloc, count)?;
+    let handles = start(scope, alloc, board, passes, job, gate)?;
+    for handle in handles {
+        works.push_reserved(handle.join(rt));
+    }
+    if works.len() < count {
+        return Err(PoolFault::WorkerRefused);
+    }
+    Ok(works)
+}
+
+/// Starts a worker for each pass, until one cannot be started. Returns the handles of those that
+/// were started.
+fn start<'s, E, J: Job + Sync, G: Gate + Sync>(
+    scope: &Scope<'s, E>,
+    alloc: Global,
+    board: &'s Board,
+    passes: Vec<Pass>,
+    job: &'s J,
+    gate: &'s G,
+) -> Result<Vec<PromisedHandle<Worked<J::Out, J::Fault>, WorkOn<J>>>, AllocError>
+where
+    J::Out: Send + Drop,
+    J::Fault: Send + Drop,
+    requires unused { All (λ p. p ≡ unused board.now.id board.now.pieces) passes.items }
+    ensures most { IfOk result (λ hs. vec_len hs ≤ vec_len passes) }
+    ensures promised { IfOk result (λ hs. All (λ h. (h.promise.job.value ≡ job.now)
+        × (h.promise.board.value ≡ board.now)) hs.items) }
+{
+    let mut handles = Vec::with_capacity(alloc, passes.len())?;
     for pass in passes {
-        let promise = WorkOn {
-            job: Snapshot::of(job),
-            board: Snapshot::of(board),
-        };
-        let stack = Stack::new().stack_size(WORKER_STACK);
-        let worker = move || work(alloc, board, pass, job, gate);
-        let Ok(handle) = stack.spawn_scoped_with(scope, promise, worker) else {
+        let Some(handle) = start_one(scope, alloc, board, pass, job, gate) else {
             break;
         };
         handles.push_reserved(handle);
     }
-    let started = handles.len();
-    for handle in handles {
-        works.push_reserved(handle.join(rt));
-    }
-    if started < count {
-        return Err(PoolFault::WorkerRefused);
-    }
-    Ok(works)
+    Ok(handles)
+}
+
+/// Starts the worker of one pass. Returns None if it cannot be started.
+fn start_one<'s, E, J: Job + Sync, G: Gate + Sync>(
+    scope: &Scope<'s, E>,
+    alloc: Global,
+    board: &'s Board,
+    pass: Pass,
+    job: &'s J,
+    gate: &'s G,
+) -> Option<PromisedHandle<Worked<J::Out, J::Fault>, WorkOn<J>>>
+where
+    J::Out: Send + Drop,
+    J::Fault: Send + Drop,
+    requires unused { pass ≡ unused board.now.id board.now.pieces }
+    ensures promised { IfSome result (λ h. (h.promise.job.value ≡ job.now)
+        × (h.promise.board.value ≡ board.now)) }
+{
+    let promise = WorkOn {
+        job: Snapshot::of(job),
+        board: Snapshot::of(board),
+    };
+    let stack = Stack::new().stack_size(WORKER_STACK);
+    let worker = move || work(alloc, board, pass, job, gate);
+    stack.spawn_scoped_with(scope, promise, worker).ok()
 }

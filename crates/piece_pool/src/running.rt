@@ -47,7 +47,7 @@ where
     ensures one_worker { workers ≡ 1 → IfErr result (λ fault. fault ≡ Memory) }
 {
     if n <= 1 || workers == 1 {
-        return Ok(run_alone(alloc, n, job, gate)?);
+        return run_alone(alloc, n, job, gate);
     }
     run_pieces(rt, alloc, workers, n, job, gate)
 }
@@ -59,45 +59,46 @@ where
 /// `n` is at most 2^62.
 ///
 /// # Errors
-/// `AllocError` if an allocation of the pool or of the job fails. All outputs are dropped.
+/// `Memory` if an allocation of the pool or of the job fails. All outputs are dropped.
 pub(crate) fn run_alone<J: Job, G: Gate>(
     alloc: Global,
     n: u64,
     job: &J,
     gate: &G,
-) -> Result<Outcome<J::Out, J::Fault>, AllocError>
+) -> Result<Outcome<J::Out, J::Fault>, PoolFault>
 where
     J::Out: Drop,
     J::Fault: Drop,
     requires pieces { n ≤ most_pieces }
     ensures outcome { IfOk result (IsPoolOutcome (J.answers job.now) (J.faults job.now) n) }
+    ensures memory { IfErr result (λ fault. fault ≡ Memory) }
 {
-    let Ok((board, passes)) = Board::open(alloc, n, 1) else {
-        return Err(AllocError);
-    };
-    let works = work_in_turn(alloc, &board, passes, job, gate)?;
-    gather(alloc, board, works, job)
+    let (board, passes) = Board::open(alloc, n, 1)?;
+    let works = work_alone(alloc, &board, passes, job, gate)?;
+    Ok(gather(alloc, board, works, job)?)
 }
 
-/// Calls `work` with each pass on the caller's own thread.
-fn work_in_turn<J: Job, G: Gate>(
+/// Calls `work` with the only pass on the caller's own thread.
+fn work_alone<J: Job, G: Gate>(
     alloc: Global,
     board: &Board,
-    passes: Vec<Pass>,
+    mut passes: Vec<Pass>,
     job: &J,
     gate: &G,
 ) -> Result<Vec<Worked<J::Out, J::Fault>>, AllocError>
 where
     J::Out: Drop,
     J::Fault: Drop,
+    requires one { vec_len passes ≡ 1 }
     requires unused { All (λ p. p ≡ unused board.now.id board.now.pieces) passes.items }
-    ensures len { IfOk result (λ ws. vec_len ws ≡ vec_len passes) }
+    ensures len { IfOk result (λ ws. vec_len ws ≡ 1) }
     ensures works { IfOk result (λ ws. All (IsWorked (J.answers job.now) (J.faults job.now)
         board.now) ws.items) }
 {
-    let mut works = Vec::with_capacity(alloc, passes.len())?;
-    for pass in passes {
-        works.push_reserved(work(alloc, board, pass, job, gate));
-    }
+    let mut works = Vec::with_capacity(alloc, 1)?;
+    let Some(pass) = passes.pop() else {
+        unreachable!()
+    };
+    works.push_reserved(work(alloc, board, pass, job, gate));
     Ok(works)
 }

@@ -1,5 +1,6 @@
 -- Reading a delimited text finds its parts if and only if the text is made of them.
-use Rattle.std.proofs.Common.{◌≡◌, ◌≢◌, ℕ, zero, suc, Bool, true, false, eqb, List, [], ◌∷◌, ◌++◌, length, drop, Option, Some, None, refl, sym, ap, subst, ◌∙◌, append_assoc, append-nil, inl, inr, not}
+use Rattle.std.proofs.Common.{◌≡◌, ◌≢◌, ℕ, zero, suc, Bool, true, false, eqb, List, [], ◌∷◌, ◌++◌, length, drop, Option, Some, None, Result, Ok, Err, refl, sym, ap, subst, ◌∙◌, append_assoc, append-nil, inl, inr, not}
+use Rattle.std.specs.Prelude.{IfOk, MatchOption}
 use Rattle.std.specs.Str.{encode_utf8_all}
 use Rattle.std.proofs.lemmas.Bool.{eqb-true, eqb-false}
 use Rattle.std.proofs.lemmas.List.{drop_at}
@@ -7,7 +8,7 @@ use Rattle.std.proofs.lemmas.Option.{some_pair_parts, option_and_then_some}
 use Rattle.rdf_core.specs.declared.lexical.escapes.Inside.{Inside}
 use Rattle.rdf_core.specs.declared.lexical.escapes.Inside.TheVariants.{Iri, Quoted, Any}
 use Rattle.rdf_core.specs.Escapes.{Writes, IsUchar, IsEchar, IsPart, IsWritten, IsEnclosed}
-use Rattle.rdf_core.specs.LexicalReading.{escape_at, is_close, is_raw, with_char, at_text_end, parts_at, with_bytes}
+use Rattle.rdf_core.specs.LexicalReading.{Finds, escape_at, is_close, is_raw, with_char, at_text_end, parts_at, with_bytes}
 use Rattle.rdf_core.proofs.EscapeSteps.{which, eqb_no, eqb_yes}
 use Rattle.rdf_core.proofs.EnclosedSteps.{at_raw, at_escape}
 use Rattle.rdf_core.proofs.EscapeLaws.{escape_takes, iri_again, quoted_again, any_again, none_some}
@@ -180,6 +181,12 @@ enclosed_again k close cs bytes rest a h =
 
 pub enclosed_none : (k : Inside) (close : ℕ) (cs : List ℕ) → IsApart k (Some close) → with_bytes [] (parts_at k (Some close) 0 cs) ≡ None → (bytes rest : List ℕ) → IsEnclosed (IsPart k) close cs bytes rest → ⊥
 enclosed_none k close cs a e bytes rest h = none_some (bytes, rest) (sym e ∙ enclosed_again k close cs bytes rest a h)
+
+-- what a function found is the text up to the closing delimiter, and without one it found none
+pub enclosed_result : {B E : Type 0} (at : B → List ℕ) (k : Inside) (close : ℕ) (cs : List ℕ) → IsApart k (Some close) → (result : Result (Option (List ℕ × B)) E) → IfOk result (λ found. Finds (λ x. (x.0, at x.1)) found (with_bytes [] (parts_at k (Some close) 0 cs))) → IfOk result (λ found. MatchOption found ((bytes rest : List ℕ) → IsEnclosed (IsPart k) close cs bytes rest → ⊥) (λ x. IsEnclosed (IsPart k) close cs x.0 (at x.1)))
+enclosed_result at k close cs a (Err e) h = tt
+enclosed_result at k close cs a (Ok None) h = enclosed_none k close cs a h
+enclosed_result at k close cs a (Ok (Some x)) h = enclosed_found k close cs x.0 (at x.1) h
 
 pub enclosed_missing : (k : Inside) (close : ℕ) (cs : List ℕ) → ((bytes rest : List ℕ) → IsEnclosed (IsPart k) close cs bytes rest → ⊥) → with_bytes [] (parts_at k (Some close) 0 cs) ≡ None
 enclosed_missing k close cs h =

@@ -76,7 +76,12 @@ pub fn is_hex(c: char) -> bool
 fn in_ranges(ranges: &[(u32, u32)], c: u32) -> bool
     ensures { result ≡ in_ranges ranges.now c }
 {
-    ranges.iter().any(|r| r.0 <= c && c <= r.1)
+    for r in ranges {
+        if r.0 <= c && c <= r.1 {
+            return true;
+        }
+    }
+    false
 }
 
 /// Returns whether a character is in [164] PN_CHARS_BASE of SPARQL, which is [157s] of N-Quads.

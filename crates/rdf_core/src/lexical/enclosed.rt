@@ -1,9 +1,9 @@
 //! Delimited texts: an IRI in angle brackets, a string in quotes.
 
-ghost use Rattle.std.specs.Prelude.{◌≡◌, ℕ, List, [], None, Some, IfSome, IfOk, MatchOption, string_bytes};
+ghost use Rattle.std.specs.Prelude.{◌≡◌, ℕ, List, [], None, Some, IfSome, IfOk, MatchOption};
 ghost use Rattle.std.specs.Str.{IsUtf8, chars};
 ghost use Rattle.rdf_core.specs.Characters.{is_iri_char, is_string_char};
-ghost use Rattle.rdf_core.specs.Escapes.{IsIriPart, IsStringPart, IsAnyPart, IsWritten, IsEnclosed};
+ghost use Rattle.rdf_core.specs.Escapes.{IsPart, IsIriPart, IsStringPart, IsAnyPart, IsWritten, IsEnclosed};
 ghost use Rattle.rdf_core.specs.LexicalReading.{Finds, is_raw, is_close, parts_at, with_bytes};
 
 use crate::lexical::characters::{first_char, is_iri_char, is_string_char};
@@ -33,14 +33,14 @@ fn is_close(close: Option<char>, c: char) -> bool
 
 /// Returns the decoded text up to the closing delimiter, or up to the end if there is none, and the
 /// text after it. Returns None if the text is not valid for its kind or the closing delimiter is
-/// missing.
+/// missing. It reads character by character.
 fn read_parts(
     alloc: Global,
     kind: Inside,
     close: Option<char>,
     text: &str,
-) -> Result<Option<(String, &str)>, AllocError>
-    ensures value { IfOk result (λ found. Finds (λ x. (string_bytes x.0, chars x.1.now)) found
+) -> Result<Option<(Text, &str)>, AllocError>
+    ensures value { IfOk result (λ found. Finds (λ x. (x.0, chars x.1.now)) found
         (with_bytes [] (parts_at kind close 0 (chars text.now)))) }
     ensures text { IfOk result (λ found. IfSome found (λ x. IsUtf8 x.1.now)) }
 {
@@ -48,7 +48,7 @@ fn read_parts(
     let mut rest = text;
     while let Some((c, after)) = first_char(rest) {
         if is_close(close, c) {
-            return Ok(Some((value, after)));
+            return Ok(Some((Text::from_string(value), after)));
         }
         if c == '\\' {
             let Some((meant, remaining)) = escape(kind, after) else {
@@ -65,20 +65,7 @@ fn read_parts(
     }
     match close {
         Some(_) => Ok(None),
-        None => Ok(Some((value, rest))),
-    }
-}
-
-/// Does the same as `read_iri_ref`, character by character.
-fn decode_iri(alloc: Global, text: &str) -> Result<Option<(Text, &str)>, AllocError>
-    ensures found { IfOk result (λ found. MatchOption found
-        ((bytes rest : List ℕ) → IsEnclosed IsIriPart 62 (chars text.now) bytes rest → ⊥)
-        (λ x. IsEnclosed IsIriPart 62 (chars text.now) x.0 (chars x.1.now))) }
-    ensures text { IfOk result (λ found. IfSome found (λ x. IsUtf8 x.1.now)) }
-{
-    match read_parts(alloc, Inside::Iri, Some('>'), text)? {
-        Some((iri, rest)) => Ok(Some((Text::from_string(iri), rest))),
-        None => Ok(None),
+        None => Ok(Some((Text::from_string(value), rest))),
     }
 }
 
@@ -107,20 +94,7 @@ pub fn read_iri_ref(alloc: Global, text: &str) -> Result<Option<(Text, &str)>, A
             let copy = String::from_str(alloc, plain)?;
             Ok(Some((Text::from_string(copy), rest)))
         }
-        None => decode_iri(alloc, text),
-    }
-}
-
-/// Does the same as `read_quoted`, character by character.
-fn decode_quoted(alloc: Global, text: &str) -> Result<Option<(Text, &str)>, AllocError>
-    ensures found { IfOk result (λ found. MatchOption found
-        ((bytes rest : List ℕ) → IsEnclosed IsStringPart 34 (chars text.now) bytes rest → ⊥)
-        (λ x. IsEnclosed IsStringPart 34 (chars text.now) x.0 (chars x.1.now))) }
-    ensures text { IfOk result (λ found. IfSome found (λ x. IsUtf8 x.1.now)) }
-{
-    match read_parts(alloc, Inside::Quoted, Some('"'), text)? {
-        Some((string, rest)) => Ok(Some((Text::from_string(string), rest))),
-        None => Ok(None),
+        None => read_parts(alloc, Inside::Iri, Some('>'), text),
     }
 }
 
@@ -147,7 +121,19 @@ pub fn read_quoted(alloc: Global, text: &str) -> Result<Option<(Text, &str)>, Al
             let copy = String::from_str(alloc, plain)?;
             Ok(Some((Text::from_string(copy), rest)))
         }
-        None => decode_quoted(alloc, text),
+        None => read_parts(alloc, Inside::Quoted, Some('"'), text),
+    }
+}
+
+/// Decodes a whole text of this kind. Returns None if it is not valid for its kind.
+fn unescape(alloc: Global, kind: Inside, inside: &str) -> Result<Option<Text>, AllocError>
+    ensures written { IfOk result (λ found. MatchOption found
+        ((bytes : List ℕ) → IsWritten (IsPart kind) (chars inside.now) bytes → ⊥)
+        (λ text. IsWritten (IsPart kind) (chars inside.now) text)) }
+{
+    match read_parts(alloc, kind, None, inside)? {
+        Some((text, _)) => Ok(Some(text)),
+        None => Ok(None),
     }
 }
 
@@ -168,10 +154,7 @@ pub fn unescape_iri(alloc: Global, inside: &str) -> Result<Option<Text>, AllocEr
         ((bytes : List ℕ) → IsWritten IsIriPart (chars inside.now) bytes → ⊥)
         (λ iri. IsWritten IsIriPart (chars inside.now) iri)) }
 {
-    match read_parts(alloc, Inside::Iri, None, inside)? {
-        Some((iri, _)) => Ok(Some(Text::from_string(iri))),
-        None => Ok(None),
-    }
+    unescape(alloc, Inside::Iri, inside)
 }
 
 /// Decodes the text of a string, given without its quotes.
@@ -187,8 +170,5 @@ pub fn unescape_string(alloc: Global, inside: &str) -> Result<Option<Text>, Allo
         ((bytes : List ℕ) → IsWritten IsAnyPart (chars inside.now) bytes → ⊥)
         (λ string. IsWritten IsAnyPart (chars inside.now) string)) }
 {
-    match read_parts(alloc, Inside::Any, None, inside)? {
-        Some((string, _)) => Ok(Some(Text::from_string(string))),
-        None => Ok(None),
-    }
+    unescape(alloc, Inside::Any, inside)
 }

@@ -9,7 +9,7 @@ ghost use Rattle.rdf_core.specs.declared.lexical.escapes.Inside.TheVariants as i
 use crate::lexical::characters::{first_char, is_iri_char};
 
 /// The kind of a delimited text. It decides which characters may occur unescaped.
-#[derive(Clone, Copy, Debug)]
+#[derive(Clone, Copy)]
 pub enum Inside {
     /// An IRI in angle brackets.
     Iri,

@@ -3,25 +3,14 @@ use Rattle.std.proofs.lemmas.List.Elements.{All-push}
 use Rattle.piece_pool.specs.Worked.{IsWorked}
 use Rattle.piece_pool.proofs.pool.start_and_join.Goals as goal
 
-pub loop-pass-preserved : goal.loop-pass-preserved
-loop-pass-preserved g c =
-    let steps = c.in-Some.ensures.steps in
-    let promise = c.in-Ok.ensures.ok in
-    let was = c.loop-pass.invariant in record {
-      count = search rules;
-      room = search rules;
-      unused = λ k d below. let all = rw steps.0 at was.unused in all (suc k) d (omega arith);
-      promised = rw c.push_reserved.ensures.items (All-push (λ h. (h.promise.job.value ≡ c.args.job.now) × (h.promise.board.value ≡ c.args.board.now)) _ _ was.promised (search rules));
-    }
-
 pub loop-handle-preserved : goal.loop-handle-preserved
 loop-handle-preserved g c =
-    let steps = c.in-Some-handle.ensures.steps in
+    let steps = c.in-Some.ensures.steps in
     let was = c.loop-handle.invariant in
     let all = rw steps.0 at was.promised in
-    let here = all 0 c.in-Some-handle.handle (omega arith) in record {
+    let here = all 0 c.in-Some.handle (omega arith) in record {
       count = search rules;
       room = search rules;
       promised = λ k d below. all (suc k) d (omega arith);
-      worked = rw c.push_reserved-in-loop-handle.ensures.items (All-push (IsWorked (g.J.Job.answers c.args.job.now) (g.J.Job.faults c.args.job.now) c.args.board.now) _ _ was.worked (rw (here.0, here.1) at c.join.ensures));
+      worked = rw c.push_reserved.ensures.items (All-push (IsWorked (g.J.Job.answers c.args.job.now) (g.J.Job.faults c.args.job.now) c.args.board.now) _ _ was.worked (rw (here.0, here.1) at c.join.ensures));
     }

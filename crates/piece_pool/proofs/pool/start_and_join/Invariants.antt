@@ -1,21 +1,12 @@
 use Rattle.std.proofs.Common.{◌≡◌, ◌+◌, ◌≤◌, All, vec_len, vec_capacity}
 use Rattle.std.specs.Vec.Iter.{into_iter_items, into_iter_len}
-use Rattle.piece_board.specs.Pass.{unused}
 use Rattle.piece_pool.specs.Worked.{IsWorked}
 use Rattle.piece_pool.proofs.pool.start_and_join.Given as goal
 
-abbrev pub invariant-loop-pass : goal.invariant-loop-pass
-invariant-loop-pass g l = record {
-  count : vec_len l.handles + into_iter_len l.pass-iterator ≡ l.count;
-  room : l.count ≤ vec_capacity l.handles;
-  unused : All (λ p. p ≡ unused l.board.id l.board.pieces) (into_iter_items l.pass-iterator);
-  promised : All (λ h. (h.promise.job.value ≡ l.job) × (h.promise.board.value ≡ l.board)) l.handles.items;
-}
-
 abbrev pub invariant-loop-handle : goal.invariant-loop-handle
 invariant-loop-handle g l = record {
-  count : vec_len l.works + into_iter_len l.handle-iterator ≡ l.started;
-  room : l.started ≤ vec_capacity l.works;
+  count : vec_len l.works + into_iter_len l.handle-iterator ≤ l.count;
+  room : l.count ≤ vec_capacity l.works;
   promised : All (λ h. (h.promise.job.value ≡ l.job) × (h.promise.board.value ≡ l.board)) (into_iter_items l.handle-iterator);
   worked : All (IsWorked (g.J.Job.answers l.job) (g.J.Job.faults l.job) l.board) l.works.items;
 }

@@ -1,4 +1,5 @@
-use Rattle.std.proofs.Common.{true≢false}
+use Rattle.std.proofs.Common.{refl}
+use Rattle.piece_pool.proofs.WorkerSteps.{IsWorked-stopped}
 use Rattle.piece_pool.proofs.worker.work.Goals as goal
 
 pub next_piece-requires : goal.next_piece-requires
@@ -21,4 +22,4 @@ returns-in-Finished g c =
 pub returns-in-Stopped : goal.returns-in-Stopped
 returns-in-Stopped g c =
     let ran = c.next_piece.ensures in
-    record { worked = record { of_board = ran.of_board; work = ran.work; finished = λ e. absurd (true≢false e); covers = λ e. absurd (true≢false e) } }
+    record { worked = IsWorked-stopped _ _ _ _ refl ran.of_board ran.work }

@@ -6,8 +6,8 @@ use Rattle.rdf_core.proofs.lexical.enclosed.read_parts.Goals as goal
 
 pub returns-then-is_close-clause-value : goal.returns-then-is_close-clause-value
 returns-then-is_close-clause-value c =
-    closes c.args.kind c.args.close (string_bytes c.loop-c.value) c.loop-c.rest.now c.args.text.now _ c.loop-c.invariant
-    (at_close c.args.kind c.args.close c.in-Some.c _ _ c.in-Some.ensures.0 (sym c.is_close.ensures ∙ c.if-is_close.true))
+    rw c.from_string.ensures.value (closes c.args.kind c.args.close (string_bytes c.loop-c.value) c.loop-c.rest.now c.args.text.now _ c.loop-c.invariant
+    (at_close c.args.kind c.args.close c.in-Some.c _ _ c.in-Some.ensures.0 (sym c.is_close.ensures ∙ c.if-is_close.true)))
 
 pub returns-in_default-escape-clause-value : goal.returns-in_default-escape-clause-value
 returns-in_default-escape-clause-value c =
@@ -38,4 +38,4 @@ returns-in-Some-close-clause-value c =
 
 pub returns-clause-value : goal.returns-clause-value
 returns-clause-value c =
-    all_read c.args.kind c.args.close (string_bytes c.loop-c.value) c.loop-c.rest.now c.args.text.now c.in-None.is c.loop-c.invariant c.in_default.ensures
+    rw c.from_string-in-None.ensures.value (all_read c.args.kind c.args.close (string_bytes c.loop-c.value) c.loop-c.rest.now c.args.text.now c.in-None.is c.loop-c.invariant c.in_default.ensures)

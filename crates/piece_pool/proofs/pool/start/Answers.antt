@@ -1,7 +1,6 @@
-use Rattle.std.proofs.Common.{rules, arith, suc}
+use Rattle.std.proofs.Common.{rules, arith, suc, ◌≡◌}
 use Rattle.std.proofs.lemmas.List.Elements.{All-push}
-use Rattle.piece_pool.specs.Worked.{IsWorked}
-use Rattle.piece_pool.proofs.running.work_in_turn.Goals as goal
+use Rattle.piece_pool.proofs.pool.start.Goals as goal
 
 pub loop-pass-preserved : goal.loop-pass-preserved
 loop-pass-preserved g c =
@@ -11,5 +10,5 @@ loop-pass-preserved g c =
       count = search rules;
       room = search rules;
       unused = λ k d below. all (suc k) d (omega arith);
-      worked = rw c.push_reserved.ensures.items (All-push (IsWorked (g.J.Job.answers c.args.job.now) (g.J.Job.faults c.args.job.now) c.args.board.now) _ _ was.worked c.work.ensures.worked);
+      promised = rw c.push_reserved.ensures.items (All-push (λ h. (h.promise.job.value ≡ c.args.job.now) × (h.promise.board.value ≡ c.args.board.now)) _ _ was.promised c.in-Some-start_one.ensures.promised);
     }
