@@ -12,10 +12,6 @@ ghost use Rattle.sparql_grammar.specs.Symbol as the;
 ghost use Rattle.sparql_grammar.specs.Values.{Names};
 ghost use Rattle.sparql_expression.specs.ParseResult.{Parses, seen};
 
-use crate::constructors::{
-    make_and, make_bound, make_call, make_comparison, make_constant, make_in, make_not, make_or,
-    make_same_term, make_variable,
-};
 use crate::fault::ParseFault;
 use crate::terms::read_term;
 use crate::tokens::classes::{accept_comparison, accept_function, accept_variable};
@@ -23,7 +19,19 @@ use crate::tokens::front::{accept, accept_word, next};
 use sparql_grammar::Declarations;
 use sparql_lexer::{Keyword, Kind, Sign, Token};
 use sparql_tree::Expression;
-use std::alloc::Global;
+use std::alloc::{AllocError, Global};
+
+/// Moves two expressions into boxes.
+fn boxed_pair(
+    alloc: Global,
+    left: Expression,
+    right: Expression,
+) -> Result<(Box<Expression>, Box<Expression>), AllocError>
+    ensures left { IfOk result (λ p. p.0.value ≡ left) }
+    ensures right { IfOk result (λ p. p.1.value ≡ right) }
+{
+    Ok((Box::new(alloc, left)?, Box::new(alloc, right)?))
+}
 
 /// Reads a whole expression ([111] ConditionalOrExpression): conjunctions, and `||` between them.
 ///
@@ -44,7 +52,8 @@ pub fn read_disjunction<'t, 'a>(
     let (mut left, mut rest) = read_conjunction(alloc, names, tokens)?;
     'parts: while let Some(after) = accept(rest, Sign::Or) {
         let (right, remaining) = read_conjunction(alloc, names, after)?;
-        left = make_or(alloc, left, right)?;
+        let (one, other) = boxed_pair(alloc, left, right)?;
+        left = Expression::Or(one, other);
         rest = remaining;
     }
     Ok((left, rest))
@@ -62,7 +71,8 @@ fn read_conjunction<'t, 'a>(
     let (mut left, mut rest) = read_relation(alloc, names, tokens)?;
     'parts: while let Some(after) = accept(rest, Sign::And) {
         let (right, remaining) = read_relation(alloc, names, after)?;
-        left = make_and(alloc, left, right)?;
+        let (one, other) = boxed_pair(alloc, left, right)?;
+        left = Expression::And(one, other);
         rest = remaining;
     }
     Ok((left, rest))
@@ -80,11 +90,12 @@ fn read_relation<'t, 'a>(
     let (left, rest) = read_unary(alloc, names, tokens)?;
     if let Some((op, after)) = accept_comparison(rest) {
         let (right, remaining) = read_unary(alloc, names, after)?;
-        return Ok((make_comparison(alloc, op, left, right)?, remaining));
+        let (one, other) = boxed_pair(alloc, left, right)?;
+        return Ok((Expression::Compare(op, one, other), remaining));
     }
     if let Some(after) = accept_word(rest, Keyword::In) {
         let (members, remaining) = read_members(alloc, names, after)?;
-        return Ok((make_in(alloc, left, members)?, remaining));
+        return Ok((Expression::In(Box::new(alloc, left)?, members), remaining));
     }
     let Some(denied) = accept_word(rest, Keyword::Not) else {
         return Ok((left, rest));
@@ -93,8 +104,8 @@ fn read_relation<'t, 'a>(
         return Err(ParseFault::Syntax);
     };
     let (members, remaining) = read_members(alloc, names, after)?;
-    let inner = make_in(alloc, left, members)?;
-    Ok((make_not(alloc, inner)?, remaining))
+    let inner = Expression::In(Box::new(alloc, left)?, members);
+    Ok((Expression::Not(Box::new(alloc, inner)?), remaining))
 }
 
 #[cycle(expression)]
@@ -110,7 +121,7 @@ fn read_unary<'t, 'a>(
         return read_primary(alloc, names, tokens);
     };
     let (inner, remaining) = read_primary(alloc, names, after)?;
-    Ok((make_not(alloc, inner)?, remaining))
+    Ok((Expression::Not(Box::new(alloc, inner)?), remaining))
 }
 
 fn is_call(kind: Kind) -> bool
@@ -158,10 +169,10 @@ fn read_primary<'t, 'a>(
         return read_call(alloc, names, tokens);
     }
     if let Some((name, after)) = accept_variable(alloc, tokens)? {
-        return Ok((make_variable(name), after));
+        return Ok((Expression::Variable(name), after));
     }
     let (term, rest) = read_term(alloc, names, tokens)?;
-    Ok((make_constant(term), rest))
+    Ok((Expression::Constant(term), rest))
 }
 
 /// Reads a [120] BrackettedExpression, an expression in parentheses.
@@ -204,7 +215,8 @@ pub fn read_call<'t, 'a>(
 {
     if let Some((function, after)) = accept_function(tokens) {
         let (argument, rest) = read_bracket(alloc, names, after)?;
-        return Ok((make_call(alloc, function, argument)?, rest));
+        let argument = Box::new(alloc, argument)?;
+        return Ok((Expression::Call(function, argument), rest));
     }
     if let Some(after) = accept_word(tokens, Keyword::Bound) {
         return read_bound(alloc, after);
@@ -232,7 +244,7 @@ fn read_bound<'t, 'a>(
     let Some(remaining) = accept(rest, Sign::CloseParenthesis) else {
         return Err(ParseFault::Syntax);
     };
-    Ok((make_bound(name), remaining))
+    Ok((Expression::Bound(name), remaining))
 }
 
 /// Reads two expressions in parentheses, after `sameTerm`.
@@ -256,7 +268,8 @@ fn read_same_term<'t, 'a>(
     let Some(remaining) = accept(rest, Sign::CloseParenthesis) else {
         return Err(ParseFault::Syntax);
     };
-    Ok((make_same_term(alloc, left, right)?, remaining))
+    let (one, other) = boxed_pair(alloc, left, right)?;
+    Ok((Expression::SameTerm(one, other), remaining))
 }
 
 /// Reads the [72] ExpressionList of `IN`.

@@ -6,7 +6,7 @@ ghost use Rattle.sparql_expression.specs.declared.fault.ParseFault.TheVariants.{
 use std::alloc::{AllocError, AllocFailed};
 
 /// The reason why a reader returns no value.
-#[derive(Debug, Drop)]
+#[derive(Clone, Copy, Debug)]
 pub enum ParseFault {
     /// The terminals do not begin with a text of the production.
     Syntax,

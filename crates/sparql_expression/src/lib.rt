@@ -14,7 +14,7 @@
 //! Standard: SPARQL 1.1 Query Language, section 19.8.
 //!
 //! Reading order: specs/ParseResult.antt, specs/Front.antt, `tokens::front`, `tokens::decoding` (the values of
-//! terminals), `tokens::classes`, `terms`, `constructors` (nodes), `expressions`.
+//! terminals), `tokens::classes`, `terms`, `expressions`.
 //!
 //! Example: `?a || ?b && ?c` is `Or(?a, And(?b, ?c))`. The tests are `expressions` of the crate
 //! query_tests; `joins_from_the_left` runs this example.
@@ -23,7 +23,6 @@
 //! text nest.
 #![tactic(auto)]
 
-mod constructors;
 mod expressions;
 mod fault;
 mod terms;

@@ -95,11 +95,11 @@ pub fn read_term<'t, 'a>(
     if let Some((iri, after)) = accept_name(alloc, names, tokens)? {
         return Ok((Term::Iri(iri), after));
     }
-    if let Some((number, after)) = accept_number(alloc, tokens)? {
-        return Ok((number, after));
+    if let Some(number) = accept_number(alloc, tokens)? {
+        return Ok(number);
     }
-    if let Some((boolean, after)) = accept_boolean(alloc, tokens)? {
-        return Ok((boolean, after));
+    if let Some(boolean) = accept_boolean(alloc, tokens)? {
+        return Ok(boolean);
     }
     let Some((string, after)) = accept_string(alloc, tokens)? else {
         return Err(ParseFault::Syntax);

@@ -19,12 +19,19 @@ pub struct Declaration {
 
 /// The prefix declarations of a text. A contract views them as their list, the last one of the text
 /// first. A map finds the declaration of a prefix without a search through the list.
-#[derive(Drop)]
 pub struct Declarations {
     /// The declarations in the order of the text.
     list: Vec<Declaration>,
     /// The place in `list` of the last declaration of each prefix.
     places: BTreeMap<String, usize>,
+}
+
+impl Drop for Declarations {
+    /// Drops the list and the places. It is written out and not derived, so that a proof meets one call
+    /// at each exit that drops declarations.
+    fn drop(self) {
+        let Declarations { list: _, places: _ } = self;
+    }
 }
 
 impl Model for Declarations {

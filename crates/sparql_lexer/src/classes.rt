@@ -11,7 +11,7 @@ use rdf_core::lexical::{
 };
 
 /// A character class of the productions.
-#[derive(Clone, Copy, Debug)]
+#[derive(Clone, Copy)]
 pub enum Class {
     Digit,
     Dot,

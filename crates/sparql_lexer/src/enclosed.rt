@@ -11,7 +11,7 @@ use crate::classes::Class;
 use crate::cursor::{accept, accept_one, skip};
 
 /// The delimiters of a terminal. They decide what is allowed between them.
-#[derive(Clone, Copy, Debug)]
+#[derive(Clone, Copy)]
 pub enum Enclosure {
     Iri,
     Single,

@@ -12,7 +12,7 @@ use crate::cursor::{accept, accept_one, skip, skip_some};
 
 /// The characters that a name may have after its first: those of a prefix or a label, or those of a
 /// local name.
-#[derive(Clone, Copy, Debug)]
+#[derive(Clone, Copy)]
 pub enum Part {
     Name,
     Local,

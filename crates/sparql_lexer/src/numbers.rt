@@ -10,7 +10,7 @@ use crate::classes::Class;
 use crate::cursor::{accept, accept_one, farther, skip, skip_some};
 
 /// The form of a number without a sign.
-#[derive(Clone, Copy, Debug)]
+#[derive(Clone, Copy)]
 pub enum NumberForm {
     Integer,
     Decimal,

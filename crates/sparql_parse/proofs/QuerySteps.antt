@@ -1,25 +1,17 @@
 -- Steps of the readers of a query's start and end.
-use Rattle.std.proofs.Common.{◌≡◌, ◌<◌, ℕ, List, [], ◌∷◌, Ok, Err, refl, ap, subst, lit<}
+use Rattle.std.proofs.Common.{◌≡◌, ◌<◌, List, [], ◌∷◌, Ok, Err, refl, ap, subst, lit<}
 use Rattle.sparql_lexer.specs.declared.token.Token.{Token}
 use Rattle.sparql_lexer.specs.Terminal.{Terminal, terminals}
-use Rattle.sparql_grammar.specs.Class.{count}
 use Rattle.sparql_grammar.specs.Values.{Names}
-use Rattle.sparql_grammar.specs.Symbol.{Symbol, Value, Select}
+use Rattle.sparql_grammar.specs.Symbol.{Select}
 use Rattle.sparql_grammar.specs.Symbol as the
-use Rattle.sparql_grammar.specs.Form.{Form, take}
 use Rattle.sparql_grammar.specs.Productions.{right_side}
 use Rattle.sparql_grammar.specs.Follow.{next_level}
 use Rattle.sparql_grammar.specs.Derivation.{Derivation}
 use Rattle.sparql_expression.specs.declared.fault.ParseFault.{ParseFault}
 use Rattle.sparql_expression.specs.declared.fault.ParseFault.TheVariants.{Syntax, Memory}
 use Rattle.sparql_expression.specs.ParseResult.{Parses}
-use Rattle.sparql_expression.proofs.Steps.{Left, take_fails, out_of_memory}
-use Rattle.sparql_parse.specs.Queries.{IsQuery, IsParsed, ParsesCount}
-
-pub count_fails : {names : Names} {s : Symbol} {ts : List Terminal} {u : Symbol} {g : Value u → Value s} {f : ℕ → Form (Value u)} {mid : List Terminal} (e : ParseFault)
-    → Left names s ts u g (take count f) mid → ParsesCount names mid (Err e) → Parses names s ts (Err e)
-count_fails Syntax l n = take_fails l n
-count_fails Memory l n = out_of_memory
+use Rattle.sparql_parse.specs.Queries.{IsQuery, IsParsed}
 
 -- the whole text, or a part of it
 

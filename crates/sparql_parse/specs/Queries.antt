@@ -13,8 +13,6 @@ use Rattle.sparql_grammar.specs.Derivation.{Derivation}
 use Rattle.sparql_expression.specs.declared.fault.ParseFault.{ParseFault}
 use Rattle.sparql_expression.specs.declared.fault.ParseFault.TheVariants.{Syntax, Memory}
 use Rattle.sparql_expression.specs.ParseResult.{ParseResult, Parses}
-use Rattle.sparql_expression.specs.Front.{Taken, Untaken}
-use Rattle.sparql_grammar.specs.Class.{count}
 use Rattle.sparql_parse.specs.declared.select.Select as code
 
 -- the model of a query of the code
@@ -46,9 +44,3 @@ IsDeclaration names before after = (answer : ParseResult the.query) → Parses n
 abbrev pub ParsesDeclaration : (names : Names) → List Terminal → Result (Bor (List Token)) ParseFault → Type 0
 ParsesDeclaration names before (Ok after) = IsDeclaration names before (terminals after.now)
 ParsesDeclaration names before (Err e) = Parses names the.declared before (Err e)
-
--- what the reader of the number after LIMIT or OFFSET returns
-abbrev pub ParsesCount : (names : Names) → List Terminal → Result (ℕ × Bor (List Token)) ParseFault → Type 0
-ParsesCount names before (Ok p) = Taken names count before p.0 (terminals p.1.now)
-ParsesCount names before (Err Syntax) = Untaken names count before
-ParsesCount names before (Err Memory) = Unit {0}

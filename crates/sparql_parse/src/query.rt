@@ -6,7 +6,7 @@ ghost use Rattle.sparql_grammar.specs.Values.{Names};
 ghost use Rattle.sparql_grammar.specs.Symbol as the;
 ghost use Rattle.sparql_expression.specs.ParseResult.{Parses, seen};
 ghost use Rattle.sparql_tree.specs.QueryTree.{selection_of};
-ghost use Rattle.sparql_parse.specs.Queries.{IsParsed, ParsesCount, ParsesDeclaration, select_of};
+ghost use Rattle.sparql_parse.specs.Queries.{IsParsed, ParsesDeclaration, select_of};
 
 use crate::group::read_group;
 use crate::select::Select;
@@ -161,30 +161,50 @@ fn read_modifiers<'t, 'a>(
     ensures reads { (names : Names) → Parses names the.modifiers (terminals tokens.now) (seen (λ v. v) result) }
 {
     if let Some(after) = accept_word(tokens, Keyword::Limit) {
-        let (limit, remaining) = read_count(after)?;
-        let Some(after_offset) = accept_word(remaining, Keyword::Offset) else {
-            return Ok(((Some(limit), None), remaining));
+        let Some((limit, remaining)) = accept_count(after) else {
+            return Err(ParseFault::Syntax);
         };
-        let (offset, rest) = read_count(after_offset)?;
-        return Ok(((Some(limit), Some(offset)), rest));
+        return read_offset(limit, remaining);
     }
-    if let Some(after) = accept_word(tokens, Keyword::Offset) {
-        let (offset, remaining) = read_count(after)?;
-        let Some(after_limit) = accept_word(remaining, Keyword::Limit) else {
-            return Ok(((None, Some(offset)), remaining));
-        };
-        let (limit, rest) = read_count(after_limit)?;
-        return Ok(((Some(limit), Some(offset)), rest));
-    }
-    Ok(((None, None), tokens))
-}
-
-/// Reads the [146] INTEGER of LIMIT or OFFSET.
-fn read_count<'t, 'a>(tokens: &'t [Token<'a>]) -> Result<(u64, &'t [Token<'a>]), ParseFault>
-    ensures reads { (names : Names) → ParsesCount names (terminals tokens.now) result }
-{
-    let Some((count, after)) = accept_count(tokens) else {
+    let Some(after) = accept_word(tokens, Keyword::Offset) else {
+        return Ok(((None, None), tokens));
+    };
+    let Some((offset, remaining)) = accept_count(after) else {
         return Err(ParseFault::Syntax);
     };
-    Ok((count, after))
+    read_limit(offset, remaining)
+}
+
+/// Reads the [27] OffsetClause after a [26] LimitClause, if there is one. `limit` is the number of
+/// LIMIT.
+fn read_offset<'t, 'a>(
+    limit: u64,
+    tokens: &'t [Token<'a>],
+) -> Result<((Option<u64>, Option<u64>), &'t [Token<'a>]), ParseFault>
+    ensures reads { (names : Names) → Parses names (the.after_limit limit) (terminals tokens.now) (seen (λ v. v) result) }
+{
+    let Some(after_offset) = accept_word(tokens, Keyword::Offset) else {
+        return Ok(((Some(limit), None), tokens));
+    };
+    let Some((offset, rest)) = accept_count(after_offset) else {
+        return Err(ParseFault::Syntax);
+    };
+    Ok(((Some(limit), Some(offset)), rest))
+}
+
+/// Reads the [26] LimitClause after an [27] OffsetClause, if there is one. `offset` is the number of
+/// OFFSET.
+fn read_limit<'t, 'a>(
+    offset: u64,
+    tokens: &'t [Token<'a>],
+) -> Result<((Option<u64>, Option<u64>), &'t [Token<'a>]), ParseFault>
+    ensures reads { (names : Names) → Parses names (the.after_offset offset) (terminals tokens.now) (seen (λ v. v) result) }
+{
+    let Some(after_limit) = accept_word(tokens, Keyword::Limit) else {
+        return Ok(((None, Some(offset)), tokens));
+    };
+    let Some((limit, rest)) = accept_count(after_limit) else {
+        return Err(ParseFault::Syntax);
+    };
+    Ok(((Some(limit), Some(offset)), rest))
 }

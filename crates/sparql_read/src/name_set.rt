@@ -9,9 +9,16 @@ use std::collections::BTreeSet;
 use std::marker::Model;
 
 /// A set of names. A contract views it as a list without repeats.
-#[derive(Drop)]
 pub(crate) struct NameSet {
     names: BTreeSet<Text>,
+}
+
+impl Drop for NameSet {
+    /// Drops the names. It is written out and not derived, so that a proof meets one call at each exit
+    /// that drops a set.
+    fn drop(self) {
+        let NameSet { names: _ } = self;
+    }
 }
 
 impl Model for NameSet {

@@ -3,7 +3,7 @@
 use rdf_core::{Term, Text};
 
 /// The operators that compare two values ([114] `RelationalExpression`).
-#[derive(Clone, Copy, Debug, PartialEq, Eq)]
+#[derive(Clone, Copy, Debug)]
 pub enum Comparison {
     Equal,
     NotEqual,
@@ -14,7 +14,7 @@ pub enum Comparison {
 }
 
 /// The functions of one argument ([121] `BuiltInCall`).
-#[derive(Clone, Copy, Debug, PartialEq, Eq)]
+#[derive(Clone, Copy, Debug)]
 pub enum Function {
     Str,
     Lang,

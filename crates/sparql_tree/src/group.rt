@@ -5,7 +5,7 @@ use crate::expression::Expression;
 use rdf_core::{Term, Text};
 
 /// One position of a triple pattern ([106] `VarOrTerm`).
-#[derive(Debug, Drop)]
+#[derive(Debug)]
 pub enum PatternTerm {
     /// `?name` or `$name`, by the name without its first character
     Variable(Text),
@@ -13,6 +13,15 @@ pub enum PatternTerm {
     Blank(Text),
     /// An IRI or a literal
     Term(Term),
+}
+
+impl Drop for PatternTerm {
+    /// Implemented by hand. A proof then meets one call at each exit that drops a value.
+    fn drop(self) {
+        match self {
+            PatternTerm::Variable(_) | PatternTerm::Blank(_) | PatternTerm::Term(_) => {}
+        }
+    }
 }
 
 /// A triple pattern. In the trees that `sparql_read` makes, its predicate is a variable or an IRI.
@@ -27,12 +36,21 @@ pub struct Triple {
 }
 
 /// The name after GRAPH ([107] `VarOrIri`).
-#[derive(Debug, Drop)]
+#[derive(Debug)]
 pub enum GraphName {
     /// By the name without `?` or `$`
     Variable(Text),
     /// By its text
     Iri(Text),
+}
+
+impl Drop for GraphName {
+    /// Implemented by hand, like the `Drop` of [`PatternTerm`].
+    fn drop(self) {
+        match self {
+            GraphName::Variable(_) | GraphName::Iri(_) => {}
+        }
+    }
 }
 
 /// An element of a group. A group is the list of its elements, in the order of the text.

@@ -4,12 +4,21 @@ use crate::group::Element;
 use rdf_core::Text;
 
 /// The projection of a query ([9] `SelectClause`).
-#[derive(Debug, Drop)]
+#[derive(Debug)]
 pub enum Selection {
     /// `*`: the variables that are in scope
     All,
     /// The listed variables by their names, in their order; a name may occur twice
     Variables(Vec<Text>),
+}
+
+impl Drop for Selection {
+    /// Implemented by hand. A proof then meets one call at each exit that drops a selection.
+    fn drop(self) {
+        match self {
+            Selection::All | Selection::Variables(_) => {}
+        }
+    }
 }
 
 /// A SELECT query as its text has it ([7] `SelectQuery`).

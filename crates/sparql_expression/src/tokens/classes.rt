@@ -28,9 +28,8 @@ pub fn accept_anonymous<'t, 'a>(tokens: &'t [Token<'a>]) -> Option<&'t [Token<'a
     ensures accepts { (names : Names) → Accepts names (exactly kind.Anonymous) (terminals tokens.now) (followed result) }
     ensures shorter { IfSome result (λ after. length after.now < length tokens.now) }
 {
-    let (found, _, after) = next(tokens)?;
-    match found {
-        Kind::Anonymous => Some(after),
+    match next(tokens) {
+        Some((Kind::Anonymous, _, after)) => Some(after),
         _ => None,
     }
 }
@@ -40,9 +39,8 @@ pub fn accept_namespace<'t, 'a>(tokens: &'t [Token<'a>]) -> Option<&'t [Token<'a
     ensures accepts { (names : Names) → Accepts names (exactly kind.PrefixedNamespace) (terminals tokens.now) (followed result) }
     ensures shorter { IfSome result (λ after. length after.now < length tokens.now) }
 {
-    let (found, _, after) = next(tokens)?;
-    match found {
-        Kind::PrefixedNamespace => Some(after),
+    match next(tokens) {
+        Some((Kind::PrefixedNamespace, _, after)) => Some(after),
         _ => None,
     }
 }

@@ -26,9 +26,8 @@ pub fn accept<'t, 'a>(tokens: &'t [Token<'a>], sign: Sign) -> Option<&'t [Token<
     ensures accepts { (names : Names) → Accepts names (exactly (kind.Sign sign)) (terminals tokens.now) (followed result) }
     ensures shorter { IfSome result (λ after. length after.now < length tokens.now) }
 {
-    let (found, _, after) = next(tokens)?;
-    match found {
-        Kind::Sign(it) => { if it == sign { Some(after) } else { None } }
+    match next(tokens) {
+        Some((Kind::Sign(found), _, after)) if found == sign => Some(after),
         _ => None,
     }
 }
@@ -38,9 +37,8 @@ pub fn accept_word<'t, 'a>(tokens: &'t [Token<'a>], word: Keyword) -> Option<&'t
     ensures accepts { (names : Names) → Accepts names (exactly (kind.Keyword word)) (terminals tokens.now) (followed result) }
     ensures shorter { IfSome result (λ after. length after.now < length tokens.now) }
 {
-    let (found, _, after) = next(tokens)?;
-    match found {
-        Kind::Keyword(it) => { if it == word { Some(after) } else { None } }
+    match next(tokens) {
+        Some((Kind::Keyword(found), _, after)) if found == word => Some(after),
         _ => None,
     }
 }

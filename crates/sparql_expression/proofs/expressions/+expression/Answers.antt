@@ -8,6 +8,7 @@ use Rattle.sparql_grammar.specs.Symbol as the
 use Rattle.sparql_expression.specs.ParseResult.{seen}
 use Rattle.sparql_expression.proofs.Steps.{begin, took, took_branch, branch, left, right, here, skipped, passed_by, taken_heads, untaken_heads, take_fails, then_read, part_fails, enter, last_reads, last_same, last_fails, done, mapped_same}
 use Rattle.sparql_expression.proofs.MemberLaws.{pushed, members_at}
+use Rattle.sparql_expression.proofs.NodeSteps.{or_seen, and_seen, same_term_seen, comparison_seen, not_seen, in_seen, call_seen, variable_seen, constant_seen, disjunction_at, conjunction_at}
 use Rattle.sparql_expression.proofs.expressions.+expression.Goals as goal
 
 pub read_disjunction-returns-in_err-left-clause-reads : goal.read_disjunction-returns-in_err-left-clause-reads
@@ -36,7 +37,7 @@ read_disjunction-parts-preserved t c =
     let l = begin names the.disjunction (terminals c.args.tokens.now) in
     let m = then_read (took_branch c.parts.invariant.left (left here) (c.in-Some.ensures.accepts names)) c.in_ok-right.ensures.reads in
     record {
-      left = rw c.in_ok-left-2.ensures (enter m);
+      left = disjunction_at (or_seen _ _ c.in_ok-one.ensures.left c.in_ok-one.ensures.right) (enter m);
       shorter = omega (arith, c.in-Some.ensures.shorter, c.in_ok-right.ensures.shorter, c.parts.invariant.shorter);
     }
 
@@ -72,7 +73,7 @@ read_conjunction-parts-preserved t c =
     let l = begin names the.conjunction (terminals c.args.tokens.now) in
     let m = then_read (took_branch c.parts.invariant.left (left here) (c.in-Some.ensures.accepts names)) c.in_ok-right.ensures.reads in
     record {
-      left = rw c.in_ok-left-2.ensures (enter m);
+      left = conjunction_at (and_seen _ _ c.in_ok-one.ensures.left c.in_ok-one.ensures.right) (enter m);
       shorter = omega (arith, c.in-Some.ensures.shorter, c.in_ok-right.ensures.shorter, c.parts.invariant.shorter);
     }
 
@@ -101,7 +102,7 @@ read_relation-returns-in-Some-clause-reads t c =
     let names = c.args.names.now in
     let l = begin names the.relation (terminals c.args.tokens.now) in
     let m = then_read l c.in_ok-left.ensures.reads in
-    last_reads (took_branch m (left here) (c.in-Some.ensures.accepts names)) c.in_ok-right.ensures.reads c.in_ok-make_comparison.ensures
+    last_reads (took_branch m (left here) (c.in-Some.ensures.accepts names)) c.in_ok-right.ensures.reads (comparison_seen _ _ _ c.in_ok-one.ensures.left c.in_ok-one.ensures.right)
 
 pub read_relation-returns-in_err-members-clause-reads : goal.read_relation-returns-in_err-members-clause-reads
 read_relation-returns-in_err-members-clause-reads t c =
@@ -115,7 +116,7 @@ read_relation-returns-in-Some-accept_word-clause-reads t c =
     let names = c.args.names.now in
     let l = begin names the.relation (terminals c.args.tokens.now) in
     let m = then_read l c.in_ok-left.ensures.reads in
-    last_reads (took_branch m (right (left here)) (c.in-Some-accept_word.ensures.accepts names)) c.in_ok-members.ensures.reads c.in_ok-make_in.ensures
+    last_reads (took_branch m (right (left here)) (c.in-Some-accept_word.ensures.accepts names)) c.in_ok-members.ensures.reads (in_seen _ _ c.in_ok-new.ensures.ok)
 
 pub read_relation-returns-in_default-accept_word-2-clause-reads : goal.read_relation-returns-in_default-accept_word-2-clause-reads
 read_relation-returns-in_default-accept_word-2-clause-reads t c =
@@ -143,7 +144,7 @@ read_relation-returns-clause-reads t c =
     let names = c.args.names.now in
     let l = begin names the.relation (terminals c.args.tokens.now) in
     let m = then_read l c.in_ok-left.ensures.reads in
-    last_reads (took (took_branch m (right (right (left here))) (c.in-Some-accept_word-2.ensures.accepts names)) (c.in-Some-accept_word-3.ensures.accepts names)) c.in_ok-members-2.ensures.reads (c.in_ok-make_not.ensures ∙ ap negation c.in_ok-inner.ensures)
+    last_reads (took (took_branch m (right (right (left here))) (c.in-Some-accept_word-2.ensures.accepts names)) (c.in-Some-accept_word-3.ensures.accepts names)) c.in_ok-members-2.ensures.reads (not_seen _ c.in_ok-new-3.ensures.ok ∙ ap negation (in_seen _ _ c.in_ok-new-2.ensures.ok))
 
 pub read_unary-returns-in_default-clause-reads : goal.read_unary-returns-in_default-clause-reads
 read_unary-returns-in_default-clause-reads t c =
@@ -162,7 +163,7 @@ pub read_unary-returns-clause-reads : goal.read_unary-returns-clause-reads
 read_unary-returns-clause-reads t c =
     let names = c.args.names.now in
     let l = begin names the.unary (terminals c.args.tokens.now) in
-    last_reads (took_branch l (left here) (c.in-Some.ensures.accepts names)) c.in_ok-inner.ensures.reads c.in_ok-make_not.ensures
+    last_reads (took_branch l (left here) (c.in-Some.ensures.accepts names)) c.in_ok-inner.ensures.reads (not_seen _ c.in_ok-new.ensures.ok)
 
 pub read_primary-returns-in-Some-clause-reads : goal.read_primary-returns-in-Some-clause-reads
 read_primary-returns-in-Some-clause-reads t c =
@@ -182,7 +183,7 @@ pub read_primary-returns-in-Some-2-clause-reads : goal.read_primary-returns-in-S
 read_primary-returns-in-Some-2-clause-reads t c =
     let names = c.args.names.now in
     let l = begin names the.primary (terminals c.args.tokens.now) in
-    done (took_branch l (right (right (left here))) (rw c.in-Some-2.is at (c.in_ok-name.ensures.accepts names))) c.make_variable.ensures
+    done (took_branch l (right (right (left here))) (rw c.in-Some-2.is at (c.in_ok-name.ensures.accepts names))) (variable_seen _)
 
 pub read_primary-returns-in_err-term-clause-reads : goal.read_primary-returns-in_err-term-clause-reads
 read_primary-returns-in_err-term-clause-reads t c =
@@ -201,7 +202,7 @@ read_primary-returns-clause-reads t c =
     let l2 = passed_by l refl (untaken_heads (c.in_default.ensures.accepts names)) in
     let l3 = passed_by l2 refl (sym c.is_call_next.ensures ∙ c.if-is_call_next.false) in
     let l4 = skipped l3 (rw c.in_default-2.is at (c.in_ok-name.ensures.accepts names)) in
-    last_reads l4 c.in_ok-term.ensures.reads c.make_constant.ensures
+    last_reads l4 c.in_ok-term.ensures.reads (constant_seen _)
 
 pub read_bracket-returns-in_default-clause-reads : goal.read_bracket-returns-in_default-clause-reads
 read_bracket-returns-in_default-clause-reads t c =
@@ -239,7 +240,7 @@ pub read_call-returns-in-Some-clause-reads : goal.read_call-returns-in-Some-clau
 read_call-returns-in-Some-clause-reads t c =
     let names = c.args.names.now in
     let l = begin names the.call (terminals c.args.tokens.now) in
-    last_reads (took_branch l (left here) (c.in-Some.ensures.accepts names)) c.in_ok-argument.ensures.reads c.in_ok-make_call.ensures
+    last_reads (took_branch l (left here) (c.in-Some.ensures.accepts names)) c.in_ok-argument.ensures.reads (call_seen _ _ c.in_ok-argument-2.ensures.ok)
 
 pub read_call-returns-in-Some-accept_word-clause-reads : goal.read_call-returns-in-Some-accept_word-clause-reads
 read_call-returns-in-Some-accept_word-clause-reads t c =
@@ -295,7 +296,7 @@ pub read_same_term-returns-clause-reads : goal.read_same_term-returns-clause-rea
 read_same_term-returns-clause-reads t c =
     let names = c.args.names.now in
     let l = begin names the.same_term (terminals c.args.tokens.now) in
-    done (took (then_read (took (then_read (took l (c.in-Some.ensures.accepts names)) c.in_ok-left.ensures.reads) (c.in-Some-accept.ensures.accepts names)) c.in_ok-right.ensures.reads) (c.in-Some-accept-2.ensures.accepts names)) c.in_ok-make_same_term.ensures
+    done (took (then_read (took (then_read (took l (c.in-Some.ensures.accepts names)) c.in_ok-left.ensures.reads) (c.in-Some-accept.ensures.accepts names)) c.in_ok-right.ensures.reads) (c.in-Some-accept-2.ensures.accepts names)) (same_term_seen _ _ c.in_ok-one.ensures.left c.in_ok-one.ensures.right)
 
 pub read_members-returns-in_default-clause-reads : goal.read_members-returns-in_default-clause-reads
 read_members-returns-in_default-clause-reads t c =
