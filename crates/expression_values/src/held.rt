@@ -1,5 +1,6 @@
 //! Intermediate values: a borrowed or owned term, or a truth value that is not a literal yet.
-ghost use Rattle.std.specs.Prelude.{◌≡◌, IfOk, IsOk, None, option_map, true};
+ghost use Rattle.std.specs.Prelude.{◌≡◌, IfOk, IsOk, None, Some, option_map, true};
+ghost use Rattle.rdf_core.specs.declared.term.Term.TheVariants.{Literal};
 ghost use Rattle.algebra_model.specs.BooleanValue.{ebv};
 ghost use Rattle.algebra_model.specs.Call.{boolean_term, call_value, datatype, lang, str, string_term};
 ghost use Rattle.algebra_model.specs.Expression.{boolean_result};
@@ -116,8 +117,8 @@ fn text_of<'a>(alloc: Global, term: &Term) -> Result<Option<Value<'a>>, AllocErr
     ensures error { call_value str term.entry.now ≡ None → IsOk result }
 {
     match term {
-        Term::Literal { lexical, .. } => Ok(Some(string_value(alloc, lexical.as_str())?)),
-        Term::Iri(text) => Ok(Some(string_value(alloc, text.as_str())?)),
+        Term::Literal { lexical, .. } => string_value(alloc, lexical.as_str()),
+        Term::Iri(text) => string_value(alloc, text.as_str()),
         Term::Blank(_) => Ok(None),
     }
 }
@@ -127,8 +128,8 @@ fn language_of<'a>(alloc: Global, term: &Term) -> Result<Option<Value<'a>>, Allo
     ensures error { call_value lang term.entry.now ≡ None → IsOk result }
 {
     match term {
-        Term::Literal { tag: Some(tag), .. } => Ok(Some(string_value(alloc, tag.as_str())?)),
-        Term::Literal { tag: None, .. } => Ok(Some(string_value(alloc, "")?)),
+        Term::Literal { tag: Some(tag), .. } => string_value(alloc, tag.as_str()),
+        Term::Literal { tag: None, .. } => string_value(alloc, ""),
         Term::Iri(_) | Term::Blank(_) => Ok(None),
     }
 }
@@ -146,24 +147,29 @@ fn datatype_of<'a>(alloc: Global, term: &Term) -> Result<Option<Value<'a>>, Allo
     }
 }
 
-fn string_value<'a>(alloc: Global, form: &str) -> Result<Value<'a>, AllocError>
-    ensures value { IfOk result (λ value. value_term value ≡ string_term form.entry.now) }
+/// Returns the literal of xsd:string with this form, as the result of a call.
+fn string_value<'a>(alloc: Global, form: &str) -> Result<Option<Value<'a>>, AllocError>
+    ensures value { IfOk result
+        (λ value. option_map value_term value ≡ Some (string_term form.entry.now)) }
 {
-    let literal = Term::Literal {
-        lexical: text(alloc, form)?,
-        datatype: text(alloc, XSD_STRING)?,
-        tag: None,
-    };
-    Ok(Value::Held(Held::Owned(literal)))
+    let term = literal(alloc, form, XSD_STRING)?;
+    Ok(Some(Value::Held(Held::Owned(term))))
 }
 
 fn boolean_term(alloc: Global, value: bool) -> Result<Term, AllocError>
     ensures term { IfOk result (λ term. term ≡ boolean_term value) }
 {
     let form = if value { "true" } else { "false" };
+    literal(alloc, form, XSD_BOOLEAN)
+}
+
+/// Creates a literal without a language tag.
+fn literal(alloc: Global, form: &str, datatype: &str) -> Result<Term, AllocError>
+    ensures literal { IfOk result (λ term. term ≡ Literal form.now datatype.now None) }
+{
     Ok(Term::Literal {
         lexical: text(alloc, form)?,
-        datatype: text(alloc, XSD_BOOLEAN)?,
+        datatype: text(alloc, datatype)?,
         tag: None,
     })
 }

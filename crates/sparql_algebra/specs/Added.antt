@@ -6,10 +6,19 @@ use Rattle.expression_values.specs.ExpressionOf.{expression_of}
 use Rattle.sparql_algebra.specs.AlgebraOf.{algebra_of}
 use Rattle.sparql_algebra.specs.Names.{Name}
 use Rattle.sparql_algebra.specs.Translation.{Part, closed, closed_as, joined_filters}
-use Rattle.sparql_algebra.specs.declared.addition.Addition.{Addition}
-use Rattle.sparql_algebra.specs.declared.addition.Addition.TheVariants.{Triples, Filter, Optional, Minus, Extend, Join}
+use Rattle.sparql_algebra.specs.declared.addition.Addition as addition
+use Rattle.sparql_algebra.specs.declared.addition.Addition.TheVariants.{Triples, Filter, Operation}
+use Rattle.sparql_algebra.specs.declared.operation.Operation as operation
+use Rattle.sparql_algebra.specs.declared.operation.Operation.TheVariants.{Optional, Minus, Extend, Join}
 
-abbrev pub added : List Name → Part → Addition → Part
+-- the operator with its first input
+abbrev pub applied : algebra.Algebra → operation.Operation → algebra.Algebra
+applied A (Optional o e) = algebra.LeftJoin A (algebra_of o.value) (expression_of e.value)
+applied A (Minus o) = algebra.Minus A (algebra_of o.value)
+applied A (Extend v e) = algebra.Extend v (expression_of e.value) A
+applied A (Join o) = algebra.Join A (algebra_of o.value)
+
+abbrev pub added : List Name → Part → addition.Addition → Part
 added names p (Triples ts) =
     record { before = p.before; triples = p.triples ++ ts.now; filters = p.filters }
 added names p (Filter e) = record {
@@ -17,8 +26,4 @@ added names p (Filter e) = record {
   triples = p.triples;
   filters = joined_filters p.filters (expression_of e.value);
 }
-added names p (Optional o e) =
-    closed_as p (algebra.LeftJoin (closed names p) (algebra_of o.value) (expression_of e.value))
-added names p (Minus o) = closed_as p (algebra.Minus (closed names p) (algebra_of o.value))
-added names p (Extend v e) = closed_as p (algebra.Extend v (expression_of e.value) (closed names p))
-added names p (Join o) = closed_as p (algebra.Join (closed names p) (algebra_of o.value))
+added names p (Operation o) = closed_as p (applied (closed names p) o)

@@ -9,9 +9,10 @@ ghost use Rattle.sparql_algebra.specs.PartOf.{part_of};
 ghost use Rattle.sparql_algebra.specs.Translation.{Part as GroupPart, add_element, group_part, translate_graph_name, translate_group, translate_side};
 
 use crate::addition::{Addition, with_addition};
-use crate::constructors;
+use crate::constructors::{boxed, empty_pattern};
 use crate::conversion::convert_boxed;
 use crate::names::Names;
+use crate::operation::Operation;
 use crate::operator::{self, Operator};
 use crate::part::Part;
 use crate::table::convert_table;
@@ -66,23 +67,27 @@ fn read_element<'a>(
     match element {
         Element::Triples(triples) => Ok(Addition::Triples(triples)),
         Element::Filter(filter) => Ok(Addition::Filter(convert_boxed(alloc, names, filter)?)),
-        Element::Bind(value, variable) => Ok(Addition::Extend(
-            names.number(variable),
-            convert_boxed(alloc, names, value)?,
-        )),
-        Element::Optional(group) => read_optional(alloc, names, group),
-        Element::Minus(group) => Ok(Addition::Minus(convert_group(alloc, names, group)?)),
-        Element::Group(group) => Ok(Addition::Join(convert_group(alloc, names, group)?)),
-        Element::Union(left, right) => {
-            let left = convert_side(alloc, names, left)?;
-            Ok(Addition::Join(convert_union(alloc, names, right, left)?))
+        Element::Bind(value, variable) => {
+            let value = convert_boxed(alloc, names, value)?;
+            Ok(Addition::Operation(Operation::Extend(names.number(variable), value)))
         }
-        Element::Graph(name, group) => Ok(Addition::Join(convert_graph(
-            alloc, names, name, group,
-        )?)),
-        Element::Values(variables, rows) => Ok(Addition::Join(convert_table(
-            alloc, names, variables, rows,
-        )?)),
+        Element::Optional(group) => read_optional(alloc, names, group),
+        Element::Minus(group) => {
+            let right = convert_group(alloc, names, group)?;
+            Ok(Addition::Operation(Operation::Minus(right)))
+        }
+        Element::Group(_) | Element::Union(_, _) => {
+            let right = convert_side(alloc, names, element)?;
+            Ok(Addition::Operation(Operation::Join(right)))
+        }
+        Element::Graph(name, group) => {
+            let right = convert_graph(alloc, names, name, group)?;
+            Ok(Addition::Operation(Operation::Join(right)))
+        }
+        Element::Values(variables, rows) => {
+            let right = convert_table(alloc, names, variables, rows)?;
+            Ok(Addition::Operation(Operation::Join(right)))
+        }
     }
 }
 
@@ -97,8 +102,8 @@ fn read_optional<'a>(
     ensures addition { IfOk result (λ addition. (p : GroupPart) →
         added names.now p addition ≡ add_element names.now p (optional (group_of group.now))) }
 {
-    let (right, condition) = read_group(alloc, names, group)?.split(alloc, names)?;
-    Ok(Addition::Optional(right, condition))
+    let operation = read_group(alloc, names, group)?.into_optional(alloc, names)?;
+    Ok(Addition::Operation(operation))
 }
 
 /// Translates a side of a UNION ([67] `GroupOrUnionGraphPattern`), which is a group or a UNION
@@ -120,7 +125,7 @@ fn convert_side(alloc: Global, names: &Names, side: &Element) -> Result<Box<Oper
         | Element::Graph(_, _)
         | Element::Filter(_)
         | Element::Bind(_, _)
-        | Element::Values(_, _) => constructors::empty_pattern(alloc),
+        | Element::Values(_, _) => empty_pattern(alloc),
     }
 }
 
@@ -136,7 +141,7 @@ fn convert_union(
         ≡ Union (algebra_of left.value) (translate_group names.now (group_of right.now))) }
 {
     let right = convert_group(alloc, names, right)?;
-    constructors::union(alloc, left, right)
+    boxed(alloc, Operator::Union { left, right })
 }
 
 /// Translates `GRAPH name { group }` ([58] `GraphGraphPattern`).
@@ -152,7 +157,7 @@ fn convert_graph(
 {
     let name = convert_graph_name(alloc, names, name)?;
     let inner = convert_group(alloc, names, group)?;
-    constructors::graph(alloc, name, inner)
+    boxed(alloc, Operator::Graph { name, inner })
 }
 
 fn convert_graph_name(

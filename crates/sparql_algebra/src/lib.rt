@@ -14,8 +14,8 @@
 //! definitions of the algebra.
 //!
 //! Reading order: `operator`, `plan` (the tree); `names`, `naming` (the variables of a query and
-//! their numbers); `conversion`, `pattern`, `table`, `constructors`, `part`, `addition`, `group`,
-//! `translation` (a query, element by element). Tests: `plans` of the crate query_tests.
+//! their numbers); `conversion`, `pattern`, `table`, `constructors`, `operation`, `part`, `addition`,
+//! `group`, `translation` (a query, element by element). Tests: `plans` of the crate query_tests.
 //!
 //! ```text
 //! translate(alloc, &query)   // SELECT ?x { ?x ?p ?o FILTER (?o < 3) }:
@@ -31,6 +31,7 @@ mod conversion;
 mod group;
 mod names;
 mod naming;
+mod operation;
 mod operator;
 mod part;
 mod pattern;

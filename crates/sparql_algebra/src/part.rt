@@ -1,13 +1,16 @@
 //! The translation of the first elements of a group.
 ghost use Rattle.std.specs.Prelude.{◌≡◌, [], ◌++◌, IfOk, None, Some, map, option_map, true};
+ghost use Rattle.algebra_model.specs.Algebra.{Algebra, LeftJoin};
 ghost use Rattle.algebra_model.specs.Call.{boolean_term};
 ghost use Rattle.expression_values.specs.ExpressionOf.{expression_of};
+ghost use Rattle.sparql_algebra.specs.Added.{applied};
 ghost use Rattle.sparql_algebra.specs.AlgebraOf.{algebra_of};
 ghost use Rattle.sparql_algebra.specs.PartOf.{part_of};
-ghost use Rattle.sparql_algebra.specs.Translation.{closed, condition_of, empty_pattern, finished, joined_filters};
+ghost use Rattle.sparql_algebra.specs.Translation.{closed, closed_as, condition_of, empty_pattern, finished, joined_filters, with_pattern};
 
-use crate::constructors;
+use crate::constructors::{boxed, empty_pattern};
 use crate::names::Names;
+use crate::operation::Operation;
 use crate::operator::Operator;
 use crate::pattern::basic_pattern;
 use expression_values::Expr;
@@ -32,7 +35,7 @@ impl<'a> Part<'a> {
             part_of part ≡ record { before = empty_pattern; triples = []; filters = None }) }
     {
         Ok(Part {
-            before: constructors::empty_pattern(alloc)?,
+            before: empty_pattern(alloc)?,
             triples: Vec::new(alloc),
             filters: None,
         })
@@ -78,27 +81,27 @@ impl<'a> Part<'a> {
         })
     }
 
-    /// Ends the open basic graph pattern and joins it with the operator before it. The filters are
-    /// returned with the operator.
-    pub fn close(
+    /// Ends the open basic graph pattern, and applies the operation to the part.
+    pub fn with_operation(
         self,
         alloc: Global,
         names: &Names,
-    ) -> Result<(Box<Operator>, Option<Box<Expr>>), AllocError>
-        ensures closed { IfOk result (λ r. algebra_of r.0.value ≡ closed names.now (part_of self.entry)) }
-        ensures filters { IfOk result
-            (λ r. option_map (λ e. expression_of e.value) r.1 ≡ (part_of self.entry).filters) }
+        operation: Operation,
+    ) -> Result<Part<'a>, AllocError>
+        ensures part { IfOk result (λ part. part_of part ≡ closed_as (part_of self.entry)
+            (applied (closed names.now (part_of self.entry)) operation)) }
     {
         let Part {
             before,
             triples,
             filters,
         } = self;
-        if triples.is_empty() {
-            return Ok((before, filters));
-        }
-        let pattern = basic_pattern(alloc, names, &triples)?;
-        Ok((constructors::join(alloc, before, pattern)?, filters))
+        let left = closed(alloc, names, before, triples)?;
+        Ok(Part {
+            before: operation.applied(alloc, left)?,
+            triples: Vec::new(alloc),
+            filters,
+        })
     }
 
     /// Translates the whole group: the filters are applied at its end.
@@ -106,43 +109,52 @@ impl<'a> Part<'a> {
         ensures finished { IfOk result
             (λ made. algebra_of made.value ≡ finished names.now (part_of self.entry)) }
     {
-        let (inner, filters) = self.close(alloc, names)?;
+        let Part {
+            before,
+            triples,
+            filters,
+        } = self;
+        let inner = closed(alloc, names, before, triples)?;
         match filters {
-            Some(condition) => constructors::filter(alloc, condition, inner),
+            Some(condition) => {
+                let condition = Box::into_inner(condition);
+                boxed(alloc, Operator::Filter { condition, inner })
+            }
             None => Ok(inner),
         }
     }
 
-    /// Returns the right side of an OPTIONAL with this group, and its condition. The condition is
-    /// the filters directly in the group, or `true` if it has none.
-    pub fn split(
-        self,
-        alloc: Global,
-        names: &Names,
-    ) -> Result<(Box<Operator>, Box<Expr>), AllocError>
-        ensures closed { IfOk result (λ r. algebra_of r.0.value ≡ closed names.now (part_of self.entry)) }
-        ensures condition { IfOk result
-            (λ r. expression_of r.1.value ≡ condition_of (part_of self.entry).filters) }
+    /// Returns the OPTIONAL with this group. Its condition is the filters directly in the group, or
+    /// `true` if it has none.
+    pub fn into_optional(self, alloc: Global, names: &Names) -> Result<Operation, AllocError>
+        ensures optional { IfOk result (λ operation. (left : Algebra) → applied left operation
+            ≡ LeftJoin left (closed names.now (part_of self.entry)) (condition_of (part_of self.entry).filters)) }
     {
-        let (inner, filters) = self.close(alloc, names)?;
-        Ok((inner, condition(alloc, filters)?))
-    }
-
-    /// Creates the part of a group after an element that ended the basic graph pattern, with the
-    /// filters of the group.
-    pub fn closed_as(alloc: Global, before: Box<Operator>, filters: Option<Box<Expr>>) -> Part<'a>
-        ensures part { part_of result ≡ record {
-          before = algebra_of before.value;
-          triples = [];
-          filters = option_map (λ e. expression_of e.value) filters;
-        } }
-    {
-        Part {
+        let Part {
             before,
-            triples: Vec::new(alloc),
+            triples,
             filters,
-        }
+        } = self;
+        let right = closed(alloc, names, before, triples)?;
+        Ok(Operation::Optional(right, condition(alloc, filters)?))
     }
+}
+
+/// Joins the open basic graph pattern with the operator before it.
+fn closed(
+    alloc: Global,
+    names: &Names,
+    left: Box<Operator>,
+    triples: Vec<&Triple>,
+) -> Result<Box<Operator>, AllocError>
+    ensures closed { IfOk result (λ made. algebra_of made.value
+        ≡ with_pattern names.now (algebra_of left.value) (map (λ t. t.now) triples.entry.items)) }
+{
+    if triples.is_empty() {
+        return Ok(left);
+    }
+    let right = basic_pattern(alloc, names, &triples)?;
+    boxed(alloc, Operator::Join { left, right })
 }
 
 fn with_more<'a>(others: Vec<&'a Triple>, more: &'a [Triple]) -> Result<Vec<&'a Triple>, AllocError>

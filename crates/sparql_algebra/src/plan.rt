@@ -12,7 +12,7 @@ use rdf_core::Text;
 /// A variable is a number, and `names` has its name at that index, without `?` or `$`. Every
 /// variable that the tree binds or lists has a name. Every blank node label of a pattern is below
 /// the pattern's number of labels.
-#[derive(Debug, Drop)]
+#[derive(Drop)]
 pub struct Plan {
     /// The name of each variable, without `?` or `$`.
     pub names: Vec<Text>,

@@ -39,7 +39,7 @@ pub fn numbers(alloc: Global, names: &Names, list: &[Text]) -> Result<Vec<usize>
     ensures numbers { IfOk result
         (λ numbers. numbers.items ≡ map (number_of names.now) list.now) }
 {
-    let mut numbers = Vec::with_capacity(alloc, list.len())?;
+    let mut numbers = Vec::new(alloc);
     for name in list {
         numbers.push(names.number(name))?;
     }

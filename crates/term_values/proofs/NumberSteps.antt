@@ -1,5 +1,5 @@
 -- Steps of the functions on digits.
-use Rattle.std.proofs.Common.{◌≡◌, ◌≢◌, ℕ, zero, suc, ◌+◌, ◌<◌, ◌≤◌, max, Bool, true, false, not, ◌&&◌, ◌||◌, ◌==◌, cond, List, [], ◌∷◌, ◌++◌, length, get_or, take, drop, refl, sym, ◌∙◌, ap, arith}
+use Rattle.std.proofs.Common.{◌≡◌, ◌≢◌, ℕ, zero, suc, ◌+◌, ◌<◌, ◌≤◌, max, Bool, true, false, not, ◌&&◌, ◌||◌, ◌==◌, cond, List, [], ◌∷◌, ◌++◌, length, get_or, take, drop, refl, sym, ◌∙◌, ap, arith, rules, if◌then◌else◌}
 use Rattle.std.proofs.Math.Seq.{drop-nil}
 use Rattle.std.proofs.lemmas.List.Folds.{list_all-append}
 use Rattle.std.specs.Char.{is_ascii_digit}
@@ -57,3 +57,13 @@ whole_is_not v f n h = rw h at (whole_numeral v f n)
 pub is_numeral-digits : (text : List ℕ) → is_numeral text ≡ true → list_all is_ascii_digit text ≡ true
 is_numeral-digits [] h = refl
 is_numeral-digits (c ∷ cs) h = h
+
+-- nothing is left of digits without leading zeros exactly if all of them are zeros
+pub no_digit_left : (ds : List ℕ) → (length (without_leading_zeros ds) == 0) ≡ list_all (λ c. c == 48) ds
+no_digit_left [] = refl
+no_digit_left (c ∷ cs) = by (c == 48) (no_digit_left cs)
+  where
+    by : (b : Bool) → (length (without_leading_zeros cs) == 0) ≡ list_all (λ d. d == 48) cs
+        → (length (if b then without_leading_zeros cs else c ∷ cs) == 0) ≡ (b && list_all (λ d. d == 48) cs)
+    by true h = h
+    by false h = search rules

@@ -26,11 +26,11 @@ pub fn compare(operator: Comparison, left: &Term, right: &Term) -> Option<bool>
     let order = value_order(&value_of(left), &value_of(right));
     match operator {
         Comparison::Equal => equal_by(order, left, right),
-        Comparison::NotEqual => equal_by(order, left, right).map(|is_equal| !is_equal),
-        Comparison::Less => order.map(|order| order.is_lt()),
-        Comparison::Greater => order.map(|order| order.is_gt()),
-        Comparison::LessOrEqual => order.map(|order| order.is_le()),
-        Comparison::GreaterOrEqual => order.map(|order| order.is_ge()),
+        Comparison::NotEqual => Some(!equal_by(order, left, right)?),
+        Comparison::Less => Some(order?.is_lt()),
+        Comparison::Greater => Some(order?.is_gt()),
+        Comparison::LessOrEqual => Some(order?.is_le()),
+        Comparison::GreaterOrEqual => Some(order?.is_ge()),
     }
 }
 

@@ -126,7 +126,7 @@ fn are_digits(text: &[u8]) -> bool
 fn are_zeros(digits: &[u8]) -> bool
     ensures value { result ≡ list_all (λ c. c == 48) digits.now }
 {
-    digits.iter().all(|c| *c == b'0')
+    without_leading_zeros(digits).is_empty()
 }
 
 /// Compares two numbers without their signs.
