@@ -14,20 +14,10 @@ use std::marker::Model;
 /// the group of its numbers. The places of the other rows are in a list of their own.
 ///
 /// An unbound variable is never compared as if it were a number. The groups are in a hash table.
+#[derive(Drop)]
 pub struct Keyed {
     groups: Groups,
     apart: Vec<usize>,
-}
-
-impl Drop for Keyed {
-    /// Drops the index. It is written out and not derived, so that a proof meets one call at each exit
-    /// that drops an index.
-    fn drop(self) {
-        let Keyed {
-            groups: _,
-            apart: _,
-        } = self;
-    }
 }
 
 impl Model for Keyed {

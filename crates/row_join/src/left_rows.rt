@@ -16,20 +16,10 @@ use std::sync::Wait;
 use std::thread::Threads;
 
 /// Lists that are reused for each left row, so that a row needs no allocations for them.
+#[derive(Drop)]
 pub(crate) struct Buffers {
     pub(crate) numbers: Vec<u64>,
     pub(crate) merged: Vec<Option<u64>>,
-}
-
-impl Drop for Buffers {
-    /// Drops the lists. It is written out and not derived, so that a proof meets one call at each exit
-    /// that drops them.
-    fn drop(self) {
-        let Buffers {
-            numbers: _,
-            merged: _,
-        } = self;
-    }
 }
 
 /// What one left row gives with the right rows.

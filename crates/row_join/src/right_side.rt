@@ -14,6 +14,7 @@ use std::hash::RandomState;
 
 /// The rows of the right side, their places by a key, all their places, and the variables that some
 /// row binds.
+#[derive(Drop)]
 pub(crate) struct RightSide<'r> {
     pub(crate) rows: &'r Rows,
     key: Vec<usize>,
@@ -26,20 +27,6 @@ pub(crate) struct RightSide<'r> {
     ghost bound_wide: { length bound.items ≡ rows.now.width },
     ghost covers: { (v : ℕ) → v < rows.now.width
         → is_some (get_or bound.items v None) ≡ binds rows.now.rows v },
-}
-
-impl<'r> Drop for RightSide<'r> {
-    /// Drops the lists and the index. It is written out and not derived, so that a proof meets one
-    /// call at each exit that drops a right side.
-    fn drop(self) {
-        let RightSide {
-            rows: _,
-            key: _,
-            keyed: _,
-            all: _,
-            bound: _,
-        } = self;
-    }
 }
 
 /// The places of the right rows that are candidates for a left row, in two lists.
