@@ -724,3 +724,33 @@ solve_filter-returns-clause-one_worker g t c = c.filter.ensures.one_worker
 
 pub solve_extend-returns-clause-one_worker : goal.solve_extend-returns-clause-one_worker
 solve_extend-returns-clause-one_worker g t c = c.extend.ensures.one_worker
+
+pub solve_join-join_of-requires-clause-how : goal.solve_join-join_of-requires-clause-how
+solve_join-join_of-requires-clause-how g t c κs within = c.args.self.now.runnable
+
+pub solve_left_join-left_join-requires-clause-how : goal.solve_left_join-left_join-requires-clause-how
+solve_left_join-left_join-requires-clause-how g t c κs within = c.args.self.now.runnable
+
+pub solve_minus-minus-requires-clause-how : goal.solve_minus-minus-requires-clause-how
+solve_minus-minus-requires-clause-how g t c κs within = c.args.self.now.runnable
+
+pub solve_filter-filter-requires-clause-how : goal.solve_filter-filter-requires-clause-how
+solve_filter-filter-requires-clause-how g t c κs within = c.args.self.now.runnable
+
+pub solve_extend-extend-requires-clause-how : goal.solve_extend-extend-requires-clause-how
+solve_extend-extend-requires-clause-how g t c κs within = c.args.self.now.runnable
+
+pub solve_extend-extend-requires-clause-variable : goal.solve_extend-extend-requires-clause-variable
+solve_extend-extend-requires-clause-variable g t c κs within = subst (λ (w : ℕ). c.args.variable < w) (sym c.in_ok-rows.ensures.evaluated.wide) c.requires.variable
+
+pub solve_union-returns-clause-one_worker : goal.solve_union-returns-clause-one_worker
+solve_union-returns-clause-one_worker g t c = λ _. c.union_of.ensures.refused
+
+pub solve_project-returns-clause-one_worker : goal.solve_project-returns-clause-one_worker
+solve_project-returns-clause-one_worker g t c = λ _. c.project.ensures.refused
+
+pub solve_distinct-returns-clause-one_worker : goal.solve_distinct-returns-clause-one_worker
+solve_distinct-returns-clause-one_worker g t c = λ _. c.distinct.ensures.refused
+
+pub solve-returns-in-Table-clause-one_worker : goal.solve-returns-in-Table-clause-one_worker
+solve-returns-in-Table-clause-one_worker g t c = λ _. c.table.ensures.refused
