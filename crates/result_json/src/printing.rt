@@ -13,7 +13,6 @@ use crate::pair_order::order_pairs;
 use crate::ranking::rank;
 use crate::results::to_json;
 use crate::row_order::sorted_rows;
-use crate::term_texts::TermTexts;
 use dict_core::Dict;
 use piece_pool::Gate;
 use rdf_core::Text;
@@ -88,7 +87,6 @@ pub fn print_rows<R: Threads + Wait, G: Gate + Sync>(
     let terms = rank(alloc, &mut ranks, table.dict)?;
     order_pairs(alloc, &mut ranks, listed.len(), rows.len())?;
     let sorted = sorted_rows(alloc, &ranks, listed.len(), rows.len())?;
-    let mut texts = TermTexts::new(alloc, &terms)?;
     let kept = kept(&sorted, table.offset, table.limit);
-    to_json(rt, alloc, table.names, listed, &mut texts, kept, how, gate)
+    to_json(rt, alloc, table.names, listed, &terms, kept, how, gate)
 }

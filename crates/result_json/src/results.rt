@@ -4,7 +4,7 @@ ghost use Rattle.std.specs.Prelude.{◌≡◌, ◌++◌, codes, length, map, IfE
 ghost use Rattle.row_pieces.specs.How.{HasOneWorker, IsRunnable};
 ghost use Rattle.row_pieces.specs.declared.fault.EvalFault.TheVariants.{Memory};
 ghost use Rattle.result_json.specs.RankedRows.{ranks_of};
-ghost use Rattle.result_json.specs.Ranks.{ranked_row};
+ghost use Rattle.result_json.specs.Ranks.{ranked_row, terms_of};
 ghost use Rattle.result_json.specs.Results.{joined_blocks, json, listed_names, separated, string_text};
 ghost use Rattle.result_json.specs.Texts.{head_text};
 
@@ -14,7 +14,7 @@ use crate::row_blocks::row_blocks;
 use crate::term_texts::TermTexts;
 use crate::values::put_string;
 use piece_pool::Gate;
-use rdf_core::Text;
+use rdf_core::{Term, Text};
 use row_pieces::{EvalFault, How};
 use std::alloc::{AllocError, Global};
 use std::sync::Wait;
@@ -68,6 +68,20 @@ fn print_texts(
     Ok(())
 }
 
+/// Returns the table of the terms, in which those of the rows are printed.
+fn printed_texts<'a>(
+    alloc: Global,
+    columns: &[(Vec<u8>, usize)],
+    terms: &'a [(&'a Term, u64)],
+    rows: &[RankedRow<'_>],
+) -> Result<TermTexts<'a>, AllocError>
+    ensures terms { IfOk result (λ texts. texts ≡ terms_of terms.now) }
+{
+    let mut texts = TermTexts::new(alloc, terms)?;
+    print_texts(alloc, columns, &mut texts, rows)?;
+    Ok(texts)
+}
+
 /// Appends the names of the projected variables, with commas between them.
 fn put_names(
     alloc: Global,
@@ -108,26 +122,26 @@ fn tail(alloc: Global) -> Result<Vec<u8>, AllocError>
     Ok(out)
 }
 
-/// Returns blocks with one more before and one more after them.
+/// Returns the blocks with the head before them and the tail after them.
 fn enclosed(
     alloc: Global,
-    head: Vec<u8>,
-    mut blocks: Vec<Vec<u8>>,
-    tail: Vec<u8>,
+    names: &[Text],
+    listed: &[usize],
+    blocks: &mut Vec<Vec<u8>>,
 ) -> Result<Vec<Vec<u8>>, AllocError>
     ensures joined { IfOk result (λ made. joined_blocks made.items
-        ≡ head.items ++ (joined_blocks blocks.items ++ tail.items)) }
+        ≡ head_text (listed_names names.now listed.now) ++ (joined_blocks blocks.old.items ++ codes "]}}\n")) }
 {
     let mut made = Vec::with_capacity(alloc, blocks.len().saturating_add(2))?;
-    made.push(head)?;
-    made.append(&mut blocks)?;
-    made.push(tail)?;
+    made.push(head(alloc, names, listed)?)?;
+    made.append(blocks)?;
+    made.push(tail(alloc)?)?;
     Ok(made)
 }
 
 /// Prints the result of a query as JSON (SPARQL 1.1 Query Results JSON Format): the names of the
-/// projected variables, and the rows in order. Each row has one rank for each variable. The text
-/// ends with a line feed.
+/// projected variables, and the rows in order. Each row has one rank for each variable, and a rank
+/// is the place of a term plus one. The text ends with a line feed.
 ///
 /// # Requires
 /// `how` is within its limits.
@@ -140,7 +154,7 @@ pub(crate) fn to_json<R: Threads + Wait, G: Gate + Sync>(
     alloc: Global,
     names: &[Text],
     listed: &[usize],
-    texts: &mut TermTexts<'_>,
+    terms: &[(&Term, u64)],
     rows: &[RankedRow<'_>],
     how: &How,
     gate: &G,
@@ -148,13 +162,11 @@ pub(crate) fn to_json<R: Threads + Wait, G: Gate + Sync>(
     requires how { IsRunnable how.now }
     ensures json { IfOk result
         (λ blocks. joined_blocks blocks.items ≡ json (listed_names names.now listed.now)
-        (map (ranked_row texts.old) (ranks_of rows.now))) }
+        (map (ranked_row (terms_of terms.now)) (ranks_of rows.now))) }
     ensures one_worker { HasOneWorker how.now → IfErr result (λ fault. fault ≡ Memory) }
 {
     let columns = begun_columns(alloc, names, listed)?;
-    print_texts(alloc, &columns, texts, rows)?;
-    let head = head(alloc, names, listed)?;
-    let blocks = row_blocks(rt, alloc, &columns, texts, rows, how, gate)?;
-    let tail = tail(alloc)?;
-    Ok(enclosed(alloc, head, blocks, tail)?)
+    let texts = printed_texts(alloc, &columns, terms, rows)?;
+    let mut blocks = row_blocks(rt, alloc, &columns, &texts, rows, how, gate)?;
+    Ok(enclosed(alloc, names, listed, &mut blocks)?)
 }

@@ -11,7 +11,6 @@ use std::marker::Model;
 
 /// Terms, with the texts of those that are printed already, all in one buffer. In contracts this
 /// type is the list of the terms.
-#[derive(Drop)]
 pub(crate) struct TermTexts<'a> {
     terms: &'a [(&'a Term, u64)],
     /// The texts, in the order in which they were printed.
@@ -22,6 +21,19 @@ pub(crate) struct TermTexts<'a> {
     /// The beginning and the end of each term's text. They are equal if the term is not printed
     /// yet.
     spans: Vec<(usize, usize)>,
+}
+
+impl<'a> Drop for TermTexts<'a> {
+    /// Drops the texts. It is written out and not derived, so that a proof meets one call at each exit
+    /// that drops them.
+    fn drop(self) {
+        let TermTexts {
+            terms: _,
+            printed: _,
+            latest: _,
+            spans: _,
+        } = self;
+    }
 }
 
 impl<'a> Model for TermTexts<'a> {

@@ -45,9 +45,7 @@ pub fn join<R: Threads + Wait, G: Gate + Sync>(
     ensures alone { length left.now.rows ≤ how.now.rows → IfErr result (λ fault. fault ≡ Memory) }
     ensures one_worker { HasOneWorker how.now → IfErr result (λ fault. fault ≡ Memory) }
 {
-    let right = RightSide::build(alloc, state, left, right)?;
-    let rows = pair_rows(rt, alloc, left, &right, &Merges {}, how, gate)?;
-    Ok(rows)
+    pair_rows(rt, alloc, state, left, right, &Merges {}, how, gate)
 }
 
 /// Pairs a left row with the right side: its merges.

@@ -73,9 +73,8 @@ pub fn left_join<R: Threads + Wait, T: RowTest + Sync, G: Gate + Sync>(
     ensures alone { length left.now.rows ≤ how.now.rows → IfErr result (λ fault. fault ≡ Memory) }
     ensures one_worker { HasOneWorker how.now → IfErr result (λ fault. fault ≡ Memory) }
 {
-    let right = RightSide::build(alloc, state, left, right)?;
-    let rows = pair_rows(rt, alloc, left, &right, &MergesOrItself { test }, how, gate)?;
-    Ok(rows)
+    let pairing = MergesOrItself { test };
+    pair_rows(rt, alloc, state, left, right, &pairing, how, gate)
 }
 
 /// Pairs a left row with the right side: its merges for which the condition is true, or the row

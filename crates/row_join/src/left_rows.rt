@@ -11,6 +11,7 @@ use piece_pool::Gate;
 use row_core::Rows;
 use row_pieces::{EvalFault, How, RowWork, over_pieces};
 use std::alloc::{AllocError, Global};
+use std::hash::RandomState;
 use std::sync::Wait;
 use std::thread::Threads;
 
@@ -86,8 +87,8 @@ impl<'w, 'r, P: Pairing> RowWork for LeftRows<'w, 'r, P> {
     }
 }
 
-/// Returns what all left rows give with the right side. The left rows are cut into pieces as `how`
-/// says.
+/// Returns what all left rows give with the right rows. The right rows are hashed once, by variables
+/// that both sides bind. The left rows are cut into pieces as `how` says.
 ///
 /// # Errors
 /// - `WorkerRefused` if a worker thread could not be started. It cannot occur with one worker, or
@@ -96,27 +97,28 @@ impl<'w, 'r, P: Pairing> RowWork for LeftRows<'w, 'r, P> {
 pub(crate) fn pair_rows<R: Threads + Wait, P: Pairing + Sync, G: Gate + Sync>(
     rt: &R,
     alloc: Global,
+    state: RandomState,
     left: &Rows,
-    right: &RightSide,
+    right: &Rows,
     pairing: &P,
     how: &How,
     gate: &G,
 ) -> Result<Rows, EvalFault>
-    requires same_width { left.now.width ≡ right.now.rows.now.width }
+    requires same_width { left.now.width ≡ right.now.width }
     requires left_known { all_pass (P.knows pairing.now) left.now.rows ≡ true }
-    requires right_known { all_pass (P.knows pairing.now) right.now.rows.now.rows ≡ true }
+    requires right_known { all_pass (P.knows pairing.now) right.now.rows ≡ true }
     requires how { IsRunnable how.now }
     ensures width { IfOk result (λ rows. rows.width ≡ left.now.width) }
     ensures rows { IfOk result (λ rows. IsSameBag rows.rows
-        (flat_map (P.gives pairing.now right.now.rows.now.rows) left.now.rows)) }
+        (flat_map (P.gives pairing.now right.now.rows) left.now.rows)) }
     ensures alone { length left.now.rows ≤ how.now.rows → IfErr result (λ fault. fault ≡ Memory) }
     ensures one_worker { HasOneWorker how.now → IfErr result (λ fault. fault ≡ Memory) }
 {
+    let side = RightSide::build(alloc, state, left, right)?;
     let work = LeftRows {
         left,
-        right,
+        right: &side,
         pairing,
     };
-    let rows = over_pieces(rt, alloc, &work, how, gate)?;
-    Ok(rows)
+    over_pieces(rt, alloc, &work, how, gate)
 }

@@ -48,9 +48,7 @@ pub fn minus<R: Threads + Wait, G: Gate + Sync>(
     ensures alone { length left.now.rows ≤ how.now.rows → IfErr result (λ fault. fault ≡ Memory) }
     ensures one_worker { HasOneWorker how.now → IfErr result (λ fault. fault ≡ Memory) }
 {
-    let right = RightSide::build(alloc, state, left, right)?;
-    let rows = pair_rows(rt, alloc, left, &right, &Remainder {}, how, gate)?;
-    Ok(rows)
+    pair_rows(rt, alloc, state, left, right, &Remainder {}, how, gate)
 }
 
 /// Keeps a left row unless a right row removes it.

@@ -30,7 +30,7 @@ pub(crate) struct RightSide<'r> {
 }
 
 /// The places of the right rows that are candidates for a left row, in two lists.
-#[derive(Drop)]
+#[derive(Clone, Copy)]
 pub(crate) struct Tried<'k> {
     pub(crate) first: &'k [usize],
     pub(crate) second: &'k [usize],

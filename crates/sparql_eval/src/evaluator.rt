@@ -14,7 +14,7 @@ ghost use Rattle.row_pieces.specs.How.{IsRunnable, HasOneWorker};
 ghost use Rattle.row_pieces.specs.declared.fault.EvalFault.TheVariants.{Memory};
 ghost use Rattle.expression_values.specs.ExpressionOf.{expression_of};
 ghost use Rattle.sparql_algebra.specs.AlgebraOf.{algebra_of, graph_name_of, triple_pattern_of};
-ghost use Rattle.sparql_eval.specs.Computed.{InSomeGraph, IsComputed, IsValue, TakesOnly};
+ghost use Rattle.sparql_eval.specs.Computed.{InSomeGraph, IsComputed, TakesOnly};
 ghost use Rattle.sparql_eval.specs.Evaluated.{AreKnown, IsEvaluated, solutions_of};
 ghost use Rattle.sparql_eval.specs.TreeSolutions.{Needed, graph_solutions, tree_solutions};
 
@@ -138,7 +138,9 @@ impl<'a, R: Threads + Wait, G: Gate + Sync> Evaluator<'a, R, G> {
         ensures one_worker { HasOneWorker self.now.how.now → IfErr result (λ fault. fault ≡ Memory) }
     {
         let (right, dict) = self.solve(dict, active, right)?;
-        self.join(dict, left, right)
+        join_of(
+            self.rt, self.alloc, self.state, dict, left, right, self.how, self.gate,
+        )
     }
 
     /// Applies LeftJoin to rows and the solutions of a tree.
@@ -164,7 +166,9 @@ impl<'a, R: Threads + Wait, G: Gate + Sync> Evaluator<'a, R, G> {
         ensures one_worker { HasOneWorker self.now.how.now → IfErr result (λ fault. fault ≡ Memory) }
     {
         let (right, dict) = self.solve(dict, active, right)?;
-        self.left_join(dict, &left, &right, condition)
+        left_join(
+            self.rt, self.alloc, self.state, dict, &left, &right, condition, self.how, self.gate,
+        )
     }
 
     /// Unites rows with the solutions of a tree.
@@ -214,7 +218,9 @@ impl<'a, R: Threads + Wait, G: Gate + Sync> Evaluator<'a, R, G> {
         ensures one_worker { HasOneWorker self.now.how.now → IfErr result (λ fault. fault ≡ Memory) }
     {
         let (right, dict) = self.solve(dict, active, right)?;
-        self.minus(dict, &left, &right)
+        minus(
+            self.rt, self.alloc, self.state, dict, &left, &right, self.how, self.gate,
+        )
     }
 
     /// Evaluates a Filter and its input.
@@ -237,7 +243,9 @@ impl<'a, R: Threads + Wait, G: Gate + Sync> Evaluator<'a, R, G> {
         ensures one_worker { HasOneWorker self.now.how.now → IfErr result (λ fault. fault ≡ Memory) }
     {
         let (rows, dict) = self.solve(dict, active, inner)?;
-        self.filter(dict, &rows, condition)
+        filter(
+            self.rt, self.alloc, dict, &rows, condition, self.how, self.gate,
+        )
     }
 
     /// Evaluates an Extend and its input.
@@ -262,7 +270,9 @@ impl<'a, R: Threads + Wait, G: Gate + Sync> Evaluator<'a, R, G> {
         ensures one_worker { HasOneWorker self.now.how.now → IfErr result (λ fault. fault ≡ Memory) }
     {
         let (rows, dict) = self.solve(dict, active, inner)?;
-        self.extend(dict, &rows, variable, expression)
+        extend(
+            self.rt, self.alloc, self.state, dict, &rows, variable, expression, self.how, self.gate,
+        )
     }
 
     /// Evaluates a Project and its input.
@@ -396,88 +406,6 @@ impl<'a, R: Threads + Wait, G: Gate + Sync> Evaluator<'a, R, G> {
         pattern(
             self.rt, self.alloc, dict, self.index, active, self.width, labels, triples, self.how,
             self.gate,
-        )
-    }
-
-    fn join(&self, dict: Dict, left: Rows, right: Rows) -> Result<(Rows, Dict), EvalFault>
-        requires same_width { left.width ≡ right.width }
-        requires known_left { AreKnown dict left }
-        requires known_right { AreKnown dict right }
-        ensures evaluated { IfOk result (λ r. IsEvaluated dict left.width
-            (join term_eq (solutions_of dict left) (solutions_of dict right)) r.0 r.1) }
-        ensures same_dict { IfOk result (λ r. r.1 ≡ dict) }
-        ensures one_worker { HasOneWorker self.now.how.now → IfErr result (λ fault. fault ≡ Memory) }
-    {
-        join_of(
-            self.rt, self.alloc, self.state, dict, left, right, self.how, self.gate,
-        )
-    }
-
-    fn left_join(
-        &self,
-        dict: Dict,
-        left: &Rows,
-        right: &Rows,
-        condition: &Expr,
-    ) -> Result<(Rows, Dict), EvalFault>
-        requires same_width { left.now.width ≡ right.now.width }
-        requires known_left { AreKnown dict left.now }
-        requires known_right { AreKnown dict right.now }
-        ensures evaluated { IfOk result (λ r. IsEvaluated dict left.now.width
-            (left_join term_eq (holds (expression_of condition.now))
-            (solutions_of dict left.now) (solutions_of dict right.now)) r.0 r.1) }
-        ensures same_dict { IfOk result (λ r. r.1 ≡ dict) }
-        ensures one_worker { HasOneWorker self.now.how.now → IfErr result (λ fault. fault ≡ Memory) }
-    {
-        left_join(
-            self.rt, self.alloc, self.state, dict, left, right, condition, self.how, self.gate,
-        )
-    }
-
-    fn minus(&self, dict: Dict, left: &Rows, right: &Rows) -> Result<(Rows, Dict), EvalFault>
-        requires same_width { left.now.width ≡ right.now.width }
-        requires known_left { AreKnown dict left.now }
-        requires known_right { AreKnown dict right.now }
-        ensures evaluated { IfOk result (λ r. IsEvaluated dict left.now.width
-            (minus term_eq (solutions_of dict left.now) (solutions_of dict right.now)) r.0 r.1) }
-        ensures same_dict { IfOk result (λ r. r.1 ≡ dict) }
-        ensures one_worker { HasOneWorker self.now.how.now → IfErr result (λ fault. fault ≡ Memory) }
-    {
-        minus(
-            self.rt, self.alloc, self.state, dict, left, right, self.how, self.gate,
-        )
-    }
-
-    fn filter(&self, dict: Dict, rows: &Rows, condition: &Expr) -> Result<(Rows, Dict), EvalFault>
-        requires known { AreKnown dict rows.now }
-        ensures evaluated { IfOk result (λ r. IsEvaluated dict rows.now.width
-            (filter (holds (expression_of condition.now)) (solutions_of dict rows.now)) r.0 r.1) }
-        ensures same_dict { IfOk result (λ r. r.1 ≡ dict) }
-        ensures one_worker { HasOneWorker self.now.how.now → IfErr result (λ fault. fault ≡ Memory) }
-    {
-        filter(
-            self.rt, self.alloc, dict, rows, condition, self.how, self.gate,
-        )
-    }
-
-    fn extend(
-        &self,
-        dict: Dict,
-        rows: &Rows,
-        variable: usize,
-        expression: &Expr,
-    ) -> Result<(Rows, Dict), EvalFault>
-        requires known { AreKnown dict rows.now }
-        requires variable { variable < rows.now.width }
-        ensures evaluated { IfOk result (λ r. IsEvaluated dict rows.now.width
-            (extend variable (val (expression_of expression.now)) (solutions_of dict rows.now))
-            r.0 r.1) }
-        ensures needed { IfOk result (λ r. TakesOnly (IsValue (val (expression_of expression.now))
-            (solutions_of dict rows.now)) dict r.1) }
-        ensures one_worker { HasOneWorker self.now.how.now → IfErr result (λ fault. fault ≡ Memory) }
-    {
-        extend(
-            self.rt, self.alloc, self.state, dict, rows, variable, expression, self.how, self.gate,
         )
     }
 }

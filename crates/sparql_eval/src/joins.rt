@@ -58,32 +58,9 @@ pub fn join<R: Threads + Wait, G: Gate + Sync>(
     ensures alone { length left.now.rows ≤ how.now.rows → IfErr result (λ fault. fault ≡ Memory) }
     ensures one_worker { HasOneWorker how.now → IfErr result (λ fault. fault ≡ Memory) }
 {
-    let made = joined(rt, alloc, state, &dict, left, right, how, gate);
-    with_dict(made, dict)
-}
-
-/// Returns the rows of a Join.
-fn joined<R: Threads + Wait, G: Gate + Sync>(
-    rt: &R,
-    alloc: Global,
-    state: RandomState,
-    dict: &Dict,
-    left: &Rows,
-    right: &Rows,
-    how: &How,
-    gate: &G,
-) -> Result<Rows, EvalFault>
-    requires same_width { left.now.width ≡ right.now.width }
-    requires known_left { AreKnown dict.now left.now }
-    requires known_right { AreKnown dict.now right.now }
-    requires how { IsRunnable how.now }
-    ensures evaluated { IfOk result (λ made. IsEvaluated dict.now left.now.width
-        (join term_eq (solutions_of dict.now left.now) (solutions_of dict.now right.now)) made dict.now) }
-    ensures alone { length left.now.rows ≤ how.now.rows → IfErr result (λ fault. fault ≡ Memory) }
-    ensures one_worker { HasOneWorker how.now → IfErr result (λ fault. fault ≡ Memory) }
-{
     let _distinct = dict.len();
-    row_join::join(rt, alloc, state, left, right, how, gate)
+    let made = row_join::join(rt, alloc, state, left, right, how, gate);
+    with_dict(made, dict)
 }
 
 /// Joins rows that the evaluator no longer needs. If the left side is the one row that binds
@@ -232,32 +209,9 @@ pub fn minus<R: Threads + Wait, G: Gate + Sync>(
     ensures alone { length left.now.rows ≤ how.now.rows → IfErr result (λ fault. fault ≡ Memory) }
     ensures one_worker { HasOneWorker how.now → IfErr result (λ fault. fault ≡ Memory) }
 {
-    let made = subtracted(rt, alloc, state, &dict, left, right, how, gate);
-    with_dict(made, dict)
-}
-
-/// Returns the rows of a Minus.
-fn subtracted<R: Threads + Wait, G: Gate + Sync>(
-    rt: &R,
-    alloc: Global,
-    state: RandomState,
-    dict: &Dict,
-    left: &Rows,
-    right: &Rows,
-    how: &How,
-    gate: &G,
-) -> Result<Rows, EvalFault>
-    requires same_width { left.now.width ≡ right.now.width }
-    requires known_left { AreKnown dict.now left.now }
-    requires known_right { AreKnown dict.now right.now }
-    requires how { IsRunnable how.now }
-    ensures evaluated { IfOk result (λ made. IsEvaluated dict.now left.now.width
-        (minus term_eq (solutions_of dict.now left.now) (solutions_of dict.now right.now)) made dict.now) }
-    ensures alone { length left.now.rows ≤ how.now.rows → IfErr result (λ fault. fault ≡ Memory) }
-    ensures one_worker { HasOneWorker how.now → IfErr result (λ fault. fault ≡ Memory) }
-{
     let _distinct = dict.len();
-    row_join::minus(rt, alloc, state, left, right, how, gate)
+    let made = row_join::minus(rt, alloc, state, left, right, how, gate);
+    with_dict(made, dict)
 }
 
 /// The condition of a left join, with the dictionary of the numbers in the rows.

@@ -45,10 +45,10 @@ returns-clause-json g c =
     sorted_by_ranks terms c.in_ok-terms.ensures.rising rows (ranks_of sorted) (Each-rows_in (IsRank terms) (length listed) (length solutions) ranks c.in_ok-terms.ensures.ranks) permutation c.in_ok-sorted.ensures.sorted in
     let in_order : map (ranked_row terms) (ranks_of sorted) ≡ sorted_rows listed all =
     by_ranks ∙ ap (sorted_list cells_cmp) (rows_of_ranks dict listed solutions c.requires.known terms c.deref_mut.result.now ranks (c.deref_mut.ensures.value ∙ c.in_ok-ranks.ensures.codes) c.in_ok-terms.ensures.cells) in
-    let texts : c.in_ok-texts.texts ≡ terms = c.in_ok-texts.ensures.terms ∙ ap terms_of c.deref-2.ensures.value in
-    let kept : map (ranked_row c.in_ok-texts.texts) (ranks_of c.kept-kept.result.now) ≡ slice table.offset table.limit (sorted_rows listed all) =
+    let texts : terms_of c.deref-3.result.now ≡ terms = ap terms_of c.deref-3.ensures.value in
+    let kept : map (ranked_row (terms_of c.deref-3.result.now)) (ranks_of c.kept-kept.result.now) ≡ slice table.offset table.limit (sorted_rows listed all) =
     (λ i. map (ranked_row (texts i)) (ranks_of c.kept-kept.result.now))
-    ∙ ap (λ (rs : List RankedRow). map (ranked_row terms) (ranks_of rs)) (c.kept-kept.ensures.value ∙ ap (slice table.offset table.limit) c.deref-3.ensures.value)
+    ∙ ap (λ (rs : List RankedRow). map (ranked_row terms) (ranks_of rs)) (c.kept-kept.ensures.value ∙ ap (slice table.offset table.limit) c.deref-2.ensures.value)
     ∙ ap (map (ranked_row terms)) (sym (slice-map (λ (r : RankedRow). r.ranks.now) table.offset table.limit sorted))
     ∙ sym (slice-map (ranked_row terms) table.offset table.limit (ranks_of sorted)) ∙ ap (slice table.offset table.limit) in_order in
     subst (λ (rs : List (List (Option Term))). IfOk c.to_json.result (λ blocks. joined_blocks blocks.items ≡ json (listed_names table.names.now listed) rs)) kept c.to_json.ensures.json

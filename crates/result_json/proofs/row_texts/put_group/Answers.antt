@@ -1,10 +1,26 @@
-use Rattle.std.proofs.Common.{◌≡◌, ◌∙◌, ◌+◌, ◌++◌, [], ◌∷◌, List, ℕ, true, drop, map, ap, sym, arith, add-one, append_assoc, append-nil}
+use Rattle.std.proofs.Common.{◌≡◌, ◌∙◌, ◌+◌, ◌++◌, [], ◌∷◌, Bool, List, ℕ, true, false, refl, drop, map, ap, sym, arith, add-one, append_assoc, append-nil}
 use Rattle.std.proofs.Math.Seq.{drop-cons}
+use Rattle.std.proofs.lemmas.List.{drop_all}
+use Rattle.result_json.specs.declared.ranked_row.RankedRow.{RankedRow}
 use Rattle.result_json.specs.RankedRows.{ranks_of}
 use Rattle.result_json.specs.Texts.{begun_column, begun_row, comma_texts}
 use Rattle.result_json.proofs.SeparatedLaws.{comma_texts-cons}
 use Rattle.result_json.proofs.row_texts.put_group.Goals as goal
 use Rattle.result_json.proofs.row_texts.put_group.Goals.{then-later+in_ok-push, else-later}
+
+no_texts : (later : Bool) → comma_texts later [] ≡ []
+no_texts true = refl
+no_texts false = refl
+
+pub returns : goal.returns
+returns c =
+    let rows = c.args.rows.now in
+    let out = c.loop-i.out.items in
+    let later = c.loop-i.later in
+    let text = begun_row c.args.texts.now (map begun_column c.args.columns.now) in
+    let none : drop c.loop-i.i rows ≡ [] = drop_all c.loop-i.i rows (omega arith) in
+    let nothing : [] ≡ comma_texts later (map text (ranks_of (drop c.loop-i.i rows))) = sym (no_texts later) ∙ ap (λ (rs : List RankedRow). comma_texts later (map text (ranks_of rs))) (sym none) in
+    record { text = sym (append-nil out) ∙ ap (λ t. out ++ t) nothing ∙ c.loop-i.invariant }
 
 pub loop-i-preserved : goal.loop-i-preserved
 loop-i-preserved c =

@@ -1,8 +1,11 @@
-use Rattle.std.proofs.Common.{◌≡◌, ◌++◌, ◌∷◌, [], ◌&&◌, not, true, false, Bool, ℕ, sym, ap, ◌∙◌, refl, arith, true≢false}
-use Rattle.std.proofs.lemmas.List.{append-nil}
+use Rattle.std.proofs.Common.{◌≡◌, ◌++◌, ◌∷◌, [], ◌&&◌, not, true, false, Bool, List, ℕ, filter, nat_eq, sym, ap, ◌∙◌, refl, arith, true≢false}
+use Rattle.std.proofs.lemmas.List.{append-nil, take_all}
+use Rattle.algebra_model.specs.Operators.{merges}
 use Rattle.algebra_model.specs.Solution.{Solution, merge}
+use Rattle.algebra_model.specs.Solve.{alone}
 use Rattle.row_core.specs.RowList.{RowList}
 use Rattle.row_join.specs.Pairing.{row_if}
+use Rattle.row_join.specs.Places.{rows_at}
 use Rattle.row_join.proofs.TurnLaws.{kept-turn, alone-turn, merged_passes}
 use Rattle.row_join.proofs.left_joins.add_kept.Goals as goal
 use Rattle.row_join.proofs.left_joins.add_kept.Goals.{then-is_compatible+in_ok-merge_into+in_ok-keeps+then-branch+in_ok-push, then-is_compatible+in_ok-merge_into+in_ok-keeps+else-branch, else-is_compatible}
@@ -20,6 +23,18 @@ and_true false = refl
 and_false : (b : Bool) → false ≡ (b && false)
 and_false true = refl
 and_false false = refl
+
+pub returns-clause-rows : goal.returns-clause-rows
+returns-clause-rows g c =
+    c.loop-i.invariant.rows
+    ∙ ap (λ (ps : List ℕ). c.args.made.now.rows ++ filter (g.T.RowTest.keeps c.args.test.now) (merges nat_eq c.args.row.now (rows_at c.args.right.now.rows ps))) (take_all c.loop-i.i c.args.places.now (omega arith))
+
+pub returns-clause-alone : goal.returns-clause-alone
+returns-clause-alone g c =
+    c.loop-i.invariant.alone ∙ ap (λ (ps : List ℕ). alone nat_eq (g.T.RowTest.keeps c.args.test.now) (rows_at c.args.right.now.rows ps) c.args.row.now) (take_all c.loop-i.i c.args.places.now (omega arith))
+
+pub returns-clause-width : goal.returns-clause-width
+returns-clause-width g c = c.loop-i.invariant.width
 
 pub loop-i-preserved : goal.loop-i-preserved
 loop-i-preserved g c =

@@ -5,6 +5,15 @@ use Rattle.row_join.proofs.PairLaws.{left_join-tried}
 use Rattle.row_join.proofs.left_joins.MergesOrItselfPairing.add.Goals as goal
 use Rattle.row_join.proofs.left_joins.MergesOrItselfPairing.add.Goals.{else-first-via-then-first+else-second, else-first-via-else-first}
 
+pub push-requires : goal.push-requires
+push-requires g c = record { wide = c.requires.row_wide ∙ sym (c.in_ok-second.ensures.width ∙ c.in_ok-first.ensures.width ∙ c.requires.made_wide) }
+
+pub returns-in_ok-push-clause-width : goal.returns-in_ok-push-clause-width
+returns-in_ok-push-clause-width g c = c.in_ok-push.ensures.width ∙ c.in_ok-second.ensures.width ∙ c.in_ok-first.ensures.width
+
+pub returns-else-first-clause-width : goal.returns-else-first-clause-width
+returns-else-first-clause-width g c = c.in_ok-second.ensures.width ∙ c.in_ok-first.ensures.width
+
 pub returns-in_ok-push-clause-rows : goal.returns-in_ok-push-clause-rows
 returns-in_ok-push-clause-rows g c =
     let tried = c.in_ok-tried.tried in

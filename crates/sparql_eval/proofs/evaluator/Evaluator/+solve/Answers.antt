@@ -220,19 +220,19 @@ solve-returns-in-Distinct-clause-needed g t c =
 
 -- ---- an operator over the rows of its inputs
 
-pub solve_join-join-requires-clause-known_left : goal.solve_join-join-requires-clause-known_left
-solve_join-join-requires-clause-known_left g t c κs within = (rows_kept c.args.dict c.in_ok-right.dict c.in_ok-right.ensures.evaluated.grown c.args.left.rows c.requires.known_left).0
+pub solve_join-join_of-requires-clause-known_left : goal.solve_join-join_of-requires-clause-known_left
+solve_join-join_of-requires-clause-known_left g t c κs within = (rows_kept c.args.dict c.in_ok-right.dict c.in_ok-right.ensures.evaluated.grown c.args.left.rows c.requires.known_left).0
 
 pub solve_join-returns-clause-evaluated : goal.solve_join-returns-clause-evaluated
 solve_join-returns-clause-evaluated g t c =
     let s = c.args.self.now in
     let S : Operator → List (Solution Term) = λ tree. tree_solutions c.args.dict s.index.now s.width c.args.active tree in
-    after_right c.args.dict c.in_ok-right.dict s.width c.join.result (join term_eq) (join_keeps) (S c.args.right.now) c.args.left c.in_ok-right.right c.requires.same_width c.requires.known_left c.in_ok-right.ensures.evaluated c.join.ensures.evaluated
+    after_right c.args.dict c.in_ok-right.dict s.width c.join_of.result (join term_eq) (join_keeps) (S c.args.right.now) c.args.left c.in_ok-right.right c.requires.same_width c.requires.known_left c.in_ok-right.ensures.evaluated c.join_of.ensures.evaluated
 
 pub solve_join-returns-clause-needed : goal.solve_join-returns-clause-needed
 solve_join-returns-clause-needed g t c =
     let s = c.args.self.now in
-    takes_still (Needed c.args.dict s.index.now s.width c.args.active (algebra_of c.args.right.now)) c.args.dict c.in_ok-right.dict c.join.result c.in_ok-right.ensures.needed c.join.ensures.same_dict
+    takes_still (Needed c.args.dict s.index.now s.width c.args.active (algebra_of c.args.right.now)) c.args.dict c.in_ok-right.dict c.join_of.result c.in_ok-right.ensures.needed c.join_of.ensures.same_dict
 
 pub solve_left_join-left_join-requires-clause-known_left : goal.solve_left_join-left_join-requires-clause-known_left
 solve_left_join-left_join-requires-clause-known_left g t c κs within = (rows_kept c.args.dict c.in_ok-right.dict c.in_ok-right.ensures.evaluated.grown c.args.left.rows c.requires.known_left).0
@@ -680,14 +680,14 @@ solve-returns-in-Graph-clause-one_worker g t c = c.solve_graph.ensures.one_worke
 pub solve-returns-in-Pattern-clause-one_worker : goal.solve-returns-in-Pattern-clause-one_worker
 solve-returns-in-Pattern-clause-one_worker g t c = c.pattern.ensures.one_worker
 
-pub solve_join-join-requires-clause-same_width : goal.solve_join-join-requires-clause-same_width
-solve_join-join-requires-clause-same_width g t c κs within = c.requires.same_width ∙ sym c.in_ok-right.ensures.evaluated.wide
+pub solve_join-join_of-requires-clause-same_width : goal.solve_join-join_of-requires-clause-same_width
+solve_join-join_of-requires-clause-same_width g t c κs within = c.requires.same_width ∙ sym c.in_ok-right.ensures.evaluated.wide
 
-pub solve_join-join-requires-clause-known_right : goal.solve_join-join-requires-clause-known_right
-solve_join-join-requires-clause-known_right g t c κs within = c.in_ok-right.ensures.evaluated.known
+pub solve_join-join_of-requires-clause-known_right : goal.solve_join-join_of-requires-clause-known_right
+solve_join-join_of-requires-clause-known_right g t c κs within = c.in_ok-right.ensures.evaluated.known
 
 pub solve_join-returns-clause-one_worker : goal.solve_join-returns-clause-one_worker
-solve_join-returns-clause-one_worker g t c = c.join.ensures.one_worker
+solve_join-returns-clause-one_worker g t c = c.join_of.ensures.one_worker
 
 pub solve_left_join-left_join-requires-clause-same_width : goal.solve_left_join-left_join-requires-clause-same_width
 solve_left_join-left_join-requires-clause-same_width g t c κs within = c.requires.same_width ∙ sym c.in_ok-right.ensures.evaluated.wide
@@ -724,3 +724,33 @@ solve_filter-returns-clause-one_worker g t c = c.filter.ensures.one_worker
 
 pub solve_extend-returns-clause-one_worker : goal.solve_extend-returns-clause-one_worker
 solve_extend-returns-clause-one_worker g t c = c.extend.ensures.one_worker
+
+pub solve_join-join_of-requires-clause-how : goal.solve_join-join_of-requires-clause-how
+solve_join-join_of-requires-clause-how g t c κs within = c.args.self.now.runnable
+
+pub solve_left_join-left_join-requires-clause-how : goal.solve_left_join-left_join-requires-clause-how
+solve_left_join-left_join-requires-clause-how g t c κs within = c.args.self.now.runnable
+
+pub solve_minus-minus-requires-clause-how : goal.solve_minus-minus-requires-clause-how
+solve_minus-minus-requires-clause-how g t c κs within = c.args.self.now.runnable
+
+pub solve_filter-filter-requires-clause-how : goal.solve_filter-filter-requires-clause-how
+solve_filter-filter-requires-clause-how g t c κs within = c.args.self.now.runnable
+
+pub solve_extend-extend-requires-clause-how : goal.solve_extend-extend-requires-clause-how
+solve_extend-extend-requires-clause-how g t c κs within = c.args.self.now.runnable
+
+pub solve_extend-extend-requires-clause-variable : goal.solve_extend-extend-requires-clause-variable
+solve_extend-extend-requires-clause-variable g t c κs within = subst (λ (w : ℕ). c.args.variable < w) (sym c.in_ok-rows.ensures.evaluated.wide) c.requires.variable
+
+pub solve_union-returns-clause-one_worker : goal.solve_union-returns-clause-one_worker
+solve_union-returns-clause-one_worker g t c = λ _. c.union_of.ensures.refused
+
+pub solve_project-returns-clause-one_worker : goal.solve_project-returns-clause-one_worker
+solve_project-returns-clause-one_worker g t c = λ _. c.project.ensures.refused
+
+pub solve_distinct-returns-clause-one_worker : goal.solve_distinct-returns-clause-one_worker
+solve_distinct-returns-clause-one_worker g t c = λ _. c.distinct.ensures.refused
+
+pub solve-returns-in-Table-clause-one_worker : goal.solve-returns-in-Table-clause-one_worker
+solve-returns-in-Table-clause-one_worker g t c = λ _. c.table.ensures.refused
