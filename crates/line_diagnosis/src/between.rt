@@ -36,23 +36,15 @@ fn blank_part(next: Next) -> Option<Part> {
     }
 }
 
-fn is_dot_next(next: Next) -> bool {
-    next == Next::Graph || next == Next::Dot
-}
-
-fn is_comment_next(next: Next) -> bool {
-    next == Next::Subject || next == Next::End
-}
-
 /// Returns the state after the first character of a terminal or a comment, or None if none may
 /// begin with it.
 fn opened(next: Next, c: char) -> Option<State> {
     match c {
         '<' => Some(State::Iri(iri_part(next)?, Scheme::Unread)),
         '_' => Some(State::Underscore(blank_part(next)?)),
-        '"' if next == Next::Object => Some(State::String),
-        '.' if is_dot_next(next) => Some(State::Between(Next::End)),
-        '#' if is_comment_next(next) => Some(State::Comment),
+        '"' if matches!(next, Next::Object) => Some(State::String),
+        '.' if matches!(next, Next::Graph | Next::Dot) => Some(State::Between(Next::End)),
+        '#' if matches!(next, Next::Subject | Next::End) => Some(State::Comment),
         _ => None,
     }
 }
@@ -75,23 +67,5 @@ pub fn step_after_string(c: char) -> Result<State, Reason> {
         '^' => Ok(State::Caret),
         '@' => Ok(State::At),
         _ => step_between(Next::Graph, c),
-    }
-}
-
-/// Reads a character after one `^`.
-pub fn step_caret(c: char) -> Result<State, Reason> {
-    if c == '^' {
-        Ok(State::Between(Next::Datatype))
-    } else {
-        Err(Reason::OneCaret(Found::Char(c)))
-    }
-}
-
-/// Reads a character of a comment.
-pub fn step_comment(c: char) -> Result<State, Reason> {
-    if c == '\n' || c == '\r' {
-        Err(Reason::LineBreak)
-    } else {
-        Ok(State::Comment)
     }
 }

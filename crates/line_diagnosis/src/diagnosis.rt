@@ -8,20 +8,16 @@ ghost use Rattle.line_diagnosis.specs.Column.{column_of};
 ghost use Rattle.line_diagnosis.specs.Explained.{IsExplained};
 ghost use Rattle.line_diagnosis.specs.declared.diagnosis.Counted.TheVariants.{Characters};
 
-use crate::between::{step_after_string, step_between, step_caret, step_comment};
+use crate::between::{step_after_string, step_between};
 use crate::completion::completion;
 use crate::iris::{step_backslash, step_escape, step_iri};
-use crate::labels::{
-    step_label, step_label_dot, step_label_dots, step_label_start, step_underscore,
-};
-use crate::literals::{
-    step_at, step_hyphen, step_string, step_string_backslash, step_string_escape, step_subtag,
-    step_tag,
-};
+use crate::labels::{step_label, step_label_dot, step_label_dots};
+use crate::literals::{step_string, step_string_backslash, step_string_escape};
 use crate::reason::{Found, Next, Packing, Reason};
 use crate::state::{State, after};
 use excerpt::count_of;
 use nquads_core::{LineFault, read_line};
+use rdf_core::lexical::is_label_start;
 use std::alloc::{AllocError, Global};
 
 /// The unit of a column.
@@ -48,7 +44,7 @@ pub struct Diagnosis {
 }
 
 /// The part of a text that is read.
-#[derive(Drop)]
+#[derive(Clone, Copy)]
 struct Walk {
     /// The number of bytes before the first character that is not allowed at its place, or the
     /// length of the text if there is none.
@@ -59,28 +55,52 @@ struct Walk {
     reason: Option<Reason>,
 }
 
+/// Returns the state after a character, if the character is allowed.
+fn expect(is_allowed: bool, state: State, reason: Reason) -> Result<State, Reason> {
+    if is_allowed { Ok(state) } else { Err(reason) }
+}
+
 /// Reads a character (RDF 1.1 N-Quads, section 4).
 ///
 /// # Errors
 /// The reason why no well-formed line continues with this character in this state.
 fn step(state: State, c: char) -> Result<State, Reason> {
+    let found = Found::Char(c);
     match state {
         State::Between(next) => step_between(next, c),
         State::AfterString => step_after_string(c),
-        State::Comment => step_comment(c),
+        State::Comment => expect(c != '\n' && c != '\r', state, Reason::LineBreak),
         State::Iri(part, scheme) => step_iri(part, scheme, c),
         State::IriBackslash(part, scheme) => step_backslash(part, scheme, c),
         State::IriDigits(part, scheme, digits) => step_escape(part, scheme, digits, c),
         State::String => step_string(c),
         State::StringBackslash => step_string_backslash(c),
         State::StringDigits(digits) => step_string_escape(digits, c),
-        State::Caret => step_caret(c),
-        State::At => step_at(c),
-        State::Tag => step_tag(c),
-        State::Hyphen => step_hyphen(c),
-        State::Subtag => step_subtag(c),
-        State::Underscore(part) => step_underscore(part, c),
-        State::LabelStart(part) => step_label_start(part, c),
+        State::Caret => expect(
+            c == '^',
+            State::Between(Next::Datatype),
+            Reason::OneCaret(found),
+        ),
+        State::At => expect(c.is_ascii_alphabetic(), State::Tag, Reason::NoTag(found)),
+        State::Tag if c.is_ascii_alphabetic() => Ok(state),
+        State::Subtag if c.is_ascii_alphanumeric() => Ok(state),
+        State::Tag | State::Subtag if c == '-' => Ok(State::Hyphen),
+        State::Tag | State::Subtag => step_between(Next::Graph, c),
+        State::Hyphen => expect(
+            c.is_ascii_alphanumeric(),
+            State::Subtag,
+            Reason::NoSubtag(found),
+        ),
+        State::Underscore(part) => expect(
+            c == ':',
+            State::LabelStart(part),
+            Reason::NoColon(found),
+        ),
+        State::LabelStart(part) => expect(
+            is_label_start(c),
+            State::Label(part),
+            Reason::LabelStart(found),
+        ),
         State::Label(part) => step_label(part, c),
         State::LabelDot(part) => step_label_dot(part, c),
         State::LabelDots(part) => step_label_dots(part, c),
@@ -167,10 +187,13 @@ fn packing_of(line: &[u8]) -> Option<Packing> {
 /// Returns whether the bytes begin as a UTF-16 text does: with its byte order mark, or with an
 /// ASCII character.
 fn is_utf16(line: &[u8]) -> bool {
-    matches!(
-        line,
-        [0xFF, 0xFE, ..] | [0xFE, 0xFF, ..] | [0, _, ..] | [_, 0, ..]
-    )
+    match line {
+        [first, second, ..] => matches!(
+            (*first, *second),
+            (0xFF, 0xFE) | (0xFE, 0xFF) | (0, _) | (_, 0)
+        ),
+        _ => false,
+    }
 }
 
 /// Returns a reason from the bytes of the whole line if they say more than the character at the

@@ -19,7 +19,7 @@ pub fn scheme_after(scheme: Scheme, code: u64) -> Scheme {
 fn reason_of(scheme: Scheme, c: char) -> Reason {
     match c {
         '\n' | '\r' => Reason::LineBreak,
-        '<' if scheme == Scheme::Unread => Reason::QuotedTriple,
+        '<' if matches!(scheme, Scheme::Unread) => Reason::QuotedTriple,
         _ if is_iri_char(c) || c == '>' => Reason::NoScheme(Found::Char(c)),
         _ => Reason::IriChar(c),
     }
@@ -30,7 +30,7 @@ pub fn step_iri(part: Part, scheme: Scheme, c: char) -> Result<State, Reason> {
     if c == '\\' {
         return Ok(State::IriBackslash(part, scheme));
     }
-    if c == '>' && scheme == Scheme::Read {
+    if c == '>' && matches!(scheme, Scheme::Read) {
         return Ok(State::Between(after(part)));
     }
     let code = u64::from(c as u32);

@@ -2,27 +2,9 @@
 //! a part of it if a label character follows the dots.
 
 use crate::between::step_between;
-use crate::reason::{Found, Next, Reason};
+use crate::reason::{Next, Reason};
 use crate::state::{Part, State, after};
-use rdf_core::lexical::{is_label_char, is_label_start};
-
-/// Reads a character after `_`.
-pub fn step_underscore(part: Part, c: char) -> Result<State, Reason> {
-    if c == ':' {
-        Ok(State::LabelStart(part))
-    } else {
-        Err(Reason::NoColon(Found::Char(c)))
-    }
-}
-
-/// Reads a character after `_:`.
-pub fn step_label_start(part: Part, c: char) -> Result<State, Reason> {
-    if is_label_start(c) {
-        Ok(State::Label(part))
-    } else {
-        Err(Reason::LabelStart(Found::Char(c)))
-    }
-}
+use rdf_core::lexical::is_label_char;
 
 /// Reads a character in a label.
 pub fn step_label(part: Part, c: char) -> Result<State, Reason> {
@@ -41,7 +23,7 @@ pub fn step_label_dot(part: Part, c: char) -> Result<State, Reason> {
         Ok(State::Label(part))
     } else if c == '.' {
         Ok(State::LabelDots(part))
-    } else if after(part) == Next::Predicate {
+    } else if matches!(after(part), Next::Predicate) {
         Err(Reason::LabelDot)
     } else {
         step_between(Next::End, c)

@@ -12,7 +12,7 @@ use std::alloc::{AllocError, Global};
 use std::fmt;
 
 /// A line of the document, and a column in it.
-#[derive(Drop)]
+#[derive(Clone, Copy)]
 struct Place {
     line: u128,
     column: usize,

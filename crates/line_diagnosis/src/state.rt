@@ -14,7 +14,7 @@ pub enum Part {
 }
 
 /// The part of an IRI's scheme that is read (RFC 3987, section 2.2).
-#[derive(Clone, Copy, PartialEq, Eq)]
+#[derive(Clone, Copy)]
 pub enum Scheme {
     /// Its first letter comes next
     Unread,

@@ -80,8 +80,9 @@ const UNDEF: Token<'static> = Token {
     text: &['U', 'N', 'D', 'E', 'F'],
 };
 
-/// Returns terminals that a symbol derives. They are not always the fewest.
-fn end_of(symbol: Symbol) -> &'static [Token<'static>] {
+/// Returns terminals that a symbol derives. They are not always the fewest, but there are none if the
+/// symbol derives the empty text.
+pub fn end_of(symbol: Symbol) -> &'static [Token<'static>] {
     match symbol {
         Symbol::Query => &[SELECT, STAR, OPEN_BRACE, CLOSE_BRACE],
         Symbol::Namespace => &[PREFIX],
@@ -117,14 +118,6 @@ fn end_of(symbol: Symbol) -> &'static [Token<'static>] {
     }
 }
 
-/// Appends the values that complete a row of VALUES.
-fn push_cells(end: &mut Vec<Token<'static>>, machine: &Machine) -> Result<(), AllocError> {
-    for _ in machine.cells..machine.width {
-        end.push(UNDEF)?;
-    }
-    Ok(())
-}
-
 /// Appends terminals that a symbol of the machine derives.
 fn push_end(
     end: &mut Vec<Token<'static>>,
@@ -132,9 +125,21 @@ fn push_end(
     symbol: Symbol,
 ) -> Result<(), AllocError> {
     if matches!(symbol, Symbol::Cells) {
-        push_cells(end, machine)?;
+        for _ in machine.cells..machine.width {
+            end.push(UNDEF)?;
+        }
     }
     end.extend_from_slice(end_of(symbol))
+}
+
+/// Appends terminals that the symbols of the machine derive.
+fn push_ends(end: &mut Vec<Token<'static>>, machine: &Machine) -> Result<(), AllocError> {
+    let stack: &[Symbol] = &machine.stack;
+    let count = stack.len();
+    for i in 0..count {
+        push_end(end, machine, stack[count - 1 - i])?;
+    }
+    Ok(())
 }
 
 /// Returns terminals that complete a query, given the state of the machine after its beginning.
@@ -142,9 +147,7 @@ fn push_end(
 /// # Errors
 /// `AllocError` if an allocation fails.
 pub fn completion(alloc: Global, machine: &Machine) -> Result<Vec<Token<'static>>, AllocError> {
-    let mut end = Vec::new(alloc);
-    for symbol in machine.stack.iter().rev() {
-        push_end(&mut end, machine, *symbol)?;
-    }
+    let mut end: Vec<Token<'static>> = Vec::new(alloc);
+    push_ends(&mut end, machine)?;
     Ok(end)
 }

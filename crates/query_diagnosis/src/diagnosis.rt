@@ -10,17 +10,18 @@ use crate::hint::Hint;
 use crate::hints::{hint_at, hint_at_char};
 use crate::machine::{Cause, Stop, stop_of};
 use crate::places::{Position, offset_of, position_of};
-use crate::rules::{
-    Breach, bound_twice, deepest, prefix_of, relative_iri, reused_blank, undefined_prefix,
-};
+use crate::rules::{Breach, bound_twice, deepest, relative_iri, reused_blank, undefined_prefix};
 use excerpt::visible;
 use rdf_core::lexical::echar;
-use sparql_lexer::{Token, characters_of, scan_text, text_of};
+use sparql_lexer::{Token, characters_of, scan_text};
 use sparql_read::{QueryFault, declarations_of, read_query};
 use std::alloc::{AllocError, Global};
 
 /// The maximum number of characters of a terminal that a reason shows.
 const SHOWN: usize = 40;
+
+/// The reason if none is known.
+const NO_QUERY: &str = "this is not a query of SPARQL as spq reads it";
 
 /// The place at which a query is rejected, and the reason.
 #[derive(Drop)]
@@ -46,7 +47,7 @@ struct Text<'a> {
     rest: &'a [char],
 }
 
-/// A place with its reason.
+/// The place that is found, with its reason.
 #[derive(Drop)]
 struct Found {
     offset: usize,
@@ -63,41 +64,23 @@ impl<'a> Text<'a> {
         offset_of(self.characters, self.tokens, at)
     }
 
-    fn position(self, at: usize) -> Position {
-        position_of(self.characters, self.offset(at))
+    /// Returns the character that begins no terminal, if the machine stopped there.
+    fn unread(self, stop: &Stop) -> Option<char> {
+        if stop.at < self.tokens.len() {
+            None
+        } else {
+            self.rest.first().copied()
+        }
     }
 }
 
-/// Appends a terminal in quotes: its first characters, in their visible form.
-fn push_token(out: &mut String, token: Token<'_>) -> Result<(), AllocError> {
+/// Appends characters in quotes: the first of them, in their visible form.
+fn push_quoted(out: &mut String, characters: &[char]) -> Result<(), AllocError> {
     out.push('\'')?;
-    for c in token.text.iter().take(SHOWN) {
+    for c in characters.iter().take(SHOWN) {
         out.push(visible(*c))?;
     }
-    if token.text.len() > SHOWN {
-        out.push('…')?;
-    }
-    out.push('\'')
-}
-
-/// Appends `expected ..`, without the text that was found.
-fn push_expectation(out: &mut String, stop: &Stop) -> Result<(), AllocError> {
-    out.push_str("expected ")?;
-    push_expected(out, &stop.stack)
-}
-
-/// Appends the reason for a terminal that is not allowed, or for the end.
-fn push_unexpected(
-    out: &mut String,
-    token: Option<&Token<'_>>,
-    stop: &Stop,
-) -> Result<(), AllocError> {
-    push_expectation(out, stop)?;
-    out.push_str(", found ")?;
-    match token {
-        Some(token) => push_token(out, *token),
-        None => out.push_str("the end of the query"),
-    }
+    out.push_str(if characters.len() > SHOWN { "…'" } else { "'" })
 }
 
 /// Returns whether an unknown escape occurs between a quote and the next quote.
@@ -124,85 +107,56 @@ fn no_string(rest: &[char], quote: char) -> &'static str {
     }
 }
 
-/// Appends the reason for a character that begins no terminal.
-fn push_unreadable(
+/// Appends what is expected, and the terminal or the character that was found instead.
+fn push_unexpected(
     out: &mut String,
-    rest: &[char],
-    c: char,
     stop: &Stop,
+    found: Option<&[char]>,
 ) -> Result<(), AllocError> {
-    if c == '"' || c == '\'' {
-        return out.push_str(no_string(rest, c));
-    }
-    push_expectation(out, stop)?;
-    out.push_str(", found '")?;
-    out.push(visible(c))?;
-    out.push('\'')
-}
-
-/// Returns the reason for a terminal whose kind is allowed.
-fn words_of(cause: Cause) -> &'static str {
-    match cause {
-        Cause::Kind => "this may not come here",
-        Cause::Escape =>
-            "an escape here is for no character, or for one that is not allowed in an IRI",
-        Cause::Twice => "this variable is twice in the list of VALUES",
-        Cause::LongRow => "this row of VALUES has more values than there are variables",
-        Cause::ShortRow => "this row of VALUES has fewer values than there are variables",
-        Cause::Unexplained => "this is not a query of SPARQL as spq reads it",
-    }
-}
-
-/// Returns the character that begins no terminal, if the machine stopped there.
-fn unread(text: Text<'_>, stop: &Stop) -> Option<char> {
-    if stop.at < text.tokens.len() {
-        None
-    } else {
-        text.rest.first().copied()
+    push_expected(out, &stop.stack)?;
+    out.push_str(", found ")?;
+    match found {
+        Some(characters) => push_quoted(out, characters),
+        None => out.push_str("the end of the query"),
     }
 }
 
 /// Appends the reason for a terminal whose kind is not allowed, or for a character that begins no
 /// terminal.
 fn push_misplaced(out: &mut String, text: Text<'_>, stop: &Stop) -> Result<(), AllocError> {
-    match unread(text, stop) {
-        Some(c) => push_unreadable(out, text.rest, c, stop),
-        None => push_unexpected(out, text.tokens.get(stop.at), stop),
+    match text.unread(stop) {
+        Some(c) if c == '"' || c == '\'' => out.push_str(no_string(text.rest, c)),
+        Some(c) => push_unexpected(out, stop, Some(&[c])),
+        None => match text.tokens.get(stop.at) {
+            Some(token) => push_unexpected(out, stop, Some(token.text)),
+            None => push_unexpected(out, stop, None),
+        },
     }
 }
 
 /// Appends the reason for the place where the machine stopped.
 fn push_reason(out: &mut String, text: Text<'_>, stop: &Stop) -> Result<(), AllocError> {
-    match stop.cause {
-        Cause::Kind => push_misplaced(out, text, stop),
-        cause => out.push_str(words_of(cause)),
-    }
+    let words = match stop.cause {
+        Cause::Kind => return push_misplaced(out, text, stop),
+        Cause::Escape =>
+            "an escape here is for no character, or for one that is not allowed in an IRI",
+        Cause::Twice => "this variable is twice in the list of VALUES",
+        Cause::LongRow => "this row of VALUES has more values than there are variables",
+        Cause::ShortRow => "this row of VALUES has fewer values than there are variables",
+        Cause::Unexplained => NO_QUERY,
+    };
+    out.push_str(words)
 }
 
 /// Returns the hint for the place where the machine stopped.
 fn hint_for(text: Text<'_>, stop: &Stop) -> Option<Hint> {
-    match (stop.cause, unread(text, stop)) {
-        (Cause::Kind, Some(c)) => hint_at_char(c, &stop.stack),
-        (Cause::Kind, None) => hint_at(text.tokens, stop.at, &stop.stack),
-        _ => None,
+    if !matches!(stop.cause, Cause::Kind) {
+        return None;
     }
-}
-
-/// Returns the place and the reason for the place where the machine stopped.
-fn stopped(alloc: Global, text: Text<'_>, stop: &Stop) -> Result<Found, AllocError> {
-    let mut reason = String::new(alloc);
-    push_reason(&mut reason, text, stop)?;
-    Ok(Found {
-        offset: text.offset(stop.at),
-        reason,
-        hint: hint_for(text, stop),
-    })
-}
-
-/// Finds the first terminal after which no query continues.
-fn syntax(alloc: Global, text: Text<'_>) -> Result<Found, AllocError> {
-    let stop = stop_of(alloc, text.tokens)?;
-    stopped(alloc, text, &stop)
+    match text.unread(stop) {
+        Some(c) => hint_at_char(c, &stop.stack),
+        None => hint_at(text.tokens, stop.at, &stop.stack),
+    }
 }
 
 /// Returns the first terminal that breaks the rule of a fault.
@@ -253,101 +207,98 @@ fn push_breach(
     let (before, after) = words_around(fault);
     out.push_str(before)?;
     if let Some(token) = text.tokens.get(breach.at) {
-        push_token(out, *token)?;
+        push_quoted(out, token.text)?;
     }
     out.push_str(after)?;
     match breach.earlier {
-        Some(at) => write!(out, "{}", text.position(at)),
+        Some(at) => write!(out, "{}", position_of(text.characters, text.offset(at))),
         None => Ok(()),
     }
 }
 
-/// Returns the place and the reason for a terminal that breaks the rule of a fault.
-fn broken(
-    alloc: Global,
-    text: Text<'_>,
-    breach: Breach,
-    fault: QueryFault,
-) -> Result<Found, AllocError> {
-    let mut reason = String::new(alloc);
-    push_breach(&mut reason, text, breach, fault)?;
-    Ok(Found {
-        offset: text.offset(breach.at),
-        reason,
-        hint: hint_of(fault),
-    })
-}
-
-/// Finds the first terminal that breaks the rule of a fault.
-fn rule(alloc: Global, text: Text<'_>, fault: QueryFault) -> Result<Option<Found>, AllocError> {
-    match breach_of(alloc, text.tokens, fault)? {
-        Some(breach) => Ok(Some(broken(alloc, text, breach, fault)?)),
-        None => Ok(None),
+/// Appends the reason for a prefix without a declaration.
+fn push_prefix(out: &mut String, prefix: &[char]) -> Result<(), AllocError> {
+    out.push_str("the prefix '")?;
+    for c in prefix {
+        out.push(*c)?;
     }
+    out.push_str(":' is not declared")
 }
 
-/// Returns the place of the first prefixed name without a declaration.
-fn undeclared(alloc: Global, tokens: &[Token<'_>]) -> Result<Option<usize>, AllocError> {
+/// Returns the first prefixed name without a declaration.
+fn undeclared<'a>(
+    alloc: Global,
+    tokens: &[Token<'a>],
+) -> Result<Option<(usize, &'a [char])>, AllocError> {
     let names = declarations_of(alloc, tokens)?;
     undefined_prefix(alloc, &names, tokens)
 }
 
-/// Returns the reason for a prefix without a declaration.
-fn no_prefix(alloc: Global, token: &Token<'_>) -> Result<String, AllocError> {
-    let name = text_of(alloc, prefix_of(token.text))?;
-    format!(in alloc; "the prefix '{name}:' is not declared")
-}
-
-/// Finds the first prefixed name without a declaration.
-fn prefix(alloc: Global, text: Text<'_>) -> Result<Option<Found>, AllocError> {
-    let Some(at) = undeclared(alloc, text.tokens)? else {
-        return Ok(None);
-    };
-    let Some(token) = text.tokens.get(at) else {
-        return Ok(None);
-    };
-    Ok(Some(Found {
-        offset: text.offset(at),
-        reason: no_prefix(alloc, token)?,
-        hint: Some(Hint::Declare),
-    }))
-}
-
-/// Finds the place and the reason of a fault.
-fn find(alloc: Global, text: Text<'_>, fault: QueryFault) -> Result<Option<Found>, AllocError> {
-    match fault {
-        QueryFault::Syntax => Ok(Some(syntax(alloc, text)?)),
-        QueryFault::UndefinedPrefix => prefix(alloc, text),
-        _ => rule(alloc, text, fault),
+/// The functions that find a place fill in a `Found` that their caller owns, so that none of them
+/// drops a text where an allocation fails.
+impl Found {
+    /// Returns an unknown place, at the beginning of the text, without a reason.
+    fn new(alloc: Global) -> Found {
+        Found {
+            offset: 0,
+            reason: String::new(alloc),
+            hint: None,
+        }
     }
-}
 
-/// Returns an unknown place, at the beginning of the text.
-fn unknown(alloc: Global) -> Result<Found, AllocError> {
-    Ok(Found {
-        offset: 0,
-        reason: String::from_str(alloc, "this is not a query of SPARQL as spq reads it")?,
-        hint: None,
-    })
-}
-
-/// Returns the place and the reason of a fault, or the beginning of the text if there is none.
-fn found_or_unknown(alloc: Global, text: Text<'_>, fault: QueryFault) -> Result<Found, AllocError> {
-    match find(alloc, text, fault)? {
-        Some(found) => Ok(found),
-        None => unknown(alloc),
+    /// Finds the first terminal after which no query continues.
+    fn find_stop(&mut self, alloc: Global, text: Text<'_>) -> Result<(), AllocError> {
+        let stop = stop_of(alloc, text.tokens)?;
+        self.offset = text.offset(stop.at);
+        self.hint = hint_for(text, &stop);
+        push_reason(&mut self.reason, text, &stop)
     }
-}
 
-/// Returns the place and the reason of a fault of these characters.
-fn located(alloc: Global, characters: &[char], fault: QueryFault) -> Result<Found, AllocError> {
-    let scan = scan_text(alloc, characters)?;
-    let text = Text {
-        characters,
-        tokens: &scan.tokens,
-        rest: scan.rest,
-    };
-    found_or_unknown(alloc, text, fault)
+    /// Finds the first terminal that breaks the rule of a fault.
+    fn find_breach(
+        &mut self,
+        alloc: Global,
+        text: Text<'_>,
+        fault: QueryFault,
+    ) -> Result<(), AllocError> {
+        let Some(breach) = breach_of(alloc, text.tokens, fault)? else {
+            return self.reason.push_str(NO_QUERY);
+        };
+        self.offset = text.offset(breach.at);
+        self.hint = hint_of(fault);
+        push_breach(&mut self.reason, text, breach, fault)
+    }
+
+    /// Finds the first prefixed name without a declaration.
+    fn find_prefix(&mut self, alloc: Global, text: Text<'_>) -> Result<(), AllocError> {
+        let Some((at, prefix)) = undeclared(alloc, text.tokens)? else {
+            return self.reason.push_str(NO_QUERY);
+        };
+        self.offset = text.offset(at);
+        self.hint = Some(Hint::Declare);
+        push_prefix(&mut self.reason, prefix)
+    }
+
+    /// Finds the place and the reason of a fault of these characters. If no place is found, it is
+    /// the beginning of the text.
+    fn find(
+        &mut self,
+        alloc: Global,
+        characters: &[char],
+        fault: QueryFault,
+    ) -> Result<(), AllocError> {
+        let scan = scan_text(alloc, characters)?;
+        let text = Text {
+            characters,
+            tokens: &scan.tokens,
+            rest: scan.rest,
+        };
+        match fault {
+            QueryFault::Syntax => self.find_stop(alloc, text),
+            QueryFault::UndefinedPrefix => self.find_prefix(alloc, text),
+            _ => self.find_breach(alloc, text, fault),
+        }
+    }
 }
 
 /// Returns the diagnosis of a fault of a text.
@@ -355,7 +306,8 @@ fn explain(alloc: Global, text: &str, fault: QueryFault) -> Result<Diagnosis, Al
     ensures fault { IfOk result (λ d. d.fault ≡ fault) }
 {
     let characters = characters_of(alloc, text)?;
-    let found = located(alloc, &characters, fault)?;
+    let mut found = Found::new(alloc);
+    found.find(alloc, &characters, fault)?;
     Ok(Diagnosis {
         fault,
         offset: found.offset,
@@ -372,13 +324,8 @@ fn fault_of(alloc: Global, text: &str) -> Result<Option<QueryFault>, AllocError>
 {
     match read_query(alloc, text) {
         Ok(_) => Ok(None),
-        Err(QueryFault::Syntax) => Ok(Some(QueryFault::Syntax)),
-        Err(QueryFault::UndefinedPrefix) => Ok(Some(QueryFault::UndefinedPrefix)),
-        Err(QueryFault::RelativeIri) => Ok(Some(QueryFault::RelativeIri)),
-        Err(QueryFault::BindScope) => Ok(Some(QueryFault::BindScope)),
-        Err(QueryFault::BlankReuse) => Ok(Some(QueryFault::BlankReuse)),
-        Err(QueryFault::TooDeep) => Ok(Some(QueryFault::TooDeep)),
         Err(QueryFault::Memory) => Err(AllocError),
+        Err(fault) => Ok(Some(fault)),
     }
 }
 

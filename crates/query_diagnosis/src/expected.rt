@@ -43,7 +43,7 @@ const NO_NAMES: Phrases = &[
 /// The phrase where a comparison operator may come.
 const OPERATOR: Phrases = &[(Kind::Sign(Sign::Equal), "an operator (such as '=' or '&&')")];
 
-/// The phrases where no comparison operator may come.
+/// The phrases for operators where no comparison operator may come.
 const OPERATORS: Phrases = &[
     (Kind::Sign(Sign::And), "'&&'"),
     (Kind::Sign(Sign::Or), "'||'"),
@@ -106,34 +106,23 @@ fn terms(stack: &[Symbol]) -> Phrases {
     }
 }
 
-/// Returns the phrases for the operators of expressions.
-fn operators(stack: &[Symbol]) -> Phrases {
-    if may_come(stack, Kind::Sign(Sign::Equal)) {
-        OPERATOR
-    } else {
-        OPERATORS
-    }
+/// Returns the phrases for the terminals that may come, in the order in which they are listed.
+fn phrases(stack: &[Symbol]) -> [Phrases; 7] {
+    let has_comparison = may_come(stack, Kind::Sign(Sign::Equal));
+    let has_expression = may_come_expression(stack);
+    let has_variable = may_come(stack, Kind::Variable);
+    [
+        terms(stack),
+        if has_comparison { OPERATOR } else { OPERATORS },
+        BRACES,
+        if has_expression { NONE } else { OPEN },
+        WORDS,
+        if has_variable { NONE } else { FUNCTION },
+        PATTERN,
+    ]
 }
 
-/// Returns the phrase for `(`: none where an expression may come.
-fn open(stack: &[Symbol]) -> Phrases {
-    if may_come_expression(stack) {
-        NONE
-    } else {
-        OPEN
-    }
-}
-
-/// Returns the phrase for functions: none where an expression may come.
-fn functions(stack: &[Symbol]) -> Phrases {
-    if may_come(stack, Kind::Variable) {
-        NONE
-    } else {
-        FUNCTION
-    }
-}
-
-/// Adds the phrases of the terminals that may come.
+/// Adds the texts of phrases for the terminals that may come.
 fn add(list: &mut Vec<&'static str>, stack: &[Symbol], phrases: Phrases) -> Result<(), AllocError> {
     for phrase in phrases {
         if may_come(stack, phrase.0) {
@@ -143,29 +132,15 @@ fn add(list: &mut Vec<&'static str>, stack: &[Symbol], phrases: Phrases) -> Resu
     Ok(())
 }
 
-/// Adds the signs and keywords that may come.
-fn add_signs(list: &mut Vec<&'static str>, stack: &[Symbol]) -> Result<(), AllocError> {
-    add(list, stack, BRACES)?;
-    add(list, stack, open(stack))?;
-    add(list, stack, WORDS)
-}
-
-/// Adds the phrases for functions, patterns and the end, if they may come.
-fn add_others(list: &mut Vec<&'static str>, stack: &[Symbol]) -> Result<(), AllocError> {
-    add(list, stack, functions(stack))?;
-    add(list, stack, PATTERN)?;
+/// Adds the texts for the terminals that may come with these symbols on the stack.
+fn add_all(list: &mut Vec<&'static str>, stack: &[Symbol]) -> Result<(), AllocError> {
+    for group in &phrases(stack) {
+        add(list, stack, group)?;
+    }
     if may_end(stack) {
         list.push("the end of the query")?;
     }
     Ok(())
-}
-
-/// Adds the terminals that may come with these symbols on the stack.
-fn add_all(list: &mut Vec<&'static str>, stack: &[Symbol]) -> Result<(), AllocError> {
-    add(list, stack, terms(stack))?;
-    add(list, stack, operators(stack))?;
-    add_signs(list, stack)?;
-    add_others(list, stack)
 }
 
 /// Appends texts as `a, b or c`.
@@ -180,12 +155,13 @@ fn push_items(out: &mut String, items: &[&str]) -> Result<(), AllocError> {
     Ok(())
 }
 
-/// Appends the terminals that may come with these symbols on the stack, as `a, b or c`.
+/// Appends the terminals that may come with these symbols on the stack, as `expected a, b or c`.
 ///
 /// # Errors
 /// `AllocError` if an allocation fails. `out` may then have a part of the text.
 pub fn push_expected(out: &mut String, stack: &[Symbol]) -> Result<(), AllocError> {
     let mut list = Vec::new(*out.allocator());
     add_all(&mut list, stack)?;
+    out.push_str("expected ")?;
     push_items(out, &list)
 }

@@ -5,6 +5,15 @@ use crate::machine::{kind_at, may_come, may_end};
 use crate::symbol::Symbol;
 use sparql_lexer::{Keyword, Kind, Sign, Token};
 
+/// A terminal that may come exactly where an operator of an expression may come.
+const OPERATOR: Kind = Kind::Sign(Sign::And);
+
+/// A terminal that may come exactly where an operand of an expression may come.
+const OPERAND: Kind = Kind::Keyword(Keyword::Bound);
+
+/// A terminal that may come exactly where a term of a triple pattern may come.
+const TERM: Kind = Kind::BlankLabel;
+
 /// Words of SPARQL 1.1 that are not keywords here, and the hint for each.
 const WORDS: &[(&str, Hint)] = &[
     ("ORDER", Hint::OrderBy),
@@ -68,10 +77,6 @@ fn hint_of_word(text: &[char]) -> Option<Hint> {
     None
 }
 
-fn is_kind(tokens: &[Token<'_>], at: usize, kind: Kind) -> bool {
-    kind_at(tokens, at) == Some(kind)
-}
-
 /// Returns the hint for the word at a place, or None if there is no word or it has no hint.
 fn word_at(tokens: &[Token<'_>], at: usize) -> Option<Hint> {
     let token = tokens.get(at)?;
@@ -82,21 +87,8 @@ fn word_at(tokens: &[Token<'_>], at: usize) -> Option<Hint> {
     }
 }
 
-/// Returns whether an operator of an expression may come.
-fn is_operator_next(stack: &[Symbol]) -> bool {
-    may_come(stack, Kind::Sign(Sign::And))
-}
-
-fn is_operand_next(stack: &[Symbol]) -> bool {
-    may_come(stack, Kind::Keyword(Keyword::Bound))
-}
-
 fn is_verb_next(stack: &[Symbol]) -> bool {
     may_come(stack, Kind::Keyword(Keyword::A)) && !may_come(stack, Kind::Sign(Sign::Dot))
-}
-
-fn is_term_next(stack: &[Symbol]) -> bool {
-    may_come(stack, Kind::BlankLabel)
 }
 
 /// Returns whether the projection of SELECT may come.
@@ -106,11 +98,11 @@ fn is_selection_next(stack: &[Symbol]) -> bool {
 
 /// Returns the hint for a word that is not allowed.
 fn hint_at_word(tokens: &[Token<'_>], at: usize, stack: &[Symbol]) -> Option<Hint> {
-    let follows_not = at > 0 && is_kind(tokens, at - 1, Kind::Keyword(Keyword::Not));
+    let follows_not = at > 0 && kind_at(tokens, at - 1) == Some(Kind::Keyword(Keyword::Not));
     match word_at(tokens, at) {
         Some(Hint::Exists) if follows_not => Some(Hint::NotExists),
         Some(hint) => Some(hint),
-        None if is_operand_next(stack) => Some(Hint::Function),
+        None if may_come(stack, OPERAND) => Some(Hint::Function),
         None => None,
     }
 }
@@ -125,7 +117,7 @@ fn hint_at_keyword(
     let next = word_at(tokens, at.saturating_add(1));
     match keyword {
         Keyword::Not if matches!(next, Some(Hint::Exists)) => Some(Hint::NotExists),
-        Keyword::Select if is_term_next(stack) => Some(Hint::Subquery),
+        Keyword::Select if may_come(stack, TERM) => Some(Hint::Subquery),
         Keyword::Values if may_end(stack) => Some(Hint::TrailingValues),
         _ => None,
     }
@@ -139,11 +131,11 @@ fn hint_at_open(tokens: &[Token<'_>], at: usize, stack: &[Symbol]) -> Option<Hin
             Some(Hint::Aggregate) => Some(Hint::Aggregate),
             _ => Some(Hint::SelectExpression),
         }
-    } else if is_operator_next(stack) {
+    } else if may_come(stack, OPERATOR) {
         Some(Hint::Cast)
     } else if is_verb_next(stack) {
         Some(Hint::Path)
-    } else if is_term_next(stack) {
+    } else if may_come(stack, TERM) {
         Some(Hint::Collection)
     } else {
         None
@@ -155,13 +147,14 @@ fn hint_at_sign(tokens: &[Token<'_>], at: usize, stack: &[Symbol], sign: Sign) -
     match sign {
         Sign::OpenParenthesis => hint_at_open(tokens, at, stack),
         Sign::Comma if is_selection_next(stack) => Some(Hint::NoCommas),
-        Sign::Not if is_kind(tokens, at.saturating_sub(1), Kind::Keyword(Keyword::Filter)) => {
+        Sign::Not
+            if kind_at(tokens, at.saturating_sub(1)) == Some(Kind::Keyword(Keyword::Filter)) => {
             Some(Hint::Parentheses)
         }
-        Sign::Star if is_operator_next(stack) => Some(Hint::Arithmetic),
-        Sign::Star if is_term_next(stack) => Some(Hint::Path),
+        Sign::Star if may_come(stack, OPERATOR) => Some(Hint::Arithmetic),
+        Sign::Star if may_come(stack, TERM) => Some(Hint::Path),
         Sign::Not | Sign::Carets if is_verb_next(stack) => Some(Hint::Path),
-        Sign::Less if is_kind(tokens, at.saturating_add(1), Kind::Sign(Sign::Less)) => {
+        Sign::Less if kind_at(tokens, at.saturating_add(1)) == Some(Kind::Sign(Sign::Less)) => {
             Some(Hint::QuotedTriple)
         }
         Sign::Less if may_come(stack, Kind::IriRef) => Some(Hint::NoIri),
@@ -175,9 +168,9 @@ pub fn hint_at(tokens: &[Token<'_>], at: usize, stack: &[Symbol]) -> Option<Hint
         Kind::Word => hint_at_word(tokens, at, stack),
         Kind::Keyword(keyword) => hint_at_keyword(tokens, at, stack, keyword),
         Kind::Sign(sign) => hint_at_sign(tokens, at, stack, sign),
-        Kind::IriRef if is_operator_next(stack) => Some(Hint::SpaceAfterLess),
-        Kind::SignedInteger | Kind::SignedDecimal | Kind::SignedDouble if is_operator_next(stack) =>
-            { Some(Hint::Arithmetic) }
+        Kind::IriRef if may_come(stack, OPERATOR) => Some(Hint::SpaceAfterLess),
+        Kind::SignedInteger | Kind::SignedDecimal | Kind::SignedDouble
+            if may_come(stack, OPERATOR) => { Some(Hint::Arithmetic) }
         _ => None,
     }
 }
@@ -186,7 +179,7 @@ pub fn hint_at(tokens: &[Token<'_>], at: usize, stack: &[Symbol]) -> Option<Hint
 pub fn hint_at_char(c: char, stack: &[Symbol]) -> Option<Hint> {
     match c {
         '[' => Some(Hint::PropertyList),
-        '+' | '-' | '/' if is_operator_next(stack) || is_operand_next(stack) => {
+        '+' | '-' | '/' if may_come(stack, OPERATOR) || may_come(stack, OPERAND) => {
             Some(Hint::Arithmetic)
         }
         '+' | '/' | '^' | '|' | '?' => Some(Hint::Path),

@@ -5,7 +5,7 @@ ghost use Rattle.sparql_lexer.specs.Terminal.{terminals};
 ghost use Rattle.query_diagnosis.specs.QueryPrefix.{IsQueryPrefix, IsSomeQuery};
 
 use crate::completion::completion;
-use crate::steps::{is_string, step};
+use crate::steps::step;
 use crate::symbol::{Step, Symbol};
 use sparql_expression::ParseFault;
 use sparql_lexer::{Kind, Sign, Token, iri_value, string_value};
@@ -94,22 +94,20 @@ pub fn kind_at(tokens: &[Token<'_>], at: usize) -> Option<Kind> {
     }
 }
 
-/// Returns whether one of these variables has the name of another one.
-fn has_name(tokens: &[Token<'_>], variable: Token<'_>) -> bool {
-    for token in tokens {
-        if is_same_name(*token, variable) {
+/// Returns whether the variable at a place is among those from another place on.
+fn is_repeated(tokens: &[Token<'_>], from: usize, at: usize) -> bool {
+    let Some(variable) = tokens.get(at) else {
+        return false;
+    };
+    let Some(before) = tokens.get(from..at) else {
+        return false;
+    };
+    for token in before {
+        if is_same_name(*token, *variable) {
             return true;
         }
     }
     false
-}
-
-/// Returns whether the variable at a place is among those from another place on.
-fn is_repeated(tokens: &[Token<'_>], from: usize, at: usize) -> bool {
-    match (tokens.get(from..at), tokens.get(at)) {
-        (Some(before), Some(token)) => has_name(before, *token),
-        _ => false,
-    }
 }
 
 /// Returns whether two variables have the same name, with `?` or `$`.
@@ -121,7 +119,7 @@ pub fn is_same_name(a: Token<'_>, b: Token<'_>) -> bool {
 fn is_misspelled(alloc: Global, token: Token<'_>) -> Result<bool, AllocError> {
     if token.kind == Kind::IriRef {
         Ok(iri_value(alloc, token.text)?.is_none())
-    } else if is_string(token.kind) {
+    } else if matches!(token.kind, Kind::ShortString | Kind::LongString) {
         Ok(string_value(alloc, token.kind, token.text)?.is_none())
     } else {
         Ok(false)
@@ -130,8 +128,9 @@ fn is_misspelled(alloc: Global, token: Token<'_>) -> Result<bool, AllocError> {
 
 /// Puts symbols on a stack, the first of them on top.
 fn push(stack: &mut Vec<Symbol>, symbols: &[Symbol]) -> Result<(), AllocError> {
-    for symbol in symbols.iter().rev() {
-        stack.push(*symbol)?;
+    let count = symbols.len();
+    for i in 0..count {
+        stack.push(symbols[count - 1 - i])?;
     }
     Ok(())
 }

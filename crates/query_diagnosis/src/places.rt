@@ -50,24 +50,19 @@ pub fn line_at(text: &[char], offset: usize) -> &[char] {
     line
 }
 
-/// Returns the number of lines that end before a place.
-fn lines_before(text: &[char], offset: usize) -> usize {
-    let mut count = 0usize;
-    for i in 0..offset.min(text.len()) {
-        if ends_line(text, i) {
-            count = count.saturating_add(1);
-        }
-    }
-    count
-}
-
 /// Returns the position of a place, given by the number of characters before it.
 pub fn position_of(text: &[char], offset: usize) -> Position {
+    let mut line = 1usize;
+    let mut start = 0;
+    for i in 0..offset.min(text.len()) {
+        if ends_line(text, i) {
+            line = line.saturating_add(1);
+            start = i + 1;
+        }
+    }
     Position {
-        line: lines_before(text, offset).saturating_add(1),
-        column: offset
-            .saturating_sub(line_start(text, offset))
-            .saturating_add(1),
+        line,
+        column: offset.saturating_sub(start).saturating_add(1),
     }
 }
 

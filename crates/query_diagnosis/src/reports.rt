@@ -13,7 +13,7 @@ use std::alloc::{AllocError, Global};
 use std::fmt;
 
 /// A position in the query.
-#[derive(Drop)]
+#[derive(Clone, Copy)]
 struct Place {
     position: Position,
 }
@@ -24,13 +24,6 @@ impl fmt::Display for Place {
     }
 }
 
-/// Returns the line of a place, and the number of its characters before the place.
-fn shown(alloc: Global, text: &str, offset: usize) -> Result<(String, usize), AllocError> {
-    let characters = characters_of(alloc, text)?;
-    let line = text_of(alloc, line_at(&characters, offset))?;
-    Ok((line, offset.saturating_sub(line_start(&characters, offset))))
-}
-
 /// Returns the message about a diagnosis.
 fn message_of(alloc: Global, text: &str, diagnosis: &Diagnosis) -> Result<String, AllocError>
     ensures message { IfOk result (λ s. IsSomeMessage (string_bytes s)) }
@@ -38,7 +31,10 @@ fn message_of(alloc: Global, text: &str, diagnosis: &Diagnosis) -> Result<String
     let place = Place {
         position: diagnosis.position,
     };
-    let (line, at) = shown(alloc, text, diagnosis.offset)?;
+    let offset = diagnosis.offset;
+    let characters = characters_of(alloc, text)?;
+    let line = text_of(alloc, line_at(&characters, offset))?;
+    let at = offset.saturating_sub(line_start(&characters, offset));
     message(
         alloc,
         &place,

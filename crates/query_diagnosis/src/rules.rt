@@ -20,21 +20,8 @@ pub struct Breach {
     pub earlier: Option<usize>,
 }
 
-/// Returns a breach of a rule about one terminal.
-fn alone(at: usize) -> Breach {
-    Breach { at, earlier: None }
-}
-
-/// Returns a breach of a rule about two terminals.
-fn clash(at: usize, earlier: usize) -> Breach {
-    Breach {
-        at,
-        earlier: Some(earlier),
-    }
-}
-
 /// Returns the part of a prefixed name before its first colon.
-pub fn prefix_of<'a>(name: &'a [char]) -> &'a [char] {
+fn prefix_of<'a>(name: &'a [char]) -> &'a [char] {
     for i in 0..name.len() {
         if name[i] == ':' {
             return &name[..i];
@@ -43,28 +30,28 @@ pub fn prefix_of<'a>(name: &'a [char]) -> &'a [char] {
     name
 }
 
-/// Returns whether a terminal is no prefixed name, or one with a declaration.
-fn is_declared(alloc: Global, names: &Declarations, token: Token<'_>) -> Result<bool, AllocError> {
-    if !matches!(token.kind, Kind::PrefixedName | Kind::PrefixedNamespace) {
-        return Ok(true);
-    }
-    let prefix = text_of(alloc, prefix_of(token.text))?;
+/// Returns whether a prefix is declared.
+fn is_declared(alloc: Global, names: &Declarations, prefix: &[char]) -> Result<bool, AllocError> {
+    let prefix = text_of(alloc, prefix)?;
     Ok(names.find(prefix.as_str()).is_some())
 }
 
-/// Returns the place of the first prefixed name without a declaration (SPARQL 1.1 Query Language,
-/// section 4.1.1).
+/// Returns the place and the prefix of the first prefixed name without a declaration (SPARQL 1.1
+/// Query Language, section 4.1.1).
 ///
 /// # Errors
 /// `AllocError` if an allocation fails.
-pub fn undefined_prefix(
+pub fn undefined_prefix<'a>(
     alloc: Global,
     names: &Declarations,
-    tokens: &[Token<'_>],
-) -> Result<Option<usize>, AllocError> {
+    tokens: &[Token<'a>],
+) -> Result<Option<(usize, &'a [char])>, AllocError> {
     for i in 0..tokens.len() {
-        if !is_declared(alloc, names, tokens[i])? {
-            return Ok(Some(i));
+        if matches!(tokens[i].kind, Kind::PrefixedName | Kind::PrefixedNamespace) {
+            let prefix = prefix_of(tokens[i].text);
+            if !is_declared(alloc, names, prefix)? {
+                return Ok(Some((i, prefix)));
+            }
         }
     }
     Ok(None)
@@ -88,7 +75,10 @@ fn is_relative(alloc: Global, token: Token<'_>) -> Result<bool, AllocError> {
 pub fn relative_iri(alloc: Global, tokens: &[Token<'_>]) -> Result<Option<Breach>, AllocError> {
     for i in 0..tokens.len() {
         if is_relative(alloc, tokens[i])? {
-            return Ok(Some(alone(i)));
+            return Ok(Some(Breach {
+                at: i,
+                earlier: None,
+            }));
         }
     }
     Ok(None)
@@ -108,7 +98,10 @@ pub fn deepest(tokens: &[Token<'_>]) -> Option<Breach> {
             _ => {}
         }
         if depth > MAX_DEPTH {
-            return Some(alone(i));
+            return Some(Breach {
+                at: i,
+                earlier: None,
+            });
         }
     }
     None
@@ -127,7 +120,10 @@ impl Labels {
     /// Adds the label at a place. Returns a clash if it is in another basic graph pattern too.
     fn add(&mut self, label: String, at: usize) -> Result<Option<Breach>, AllocError> {
         match self.seen.get(label.as_str()).copied() {
-            Some((earlier, pattern)) if pattern != self.pattern => Ok(Some(clash(at, earlier))),
+            Some((earlier, pattern)) if pattern != self.pattern => Ok(Some(Breach {
+                at,
+                earlier: Some(earlier),
+            })),
             Some(_) => Ok(None),
             None => {
                 self.seen.insert(label, (at, self.pattern))?;
@@ -271,25 +267,25 @@ impl Scopes {
         Ok(())
     }
 
-    /// Returns the number of variables in scope before the open group.
-    fn first(&self) -> usize {
-        match self.frames.last() {
-            Some(frame) => frame.first,
-            None => 0,
-        }
-    }
-
     /// Returns the place in the open group that already binds the variable at a place.
     fn earlier(&self, tokens: &[Token<'_>], at: usize) -> Option<usize> {
         let variable = tokens.get(at)?;
-        place_of(tokens, self.seen.get(self.first()..)?, *variable)
+        let first = match self.frames.last() {
+            Some(frame) => frame.first,
+            None => 0,
+        };
+        place_of(tokens, self.seen.get(first..)?, *variable)
     }
 
     /// Reads BIND, and returns a clash of its variable.
     fn add_bind(&mut self, tokens: &[Token<'_>], at: usize) -> Result<Option<Breach>, AllocError> {
         let variable = find(tokens, at, Kind::Keyword(Keyword::As)).saturating_add(1);
-        if let Some(earlier) = self.earlier(tokens, variable) {
-            return Ok(Some(clash(variable, earlier)));
+        let earlier = self.earlier(tokens, variable);
+        if earlier.is_some() {
+            return Ok(Some(Breach {
+                at: variable,
+                earlier,
+            }));
         }
         self.seen.push(variable)?;
         self.next = variable.saturating_add(1);

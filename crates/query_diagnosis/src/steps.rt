@@ -1,6 +1,7 @@
 //! The grammar as tables: the terminals that each symbol takes, and the symbols that replace it
 //! (SPARQL 1.1 Query Language, section 19.8).
 
+use crate::completion::end_of;
 use crate::symbol::{Step, Symbol};
 use sparql_lexer::{Keyword, Kind, Sign};
 
@@ -20,6 +21,44 @@ enum Class {
     /// The comparison operators of [114] RelationalExpression
     Comparison,
 }
+
+/// The terminals of [136] iri.
+const NAMES: &[Kind] = &[Kind::IriRef, Kind::PrefixedName, Kind::PrefixedNamespace];
+
+/// The terminals of [130] NumericLiteral and [134] BooleanLiteral.
+const NUMBERS: &[Kind] = &[
+    Kind::Integer,
+    Kind::Decimal,
+    Kind::Double,
+    Kind::SignedInteger,
+    Kind::SignedDecimal,
+    Kind::SignedDouble,
+    Kind::Keyword(Keyword::True),
+    Kind::Keyword(Keyword::False),
+];
+
+/// The terminals of [135] String.
+const STRINGS: &[Kind] = &[Kind::ShortString, Kind::LongString];
+
+/// The names of functions with one expression.
+const FUNCTIONS: &[Kind] = &[
+    Kind::Keyword(Keyword::Str),
+    Kind::Keyword(Keyword::Lang),
+    Kind::Keyword(Keyword::Datatype),
+    Kind::Keyword(Keyword::IsIri),
+    Kind::Keyword(Keyword::IsBlank),
+    Kind::Keyword(Keyword::IsLiteral),
+];
+
+/// The comparison operators.
+const COMPARISONS: &[Kind] = &[
+    Kind::Sign(Sign::Equal),
+    Kind::Sign(Sign::NotEqual),
+    Kind::Sign(Sign::Less),
+    Kind::Sign(Sign::Greater),
+    Kind::Sign(Sign::LessOrEqual),
+    Kind::Sign(Sign::GreaterOrEqual),
+];
 
 /// Terminals that a symbol takes, and the symbols that replace it.
 type Rule = (Class, &'static [Symbol]);
@@ -535,89 +574,15 @@ fn rules_of(symbol: Symbol) -> &'static [Rules] {
     }
 }
 
-/// Returns whether a symbol derives the empty text.
-fn may_be_empty(symbol: Symbol) -> bool {
-    matches!(
-        symbol,
-        Symbol::Modifiers
-            | Symbol::MoreLimit
-            | Symbol::MoreOffset
-            | Symbol::MoreUnion
-            | Symbol::MoreObjects
-            | Symbol::MoreProperties
-            | Symbol::AfterSemicolon
-            | Symbol::LiteralTail
-            | Symbol::MoreRelation
-            | Symbol::MoreLogic
-    )
-}
-
-/// Returns whether the terminal is an [136] iri: an [139] IRIREF or a prefixed name.
-fn is_name(kind: Kind) -> bool {
-    matches!(
-        kind,
-        Kind::IriRef | Kind::PrefixedName | Kind::PrefixedNamespace
-    )
-}
-
-/// Returns whether the terminal is a [130] NumericLiteral or a [134] BooleanLiteral.
-fn is_number_or_boolean(kind: Kind) -> bool {
-    matches!(
-        kind,
-        Kind::Integer
-            | Kind::Decimal
-            | Kind::Double
-            | Kind::SignedInteger
-            | Kind::SignedDecimal
-            | Kind::SignedDouble
-            | Kind::Keyword(Keyword::True | Keyword::False)
-    )
-}
-
-/// Returns whether the terminal is a [135] String.
-pub fn is_string(kind: Kind) -> bool {
-    matches!(kind, Kind::ShortString | Kind::LongString)
-}
-
-/// Returns whether the terminal is the name of a function with one expression.
-fn is_function(kind: Kind) -> bool {
-    matches!(
-        kind,
-        Kind::Keyword(
-            Keyword::Str
-                | Keyword::Lang
-                | Keyword::Datatype
-                | Keyword::IsIri
-                | Keyword::IsBlank
-                | Keyword::IsLiteral,
-        )
-    )
-}
-
-/// Returns whether the terminal is a comparison operator.
-fn is_comparison(kind: Kind) -> bool {
-    matches!(
-        kind,
-        Kind::Sign(
-            Sign::Equal
-                | Sign::NotEqual
-                | Sign::Less
-                | Sign::Greater
-                | Sign::LessOrEqual
-                | Sign::GreaterOrEqual,
-        )
-    )
-}
-
 /// Returns whether a terminal is in a class.
 fn is_in(class: Class, kind: Kind) -> bool {
     match class {
         Class::Only(own) => own == kind,
-        Class::Name => is_name(kind),
-        Class::Number => is_number_or_boolean(kind),
-        Class::Text => is_string(kind),
-        Class::Function => is_function(kind),
-        Class::Comparison => is_comparison(kind),
+        Class::Name => NAMES.contains(&kind),
+        Class::Number => NUMBERS.contains(&kind),
+        Class::Text => STRINGS.contains(&kind),
+        Class::Function => FUNCTIONS.contains(&kind),
+        Class::Comparison => COMPARISONS.contains(&kind),
     }
 }
 
@@ -638,7 +603,7 @@ pub fn step(symbol: Symbol, kind: Kind) -> Step {
             return Step::Take(first, rules.1);
         }
     }
-    if may_be_empty(symbol) {
+    if end_of(symbol).is_empty() {
         Step::Skip
     } else {
         Step::Stop

@@ -25,7 +25,7 @@ const XSD_DATE_TIME: &str = "http://www.w3.org/2001/XMLSchema#dateTime";
 const XSD_DATE: &str = "http://www.w3.org/2001/XMLSchema#date";
 
 /// A datatype of XML Schema whose literals are compared by SPARQL and not by spq.
-#[derive(Clone, Copy, Debug, PartialEq, Eq)]
+#[derive(Clone, Copy)]
 pub enum Datatype {
     Double,
     Float,
@@ -56,7 +56,7 @@ impl Datatype {
 }
 
 /// What a query and its dataset show together.
-#[derive(Clone, Copy, Debug, PartialEq, Eq)]
+#[derive(Clone, Copy)]
 pub struct Facts {
     /// The query compares, and the dataset has a literal of this datatype.
     pub double: bool,

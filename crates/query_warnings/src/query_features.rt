@@ -49,11 +49,12 @@ pub fn has_graph(tokens: &[Token<'_>]) -> bool
 
 /// The number of terminals before the query's group.
 fn group_start(tokens: &[Token<'_>]) -> usize {
-    let open = Kind::Sign(Sign::OpenBrace);
-    match tokens.iter().position(|token| token.kind == open) {
-        Some(at) => at,
-        None => tokens.len(),
+    for at in 0..tokens.len() {
+        if matches!(tokens[at].kind, Kind::Sign(Sign::OpenBrace)) {
+            return at;
+        }
     }
+    tokens.len()
 }
 
 /// The name of a variable without its sign; None of another terminal.
@@ -65,16 +66,30 @@ fn name_of<'a>(token: &Token<'a>) -> Option<&'a [char]> {
     }
 }
 
-/// The names of the variables of these terminals, in the order of their characters.
-fn sorted_names<'a>(alloc: Global, tokens: &[Token<'a>]) -> Result<Vec<&'a [char]>, AllocError> {
-    let mut names = Vec::new(alloc);
+/// Adds the names of the variables of these terminals, and sorts all names by their characters.
+fn add_sorted<'a>(names: &mut Vec<&'a [char]>, tokens: &[Token<'a>]) -> Result<(), AllocError> {
     for token in tokens {
         if let Some(name) = name_of(token) {
             names.push(name)?;
         }
     }
-    names.sort()?;
-    Ok(names)
+    names.sort()
+}
+
+/// Appends the names of the variables of these terminals that are not among the known ones, each once.
+fn push_unknown<'a>(
+    names: &mut Vec<&'a [char]>,
+    tokens: &[Token<'a>],
+    known: &[&'a [char]],
+) -> Result<(), AllocError> {
+    for token in tokens {
+        if let Some(name) = name_of(token) {
+            if known.binary_search(&name).is_err() && !names.contains(&name) {
+                names.push(name)?;
+            }
+        }
+    }
+    Ok(())
 }
 
 /// Returns the names of the variables that a query with these terminals selects and that occur nowhere in
@@ -85,14 +100,9 @@ fn sorted_names<'a>(alloc: Global, tokens: &[Token<'a>]) -> Result<Vec<&'a [char
 pub fn unused<'a>(alloc: Global, tokens: &[Token<'a>]) -> Result<Vec<&'a [char]>, AllocError> {
     let start = group_start(tokens);
     let (head, group) = tokens.split_at(start.min(tokens.len()));
-    let known = sorted_names(alloc, group)?;
+    let mut known: Vec<&'a [char]> = Vec::new(alloc);
+    add_sorted(&mut known, group)?;
     let mut unused: Vec<&'a [char]> = Vec::new(alloc);
-    for token in head {
-        if let Some(name) = name_of(token) {
-            if known.binary_search(&name).is_err() && !unused.contains(&name) {
-                unused.push(name)?;
-            }
-        }
-    }
+    push_unknown(&mut unused, head, &known)?;
     Ok(unused)
 }

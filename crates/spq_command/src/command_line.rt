@@ -86,19 +86,29 @@ fn select_line<'a>(alloc: Global) -> Result<Line<'a>, AllocError>
 }
 
 /// Adds a subcommand with the arguments for how a document is read.
+///
+/// If an allocation fails, a call drops the line: the drop that `?` writes out is longer than this function.
 fn add_reading<'a>(alloc: Global, line: Line<'a>, name: &'a str) -> Result<Line<'a>, AllocError>
     ensures app { IfOk result (λ with. app_of with
         ≡ with_subcommand (app_of line.entry) (with_options name.entry.now reading_options).top) }
 {
-    line.subcommand(reading_line(alloc, name)?)
+    match reading_line(alloc, name) {
+        Ok(reading) => line.subcommand(reading),
+        Err(failed) => {
+            drop(line);
+            Err(failed)
+        }
+    }
 }
 
 /// Makes the command line of the program.
 fn program_line<'a>(alloc: Global) -> Result<Line<'a>, AllocError>
     ensures app { IfOk result (λ line. app_of line ≡ program) }
 {
-    let line = Line::new(alloc, "spq").subcommand_required(true);
-    let line = line.subcommand(select_line(alloc)?)?;
+    let select = select_line(alloc)?;
+    let line = Line::new(alloc, "spq")
+        .subcommand_required(true)
+        .subcommand(select)?;
     let line = add_reading(alloc, line, "check")?;
     add_reading(alloc, line, "terms")
 }

@@ -218,12 +218,36 @@ pub fn answer<R: Threads + Wait + RandomSource, G: Gate + Sync>(
     ensures err { IfErr result (IsFaultOf doc.now query.now) }
     ensures one_worker { HasOneWorker how.now → IfErr result IsOneWorkerFault }
 {
+    let valid = valid_query(alloc, query)?;
+    let bytes = answer_valid(rt, alloc, doc, query, &valid, cuts, how, gate);
+    drop(valid);
+    bytes
+}
+
+/// Evaluates a query, which is the one of this text, over a document that is cut into pieces. The query is only
+/// borrowed here: a function that owns a tree pays for its drop at each of its exits.
+fn answer_valid<R: Threads + Wait + RandomSource, G: Gate + Sync>(
+    rt: &R,
+    alloc: Global,
+    doc: &[u8],
+    text: &str,
+    query: &Query,
+    cuts: &Cuts,
+    how: &How,
+    gate: &G,
+) -> Result<Vec<u8>, Fault>
+    requires fits { AreCuts doc.now cuts.now }
+    requires how { IsRunnable how.now }
+    requires valid { IsValidQuery (chars text.now) (query_of query.now) }
+    ensures answer { IfOk result (λ bytes. IsQueryResult doc.now text.now (Ok bytes.items)) }
+    ensures err { IfErr result (IsFaultOf doc.now text.now) }
+    ensures one_worker { HasOneWorker how.now → IfErr result IsOneWorkerFault }
+{
     a_dataset_is_a_set();
     a_bag_has_one_sorted_list();
-    let query = valid_query(alloc, query)?;
     let store = load(rt, alloc, doc, cuts, how.workers, gate)?;
     let mut log = Log::new(&NoProgress);
-    let blocks = answer_query(rt, alloc, store, &query, how, gate, &mut log)?;
+    let blocks = answer_query(rt, alloc, store, query, how, gate, &mut log)?;
     let bytes = joined(alloc, &blocks)?;
     Ok(bytes)
 }

@@ -5,7 +5,7 @@ use query_warnings::{Facts, facts_of, text_compares};
 use std::alloc::Global;
 
 /// What a run is doing.
-#[derive(Clone, Copy, Debug, PartialEq, Eq)]
+#[derive(Clone, Copy)]
 pub enum Stage {
     /// Checking the command line and the query.
     Checking,
@@ -26,7 +26,7 @@ pub trait Progress {
 }
 
 /// A `Progress` that does nothing.
-#[derive(Clone, Copy, Debug)]
+#[derive(Clone, Copy)]
 pub struct NoProgress;
 
 impl Progress for NoProgress {
@@ -34,7 +34,7 @@ impl Progress for NoProgress {
 }
 
 /// What a run has noted.
-#[derive(Debug, Drop)]
+#[derive(Drop)]
 pub struct Notes {
     /// The last stage that began.
     pub stage: Stage,
@@ -59,10 +59,20 @@ impl Notes {
 }
 
 /// The notes of a run, and the progress that it calls.
-#[derive(Drop)]
 pub(crate) struct Log<'p, P> {
-    pub(crate) notes: Notes,
-    pub(crate) progress: &'p P,
+    notes: Notes,
+    progress: &'p P,
+}
+
+impl<'p, P> Drop for Log<'p, P> {
+    /// Drops the notes. It is written out and not derived, so that a proof meets one call at each exit
+    /// that drops a log.
+    fn drop(self) {
+        let Log {
+            notes: _,
+            progress: _,
+        } = self;
+    }
 }
 
 impl<'p, P: Progress> Log<'p, P> {
@@ -72,6 +82,12 @@ impl<'p, P: Progress> Log<'p, P> {
             notes: Notes::new(),
             progress,
         }
+    }
+
+    /// Returns what was noted.
+    pub(crate) fn into_notes(self) -> Notes {
+        let Log { notes, progress: _ } = self;
+        notes
     }
 
     /// Notes that a stage begins.

@@ -101,7 +101,7 @@ fn run_here<R: Threads + Wait + RandomSource, S: Source, K: Sink, P: Progress>(
         done,
         reader: left,
         writer: held,
-        notes: log.notes,
+        notes: log.into_notes(),
     }
 }
 

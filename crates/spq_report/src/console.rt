@@ -17,7 +17,7 @@ const BETWEEN: u64 = 200;
 const CLEAR: &[u8] = b"\r\x1b[K";
 
 /// Which devices of a program are terminals.
-#[derive(Clone, Copy, Debug)]
+#[derive(Clone, Copy)]
 pub struct Terminals {
     pub input: bool,
     pub output: bool,

@@ -17,7 +17,7 @@ pub trait Meter {
 }
 
 /// A meter that does nothing.
-#[derive(Clone, Copy, Debug)]
+#[derive(Clone, Copy)]
 pub struct NoMeter;
 
 impl Meter for NoMeter {
