@@ -48,17 +48,17 @@ pub(crate) enum Reader {
 fn append(out: &mut String, alloc: Global, reader: Reader, text: &str) -> Result<(), AllocError> {
     match reader {
         Reader::Character => lexical::character(out, text),
-        Reader::Iri => lexical::decoded(out, &unescape_iri(alloc, text)?),
-        Reader::IriRef => lexical::delimited(out, &read_iri_ref(alloc, text)?),
+        Reader::Iri => lexical::decoded(out, unescape_iri(alloc, text)),
+        Reader::IriRef => lexical::delimited(out, read_iri_ref(alloc, text)),
         Reader::Line => lines::line(out, alloc, text.as_bytes()),
         Reader::LineNotUtf8 => lines::line(out, alloc, b"# \xFF"),
         Reader::Piece => lines::piece(out, alloc, text),
-        Reader::Quoted => lexical::delimited(out, &read_quoted(alloc, text)?),
+        Reader::Quoted => lexical::delimited(out, read_quoted(alloc, text)),
         Reader::Scheme => out.push_str(if has_scheme(text) { "yes" } else { "no" }),
         Reader::Slices => slices::slices(out, alloc, text.as_bytes()),
         Reader::SlicesNotUtf8 => slices::slices(out, alloc, b"# \xFF\n"),
-        Reader::String => lexical::decoded(out, &unescape_string(alloc, text)?),
-        Reader::Tag => out.push_str(lower_tag(alloc, text)?.as_str()),
+        Reader::String => lexical::decoded(out, unescape_string(alloc, text)),
+        Reader::Tag => lexical::lowered(out, lower_tag(alloc, text)),
         Reader::Term => slices::denoted(out, alloc, text),
     }
 }

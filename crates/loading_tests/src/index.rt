@@ -50,7 +50,7 @@ pub(crate) fn side_by_side(alloc: Global, quads: &[NumQuad]) -> Result<Index, Al
 }
 
 /// Returns the index of the four quads.
-fn built(alloc: Global) -> Result<Index, AllocError> {
+pub(crate) fn built(alloc: Global) -> Result<Index, AllocError> {
     Index::build(alloc, Vec::from_slice(alloc, &QUADS)?)
 }
 

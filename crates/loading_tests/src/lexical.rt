@@ -94,10 +94,14 @@ fn characters_are_of_their_classes(rt: HostRuntime) {
 }
 
 /// Appends a value, or `none`.
-pub(crate) fn decoded(out: &mut String, value: &Option<Text>) -> Result<(), AllocError> {
+pub(crate) fn decoded(
+    out: &mut String,
+    value: Result<Option<Text>, AllocError>,
+) -> Result<(), AllocError> {
     match value {
-        Some(value) => out.push_str(value.as_str()),
-        None => out.push_str("none"),
+        Ok(Some(value)) => out.push_str(value.as_str()),
+        Ok(None) => out.push_str("none"),
+        Err(fault) => Err(fault),
     }
 }
 
@@ -137,10 +141,14 @@ fn iris_are_decoded(rt: HostRuntime) {
 }
 
 /// Appends a delimited text and the text after it, or `none`.
-pub(crate) fn delimited(out: &mut String, read: &Option<(Text, &str)>) -> Result<(), AllocError> {
+pub(crate) fn delimited(
+    out: &mut String,
+    read: Result<Option<(Text, &str)>, AllocError>,
+) -> Result<(), AllocError> {
     match read {
-        Some((text, rest)) => write!(out, "{text} | {rest}"),
-        None => out.push_str("none"),
+        Ok(Some((text, rest))) => write!(out, "{text} | {rest}"),
+        Ok(None) => out.push_str("none"),
+        Err(fault) => Err(fault),
     }
 }
 
@@ -186,6 +194,11 @@ const SCHEMES: &[Case] = &[
     ("a/b:c", "no"),
     ("\u{e9}:a", "no"),
 ];
+
+/// Appends a language tag.
+pub(crate) fn lowered(out: &mut String, tag: Result<Text, AllocError>) -> Result<(), AllocError> {
+    out.push_str(tag?.as_str())
+}
 
 #[test]
 fn schemes_and_tags(rt: HostRuntime) {

@@ -9,9 +9,9 @@ use crate::dictionary::{
     A, B, C, FIRST, G, P, Q, SECOND, THIRD, dict_of, first_round, iri, looked_up, pieces,
 };
 use crate::index::quad;
-use dict_core::{Dict, LocalPiece, NumQuad, SeenPiece, add_piece, merge};
+use dict_core::{Dict, NumQuad, add_piece, merge};
 use rdf_core::Term;
-use std::alloc::{AllocGlobal, Global};
+use std::alloc::{AllocError, AllocGlobal, Global};
 use std::hash::RandomState;
 use std::process::Abort;
 
@@ -86,19 +86,29 @@ fn a_term_that_is_not_added_comes_back(rt: HostRuntime) {
     check_interned(&rt, rt.alloc(), &mut dict, &names);
 }
 
+/// The IRIs of a dictionary that another one absorbs.
+const OTHER: [&str; 5] = [B, C, G, P, Q];
+
 /// Absorbs a dictionary, at the second try an equal one. Checks the numbers and the terms, and that an error leaves the
 /// dictionary unchanged.
-fn check_absorbed<R: Abort>(rt: &R, dict: &mut Dict, other: Dict, again: Dict) {
+fn check_absorbed<R: Abort>(
+    rt: &R,
+    alloc: Global,
+    state: RandomState,
+    dict: &mut Dict,
+    other: Dict,
+) {
     let numbers = match dict.absorb(other) {
         Ok(numbers) => numbers,
         Err(_) => {
             assert!(rt; has(dict, &[A, B]), "an error changes the dictionary");
+            let again = dict_of(alloc, state, &OTHER).expect(rt, "a second try");
             dict.absorb(again).expect(rt, "a second try")
         }
     };
     assert!(rt;
         numbers.as_slice() == [1, 2, 3, 4, 5].as_slice(),
-        "found {numbers:?}"
+        "other numbers"
     );
     assert!(rt; has(dict, &[A, B, C, G, P, Q]), "other terms");
 }
@@ -112,26 +122,25 @@ fn a_failed_absorption_changes_nothing(rt: HostRuntime) {
     let Ok(mut dict) = dict_of(rt.alloc(), state, &[A, B]) else {
         return;
     };
-    let Ok(other) = dict_of(rt.alloc(), state, &[B, C, G, P, Q]) else {
+    let Ok(other) = dict_of(rt.alloc(), state, &OTHER) else {
         return;
     };
-    let Ok(again) = dict_of(rt.alloc(), state, &[B, C, G, P, Q]) else {
-        return;
-    };
-    check_absorbed(&rt, &mut dict, other, again);
+    check_absorbed(&rt, rt.alloc(), state, &mut dict, other);
 }
 
-/// Merges pieces, at the second try equal ones, and checks the result.
-fn check_merge<R: Abort>(
-    rt: &R,
-    alloc: Global,
-    state: RandomState,
-    first: Vec<LocalPiece>,
-    again: Vec<LocalPiece>,
-) {
-    let (dict, quads) = match merge(alloc, state, first) {
+/// Merges the three pieces.
+fn merged(alloc: Global, state: RandomState) -> Result<(Dict, Vec<NumQuad>), AllocError> {
+    match pieces(alloc, state, &[FIRST, SECOND, THIRD]) {
+        Some(pieces) => merge(alloc, state, pieces),
+        None => Err(AllocError),
+    }
+}
+
+/// Merges the pieces, at the second try equal ones, and checks the result.
+fn check_merge<R: Abort>(rt: &R, alloc: Global, state: RandomState) {
+    let (dict, quads) = match merged(alloc, state) {
         Ok(merged) => merged,
-        Err(_) => merge(alloc, state, again).expect(rt, "a second try"),
+        Err(_) => merged(alloc, state).expect(rt, "a second try"),
     };
     let expected = [
         quad(None, 0, 1, 2),
@@ -148,32 +157,28 @@ fn a_failed_merge_drops_its_pieces(rt: HostRuntime) {
     let Ok(state) = RandomState::new(&rt) else {
         return;
     };
-    let texts = [FIRST, SECOND, THIRD];
-    let Some(first) = pieces(rt.alloc(), state, &texts) else {
-        return;
-    };
-    let Some(again) = pieces(rt.alloc(), state, &texts) else {
-        return;
-    };
-    check_merge(&rt, rt.alloc(), state, first, again);
+    check_merge(&rt, rt.alloc(), state);
 }
 
-/// Adds a piece, at the second try an equal one. Checks the result, and that an error leaves dictionary and quads
-/// unchanged.
+/// Adds the third piece, at the second try an equal one. Checks the result, and that an error leaves dictionary and
+/// quads unchanged.
 fn check_round<R: Abort>(
     rt: &R,
     alloc: Global,
+    state: RandomState,
     dict: &mut Dict,
     quads: &mut Vec<NumQuad>,
-    third: SeenPiece,
-    again: SeenPiece,
 ) {
+    let Some(third) = looked_up(alloc, state, dict, THIRD) else {
+        return;
+    };
     if add_piece(alloc, dict, quads, third).is_err() {
         assert!(rt; has(dict, &[A, P, B]), "an error changes the dictionary");
         assert!(rt;
             quads.as_slice() == [quad(None, 0, 1, 2)].as_slice(),
             "an error changes the quads"
         );
+        let again = looked_up(alloc, state, dict, THIRD).expect(rt, "a second try");
         add_piece(alloc, dict, quads, again).expect(rt, "a second try");
     }
     let expected = [quad(None, 0, 1, 2), quad(Some(5), 0, 3, 4)];
@@ -190,11 +195,5 @@ fn a_failed_round_changes_nothing(rt: HostRuntime) {
     let Some((mut dict, mut quads)) = first_round(rt.alloc(), state) else {
         return;
     };
-    let Some(third) = looked_up(rt.alloc(), state, &dict, THIRD) else {
-        return;
-    };
-    let Some(again) = looked_up(rt.alloc(), state, &dict, THIRD) else {
-        return;
-    };
-    check_round(&rt, rt.alloc(), &mut dict, &mut quads, third, again);
+    check_round(&rt, rt.alloc(), state, &mut dict, &mut quads);
 }

@@ -4,10 +4,9 @@
 //! failing, then with the second, and so on, until a run in which none fails. At most one allocation fails in a run,
 //! so a second try must succeed.
 
-use crate::index::{QUADS, quad, side_by_side};
-use dict_core::NumQuad;
+use crate::index::{QUADS, built, quad, side_by_side};
 use quad_index::{Index, SortOrder, sorted_list};
-use std::alloc::{AllocGlobal, Global};
+use std::alloc::{AllocError, AllocGlobal, Global};
 use std::process::Abort;
 
 /// Returns whether the index is that of the four quads.
@@ -19,11 +18,20 @@ fn is_right(index: &Index) -> bool {
         && index.scan(Some(5), Some(0), None, None) == [quad(Some(5), 0, 1, 2)].as_slice()
 }
 
-/// Builds an index, at the second try from another equal list, and checks it.
-fn check_built<R: Abort>(rt: &R, alloc: Global, quads: Vec<NumQuad>, again: Vec<NumQuad>) {
-    let index = match Index::build(alloc, quads) {
+/// Returns the index of the four quads, built at once or from sorted lists.
+fn index_of(alloc: Global, is_built: bool) -> Result<Index, AllocError> {
+    if is_built {
+        built(alloc)
+    } else {
+        side_by_side(alloc, &QUADS)
+    }
+}
+
+/// Makes an index, again if the first try fails, and checks it.
+fn check_index<R: Abort>(rt: &R, alloc: Global, is_built: bool) {
+    let index = match index_of(alloc, is_built) {
         Ok(index) => index,
-        Err(_) => Index::build(alloc, again).expect(rt, "a second try"),
+        Err(_) => index_of(alloc, is_built).expect(rt, "a second try"),
     };
     assert!(rt; is_right(&index));
 }
@@ -31,22 +39,7 @@ fn check_built<R: Abort>(rt: &R, alloc: Global, quads: Vec<NumQuad>, again: Vec<
 /// On error `Index::build` drops its list, and an equal list is built.
 #[test]
 fn a_failed_build_drops_its_list(rt: HostRuntime) {
-    let Ok(quads) = Vec::from_slice(rt.alloc(), &QUADS) else {
-        return;
-    };
-    let Ok(again) = Vec::from_slice(rt.alloc(), &QUADS) else {
-        return;
-    };
-    check_built(&rt, rt.alloc(), quads, again);
-}
-
-/// Sorts the lists of an index, again if the first try fails, and checks the index.
-fn check_sorted<R: Abort>(rt: &R, alloc: Global) {
-    let index = match side_by_side(alloc, &QUADS) {
-        Ok(index) => index,
-        Err(_) => side_by_side(alloc, &QUADS).expect(rt, "a second try"),
-    };
-    assert!(rt; is_right(&index));
+    check_index(&rt, rt.alloc(), true);
 }
 
 /// Sorts a list, again if the first try fails, and checks its length.
@@ -61,6 +54,6 @@ fn check_listed<R: Abort>(rt: &R, alloc: Global) {
 /// On error `sorted_list` leaves the quads that it borrows, and `of_lists` drops its lists.
 #[test]
 fn a_list_is_sorted_again_after_a_failure(rt: HostRuntime) {
-    check_sorted(&rt, rt.alloc());
+    check_index(&rt, rt.alloc(), false);
     check_listed(&rt, rt.alloc());
 }
