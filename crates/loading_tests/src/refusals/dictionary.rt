@@ -89,6 +89,13 @@ fn a_term_that_is_not_added_comes_back(rt: HostRuntime) {
 /// The IRIs of a dictionary that another one absorbs.
 const OTHER: [&str; 5] = [B, C, G, P, Q];
 
+/// Checks that an error leaves the dictionary unchanged, and absorbs an equal one.
+fn absorb_again<R: Abort>(rt: &R, alloc: Global, state: RandomState, dict: &mut Dict) -> Vec<u64> {
+    assert!(rt; has(dict, &[A, B]), "an error changes the dictionary");
+    let again = dict_of(alloc, state, &OTHER).expect(rt, "a second try");
+    dict.absorb(again).expect(rt, "a second try")
+}
+
 /// Absorbs a dictionary, at the second try an equal one. Checks the numbers and the terms, and that an error leaves the
 /// dictionary unchanged.
 fn check_absorbed<R: Abort>(
@@ -100,11 +107,7 @@ fn check_absorbed<R: Abort>(
 ) {
     let numbers = match dict.absorb(other) {
         Ok(numbers) => numbers,
-        Err(_) => {
-            assert!(rt; has(dict, &[A, B]), "an error changes the dictionary");
-            let again = dict_of(alloc, state, &OTHER).expect(rt, "a second try");
-            dict.absorb(again).expect(rt, "a second try")
-        }
+        Err(_) => absorb_again(rt, alloc, state, dict),
     };
     assert!(rt;
         numbers.as_slice() == [1, 2, 3, 4, 5].as_slice(),
@@ -128,6 +131,12 @@ fn a_failed_absorption_changes_nothing(rt: HostRuntime) {
     check_absorbed(&rt, rt.alloc(), state, &mut dict, other);
 }
 
+/// Checks that the quads are these, and that the dictionary has six terms.
+fn check_quads<R: Abort>(rt: &R, dict: &Dict, quads: &[NumQuad], expected: &[NumQuad]) {
+    assert!(rt; quads == expected, "other quads");
+    equal(rt, "terms", 6, dict.len() as u64);
+}
+
 /// Merges the three pieces.
 fn merged(alloc: Global, state: RandomState) -> Result<(Dict, Vec<NumQuad>), AllocError> {
     match pieces(alloc, state, &[FIRST, SECOND, THIRD]) {
@@ -147,8 +156,7 @@ fn check_merge<R: Abort>(rt: &R, alloc: Global, state: RandomState) {
         quad(None, 2, 1, 0),
         quad(Some(5), 0, 3, 4),
     ];
-    assert!(rt; quads.as_slice() == expected.as_slice(), "other quads");
-    equal(rt, "terms", 6, dict.len() as u64);
+    check_quads(rt, &dict, quads.as_slice(), &expected);
 }
 
 /// On error `merge` drops its pieces, and equal pieces merge.
@@ -158,6 +166,24 @@ fn a_failed_merge_drops_its_pieces(rt: HostRuntime) {
         return;
     };
     check_merge(&rt, rt.alloc(), state);
+}
+
+/// Checks that an error leaves dictionary and quads unchanged, and adds an equal piece.
+fn add_again<R: Abort>(
+    rt: &R,
+    alloc: Global,
+    state: RandomState,
+    dict: &mut Dict,
+    quads: &mut Vec<NumQuad>,
+) {
+    assert!(rt; has(dict, &[A, P, B]), "an error changes the dictionary");
+    let before = [quad(None, 0, 1, 2)];
+    assert!(rt;
+        quads.as_slice() == before.as_slice(),
+        "an error changes the quads"
+    );
+    let again = looked_up(alloc, state, dict, THIRD).expect(rt, "a second try");
+    add_piece(alloc, dict, quads, again).expect(rt, "a second try");
 }
 
 /// Adds the third piece, at the second try an equal one. Checks the result, and that an error leaves dictionary and
@@ -173,17 +199,10 @@ fn check_round<R: Abort>(
         return;
     };
     if add_piece(alloc, dict, quads, third).is_err() {
-        assert!(rt; has(dict, &[A, P, B]), "an error changes the dictionary");
-        assert!(rt;
-            quads.as_slice() == [quad(None, 0, 1, 2)].as_slice(),
-            "an error changes the quads"
-        );
-        let again = looked_up(alloc, state, dict, THIRD).expect(rt, "a second try");
-        add_piece(alloc, dict, quads, again).expect(rt, "a second try");
+        add_again(rt, alloc, state, dict, quads);
     }
     let expected = [quad(None, 0, 1, 2), quad(Some(5), 0, 3, 4)];
-    assert!(rt; quads.as_slice() == expected.as_slice(), "other quads");
-    equal(rt, "terms", 6, dict.len() as u64);
+    check_quads(rt, dict, quads.as_slice(), &expected);
 }
 
 /// `look_up` only borrows the dictionary. On error `add_piece` leaves dictionary and quads unchanged.
