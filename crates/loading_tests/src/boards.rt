@@ -4,9 +4,10 @@ ghost use Rattle.piece_board.specs.Limits.{most_seats, most_pieces};
 ghost use Rattle.piece_board.specs.Board.{IsPassOf};
 ghost use Rattle.piece_board.specs.Pass.{unused};
 
-use crate::cases::holds;
+use crate::cases::gives;
 use piece_board::{Board, BoardFault, Closed, Pass};
 use std::alloc::{AllocError, Global};
+use std::process::Abort;
 use std::thread;
 use std::thread::Threads;
 
@@ -85,13 +86,13 @@ fn draw_with_two_threads<R: Threads>(
 
 /// Two threads share one board. The clauses say nothing about a second thread.
 #[test]
-fn two_threads_draw_each_number_once(rt: HostRuntime) -> Result<(), BoardFault> {
-    let (first, second, closed) = draw_with_two_threads(&rt, rt.alloc(), 1000)?;
+fn two_threads_draw_each_number_once(rt: HostRuntime) {
+    let drawn = draw_with_two_threads(&rt, rt.alloc(), 1000);
+    let (first, second, closed) = drawn.expect(&rt, "a board");
     assert!(rt;
         first.wrapping_add(second) == 1000 && is_closed(&closed, 1000, 0, 1000),
         "{first} and {second} of 1000: {closed:?}"
     );
-    Ok(())
 }
 
 fn is_closed(closed: &Closed, drawn: u64, skipped: u64, least: u64) -> bool {
@@ -153,14 +154,22 @@ fn skip_last(board: &Board, pass: &mut Pass) -> Option<u64>
     Some(last)
 }
 
+/// Appends a number, or `-` for none, and a space.
+fn append(text: &mut String, number: Option<u64>) -> Result<(), AllocError> {
+    match number {
+        Some(number) => write!(text, "{number} "),
+        None => text.push_str("- "),
+    }
+}
+
 /// Makes the steps of a script in turn: lower case letters with `a`, and upper case letters with
-/// `b`.
+/// `b`. Appends the number of each step, with `-` for none.
 fn play(
     board: &Board,
     a: &mut Pass,
     b: &mut Pass,
     script: &str,
-    found: &mut Vec<Option<u64>>,
+    text: &mut String,
 ) -> Result<(), AllocError>
     requires first { IsPassOf board.now a.old }
     requires second { IsPassOf board.now b.old }
@@ -173,36 +182,26 @@ fn play(
         } else {
             step(board, b, letter.to_ascii_lowercase())
         };
-        found.push(number)?;
+        append(text, number)?;
     }
     Ok(())
 }
 
-/// Plays a script on a board with two seats, and returns the numbers of the steps and the closed board.
-fn played(alloc: Global, n: u64, script: &str) -> Result<(Vec<Option<u64>>, Closed), BoardFault>
+/// Plays a script on a board with two seats, and appends the numbers of the steps. Returns the closed board.
+fn played(alloc: Global, n: u64, script: &str, text: &mut String) -> Result<Closed, BoardFault>
     requires pieces { n ≤ most_pieces }
 {
     let (board, mut a, mut b) = open_two(alloc, n)?;
-    let mut found = Vec::new(alloc);
-    play(&board, &mut a, &mut b, script, &mut found)?;
-    let closed = close_two(alloc, board, a, b)?;
-    Ok((found, closed))
+    play(&board, &mut a, &mut b, script, text)?;
+    Ok(close_two(alloc, board, a, b)?)
 }
 
-/// Appends a number, or `-` for none, and a space.
-fn append(text: &mut String, number: Option<u64>) -> Result<(), AllocError> {
-    match number {
-        Some(number) => write!(text, "{number} "),
-        None => text.push_str("- "),
-    }
-}
-
-/// Prints the numbers of steps, with `-` for none, and the totals of a closed board.
-fn shown(alloc: Global, found: &[Option<u64>], closed: &Closed) -> Result<String, AllocError> {
+/// Plays a script, and prints the numbers of its steps and the totals of the closed board.
+fn told(alloc: Global, n: u64, script: &str) -> Result<String, BoardFault>
+    requires pieces { n ≤ most_pieces }
+{
     let mut text = String::new(alloc);
-    for number in found {
-        append(&mut text, *number)?;
-    }
+    let closed = played(alloc, n, script, &mut text)?;
     write!(
         text,
         "drawn {} skipped {} least {}",
@@ -211,20 +210,12 @@ fn shown(alloc: Global, found: &[Option<u64>], closed: &Closed) -> Result<String
     Ok(text)
 }
 
-/// Plays a script, and prints the numbers of its steps and the totals of the closed board.
-fn told(alloc: Global, n: u64, script: &str) -> Result<String, BoardFault>
-    requires pieces { n ≤ most_pieces }
-{
-    let (found, closed) = played(alloc, n, script)?;
-    Ok(shown(alloc, &found, &closed)?)
-}
-
 /// A pass sees what the other pass reports, and skips larger numbers.
 #[test]
 fn a_skip_is_above_a_seen_report(rt: HostRuntime) {
     let expected = "0 1 2 1 1 2 3 1 3 - - 1 1 drawn 4 skipped 2 least 1";
     let script = "dDdRlsDLSdDfF";
-    assert!(rt; holds(&rt, script, expected, told(rt.alloc(), 4, script)));
+    gives(&rt, script, expected, told(rt.alloc(), 4, script));
 }
 
 /// With one number and two passes, the second pass to draw gets no number, and sees the report of
@@ -232,7 +223,7 @@ fn a_skip_is_above_a_seen_report(rt: HostRuntime) {
 #[test]
 fn one_piece_and_two_passes(rt: HostRuntime) {
     let expected = "0 - 0 0 drawn 1 skipped 0 least 0";
-    assert!(rt; holds(&rt, "dDrL", expected, told(rt.alloc(), 1, "dDrL")));
+    gives(&rt, "dDrL", expected, told(rt.alloc(), 1, "dDrL"));
 }
 
 /// Draws once with each pass that is not finished.
@@ -305,16 +296,13 @@ fn are_drawn_in_turn(alloc: Global, n: u64, seats: usize) -> Result<bool, BoardF
     Ok(is_opened && are_over && is_closed(&closed, n, 0, n))
 }
 
-/// Returns whether three rounds draw all numbers of a board. Prints the numbers if not.
-fn is_drawn<R: Print>(rt: &R, alloc: Global, n: u64, seats: usize) -> bool
+/// Checks that three rounds draw all numbers of a board. Prints the numbers if not.
+fn check_drawn<R: Abort>(rt: &R, alloc: Global, n: u64, seats: usize)
     requires pieces { n ≤ most_pieces }
     requires seats { (1 ≤ seats) × (seats ≤ most_seats) }
 {
     let is_drawn = are_drawn_in_turn(alloc, n, seats) == Ok(true);
-    if !is_drawn {
-        let _ = println!(rt; "{n} numbers, {seats} seats");
-    }
-    is_drawn
+    assert!(rt; is_drawn, "{n} numbers, {seats} seats");
 }
 
 /// The largest number of seats, and about as many numbers: the last round finishes every pass. An
@@ -322,10 +310,10 @@ fn is_drawn<R: Print>(rt: &R, alloc: Global, n: u64, seats: usize) -> bool
 #[test]
 fn seats_draw_in_turn(rt: HostRuntime) {
     let alloc = rt.alloc();
-    assert!(rt; is_drawn(&rt, alloc, 0, 1));
-    assert!(rt; is_drawn(&rt, alloc, 0, 64));
-    assert!(rt; is_drawn(&rt, alloc, 1, 64));
-    assert!(rt; is_drawn(&rt, alloc, 63, 64));
-    assert!(rt; is_drawn(&rt, alloc, 64, 64));
-    assert!(rt; is_drawn(&rt, alloc, 65, 64));
+    check_drawn(&rt, alloc, 0, 1);
+    check_drawn(&rt, alloc, 0, 64);
+    check_drawn(&rt, alloc, 1, 64);
+    check_drawn(&rt, alloc, 63, 64);
+    check_drawn(&rt, alloc, 64, 64);
+    check_drawn(&rt, alloc, 65, 64);
 }

@@ -1,8 +1,10 @@
 //! Cuts and blocks of the document `a`, LF, `b`, LF, LF, `c`, and of documents that are one piece.
 ghost use Rattle.std.specs.Prelude.{◌≤◌};
 
+use crate::cases::gives_by;
 use piece_pool::{BlockFault, Blocks, Cuts};
 use std::alloc::{AllocError, Global};
+use std::process::Abort;
 use test_fixtures::SliceSource;
 
 const DOCUMENT: &str = "a\nb\n\nc";
@@ -32,25 +34,6 @@ fn pieces_of_size(alloc: Global, doc: &str, size: usize) -> Result<String, Alloc
     pieces(alloc, doc, &cuts)
 }
 
-/// Returns whether a text is the expected one. Prints the document, the number and both if not.
-fn is_text<R: Print>(
-    rt: &R,
-    doc: &str,
-    number: usize,
-    expected: &str,
-    text: Result<String, AllocError>,
-) -> bool {
-    match text {
-        Ok(text) => {
-            if text.as_str() != expected {
-                let _ = println!(rt; "{doc:?} by {number}: expected {expected:?}, got {text:?}");
-            }
-            text.as_str() == expected
-        }
-        Err(_) => false,
-    }
-}
-
 /// A document, the least number of bytes of a piece, and the pieces.
 const PIECES: &[(&str, usize, &str)] = &[
     (DOCUMENT, 1, "|a\n|b\n|\n|c"),
@@ -64,24 +47,17 @@ const PIECES: &[(&str, usize, &str)] = &[
     ("", 3, "|"),
 ];
 
-fn are_cut<R: Print>(rt: &R, alloc: Global) -> bool {
+/// Checks that each document has its pieces.
+fn check_pieces<R: Abort>(rt: &R, alloc: Global) {
     for (doc, size, expected) in PIECES {
-        if !is_text(
-            rt,
-            *doc,
-            *size,
-            *expected,
-            pieces_of_size(alloc, *doc, *size),
-        ) {
-            return false;
-        }
+        let found = pieces_of_size(alloc, *doc, *size);
+        gives_by(rt, *doc, [*size, 0], *expected, found);
     }
-    true
 }
 
 #[test]
 fn every_cuts_after_line_feeds(rt: HostRuntime) {
-    assert!(rt; are_cut(&rt, rt.alloc()));
+    check_pieces(&rt, rt.alloc());
 }
 
 /// Prints the pieces of the document that is split at these places, or `none` if the places do not
@@ -103,21 +79,18 @@ const PLACES: &[(&[usize], &str)] = &[
     (&[2, 2], "none"),
 ];
 
-/// Returns whether the places cut the document like this. Prints the first that do not.
-fn are_cut_at<R: Print>(rt: &R, alloc: Global) -> bool {
+/// Checks that the places cut the document like this. Prints the number of places and the last of them if not.
+fn check_places<R: Abort>(rt: &R, alloc: Global) {
     for (places, expected) in PLACES {
+        let last = places.last().copied().unwrap_or(0);
         let found = pieces_at(alloc, *places);
-        if !is_text(rt, DOCUMENT, places.len(), *expected, found) {
-            let _ = println!(rt; "at {places:?}");
-            return false;
-        }
+        gives_by(rt, "places", [places.len(), last], *expected, found);
     }
-    true
 }
 
 #[test]
 fn given_places_are_taken_where_they_cut(rt: HostRuntime) {
-    assert!(rt; are_cut_at(&rt, rt.alloc()));
+    check_places(&rt, rt.alloc());
 }
 
 /// Appends the next block after a bar, or `.` at the end, or `!` if the reader failed.
@@ -166,40 +139,30 @@ const BLOCKS: &[(&str, usize, usize, &str)] = &[
     (DOCUMENT, 1, 3, "|a\n!!!!!"),
 ];
 
-fn are_blocks<R: Print>(rt: &R, alloc: Global) -> bool {
+/// Checks that each document has its blocks.
+fn check_blocks<R: Abort>(rt: &R, alloc: Global) {
     for (doc, size, until, expected) in BLOCKS {
-        if !is_text(
-            rt,
-            *doc,
-            *size,
-            *expected,
-            blocks(alloc, *doc, *size, *until),
-        ) {
-            return false;
-        }
+        let found = blocks(alloc, *doc, *size, *until);
+        gives_by(rt, *doc, [*size, *until], *expected, found);
     }
-    true
 }
 
 /// The blocks are the pieces. Each call after the last block returns none, and each call after a
 /// fault the same fault.
 #[test]
 fn blocks_are_the_pieces_and_a_fault_is_repeated(rt: HostRuntime) {
-    assert!(rt; are_blocks(&rt, rt.alloc()));
-}
-
-/// Returns the capacity of the first block.
-fn capacity_of_first(alloc: Global) -> Result<Option<usize>, BlockFault> {
-    let mut reader = SliceSource::new(DOCUMENT.as_bytes(), 1);
-    let mut blocks = Blocks::new(alloc, 1).map_err(|_| BlockFault::Memory)?;
-    Ok(blocks.next(&mut reader)?.map(|block| block.capacity()))
+    check_blocks(&rt, rt.alloc());
 }
 
 /// The capacity of a block is at most four times its length, whatever was read together with it. The first block
 /// has two bytes.
 #[test]
 fn a_block_has_little_spare_capacity(rt: HostRuntime) {
-    let capacity = capacity_of_first(rt.alloc());
-    let is_small = matches!(capacity, Ok(Some(room)) if room <= 8);
-    assert!(rt; is_small, "{capacity:?}");
+    let mut reader = SliceSource::new(DOCUMENT.as_bytes(), 1);
+    let mut blocks = Blocks::new(rt.alloc(), 1).expect(&rt, "blocks");
+    let block = blocks
+        .next(&mut reader)
+        .expect(&rt, "a block")
+        .expect(&rt, "a block");
+    assert!(rt; block.capacity() <= 8, "{}", block.capacity());
 }

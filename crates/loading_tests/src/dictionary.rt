@@ -1,7 +1,8 @@
 //! Dictionaries by example. Numbers follow the first appearance of the terms, and in a quad the order is subject,
 //! predicate, object, graph name.
 
-use crate::cases::holds;
+use crate::cases::{equal, gives};
+use crate::terms::text;
 use dict_core::{
     Dict, LocalPiece, NumQuad, Seen, SeenPiece, absorbing_keeps_the_numbering, add_piece,
     earlier_places_serve, look_up, merge, number_piece,
@@ -10,6 +11,7 @@ use nquads_core::read_piece;
 use rdf_core::{Term, Text};
 use std::alloc::{AllocError, AllocGlobal, Global};
 use std::hash::RandomState;
+use std::process::Abort;
 
 /// The IRIs of the examples.
 pub(crate) const A: &str = "http://e/a";
@@ -32,14 +34,6 @@ pub(crate) const THIRD: &str = "<http://e/a> <http://e/q> _:x <http://e/g> .\n";
 
 pub(crate) fn iri(alloc: Global, text: &str) -> Result<Term, AllocError> {
     Ok(Term::Iri(Text::from_string(String::from_str(alloc, text)?)))
-}
-
-fn blank(alloc: Global, label: &str) -> Result<Term, AllocError> {
-    Ok(Term::Blank(Text::from_string(String::from_str(alloc, label)?)))
-}
-
-pub(crate) fn quad(g: Option<u64>, s: u64, p: u64, o: u64) -> NumQuad {
-    NumQuad { g, s, p, o }
 }
 
 /// Returns the numbered piece of a text, or `None` if the text is malformed or an allocation fails.
@@ -82,27 +76,6 @@ pub(crate) fn dict_of(
     Ok(dict)
 }
 
-/// Returns whether the dictionary has exactly these terms, in this order, by each of its look-ups.
-pub(crate) fn has(dict: &Dict, terms: &[Term]) -> bool {
-    if dict.len() != terms.len() {
-        return false;
-    }
-    for (n, term) in terms.iter().enumerate() {
-        if dict.number_of(term) != Some(n as u64) {
-            return false;
-        }
-        if (n as u64) < dict.len() as u64 && dict.term(n as u64) != term {
-            return false;
-        }
-    }
-    true
-}
-
-/// Appends a number, or `None`.
-fn append_number(out: &mut String, number: Option<u64>) -> Result<(), AllocError> {
-    write!(out, "{number:?} ")
-}
-
 /// Appends the term, after the number by which a copy of it is found.
 fn append_term(
     alloc: Global,
@@ -123,88 +96,80 @@ fn append_terms(alloc: Global, out: &mut String, dict: &Dict) -> Result<(), Allo
     Ok(())
 }
 
-/// Appends subject, predicate, object and graph name.
-fn append_quad(out: &mut String, quad: &NumQuad) -> Result<(), AllocError> {
-    let NumQuad { g, s, p, o } = quad;
-    write!(out, "Some({s}) Some({p}) Some({o}) {g:?} ")
+/// Appends subject, predicate, object and graph name of each quad.
+fn append_quads(out: &mut String, quads: &[NumQuad]) -> Result<(), AllocError> {
+    for NumQuad { g, s, p, o } in quads {
+        write!(out, "Some({s}) Some({p}) Some({o}) {g:?} ")?;
+    }
+    Ok(())
 }
 
 /// Prints a dictionary and quads.
 fn printed(alloc: Global, dict: &Dict, quads: &[NumQuad]) -> Result<String, AllocError> {
     let mut out = String::new(alloc);
     append_terms(alloc, &mut out, dict)?;
-    for quad in quads {
-        append_quad(&mut out, quad)?;
-    }
+    append_quads(&mut out, quads)?;
     Ok(out)
 }
 
-/// Adds the IRI, and appends its number.
-fn append_added(
+/// Checks that a dictionary and quads are printed like this.
+fn check<R: Abort>(
+    rt: &R,
     alloc: Global,
-    out: &mut String,
-    dict: &mut Dict,
-    name: &str,
-) -> Result<(), AllocError> {
-    let number = add(alloc, dict, name)?;
-    append_number(out, Some(number))
+    case: &str,
+    expected: &str,
+    dict: &Dict,
+    quads: &[NumQuad],
+) {
+    gives(rt, case, expected, printed(alloc, dict, quads));
 }
 
-/// Prints the numbers of the IRIs as they are added to an empty dictionary, and the dictionary.
-fn added(alloc: Global, state: RandomState, names: &[&str]) -> Result<String, AllocError> {
-    let mut dict = Dict::new(alloc, state)?;
-    let mut out = String::new(alloc);
-    for name in names {
-        append_added(alloc, &mut out, &mut dict, *name)?;
+/// IRIs that are added in turn, and their numbers.
+const ADDED: &[(&str, u64)] = &[(A, 0), (B, 1), (A, 0), (C, 2), (B, 1)];
+
+/// The dictionary of a, b, c.
+const ABC: &str = "Some(0) Iri(http://e/a); Some(1) Iri(http://e/b); Some(2) Iri(http://e/c); ";
+
+/// Adds the IRIs, and checks their numbers.
+fn check_added<R: Abort>(rt: &R, alloc: Global, dict: &mut Dict) {
+    for (name, expected) in ADDED {
+        let found = add(alloc, dict, *name).expect(rt, "a number");
+        equal(rt, *name, *expected, found);
     }
-    append_terms(alloc, &mut out, &dict)?;
-    Ok(out)
 }
 
 /// Returns whether the dictionary has no number for the term.
-fn is_absent(dict: &Dict, term: Result<Term, AllocError>) -> bool {
-    match term {
-        Ok(term) => dict.number_of(&term).is_none(),
-        Err(_) => false,
-    }
+fn is_absent(dict: &Dict, term: Term) -> bool {
+    dict.number_of(&term).is_none()
 }
-
-/// Returns whether the dictionary of a, b, c has no number for `<g>` and for `_:a`.
-fn are_absent(alloc: Global, state: RandomState) -> bool {
-    match dict_of(alloc, state, &[A, B, C]) {
-        Ok(dict) => is_absent(&dict, iri(alloc, G)) && is_absent(&dict, blank(alloc, A)),
-        Err(_) => false,
-    }
-}
-
-/// The numbers of a, b, a, c, b, and the dictionary.
-const ADDED: &str = "Some(0) Some(1) Some(0) Some(2) Some(1) \
-                     Some(0) Iri(http://e/a); Some(1) Iri(http://e/b); Some(2) Iri(http://e/c); ";
 
 /// A known term keeps its number, a new one is last, and an unknown one has no number.
 #[test]
 fn terms_keep_their_numbers(rt: HostRuntime) {
     let alloc = rt.alloc();
     let state = RandomState::new(&rt).expect(&rt, "a hash state");
-    assert!(rt; holds(&rt, "no term", "", added(alloc, state, &[])));
+    let mut dict = Dict::new(alloc, state).expect(&rt, "a dictionary");
+    check(&rt, alloc, "no term", "", &dict, &[]);
+    check_added(&rt, alloc, &mut dict);
+    check(&rt, alloc, "a b a c b", ABC, &dict, &[]);
+    assert!(rt; is_absent(&dict, Term::Iri(text(alloc, G))), "another IRI");
     assert!(rt;
-        holds(
-            &rt,
-            "a b a c b",
-            ADDED,
-            added(alloc, state, &[A, B, A, C, B])
-        )
+        is_absent(&dict, Term::Blank(text(alloc, A))),
+        "a blank node"
     );
-    assert!(rt; are_absent(alloc, state));
 }
 
-/// Prints the merge of the pieces of the texts.
-fn merged(alloc: Global, state: RandomState, texts: &[&str]) -> Result<String, AllocError> {
-    let Some(pieces) = pieces(alloc, state, texts) else {
-        return Err(AllocError);
-    };
-    let (dict, quads) = merge(alloc, state, pieces)?;
-    printed(alloc, &dict, quads.as_slice())
+/// Checks the merge of the pieces of the texts.
+fn check_merged<R: Abort>(
+    rt: &R,
+    alloc: Global,
+    state: RandomState,
+    texts: &[&str],
+    expected: &str,
+) {
+    let pieces = pieces(alloc, state, texts).expect(rt, "pieces");
+    let (dict, quads) = merge(alloc, state, pieces).expect(rt, "a merge");
+    check(rt, alloc, "a merge", expected, &dict, quads.as_slice());
 }
 
 /// The merge of the first, the second and the third piece.
@@ -221,18 +186,8 @@ const EXCHANGED: &str =
 #[test]
 fn pieces_merge_in_order(rt: HostRuntime) {
     let state = RandomState::new(&rt).expect(&rt, "a hash state");
-    let in_order = merged(rt.alloc(), state, &[FIRST, SECOND, THIRD]);
-    assert!(rt; holds(&rt, "in order", MERGED, in_order));
-    let exchanged = merged(rt.alloc(), state, &[SECOND, FIRST, THIRD]);
-    assert!(rt; holds(&rt, "exchanged", EXCHANGED, exchanged));
-}
-
-/// Prints the numbered piece of a text.
-fn piece(alloc: Global, state: RandomState, text: &str) -> Result<String, AllocError> {
-    let Some(piece) = numbered(alloc, state, text) else {
-        return Err(AllocError);
-    };
-    printed(alloc, piece.dict(), piece.quads())
+    check_merged(&rt, rt.alloc(), state, &[FIRST, SECOND, THIRD], MERGED);
+    check_merged(&rt, rt.alloc(), state, &[SECOND, FIRST, THIRD], EXCHANGED);
 }
 
 /// The text of a repeated statement.
@@ -247,41 +202,34 @@ const REPEATED: &str = "Some(0) Iri(http://e/a); Some(1) Iri(http://e/p); Some(2
 #[test]
 fn a_piece_keeps_its_repeats(rt: HostRuntime) {
     let state = RandomState::new(&rt).expect(&rt, "a hash state");
-    assert!(rt; holds(&rt, REPEATS, REPEATED, piece(rt.alloc(), state, REPEATS)));
+    let piece = numbered(rt.alloc(), state, REPEATS).expect(&rt, "a piece");
+    check(
+        &rt,
+        rt.alloc(),
+        REPEATS,
+        REPEATED,
+        piece.dict(),
+        piece.quads(),
+    );
 }
 
-/// Absorbs b, c, and appends their numbers.
-fn append_absorbed(
-    alloc: Global,
-    state: RandomState,
-    out: &mut String,
-    dict: &mut Dict,
-) -> Result<(), AllocError> {
-    let numbers = dict.absorb(dict_of(alloc, state, &[B, C])?)?;
-    for number in &numbers {
-        append_number(out, Some(*number))?;
-    }
-    Ok(())
+/// Checks the numbers of b, c as a, b absorb them.
+fn check_numbers<R: Abort>(rt: &R, alloc: Global, state: RandomState, dict: &mut Dict) {
+    let other = dict_of(alloc, state, &[B, C]).expect(rt, "a dictionary");
+    let numbers = dict.absorb(other).expect(rt, "numbers");
+    assert!(rt;
+        numbers.as_slice() == [1, 2].as_slice(),
+        "found {numbers:?}"
+    );
 }
-
-/// Prints the numbers of b, c as a, b absorb them, and the dictionary.
-fn absorbed(alloc: Global, state: RandomState) -> Result<String, AllocError> {
-    let mut dict = dict_of(alloc, state, &[A, B])?;
-    let mut out = String::new(alloc);
-    append_absorbed(alloc, state, &mut out, &mut dict)?;
-    append_terms(alloc, &mut out, &dict)?;
-    Ok(out)
-}
-
-/// The numbers 1, 2 and the dictionary of a, b, c.
-const ABSORBED: &str = "Some(1) Some(2) \
-                        Some(0) Iri(http://e/a); Some(1) Iri(http://e/b); Some(2) Iri(http://e/c); ";
 
 /// Absorbing b, c into a, b returns 1, 2 and leaves a, b, c.
 #[test]
 fn absorbed_terms_go_last(rt: HostRuntime) {
     let state = RandomState::new(&rt).expect(&rt, "a hash state");
-    assert!(rt; holds(&rt, "a b, b c", ABSORBED, absorbed(rt.alloc(), state)));
+    let mut dict = dict_of(rt.alloc(), state, &[A, B]).expect(&rt, "a dictionary");
+    check_numbers(&rt, rt.alloc(), state, &mut dict);
+    check(&rt, rt.alloc(), "a b, b c", ABC, &dict, &[]);
 }
 
 /// Returns the dictionary and the quads of the first piece.
@@ -299,73 +247,62 @@ pub(crate) fn looked_up(
     look_up(alloc, dict, numbered(alloc, state, text)?).ok()
 }
 
-/// Prints the numbers that the look-ups of a piece return, and `None` for new terms.
-fn seen_of(alloc: Global, piece: &SeenPiece) -> Result<String, AllocError> {
-    let mut out = String::new(alloc);
+/// Appends the numbers that the look-ups of a piece return, and `None` for new terms.
+fn append_seen(out: &mut String, piece: &SeenPiece) -> Result<(), AllocError> {
     for seen in &piece.seen {
-        let number = match seen {
-            Seen::Known(number) => Some(*number),
-            Seen::New(_) => None,
-        };
-        append_number(&mut out, number)?;
+        match seen {
+            Seen::Known(number) => write!(out, "Some({number}) ")?,
+            Seen::New(_) => out.push_str("None ")?,
+        }
     }
+    Ok(())
+}
+
+/// Prints what the look-ups of two pieces return.
+fn seen_of(alloc: Global, second: &SeenPiece, third: &SeenPiece) -> Result<String, AllocError> {
+    let mut out = String::new(alloc);
+    append_seen(&mut out, second)?;
+    append_seen(&mut out, third)?;
     Ok(out)
 }
 
-/// Prints what the look-ups of a text return in the dictionary of the first piece.
-fn seen_after_first(alloc: Global, state: RandomState, text: &str) -> Result<String, AllocError> {
-    let Some((dict, _quads)) = first_round(alloc, state) else {
-        return Err(AllocError);
-    };
-    let Some(piece) = looked_up(alloc, state, &dict, text) else {
-        return Err(AllocError);
-    };
-    seen_of(alloc, &piece)
-}
+/// The numbers of the terms of the second and of the third piece in the dictionary of the first.
+const SEEN: &str = "Some(2) Some(1) Some(0) Some(0) None None None ";
 
-/// Looks two pieces up in the dictionary, and then adds them in order.
-fn add_two(
+/// Looks two pieces up in the dictionary, checks what is found, and then adds them in order.
+fn add_two<R: Abort>(
+    rt: &R,
     alloc: Global,
     state: RandomState,
     dict: &mut Dict,
     quads: &mut Vec<NumQuad>,
-) -> Result<(), AllocError> {
-    let (Some(second), Some(third)) = (
-        looked_up(alloc, state, dict, SECOND),
-        looked_up(alloc, state, dict, THIRD),
-    ) else {
-        return Err(AllocError);
-    };
-    add_piece(alloc, dict, quads, second)?;
-    add_piece(alloc, dict, quads, third)
-}
-
-/// Prints the dictionary and the quads of three pieces, of which two are looked up and then added.
-fn rounds(alloc: Global, state: RandomState) -> Result<String, AllocError> {
-    let Some((mut dict, mut quads)) = first_round(alloc, state) else {
-        return Err(AllocError);
-    };
-    add_two(alloc, state, &mut dict, &mut quads)?;
-    printed(alloc, &dict, quads.as_slice())
+) {
+    let second = looked_up(alloc, state, dict, SECOND).expect(rt, "the second piece");
+    let third = looked_up(alloc, state, dict, THIRD).expect(rt, "the third piece");
+    gives(
+        rt,
+        "second and third",
+        SEEN,
+        seen_of(alloc, &second, &third),
+    );
+    add_piece(alloc, dict, quads, second).expect(rt, "the second piece");
+    add_piece(alloc, dict, quads, third).expect(rt, "the third piece");
 }
 
 /// Two pieces are looked up in the dictionary of the first, and then added in order: the result is that of `merge`.
 #[test]
 fn rounds_come_to_the_same(rt: HostRuntime) {
-    let alloc = rt.alloc();
     let state = RandomState::new(&rt).expect(&rt, "a hash state");
-    let second = "Some(2) Some(1) Some(0) ";
-    assert!(rt;
-        holds(
-            &rt,
-            "second",
-            second,
-            seen_after_first(alloc, state, SECOND)
-        )
+    let (mut dict, mut quads) = first_round(rt.alloc(), state).expect(&rt, "the first piece");
+    add_two(&rt, rt.alloc(), state, &mut dict, &mut quads);
+    check(
+        &rt,
+        rt.alloc(),
+        "all three",
+        MERGED,
+        &dict,
+        quads.as_slice(),
     );
-    let third = "Some(0) None None None ";
-    assert!(rt; holds(&rt, "third", third, seen_after_first(alloc, state, THIRD)));
-    assert!(rt; holds(&rt, "all three", MERGED, rounds(alloc, state)));
     absorbing_keeps_the_numbering();
     earlier_places_serve();
 }

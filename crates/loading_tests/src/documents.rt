@@ -1,12 +1,13 @@
 //! Documents by example: what is loaded of each, with any cuts and any number of workers.
 ghost use Rattle.std.specs.Prelude.{◌≤◌};
 
-use crate::cases::holds;
+use crate::cases::gives_by;
 use dataset_load::{LoadFault, Store, load, load_blocks, read_blocks};
 use nquads_core::{Device, ReadFault};
 use piece_cuts::Cuts;
 use piece_pool::{Gate, OpenGate};
-use std::alloc::{AllocGlobal, Global};
+use std::alloc::{AllocError, AllocGlobal, Global};
+use std::process::Abort;
 use std::random::RandomSource;
 use std::sync::Wait;
 use std::thread::Threads;
@@ -94,40 +95,45 @@ const DOCUMENTS: &[(&str, &[u8], &str)] = &[
     ("the empty document", b"", "Ok((0, 0, 0))"),
 ];
 
-/// Returns whether these are the expected counts. Prints the case and both if they are not.
-fn are_counts<R: Print>(rt: &R, alloc: Global, name: &str, expected: &str, found: Counts) -> bool {
-    holds(rt, name, expected, format!(in alloc; "{found:?}"))
+/// Prints the counts of the document, cut into pieces of at least `size` bytes.
+pub(crate) fn shown<R: Threads + Wait + RandomSource, G: Gate + Sync>(
+    rt: &R,
+    alloc: Global,
+    doc: &[u8],
+    size: usize,
+    workers: usize,
+    gate: &G,
+) -> Result<String, AllocError>
+    requires size { 1 ≤ size }
+    requires workers { (1 ≤ workers) × (workers ≤ 64) }
+{
+    let found = counts(loaded(rt, alloc, doc, size, workers, gate));
+    format!(in alloc; "{found:?}")
 }
 
-/// Returns whether each document is loaded as expected.
-fn are_right<R: Threads + Wait + RandomSource + Print>(
+/// Checks that each document is loaded as expected.
+fn check_cuts<R: Threads + Wait + RandomSource + Abort>(
     rt: &R,
     alloc: Global,
     size: usize,
     workers: usize,
-) -> bool
+)
     requires size { 1 ≤ size }
     requires workers { (1 ≤ workers) × (workers ≤ 64) }
 {
     for (name, doc, expected) in DOCUMENTS {
-        let found = counts(loaded(rt, alloc, *doc, size, workers, &OpenGate));
-        if !are_counts(rt, alloc, *name, *expected, found) {
-            return false;
-        }
+        let found = shown(rt, alloc, *doc, size, workers, &OpenGate);
+        gives_by(rt, *name, [size, workers], *expected, found);
     }
-    true
 }
 
 #[test]
 fn every_cut_loads_the_same(rt: HostRuntime) {
     let alloc = rt.alloc();
-    assert!(rt; are_right(&rt, alloc, 1, 1), "pieces of 1 byte, 1 worker");
-    assert!(rt; are_right(&rt, alloc, 1, 2), "pieces of 1 byte, 2 workers");
-    assert!(rt; are_right(&rt, alloc, 1, 8), "pieces of 1 byte, 8 workers");
-    assert!(rt;
-        are_right(&rt, alloc, 65536, 4),
-        "pieces of 65536 bytes, 4 workers"
-    );
+    check_cuts(&rt, alloc, 1, 1);
+    check_cuts(&rt, alloc, 1, 2);
+    check_cuts(&rt, alloc, 1, 8);
+    check_cuts(&rt, alloc, 65536, 4);
 }
 
 /// Documents, the smallest size of their blocks in bytes, and what is loaded of each.
@@ -138,40 +144,41 @@ const BLOCKS: &[(&str, &[u8], usize, &str)] = &[
     ("the empty document", b"", 1, "Ok((0, 0, 0))"),
 ];
 
-/// Returns whether each document in blocks is loaded as expected, with two workers.
-fn are_loaded<R: Threads + Wait + RandomSource + Print>(rt: &R, alloc: Global) -> bool {
+/// Prints the counts of the document in blocks, with two workers.
+fn shown_blocks<R: Threads + Wait + RandomSource>(
+    rt: &R,
+    alloc: Global,
+    doc: &[u8],
+    size: usize,
+) -> Result<String, AllocError>
+    requires size { 1 ≤ size }
+{
+    let found = counts(loaded_blocks(rt, alloc, doc, size, 2, &OpenGate));
+    format!(in alloc; "{found:?}")
+}
+
+/// Checks that each document in blocks is loaded as expected.
+fn check_blocks<R: Threads + Wait + RandomSource + Abort>(rt: &R, alloc: Global) {
     for (name, doc, size, expected) in BLOCKS {
-        let found = counts(loaded_blocks(rt, alloc, *doc, *size, 2, &OpenGate));
-        if !are_counts(rt, alloc, *name, *expected, found) {
-            return false;
-        }
+        let found = shown_blocks(rt, alloc, *doc, *size);
+        gives_by(rt, *name, [*size, 2], *expected, found);
     }
-    true
 }
 
 #[test]
 fn blocks_load_as_the_document(rt: HostRuntime) {
-    assert!(rt; are_loaded(&rt, rt.alloc()));
+    check_blocks(&rt, rt.alloc());
 }
 
 /// Returns whether the store of the two graphs has its terms, quads and graphs, also in its parts.
 fn has_parts(store: Store) -> bool {
-    if store.dict().len() != 7 || store.index().quads() != 3 {
-        return false;
-    }
+    let is_whole = store.dict().len() == 7 && store.index().quads() == 3;
     let (dict, index) = store.into_parts();
-    dict.len() == 7 && index.graphs().len() == 2
-}
-
-/// Returns whether the two graphs are loaded, with their terms, quads and graphs.
-fn are_parts_lent<R: Threads + Wait + RandomSource>(rt: &R, alloc: Global) -> bool {
-    match loaded(rt, alloc, GRAPHS, 1, 2, &OpenGate) {
-        Ok(store) => has_parts(store),
-        Err(_) => false,
-    }
+    is_whole && dict.len() == 7 && index.graphs().len() == 2
 }
 
 #[test]
 fn a_store_exposes_its_parts(rt: HostRuntime) {
-    assert!(rt; are_parts_lent(&rt, rt.alloc()));
+    let store = loaded(&rt, rt.alloc(), GRAPHS, 1, 2, &OpenGate).expect(&rt, "a store");
+    assert!(rt; has_parts(store));
 }

@@ -1,11 +1,13 @@
 //! Indexes by example.
 
+use crate::cases::equal;
 use dict_core::NumQuad;
 use quad_index::{
-    Index, PackedList, SortOrder, count_quads, index_counts_the_quads, index_names_the_graphs,
-    index_reads_the_quads, sorted_list,
+    Index, IndexCounts, PackedList, SortOrder, count_quads, index_counts_the_quads,
+    index_names_the_graphs, index_reads_the_quads, sorted_list,
 };
 use std::alloc::{AllocError, AllocGlobal, Global};
+use std::process::Abort;
 
 pub(crate) fn quad(g: Option<u64>, s: u64, p: u64, o: u64) -> NumQuad {
     NumQuad { g, s, p, o }
@@ -48,74 +50,78 @@ pub(crate) fn side_by_side(alloc: Global, quads: &[NumQuad]) -> Result<Index, Al
 }
 
 /// Returns the index of the four quads.
-fn built(alloc: Global) -> Result<Index, AllocError> {
+pub(crate) fn built(alloc: Global) -> Result<Index, AllocError> {
     Index::build(alloc, Vec::from_slice(alloc, &QUADS)?)
 }
 
-/// Returns whether the index has three quads, one graph name, and one quad with predicate 1 and object 3.
-fn counts_once(index: &Index) -> bool {
-    index.quads() == 3
-        && index.graphs() == [5].as_slice()
-        && index.scan(None, None, Some(1), Some(3)).len() == 1
-}
-
-/// Returns whether the index is built and counts each quad once.
-fn is_counted_once(index: Result<Index, AllocError>) -> bool {
-    match index {
-        Ok(index) => counts_once(&index),
-        Err(_) => false,
-    }
+/// Checks that the index has three quads, one graph name, and one quad with predicate 1 and object 3.
+fn check_counts<R: Abort>(rt: &R, name: &str, index: Result<Index, AllocError>) {
+    let index = index.expect(rt, name);
+    equal(rt, name, 3, index.quads());
+    equal(
+        rt,
+        name,
+        1,
+        index.scan(None, None, Some(1), Some(3)).len() as u64,
+    );
+    assert!(rt; index.graphs() == [5].as_slice(), "{name}: graphs");
 }
 
 /// A repeated statement counts once, and a graph has a name if a quad names it.
 #[test]
 fn an_index_counts_each_quad_once(rt: HostRuntime) {
-    assert!(rt; is_counted_once(built(rt.alloc())), "built");
-    assert!(rt; is_counted_once(side_by_side(rt.alloc(), &QUADS)), "sorted");
+    check_counts(&rt, "built", built(rt.alloc()));
+    check_counts(&rt, "sorted", side_by_side(rt.alloc(), &QUADS));
     index_reads_the_quads();
     index_counts_the_quads();
     index_names_the_graphs();
 }
 
-/// Returns the numbers of quads and of graph names.
-fn counted(alloc: Global, quads: &[NumQuad]) -> Result<(u64, u64), AllocError> {
-    let counts = count_quads(alloc, Vec::from_slice(alloc, quads)?)?;
-    Ok((counts.quads, counts.graphs))
+/// Checks the numbers of quads and of graph names.
+fn check_counted<R: Abort>(
+    rt: &R,
+    alloc: Global,
+    name: &str,
+    quads: &[NumQuad],
+    expected: IndexCounts,
+) {
+    let quads = Vec::from_slice(alloc, quads).expect(rt, name);
+    let found = count_quads(alloc, quads).expect(rt, name);
+    equal(rt, name, expected.quads, found.quads);
+    equal(rt, name, expected.graphs, found.graphs);
 }
 
 /// The counts of an index that is not built: of numbers that are packed, and of a number that is too large.
 #[test]
 fn quads_are_counted_once(rt: HostRuntime) {
-    let found = counted(rt.alloc(), &QUADS);
-    assert!(rt; found == Ok((3, 1)), "packed: {found:?}");
+    let expected = IndexCounts {
+        quads: 3,
+        graphs: 1,
+    };
+    check_counted(&rt, rt.alloc(), "packed", &QUADS, expected);
+    let expected = IndexCounts {
+        quads: 4,
+        graphs: 2,
+    };
     let [a, b, c, d] = QUADS;
-    let large = quad(Some(1 << 40), 0, 1, 2);
-    let found = counted(rt.alloc(), &[a, b, c, d, large]);
-    assert!(rt; found == Ok((4, 2)), "not packed: {found:?}");
+    let quads = [a, b, c, d, quad(Some(1 << 40), 0, 1, 2)];
+    check_counted(&rt, rt.alloc(), "not packed", &quads, expected);
 }
 
-/// Returns whether the packed list gives these quads back.
-fn gives_back(alloc: Global, list: &PackedList, expected: &[NumQuad]) -> bool {
-    match list.quads(alloc) {
-        Ok(quads) => quads.as_slice() == expected,
-        Err(_) => false,
-    }
-}
-
-/// Returns whether the packed list of the quads gives these quads back. None is expected if there is no packed list.
-fn is_packed_as(
+/// Checks that the packed list of the quads gives these quads back, or that there is none if these are none.
+fn check_packed<R: Abort>(
+    rt: &R,
     alloc: Global,
     quads: &[NumQuad],
     order: SortOrder,
-    expected: Option<&[NumQuad]>,
-) -> bool {
-    match PackedList::of(alloc, quads, order) {
-        Ok(Some(list)) => match expected {
-            Some(expected) => gives_back(alloc, &list, expected),
-            None => false,
-        },
-        Ok(None) => expected.is_none(),
-        Err(_) => false,
+    expected: &[NumQuad],
+) {
+    match PackedList::of(alloc, quads, order).expect(rt, "a packed list") {
+        Some(list) => {
+            let found = list.quads(alloc).expect(rt, "quads");
+            assert!(rt; found.as_slice() == expected, "a packed list");
+        }
+        None => assert!(rt; expected.is_empty(), "no packed list"),
     }
 }
 
@@ -123,24 +129,14 @@ fn is_packed_as(
 #[test]
 fn a_packed_list_gives_its_quads_back(rt: HostRuntime) {
     let alloc = rt.alloc();
-    let packed = [
-        quad(None, 0, 1, 2),
-        quad(None, 0, 1, 3),
-        quad(Some(5), 0, 1, 2),
-    ];
-    assert!(rt;
-        is_packed_as(alloc, &QUADS, SortOrder::Gpos, Some(&packed)),
-        "small numbers"
-    );
+    let [_, a, b, c] = QUADS;
+    check_packed(&rt, alloc, &QUADS, SortOrder::Gpos, &[a, b, c]);
     let large = [quad(None, 0, 1, 0xFFFF_FFFF)];
-    assert!(rt;
-        is_packed_as(alloc, &large, SortOrder::Gspo, None),
-        "a large number"
-    );
+    check_packed(&rt, alloc, &large, SortOrder::Gspo, &[]);
 }
 
 /// A name, the given graph, subject, predicate and object, and the number of quads.
-type Scan = (&'static str, [Option<u64>; 4], usize);
+type Scan = (&'static str, [Option<u64>; 4], u64);
 
 /// All eight combinations of given positions, in the default graph, in a named graph and in a graph that no quad
 /// names.
@@ -162,17 +158,13 @@ const SCANS: &[Scan] = &[
     ("s p o of no quad", [Some(5), Some(0), Some(1), Some(3)], 0),
 ];
 
-/// Returns whether each scan has its number of quads. Prints the first that has another one.
-fn are_counted<R: Print>(rt: &R, index: &Index) -> bool {
+/// Checks that each scan has its number of quads.
+fn check_scans<R: Abort>(rt: &R, index: &Index) {
     for (name, given, count) in SCANS {
         let [g, s, p, o] = *given;
         let found = index.scan(g, s, p, o).len();
-        if found != *count {
-            let _ = println!(rt; "{name}: expected {count}, found {found}");
-            return false;
-        }
+        equal(rt, *name, *count, found as u64);
     }
-    true
 }
 
 /// Returns whether each of two scans gives its quad.
@@ -181,25 +173,23 @@ fn are_given(index: &Index) -> bool {
         && index.scan(Some(5), Some(0), None, None) == [quad(Some(5), 0, 1, 2)].as_slice()
 }
 
-/// Returns whether the scans of the four quads give what agrees.
-fn are_scans_right<R: Print>(rt: &R, alloc: Global) -> bool {
-    match built(alloc) {
-        Ok(index) => are_counted(rt, &index) && are_given(&index),
-        Err(_) => false,
-    }
-}
-
 #[test]
 fn scans_give_what_agrees(rt: HostRuntime) {
-    assert!(rt; are_scans_right(&rt, rt.alloc()));
+    let index = built(rt.alloc()).expect(&rt, "an index");
+    check_scans(&rt, &index);
+    assert!(rt; are_given(&index), "the quads of two scans");
 }
 
-/// Returns whether the sorted list of the quads is this one.
-fn is_sorted_as(alloc: Global, quads: &[NumQuad], order: SortOrder, expected: &[NumQuad]) -> bool {
-    match sorted_list(alloc, quads, order) {
-        Ok(list) => list.as_slice() == expected,
-        Err(_) => false,
-    }
+/// Checks that the sorted list of the quads is this one.
+fn check_sorted<R: Abort>(
+    rt: &R,
+    alloc: Global,
+    quads: &[NumQuad],
+    order: SortOrder,
+    expected: &[NumQuad],
+) {
+    let list = sorted_list(alloc, quads, order).expect(rt, "a list");
+    assert!(rt; list.as_slice() == expected, "{order:?}: found {list:?}");
 }
 
 /// Each order alone: no graph comes first, then the positions of the name.
@@ -211,10 +201,7 @@ fn lists_are_in_their_orders(rt: HostRuntime) {
     let b = quad(None, 2, 1, 3);
     let c = quad(None, 3, 2, 1);
     let quads = [named, a, b, c, a];
-    let gspo = [a, b, c, named];
-    assert!(rt; is_sorted_as(alloc, &quads, SortOrder::Gspo, &gspo), "gspo");
-    let gpos = [b, c, a, named];
-    assert!(rt; is_sorted_as(alloc, &quads, SortOrder::Gpos, &gpos), "gpos");
-    let gosp = [c, a, b, named];
-    assert!(rt; is_sorted_as(alloc, &quads, SortOrder::Gosp, &gosp), "gosp");
+    check_sorted(&rt, alloc, &quads, SortOrder::Gspo, &[a, b, c, named]);
+    check_sorted(&rt, alloc, &quads, SortOrder::Gpos, &[b, c, a, named]);
+    check_sorted(&rt, alloc, &quads, SortOrder::Gosp, &[c, a, b, named]);
 }

@@ -2,189 +2,154 @@
 use crate::cases::{Case, Reader, all_hold};
 use rdf_core::Text;
 use rdf_core::lexical::{
-    echar, first_char, has_scheme, is_hex, is_iri_char, is_joining, is_label_char, is_label_start,
-    is_name_char, is_name_start, is_pn_chars_base, is_quoted_char, is_string_char, lower_tag,
-    read_iri_ref, read_quoted, unescape_iri, unescape_string,
+    echar, first_char, is_hex, is_iri_char, is_joining, is_label_char, is_label_start,
+    is_name_char, is_name_start, is_pn_chars_base, is_quoted_char, is_string_char,
 };
-use std::alloc::{AllocError, AllocGlobal, Global};
-
-#[test]
-fn a_text_is_taken_apart_at_its_front(rt: HostRuntime) {
-    assert!(rt; first_char("\u{e9}b") == Some(('\u{e9}', "b")));
-    assert!(rt; first_char("").is_none());
-}
-
-/// Characters, and whether each is in PN_CHARS_BASE, begins a name, is in a name, begins a label
-/// and is in a label ([164] to [167] of SPARQL, [157s] to [160s] of N-Quads). Each class is tested
-/// at the ends of its ranges, and where the two grammars differ.
-const CHARACTERS: &[(char, [bool; 5])] = &[
-    ('a', [true, true, true, true, true]),
-    ('_', [false, true, true, true, true]),
-    (':', [false, false, false, true, true]),
-    ('0', [false, true, true, true, true]),
-    ('-', [false, false, true, false, true]),
-    ('.', [false, false, false, false, false]),
-    ('\u{B7}', [false, false, true, false, true]),
-    ('\u{D7}', [false, false, false, false, false]),
-    ('\u{300}', [false, false, true, false, true]),
-    ('\u{37E}', [false, false, false, false, false]),
-    ('\u{203F}', [false, false, true, false, true]),
-    ('\u{FEFF}', [true, true, true, true, true]),
-    ('\u{FFFE}', [false, false, false, false, false]),
-    ('\u{EFFFF}', [true, true, true, true, true]),
-];
+use std::alloc::{AllocError, AllocGlobal};
 
 /// Returns the classes of a character, in the order of `CHARACTERS`.
-fn classes(c: char) -> [bool; 5] {
+fn classes(c: char) -> [bool; 11] {
     [
         is_pn_chars_base(c),
         is_name_start(c),
         is_name_char(c),
         is_label_start(c),
         is_label_char(c),
+        is_iri_char(c),
+        is_string_char(c),
+        is_quoted_char('"', c),
+        is_quoted_char('\'', c),
+        is_joining(c),
+        is_hex(c),
     ]
 }
 
-/// Returns whether each character is of its classes. Prints the first that is not.
-fn are_of_classes<R: Print>(rt: &R) -> bool {
-    for (c, expected) in CHARACTERS {
-        let found = classes(*c);
-        if found != *expected {
-            let _ = println!(rt; "{c}: expected {expected:?}, found {found:?}");
-            return false;
-        }
+/// Appends the classes of the first character of a text, then the character that it denotes after a backslash or `-`,
+/// and then the rest of the text.
+pub(crate) fn character(out: &mut String, text: &str) -> Result<(), AllocError> {
+    let Some((c, rest)) = first_char(text) else {
+        return out.push_str("none");
+    };
+    for is_in in &classes(c) {
+        out.push(if *is_in { '1' } else { '0' })?;
     }
-    true
+    let denoted = echar(c).unwrap_or('-');
+    write!(out, " {denoted}{rest}")
 }
+
+/// Characters, and whether each
+///
+/// - is in PN_CHARS_BASE, begins a name, is in a name, begins a label and is in a label ([164] to [167] of SPARQL,
+///   [157s] to [160s] of N-Quads);
+/// - may be in an IRI, in a string of N-Quads, and in strings of SPARQL between `"` and between `'`;
+/// - joins, as U+B7 does, and is a hexadecimal digit.
+///
+/// Then follows the character that a letter denotes after a backslash, or `-`, and what follows the character. Each
+/// class is tested at the ends of its ranges, and where the two grammars differ.
+const CHARACTERS: &[Case] = &[
+    ("", "none"),
+    ("\u{e9}b", "11111111100 -b"),
+    ("a", "11111111101 -"),
+    ("_", "01111111100 -"),
+    (":", "00011111100 -"),
+    ("0", "01111111101 -"),
+    ("-", "00101111100 -"),
+    (".", "00000111100 -"),
+    ("\u{B7}", "00101111110 -"),
+    ("\u{D7}", "00000111100 -"),
+    ("\u{300}", "00101111110 -"),
+    ("\u{37E}", "00000111100 -"),
+    ("\u{203F}", "00101111110 -"),
+    ("\u{2040}", "00101111110 -"),
+    ("\u{FEFF}", "11111111100 -"),
+    ("\u{FFFE}", "00000111100 -"),
+    ("\u{EFFFF}", "11111111100 -"),
+    // characters of IRIs and strings
+    ("#", "00000111100 -"),
+    (" ", "00000011100 -"),
+    ("`", "00000011100 -"),
+    ("\u{7F}", "00000111100 -"),
+    ("\t", "00000011100 -"),
+    ("\0", "00000011100 -"),
+    ("\r", "00000000000 -"),
+    ("\"", "00000000100 \""),
+    // escapes
+    ("t", "11111111100 \t"),
+    ("b", "11111111101 \u{8}"),
+    ("'", "00000111000 '"),
+    ("\\", "00000000000 \\"),
+    ("u", "11111111100 -"),
+    ("T", "11111111100 -"),
+    // hexadecimal digits
+    ("9", "01111111101 -"),
+    ("F", "11111111101 -"),
+    ("g", "11111111100 -"),
+    ("@", "00000111100 -"),
+    ("\u{FF11}", "11111111100 -"),
+];
 
 #[test]
 fn characters_are_of_their_classes(rt: HostRuntime) {
-    assert!(rt; are_of_classes(&rt));
-    assert!(rt;
-        is_iri_char('#') && !is_iri_char(' ') && !is_iri_char('`') && is_iri_char('\u{7F}')
-    );
-    assert!(rt; is_string_char('\t') && is_string_char('\0') && !is_string_char('\r'));
-    assert!(rt; is_quoted_char('\'', '"') && !is_quoted_char('\'', '\''));
-    assert!(rt; is_quoted_char('"', '\'') && !is_quoted_char('"', '"'));
-    assert!(rt; is_joining('\u{B7}') && is_joining('\u{2040}') && !is_joining('-'));
+    all_hold(&rt, rt.alloc(), Reader::Character, CHARACTERS);
 }
 
-/// Letters, and the character that each denotes after a backslash.
-const ESCAPES: &[(char, Option<char>)] = &[
-    ('t', Some('\t')),
-    ('b', Some('\u{8}')),
-    ('\'', Some('\'')),
-    ('\\', Some('\\')),
-    ('u', None),
-    ('T', None),
-];
-
-/// Characters, and whether each is a hexadecimal digit.
-const HEX: &[(char, bool)] = &[
-    ('0', true),
-    ('9', true),
-    ('a', true),
-    ('F', true),
-    ('g', false),
-    (':', false),
-    ('@', false),
-    ('\u{FF11}', false),
-];
-
-/// Returns whether each letter denotes its character. Prints the first that does not.
-fn are_escapes<R: Print>(rt: &R) -> bool {
-    for (letter, expected) in ESCAPES {
-        let found = echar(*letter);
-        if found != *expected {
-            let _ = println!(rt; "{letter}: expected {expected:?}, found {found:?}");
-            return false;
-        }
+/// Appends a value, or `none`.
+pub(crate) fn decoded(
+    out: &mut String,
+    value: Result<Option<Text>, AllocError>,
+) -> Result<(), AllocError> {
+    match value {
+        Ok(Some(value)) => out.push_str(value.as_str()),
+        Ok(None) => out.push_str("none"),
+        Err(fault) => Err(fault),
     }
-    true
-}
-
-/// Returns whether each character is a digit as expected. Prints the first that is not.
-fn are_digits<R: Print>(rt: &R) -> bool {
-    for (c, expected) in HEX {
-        if is_hex(*c) != *expected {
-            let _ = println!(rt; "{c}: expected {expected}");
-            return false;
-        }
-    }
-    true
-}
-
-#[test]
-fn escapes_have_their_letters_and_digits(rt: HostRuntime) {
-    assert!(rt; are_escapes(&rt));
-    assert!(rt; are_digits(&rt));
-}
-
-/// Prints the value of the text between the quotes of a string.
-pub(crate) fn string(alloc: Global, text: &str) -> Result<String, AllocError> {
-    let value = unescape_string(alloc, text)?;
-    format!(in alloc; "{value:?}")
-}
-
-/// Prints the value of the text between the angle brackets of an IRI.
-pub(crate) fn iri(alloc: Global, text: &str) -> Result<String, AllocError> {
-    let value = unescape_iri(alloc, text)?;
-    format!(in alloc; "{value:?}")
 }
 
 /// Texts between quotes.
 const STRINGS: &[Case] = &[
-    ("", "Some()"),
-    ("a'b\"c\n", "Some(a'b\"c\n)"),
-    ("\\t\\b\\n\\r\\f\\\"\\'\\\\", "Some(\t\u{8}\n\r\u{c}\"'\\)"),
-    ("\\u00e9\\U0001F600!", "Some(\u{e9}\u{1F600}!)"),
-    ("\\u0022", "Some(\")"),
-    ("\\uD800", "None"),
-    ("\\U00110000", "None"),
-    ("\\u12", "None"),
-    ("\\x", "None"),
-    ("\\", "None"),
+    ("", ""),
+    ("a'b\"c\n", "a'b\"c\n"),
+    ("\\t\\b\\n\\r\\f\\\"\\'\\\\", "\t\u{8}\n\r\u{c}\"'\\"),
+    ("\\u00e9\\U0001F600!", "\u{e9}\u{1F600}!"),
+    ("\\u0022", "\""),
+    ("\\uD800", "none"),
+    ("\\U00110000", "none"),
+    ("\\u12", "none"),
+    ("\\x", "none"),
+    ("\\", "none"),
 ];
 
 #[test]
 fn strings_are_decoded(rt: HostRuntime) {
-    assert!(rt; all_hold(&rt, rt.alloc(), Reader::String, STRINGS));
+    all_hold(&rt, rt.alloc(), Reader::String, STRINGS);
 }
 
 /// Texts between angle brackets.
 const IRIS: &[Case] = &[
-    ("http://e/a", "Some(http://e/a)"),
-    ("http://e/\\u0061\\U000000e9", "Some(http://e/a\u{e9})"),
-    ("http://e/\\u0020", "None"),
-    ("http://e/ ", "None"),
-    ("http://e/\\n", "None"),
-    ("a<b", "None"),
-    ("", "Some()"),
+    ("http://e/a", "http://e/a"),
+    ("http://e/\\u0061\\U000000e9", "http://e/a\u{e9}"),
+    ("http://e/\\u0020", "none"),
+    ("http://e/ ", "none"),
+    ("http://e/\\n", "none"),
+    ("a<b", "none"),
+    ("", ""),
 ];
 
 #[test]
 fn iris_are_decoded(rt: HostRuntime) {
-    assert!(rt; all_hold(&rt, rt.alloc(), Reader::Iri, IRIS));
+    all_hold(&rt, rt.alloc(), Reader::Iri, IRIS);
 }
 
-/// Prints a delimited text and the text after it, or `none`.
-fn delimited(alloc: Global, read: &Option<(Text, &str)>) -> Result<String, AllocError> {
+/// Appends a delimited text and the text after it, or `none`.
+pub(crate) fn delimited(
+    out: &mut String,
+    read: Result<Option<(Text, &str)>, AllocError>,
+) -> Result<(), AllocError> {
     match read {
-        Some((text, rest)) => format!(in alloc; "{text} | {rest}"),
-        None => String::from_str(alloc, "none"),
+        Ok(Some((text, rest))) => write!(out, "{text} | {rest}"),
+        Ok(None) => out.push_str("none"),
+        Err(fault) => Err(fault),
     }
-}
-
-/// Reads an IRI up to `>`.
-pub(crate) fn iri_ref(alloc: Global, text: &str) -> Result<String, AllocError> {
-    let read = read_iri_ref(alloc, text)?;
-    delimited(alloc, &read)
-}
-
-/// Reads a string up to `"`.
-pub(crate) fn quoted(alloc: Global, text: &str) -> Result<String, AllocError> {
-    let read = read_quoted(alloc, text)?;
-    delimited(alloc, &read)
 }
 
 /// Texts after `<`.
@@ -213,43 +178,30 @@ const QUOTED: &[Case] = &[
 
 #[test]
 fn delimited_texts_are_read_up_to_their_end(rt: HostRuntime) {
-    assert!(rt; all_hold(&rt, rt.alloc(), Reader::IriRef, IRI_REFS));
-    assert!(rt; all_hold(&rt, rt.alloc(), Reader::Quoted, QUOTED));
+    all_hold(&rt, rt.alloc(), Reader::IriRef, IRI_REFS);
+    all_hold(&rt, rt.alloc(), Reader::Quoted, QUOTED);
 }
 
 /// Texts, and whether each begins with a scheme.
-const SCHEMES: &[(&str, bool)] = &[
-    ("http://e/", true),
-    ("a:", true),
-    ("a+-.1:b", true),
-    ("", false),
-    (":a", false),
-    ("1a:b", false),
-    ("a", false),
-    ("a/b:c", false),
-    ("\u{e9}:a", false),
+const SCHEMES: &[Case] = &[
+    ("http://e/", "yes"),
+    ("a:", "yes"),
+    ("a+-.1:b", "yes"),
+    ("", "no"),
+    (":a", "no"),
+    ("1a:b", "no"),
+    ("a", "no"),
+    ("a/b:c", "no"),
+    ("\u{e9}:a", "no"),
 ];
 
-fn is_lowered(alloc: Global, tag: &str, expected: &str) -> bool {
-    let Ok(lowered) = lower_tag(alloc, tag) else {
-        return false;
-    };
-    lowered.as_str() == expected
-}
-
-/// Returns whether each text begins with a scheme as expected. Prints the first that does not.
-fn are_schemes<R: Print>(rt: &R) -> bool {
-    for (iri, expected) in SCHEMES {
-        if has_scheme(*iri) != *expected {
-            let _ = println!(rt; "{iri}: expected {expected}");
-            return false;
-        }
-    }
-    true
+/// Appends a language tag.
+pub(crate) fn lowered(out: &mut String, tag: Result<Text, AllocError>) -> Result<(), AllocError> {
+    out.push_str(tag?.as_str())
 }
 
 #[test]
 fn schemes_and_tags(rt: HostRuntime) {
-    assert!(rt; are_schemes(&rt));
-    assert!(rt; is_lowered(rt.alloc(), "en-GB", "en-gb"));
+    all_hold(&rt, rt.alloc(), Reader::Scheme, SCHEMES);
+    all_hold(&rt, rt.alloc(), Reader::Tag, &[("en-GB", "en-gb")]);
 }

@@ -7,12 +7,13 @@
 //! - `documents` and `readers` of dataset_load;
 //! - `refusals`: what is left of each if an allocation fails or a worker thread cannot be started.
 //!
-//! `cases` prints cases that fail. The expected outputs of terms and lines are written from RDF 1.1 N-Quads, section 4, and
+//! `cases` prints cases that are wrong. The expected outputs of terms and lines are written from RDF 1.1 N-Quads, section 4, and
 //! SPARQL 1.1 Query Language, section 19.
 //!
 //! The tests are in a crate of their own, so that a check of the tests proves no library a second time. A table is a
-//! constant, and its test is one call of a loop. A test calls small functions that print what they find: a function with a
-//! long local table, or with many owned values, is slow to prove.
+//! constant, and its test is one call of a loop. A test calls small functions, most of them named `check..`, that end
+//! the test at the first case that is wrong: a function with a long local table, with many owned values or with many
+//! exits is slow to prove. In `refusals` a test ends without an error if the failing allocation is one of its own.
 #![tactic(auto)]
 
 #[cfg(test)]

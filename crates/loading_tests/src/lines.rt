@@ -4,46 +4,38 @@ use nquads_core::{LineFault, PieceFault, count_lines, read_line, read_piece};
 use rdf_core::{Quad, Term, write_term};
 use std::alloc::{AllocError, AllocGlobal, Global};
 
-/// Appends the N-Quads form of a term, and a space.
-fn append_term(out: &mut Vec<u8>, term: &Term) -> Result<(), AllocError> {
-    write_term(term, out)?;
-    out.extend_from_slice(b" ")
+/// Appends the N-Quads form of a term.
+pub(crate) fn append_term(out: &mut String, alloc: Global, term: &Term) -> Result<(), AllocError> {
+    let mut form = Vec::new(alloc);
+    write_term(term, &mut form)?;
+    out.push_str(str::from_utf8(&form).unwrap_or("not UTF-8"))
 }
 
-/// Appends the terms of a quad in order.
-fn append_quad(out: &mut Vec<u8>, quad: &Quad) -> Result<(), AllocError> {
-    append_term(out, &quad.s)?;
-    append_term(out, &quad.p)?;
-    append_term(out, &quad.o)?;
+/// Appends the N-Quads form of a term, and a space.
+fn append_next(out: &mut String, alloc: Global, term: &Term) -> Result<(), AllocError> {
+    append_term(out, alloc, term)?;
+    out.push(' ')
+}
+
+/// Appends the terms of a quad in order, each with a space after it.
+fn append_quad(out: &mut String, alloc: Global, quad: &Quad) -> Result<(), AllocError> {
+    append_next(out, alloc, &quad.s)?;
+    append_next(out, alloc, &quad.p)?;
+    append_next(out, alloc, &quad.o)?;
     match &quad.g {
-        Some(name) => append_term(out, name),
+        Some(name) => append_next(out, alloc, name),
         None => Ok(()),
     }
 }
 
-/// Prints the terms of a quad in order, each with a space after it.
-fn terms_of(alloc: Global, quad: &Quad) -> Result<String, AllocError> {
-    let mut out = Vec::new(alloc);
-    append_quad(&mut out, quad)?;
-    match String::from_utf8(out) {
-        Ok(text) => Ok(text),
-        Err(_) => String::from_str(alloc, "not UTF-8"),
-    }
-}
-
-/// Prints the terms of the statement of a line, nothing if it has none, or `malformed`.
-fn line_of(alloc: Global, line: &[u8]) -> Result<String, AllocError> {
+/// Appends the terms of the statement of a line, nothing if it has none, or `malformed`.
+pub(crate) fn line(out: &mut String, alloc: Global, line: &[u8]) -> Result<(), AllocError> {
     match read_line(alloc, line) {
-        Ok(Some(quad)) => terms_of(alloc, &quad),
-        Ok(None) => Ok(String::new(alloc)),
-        Err(LineFault::Bad) => String::from_str(alloc, "malformed"),
+        Ok(Some(quad)) => append_quad(out, alloc, &quad),
+        Ok(None) => Ok(()),
+        Err(LineFault::Bad) => out.push_str("malformed"),
         Err(LineFault::Memory) => Err(AllocError),
     }
-}
-
-/// Prints the content of the line of a text.
-pub(crate) fn line(alloc: Global, text: &str) -> Result<String, AllocError> {
-    line_of(alloc, text.as_bytes())
 }
 
 /// Lines, and the terms of each.
@@ -106,7 +98,7 @@ const LINES: &[Case] = &[
 
 #[test]
 fn lines_are_read(rt: HostRuntime) {
-    assert!(rt; all_hold(&rt, rt.alloc(), Reader::Line, LINES));
+    all_hold(&rt, rt.alloc(), Reader::Line, LINES);
 }
 
 /// Lines that are malformed.
@@ -135,28 +127,28 @@ const MALFORMED: &[Case] = &[
     ("<a:s> <a:p> \"\\x\" .", "malformed"),
 ];
 
-/// Returns whether a line that is not UTF-8 is malformed.
-fn is_malformed(alloc: Global, line: &[u8]) -> bool {
-    matches!(read_line(alloc, line), Err(LineFault::Bad))
-}
-
 #[test]
 fn malformed_lines_are_rejected(rt: HostRuntime) {
-    assert!(rt; all_hold(&rt, rt.alloc(), Reader::Line, MALFORMED));
-    assert!(rt; is_malformed(rt.alloc(), b"# \xFF"), "not UTF-8");
+    all_hold(&rt, rt.alloc(), Reader::Line, MALFORMED);
+    all_hold(
+        &rt,
+        rt.alloc(),
+        Reader::LineNotUtf8,
+        &[("not UTF-8", "malformed")],
+    );
 }
 
-/// Prints the number of lines, and the numbers of lines and quads of the piece or its first
-/// malformed line.
-pub(crate) fn piece(alloc: Global, text: &str) -> Result<String, AllocError> {
+/// Appends the number of lines, and the numbers of lines and quads of the piece or its first malformed line.
+pub(crate) fn piece(out: &mut String, alloc: Global, text: &str) -> Result<(), AllocError> {
     let lines = count_lines(text.as_bytes());
     match read_piece(alloc, text.as_bytes()) {
-        Ok(piece) => format!(in alloc;
+        Ok(piece) => write!(
+            out,
             "{lines}: {} lines, {} quads",
             piece.lines,
             piece.quads.len()
         ),
-        Err(PieceFault::BadLine(k)) => format!(in alloc; "{lines}: malformed {k}"),
+        Err(PieceFault::BadLine(k)) => write!(out, "{lines}: malformed {k}"),
         Err(PieceFault::Memory) => Err(AllocError),
     }
 }
@@ -183,5 +175,5 @@ const PIECES: &[Case] = &[
 
 #[test]
 fn pieces_are_read(rt: HostRuntime) {
-    assert!(rt; all_hold(&rt, rt.alloc(), Reader::Piece, PIECES));
+    all_hold(&rt, rt.alloc(), Reader::Piece, PIECES);
 }

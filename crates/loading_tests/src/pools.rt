@@ -5,80 +5,52 @@ ghost use Rattle.piece_board.specs.Pass.{unused};
 ghost use Rattle.piece_pool.specs.Worked.{IsWorked};
 
 use crate::boards::{open_two, pair};
+use crate::cases::{equal, equal_by};
 use piece_board::{Board, BoardFault, Pass};
 use piece_pool::{
     Gate, Job, JobFault, OffsetGate, OpenGate, Outcome, PoolFault, Worked, gather, run_all,
     run_pieces, work,
 };
 use std::alloc::{AllocError, Global};
+use std::process::Abort;
 use std::sync::Wait;
 use std::thread;
 use std::thread::Threads;
 use test_fixtures::{Counter, Meeting, Numbers};
 
-/// The result of a run of [`Numbers`].
-#[derive(Clone, Copy, Debug, PartialEq, Eq)]
-enum Ran {
-    /// The number of results, if result `i` is `i`.
-    InPlace(u64),
-    OutOfPlace,
-    Faulty { piece: u64, fault: u64 },
-    Failed,
-}
-
-impl Ran {
-    fn of(outcome: &Outcome<u64, u64>) -> Ran {
-        match outcome {
-            Outcome::All(outs) => {
-                if outs.iter().enumerate().all(|(i, out)| *out == i as u64) {
-                    Ran::InPlace(outs.len() as u64)
-                } else {
-                    Ran::OutOfPlace
-                }
-            }
-            Outcome::First { piece, fault } => Ran::Faulty {
-                piece: *piece,
-                fault: *fault,
-            },
+/// Returns the number of results if result `i` is `i` for each of them, and otherwise the largest number.
+fn in_place(outcome: &Outcome<u64, u64>) -> u64 {
+    let Outcome::All(outs) = outcome else {
+        return u64::MAX;
+    };
+    for (i, out) in outs.iter().enumerate() {
+        if *out != i as u64 {
+            return u64::MAX;
         }
     }
+    outs.len() as u64
 }
 
-/// Runs `n` pieces with `workers` workers.
-fn run<R: Threads + Wait, G: Gate + Sync>(
-    rt: &R,
-    alloc: Global,
-    workers: usize,
-    n: u64,
-    job: &Numbers,
-    gate: &G,
-) -> Ran
-    requires workers { (1 ≤ workers) × (workers ≤ most_workers) }
-    requires pieces { n ≤ most_pieces }
-{
-    match run_pieces(rt, alloc, workers, n, job, gate) {
-        Ok(outcome) => Ran::of(&outcome),
-        Err(_) => Ran::Failed,
+/// Returns the number of the faulty piece if that is its fault too, and otherwise the largest number.
+fn faulty(outcome: &Outcome<u64, u64>) -> u64 {
+    match outcome {
+        Outcome::First { piece, fault } if *piece == *fault => *piece,
+        _ => u64::MAX,
     }
 }
 
-/// Returns whether each output is at its index, and each piece passed the gate once. Prints what was
-/// found if not.
-fn is_in_place<R: Threads + Wait + Print>(rt: &R, alloc: Global, workers: usize, n: u64) -> bool
+/// Runs `n` sound pieces. Checks that each output is at its index, and each piece passed the gate once.
+fn check_in_place<R: Threads + Wait + Abort>(rt: &R, alloc: Global, workers: usize, n: u64)
     requires workers { (1 ≤ workers) × (workers ≤ most_workers) }
     requires pieces { n ≤ most_pieces }
 {
     let gate = Counter::new();
     let job = Numbers::sound_below(100);
-    let ran = run(rt, alloc, workers, n, &job, &gate);
-    let counts = (gate.entered(), gate.left(), job.runs());
-    let is_right = ran == Ran::InPlace(n) && counts == (n, n, n);
-    if !is_right {
-        let _ = println!(rt;
-            "{workers} workers, {n} pieces: got {ran:?}, entered, left and run {counts:?}"
-        );
-    }
-    is_right
+    let outcome = run_pieces(rt, alloc, workers, n, &job, &gate).expect(rt, "a run");
+    equal_by(rt, "in place", workers, n, in_place(&outcome));
+    equal_by(rt, "entered", workers, n, gate.entered());
+    equal_by(rt, "left", workers, n, gate.left());
+    equal_by(rt, "run", workers, n, job.runs());
 }
 
 /// Each output is at its index, and each piece passed the gate once, for every number of workers.
@@ -86,57 +58,50 @@ fn is_in_place<R: Threads + Wait + Print>(rt: &R, alloc: Global, workers: usize,
 #[test]
 fn each_piece_in_its_place(rt: HostRuntime) {
     let alloc = rt.alloc();
-    assert!(rt; is_in_place(&rt, alloc, 1, 1));
-    assert!(rt; is_in_place(&rt, alloc, 1, 9));
-    assert!(rt; is_in_place(&rt, alloc, 2, 9));
-    assert!(rt; is_in_place(&rt, alloc, 8, 9));
-    assert!(rt; is_in_place(&rt, alloc, 8, 3));
-    assert!(rt; is_in_place(&rt, alloc, 64, 100));
-    assert!(rt; is_in_place(&rt, alloc, 4, 0));
+    check_in_place(&rt, alloc, 1, 1);
+    check_in_place(&rt, alloc, 1, 9);
+    check_in_place(&rt, alloc, 2, 9);
+    check_in_place(&rt, alloc, 8, 9);
+    check_in_place(&rt, alloc, 8, 3);
+    check_in_place(&rt, alloc, 64, 100);
+    check_in_place(&rt, alloc, 4, 0);
 }
 
-/// Returns whether the result of 1000 pieces is the first of those from 100 on, which are faulty.
-/// Prints what was found if not.
-fn is_least<R: Threads + Wait + Print>(rt: &R, alloc: Global, workers: usize) -> bool
+/// Runs `n` pieces, of which those from `sound` on are faulty. Checks that the first of these is the result, and that
+/// each piece that entered the gate has left it. Returns how many entered it, and the sum of their numbers.
+fn entered_until<R: Threads + Wait + Abort>(
+    rt: &R,
+    alloc: Global,
+    workers: usize,
+    n: u64,
+    sound: u64,
+) -> (u64, u64)
     requires workers { (1 ≤ workers) × (workers ≤ most_workers) }
+    requires pieces { n ≤ most_pieces }
 {
     let gate = Counter::new();
-    let job = Numbers::sound_below(100);
-    let ran = run(rt, alloc, workers, 1000, &job, &gate);
-    let expected = Ran::Faulty {
-        piece: 100,
-        fault: 100,
-    };
-    let is_right = ran == expected && gate.is_balanced();
-    if !is_right {
-        let counts = (gate.entered(), gate.left());
-        let _ = println!(rt; "{workers} workers: got {ran:?}, entered and left {counts:?}");
-    }
-    is_right
+    let job = Numbers::sound_below(sound);
+    let outcome = run_pieces(rt, alloc, workers, n, &job, &gate).expect(rt, "a run");
+    equal_by(rt, "faulty", workers, sound, faulty(&outcome));
+    equal_by(rt, "left", workers, gate.entered(), gate.left());
+    (gate.entered(), gate.sum())
 }
 
 /// The result is the least faulty piece, whichever fault was found first.
 #[test]
 fn the_least_fault_is_named(rt: HostRuntime) {
     let alloc = rt.alloc();
-    assert!(rt; is_least(&rt, alloc, 1));
-    assert!(rt; is_least(&rt, alloc, 2));
-    assert!(rt; is_least(&rt, alloc, 4));
-    assert!(rt; is_least(&rt, alloc, 8));
+    entered_until(&rt, alloc, 1, 1000, 100);
+    entered_until(&rt, alloc, 2, 1000, 100);
+    entered_until(&rt, alloc, 4, 1000, 100);
+    entered_until(&rt, alloc, 8, 1000, 100);
 }
 
 /// If all pieces are faulty, one worker runs the first piece and skips the others.
 #[test]
 fn pieces_above_a_fault_are_skipped(rt: HostRuntime) {
-    let gate = Counter::new();
-    let job = Numbers::sound_below(0);
-    let ran = run(&rt, rt.alloc(), 1, 16, &job, &gate);
-    let expected = Ran::Faulty { piece: 0, fault: 0 };
-    assert!(rt; ran == expected, "got {ran:?}");
-    assert!(rt;
-        gate.entered() == 1 && gate.sum() == 0,
-        "other pieces were run"
-    );
+    let found = entered_until(&rt, rt.alloc(), 1, 16, 0);
+    assert!(rt; found == (1, 0), "other pieces were run");
 }
 
 /// Two pieces that wait for each other meet, so two threads run them at the same time. With a
@@ -145,14 +110,14 @@ fn pieces_above_a_fault_are_skipped(rt: HostRuntime) {
 fn two_pool_workers_meet(rt: HostRuntime) {
     let gate = Meeting::new();
     let job = Numbers::sound_below(2);
-    let ran = run(&rt, rt.alloc(), 2, 2, &job, &gate);
-    assert!(rt; ran == Ran::InPlace(2), "got {ran:?}");
+    let outcome = run_pieces(&rt, rt.alloc(), 2, 2, &job, &gate).expect(&rt, "a run");
+    equal(&rt, "in place", 2, in_place(&outcome));
     assert!(rt; gate.is_met(), "the workers did not meet");
 }
 
-/// Runs the pieces 10 to 12 of a document as a job of three pieces. Returns the sum of the numbers
-/// that its gate got, if each output is at its index.
-fn sum_of_numbers<R: Threads + Wait>(rt: &R, alloc: Global, workers: usize) -> Option<u64>
+/// Runs the pieces 10 to 12 of a document as a job of three pieces. Checks that each output is at its index, and the
+/// sum of the numbers that the gate got.
+fn check_offset<R: Threads + Wait + Abort>(rt: &R, alloc: Global, workers: usize)
     requires workers { (1 ≤ workers) × (workers ≤ most_workers) }
 {
     let counter = Counter::new();
@@ -160,23 +125,19 @@ fn sum_of_numbers<R: Threads + Wait>(rt: &R, alloc: Global, workers: usize) -> O
         gate: &counter,
         first: 10,
     };
-    let outcome = run_all(rt, alloc, workers, 3, &Numbers::sound_below(3), &gate).ok()?;
-    if Ran::of(&outcome) != Ran::InPlace(3) || counter.left() != 3 {
-        return None;
-    }
-    Some(counter.sum())
+    let job = Numbers::sound_below(3);
+    let outcome = run_all(rt, alloc, workers, 3, &job, &gate).expect(rt, "a run");
+    equal_by(rt, "in place", workers, 3, in_place(&outcome));
+    equal_by(rt, "left", workers, 3, counter.left());
+    equal_by(rt, "sum", workers, 33, counter.sum());
 }
 
 /// With an offset, a gate gets the number of each piece in the document, in parallel and with one
 /// worker.
 #[test]
 fn an_offset_gate_numbers_the_pieces_of_a_document(rt: HostRuntime) {
-    let alone = sum_of_numbers(&rt, rt.alloc(), 1);
-    let shared = sum_of_numbers(&rt, rt.alloc(), 2);
-    assert!(rt;
-        alone == Some(33) && shared == Some(33),
-        "got {alone:?} and {shared:?}"
-    );
+    check_offset(&rt, rt.alloc(), 1);
+    check_offset(&rt, rt.alloc(), 2);
 }
 
 /// Calls `work` on two threads, with one pass each.
@@ -212,33 +173,33 @@ where
     )
 }
 
-/// Returns whether neither of two workers stopped, and the combined result.
+/// Returns the combined result of two workers, or `None` if one of them stopped.
 fn gathered<R: Threads>(
     rt: &R,
     alloc: Global,
     job: &Numbers,
     gate: &Meeting,
-) -> Result<Ran, BoardFault> {
+) -> Result<Option<Outcome<u64, u64>>, BoardFault> {
     let (board, a, b) = open_two(alloc, 2)?;
     let (one, other) = work_twice(rt, alloc, &board, a, b, job, gate);
     if one.stopped || other.stopped {
-        return Ok(Ran::Failed);
+        return Ok(None);
     }
     let works = pair(alloc, one, other)?;
-    Ok(Ran::of(&gather(alloc, board, works, job)?))
+    Ok(Some(gather(alloc, board, works, job)?))
 }
 
 /// The two functions of the pool on threads of the test: the two workers meet, and `gather` runs no
 /// piece again.
 #[test]
-fn two_threads_work_on_one_board(rt: HostRuntime) -> Result<(), BoardFault> {
+fn two_threads_work_on_one_board(rt: HostRuntime) {
     let gate = Meeting::new();
     let job = Numbers::sound_below(2);
-    let ran = gathered(&rt, rt.alloc(), &job, &gate)?;
-    assert!(rt; ran == Ran::InPlace(2), "got {ran:?}");
+    let gathered = gathered(&rt, rt.alloc(), &job, &gate).expect(&rt, "a board");
+    let outcome = gathered.expect(&rt, "no worker stops");
+    equal(&rt, "in place", 2, in_place(&outcome));
     assert!(rt; gate.is_met(), "the workers did not meet");
-    assert!(rt; job.runs() == 2, "a piece was run again");
-    Ok(())
+    equal(&rt, "runs", 2, job.runs());
 }
 
 /// A job that is out of memory for every piece.

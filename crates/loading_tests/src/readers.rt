@@ -1,12 +1,13 @@
 //! Documents that are loaded from a reader, round by round.
 ghost use Rattle.std.specs.Prelude.{◌≤◌};
 
-use crate::cases::holds;
-use crate::documents::{BAD, GRAPHS, REPEATED, TWO_LINES, counts, loaded};
+use crate::cases::{equal, gives, gives_by};
+use crate::documents::{BAD, GRAPHS, REPEATED, TWO_LINES, counts, shown};
 use dataset_load::{LoadNotes, ReaderFault, count_reader, load_reader, load_terms};
 use nquads_core::{Device, Source};
 use piece_pool::{Gate, OpenGate};
 use std::alloc::{AllocError, AllocGlobal, Global};
+use std::process::Abort;
 use std::random::RandomSource;
 use std::sync::Wait;
 use std::thread::Threads;
@@ -58,13 +59,14 @@ pub(crate) fn counts_of<R: Threads + Wait + RandomSource, S: Source, G: Gate + S
 
 /// Reads the document from a reader, and prints what is found: the counts or the fault, whether all lines were read,
 /// and the malformed line.
-fn streamed<R: Threads + Wait + RandomSource>(
+fn streamed<R: Threads + Wait + RandomSource, G: Gate + Sync>(
     rt: &R,
     alloc: Global,
     call: Call,
     doc: &[u8],
     size: usize,
     workers: usize,
+    gate: &G,
 ) -> Result<String, AllocError>
     requires size { 1 ≤ size }
     requires workers { (1 ≤ workers) × (workers ≤ 64) }
@@ -78,7 +80,7 @@ fn streamed<R: Threads + Wait + RandomSource>(
         &mut reader,
         size,
         workers,
-        &OpenGate,
+        gate,
         &mut notes,
     );
     let line = noted(alloc, &notes)?;
@@ -119,14 +121,14 @@ const DOCUMENTS: &[(&str, &[u8], &str, &str)] = &[
     ),
 ];
 
-/// Returns whether each document is read as expected.
-fn are_right<R: Threads + Wait + RandomSource + Print>(
+/// Checks that each document is read as expected.
+fn check_call<R: Threads + Wait + RandomSource + Abort>(
     rt: &R,
     alloc: Global,
     call: Call,
     size: usize,
     workers: usize,
-) -> bool
+)
     requires size { 1 ≤ size }
     requires workers { (1 ≤ workers) × (workers ≤ 64) }
 {
@@ -136,38 +138,31 @@ fn are_right<R: Threads + Wait + RandomSource + Print>(
         } else {
             *all
         };
-        let found = streamed(rt, alloc, call, *doc, size, workers);
-        if !holds(rt, *name, expected, found) {
-            return false;
-        }
+        let found = streamed(rt, alloc, call, *doc, size, workers, &OpenGate);
+        gives_by(rt, *name, [size, workers], expected, found);
     }
-    true
 }
 
-/// Returns whether each document is read as expected by each call. Prints the numbers if not.
-fn are_right_by_each<R: Threads + Wait + RandomSource + Print>(
+/// Checks that each document is read as expected by each call.
+fn check_calls<R: Threads + Wait + RandomSource + Abort>(
     rt: &R,
     alloc: Global,
     size: usize,
     workers: usize,
-) -> bool
+)
     requires size { 1 ≤ size }
     requires workers { (1 ≤ workers) × (workers ≤ 64) }
 {
-    let are_right = are_right(rt, alloc, Call::Load, size, workers)
-        && are_right(rt, alloc, Call::Count, size, workers)
-        && are_right(rt, alloc, Call::Terms, size, workers);
-    if !are_right {
-        let _ = println!(rt; "blocks of {size} bytes, {workers} workers");
-    }
-    are_right
+    check_call(rt, alloc, Call::Load, size, workers);
+    check_call(rt, alloc, Call::Count, size, workers);
+    check_call(rt, alloc, Call::Terms, size, workers);
 }
 
 #[test]
 fn a_reader_loads_as_the_document(rt: HostRuntime) {
-    assert!(rt; are_right_by_each(&rt, rt.alloc(), 1, 1));
-    assert!(rt; are_right_by_each(&rt, rt.alloc(), 1, 2));
-    assert!(rt; are_right_by_each(&rt, rt.alloc(), 65536, 4));
+    check_calls(&rt, rt.alloc(), 1, 1);
+    check_calls(&rt, rt.alloc(), 1, 2);
+    check_calls(&rt, rt.alloc(), 65536, 4);
 }
 
 /// A document that is read in two rounds: 144 comments of 64 KiB, and then a malformed line.
@@ -181,60 +176,24 @@ fn two_rounds(alloc: Global) -> Result<Vec<u8>, AllocError> {
     Ok(doc)
 }
 
-/// Loads the document of two rounds from a reader with one worker, and prints what is found: the fault, the malformed
-/// line, the number of pieces that entered the gate, and the sum of their numbers.
-fn two_rounds_of_a_reader<R: Threads + Wait + RandomSource>(
-    rt: &R,
-    alloc: Global,
-) -> Result<String, AllocError> {
-    let doc = two_rounds(alloc)?;
-    let mut reader = Device {
-        inner: doc.as_slice(),
-    };
-    let gate = Counter::new();
-    let mut notes = LoadNotes::new();
-    let found = counts_of(
-        rt,
-        alloc,
-        Call::Load,
-        &mut reader,
-        65536,
-        1,
-        &gate,
-        &mut notes,
-    );
-    let line = noted(alloc, &notes)?;
-    format!(in alloc; "{found:?}, {line}, {}, {}", gate.entered(), gate.sum())
+/// Checks that 145 pieces entered the gate, whose numbers from 0 to 144 have the sum 10440.
+fn check_gate<R: Abort>(rt: &R, gate: &Counter) {
+    equal(rt, "pieces", 145, gate.entered());
+    equal(rt, "the sum of their numbers", 10440, gate.sum());
 }
 
-/// Loads the document of two rounds in pieces with one worker, and prints the fault, the number of pieces that entered
-/// the gate, and the sum of their numbers.
-fn two_rounds_of_pieces<R: Threads + Wait + RandomSource>(
-    rt: &R,
-    alloc: Global,
-) -> Result<String, AllocError> {
-    let doc = two_rounds(alloc)?;
-    let gate = Counter::new();
-    let found = counts(loaded(rt, alloc, doc.as_slice(), 65536, 1, &gate));
-    format!(in alloc; "{found:?}, {}, {}", gate.entered(), gate.sum())
-}
-
-/// A line is counted over the rounds, and a gate gets the number of a piece in the document: 145 pieces, whose numbers
-/// from 0 to 144 have the sum 10440.
+/// A line is counted over the rounds, and a gate gets the number of a piece in the document.
 #[test]
 fn rounds_count_lines_and_pieces_of_the_document(rt: HostRuntime) {
-    let alloc = rt.alloc();
-    let expected = "Err(BadLine(145)), x, 145, 10440";
-    assert!(rt;
-        holds(
-            &rt,
-            "a reader",
-            expected,
-            two_rounds_of_a_reader(&rt, alloc)
-        )
-    );
-    let expected = "Err(BadLine(145)), 145, 10440";
-    assert!(rt; holds(&rt, "pieces", expected, two_rounds_of_pieces(&rt, alloc)));
+    let doc = two_rounds(rt.alloc()).expect(&rt, "a document");
+    let gate = Counter::new();
+    let found = streamed(&rt, rt.alloc(), Call::Load, doc.as_slice(), 65536, 1, &gate);
+    gives(&rt, "a reader", "Err(BadLine(145)), false, x", found);
+    check_gate(&rt, &gate);
+    let gate = Counter::new();
+    let found = shown(&rt, rt.alloc(), doc.as_slice(), 65536, 1, &gate);
+    gives(&rt, "pieces", "Err(BadLine(145))", found);
+    check_gate(&rt, &gate);
 }
 
 /// The document of two rounds with a malformed first line.
@@ -286,28 +245,23 @@ const LATER_FAILURES: &[(&str, Call, usize)] = &[
     ("after a malformed line", Call::Terms, 9 << 20),
 ];
 
-/// Returns whether a failure of the reader is reported, once, for each of these places.
-fn are_reported<R: Threads + Wait + RandomSource + Print>(
+/// Checks that a failure of the reader is reported, once, for each of these places.
+fn check_failures<R: Threads + Wait + RandomSource + Abort>(
     rt: &R,
     alloc: Global,
     doc: &[u8],
     failures: &[(&str, Call, usize)],
-) -> bool {
+) {
     for (name, call, until) in failures {
         let found = failing(rt, alloc, *call, doc, *until);
-        if !holds(rt, *name, "Err(Read), 1", found) {
-            return false;
-        }
+        gives_by(rt, *name, [*until, 2], "Err(Read), 1", found);
     }
-    true
 }
 
 #[test]
 fn a_failing_reader_is_reported(rt: HostRuntime) {
-    let alloc = rt.alloc();
-    let (Ok(doc), Ok(malformed)) = (two_rounds(alloc), malformed_rounds(alloc)) else {
-        panic!(rt; "out of memory");
-    };
-    assert!(rt; are_reported(&rt, alloc, doc.as_slice(), FAILURES));
-    assert!(rt; are_reported(&rt, alloc, malformed.as_slice(), LATER_FAILURES));
+    let doc = two_rounds(rt.alloc()).expect(&rt, "a document");
+    check_failures(&rt, rt.alloc(), doc.as_slice(), FAILURES);
+    let malformed = malformed_rounds(rt.alloc()).expect(&rt, "a document");
+    check_failures(&rt, rt.alloc(), malformed.as_slice(), LATER_FAILURES);
 }

@@ -1,8 +1,11 @@
 //! A call of each public function, and the N-Quads forms and the order of terms.
+use crate::cases::{gives, same};
+use crate::lines::append_term;
 use rdf_core::vocabulary::{RDF_LANG_STRING, XSD_INTEGER, XSD_STRING};
-use rdf_core::{Quad, Term, Text, is_iri, is_node, write_term};
-use std::alloc::{AllocGlobal, Global};
+use rdf_core::{Quad, Term, Text, is_iri, is_node};
+use std::alloc::{AllocError, AllocGlobal, Global};
 use std::cmp::Ordering;
+use std::process::Abort;
 
 /// The parts of a term.
 #[derive(Clone, Copy)]
@@ -15,15 +18,8 @@ enum Parts {
 
 /// Returns the text of these characters, or the empty one without memory. The tests have enough
 /// memory, and a function that owns a term is slow to prove if it has several exits.
-fn text(alloc: Global, characters: &str) -> Text {
+pub(crate) fn text(alloc: Global, characters: &str) -> Text {
     Text::from_string(String::from_str(alloc, characters).unwrap_or(String::new(alloc)))
-}
-
-fn language(alloc: Global, tag: Option<&str>) -> Option<Text> {
-    match tag {
-        Some(tag) => Some(text(alloc, tag)),
-        None => None,
-    }
 }
 
 fn term(alloc: Global, parts: Parts) -> Term {
@@ -31,20 +27,23 @@ fn term(alloc: Global, parts: Parts) -> Term {
         Parts::Blank(label) => Term::Blank(text(alloc, label)),
         Parts::Iri(iri) => Term::Iri(text(alloc, iri)),
         Parts::Literal(lexical, datatype, tag) => Term::Literal {
+            tag: match tag {
+                Some(tag) => Some(text(alloc, tag)),
+                None => None,
+            },
             lexical: text(alloc, lexical),
             datatype: text(alloc, datatype),
-            tag: language(alloc, tag),
         },
     }
 }
 
-/// Returns whether a copy of a text is equal to it, and is returned unchanged.
-fn is_copied(alloc: Global, characters: &str) -> bool {
+/// Checks that a text is equal to its copy, prints unchanged, and is returned unchanged.
+fn check_text<R: Abort>(rt: &R, alloc: Global, characters: &str) {
     let made = text(alloc, characters);
-    match made.copy(alloc) {
-        Ok(copied) => made == copied && copied.into_string().as_str() == characters,
-        Err(_) => false,
-    }
+    let copied = made.copy(alloc).expect(rt, "a copy");
+    assert!(rt; made == copied, "the copy of {characters}");
+    gives(rt, "printed", characters, format!(in alloc; "{made}"));
+    same(rt, "given back", characters, copied.into_string().as_str());
 }
 
 /// Returns whether the first text is less than the second one.
@@ -54,20 +53,10 @@ fn is_less(alloc: Global, first: &str, second: &str) -> bool {
     first.cmp(&second) == Ordering::Less && first.partial_cmp(&second) == Some(Ordering::Less)
 }
 
-/// Returns whether a text prints unchanged.
-fn is_printed(alloc: Global, characters: &str) -> bool {
-    let made = text(alloc, characters);
-    match format!(in alloc; "{made}") {
-        Ok(printed) => printed.as_str() == characters,
-        Err(_) => false,
-    }
-}
-
 #[test]
 fn texts_are_made_and_given_back(rt: HostRuntime) {
-    assert!(rt; is_copied(rt.alloc(), "b\u{e9}"));
+    check_text(&rt, rt.alloc(), "b\u{e9}");
     assert!(rt; is_less(rt.alloc(), "b\u{e9}", "c"));
-    assert!(rt; is_printed(rt.alloc(), "b\u{e9}"));
 }
 
 /// Terms and their N-Quads forms.
@@ -85,27 +74,23 @@ const FORMS: &[(Parts, &str)] = &[
     ),
 ];
 
-/// Returns whether the term has this N-Quads form.
-fn is_written(alloc: Global, parts: Parts, form: &str) -> bool {
-    let term = term(alloc, parts);
-    let mut out = Vec::new(alloc);
-    write_term(&term, &mut out).is_ok() && out.as_slice() == form.as_bytes()
+/// Prints the N-Quads form of a term.
+fn written(alloc: Global, parts: Parts) -> Result<String, AllocError> {
+    let mut out = String::new(alloc);
+    append_term(&mut out, alloc, &term(alloc, parts))?;
+    Ok(out)
 }
 
-/// Returns whether each term has its form. Prints the first form that a term does not have.
-fn are_written<R: Print>(rt: &R, alloc: Global) -> bool {
+/// Checks that each term has its form.
+fn check_forms<R: Abort>(rt: &R, alloc: Global) {
     for (parts, form) in FORMS {
-        if !is_written(alloc, *parts, *form) {
-            let _ = println!(rt; "not written: {form}");
-            return false;
-        }
+        gives(rt, *form, *form, written(alloc, *parts));
     }
-    true
 }
 
 #[test]
 fn terms_have_their_forms(rt: HostRuntime) {
-    assert!(rt; are_written(&rt, rt.alloc()));
+    check_forms(&rt, rt.alloc());
 }
 
 /// Terms in ascending order: blank nodes, IRIs, literals.
@@ -135,14 +120,12 @@ fn order(alloc: Global, first: Parts, second: Parts) -> Ordering {
     first.cmp(&second)
 }
 
-/// Returns whether each of these terms is less than the next one.
-fn is_ascending(alloc: Global, terms: &[Parts]) -> bool {
+/// Checks that each of these terms is less than the next one.
+fn check_order<R: Abort>(rt: &R, alloc: Global, terms: &[Parts]) {
     for i in 1..terms.len() {
-        if order(alloc, terms[i - 1], terms[i]) != Ordering::Less {
-            return false;
-        }
+        let found = order(alloc, terms[i - 1], terms[i]);
+        assert!(rt; found == Ordering::Less, "terms {i} - 1 and {i}");
     }
-    true
 }
 
 /// Returns whether a copy of the first term is equal to it, and the second one is not.
@@ -155,34 +138,23 @@ fn is_same_only_as_copy(alloc: Global, first: Parts, second: Parts) -> bool {
     }
 }
 
+/// A literal without a language tag.
+const X: Parts = Parts::Literal("x", XSD_STRING, None);
+
+/// An IRI.
+const A: Parts = Parts::Iri("http://e/a");
+
 #[test]
 fn terms_are_ordered(rt: HostRuntime) {
-    assert!(rt; is_ascending(rt.alloc(), TERMS));
-    let plain = Parts::Literal("x", XSD_STRING, None);
+    check_order(&rt, rt.alloc(), TERMS);
+    check_order(&rt, rt.alloc(), LITERALS);
     let tagged = Parts::Literal("x", RDF_LANG_STRING, Some("en"));
-    assert!(rt; is_same_only_as_copy(rt.alloc(), plain, tagged));
+    assert!(rt; is_same_only_as_copy(rt.alloc(), X, tagged));
 }
 
-#[test]
-fn literals_are_ordered(rt: HostRuntime) {
-    assert!(rt; is_ascending(rt.alloc(), LITERALS));
-}
-
-fn graph_name(alloc: Global, parts: Option<Parts>) -> Option<Term> {
-    match parts {
-        Some(parts) => Some(term(alloc, parts)),
-        None => None,
-    }
-}
-
-/// Makes a quad, if the terms may be in these positions.
-fn quad(alloc: Global, [s, p, o]: [Parts; 3], g: Option<Parts>) -> Option<Quad> {
-    Quad::of(
-        term(alloc, s),
-        term(alloc, p),
-        term(alloc, o),
-        graph_name(alloc, g),
-    )
+/// Makes a quad with the predicate `A`, if the terms may be in these positions.
+fn quad(alloc: Global, s: Parts, o: Parts, g: Option<Term>) -> Option<Quad> {
+    Quad::of(term(alloc, s), term(alloc, A), term(alloc, o), g)
 }
 
 /// Returns whether the quad is equal to its copy.
@@ -193,25 +165,22 @@ fn is_its_copy(alloc: Global, quad: &Quad) -> bool {
     }
 }
 
-/// Returns whether the terms make a quad, which is equal to its copy.
-fn is_quad(alloc: Global, parts: [Parts; 3], g: Option<Parts>) -> bool {
-    match quad(alloc, parts, g) {
-        Some(quad) => is_its_copy(alloc, &quad),
-        None => false,
-    }
-}
-
 /// Returns whether a term is a node, and whether it is an IRI.
 fn kinds(alloc: Global, parts: Parts) -> (bool, bool) {
     let term = term(alloc, parts);
     (is_node(&term), is_iri(&term))
 }
 
+/// Checks that a literal may be the object of a quad, and not the subject.
+fn check_quads<R: Abort>(rt: &R, alloc: Global) {
+    assert!(rt; quad(alloc, X, A, None).is_none(), "a literal as subject");
+    let quad = quad(alloc, A, X, Some(term(alloc, A))).expect(rt, "a literal as object");
+    assert!(rt; is_its_copy(alloc, &quad), "a copy of a quad");
+}
+
 #[test]
 fn quads_have_terms_that_may_be_there(rt: HostRuntime) {
-    let a = Parts::Iri("http://e/a");
-    let x = Parts::Literal("x", XSD_STRING, None);
-    assert!(rt; kinds(rt.alloc(), a) == (true, true));
-    assert!(rt; kinds(rt.alloc(), x) == (false, false));
-    assert!(rt; !is_quad(rt.alloc(), [x, a, a], None) && is_quad(rt.alloc(), [a, a, x], Some(a)));
+    assert!(rt; kinds(rt.alloc(), A) == (true, true), "an IRI");
+    assert!(rt; kinds(rt.alloc(), X) == (false, false), "a literal");
+    check_quads(&rt, rt.alloc());
 }

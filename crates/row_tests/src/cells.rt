@@ -1,8 +1,11 @@
 //! Rows of two variables as text, such as `12 3-`: each digit is the number of a cell, and `-` is
-//! an unbound cell.
+//! an unbound cell. Also how a case that is wrong is printed: a check ends its test at the first one. It returns nothing,
+//! so it has one exit, and the prover has less to do than with a function that returns whether all is right.
 
 use row_core::Rows;
 use std::alloc::{AllocError, Global};
+use std::fmt::Debug;
+use std::process::Abort;
 
 /// A row of two cells.
 pub(crate) type Pair = (Option<u64>, Option<u64>);
@@ -53,24 +56,21 @@ pub(crate) fn shown(alloc: Global, rows: &Rows) -> Result<String, AllocError> {
     Ok(text)
 }
 
-/// Returns whether a case has the expected text. Prints the case and both if it does not.
-pub(crate) fn holds<R: Print, E: Drop>(
+/// Checks that the two are equal. Prints the case and both if they are not.
+pub(crate) fn same<R: Abort>(rt: &R, case: &str, expected: &str, found: &str) {
+    assert!(rt;
+        found == expected,
+        "{case}: expected {expected}, found {found}"
+    );
+}
+
+/// Checks that a case gives what is expected. Prints the case and both if it does not.
+pub(crate) fn gives<R: Abort, E: Debug + Drop>(
     rt: &R,
     case: &str,
     expected: &str,
     found: Result<String, E>,
-) -> bool {
-    match found {
-        Ok(found) => is_same(rt, case, expected, found.as_str()),
-        Err(_) => false,
-    }
-}
-
-/// Returns whether the two are equal. Prints the case and both if they are not.
-fn is_same<R: Print>(rt: &R, case: &str, expected: &str, found: &str) -> bool {
-    if found == expected {
-        return true;
-    }
-    let _ = println!(rt; "{case}: expected {expected}, got {found}");
-    false
+) {
+    let found = found.expect(rt, case);
+    same(rt, case, expected, found.as_str());
 }

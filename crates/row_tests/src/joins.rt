@@ -2,13 +2,14 @@
 ghost use Rattle.std.specs.Prelude.{◌≡◌, IfOk};
 ghost use Rattle.row_pieces.specs.How.{IsRunnable};
 
-use crate::cells::{holds, pairs, shown};
+use crate::cells::{gives, pairs, shown};
 use piece_pool::OpenGate;
 use row_core::Rows;
 use row_join::{Keyed, RowTest, join, left_join, minus};
 use row_pieces::{EvalFault, How};
 use std::alloc::{AllocError, AllocGlobal, Global};
 use std::hash::RandomState;
+use std::process::Abort;
 use std::random::RandomSource;
 use std::sync::Wait;
 use std::thread::Threads;
@@ -82,9 +83,10 @@ fn operated<R: Threads + Wait>(
 }
 
 /// Prints the rows of an operator.
-fn shown_operator<R: RandomSource + Threads + Wait>(
+fn shown_operator<R: Threads + Wait>(
     rt: &R,
     alloc: Global,
+    state: RandomState,
     operator: Operator,
     left: &Rows,
     right: &Rows,
@@ -93,19 +95,15 @@ fn shown_operator<R: RandomSource + Threads + Wait>(
     requires same_width { left.now.width ≡ right.now.width }
     requires how { IsRunnable how.now }
 {
-    match RandomState::new(rt) {
-        Ok(state) => {
-            let rows = operated(rt, alloc, state, operator, left, right, how)?;
-            Ok(shown(alloc, &rows)?)
-        }
-        Err(_) => Err(EvalFault::Memory),
-    }
+    let rows = operated(rt, alloc, state, operator, left, right, how)?;
+    Ok(shown(alloc, &rows)?)
 }
 
 /// Prints the rows of an operator.
-fn told<R: RandomSource + Threads + Wait>(
+fn told<R: Threads + Wait>(
     rt: &R,
     alloc: Global,
+    state: RandomState,
     operator: Operator,
     left: &str,
     right: &str,
@@ -115,41 +113,37 @@ fn told<R: RandomSource + Threads + Wait>(
 {
     let left = rows_of(alloc, left)?;
     let right = rows_of(alloc, right)?;
-    shown_operator(rt, alloc, operator, &left, &right, how)
+    shown_operator(rt, alloc, state, operator, &left, &right, how)
 }
 
-/// Returns whether an operator gives these rows. Prints the rows if they differ.
-fn gives<R: RandomSource + Threads + Wait + Print>(
+/// Checks that an operator gives these rows.
+fn check<R: Threads + Wait + Abort>(
     rt: &R,
     alloc: Global,
+    state: RandomState,
     operator: Operator,
     case: &[&str; 4],
     how: &How,
-) -> bool
+)
     requires how { IsRunnable how.now }
 {
     let [name, left, right, expected] = *case;
-    match told(rt, alloc, operator, left, right, how) {
-        Ok(given) => {
-            if given.as_str() != expected {
-                let _ = println!(rt;
-                    "{name}, {how:?}: {left} and {right}: expected {expected}, got {given}"
-                );
-            }
-            given.as_str() == expected
-        }
-        Err(_) => false,
-    }
+    let found = told(rt, alloc, state, operator, left, right, how).expect(rt, name);
+    assert!(rt;
+        found.as_str() == expected,
+        "{name}, {how:?}: {left} and {right}: expected {expected}, found {found}"
+    );
 }
 
-/// Returns whether an operator gives these rows. It runs with one worker in one piece, and with two workers in
+/// Checks that an operator gives its rows in each case. It runs with one worker in one piece, and with two workers in
 /// pieces of one row.
-fn gives_twice<R: RandomSource + Threads + Wait + Print>(
+fn check_all<R: RandomSource + Threads + Wait + Abort>(
     rt: &R,
     alloc: Global,
     operator: Operator,
-    case: &[&str; 4],
-) -> bool {
+    cases: &[[&str; 4]],
+) {
+    let state = RandomState::new(rt).expect(rt, "a hash state");
     let whole = How {
         workers: 1,
         rows: 100,
@@ -158,22 +152,10 @@ fn gives_twice<R: RandomSource + Threads + Wait + Print>(
         workers: 2,
         rows: 1,
     };
-    gives(rt, alloc, operator, case, &whole) && gives(rt, alloc, operator, case, &cut)
-}
-
-/// Returns whether an operator gives its rows in each case.
-fn gives_all<R: RandomSource + Threads + Wait + Print>(
-    rt: &R,
-    alloc: Global,
-    operator: Operator,
-    cases: &[[&str; 4]],
-) -> bool {
     for case in cases {
-        if !gives_twice(rt, alloc, operator, case) {
-            return false;
-        }
+        check(rt, alloc, state, operator, case, &whole);
+        check(rt, alloc, state, operator, case, &cut);
     }
-    true
 }
 
 /// The name of a case, the left rows, the right rows, and the expected rows.
@@ -195,7 +177,7 @@ const JOINS: [[&str; 4]; 3] = [
 
 #[test]
 fn unbound_meets_everything(rt: HostRuntime) {
-    assert!(rt; gives_all(&rt, rt.alloc(), Operator::Join, &JOINS));
+    check_all(&rt, rt.alloc(), Operator::Join, &JOINS);
 }
 
 const CONDITIONS: [[&str; 4]; 1] = [[
@@ -207,7 +189,7 @@ const CONDITIONS: [[&str; 4]; 1] = [[
 
 #[test]
 fn a_condition_that_fails_keeps_the_left_row(rt: HostRuntime) {
-    assert!(rt; gives_all(&rt, rt.alloc(), Operator::LeftJoin, &CONDITIONS));
+    check_all(&rt, rt.alloc(), Operator::LeftJoin, &CONDITIONS);
 }
 
 const DIFFERENCES: [[&str; 4]; 4] = [
@@ -229,7 +211,7 @@ const DIFFERENCES: [[&str; 4]; 4] = [
 
 #[test]
 fn minus_keeps_what_shares_nothing(rt: HostRuntime) {
-    assert!(rt; gives_all(&rt, rt.alloc(), Operator::Minus, &DIFFERENCES));
+    check_all(&rt, rt.alloc(), Operator::Minus, &DIFFERENCES);
 }
 
 /// Appends places, each after a space, and a bar.
@@ -262,32 +244,22 @@ fn shown_places(alloc: Global, keyed: &Keyed) -> Result<String, AllocError> {
 }
 
 /// Prints the places under the keys 0 and 1 of the first variable, and the places without a key.
-fn places_of<R: RandomSource>(rt: &R, alloc: Global, rows: &Rows) -> Result<String, AllocError>
+fn places_of(alloc: Global, state: RandomState, rows: &Rows) -> Result<String, AllocError>
     requires width { rows.now.width ≡ 2 }
 {
-    match RandomState::new(rt) {
-        Ok(state) => {
-            let keyed = Keyed::build(alloc, state, rows, &[0])?;
-            shown_places(alloc, &keyed)
-        }
-        Err(_) => Err(AllocError),
-    }
+    let keyed = Keyed::build(alloc, state, rows, &[0])?;
+    shown_places(alloc, &keyed)
 }
 
 /// Prints the places of the rows of a text.
-fn places<R: RandomSource>(rt: &R, alloc: Global, text: &str) -> Result<String, AllocError> {
+fn places(alloc: Global, state: RandomState, text: &str) -> Result<String, AllocError> {
     let rows = rows_of(alloc, text)?;
-    places_of(rt, alloc, &rows)
+    places_of(alloc, state, &rows)
 }
 
 #[test]
 fn rows_are_under_their_key_or_apart(rt: HostRuntime) {
-    assert!(rt;
-        holds(
-            &rt,
-            "05 -5 0-",
-            " 0 2 | | 1 |",
-            places(&rt, rt.alloc(), "05 -5 0-")
-        )
-    );
+    let state = RandomState::new(&rt).expect(&rt, "a hash state");
+    let found = places(rt.alloc(), state, "05 -5 0-");
+    gives(&rt, "05 -5 0-", " 0 2 | | 1 |", found);
 }

@@ -15,6 +15,7 @@ use row_core::Rows;
 use row_pieces::{EvalFault, How};
 use std::alloc::{AllocError, AllocGlobal, Global};
 use std::hash::RandomState;
+use std::process::Abort;
 use std::random::RandomSource;
 use std::sync::Wait;
 use std::thread::Threads;
@@ -68,17 +69,13 @@ fn term(alloc: Global, sample: Sample) -> Term {
 }
 
 /// Builds the dictionary of the terms.
-fn dict_of<R: RandomSource>(rt: &R, alloc: Global) -> Result<Dict, AllocError> {
-    let Ok(state) = RandomState::new(rt) else {
-        return Err(AllocError);
-    };
-    let mut dict = Dict::new(alloc, state)?;
+fn dict_of<R: RandomSource + Abort>(rt: &R, alloc: Global) -> Dict {
+    let state = RandomState::new(rt).expect(rt, "a hash state");
+    let mut dict = Dict::new(alloc, state).expect(rt, "a dictionary");
     for sample in TERMS {
-        if dict.intern(term(alloc, sample)).is_err() {
-            return Err(AllocError);
-        }
+        dict.intern(term(alloc, sample)).expect(rt, "a number");
     }
-    Ok(dict)
+    dict
 }
 
 /// Returns the cell, or None if no term has its number.
@@ -116,7 +113,7 @@ fn joined(alloc: Global, blocks: &[Vec<u8>]) -> Result<String, AllocError> {
 }
 
 /// The variables and the slice of the rows to print.
-#[derive(Clone, Copy, Debug)]
+#[derive(Clone, Copy)]
 struct Selection {
     listed: &'static [usize],
     rows: &'static str,
@@ -154,86 +151,63 @@ fn document<R: Threads + Wait>(
     Ok(joined(alloc, &blocks)?)
 }
 
-/// Prints the document of a selection over a dictionary.
-fn printed_over<R: Threads + Wait>(
+/// Prints the document of a selection, with `workers` workers and pieces of `rows` rows.
+fn printed<R: Threads + Wait>(
     rt: &R,
     alloc: Global,
     dict: &Dict,
     selection: &Selection,
-    how: &How,
+    workers: usize,
+    rows: usize,
 ) -> Result<String, EvalFault>
-    requires how { IsRunnable how.now }
+    requires how { (1 ≤ workers) × (workers ≤ most_workers) × (1 ≤ rows) }
 {
+    let how = How { workers, rows };
     let cells = pairs(alloc, selection.rows)?;
     let rows = rows_of(alloc, dict, &cells)?;
-    document(rt, alloc, dict, &rows, selection, how)
+    document(rt, alloc, dict, &rows, selection, &how)
 }
 
-/// Prints the document of a selection, with `workers` workers and pieces of `rows` rows.
-fn printed<R: RandomSource + Threads + Wait>(
+/// Checks that a document is this one, with `workers` workers and pieces of `rows` rows. Prints the selection, these
+/// numbers and both documents if it is not.
+fn check<R: Threads + Wait + Abort>(
     rt: &R,
     alloc: Global,
+    dict: &Dict,
     selection: &Selection,
     workers: usize,
     rows: usize,
-) -> Result<String, EvalFault>
+    expected: &str,
+)
     requires how { (1 ≤ workers) × (workers ≤ most_workers) × (1 ≤ rows) }
 {
-    let dict = dict_of(rt, alloc)?;
-    printed_over(rt, alloc, &dict, selection, &How { workers, rows })
-}
-
-/// Returns whether the two documents are the same. Prints the selection, the numbers of workers and of
-/// rows in a piece, and both documents if they are not.
-fn is_same<R: Print>(
-    rt: &R,
-    selection: &Selection,
-    numbers: (usize, usize),
-    expected: &str,
-    given: &str,
-) -> bool {
-    if given == expected {
-        return true;
-    }
-    let _ = println!(rt;
-        "{selection:?}, workers and rows {numbers:?}: expected {expected}got {given}"
+    let found = printed(rt, alloc, dict, selection, workers, rows).expect(rt, "a document");
+    let Selection {
+        listed,
+        rows: cells,
+        offset,
+        limit,
+    } = selection;
+    assert!(rt;
+        found.as_str() == expected,
+        "{listed:?} of {cells} from {offset}, {limit:?}, {workers} workers, {rows} rows: expected {expected}found {found}"
     );
-    false
 }
 
-/// Returns whether a document is this one, with `workers` workers and pieces of `rows` rows.
-fn is_document<R: RandomSource + Threads + Wait + Print>(
+/// Checks that a document has these variables and bindings, with two workers and pieces of one row.
+fn check_bindings<R: Threads + Wait + Abort>(
     rt: &R,
     alloc: Global,
-    selection: &Selection,
-    workers: usize,
-    rows: usize,
-    expected: &str,
-) -> bool
-    requires how { (1 ≤ workers) × (workers ≤ most_workers) × (1 ≤ rows) }
-{
-    match printed(rt, alloc, selection, workers, rows) {
-        Ok(given) => is_same(rt, selection, (workers, rows), expected, given.as_str()),
-        Err(_) => false,
-    }
-}
-
-/// Returns whether a document has these variables and bindings, with two workers and pieces of one row. Prints it if
-/// not.
-fn is_printed<R: RandomSource + Threads + Wait + Print>(
-    rt: &R,
-    alloc: Global,
+    dict: &Dict,
     selection: &Selection,
     variables: &str,
     bindings: &str,
-) -> bool {
+) {
     let expected = format!(in alloc;
         "{{'head':{{'vars':[{variables}]}},'results':{{'bindings':[{bindings}]}}}}\n"
     );
-    match expected {
-        Ok(expected) => is_document(rt, alloc, selection, 2, 1, expected.as_str()),
-        Err(_) => false,
-    }
+    let expected = expected.expect(rt, "the expected document");
+    check(rt, alloc, dict, selection, 2, 1, expected.as_str());
 }
 
 /// Projected variables and rows, with the variables and bindings of their documents.
@@ -266,7 +240,8 @@ const DOCUMENTS: [(&[usize], &str, &str, &str); 4] = [
     (&[], "0-", "", "{}"),
 ];
 
-fn are_printed<R: RandomSource + Threads + Wait + Print>(rt: &R, alloc: Global) -> bool {
+/// Checks that each selection has its document.
+fn check_documents<R: Threads + Wait + Abort>(rt: &R, alloc: Global, dict: &Dict) {
     for (listed, rows, variables, bindings) in &DOCUMENTS {
         let selection = Selection {
             listed: *listed,
@@ -274,16 +249,14 @@ fn are_printed<R: RandomSource + Threads + Wait + Print>(rt: &R, alloc: Global) 
             offset: 0,
             limit: None,
         };
-        if !is_printed(rt, alloc, &selection, *variables, *bindings) {
-            return false;
-        }
+        check_bindings(rt, alloc, dict, &selection, *variables, *bindings);
     }
-    true
 }
 
 #[test]
 fn every_term_and_row_has_its_form_and_place(rt: HostRuntime) {
-    assert!(rt; are_printed(&rt, rt.alloc()));
+    let dict = dict_of(&rt, rt.alloc());
+    check_documents(&rt, rt.alloc(), &dict);
 }
 
 /// An offset, a limit, and the bindings that they keep of three rows: a blank node, an IRI and a
@@ -311,7 +284,8 @@ const SLICES: [(u64, Option<u64>, &str); 8] = [
     (u64::MAX, Some(u64::MAX), ""),
 ];
 
-fn are_cut<R: RandomSource + Threads + Wait + Print>(rt: &R, alloc: Global) -> bool {
+/// Checks that each slice has its bindings.
+fn check_slices<R: Threads + Wait + Abort>(rt: &R, alloc: Global, dict: &Dict) {
     for (offset, limit, bindings) in &SLICES {
         let selection = Selection {
             listed: &[0],
@@ -319,16 +293,14 @@ fn are_cut<R: RandomSource + Threads + Wait + Print>(rt: &R, alloc: Global) -> b
             offset: *offset,
             limit: *limit,
         };
-        if !is_printed(rt, alloc, &selection, "'b'", *bindings) {
-            return false;
-        }
+        check_bindings(rt, alloc, dict, &selection, "'b'", *bindings);
     }
-    true
 }
 
 #[test]
 fn offset_and_limit_cut_the_sorted_rows(rt: HostRuntime) {
-    assert!(rt; are_cut(&rt, rt.alloc()));
+    let dict = dict_of(&rt, rt.alloc());
+    check_slices(&rt, rt.alloc(), &dict);
 }
 
 /// Seventy rows, in which row `i` has the cells `i` modulo 9 and `i` modulo 7.
@@ -343,28 +315,22 @@ const OF_SEVENTY: Selection = Selection {
     limit: Some(65),
 };
 
-/// Returns whether the document has the same bytes with other numbers of workers and pieces of other sizes.
-fn are_same<R: RandomSource + Threads + Wait + Print>(rt: &R, alloc: Global, whole: &str) -> bool {
-    is_document(rt, alloc, &OF_SEVENTY, 1, 1, whole)
-        && is_document(rt, alloc, &OF_SEVENTY, 2, 1, whole)
-        && is_document(rt, alloc, &OF_SEVENTY, 3, 7, whole)
-        && is_document(rt, alloc, &OF_SEVENTY, 4, 64, whole)
-        && is_document(rt, alloc, &OF_SEVENTY, 64, 33, whole)
-        && is_document(rt, alloc, &OF_SEVENTY, 2, 65, whole)
-        && is_document(rt, alloc, &OF_SEVENTY, 5, usize::MAX, whole)
-}
-
-/// Returns whether the document is the same with every number of workers and pieces of every size.
-fn is_whole<R: RandomSource + Threads + Wait + Print>(rt: &R, alloc: Global) -> bool {
-    match printed(rt, alloc, &OF_SEVENTY, 1, 1000) {
-        Ok(whole) => are_same(rt, alloc, whole.as_str()),
-        Err(_) => false,
-    }
+/// Checks that the document has these bytes with other numbers of workers and pieces of other sizes.
+fn check_whole<R: Threads + Wait + Abort>(rt: &R, alloc: Global, dict: &Dict, whole: &str) {
+    check(rt, alloc, dict, &OF_SEVENTY, 1, 1, whole);
+    check(rt, alloc, dict, &OF_SEVENTY, 2, 1, whole);
+    check(rt, alloc, dict, &OF_SEVENTY, 3, 7, whole);
+    check(rt, alloc, dict, &OF_SEVENTY, 4, 64, whole);
+    check(rt, alloc, dict, &OF_SEVENTY, 64, 33, whole);
+    check(rt, alloc, dict, &OF_SEVENTY, 2, 65, whole);
+    check(rt, alloc, dict, &OF_SEVENTY, 5, usize::MAX, whole);
 }
 
 /// Seventy rows, which are more than one group of a piece, have the same bytes with every number of workers and
 /// pieces of every size.
 #[test]
 fn workers_and_pieces_change_no_byte(rt: HostRuntime) {
-    assert!(rt; is_whole(&rt, rt.alloc()));
+    let dict = dict_of(&rt, rt.alloc());
+    let whole = printed(&rt, rt.alloc(), &dict, &OF_SEVENTY, 1, 1000).expect(&rt, "a document");
+    check_whole(&rt, rt.alloc(), &dict, whole.as_str());
 }

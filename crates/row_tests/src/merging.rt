@@ -1,9 +1,10 @@
 //! One call of each public function.
 ghost use Rattle.std.specs.Prelude.{◌≡◌, IfOk, length};
 
-use crate::cells::holds;
+use crate::cells::gives;
 use row_core::{Rows, is_compatible, merge_into, shares};
 use std::alloc::{AllocError, AllocGlobal, Global};
+use std::process::Abort;
 
 fn symbol(cell: Option<u64>) -> char {
     match cell {
@@ -55,24 +56,39 @@ fn empty_rows(alloc: Global) -> Result<Rows, AllocError> {
     Ok(rows)
 }
 
-/// Prints rows that are made.
-fn told_made(alloc: Global, rows: Result<Rows, AllocError>) -> Result<String, AllocError> {
-    match rows {
-        Ok(rows) => told(alloc, &rows),
-        Err(fault) => Err(fault),
-    }
+/// Checks that rows are printed like this.
+fn check<R: Abort>(
+    rt: &R,
+    alloc: Global,
+    case: &str,
+    expected: &str,
+    rows: Result<Rows, AllocError>,
+) {
+    let rows = rows.expect(rt, case);
+    gives(rt, case, expected, told(alloc, &rows));
 }
 
 #[test]
 fn rows_are_as_they_were_pushed(rt: HostRuntime) {
-    let found = told_made(rt.alloc(), appended(rt.alloc()));
-    assert!(rt; holds(&rt, "pushed and appended", "2: 1-=1- -7=-7 34=34", found));
+    let rows = appended(rt.alloc());
+    check(
+        &rt,
+        rt.alloc(),
+        "pushed and appended",
+        "2: 1-=1- -7=-7 34=34",
+        rows,
+    );
 }
 
 #[test]
 fn rows_of_no_width_are_counted(rt: HostRuntime) {
-    let found = told_made(rt.alloc(), empty_rows(rt.alloc()));
-    assert!(rt; holds(&rt, "no width", "0: = =", found));
+    check(
+        &rt,
+        rt.alloc(),
+        "no width",
+        "0: = =",
+        empty_rows(rt.alloc()),
+    );
 }
 
 /// Returns the merge of two rows, in place of a row with other cells.

@@ -3,7 +3,7 @@ ghost use Rattle.std.specs.Prelude.{◌≡◌, ◌+◌, map};
 ghost use Rattle.algebra_model.specs.Solve.{AreBelow};
 ghost use Rattle.row_pattern.specs.Numbered.{pattern_of};
 
-use crate::cells::{holds, shown};
+use crate::cells::{gives, shown};
 use crate::merging::told;
 use dict_core::NumQuad;
 use piece_pool::OpenGate;
@@ -13,6 +13,7 @@ use row_pattern::PatternNumber::{Label, Term, Variable};
 use row_pattern::{NumberedTriple, PatternNumber, pattern, rows_read_as_solutions};
 use row_pieces::{EvalFault, How};
 use std::alloc::{AllocError, Global};
+use std::process::Abort;
 use std::sync::Wait;
 use std::thread::Threads;
 
@@ -87,8 +88,8 @@ fn sorted_rows<R: Threads + Wait>(
     Ok(shown(alloc, &rows)?)
 }
 
-/// Returns whether the rows of a pattern are printed like this. Prints the case and both if they are not.
-fn has_rows<R: Threads + Wait + Print>(
+/// Checks that the rows of a pattern are printed like this.
+fn check<R: Threads + Wait + Abort>(
     rt: &R,
     alloc: Global,
     case: &str,
@@ -97,11 +98,11 @@ fn has_rows<R: Threads + Wait + Print>(
     width: usize,
     triples: &[NumberedTriple],
     expected: &str,
-) -> bool
+)
     requires below { AreBelow width (width + 2) (map pattern_of triples.now) }
 {
     let found = told_rows(rt, alloc, quads, graph, width, triples);
-    holds(rt, case, expected, found)
+    gives(rt, case, expected, found);
 }
 
 const LABELLED: Quads = &[[0, 1, 2, 3], [0, 1, 2, 4], [0, 1, 5, 4]];
@@ -110,17 +111,15 @@ const LABELLED: Quads = &[[0, 1, 2, 3], [0, 1, 2, 4], [0, 1, 5, 4]];
 #[test]
 fn a_label_repeats_a_solution(rt: HostRuntime) {
     let triples = [triple(Variable(0), Term(2), Label(0))];
-    assert!(rt;
-        has_rows(
-            &rt,
-            rt.alloc(),
-            "a label",
-            LABELLED,
-            None,
-            1,
-            &triples,
-            "1: 1=1 1=1"
-        )
+    check(
+        &rt,
+        rt.alloc(),
+        "a label",
+        LABELLED,
+        None,
+        1,
+        &triples,
+        "1: 1=1 1=1",
     );
     rows_read_as_solutions();
 }
@@ -130,29 +129,25 @@ const ONE: Quads = &[[0, 1, 2, 3]];
 /// The empty pattern has the row that binds nothing, also in a graph that nothing names.
 #[test]
 fn the_empty_pattern_has_one_row(rt: HostRuntime) {
-    assert!(rt;
-        has_rows(
-            &rt,
-            rt.alloc(),
-            "the default graph",
-            ONE,
-            None,
-            2,
-            &[],
-            "2: --=--"
-        )
+    check(
+        &rt,
+        rt.alloc(),
+        "the default graph",
+        ONE,
+        None,
+        2,
+        &[],
+        "2: --=--",
     );
-    assert!(rt;
-        has_rows(
-            &rt,
-            rt.alloc(),
-            "an unnamed graph",
-            ONE,
-            Some(9),
-            2,
-            &[],
-            "2: --=--"
-        )
+    check(
+        &rt,
+        rt.alloc(),
+        "an unnamed graph",
+        ONE,
+        Some(9),
+        2,
+        &[],
+        "2: --=--",
     );
 }
 
@@ -162,17 +157,15 @@ const LOOPS: Quads = &[[0, 1, 2, 1], [0, 1, 2, 3], [0, 3, 2, 1]];
 #[test]
 fn a_variable_occurs_twice(rt: HostRuntime) {
     let triples = [triple(Variable(0), Term(2), Variable(0))];
-    assert!(rt;
-        has_rows(
-            &rt,
-            rt.alloc(),
-            "a variable twice",
-            LOOPS,
-            None,
-            1,
-            &triples,
-            "1: 1=1"
-        )
+    check(
+        &rt,
+        rt.alloc(),
+        "a variable twice",
+        LOOPS,
+        None,
+        1,
+        &triples,
+        "1: 1=1",
     );
 }
 
@@ -181,19 +174,17 @@ fn a_variable_occurs_twice(rt: HostRuntime) {
 fn a_number_is_not_there(rt: HostRuntime) {
     let present = triple(Variable(0), Term(2), Variable(1));
     let absent = triple(Variable(0), Term(7), Variable(1));
-    assert!(rt; has_rows(&rt, rt.alloc(), "alone", ONE, None, 2, &[absent], "2:"));
+    check(&rt, rt.alloc(), "alone", ONE, None, 2, &[absent], "2:");
     let both = [present, absent];
-    assert!(rt;
-        has_rows(
-            &rt,
-            rt.alloc(),
-            "next to another",
-            ONE,
-            None,
-            2,
-            &both,
-            "2:"
-        )
+    check(
+        &rt,
+        rt.alloc(),
+        "next to another",
+        ONE,
+        None,
+        2,
+        &both,
+        "2:",
     );
 }
 
@@ -205,30 +196,26 @@ fn two_triples_are_joined(rt: HostRuntime) {
     let first = triple(Variable(0), Term(2), Variable(1));
     let second = triple(Variable(1), Term(5), Variable(2));
     let there = [first, second];
-    assert!(rt;
-        has_rows(
-            &rt,
-            rt.alloc(),
-            "in order",
-            CHAIN,
-            None,
-            3,
-            &there,
-            "3: 136=136"
-        )
+    check(
+        &rt,
+        rt.alloc(),
+        "in order",
+        CHAIN,
+        None,
+        3,
+        &there,
+        "3: 136=136",
     );
     let back = [second, first];
-    assert!(rt;
-        has_rows(
-            &rt,
-            rt.alloc(),
-            "exchanged",
-            CHAIN,
-            None,
-            3,
-            &back,
-            "3: 136=136"
-        )
+    check(
+        &rt,
+        rt.alloc(),
+        "exchanged",
+        CHAIN,
+        None,
+        3,
+        &back,
+        "3: 136=136",
     );
 }
 
@@ -243,7 +230,7 @@ fn triples_apart_are_multiplied(rt: HostRuntime) {
         triple(Variable(1), Term(6), Label(1)),
     ];
     let found = sorted_rows(&rt, rt.alloc(), APART, &triples);
-    assert!(rt; holds(&rt, "two triples apart", "4: 15 18 45 48", found));
+    gives(&rt, "two triples apart", "4: 15 18 45 48", found);
 }
 
 const TWO_GRAPHS: Quads = &[[0, 1, 2, 3], [9, 4, 2, 3]];
@@ -253,40 +240,34 @@ const TWO_GRAPHS: Quads = &[[0, 1, 2, 3], [9, 4, 2, 3]];
 fn the_graph_is_the_given_one(rt: HostRuntime) {
     let triples = [triple(Variable(0), Term(2), Term(3))];
     let alloc = rt.alloc();
-    assert!(rt;
-        has_rows(
-            &rt,
-            alloc,
-            "the default graph",
-            TWO_GRAPHS,
-            None,
-            1,
-            &triples,
-            "1: 1=1"
-        )
+    check(
+        &rt,
+        alloc,
+        "the default graph",
+        TWO_GRAPHS,
+        None,
+        1,
+        &triples,
+        "1: 1=1",
     );
-    assert!(rt;
-        has_rows(
-            &rt,
-            alloc,
-            "graph 9",
-            TWO_GRAPHS,
-            Some(9),
-            1,
-            &triples,
-            "1: 4=4"
-        )
+    check(
+        &rt,
+        alloc,
+        "graph 9",
+        TWO_GRAPHS,
+        Some(9),
+        1,
+        &triples,
+        "1: 4=4",
     );
-    assert!(rt;
-        has_rows(
-            &rt,
-            alloc,
-            "graph 8",
-            TWO_GRAPHS,
-            Some(8),
-            1,
-            &triples,
-            "1:"
-        )
+    check(
+        &rt,
+        alloc,
+        "graph 8",
+        TWO_GRAPHS,
+        Some(8),
+        1,
+        &triples,
+        "1:",
     );
 }

@@ -3,10 +3,11 @@
 ghost use Rattle.std.specs.Prelude.{◌≤◌};
 ghost use Rattle.piece_pool.specs.Limits.{most_pieces, most_workers};
 
-use crate::cells::holds;
+use crate::cells::gives;
 use piece_pool::{Outcome, PoolFault, run_all};
 use row_pieces::{EvalFault, piece_size};
 use std::alloc::{AllocError, Global};
+use std::process::Abort;
 use std::sync::Wait;
 use std::thread::Threads;
 use test_fixtures::{Counter, Numbers};
@@ -19,38 +20,31 @@ const SIZES: [(usize, usize, usize); 4] = [
     (usize::MAX, 1, 4),
 ];
 
-/// Returns whether each piece has its size. Prints the first that has another one.
-fn are_sizes<R: Print>(rt: &R) -> bool {
+/// Checks that each piece has its size.
+fn check_sizes<R: Abort>(rt: &R) {
     for (elements, size, expected) in &SIZES {
-        let given = piece_size(*elements, *size);
-        if given != *expected {
-            let _ = println!(rt; "{elements} by {size}: expected {expected}, got {given}");
-            return false;
-        }
+        let found = piece_size(*elements, *size);
+        assert!(rt;
+            found == *expected,
+            "{elements} by {size}: expected {expected}, found {found}"
+        );
     }
-    true
 }
 
 /// A piece has as many elements as requested, and more only if there would be too many pieces.
 #[test]
 fn a_piece_has_what_was_asked_for(rt: HostRuntime) {
-    assert!(rt; are_sizes(&rt));
+    check_sizes(&rt);
 }
 
 #[test]
 fn a_fault_keeps_its_name(rt: HostRuntime) {
     let worker = EvalFault::from(PoolFault::WorkerRefused);
+    assert!(rt; worker == EvalFault::WorkerRefused, "{worker:?}");
     let pool = EvalFault::from(PoolFault::Memory);
+    assert!(rt; pool == EvalFault::Memory, "{pool:?}");
     let memory = EvalFault::from(AllocError);
-    assert!(rt;
-        (worker, pool, memory)
-            == (
-                EvalFault::WorkerRefused,
-                EvalFault::Memory,
-                EvalFault::Memory
-            ),
-        "{worker:?} {pool:?} {memory:?}"
-    );
+    assert!(rt; memory == EvalFault::Memory, "{memory:?}");
 }
 
 /// Prints the result of `n` pieces; those below `sound` are not faulty. The result is the number of
@@ -100,21 +94,23 @@ const RUNS: [(u64, u64, &str); 5] = [
     (1, 0, "faulty 0 0 entered 1 left 1"),
 ];
 
-/// Returns whether each run has its result.
-fn are_answered<R: Threads + Wait + Print>(rt: &R, alloc: Global, workers: usize) -> bool
+/// Checks that each run has its result.
+fn check_runs<R: Threads + Wait + Abort>(rt: &R, alloc: Global, workers: usize)
     requires workers { (1 ≤ workers) × (workers ≤ most_workers) }
 {
     for (n, sound, expected) in &RUNS {
-        if !holds(
+        let found = told(rt, alloc, workers, *n, *sound);
+        gives(
             rt,
+            if workers == 1 {
+                "1 worker"
+            } else {
+                "2 workers"
+            },
             *expected,
-            *expected,
-            told(rt, alloc, workers, *n, *sound),
-        ) {
-            return false;
-        }
+            found,
+        );
     }
-    true
 }
 
 /// Runs zero pieces, one piece and more pieces, with one worker and with two. The caller runs a
@@ -122,6 +118,6 @@ fn are_answered<R: Threads + Wait + Print>(rt: &R, alloc: Global, workers: usize
 /// left the gate.
 #[test]
 fn each_piece_has_its_output_in_its_place(rt: HostRuntime) {
-    assert!(rt; are_answered(&rt, rt.alloc(), 2), "2 workers");
-    assert!(rt; are_answered(&rt, rt.alloc(), 1), "1 worker");
+    check_runs(&rt, rt.alloc(), 2);
+    check_runs(&rt, rt.alloc(), 1);
 }

@@ -4,58 +4,73 @@
 //! failing, then with the second, and so on, until a run in which none fails. At most one allocation fails in a run,
 //! so a second try must succeed. A test ends early if the failing allocation is one of the test itself.
 
+use crate::cases::equal;
 use crate::dictionary::{
-    A, B, C, FIRST, G, P, Q, SECOND, THIRD, dict_of, first_round, has, iri, looked_up, pieces, quad,
+    A, B, C, FIRST, G, P, Q, SECOND, THIRD, dict_of, first_round, iri, looked_up, pieces,
 };
-use dict_core::{Dict, LocalPiece, NumQuad, SeenPiece, add_piece, merge};
+use crate::index::quad;
+use dict_core::{Dict, NumQuad, add_piece, merge};
 use rdf_core::Term;
 use std::alloc::{AllocError, AllocGlobal, Global};
 use std::hash::RandomState;
+use std::process::Abort;
 
-fn iris(alloc: Global, names: &[&str]) -> Result<Vec<Term>, AllocError> {
-    let mut terms = Vec::new(alloc);
-    for name in names {
-        terms.push(iri(alloc, *name)?)?;
+/// Returns whether a term is this IRI.
+fn is_named(term: &Term, name: &str) -> bool {
+    match term {
+        Term::Iri(text) => text.as_str() == name,
+        _ => false,
     }
-    Ok(terms)
 }
 
-/// Returns the number of a copy of the term, at the second try if the first one fails. Returns `None` if the second
-/// one fails too, or if the first one returns another term or changes the dictionary.
-fn intern_twice(dict: &mut Dict, earlier: &[Term], term: &Term, copy: Term) -> Option<u64> {
-    match dict.intern(copy) {
-        Ok(number) => Some(number),
-        Err(back) => {
-            if back != *term || !has(dict, earlier) {
-                return None;
-            }
-            dict.intern(back).ok()
+/// Returns whether the dictionary has exactly these IRIs, in this order, by each of its look-ups.
+fn has(dict: &Dict, names: &[&str]) -> bool {
+    if dict.len() != names.len() {
+        return false;
+    }
+    for n in 0..names.len() {
+        if n >= dict.len() {
+            return false;
         }
-    }
-}
-
-/// Returns whether each term has its place as its number.
-fn are_interned(alloc: Global, dict: &mut Dict, terms: &[Term]) -> bool {
-    for (n, term) in terms.iter().enumerate() {
-        let Ok(copy) = term.copy(alloc) else {
-            return true;
-        };
-        if intern_twice(dict, &terms[..n.min(terms.len())], term, copy) != Some(n as u64) {
+        let term = dict.term(n as u64);
+        if !is_named(term, names[n]) || dict.number_of(term) != Some(n as u64) {
             return false;
         }
     }
-    has(dict, terms)
+    true
 }
 
-fn is_term_returned(alloc: Global, state: RandomState) -> bool {
-    let names = [A, B, C, G, P, Q, "http://e/r", "http://e/s", "http://e/t"];
-    let Ok(terms) = iris(alloc, &names) else {
-        return true;
-    };
-    let Ok(mut dict) = Dict::new(alloc, state) else {
-        return true;
-    };
-    are_interned(alloc, &mut dict, terms.as_slice())
+/// Adds an IRI, at the second try if the first one fails, and returns its number. Checks that the first one returns the
+/// term and leaves the dictionary unchanged.
+fn intern_twice<R: Abort>(
+    rt: &R,
+    dict: &mut Dict,
+    earlier: &[&str],
+    name: &str,
+    term: Term,
+) -> u64 {
+    match dict.intern(term) {
+        Ok(number) => number,
+        Err(back) => {
+            assert!(rt;
+                is_named(&back, name) && has(dict, earlier),
+                "{name}: an error"
+            );
+            dict.intern(back).expect(rt, "a second try")
+        }
+    }
+}
+
+/// Adds the IRIs, and checks that each has its place as its number.
+fn check_interned<R: Abort>(rt: &R, alloc: Global, dict: &mut Dict, names: &[&str]) {
+    for n in 0..names.len() {
+        let Ok(term) = iri(alloc, names[n]) else {
+            return;
+        };
+        let number = intern_twice(rt, dict, &names[..n], names[n], term);
+        equal(rt, names[n], n as u64, number);
+    }
+    assert!(rt; has(dict, names), "other terms");
 }
 
 /// On error `intern` returns the term, and the dictionary is unchanged.
@@ -64,41 +79,41 @@ fn a_term_that_is_not_added_comes_back(rt: HostRuntime) {
     let Ok(state) = RandomState::new(&rt) else {
         return;
     };
-    assert!(rt; is_term_returned(rt.alloc(), state));
+    let Ok(mut dict) = Dict::new(rt.alloc(), state) else {
+        return;
+    };
+    let names = [A, B, C, G, P, Q, "http://e/r", "http://e/s", "http://e/t"];
+    check_interned(&rt, rt.alloc(), &mut dict, &names);
 }
 
-/// Returns a dictionary, and twice another one that it absorbs.
-fn dicts(alloc: Global, state: RandomState) -> Result<(Dict, Dict, Dict), AllocError> {
-    let dict = dict_of(alloc, state, &[A, B])?;
-    let other = dict_of(alloc, state, &[B, C, G, P, Q])?;
-    let again = dict_of(alloc, state, &[B, C, G, P, Q])?;
-    Ok((dict, other, again))
+/// The IRIs of a dictionary that another one absorbs.
+const OTHER: [&str; 5] = [B, C, G, P, Q];
+
+/// Checks that an error leaves the dictionary unchanged, and absorbs an equal one.
+fn absorb_again<R: Abort>(rt: &R, alloc: Global, state: RandomState, dict: &mut Dict) -> Vec<u64> {
+    assert!(rt; has(dict, &[A, B]), "an error changes the dictionary");
+    let again = dict_of(alloc, state, &OTHER).expect(rt, "a second try");
+    dict.absorb(again).expect(rt, "a second try")
 }
 
-/// Returns the numbers of the other dictionary, at the second try if the first one fails. Returns `None` if the
-/// second one fails too, or if the first one changes the dictionary.
-fn absorb_twice(dict: &mut Dict, before: &[Term], other: Dict, again: Dict) -> Option<Vec<u64>> {
-    if let Ok(numbers) = dict.absorb(other) {
-        return Some(numbers);
-    }
-    if !has(dict, before) {
-        return None;
-    }
-    dict.absorb(again).ok()
-}
-
-fn is_absorbed(alloc: Global, state: RandomState) -> bool {
-    let Ok(terms) = iris(alloc, &[A, B, C, G, P, Q]) else {
-        return true;
+/// Absorbs a dictionary, at the second try an equal one. Checks the numbers and the terms, and that an error leaves the
+/// dictionary unchanged.
+fn check_absorbed<R: Abort>(
+    rt: &R,
+    alloc: Global,
+    state: RandomState,
+    dict: &mut Dict,
+    other: Dict,
+) {
+    let numbers = match dict.absorb(other) {
+        Ok(numbers) => numbers,
+        Err(_) => absorb_again(rt, alloc, state, dict),
     };
-    let Ok((mut dict, other, again)) = dicts(alloc, state) else {
-        return true;
-    };
-    let before = &terms[..terms.len().min(2)];
-    let Some(numbers) = absorb_twice(&mut dict, before, other, again) else {
-        return false;
-    };
-    numbers.as_slice() == [1, 2, 3, 4, 5].as_slice() && has(&dict, terms.as_slice())
+    assert!(rt;
+        numbers.as_slice() == [1, 2, 3, 4, 5].as_slice(),
+        "other numbers"
+    );
+    assert!(rt; has(dict, &[A, B, C, G, P, Q]), "other terms");
 }
 
 /// On error `absorb` leaves the dictionary unchanged, for any new terms of the other one.
@@ -107,37 +122,41 @@ fn a_failed_absorption_changes_nothing(rt: HostRuntime) {
     let Ok(state) = RandomState::new(&rt) else {
         return;
     };
-    assert!(rt; is_absorbed(rt.alloc(), state));
+    let Ok(mut dict) = dict_of(rt.alloc(), state, &[A, B]) else {
+        return;
+    };
+    let Ok(other) = dict_of(rt.alloc(), state, &OTHER) else {
+        return;
+    };
+    check_absorbed(&rt, rt.alloc(), state, &mut dict, other);
 }
 
-/// Merges pieces, at the second try others.
-fn merge_twice(
-    alloc: Global,
-    state: RandomState,
-    first: Vec<LocalPiece>,
-    again: Vec<LocalPiece>,
-) -> Option<(Dict, Vec<NumQuad>)> {
-    match merge(alloc, state, first) {
-        Ok(merged) => Some(merged),
-        Err(_) => merge(alloc, state, again).ok(),
+/// Checks that the quads are these, and that the dictionary has six terms.
+fn check_quads<R: Abort>(rt: &R, dict: &Dict, quads: &[NumQuad], expected: &[NumQuad]) {
+    assert!(rt; quads == expected, "other quads");
+    equal(rt, "terms", 6, dict.len() as u64);
+}
+
+/// Merges the three pieces.
+fn merged(alloc: Global, state: RandomState) -> Result<(Dict, Vec<NumQuad>), AllocError> {
+    match pieces(alloc, state, &[FIRST, SECOND, THIRD]) {
+        Some(pieces) => merge(alloc, state, pieces),
+        None => Err(AllocError),
     }
 }
 
-fn is_merged(alloc: Global, state: RandomState) -> bool {
-    let texts = [FIRST, SECOND, THIRD];
-    let (Some(first), Some(again)) = (pieces(alloc, state, &texts), pieces(alloc, state, &texts))
-    else {
-        return true;
-    };
-    let Some((dict, quads)) = merge_twice(alloc, state, first, again) else {
-        return false;
+/// Merges the pieces, at the second try equal ones, and checks the result.
+fn check_merge<R: Abort>(rt: &R, alloc: Global, state: RandomState) {
+    let (dict, quads) = match merged(alloc, state) {
+        Ok(merged) => merged,
+        Err(_) => merged(alloc, state).expect(rt, "a second try"),
     };
     let expected = [
         quad(None, 0, 1, 2),
         quad(None, 2, 1, 0),
         quad(Some(5), 0, 3, 4),
     ];
-    quads.as_slice() == expected.as_slice() && dict.len() == 6
+    check_quads(rt, &dict, quads.as_slice(), &expected);
 }
 
 /// On error `merge` drops its pieces, and equal pieces merge.
@@ -146,48 +165,44 @@ fn a_failed_merge_drops_its_pieces(rt: HostRuntime) {
     let Ok(state) = RandomState::new(&rt) else {
         return;
     };
-    assert!(rt; is_merged(rt.alloc(), state));
+    check_merge(&rt, rt.alloc(), state);
 }
 
-/// Adds a piece, at the second try an equal one. Returns whether one of them is added, and whether an error leaves
-/// dictionary and quads unchanged.
-fn take_in_twice(
+/// Checks that an error leaves dictionary and quads unchanged, and adds an equal piece.
+fn add_again<R: Abort>(
+    rt: &R,
     alloc: Global,
+    state: RandomState,
     dict: &mut Dict,
     quads: &mut Vec<NumQuad>,
-    before: &[Term],
-    (third, again): (SeenPiece, SeenPiece),
-) -> bool {
-    if add_piece(alloc, dict, quads, third).is_ok() {
-        return true;
-    }
-    has(dict, before)
-        && quads.as_slice() == [quad(None, 0, 1, 2)].as_slice()
-        && add_piece(alloc, dict, quads, again).is_ok()
+) {
+    assert!(rt; has(dict, &[A, P, B]), "an error changes the dictionary");
+    let before = [quad(None, 0, 1, 2)];
+    assert!(rt;
+        quads.as_slice() == before.as_slice(),
+        "an error changes the quads"
+    );
+    let again = looked_up(alloc, state, dict, THIRD).expect(rt, "a second try");
+    add_piece(alloc, dict, quads, again).expect(rt, "a second try");
 }
 
-/// Looks the third piece up twice.
-fn third_twice(alloc: Global, state: RandomState, dict: &Dict) -> Option<(SeenPiece, SeenPiece)> {
-    let third = looked_up(alloc, state, dict, THIRD)?;
-    let again = looked_up(alloc, state, dict, THIRD)?;
-    Some((third, again))
-}
-
-fn is_round_added(alloc: Global, state: RandomState) -> bool {
-    let Ok(before) = iris(alloc, &[A, P, B]) else {
-        return true;
+/// Adds the third piece, at the second try an equal one. Checks the result, and that an error leaves dictionary and
+/// quads unchanged.
+fn check_round<R: Abort>(
+    rt: &R,
+    alloc: Global,
+    state: RandomState,
+    dict: &mut Dict,
+    quads: &mut Vec<NumQuad>,
+) {
+    let Some(third) = looked_up(alloc, state, dict, THIRD) else {
+        return;
     };
-    let Some((mut dict, mut quads)) = first_round(alloc, state) else {
-        return true;
-    };
-    let Some(both) = third_twice(alloc, state, &dict) else {
-        return true;
-    };
-    if !take_in_twice(alloc, &mut dict, &mut quads, before.as_slice(), both) {
-        return false;
+    if add_piece(alloc, dict, quads, third).is_err() {
+        add_again(rt, alloc, state, dict, quads);
     }
     let expected = [quad(None, 0, 1, 2), quad(Some(5), 0, 3, 4)];
-    quads.as_slice() == expected.as_slice() && dict.len() == 6
+    check_quads(rt, dict, quads.as_slice(), &expected);
 }
 
 /// `look_up` only borrows the dictionary. On error `add_piece` leaves dictionary and quads unchanged.
@@ -196,5 +211,8 @@ fn a_failed_round_changes_nothing(rt: HostRuntime) {
     let Ok(state) = RandomState::new(&rt) else {
         return;
     };
-    assert!(rt; is_round_added(rt.alloc(), state));
+    let Some((mut dict, mut quads)) = first_round(rt.alloc(), state) else {
+        return;
+    };
+    check_round(&rt, rt.alloc(), state, &mut dict, &mut quads);
 }

@@ -13,6 +13,7 @@ use crate::readers::{Call, counts_of};
 use dataset_load::{LoadFault, LoadNotes, ReaderFault};
 use nquads_core::Device;
 use std::alloc::Global;
+use std::process::Abort;
 use std::random::RandomSource;
 use std::sync::Wait;
 use std::thread::Threads;
@@ -115,57 +116,48 @@ const MANNERS: &[(Manner, usize)] = &[
     (Manner::Reader(Call::Count), 2),
 ];
 
-/// Returns whether the document has these counts in every manner.
-fn always_comes_to<R: Threads + Wait + RandomSource + Print>(
+/// Checks that the document has these counts in every manner.
+fn check<R: Threads + Wait + RandomSource + Print + Abort>(
     rt: &R,
     alloc: Global,
     doc: &[u8],
     expected: Counts,
-) -> bool {
+) {
     for (manner, workers) in MANNERS {
-        if !comes_to(rt, alloc, *manner, doc, *workers, expected) {
-            return false;
-        }
+        let is_right = comes_to(rt, alloc, *manner, doc, *workers, expected);
+        assert!(rt; is_right, "{workers} workers: expected {expected:?}");
     }
-    true
 }
 
 /// A valid document is never rejected, and its counts are always the same.
 #[test]
 fn a_good_document_is_loaded_or_memory_runs_out(rt: HostRuntime) {
-    let alloc = rt.alloc();
-    assert!(rt;
-        always_comes_to(&rt, alloc, REPEATED, Ok((2, 4, 0))),
-        "a repeated statement"
-    );
-    assert!(rt;
-        always_comes_to(&rt, alloc, GRAPHS, Ok((3, 7, 2))),
-        "two graphs"
-    );
+    check(&rt, rt.alloc(), REPEATED, Ok((2, 4, 0)));
+    check(&rt, rt.alloc(), GRAPHS, Ok((3, 7, 2)));
 }
 
 #[test]
 fn escapes_are_loaded_or_memory_runs_out(rt: HostRuntime) {
-    assert!(rt; always_comes_to(&rt, rt.alloc(), TWO_LINES, Ok((2, 5, 0))));
+    check(&rt, rt.alloc(), TWO_LINES, Ok((2, 5, 0)));
 }
 
 #[test]
 fn typed_literals_are_loaded_or_memory_runs_out(rt: HostRuntime) {
-    assert!(rt; always_comes_to(&rt, rt.alloc(), TYPED, Ok((6, 9, 0))));
+    check(&rt, rt.alloc(), TYPED, Ok((6, 9, 0)));
 }
 
 #[test]
 fn plain_literals_are_loaded_or_memory_runs_out(rt: HostRuntime) {
-    assert!(rt; always_comes_to(&rt, rt.alloc(), NUMBERED, Ok((5, 9, 0))));
+    check(&rt, rt.alloc(), NUMBERED, Ok((5, 9, 0)));
 }
 
 #[test]
 fn a_tag_is_loaded_or_memory_runs_out(rt: HostRuntime) {
-    assert!(rt; always_comes_to(&rt, rt.alloc(), TAGGED, Ok((1, 3, 0))));
+    check(&rt, rt.alloc(), TAGGED, Ok((1, 3, 0)));
 }
 
 /// A document with a malformed line is never accepted, and the first malformed line is always the same.
 #[test]
 fn a_bad_document_is_rejected_or_memory_runs_out(rt: HostRuntime) {
-    assert!(rt; always_comes_to(&rt, rt.alloc(), BAD, Err(LoadFault::BadLine(3))));
+    check(&rt, rt.alloc(), BAD, Err(LoadFault::BadLine(3)));
 }

@@ -4,10 +4,10 @@
 //! failing, then with the second, and so on, until a run in which none fails. At most one allocation fails in a run,
 //! so a second try must succeed.
 
-use crate::index::{QUADS, quad, side_by_side};
-use dict_core::NumQuad;
+use crate::index::{QUADS, built, quad, side_by_side};
 use quad_index::{Index, SortOrder, sorted_list};
-use std::alloc::Global;
+use std::alloc::{AllocError, AllocGlobal, Global};
+use std::process::Abort;
 
 /// Returns whether the index is that of the four quads.
 fn is_right(index: &Index) -> bool {
@@ -18,59 +18,42 @@ fn is_right(index: &Index) -> bool {
         && index.scan(Some(5), Some(0), None, None) == [quad(Some(5), 0, 1, 2)].as_slice()
 }
 
-fn copied(alloc: Global) -> Option<Vec<NumQuad>> {
-    Vec::from_slice(alloc, &QUADS).ok()
-}
-
-/// Builds an index, at the second try from another equal list.
-fn build_twice(alloc: Global, quads: Vec<NumQuad>, again: Vec<NumQuad>) -> Option<Index> {
-    match Index::build(alloc, quads) {
-        Ok(index) => Some(index),
-        Err(_) => Index::build(alloc, again).ok(),
+/// Returns the index of the four quads, built at once or from sorted lists.
+fn index_of(alloc: Global, is_built: bool) -> Result<Index, AllocError> {
+    if is_built {
+        built(alloc)
+    } else {
+        side_by_side(alloc, &QUADS)
     }
 }
 
-fn is_built(alloc: Global) -> bool {
-    let (Some(quads), Some(again)) = (copied(alloc), copied(alloc)) else {
-        return true;
+/// Makes an index, again if the first try fails, and checks it.
+fn check_index<R: Abort>(rt: &R, alloc: Global, is_built: bool) {
+    let index = match index_of(alloc, is_built) {
+        Ok(index) => index,
+        Err(_) => index_of(alloc, is_built).expect(rt, "a second try"),
     };
-    match build_twice(alloc, quads, again) {
-        Some(index) => is_right(&index),
-        None => false,
-    }
+    assert!(rt; is_right(&index));
 }
 
 /// On error `Index::build` drops its list, and an equal list is built.
 #[test]
 fn a_failed_build_drops_its_list(rt: HostRuntime) {
-    assert!(rt; is_built(rt.alloc()));
+    check_index(&rt, rt.alloc(), true);
 }
 
-fn is_sorted(alloc: Global) -> bool {
-    let index = match side_by_side(alloc, &QUADS) {
-        Ok(index) => Some(index),
-        Err(_) => side_by_side(alloc, &QUADS).ok(),
-    };
-    match index {
-        Some(index) => is_right(&index),
-        None => false,
-    }
-}
-
-fn is_listed(alloc: Global) -> bool {
+/// Sorts a list, again if the first try fails, and checks its length.
+fn check_listed<R: Abort>(rt: &R, alloc: Global) {
     let list = match sorted_list(alloc, &QUADS, SortOrder::Gpos) {
-        Ok(list) => Some(list),
-        Err(_) => sorted_list(alloc, &QUADS, SortOrder::Gpos).ok(),
+        Ok(list) => list,
+        Err(_) => sorted_list(alloc, &QUADS, SortOrder::Gpos).expect(rt, "a second try"),
     };
-    match list {
-        Some(list) => list.len() == 3,
-        None => false,
-    }
+    assert!(rt; list.len() == 3);
 }
 
 /// On error `sorted_list` leaves the quads that it borrows, and `of_lists` drops its lists.
 #[test]
 fn a_list_is_sorted_again_after_a_failure(rt: HostRuntime) {
-    assert!(rt; is_sorted(rt.alloc()));
-    assert!(rt; is_listed(rt.alloc()));
+    check_index(&rt, rt.alloc(), false);
+    check_listed(&rt, rt.alloc());
 }

@@ -10,6 +10,7 @@ ghost use Rattle.piece_pool.specs.Limits.{most_workers};
 
 use piece_pool::{Outcome, PoolFault, run_pieces};
 use std::alloc::Global;
+use std::process::Abort;
 use std::sync::Wait;
 use std::thread::Threads;
 use test_fixtures::{Counter, Numbers};
@@ -69,19 +70,20 @@ fn are_outputs(outcome: &Option<Outcome<u64, u64>>) -> bool {
     }
 }
 
-/// Returns whether all nine pieces have their outputs.
-fn is_result<R: Threads + Wait + Print>(rt: &R, alloc: Global, workers: usize) -> bool
+/// Checks that all nine pieces have their outputs.
+fn check_outputs<R: Threads + Wait + Print + Abort>(rt: &R, alloc: Global, workers: usize)
     requires workers { (1 ≤ workers) × (workers ≤ most_workers) }
 {
-    are_outputs(&outcome_of(rt, alloc, workers, 100))
+    let is_right = are_outputs(&outcome_of(rt, alloc, workers, 100));
+    assert!(rt; is_right, "{workers} workers");
 }
 
 /// Each started worker has been joined, and an error is not replaced by outputs.
 #[test]
 fn a_failed_run_joins_its_workers(rt: HostRuntime) {
-    assert!(rt; is_result(&rt, rt.alloc(), 1), "1 worker");
-    assert!(rt; is_result(&rt, rt.alloc(), 2), "2 workers");
-    assert!(rt; is_result(&rt, rt.alloc(), 4), "4 workers");
+    check_outputs(&rt, rt.alloc(), 1);
+    check_outputs(&rt, rt.alloc(), 2);
+    check_outputs(&rt, rt.alloc(), 4);
 }
 
 /// Returns whether the faulty piece is the one with number 4.
@@ -89,17 +91,18 @@ fn is_fourth(outcome: &Option<Outcome<u64, u64>>) -> bool {
     matches!(outcome, Some(Outcome::First { piece: 4, fault: 4 }))
 }
 
-/// Returns whether the least of the faulty pieces is named.
-fn is_named<R: Threads + Wait + Print>(rt: &R, alloc: Global, workers: usize) -> bool
+/// Checks that the least of the faulty pieces is named.
+fn check_named<R: Threads + Wait + Print + Abort>(rt: &R, alloc: Global, workers: usize)
     requires workers { (1 ≤ workers) × (workers ≤ most_workers) }
 {
-    is_fourth(&outcome_of(rt, alloc, workers, 4))
+    let is_right = is_fourth(&outcome_of(rt, alloc, workers, 4));
+    assert!(rt; is_right, "{workers} workers");
 }
 
 /// No other piece is returned in place of the least faulty one.
 #[test]
 fn a_failed_run_names_no_other_fault(rt: HostRuntime) {
-    assert!(rt; is_named(&rt, rt.alloc(), 1), "1 worker");
-    assert!(rt; is_named(&rt, rt.alloc(), 2), "2 workers");
-    assert!(rt; is_named(&rt, rt.alloc(), 4), "4 workers");
+    check_named(&rt, rt.alloc(), 1);
+    check_named(&rt, rt.alloc(), 2);
+    check_named(&rt, rt.alloc(), 4);
 }
