@@ -1,8 +1,11 @@
 //! Tables of cases. A case is a block of lines, and an empty line separates two cases. The first
 //! line is the input, and the others are the expected message.
 use crate::texts::decoded_text;
-use crate::{commands, lines, queries};
+use crate::{commands, lines, messages, queries};
 use std::alloc::{AllocError, Global};
+use std::random::RandomSource;
+use std::sync::Wait;
+use std::thread::Threads;
 
 /// The kind of the input.
 #[derive(Clone, Copy)]
@@ -14,16 +17,25 @@ pub(crate) enum Reader {
     Query,
     /// The arguments of a command line. The message must have each of the expected lines.
     Command,
+    /// Arguments and a document: what a run writes to standard error.
+    Run,
 }
 
 /// The kind of the inputs, and the cases.
 pub(crate) type Table = (Reader, &'static str);
 
-fn printed(alloc: Global, reader: Reader, case: &str) -> Result<String, AllocError> {
+/// Returns the message about the input of a case.
+fn printed<R: Threads + Wait + RandomSource + Sync>(
+    rt: &R,
+    alloc: Global,
+    reader: Reader,
+    case: &str,
+) -> Result<String, AllocError> {
     match reader {
         Reader::Line { number, is_cut } => lines::message(alloc, case, number, is_cut),
         Reader::Query => queries::message(alloc, case),
         Reader::Command => commands::message_of(alloc, case),
+        Reader::Run => messages::message_of(rt, alloc, case),
     }
 }
 
@@ -37,73 +49,68 @@ fn has_lines(text: &str, lines: &str) -> bool {
     true
 }
 
-/// Returns whether the message is the expected one, which has no line end after its last line.
-fn is_right(reader: Reader, message: &str, expected: &str) -> bool {
-    match reader {
-        Reader::Line { .. } | Reader::Query => message.strip_suffix("\n") == Some(expected),
-        Reader::Command => has_lines(message, expected),
+/// Returns whether a message is the expected one, which has no line end after its last line. Prints the
+/// case and both if it is not.
+fn is_right<R: Print>(
+    rt: &R,
+    alloc: Global,
+    reader: Reader,
+    case: &str,
+    message: &str,
+    expected: &str,
+) -> bool {
+    let Ok(expected) = decoded_text(alloc, expected) else {
+        return false;
+    };
+    let is_right = match reader {
+        Reader::Command => has_lines(message, expected.as_str()),
+        _ => message.strip_suffix("\n") == Some(expected.as_str()),
+    };
+    if !is_right {
+        let _ = println!(rt; "{case}\nexpected\n{expected}\ngot\n{message}");
     }
+    is_right
 }
 
-/// Appends the case and its message if the message is not the expected one.
-fn check(
+/// Returns whether the message about a case is the expected one.
+fn holds<R: Threads + Wait + RandomSource + Sync + Print>(
+    rt: &R,
     alloc: Global,
     reader: Reader,
     case: &str,
     expected: &str,
-    report: &mut String,
-) -> Result<(), AllocError> {
-    let message = printed(alloc, reader, case)?;
-    let expected = decoded_text(alloc, expected)?;
-    if is_right(reader, message.as_str(), expected.as_str()) {
-        return Ok(());
-    }
-    write!(report, "{case}\nexpected\n{expected}\ngot\n{message}\n")
-}
-
-/// Checks a block of a table.
-fn check_block(
-    alloc: Global,
-    reader: Reader,
-    block: &str,
-    report: &mut String,
-) -> Result<(), AllocError> {
-    match block.trim_matches('\n').split_once("\n") {
-        Some((case, expected)) => check(alloc, reader, case, expected, report),
-        None => write!(report, "{block}\nis no case\n"),
+) -> bool {
+    match printed(rt, alloc, reader, case) {
+        Ok(message) => is_right(rt, alloc, reader, case, message.as_str(), expected),
+        Err(_) => false,
     }
 }
 
-/// Checks each block of a table.
-fn check_table(
+/// Returns whether each block of a table is right. Prints those that are not.
+fn is_table_right<R: Threads + Wait + RandomSource + Sync + Print>(
+    rt: &R,
     alloc: Global,
     reader: Reader,
     table: &str,
-    report: &mut String,
-) -> Result<(), AllocError> {
+) -> bool {
+    let mut are_right = true;
     for block in table.split("\n\n") {
-        check_block(alloc, reader, block, report)?;
+        let block = block.trim_matches('\n');
+        let (case, expected) = block.split_once("\n").unwrap_or((block, "a message"));
+        are_right &= holds(rt, alloc, reader, case, expected);
     }
-    Ok(())
-}
-
-/// Returns the cases of the tables that are wrong, each with its expected and its actual message.
-/// The text is empty if all are right.
-fn report(alloc: Global, tables: &[Table]) -> Result<String, AllocError> {
-    let mut report = String::new(alloc);
-    for table in tables {
-        check_table(alloc, table.0, table.1, &mut report)?;
-    }
-    Ok(report)
+    are_right
 }
 
 /// Returns whether each case of the tables is right. Prints those that are not.
-pub(crate) fn are_right<R: Print>(rt: &R, alloc: Global, tables: &[Table]) -> bool {
-    match report(alloc, tables) {
-        Ok(report) => {
-            let _ = print!(rt; "{report}");
-            report.is_empty()
-        }
-        Err(_) => false,
+pub(crate) fn are_right<R: Threads + Wait + RandomSource + Sync + Print>(
+    rt: &R,
+    alloc: Global,
+    tables: &[Table],
+) -> bool {
+    let mut are_right = true;
+    for (reader, table) in tables {
+        are_right &= is_table_right(rt, alloc, *reader, *table);
     }
+    are_right
 }

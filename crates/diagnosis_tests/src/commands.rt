@@ -4,10 +4,14 @@ use crate::cases::{Reader, Table, are_right};
 use command_help::message;
 use std::alloc::{AllocError, AllocGlobal, Global};
 
-/// Returns the arguments in a line, which are separated by spaces.
-fn words_of(alloc: Global, line: &str) -> Result<Vec<String>, AllocError> {
+/// Returns the arguments in a line, with a separator between them.
+pub(crate) fn words_of(
+    alloc: Global,
+    line: &str,
+    separator: char,
+) -> Result<Vec<String>, AllocError> {
     let mut words = Vec::new(alloc);
-    for word in line.split_whitespace() {
+    for word in line.split(separator) {
         words.push(String::from_str(alloc, word)?)?;
     }
     Ok(words)
@@ -15,7 +19,7 @@ fn words_of(alloc: Global, line: &str) -> Result<Vec<String>, AllocError> {
 
 /// Prints the message about the arguments in a line, or `no message`.
 pub(crate) fn message_of(alloc: Global, case: &str) -> Result<String, AllocError> {
-    let words = words_of(alloc, case)?;
+    let words = words_of(alloc, case, ' ')?;
     match message(alloc, &words)? {
         Some(message) => Ok(message),
         None => String::from_str(alloc, "no message"),

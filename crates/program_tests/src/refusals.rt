@@ -19,68 +19,38 @@ use std::sync::Wait;
 use std::thread::Threads;
 use test_fixtures::Counter;
 
-/// Returns whether the fault is memory or a worker. Prints it for the script.
-fn lacks_resources<R: Print>(rt: &R, fault: Fault) -> bool {
+/// Prints for the script that memory or a worker was missing, and returns None. Returns false for other
+/// faults than the expected one.
+fn refused<R: Print>(rt: &R, fault: Fault, wanted: Result<&[u8], Fault>) -> Option<bool> {
     let what = match fault {
         Fault::Memory => "memory",
         Fault::WorkerRefused => "a worker",
-        _ => return false,
+        _ => return Some(wanted == Err(fault)),
     };
     let _ = println!(rt; "{what} was refused");
-    true
+    None
 }
 
-/// Evaluates a query again after a fault, if memory or a worker was missing. Returns None if a piece
-/// that entered the gate has not left it.
-fn answered_again<R: Threads + Wait + RandomSource + Print>(
+/// Evaluates a query. Returns whether it has this result, or None if memory or a worker was missing.
+fn attempt<R: Threads + Wait + RandomSource + Print>(
     rt: &R,
     alloc: Global,
     doc: &[u8],
     query: &str,
     workers: usize,
     gate: &Counter,
-    fault: Fault,
-) -> Option<Result<Vec<u8>, Fault>>
-    requires workers { (1 ≤ workers) × (workers ≤ 64) }
-{
-    if !lacks_resources(rt, fault) {
-        return Some(Err(fault));
-    }
-    if !gate.is_balanced() {
-        return None;
-    }
-    Some(by_lines(rt, alloc, doc, query, workers, 1, gate))
-}
-
-/// Evaluates a query. If memory or a worker is missing, it is evaluated again. Returns None if a
-/// piece that entered the gate has not left it.
-fn answered<R: Threads + Wait + RandomSource + Print>(
-    rt: &R,
-    alloc: Global,
-    doc: &[u8],
-    query: &str,
-    workers: usize,
-    gate: &Counter,
-) -> Option<Result<Vec<u8>, Fault>>
+    wanted: Result<&[u8], Fault>,
+) -> Option<bool>
     requires workers { (1 ≤ workers) × (workers ≤ 64) }
 {
     match by_lines(rt, alloc, doc, query, workers, 1, gate) {
-        Ok(bytes) => Some(Ok(bytes)),
-        Err(fault) => answered_again(rt, alloc, doc, query, workers, gate, fault),
-    }
-}
-
-/// Returns whether a result is the expected one.
-fn is_expected(given: &Option<Result<Vec<u8>, Fault>>, wanted: Result<&[u8], Fault>) -> bool {
-    match (given, wanted) {
-        (Some(Ok(bytes)), Ok(wanted)) => bytes.as_slice() == wanted,
-        (Some(Err(fault)), Err(wanted)) => *fault == wanted,
-        _ => false,
+        Ok(bytes) => Some(wanted == Ok(bytes.as_slice())),
+        Err(fault) => refused(rt, fault, wanted),
     }
 }
 
 /// Returns whether a query has this result, at the first or the second attempt, and each piece that
-/// entered the gate has left it.
+/// entered the gate in an attempt has left it.
 fn comes_to<R: Threads + Wait + RandomSource + Print>(
     rt: &R,
     alloc: Global,
@@ -92,8 +62,11 @@ fn comes_to<R: Threads + Wait + RandomSource + Print>(
     requires workers { (1 ≤ workers) × (workers ≤ 64) }
 {
     let gate = Counter::new();
-    let given = answered(rt, alloc, doc, query, workers, &gate);
-    is_expected(&given, wanted) && gate.is_balanced()
+    let mut is_right = attempt(rt, alloc, doc, query, workers, &gate, wanted);
+    if is_right.is_none() && gate.is_balanced() {
+        is_right = attempt(rt, alloc, doc, query, workers, &gate, wanted);
+    }
+    is_right == Some(true) && gate.is_balanced()
 }
 
 /// Returns whether a query has this result with one worker and with two.

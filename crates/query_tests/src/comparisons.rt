@@ -1,5 +1,5 @@
 //! Comparisons and effective boolean values of terms.
-use crate::tables::{Reader, are_all_right};
+use crate::cases::{Reader, are_all_lines_right};
 use crate::terms::read;
 use rdf_core::Term;
 use sparql_algebra::{Comparison, compare, truth};
@@ -15,6 +15,7 @@ const SIGNS: [(&str, Comparison); 6] = [
     (" >= ", Comparison::GreaterOrEqual),
 ];
 
+/// Returns the text of a boolean or an error.
 fn word_of(value: Option<bool>) -> &'static str {
     match value {
         Some(true) => "true",
@@ -206,7 +207,7 @@ const TRUTHS: &str = r#"
 _:a                   => error
 "#;
 
-const TABLES: [(Reader, &str); 5] = [
+const TABLES: &[(Reader, &str)] = &[
     (Reader::Comparison, NUMBERS),
     (Reader::Comparison, FORMS),
     (Reader::Comparison, OTHERS),
@@ -216,5 +217,5 @@ const TABLES: [(Reader, &str); 5] = [
 
 #[test]
 fn terms_are_compared_and_have_truth_values(rt: HostRuntime) {
-    assert!(rt; are_all_right(&rt, rt.alloc(), &TABLES));
+    assert!(rt; are_all_lines_right(&rt, rt.alloc(), TABLES));
 }

@@ -1,62 +1,34 @@
 //! Texts and their expressions and terms, by example.
-use crate::cases::{Case, Reader, all_hold};
-use crate::declarations::declare;
+use crate::cases::{Case, Reader, are_all_right};
+use crate::declarations::declarations;
 use rdf_core::{Term, write_term};
-use sparql_expression::{ParseFault, read_disjunction, read_term};
-use sparql_grammar::Declarations;
-use sparql_lexer::{Token, characters_of, scan_text};
+use sparql_expression::{read_disjunction, read_term};
+use sparql_lexer::Token;
 use std::alloc::{AllocError, AllocGlobal, Global};
 
-/// Declares `e:` twice.
-fn declarations(alloc: Global) -> Result<Declarations, AllocError> {
-    let mut names = Declarations::new(alloc);
-    declare(alloc, &mut names, "e", "http://early/")?;
-    declare(alloc, &mut names, "e", "http://late/")?;
-    Ok(names)
-}
-
 /// Prints the expression at the start of the tokens, and the number of tokens after it.
-fn tree(alloc: Global, tokens: &[Token<'_>]) -> Result<String, AllocError> {
+pub(crate) fn expression(alloc: Global, tokens: &[Token<'_>]) -> Result<String, AllocError> {
     let names = declarations(alloc)?;
     match read_disjunction(alloc, &names, tokens) {
         Ok((found, rest)) => format!(in alloc; "{found:?} {}", rest.len()),
-        Err(ParseFault::Syntax) => String::from_str(alloc, "syntax"),
-        Err(ParseFault::Memory) => Err(AllocError),
+        Err(fault) => format!(in alloc; "{fault:?}"),
     }
-}
-
-/// Prints the expression at the start of the text, and the number of tokens after it.
-pub(crate) fn expression(alloc: Global, text: &str) -> Result<String, AllocError> {
-    let characters = characters_of(alloc, text)?;
-    let scan = scan_text(alloc, &characters)?;
-    tree(alloc, &scan.tokens)
 }
 
 /// Returns the N-Quads form of a term.
-fn serialized(alloc: Global, term: &Term) -> Result<String, AllocError> {
+pub(crate) fn serialized(alloc: Global, term: &Term) -> Result<String, AllocError> {
     let mut bytes = Vec::new(alloc);
     write_term(term, &mut bytes)?;
-    match String::from_utf8(bytes) {
-        Ok(text) => Ok(text),
-        Err(_) => String::from_str(alloc, "not UTF-8"),
-    }
+    String::from_utf8_lossy(alloc, &bytes)
 }
 
 /// Prints the N-Quads form of the term at the start of the tokens.
-fn front_term(alloc: Global, tokens: &[Token<'_>]) -> Result<String, AllocError> {
+pub(crate) fn term(alloc: Global, tokens: &[Token<'_>]) -> Result<String, AllocError> {
     let names = declarations(alloc)?;
     match read_term(alloc, &names, tokens) {
         Ok((found, _)) => serialized(alloc, &found),
-        Err(ParseFault::Syntax) => String::from_str(alloc, "syntax"),
-        Err(ParseFault::Memory) => Err(AllocError),
+        Err(fault) => format!(in alloc; "{fault:?}"),
     }
-}
-
-/// Prints the N-Quads form of the term at the start of the text.
-pub(crate) fn term(alloc: Global, text: &str) -> Result<String, AllocError> {
-    let characters = characters_of(alloc, text)?;
-    let scan = scan_text(alloc, &characters)?;
-    front_term(alloc, &scan.tokens)
 }
 
 /// `||` and `&&` are left-associative, and `&&` binds tighter.
@@ -74,13 +46,13 @@ const JOINS: &[Case] = &[
         "(?a || ?b) && ?c",
         "And(Or(Variable(a), Variable(b)), Variable(c)) 0",
     ),
-    ("?a ||", "syntax"),
-    ("", "syntax"),
+    ("?a ||", "Syntax"),
+    ("", "Syntax"),
 ];
 
 #[test]
 fn joins_from_the_left(rt: HostRuntime) {
-    assert!(rt; all_hold(&rt, rt.alloc(), Reader::Expression, JOINS));
+    assert!(rt; are_all_right(&rt, rt.alloc(), &[(Reader::Expression, JOINS)]));
 }
 
 /// Comparisons do not chain, `!` applies to the primary expression after it, and NOT IN negates IN.
@@ -91,40 +63,30 @@ const COMPARISONS: &[Case] = &[
         "!?a = ?b",
         "Compare(Equal, Not(Variable(a)), Variable(b)) 0",
     ),
-    ("! !?a", "syntax"),
+    ("! !?a", "Syntax"),
     ("?a IN ()", "In(Variable(a), []) 0"),
     (
         "?a IN (?b, ?c || ?d)",
         "In(Variable(a), [Variable(b), Or(Variable(c), Variable(d))]) 0",
     ),
     ("?a NOT IN (?b)", "Not(In(Variable(a), [Variable(b)])) 0"),
-    ("?a NOT (?b)", "syntax"),
-    ("?a IN (?b,)", "syntax"),
+    ("?a NOT (?b)", "Syntax"),
+    ("?a IN (?b,)", "Syntax"),
 ];
-
-#[test]
-fn compares(rt: HostRuntime) {
-    assert!(rt; all_hold(&rt, rt.alloc(), Reader::Expression, COMPARISONS));
-}
 
 /// Each call has its number of arguments, and BOUND has a variable.
 const CALLS: &[Case] = &[
     ("str(?a)", "Call(Str, Variable(a)) 0"),
     ("isIRI(?a)", "Call(IsIri, Variable(a)) 0"),
     ("BOUND(?a)", "Bound(a) 0"),
-    ("BOUND(?a || ?b)", "syntax"),
+    ("BOUND(?a || ?b)", "Syntax"),
     (
         "sameTerm(?a, !?b)",
         "SameTerm(Variable(a), Not(Variable(b))) 0",
     ),
-    ("sameTerm(?a)", "syntax"),
-    ("str ?a", "syntax"),
+    ("sameTerm(?a)", "Syntax"),
+    ("str ?a", "Syntax"),
 ];
-
-#[test]
-fn calls(rt: HostRuntime) {
-    assert!(rt; all_hold(&rt, rt.alloc(), Reader::Expression, CALLS));
-}
 
 /// The last declaration of a prefix counts. A name without a declaration is unchanged.
 const EXPANSIONS: &[Case] = &[
@@ -133,13 +95,8 @@ const EXPANSIONS: &[Case] = &[
     ("e:", "<http://late/>"),
     ("e:a\\.b%41", "<http://late/a.b%41>"),
     ("f:a", "<f:a>"),
-    ("<a\\u0020b>", "syntax"),
+    ("<a\\u0020b>", "Syntax"),
 ];
-
-#[test]
-fn expands_names(rt: HostRuntime) {
-    assert!(rt; all_hold(&rt, rt.alloc(), Reader::Term, EXPANSIONS));
-}
 
 /// Literals have their datatypes, and language tags are in lower case.
 const LITERALS: &[Case] = &[
@@ -148,7 +105,7 @@ const LITERALS: &[Case] = &[
     ("'a'@EN-gb", "\"a\"@en-gb"),
     ("'a'^^e:t", "\"a\"^^<http://late/t>"),
     ("'a'^^<t>", "\"a\"^^<t>"),
-    ("'a'^^'b'", "syntax"),
+    ("'a'^^'b'", "Syntax"),
     ("'a' 'b'", "\"a\""),
     (
         "-1.0",
@@ -159,10 +116,17 @@ const LITERALS: &[Case] = &[
         "TRUE",
         "\"true\"^^<http://www.w3.org/2001/XMLSchema#boolean>",
     ),
-    ("?a", "syntax"),
+    ("?a", "Syntax"),
+];
+
+const TABLES: &[(Reader, &[Case])] = &[
+    (Reader::Expression, COMPARISONS),
+    (Reader::Expression, CALLS),
+    (Reader::Term, EXPANSIONS),
+    (Reader::Term, LITERALS),
 ];
 
 #[test]
-fn reads_literals(rt: HostRuntime) {
-    assert!(rt; all_hold(&rt, rt.alloc(), Reader::Term, LITERALS));
+fn expressions_and_terms_are_read(rt: HostRuntime) {
+    assert!(rt; are_all_right(&rt, rt.alloc(), TABLES));
 }

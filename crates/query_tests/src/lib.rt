@@ -15,9 +15,8 @@
 //! - `plans`: sparql_algebra
 //! - `operators` and `solutions`: plain_eval
 //!
-//! `cases` runs the tables of the first, and `tables` those of the second. `terms` reads and prints
-//! terms. The expected outputs are written from SPARQL 1.1 Query Language, sections 4, 5, 10 and 17
-//! to 19.
+//! `cases` runs the tables of all of them, and `terms` reads terms. The expected outputs are written
+//! from SPARQL 1.1 Query Language, sections 4, 5, 10 and 17 to 19.
 //!
 //! The tests are in a crate of their own, so that a check of the tests does not prove a library
 //! again. A table is a constant, and its test is one call of a loop, because a function that owns
@@ -40,8 +39,6 @@ mod plans;
 mod productions;
 #[cfg(test)]
 mod solutions;
-#[cfg(test)]
-mod tables;
 #[cfg(test)]
 mod terminals;
 #[cfg(test)]

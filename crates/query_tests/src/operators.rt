@@ -1,7 +1,7 @@
 //! One call of each operator of plain_eval. A given solution of two variables is a word of two
 //! characters: a letter is the blank node with that label, and `.` is an unbound variable.
+use crate::cases::{Reader, are_all_lines_right};
 use crate::solutions::listed;
-use crate::tables::{Reader, are_right};
 use plain_eval::condition::{Condition, Value};
 use plain_eval::operators::{distinct, extend, filter, join, left_join, minus, project, union};
 use plain_eval::solution::Solution;
@@ -37,22 +37,21 @@ impl Value for NoValue {
     }
 }
 
-/// Returns the cell of a character.
-fn cell(alloc: Global, letter: char) -> Result<Option<Term>, AllocError> {
-    if letter == '.' {
-        return Ok(None);
+/// Returns the cell of a character: a blank node, whose label is empty without memory.
+fn cell(alloc: Global, letter: &str) -> Option<Term> {
+    if letter == "." {
+        return None;
     }
-    let mut label = String::new(alloc);
-    label.push(letter)?;
-    Ok(Some(Term::Blank(Text::from_string(label))))
+    let label = String::from_str(alloc, letter).unwrap_or(String::new(alloc));
+    Some(Term::Blank(Text::from_string(label)))
 }
 
 /// Returns the solution of a word.
 fn solution(alloc: Global, word: &str) -> Result<Solution, AllocError> {
+    let (first, second) = word.split_at_checked(1).unwrap_or((word, "."));
     let mut terms = Vec::new(alloc);
-    for letter in word.chars() {
-        terms.push(cell(alloc, letter)?)?;
-    }
+    terms.push(cell(alloc, first))?;
+    terms.push(cell(alloc, second))?;
     Ok(Solution::of(terms))
 }
 
@@ -85,6 +84,7 @@ fn made(
     }
 }
 
+/// Prints the solutions of an operator on two lists of solutions.
 fn shown_operator(
     alloc: Global,
     operator: &str,
@@ -95,7 +95,7 @@ fn shown_operator(
     listed(alloc, &made)
 }
 
-/// Prints the solutions of an operator.
+/// Prints the solutions of the operator of a case: `join: ab a. and ad`.
 pub(crate) fn operated(alloc: Global, case: &str) -> Result<String, AllocError> {
     let (operator, texts) = case.split_once(": ").unwrap_or(("", case));
     let (left, right) = texts.split_once(" and ").unwrap_or((texts, ""));
@@ -107,17 +107,17 @@ pub(crate) fn operated(alloc: Global, case: &str) -> Result<String, AllocError> 
 /// The condition of the left join and of the filter is that the second variable is bound. The value
 /// of the extension of the second variable is an error. The projection keeps the first variable.
 const OPERATORS: &str = "
-join: ab a. c. and ab ad      => 3: _:a _:b; _:a _:b; _:a _:d
-left join: ab a. c. and ab ad => 4: _:a _:b; _:a _:b; _:a _:d; _:c -
-minus: ab a. c. and ab ad     => 1: _:c -
-filter: ab a. ab              => 2: _:a _:b; _:a _:b
-distinct: ab a. ab            => 2: _:a _:b; _:a -
-extend: ab a.                 => 2: _:a _:b; _:a -
-union: ab c. and ab c.        => 4: _:a _:b; _:c -; _:a _:b; _:c -
-project: ab c.                => 2: _:a -; _:c -
+join: ab a. c. and ab ad      => 3: _:a _:b; _:a _:b; _:a _:d;
+left join: ab a. c. and ab ad => 4: _:a _:b; _:a _:b; _:a _:d; _:c -;
+minus: ab a. c. and ab ad     => 1: _:c -;
+filter: ab a. ab              => 2: _:a _:b; _:a _:b;
+distinct: ab a. ab            => 2: _:a _:b; _:a -;
+extend: ab a.                 => 2: _:a _:b; _:a -;
+union: ab c. and ab c.        => 4: _:a _:b; _:c -; _:a _:b; _:c -;
+project: ab c.                => 2: _:a -; _:c -;
 ";
 
 #[test]
 fn operators_make_solutions(rt: HostRuntime) {
-    assert!(rt; are_right(&rt, rt.alloc(), Reader::Operator, OPERATORS));
+    assert!(rt; are_all_lines_right(&rt, rt.alloc(), &[(Reader::Operator, OPERATORS)]));
 }

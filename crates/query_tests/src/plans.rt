@@ -1,36 +1,20 @@
 //! Queries and their plans (SPARQL 1.1 Query Language, section 18.2).
-use crate::solutions::{solved, tabulated};
-use crate::tables::{Reader, are_right};
-use crate::values::{Asked, Row, answer};
+use crate::cases::{Reader, are_all_lines_right};
+use crate::solutions::{bound_again, solved, tabulated};
+use crate::values::answer;
 use sparql_algebra::{Plan, translate};
 use sparql_read::read_query;
 use sparql_tree::Query;
 use std::alloc::{AllocError, AllocGlobal, Global};
 
-/// What is printed for a query.
-#[derive(Clone, Copy)]
-pub(crate) enum Task<'a> {
-    /// Its plan.
-    Show,
-    /// The value of its filter over a row, or whether the filter keeps the row.
-    Answer(&'a Row, Asked),
-    /// Its solutions over a document.
-    Solve(&'a str),
-    /// The solutions of its table.
-    Tabulate,
-}
-
-/// Prints the names of the variables, the numbers of the projected ones, and the tree.
-fn shown(alloc: Global, plan: &Plan) -> Result<String, AllocError> {
-    format!(in alloc; "{:?}, {:?}: {:?}", plan.names, plan.projected(), plan.tree)
-}
-
-fn done(alloc: Global, plan: &Plan, task: Task<'_>) -> Result<String, AllocError> {
-    match task {
-        Task::Show => shown(alloc, plan),
-        Task::Answer(row, what) => answer(alloc, plan, row, what),
-        Task::Solve(document) => solved(alloc, document, plan),
-        Task::Tabulate => tabulated(alloc, plan),
+/// Prints a plan (the names of its variables, the numbers of the projected ones, and the tree), or
+/// what the reader evaluates. `given` is the name of a document, or a term.
+fn shown(alloc: Global, reader: Reader, plan: &Plan, given: &str) -> Result<String, AllocError> {
+    match reader {
+        Reader::Value | Reader::Filter => answer(alloc, reader, plan, given),
+        Reader::Solutions => solved(alloc, given, plan),
+        Reader::Table => tabulated(alloc, plan),
+        _ => format!(in alloc; "{:?}, {:?}: {:?}", plan.names, plan.projected(), plan.tree),
     }
 }
 
@@ -40,15 +24,29 @@ pub(crate) fn plan_of(alloc: Global, query: &Query) -> Result<Box<Plan>, AllocEr
     Ok(Box::new(alloc, translate(alloc, query)?)?)
 }
 
-fn done_for(alloc: Global, query: &Query, task: Task<'_>) -> Result<String, AllocError> {
+/// Translates a query, and prints what the reader makes of its plan.
+fn translated(
+    alloc: Global,
+    reader: Reader,
+    query: &Query,
+    given: &str,
+) -> Result<String, AllocError> {
     let plan = plan_of(alloc, query)?;
-    done(alloc, &plan, task)
+    shown(alloc, reader, &plan, given)
 }
 
-/// Reads a query and does a task with its plan.
-pub(crate) fn planned(alloc: Global, text: &str, task: Task<'_>) -> Result<String, AllocError> {
+/// Reads a query, and prints what the reader makes of its plan.
+pub(crate) fn planned(
+    alloc: Global,
+    reader: Reader,
+    text: &str,
+    given: &str,
+) -> Result<String, AllocError> {
     match read_query(alloc, text) {
-        Ok(query) => done_for(alloc, &query, task),
+        Ok(query) => match reader {
+            Reader::BoundAgain => bound_again(alloc, &query),
+            _ => translated(alloc, reader, &query, given),
+        },
         Err(fault) => format!(in alloc; "{fault:?}"),
     }
 }
@@ -108,5 +106,5 @@ const PLANS: &str = "\
 
 #[test]
 fn queries_have_their_plans(rt: HostRuntime) {
-    assert!(rt; are_right(&rt, rt.alloc(), Reader::Plan, PLANS));
+    assert!(rt; are_all_lines_right(&rt, rt.alloc(), &[(Reader::Plan, PLANS)]));
 }

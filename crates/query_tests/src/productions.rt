@@ -1,34 +1,32 @@
 //! Texts and their queries, by example.
-use crate::cases::{Case, Reader, all_hold, holds, numbered};
-use sparql_expression::ParseFault;
+use crate::cases::{Case, Reader, are_all_right};
 use sparql_grammar::Declarations;
-use sparql_lexer::{characters_of, scan_text};
+use sparql_lexer::Token;
 use sparql_parse::{Select, parse};
+use sparql_read::{breaks_bind_scope, reuses_blank};
 use std::alloc::{AllocError, AllocGlobal, Global};
 
-/// Parses the text, without the declarations of its prologue.
-pub(crate) fn parsed(alloc: Global, text: &str) -> Result<Select, ParseFault> {
-    let characters = characters_of(alloc, text)?;
-    let scan = scan_text(alloc, &characters)?;
-    let names = Declarations::new(alloc);
-    parse(alloc, &names, &scan.tokens)
-}
-
-/// Prints the query of the text, or `Syntax`.
-pub(crate) fn select(alloc: Global, text: &str) -> Result<String, AllocError> {
-    match parsed(alloc, text) {
-        Ok(query) => format!(in alloc; "{query:?}"),
-        Err(ParseFault::Syntax) => String::from_str(alloc, "Syntax"),
-        Err(ParseFault::Memory) => Err(AllocError),
+/// Prints a query, or the rules of scope that it breaks.
+fn shown(alloc: Global, reader: Reader, query: &Select) -> Result<String, AllocError> {
+    if let Reader::Scope = reader {
+        let bind = breaks_bind_scope(alloc, &query.group)?;
+        let blank = reuses_blank(alloc, &query.group)?;
+        return format!(in alloc; "bind {bind}, blank {blank}");
     }
+    format!(in alloc; "{query:?}")
 }
 
-/// Prints whether the text is read as a query.
-pub(crate) fn is_read(alloc: Global, text: &str) -> Result<String, AllocError> {
-    match parsed(alloc, text) {
-        Ok(_query) => String::from_str(alloc, "read"),
-        Err(ParseFault::Syntax) => String::from_str(alloc, "Syntax"),
-        Err(ParseFault::Memory) => Err(AllocError),
+/// Parses a text, without the declarations of its prologue. Prints its query, or the rules of scope
+/// that the query breaks, or `Syntax`.
+pub(crate) fn select(
+    alloc: Global,
+    reader: Reader,
+    tokens: &[Token<'_>],
+) -> Result<String, AllocError> {
+    let names = Declarations::new(alloc);
+    match parse(alloc, &names, tokens) {
+        Ok(query) => shown(alloc, reader, &query),
+        Err(fault) => format!(in alloc; "{fault:?}"),
     }
 }
 
@@ -72,11 +70,6 @@ const SELECTS: &[Case] = &[
     ),
 ];
 
-#[test]
-fn queries_have_their_trees(rt: HostRuntime) {
-    assert!(rt; all_hold(&rt, rt.alloc(), Reader::Select, SELECTS));
-}
-
 /// Texts that are not a query.
 const NO_QUERIES: &[Case] = &[
     ("", "Syntax"),
@@ -90,43 +83,26 @@ const NO_QUERIES: &[Case] = &[
     ("PREFIX p <x> SELECT * {}", "Syntax"),
 ];
 
-#[test]
-fn no_queries(rt: HostRuntime) {
-    assert!(rt; all_hold(&rt, rt.alloc(), Reader::Select, NO_QUERIES));
-}
-
-/// Returns a query with a table of 5000 variables and a last one.
-fn long_heading(alloc: Global, last: &str) -> Result<String, AllocError> {
-    let names = numbered(alloc, 5000, ["?v", "_", " "])?;
-    format!(in alloc; "SELECT * {{ VALUES ({names}{last}) {{ }} }}")
-}
-
-/// Returns whether the result for a heading with this last variable is the expected one.
-fn is_heading<R: Print>(rt: &R, alloc: Global, last: &str, expected: &str) -> bool {
-    let Ok(text) = long_heading(alloc, last) else {
-        return false;
-    };
-    holds(rt, alloc, Reader::IsRead, text.as_str(), expected)
-}
-
 /// A variable that occurs twice in a long heading is found at any place.
-const LAST_VARIABLES: &[Case] = &[
-    ("?v5000_5000", "read"),
-    ("?v0_0", "Syntax"),
-    ("?v4999_4999", "Syntax"),
+const HEADINGS: &[Case] = &[
+    (
+        "SELECT * { VALUES (‹5000×?v№_№ ›?v5000_5000) { } }",
+        "bind false, blank false",
+    ),
+    ("SELECT * { VALUES (‹5000×?v№_№ ›?v0_0) { } }", "Syntax"),
+    (
+        "SELECT * { VALUES (‹5000×?v№_№ ›?v4999_4999) { } }",
+        "Syntax",
+    ),
 ];
 
-/// Returns whether the result for each heading is the expected one.
-fn are_headings<R: Print>(rt: &R, alloc: Global) -> bool {
-    for (last, expected) in LAST_VARIABLES {
-        if !is_heading(rt, alloc, *last, *expected) {
-            return false;
-        }
-    }
-    true
-}
+const TABLES: &[(Reader, &[Case])] = &[
+    (Reader::Select, SELECTS),
+    (Reader::Select, NO_QUERIES),
+    (Reader::Scope, HEADINGS),
+];
 
 #[test]
-fn a_long_heading_has_no_name_twice(rt: HostRuntime) {
-    assert!(rt; are_headings(&rt, rt.alloc()));
+fn queries_have_their_trees(rt: HostRuntime) {
+    assert!(rt; are_all_right(&rt, rt.alloc(), TABLES));
 }

@@ -1,54 +1,41 @@
 //! Queries and their solutions over a document, according to plain_eval. Examples from the SPARQL
 //! 1.1 Query Language name its section.
-use crate::plans::{Task, plan_of, planned};
-use crate::tables::{Reader, are_all_right};
-use crate::terms::{push_cell, read};
-use nquads_core::{PieceFault, read_piece};
+use crate::cases::{Reader, are_all_lines_right};
+use crate::plans::plan_of;
+use nquads_core::read_piece;
 use plain_eval::dataset::{graph, names};
 use plain_eval::evaluation::evaluate;
 use plain_eval::operators::table;
 use plain_eval::patterns::pattern;
 use plain_eval::solution::Solution;
-use rdf_core::{Quad, Term};
+use rdf_core::{Quad, Term, write_term};
 use sparql_algebra::{Expr, Operator, Plan};
-use sparql_read::read_query;
 use sparql_tree::Query;
 use std::alloc::{AllocError, AllocGlobal, Global};
 
-/// Prints the terms of a solution, with `-` for an unbound variable.
-fn line_of(alloc: Global, solution: &Solution) -> Result<String, AllocError> {
-    let mut line = String::new(alloc);
+/// Appends the N-Quads forms of the terms of a solution, with `-` for an unbound variable.
+fn push_line(lines: &mut Vec<u8>, solution: &Solution) -> Result<(), AllocError> {
     for cell in solution.terms() {
-        line.push(' ')?;
-        push_cell(&mut line, cell)?;
+        lines.push(b' ')?;
+        match cell {
+            Some(term) => write_term(term, lines)?,
+            None => lines.push(b'-')?,
+        }
     }
-    Ok(line)
-}
-
-fn lines_of(alloc: Global, solutions: &[Solution]) -> Result<Vec<String>, AllocError> {
-    let mut lines = Vec::new(alloc);
-    for solution in solutions {
-        lines.push(line_of(alloc, solution)?)?;
-    }
-    Ok(lines)
-}
-
-fn joined(alloc: Global, lines: &[String]) -> Result<String, AllocError> {
-    let text = lines.join(alloc, ";")?;
-    format!(in alloc; "{}:{text}", lines.len())
+    lines.extend_from_slice(b";")
 }
 
 /// Prints the number of solutions, and the solutions in their order.
 pub(crate) fn listed(alloc: Global, solutions: &[Solution]) -> Result<String, AllocError> {
-    let lines = lines_of(alloc, solutions)?;
-    joined(alloc, &lines)
-}
-
-/// Prints the number of solutions, and the solutions in the order of their texts.
-fn shown(alloc: Global, solutions: &[Solution]) -> Result<String, AllocError> {
-    let mut lines = lines_of(alloc, solutions)?;
-    lines.sort()?;
-    joined(alloc, &lines)
+    let mut lines = Vec::new(alloc);
+    for solution in solutions {
+        push_line(&mut lines, solution)?;
+    }
+    format!(in alloc;
+        "{}:{}",
+        solutions.len(),
+        str::from_utf8(&lines).unwrap_or("?")
+    )
 }
 
 /// Prints the solutions of a tree of this width over the default graph.
@@ -59,15 +46,14 @@ fn evaluated(
     tree: &Operator,
 ) -> Result<String, AllocError> {
     let found = evaluate(alloc, width, quads, &None, tree)?;
-    shown(alloc, &found)
+    listed(alloc, &found)
 }
 
-/// Prints the solutions of a plan over a document.
-pub(crate) fn solved(alloc: Global, document: &str, plan: &Plan) -> Result<String, AllocError> {
-    match read_piece(alloc, document.as_bytes()) {
+/// Prints the solutions of a plan over the document of a name.
+pub(crate) fn solved(alloc: Global, name: &str, plan: &Plan) -> Result<String, AllocError> {
+    match read_piece(alloc, document_of(name).as_bytes()) {
         Ok(piece) => evaluated(alloc, plan.names.len(), &piece.quads, &plan.tree),
-        Err(PieceFault::BadLine(_)) => String::from_str(alloc, "a malformed document"),
-        Err(PieceFault::Memory) => Err(AllocError),
+        Err(fault) => format!(in alloc; "{fault:?}"),
     }
 }
 
@@ -92,7 +78,7 @@ pub(crate) fn tabulated(alloc: Global, plan: &Plan) -> Result<String, AllocError
         return String::from_str(alloc, "no table");
     };
     let made = table(alloc, plan.names.len(), variables, rows)?;
-    shown(alloc, &made)
+    listed(alloc, &made)
 }
 
 /// Returns the tree of a plan, with the second variable then bound to the first one.
@@ -107,59 +93,38 @@ fn extended(alloc: Global, plan: Plan) -> Result<Box<Operator>, AllocError> {
 }
 
 /// Prints the solutions of a query after its second variable is bound to the first one.
-fn solved_again(alloc: Global, query: &Query) -> Result<String, AllocError> {
+pub(crate) fn bound_again(alloc: Global, query: &Query) -> Result<String, AllocError> {
     let plan = plan_of(alloc, query)?;
     let width = plan.names.len();
     let tree = extended(alloc, Box::into_inner(plan))?;
     evaluated(alloc, width, &[], &tree)
 }
 
-/// Splits a case into the name of a document and the rest.
-fn case_of(case: &str) -> (&str, &str) {
-    case.split_once(": ").unwrap_or(("", case))
-}
-
-/// Prints the solutions of a query over a document: `books: SELECT ..`.
-pub(crate) fn solutions(alloc: Global, case: &str) -> Result<String, AllocError> {
-    let (name, query) = case_of(case);
-    planned(alloc, query, Task::Solve(document_of(name)))
-}
-
-/// Prints the solutions of a query after its second variable is bound to the first one.
-pub(crate) fn bound_again(alloc: Global, case: &str) -> Result<String, AllocError> {
-    match read_query(alloc, case) {
-        Ok(query) => solved_again(alloc, &query),
-        Err(_) => String::from_str(alloc, "no query"),
+/// Returns the number of quads in the graph of the last quad.
+fn last_count(alloc: Global, quads: &[Quad]) -> Result<usize, AllocError> {
+    match quads.last() {
+        Some(quad) => Ok(graph(alloc, quads, &quad.g)?.len()),
+        None => Ok(0),
     }
 }
 
-/// Returns the number of quads in the graph of this name. `-` is the default graph.
-fn quads_in(alloc: Global, quads: &[Quad], name: &str) -> Result<usize, AllocError> {
-    let name = read(alloc, name)?;
-    Ok(graph(alloc, quads, &name)?.len())
+/// Prints the counts of a document's quads: of graph names, of quads in the graph of the last quad, of
+/// quads in the default graph, and of solutions of the empty pattern.
+fn counted(alloc: Global, quads: &[Quad]) -> Result<String, AllocError> {
+    let counts = [
+        names(alloc, quads)?.len(),
+        last_count(alloc, quads)?,
+        graph(alloc, quads, &None)?.len(),
+        pattern(alloc, 1, 0, &[], quads)?.len(),
+    ];
+    format!(in alloc; "{counts:?}")
 }
 
-/// Returns the number of graph names, of solutions of the empty pattern, or of quads in a graph.
-fn count(alloc: Global, quads: &[Quad], case: &str) -> Result<usize, AllocError> {
-    match case {
-        "graph names" => Ok(names(alloc, quads)?.len()),
-        "the empty pattern" => Ok(pattern(alloc, 1, 0, &[], quads)?.len()),
-        name => quads_in(alloc, quads, name),
-    }
-}
-
-fn counted(alloc: Global, quads: &[Quad], case: &str) -> Result<String, AllocError> {
-    let count = count(alloc, quads, case)?;
-    format!(in alloc; "{count}")
-}
-
-/// Prints a count of a document: `graphs: <a:g>`.
-pub(crate) fn count_of(alloc: Global, case: &str) -> Result<String, AllocError> {
-    let (name, asked) = case_of(case);
+/// Prints the counts of the document of a name.
+pub(crate) fn counts(alloc: Global, name: &str) -> Result<String, AllocError> {
     match read_piece(alloc, document_of(name).as_bytes()) {
-        Ok(piece) => counted(alloc, &piece.quads, asked),
-        Err(PieceFault::BadLine(_)) => String::from_str(alloc, "a malformed document"),
-        Err(PieceFault::Memory) => Err(AllocError),
+        Ok(piece) => counted(alloc, &piece.quads),
+        Err(fault) => format!(in alloc; "{fault:?}"),
     }
 }
 
@@ -192,102 +157,108 @@ const GRAPHS: &str = "<a:a> <a:p> <a:b> .
 _:g <a:q> <a:g> <a:g> .
 ";
 
+/// The documents and their names.
+const DOCUMENTS: &[(&str, &str)] = &[
+    ("books", BOOKS),
+    ("numbers", NUMBERS),
+    ("paths", PATHS),
+    ("graphs", GRAPHS),
+    ("triple", "<a:a> <a:b> <a:c> .\n"),
+    ("blank", "_:b <a:p> <a:c> .\n"),
+    ("empty", ""),
+];
+
 /// Returns the document of a name.
 fn document_of(name: &str) -> &'static str {
-    match name {
-        "books" => BOOKS,
-        "numbers" => NUMBERS,
-        "paths" => PATHS,
-        "graphs" => GRAPHS,
-        "triple" => "<a:a> <a:b> <a:c> .\n",
-        "blank" => "_:b <a:p> <a:c> .\n",
-        "empty" => "",
-        _ => "no document",
+    for (other, document) in DOCUMENTS {
+        if *other == name {
+            return *document;
+        }
     }
+    "no document"
 }
 
 /// OPTIONAL ([57] `OptionalGraphPattern`), UNDEF ([65] `DataBlockValue`), and a BIND whose
-/// expression is an error.
+/// expression is an error. The joined solutions of OPTIONAL are before the others, as in the
+/// definition of LeftJoin.
 const OPTIONALS: &str = r#"
 # Section 6.2: a filter in OPTIONAL removes a price, and no title.
-books: SELECT ?x ?t ?p { ?x <a:title> ?t OPTIONAL { ?x <a:price> ?p FILTER(?p < 30) } } => 2: <a:book1> "SPARQL Tutorial" -; <a:book2> "The Semantic Web" "23"^^xsd:integer
+books: SELECT ?x ?t ?p { ?x <a:title> ?t OPTIONAL { ?x <a:price> ?p FILTER(?p < 30) } } => 2: <a:book2> "The Semantic Web" "23"^^<http://www.w3.org/2001/XMLSchema#integer>; <a:book1> "SPARQL Tutorial" -;
 # The condition of OPTIONAL sees the solution on the left. A filter one group further in does not.
-books: SELECT ?x ?t ?p { ?x <a:price> ?p OPTIONAL { ?x <a:title> ?t FILTER(?p < 30) } }     => 2: <a:book1> - "42"^^xsd:integer; <a:book2> "The Semantic Web" "23"^^xsd:integer
-books: SELECT ?x ?t ?p { ?x <a:price> ?p OPTIONAL { { ?x <a:title> ?t FILTER(?p < 30) } } } => 2: <a:book1> - "42"^^xsd:integer; <a:book2> - "23"^^xsd:integer
+books: SELECT ?x ?t ?p { ?x <a:price> ?p OPTIONAL { ?x <a:title> ?t FILTER(?p < 30) } }     => 2: <a:book2> "The Semantic Web" "23"^^<http://www.w3.org/2001/XMLSchema#integer>; <a:book1> - "42"^^<http://www.w3.org/2001/XMLSchema#integer>;
+books: SELECT ?x ?t ?p { ?x <a:price> ?p OPTIONAL { { ?x <a:title> ?t FILTER(?p < 30) } } } => 2: <a:book1> - "42"^^<http://www.w3.org/2001/XMLSchema#integer>; <a:book2> - "23"^^<http://www.w3.org/2001/XMLSchema#integer>;
 # Section 10.2.2: UNDEF is compatible with every value.
-books: SELECT ?b ?t ?p { ?b <a:title> ?t ; <a:price> ?p VALUES (?b ?t) { (UNDEF "SPARQL Tutorial") (<a:book2> UNDEF) } } => 2: <a:book1> "SPARQL Tutorial" "42"^^xsd:integer; <a:book2> "The Semantic Web" "23"^^xsd:integer
+books: SELECT ?b ?t ?p { ?b <a:title> ?t ; <a:price> ?p VALUES (?b ?t) { (UNDEF "SPARQL Tutorial") (<a:book2> UNDEF) } } => 2: <a:book1> "SPARQL Tutorial" "42"^^<http://www.w3.org/2001/XMLSchema#integer>; <a:book2> "The Semantic Web" "23"^^<http://www.w3.org/2001/XMLSchema#integer>;
 # An error leaves the variable of BIND unbound, and a later pattern binds it. STR of a blank node is an error.
-blank: SELECT ?x ?t { ?x <a:p> _:l BIND(STR(?x) AS ?t) }                  => 1: _:b -
+blank: SELECT ?x ?t { ?x <a:p> _:l BIND(STR(?x) AS ?t) }                  => 1: _:b -;
 blank: SELECT ?x ?t { ?x <a:p> _:l BIND(STR(?x) AS ?t) FILTER(BOUND(?t)) } => 0:
-blank: SELECT ?x ?t { ?x <a:p> _:l BIND(STR(?x) AS ?t) ?x <a:p> ?t }      => 1: _:b <a:c>
+blank: SELECT ?x ?t { ?x <a:p> _:l BIND(STR(?x) AS ?t) ?x <a:p> ?t }      => 1: _:b <a:c>;
 "#;
 
 /// MINUS ([66] `MinusGraphPattern`).
 const DIFFERENCES: &str = r#"
 # Section 8.3.1: if no variable is shared, MINUS removes nothing.
-triple: SELECT ?a ?b ?c ?d ?e ?f { ?a ?b ?c MINUS { ?d ?e ?f } }          => 1: <a:a> <a:b> <a:c> - - -
-triple: SELECT ?a ?b ?c ?d ?e ?f { ?a ?b ?c MINUS { <a:a> <a:b> <a:c> } } => 1: <a:a> <a:b> <a:c> - - -
+triple: SELECT ?a ?b ?c ?d ?e ?f { ?a ?b ?c MINUS { ?d ?e ?f } }          => 1: <a:a> <a:b> <a:c> - - -;
+triple: SELECT ?a ?b ?c ?d ?e ?f { ?a ?b ?c MINUS { <a:a> <a:b> <a:c> } } => 1: <a:a> <a:b> <a:c> - - -;
 triple: SELECT ?a ?b ?c ?d ?e ?f { ?a ?b ?c MINUS { ?a ?b ?c } }          => 0:
 # A solution on the right that leaves the shared variable unbound removes nothing, though another one binds it.
-empty: SELECT ?a ?b { VALUES (?a ?b) { (<a:a> UNDEF) (<a:b> UNDEF) } MINUS { VALUES (?a ?b) { (UNDEF "A") (<a:b> "B") } } } => 1: <a:a> -
+empty: SELECT ?a ?b { VALUES (?a ?b) { (<a:a> UNDEF) (<a:b> UNDEF) } MINUS { VALUES (?a ?b) { (UNDEF "A") (<a:b> "B") } } } => 1: <a:a> -;
 # Section 8.3.3: a filter in MINUS does not see the variables on the left.
-numbers: SELECT ?x ?n ?m { ?x <a:p> ?n MINUS { ?x <a:q> ?m FILTER(?n = ?m) } } => 2: <a:a> "1"^^xsd:integer -; <a:b> "3.0"^^xsd:decimal -
+numbers: SELECT ?x ?n ?m { ?x <a:p> ?n MINUS { ?x <a:q> ?m FILTER(?n = ?m) } } => 2: <a:a> "1"^^<http://www.w3.org/2001/XMLSchema#integer> -; <a:b> "3.0"^^<http://www.w3.org/2001/XMLSchema#decimal> -;
 "#;
 
 /// GRAPH ([58] `GraphGraphPattern`).
 const NAMED_GRAPHS: &str = r#"
 # GRAPH with a variable is about the named graphs alone. The name is joined with what the pattern binds.
-graphs: SELECT ?g ?o { GRAPH ?g { <a:a> <a:p> ?o } }    => 2: <a:g> <a:c>; _:g <a:d>
-graphs: SELECT ?g ?s { GRAPH ?g { ?s <a:q> ?g } }       => 1: <a:g> _:g
-graphs: SELECT ?g ?o { GRAPH <a:g> { <a:a> <a:p> ?o } } => 1: - <a:c>
+graphs: SELECT ?g ?o { GRAPH ?g { <a:a> <a:p> ?o } }    => 2: <a:g> <a:c>; _:g <a:d>;
+graphs: SELECT ?g ?s { GRAPH ?g { ?s <a:q> ?g } }       => 1: <a:g> _:g;
+graphs: SELECT ?g ?o { GRAPH <a:g> { <a:a> <a:p> ?o } } => 1: - <a:c>;
 # A filter and a BIND in GRAPH do not see its variable, which is joined after them.
 graphs: SELECT ?g ?o { GRAPH ?g { <a:a> <a:p> ?o FILTER(BOUND(?g)) } }  => 0:
-graphs: SELECT ?g ?o ?h { GRAPH ?g { <a:a> <a:p> ?o BIND(?g AS ?h) } } => 2: <a:g> <a:c> -; _:g <a:d> -
+graphs: SELECT ?g ?o ?h { GRAPH ?g { <a:a> <a:p> ?o BIND(?g AS ?h) } } => 2: <a:g> <a:c> -; _:g <a:d> -;
 # A name that no quad has is the name of no graph: not even the empty pattern has a solution there.
-graphs: SELECT ?g { GRAPH <a:g> { } }    => 1: -
+graphs: SELECT ?g { GRAPH <a:g> { } }    => 1: -;
 graphs: SELECT ?g { GRAPH <a:none> { } } => 0:
-graphs: SELECT ?g { GRAPH ?g { } }       => 2: <a:g>; _:g
+graphs: SELECT ?g { GRAPH ?g { } }       => 2: <a:g>; _:g;
 "#;
 
-/// Numbers of graph names, and of quads in a graph.
-const COUNTED: &str = r#"
-graphs: graph names       => 2
-graphs: <a:g>             => 2
-graphs: -                 => 1
-graphs: the empty pattern => 1
-"#;
+/// Numbers of graph names, of quads in the graph of the last quad, of quads in the default graph, and
+/// of solutions of the empty pattern.
+const COUNTED: &str = "
+graphs => [2, 2, 1, 1]
+";
 
 /// The multiplicities of solutions, and the variables of the cells of a table.
 const MULTIPLICITIES: &str = r#"
 # Section 18.3.1: a solution counts once for each term that a blank node label can stand for, DISTINCT keeps one
 # of them, and a label joins the triples of its pattern.
-paths: SELECT ?x { ?x <a:p> _:l }                => 3: <a:a>; <a:a>; <a:b>
-paths: SELECT DISTINCT ?x { ?x <a:p> _:l }       => 2: <a:a>; <a:b>
-paths: SELECT ?x { ?x <a:p> _:l . _:l <a:p> _:m } => 1: <a:a>
+paths: SELECT ?x { ?x <a:p> _:l }                => 3: <a:a>; <a:a>; <a:b>;
+paths: SELECT DISTINCT ?x { ?x <a:p> _:l }       => 2: <a:a>; <a:b>;
+paths: SELECT ?x { ?x <a:p> _:l . _:l <a:p> _:m } => 1: <a:a>;
 # UNION keeps the repeated solutions of both sides, VALUES its repeated rows, and a projection what it repeats.
-empty: SELECT ?a { { VALUES (?a ?b) { (<a:a> "A") (<a:a> "B") } } UNION { VALUES (?a ?b) { (<a:a> "A") } } } => 3: <a:a> -; <a:a> -; <a:a> -
-empty: SELECT ?a ?b { VALUES (?a ?b) { (<a:a> "A") } VALUES () { () () } } => 2: <a:a> "A"; <a:a> "A"
+empty: SELECT ?a { { VALUES (?a ?b) { (<a:a> "A") (<a:a> "B") } } UNION { VALUES (?a ?b) { (<a:a> "A") } } } => 3: <a:a> -; <a:a> -; <a:a> -;
+empty: SELECT ?a ?b { VALUES (?a ?b) { (<a:a> "A") } VALUES () { () () } } => 2: <a:a> "A"; <a:a> "A";
 # The cells of a row belong to the listed variables in the order of the list.
-empty: SELECT ?x ?y { VALUES (?y ?x) { (<a:a> "A") (UNDEF "B") } } => 2: "A" <a:a>; "B" -
+empty: SELECT ?x ?y { VALUES (?y ?x) { (<a:a> "A") (UNDEF "B") } } => 2: "A" <a:a>; "B" -;
 "#;
 
 /// The table of a query by itself.
 const CELLS: &str = r#"
 # The cells of a row belong to the listed variables in the order of the list.
-SELECT ?x ?y { VALUES (?y ?x) { (<a:a> "A") (UNDEF "B") } } => 2: "A" <a:a>; "B" -
+SELECT ?x ?y { VALUES (?y ?x) { (<a:a> "A") (UNDEF "B") } } => 2: "A" <a:a>; "B" -;
 "#;
 
 /// An extension of a variable that may be bound. No query is translated to this plan.
 const BOUND_AGAIN: &str = r#"
 # A variable that is bound keeps its term. No text of a query has such a plan.
-SELECT ?a ?b { VALUES (?a ?b) { (<a:a> "A") (<a:b> UNDEF) } } => 2: <a:a> "A"; <a:b> <a:b>
+SELECT ?a ?b { VALUES (?a ?b) { (<a:a> "A") (<a:b> UNDEF) } } => 2: <a:a> "A"; <a:b> <a:b>;
 "#;
 
-const TABLES: [(Reader, &str); 7] = [
+const TABLES: &[(Reader, &str)] = &[
     (Reader::Solutions, OPTIONALS),
     (Reader::Solutions, DIFFERENCES),
     (Reader::Solutions, NAMED_GRAPHS),
-    (Reader::Count, COUNTED),
+    (Reader::Counts, COUNTED),
     (Reader::Solutions, MULTIPLICITIES),
     (Reader::Table, CELLS),
     (Reader::BoundAgain, BOUND_AGAIN),
@@ -295,5 +266,5 @@ const TABLES: [(Reader, &str); 7] = [
 
 #[test]
 fn queries_have_their_solutions(rt: HostRuntime) {
-    assert!(rt; are_all_right(&rt, rt.alloc(), &TABLES));
+    assert!(rt; are_all_lines_right(&rt, rt.alloc(), TABLES));
 }

@@ -1,65 +1,68 @@
 //! Texts and their terminals, by example.
-use crate::cases::{Case, Reader, all_hold, is_repeated_as};
+use crate::cases::{Case, Reader, are_all_right};
 use rdf_core::lexical::is_pn_chars_base;
-use sparql_lexer::{
-    Kind, characters_of, iri_value, one_kind, one_scan, scan_text, string_value, text_of,
-};
+use sparql_lexer::{Kind, Scan, Token, iri_value, one_kind, one_scan, string_value, text_of};
 use std::alloc::{AllocError, AllocGlobal, Global};
 
-/// Appends an item to a list with commas between the items.
-fn append(list: &mut String, item: &str) -> Result<(), AllocError> {
-    if !list.is_empty() {
-        list.push_str(", ")?;
-    }
-    list.push_str(item)
+/// Appends the kind and the text of a terminal.
+fn push_terminal(alloc: Global, list: &mut String, token: &Token<'_>) -> Result<(), AllocError> {
+    let text = text_of(alloc, token.text)?;
+    write!(list, "{:?} {text}", token.kind)
 }
 
-/// Appends a label and the text of these characters.
-fn append_text(
+/// Appends the kind and the value of an IRI or a string.
+fn push_value(alloc: Global, list: &mut String, token: &Token<'_>) -> Result<(), AllocError> {
+    let value = match token.kind {
+        Kind::IriRef => iri_value(alloc, token.text)?,
+        kind => string_value(alloc, kind, token.text)?,
+    };
+    write!(list, "{:?} {value:?}", token.kind)
+}
+
+/// Appends the terminals, or their values, and returns what is to be written before the next item.
+fn push_all(
     alloc: Global,
     list: &mut String,
-    label: &str,
-    characters: &[char],
-) -> Result<(), AllocError> {
-    append(list, label)?;
-    let text = text_of(alloc, characters)?;
-    list.push_str(text.as_str())
+    reader: Reader,
+    tokens: &[Token<'_>],
+) -> Result<&'static str, AllocError> {
+    let mut separator = "";
+    for token in tokens {
+        list.push_str(separator)?;
+        match reader {
+            Reader::Values => push_value(alloc, list, token)?,
+            _ => push_terminal(alloc, list, token)?,
+        }
+        separator = ", ";
+    }
+    Ok(separator)
 }
 
-/// Prints the terminals of the text as `Kind text`, and the unread rest as `rest text`.
-pub(crate) fn terminals(alloc: Global, text: &str) -> Result<String, AllocError> {
-    let characters = characters_of(alloc, text)?;
-    let scan = scan_text(alloc, &characters)?;
+/// Prints the terminals of a text as `Kind text`, or their values, and the unread rest as `rest
+/// text`.
+pub(crate) fn terminals(
+    alloc: Global,
+    reader: Reader,
+    scan: &Scan<'_>,
+) -> Result<String, AllocError> {
     let mut list = String::new(alloc);
-    for token in &scan.tokens {
-        let kind = format!(in alloc; "{:?} ", token.kind)?;
-        append_text(alloc, &mut list, kind.as_str(), token.text)?;
-    }
+    let separator = push_all(alloc, &mut list, reader, &scan.tokens)?;
     if !scan.rest.is_empty() {
-        append_text(alloc, &mut list, "rest ", scan.rest)?;
+        let rest = text_of(alloc, scan.rest)?;
+        write!(list, "{separator}rest {rest}")?;
     }
     Ok(list)
 }
 
-/// Prints the value of an IRI or a string of this kind.
-fn value(alloc: Global, kind: Kind, characters: &[char]) -> Result<String, AllocError> {
-    let value = match kind {
-        Kind::IriRef => iri_value(alloc, characters)?,
-        _ => string_value(alloc, kind, characters)?,
-    };
-    format!(in alloc; "{kind:?} {value:?}")
-}
-
-/// Prints the value of each terminal of the text. All of them are IRIs or strings.
-pub(crate) fn values(alloc: Global, text: &str) -> Result<String, AllocError> {
-    let characters = characters_of(alloc, text)?;
-    let scan = scan_text(alloc, &characters)?;
-    let mut list = String::new(alloc);
-    for token in &scan.tokens {
-        let value = value(alloc, token.kind, token.text)?;
-        append(&mut list, value.as_str())?;
+/// Prints the characters of the text that are letters of names.
+pub(crate) fn letters(alloc: Global, text: &str) -> Result<String, AllocError> {
+    let mut letters = String::new(alloc);
+    for character in text.chars() {
+        if is_pn_chars_base(character) {
+            letters.push(character)?;
+        }
     }
-    Ok(list)
+    Ok(letters)
 }
 
 /// `<` begins an IRI if the text up to the next `>` is one, and otherwise it is a comparison.
@@ -84,11 +87,6 @@ const ANGLES: &[Case] = &[
     ("<<a>", "Sign(Less) <, IriRef <a>"),
 ];
 
-#[test]
-fn angles(rt: HostRuntime) {
-    assert!(rt; all_hold(&rt, rt.alloc(), Reader::Terminals, ANGLES));
-}
-
 /// A dot belongs to a number if a digit or an exponent follows it.
 const NUMBERS: &[Case] = &[
     ("1.}", "Integer 1, Sign(Dot) ., Sign(CloseBrace) }"),
@@ -110,11 +108,6 @@ const NUMBERS: &[Case] = &[
     ),
     ("1-", "Integer 1, rest -"),
 ];
-
-#[test]
-fn numbers(rt: HostRuntime) {
-    assert!(rt; all_hold(&rt, rt.alloc(), Reader::Terminals, NUMBERS));
-}
 
 /// A word is a longest run of letters. The case of a keyword does not matter, except that `a` is
 /// lower case.
@@ -143,11 +136,6 @@ const WORDS: &[Case] = &[
     ("prefixe:", "PrefixedNamespace prefixe:"),
     ("a_", "Keyword(A) a, rest _"),
 ];
-
-#[test]
-fn words(rt: HostRuntime) {
-    assert!(rt; all_hold(&rt, rt.alloc(), Reader::Terminals, WORDS));
-}
 
 /// A name may contain dots, but not at its end. A local name may contain colons, a blank node label
 /// may not.
@@ -188,11 +176,6 @@ const NAMES: &[Case] = &[
     ("\u{FEFF}:a", "PrefixedName \u{FEFF}:a"),
 ];
 
-#[test]
-fn names(rt: HostRuntime) {
-    assert!(rt; all_hold(&rt, rt.alloc(), Reader::Terminals, NAMES));
-}
-
 /// A long string without its closing quotes is read as an empty string and further terminals.
 const STRINGS: &[Case] = &[
     ("'''abc'", "ShortString '', ShortString 'abc'"),
@@ -213,11 +196,6 @@ const STRINGS: &[Case] = &[
     ("'a\"b'\"c'd\"", "ShortString 'a\"b', ShortString \"c'd\""),
 ];
 
-#[test]
-fn strings(rt: HostRuntime) {
-    assert!(rt; all_hold(&rt, rt.alloc(), Reader::Terminals, STRINGS));
-}
-
 /// A comment ends at LF, CR or the end of the text. It may occur between brackets.
 const BLANKS_AND_SIGNS: &[Case] = &[
     ("", ""),
@@ -235,106 +213,76 @@ const BLANKS_AND_SIGNS: &[Case] = &[
     ("?a\u{c}?b", "Variable ?a, rest \u{c}?b"),
 ];
 
-#[test]
-fn blanks_and_signs(rt: HostRuntime) {
-    assert!(rt; all_hold(&rt, rt.alloc(), Reader::Terminals, BLANKS_AND_SIGNS));
-}
-
 /// The ranges of [164] PN_CHARS_BASE (SPARQL 1.1 Query Language, section 19.8): the character
-/// before each range, its first and last, and the character after it.
-const LETTERS: &[(char, char, char, char)] = &[
-    ('@', 'A', 'Z', '['),
-    ('`', 'a', 'z', '{'),
-    ('\u{BF}', '\u{C0}', '\u{D6}', '\u{D7}'),
-    ('\u{D7}', '\u{D8}', '\u{F6}', '\u{F7}'),
-    ('\u{F7}', '\u{F8}', '\u{2FF}', '\u{300}'),
-    ('\u{36F}', '\u{370}', '\u{37D}', '\u{37E}'),
-    ('\u{37E}', '\u{37F}', '\u{1FFF}', '\u{2000}'),
-    ('\u{200B}', '\u{200C}', '\u{200D}', '\u{200E}'),
-    ('\u{206F}', '\u{2070}', '\u{218F}', '\u{2190}'),
-    ('\u{2BFF}', '\u{2C00}', '\u{2FEF}', '\u{2FF0}'),
-    ('\u{3000}', '\u{3001}', '\u{D7FF}', '\u{E000}'),
-    ('\u{F8FF}', '\u{F900}', '\u{FDCF}', '\u{FDD0}'),
-    ('\u{FDEF}', '\u{FDF0}', '\u{FFFD}', '\u{FFFE}'),
-    ('\u{FFFF}', '\u{10000}', '\u{EFFFF}', '\u{F0000}'),
+/// before each range, its first and last, and the character after it. Only the first and the last
+/// are letters.
+const LETTERS: &[Case] = &[
+    ("@AZ[", "AZ"),
+    ("`az{", "az"),
+    ("\u{BF}\u{C0}\u{D6}\u{D7}", "\u{C0}\u{D6}"),
+    ("\u{D7}\u{D8}\u{F6}\u{F7}", "\u{D8}\u{F6}"),
+    ("\u{F7}\u{F8}\u{2FF}\u{300}", "\u{F8}\u{2FF}"),
+    ("\u{36F}\u{370}\u{37D}\u{37E}", "\u{370}\u{37D}"),
+    ("\u{37E}\u{37F}\u{1FFF}\u{2000}", "\u{37F}\u{1FFF}"),
+    ("\u{200B}\u{200C}\u{200D}\u{200E}", "\u{200C}\u{200D}"),
+    ("\u{206F}\u{2070}\u{218F}\u{2190}", "\u{2070}\u{218F}"),
+    ("\u{2BFF}\u{2C00}\u{2FEF}\u{2FF0}", "\u{2C00}\u{2FEF}"),
+    ("\u{3000}\u{3001}\u{D7FF}\u{E000}", "\u{3001}\u{D7FF}"),
+    ("\u{F8FF}\u{F900}\u{FDCF}\u{FDD0}", "\u{F900}\u{FDCF}"),
+    ("\u{FDEF}\u{FDF0}\u{FFFD}\u{FFFE}", "\u{FDF0}\u{FFFD}"),
+    ("\u{FFFF}\u{10000}\u{EFFFF}\u{F0000}", "\u{10000}\u{EFFFF}"),
 ];
-
-/// Returns whether the character is a letter as expected. Prints it if not.
-fn is_letter_as<R: Print>(rt: &R, character: char, expected: bool) -> bool {
-    if is_pn_chars_base(character) == expected {
-        return true;
-    }
-    let _ = println!(rt; "{character}: expected {expected}");
-    false
-}
-
-/// Returns whether the ranges begin and end where the table says.
-fn are_ranges<R: Print>(rt: &R) -> bool {
-    for (before, first, last, after) in LETTERS {
-        if !is_letter_as(rt, *before, false)
-            || !is_letter_as(rt, *first, true)
-            || !is_letter_as(rt, *last, true)
-            || !is_letter_as(rt, *after, false)
-        {
-            return false;
-        }
-    }
-    true
-}
-
-#[test]
-fn letters_of_names_end_where_the_grammar_says(rt: HostRuntime) {
-    assert!(rt; are_ranges(&rt));
-}
 
 /// A long run of name characters and dots before a colon is read in the same way as a short one.
-const RUNS: &[([&str; 5], [&str; 5])] = &[
+const RUNS: &[Case] = &[
+    ("‹0×a.›:b", "‹0×Keyword(A) a, Sign(Dot) ., ›PrefixedName :b"),
+    ("‹1×a.›:b", "‹1×Keyword(A) a, Sign(Dot) ., ›PrefixedName :b"),
+    ("‹2×a.›:b", "‹2×Keyword(A) a, Sign(Dot) ., ›PrefixedName :b"),
     (
-        ["", "a.", ":b", "", ""],
-        ["", "Keyword(A) a, Sign(Dot) ., ", "PrefixedName :b", "", ""],
+        "‹3000×a.›:b",
+        "‹3000×Keyword(A) a, Sign(Dot) ., ›PrefixedName :b",
     ),
     (
-        ["1e1", ".1e1", ".:b", "", ""],
-        [
-            "Double 1e1, ",
-            "Double .1e1, ",
-            "Sign(Dot) ., PrefixedName :b",
-            "",
-            "",
-        ],
+        "1e1‹0×.1e1›.:b",
+        "Double 1e1, ‹0×Double .1e1, ›Sign(Dot) ., PrefixedName :b",
     ),
     (
-        ["", ".", ":b", "", ""],
-        ["", "Sign(Dot) ., ", "PrefixedName :b", "", ""],
+        "1e1‹1×.1e1›.:b",
+        "Double 1e1, ‹1×Double .1e1, ›Sign(Dot) ., PrefixedName :b",
     ),
     (
-        ["1e1", ".1e1", ":b", "", ""],
-        ["Double 1e1, ", "Double .1e1, ", "PrefixedName :b", "", ""],
+        "1e1‹2×.1e1›.:b",
+        "Double 1e1, ‹2×Double .1e1, ›Sign(Dot) ., PrefixedName :b",
     ),
     (
-        ["", "a.", "a:b", "", ""],
-        ["PrefixedName ", "a.", "a:b", "", ""],
+        "1e1‹3000×.1e1›.:b",
+        "Double 1e1, ‹3000×Double .1e1, ›Sign(Dot) ., PrefixedName :b",
     ),
+    ("‹0×.›:b", "‹0×Sign(Dot) ., ›PrefixedName :b"),
+    ("‹1×.›:b", "‹1×Sign(Dot) ., ›PrefixedName :b"),
+    ("‹2×.›:b", "‹2×Sign(Dot) ., ›PrefixedName :b"),
+    ("‹3000×.›:b", "‹3000×Sign(Dot) ., ›PrefixedName :b"),
+    (
+        "1e1‹0×.1e1›:b",
+        "Double 1e1, ‹0×Double .1e1, ›PrefixedName :b",
+    ),
+    (
+        "1e1‹1×.1e1›:b",
+        "Double 1e1, ‹1×Double .1e1, ›PrefixedName :b",
+    ),
+    (
+        "1e1‹2×.1e1›:b",
+        "Double 1e1, ‹2×Double .1e1, ›PrefixedName :b",
+    ),
+    (
+        "1e1‹3000×.1e1›:b",
+        "Double 1e1, ‹3000×Double .1e1, ›PrefixedName :b",
+    ),
+    ("‹0×a.›a:b", "PrefixedName ‹0×a.›a:b"),
+    ("‹1×a.›a:b", "PrefixedName ‹1×a.›a:b"),
+    ("‹2×a.›a:b", "PrefixedName ‹2×a.›a:b"),
+    ("‹3000×a.›a:b", "PrefixedName ‹3000×a.›a:b"),
 ];
-
-/// Returns whether each run is read like this if its second part is repeated `count` times.
-fn are_runs<R: Print>(rt: &R, alloc: Global, count: usize) -> bool {
-    for (text, expected) in RUNS {
-        if !is_repeated_as(rt, alloc, count, text, expected) {
-            return false;
-        }
-    }
-    true
-}
-
-#[test]
-fn runs_before_a_colon(rt: HostRuntime) {
-    let alloc = rt.alloc();
-    assert!(rt; are_runs(&rt, alloc, 0));
-    assert!(rt; are_runs(&rt, alloc, 1));
-    assert!(rt; are_runs(&rt, alloc, 2));
-    assert!(rt; are_runs(&rt, alloc, 3000));
-}
 
 /// An IRI or a string has no value if an escape denotes no character, or one that is not allowed in
 /// an IRI.
@@ -352,9 +300,49 @@ const VALUES: &[Case] = &[
     ("\"\"\"\\t\"\"\"", "LongString Some(\t)"),
 ];
 
+const ANGLES_AND_NUMBERS: &[(Reader, &[Case])] = &[
+    (Reader::Terminals, ANGLES),
+    (Reader::Terminals, NUMBERS),
+];
+
 #[test]
-fn values_of_terminals(rt: HostRuntime) {
-    assert!(rt; all_hold(&rt, rt.alloc(), Reader::Values, VALUES));
+fn angles_and_numbers(rt: HostRuntime) {
+    assert!(rt; are_all_right(&rt, rt.alloc(), ANGLES_AND_NUMBERS));
+}
+
+const WORDS_AND_STRINGS: &[(Reader, &[Case])] = &[
+    (Reader::Terminals, WORDS),
+    (Reader::Terminals, STRINGS),
+];
+
+#[test]
+fn words_and_strings(rt: HostRuntime) {
+    assert!(rt; are_all_right(&rt, rt.alloc(), WORDS_AND_STRINGS));
+}
+
+#[test]
+fn names(rt: HostRuntime) {
+    assert!(rt; are_all_right(&rt, rt.alloc(), &[(Reader::Terminals, NAMES)]));
+}
+
+const BLANKS_SIGNS_AND_LETTERS: &[(Reader, &[Case])] = &[
+    (Reader::Terminals, BLANKS_AND_SIGNS),
+    (Reader::Letters, LETTERS),
+];
+
+#[test]
+fn blanks_signs_and_letters(rt: HostRuntime) {
+    assert!(rt; are_all_right(&rt, rt.alloc(), BLANKS_SIGNS_AND_LETTERS));
+}
+
+const RUNS_AND_VALUES: &[(Reader, &[Case])] = &[
+    (Reader::Terminals, RUNS),
+    (Reader::Values, VALUES),
+];
+
+#[test]
+fn runs_and_values(rt: HostRuntime) {
+    assert!(rt; are_all_right(&rt, rt.alloc(), RUNS_AND_VALUES));
     one_kind();
     one_scan();
 }

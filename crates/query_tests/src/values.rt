@@ -1,14 +1,14 @@
 //! Values of expressions over a row of one variable.
-use crate::plans::{Task, planned};
-use crate::tables::{Reader, are_all_right};
-use crate::terms::{XSD, read, shown};
+use crate::cases::{Reader, are_all_lines_right};
+use crate::expressions::serialized;
+use crate::terms::read;
 use rdf_core::Term;
-use sparql_algebra::{Expr, ExprFault, Lookup, Operator, Plan, test, value};
+use sparql_algebra::{Expr, Lookup, Operator, Plan, test, value};
 use std::alloc::{AllocError, Global};
 
 /// A row of one variable.
 #[derive(Drop)]
-pub(crate) struct Row {
+struct Row {
     term: Option<Term>,
 }
 
@@ -28,28 +28,16 @@ impl Lookup for Row {
     }
 }
 
-/// What is printed for an expression.
-#[derive(Clone, Copy)]
-pub(crate) enum Asked {
-    /// Its value.
-    Value,
-    /// Whether a filter keeps the row.
-    Filter,
-}
-
-/// Prints the value, or `error`.
-fn evaluated(alloc: Global, expr: &Expr, row: &Row) -> Result<String, AllocError> {
-    match value(alloc, expr, row) {
-        Ok(term) => shown(alloc, &term),
-        Err(ExprFault::Error) => String::from_str(alloc, "error"),
-        Err(ExprFault::Memory) => Err(AllocError),
+/// Prints the value of an expression, or whether a filter keeps the row.
+fn evaluated(alloc: Global, reader: Reader, expr: &Expr, row: &Row) -> Result<String, AllocError> {
+    if let Reader::Filter = reader {
+        let is_kept = test(alloc, expr, row)?;
+        return String::from_str(alloc, if is_kept { "kept" } else { "removed" });
     }
-}
-
-/// Prints whether a filter keeps the row.
-fn filtered(alloc: Global, expr: &Expr, row: &Row) -> Result<String, AllocError> {
-    let is_kept = test(alloc, expr, row)?;
-    String::from_str(alloc, if is_kept { "kept" } else { "removed" })
+    match value(alloc, expr, row) {
+        Ok(term) => serialized(alloc, &term),
+        Err(fault) => format!(in alloc; "{fault:?}"),
+    }
 }
 
 /// Returns the condition of a filter directly below the projection.
@@ -63,181 +51,168 @@ fn condition_of(tree: &Operator) -> Option<&Expr> {
     }
 }
 
-/// Prints the value of the condition of a plan, or whether the filter keeps the row.
+/// Prints the value of the condition of a plan, or whether the filter keeps the row. The row has
+/// the term for `?x`, or binds nothing if the text is no term. It has no place for `?y`.
 pub(crate) fn answer(
     alloc: Global,
+    reader: Reader,
     plan: &Plan,
-    row: &Row,
-    what: Asked,
+    term: &str,
 ) -> Result<String, AllocError> {
-    match (condition_of(&plan.tree), what) {
-        (Some(condition), Asked::Value) => evaluated(alloc, condition, row),
-        (Some(condition), Asked::Filter) => filtered(alloc, condition, row),
-        (None, _) => String::from_str(alloc, "no condition"),
-    }
-}
-
-/// Prints what is asked of an expression over a row. The row has a place for `?x` and none for `?y`.
-fn printed(alloc: Global, expr: &str, row: &Row, what: Asked) -> Result<String, AllocError> {
-    let text = format!(in alloc; "PREFIX xsd: <{XSD}> SELECT ?x ?y {{ FILTER ({expr}) }}")?;
-    planned(alloc, text.as_str(), Task::Answer(row, what))
-}
-
-/// Prints what is asked of the expression of a case. After `where ?x is` the case has the term of
-/// `?x`. Without a term the row binds nothing.
-pub(crate) fn answered(alloc: Global, case: &str, what: Asked) -> Result<String, AllocError> {
-    let (expr, term) = case.split_once(" where ?x is ").unwrap_or((case, ""));
     let row = Row {
-        term: read(alloc, term.trim())?,
+        term: read(alloc, term)?,
     };
-    printed(alloc, expr.trim(), &row, what)
+    match condition_of(&plan.tree) {
+        Some(condition) => evaluated(alloc, reader, condition, &row),
+        None => String::from_str(alloc, "no condition"),
+    }
 }
 
 /// The truth tables of `&&`, `||` and `!` (SPARQL 1.1 Query Language, section 17.2). `?x` is
 /// unbound, which is an error.
 const LOGIC: &str = r#"
-true && true   => "true"^^xsd:boolean
-true && false  => "false"^^xsd:boolean
-false && true  => "false"^^xsd:boolean
-false && false => "false"^^xsd:boolean
-true && ?x     => error
-?x && true     => error
-false && ?x    => "false"^^xsd:boolean
-?x && false    => "false"^^xsd:boolean
-?x && ?x       => error
-true || true   => "true"^^xsd:boolean
-true || false  => "true"^^xsd:boolean
-false || true  => "true"^^xsd:boolean
-false || false => "false"^^xsd:boolean
-true || ?x     => "true"^^xsd:boolean
-?x || true     => "true"^^xsd:boolean
-false || ?x    => error
-?x || false    => error
-?x || ?x       => error
-!true          => "false"^^xsd:boolean
-!false         => "true"^^xsd:boolean
-!?x            => error
+SELECT ?x ?y { FILTER (true && true) } => "true"^^<http://www.w3.org/2001/XMLSchema#boolean>
+SELECT ?x ?y { FILTER (true && false) } => "false"^^<http://www.w3.org/2001/XMLSchema#boolean>
+SELECT ?x ?y { FILTER (false && true) } => "false"^^<http://www.w3.org/2001/XMLSchema#boolean>
+SELECT ?x ?y { FILTER (false && false) } => "false"^^<http://www.w3.org/2001/XMLSchema#boolean>
+SELECT ?x ?y { FILTER (true && ?x) } => Error
+SELECT ?x ?y { FILTER (?x && true) } => Error
+SELECT ?x ?y { FILTER (false && ?x) } => "false"^^<http://www.w3.org/2001/XMLSchema#boolean>
+SELECT ?x ?y { FILTER (?x && false) } => "false"^^<http://www.w3.org/2001/XMLSchema#boolean>
+SELECT ?x ?y { FILTER (?x && ?x) } => Error
+SELECT ?x ?y { FILTER (true || true) } => "true"^^<http://www.w3.org/2001/XMLSchema#boolean>
+SELECT ?x ?y { FILTER (true || false) } => "true"^^<http://www.w3.org/2001/XMLSchema#boolean>
+SELECT ?x ?y { FILTER (false || true) } => "true"^^<http://www.w3.org/2001/XMLSchema#boolean>
+SELECT ?x ?y { FILTER (false || false) } => "false"^^<http://www.w3.org/2001/XMLSchema#boolean>
+SELECT ?x ?y { FILTER (true || ?x) } => "true"^^<http://www.w3.org/2001/XMLSchema#boolean>
+SELECT ?x ?y { FILTER (?x || true) } => "true"^^<http://www.w3.org/2001/XMLSchema#boolean>
+SELECT ?x ?y { FILTER (false || ?x) } => Error
+SELECT ?x ?y { FILTER (?x || false) } => Error
+SELECT ?x ?y { FILTER (?x || ?x) } => Error
+SELECT ?x ?y { FILTER (!true) } => "false"^^<http://www.w3.org/2001/XMLSchema#boolean>
+SELECT ?x ?y { FILTER (!false) } => "true"^^<http://www.w3.org/2001/XMLSchema#boolean>
+SELECT ?x ?y { FILTER (!?x) } => Error
 "#;
 
 /// A comparison is a boolean or an error. If an operand is an error, the comparison is one.
 const COMPARISONS: &str = r#"
-"01"^^xsd:integer = "1.0"^^xsd:decimal => "true"^^xsd:boolean
-"-0"^^xsd:integer = "0.0"^^xsd:decimal => "true"^^xsd:boolean
-"+2"^^xsd:integer < "2.5"^^xsd:decimal => "true"^^xsd:boolean
-"10"^^xsd:integer < "9"^^xsd:integer   => "false"^^xsd:boolean
-"18446744073709551617"^^xsd:integer = "1"^^xsd:integer => "false"^^xsd:boolean
-"1"^^xsd:integer = "1"^^xsd:double     => error
-"1"^^xsd:double = "1"^^xsd:double      => "true"^^xsd:boolean
-"a"@en = "a"                           => error
-<http://e/a> = "a"                     => "false"^^xsd:boolean
-"0"^^xsd:boolean < "true"^^xsd:boolean => "true"^^xsd:boolean
-"a"@en < "b"@en                        => error
-"5."^^xsd:decimal = "5"^^xsd:decimal   => "true"^^xsd:boolean
-"."^^xsd:decimal = "0"^^xsd:decimal    => error
-?x = ?x                                => error
+SELECT ?x ?y { FILTER ("01"^^<http://www.w3.org/2001/XMLSchema#integer> = "1.0"^^<http://www.w3.org/2001/XMLSchema#decimal>) } => "true"^^<http://www.w3.org/2001/XMLSchema#boolean>
+SELECT ?x ?y { FILTER ("-0"^^<http://www.w3.org/2001/XMLSchema#integer> = "0.0"^^<http://www.w3.org/2001/XMLSchema#decimal>) } => "true"^^<http://www.w3.org/2001/XMLSchema#boolean>
+SELECT ?x ?y { FILTER ("+2"^^<http://www.w3.org/2001/XMLSchema#integer> < "2.5"^^<http://www.w3.org/2001/XMLSchema#decimal>) } => "true"^^<http://www.w3.org/2001/XMLSchema#boolean>
+SELECT ?x ?y { FILTER ("10"^^<http://www.w3.org/2001/XMLSchema#integer> < "9"^^<http://www.w3.org/2001/XMLSchema#integer>) } => "false"^^<http://www.w3.org/2001/XMLSchema#boolean>
+SELECT ?x ?y { FILTER ("18446744073709551617"^^<http://www.w3.org/2001/XMLSchema#integer> = "1"^^<http://www.w3.org/2001/XMLSchema#integer>) } => "false"^^<http://www.w3.org/2001/XMLSchema#boolean>
+SELECT ?x ?y { FILTER ("1"^^<http://www.w3.org/2001/XMLSchema#integer> = "1"^^<http://www.w3.org/2001/XMLSchema#double>) } => Error
+SELECT ?x ?y { FILTER ("1"^^<http://www.w3.org/2001/XMLSchema#double> = "1"^^<http://www.w3.org/2001/XMLSchema#double>) } => "true"^^<http://www.w3.org/2001/XMLSchema#boolean>
+SELECT ?x ?y { FILTER ("a"@en = "a") } => Error
+SELECT ?x ?y { FILTER (<http://e/a> = "a") } => "false"^^<http://www.w3.org/2001/XMLSchema#boolean>
+SELECT ?x ?y { FILTER ("0"^^<http://www.w3.org/2001/XMLSchema#boolean> < "true"^^<http://www.w3.org/2001/XMLSchema#boolean>) } => "true"^^<http://www.w3.org/2001/XMLSchema#boolean>
+SELECT ?x ?y { FILTER ("a"@en < "b"@en) } => Error
+SELECT ?x ?y { FILTER ("5."^^<http://www.w3.org/2001/XMLSchema#decimal> = "5"^^<http://www.w3.org/2001/XMLSchema#decimal>) } => "true"^^<http://www.w3.org/2001/XMLSchema#boolean>
+SELECT ?x ?y { FILTER ("."^^<http://www.w3.org/2001/XMLSchema#decimal> = "0"^^<http://www.w3.org/2001/XMLSchema#decimal>) } => Error
+SELECT ?x ?y { FILTER (?x = ?x) } => Error
 "#;
 
 /// Variables, bound and unbound, and sameTerm ([121] `BuiltInCall`).
 const TERMS: &str = r#"
 # A variable alone is its term, and an error if the row has no place for it. Under `||` it is a boolean.
-?x where ?x is "01"^^xsd:integer          => "01"^^xsd:integer
-?y where ?x is "01"^^xsd:integer          => error
-?x || false where ?x is "01"^^xsd:integer => "true"^^xsd:boolean
+SELECT ?x ?y { FILTER (?x) } where ?x is "01"^^xsd:integer => "01"^^<http://www.w3.org/2001/XMLSchema#integer>
+SELECT ?x ?y { FILTER (?y) } where ?x is "01"^^xsd:integer => Error
+SELECT ?x ?y { FILTER (?x || false) } where ?x is "01"^^xsd:integer => "true"^^<http://www.w3.org/2001/XMLSchema#boolean>
 # BOUND of an unbound variable is false. Other functions of one are an error.
-BOUND(?x) && ?x  => "false"^^xsd:boolean
-isIRI(?x)        => error
-sameTerm(?x, ?x) => error
+SELECT ?x ?y { FILTER (BOUND(?x) && ?x) } => "false"^^<http://www.w3.org/2001/XMLSchema#boolean>
+SELECT ?x ?y { FILTER (isIRI(?x)) } => Error
+SELECT ?x ?y { FILTER (sameTerm(?x, ?x)) } => Error
 # sameTerm compares lexical forms.
-sameTerm("01"^^xsd:integer, "1"^^xsd:integer)  => "false"^^xsd:boolean
-sameTerm("01"^^xsd:integer, "01"^^xsd:integer) => "true"^^xsd:boolean
+SELECT ?x ?y { FILTER (sameTerm("01"^^<http://www.w3.org/2001/XMLSchema#integer>, "1"^^<http://www.w3.org/2001/XMLSchema#integer>)) } => "false"^^<http://www.w3.org/2001/XMLSchema#boolean>
+SELECT ?x ?y { FILTER (sameTerm("01"^^<http://www.w3.org/2001/XMLSchema#integer>, "01"^^<http://www.w3.org/2001/XMLSchema#integer>)) } => "true"^^<http://www.w3.org/2001/XMLSchema#boolean>
 "#;
 
 /// IN and NOT IN ([114] `RelationalExpression`).
 const MEMBERSHIP: &str = r#"
 # IN and NOT IN compare by value: 01 is among 2 and 1.0, a number of 40 digits is not, and a string, a double and
 # an unbound variable are errors.
-?x IN (2, 1.0) where ?x is "01"^^xsd:integer                                           => "true"^^xsd:boolean
-?x IN (2, 1.0) where ?x is "1000000000000000000000000000000000000001"^^xsd:integer     => "false"^^xsd:boolean
-?x IN (2, 1.0) where ?x is "1"                                                         => error
-?x IN (2, 1.0) where ?x is "1"^^xsd:double                                             => error
-?x IN (2, 1.0)                                                                         => error
-?x NOT IN (2, 1.0) where ?x is "01"^^xsd:integer                                       => "false"^^xsd:boolean
-?x NOT IN (2, 1.0) where ?x is "1000000000000000000000000000000000000001"^^xsd:integer => "true"^^xsd:boolean
-?x NOT IN (2, 1.0) where ?x is "1"                                                     => error
-?x NOT IN (2, 1.0) where ?x is "1"^^xsd:double                                         => error
-?x NOT IN (2, 1.0)                                                                     => error
+SELECT ?x ?y { FILTER (?x IN (2, 1.0)) } where ?x is "01"^^xsd:integer => "true"^^<http://www.w3.org/2001/XMLSchema#boolean>
+SELECT ?x ?y { FILTER (?x IN (2, 1.0)) } where ?x is "1000000000000000000000000000000000000001"^^xsd:integer => "false"^^<http://www.w3.org/2001/XMLSchema#boolean>
+SELECT ?x ?y { FILTER (?x IN (2, 1.0)) } where ?x is "1" => Error
+SELECT ?x ?y { FILTER (?x IN (2, 1.0)) } where ?x is "1"^^xsd:double => Error
+SELECT ?x ?y { FILTER (?x IN (2, 1.0)) } => Error
+SELECT ?x ?y { FILTER (?x NOT IN (2, 1.0)) } where ?x is "01"^^xsd:integer => "false"^^<http://www.w3.org/2001/XMLSchema#boolean>
+SELECT ?x ?y { FILTER (?x NOT IN (2, 1.0)) } where ?x is "1000000000000000000000000000000000000001"^^xsd:integer => "true"^^<http://www.w3.org/2001/XMLSchema#boolean>
+SELECT ?x ?y { FILTER (?x NOT IN (2, 1.0)) } where ?x is "1" => Error
+SELECT ?x ?y { FILTER (?x NOT IN (2, 1.0)) } where ?x is "1"^^xsd:double => Error
+SELECT ?x ?y { FILTER (?x NOT IN (2, 1.0)) } => Error
 # An error in the list of IN hides no member that is equal. `?x` is unbound.
-1 IN (?x, 1) => "true"^^xsd:boolean
-1 IN (?x, 2) => error
+SELECT ?x ?y { FILTER (1 IN (?x, 1)) } => "true"^^<http://www.w3.org/2001/XMLSchema#boolean>
+SELECT ?x ?y { FILTER (1 IN (?x, 2)) } => Error
 # Nothing is in the empty list, not even an error.
-?x IN () where ?x is "01"^^xsd:integer                                           => "false"^^xsd:boolean
-?x IN () where ?x is "1000000000000000000000000000000000000001"^^xsd:integer     => "false"^^xsd:boolean
-?x IN () where ?x is "1"                                                         => "false"^^xsd:boolean
-?x IN () where ?x is "1"^^xsd:double                                             => "false"^^xsd:boolean
-?x IN ()                                                                         => "false"^^xsd:boolean
-?x NOT IN () where ?x is "01"^^xsd:integer                                       => "true"^^xsd:boolean
-?x NOT IN () where ?x is "1000000000000000000000000000000000000001"^^xsd:integer => "true"^^xsd:boolean
-?x NOT IN () where ?x is "1"                                                     => "true"^^xsd:boolean
-?x NOT IN () where ?x is "1"^^xsd:double                                         => "true"^^xsd:boolean
-?x NOT IN ()                                                                     => "true"^^xsd:boolean
+SELECT ?x ?y { FILTER (?x IN ()) } where ?x is "01"^^xsd:integer => "false"^^<http://www.w3.org/2001/XMLSchema#boolean>
+SELECT ?x ?y { FILTER (?x IN ()) } where ?x is "1000000000000000000000000000000000000001"^^xsd:integer => "false"^^<http://www.w3.org/2001/XMLSchema#boolean>
+SELECT ?x ?y { FILTER (?x IN ()) } where ?x is "1" => "false"^^<http://www.w3.org/2001/XMLSchema#boolean>
+SELECT ?x ?y { FILTER (?x IN ()) } where ?x is "1"^^xsd:double => "false"^^<http://www.w3.org/2001/XMLSchema#boolean>
+SELECT ?x ?y { FILTER (?x IN ()) } => "false"^^<http://www.w3.org/2001/XMLSchema#boolean>
+SELECT ?x ?y { FILTER (?x NOT IN ()) } where ?x is "01"^^xsd:integer => "true"^^<http://www.w3.org/2001/XMLSchema#boolean>
+SELECT ?x ?y { FILTER (?x NOT IN ()) } where ?x is "1000000000000000000000000000000000000001"^^xsd:integer => "true"^^<http://www.w3.org/2001/XMLSchema#boolean>
+SELECT ?x ?y { FILTER (?x NOT IN ()) } where ?x is "1" => "true"^^<http://www.w3.org/2001/XMLSchema#boolean>
+SELECT ?x ?y { FILTER (?x NOT IN ()) } where ?x is "1"^^xsd:double => "true"^^<http://www.w3.org/2001/XMLSchema#boolean>
+SELECT ?x ?y { FILTER (?x NOT IN ()) } => "true"^^<http://www.w3.org/2001/XMLSchema#boolean>
 "#;
 
 /// Filters with IN and NOT IN.
 const KEPT: &str = r#"
 # A filter keeps a row only if its condition is true.
-?x IN (2, 1.0) where ?x is "01"^^xsd:integer                                           => kept
-?x IN (2, 1.0) where ?x is "1000000000000000000000000000000000000001"^^xsd:integer     => removed
-?x IN (2, 1.0) where ?x is "1"                                                         => removed
-?x IN (2, 1.0) where ?x is "1"^^xsd:double                                             => removed
-?x IN (2, 1.0)                                                                         => removed
-?x NOT IN (2, 1.0) where ?x is "01"^^xsd:integer                                       => removed
-?x NOT IN (2, 1.0) where ?x is "1000000000000000000000000000000000000001"^^xsd:integer => kept
-?x NOT IN (2, 1.0) where ?x is "1"                                                     => removed
-?x NOT IN (2, 1.0) where ?x is "1"^^xsd:double                                         => removed
-?x NOT IN (2, 1.0)                                                                     => removed
+SELECT ?x ?y { FILTER (?x IN (2, 1.0)) } where ?x is "01"^^xsd:integer => kept
+SELECT ?x ?y { FILTER (?x IN (2, 1.0)) } where ?x is "1000000000000000000000000000000000000001"^^xsd:integer => removed
+SELECT ?x ?y { FILTER (?x IN (2, 1.0)) } where ?x is "1" => removed
+SELECT ?x ?y { FILTER (?x IN (2, 1.0)) } where ?x is "1"^^xsd:double => removed
+SELECT ?x ?y { FILTER (?x IN (2, 1.0)) } => removed
+SELECT ?x ?y { FILTER (?x NOT IN (2, 1.0)) } where ?x is "01"^^xsd:integer => removed
+SELECT ?x ?y { FILTER (?x NOT IN (2, 1.0)) } where ?x is "1000000000000000000000000000000000000001"^^xsd:integer => kept
+SELECT ?x ?y { FILTER (?x NOT IN (2, 1.0)) } where ?x is "1" => removed
+SELECT ?x ?y { FILTER (?x NOT IN (2, 1.0)) } where ?x is "1"^^xsd:double => removed
+SELECT ?x ?y { FILTER (?x NOT IN (2, 1.0)) } => removed
 # A filter keeps every row that is not in the empty list.
-?x NOT IN () where ?x is "01"^^xsd:integer                                       => kept
-?x NOT IN () where ?x is "1000000000000000000000000000000000000001"^^xsd:integer => kept
-?x NOT IN () where ?x is "1"                                                     => kept
-?x NOT IN () where ?x is "1"^^xsd:double                                         => kept
-?x NOT IN ()                                                                     => kept
+SELECT ?x ?y { FILTER (?x NOT IN ()) } where ?x is "01"^^xsd:integer => kept
+SELECT ?x ?y { FILTER (?x NOT IN ()) } where ?x is "1000000000000000000000000000000000000001"^^xsd:integer => kept
+SELECT ?x ?y { FILTER (?x NOT IN ()) } where ?x is "1" => kept
+SELECT ?x ?y { FILTER (?x NOT IN ()) } where ?x is "1"^^xsd:double => kept
+SELECT ?x ?y { FILTER (?x NOT IN ()) } => kept
 "#;
 
 /// STR, LANG, DATATYPE, isIRI, isBlank and isLiteral ([121] `BuiltInCall`) of each kind of term.
 const FUNCTIONS: &str = r#"
-STR(?x) where ?x is "01"^^xsd:integer      => "01"
-LANG(?x) where ?x is "01"^^xsd:integer     => ""
-DATATYPE(?x) where ?x is "01"^^xsd:integer => <http://www.w3.org/2001/XMLSchema#integer>
-STR(?x) where ?x is "x"@en                 => "x"
-LANG(?x) where ?x is "x"@en                => "en"
-DATATYPE(?x) where ?x is "x"@en            => <http://www.w3.org/1999/02/22-rdf-syntax-ns#langString>
-isLiteral(?x) where ?x is "x"@en           => "true"^^xsd:boolean
-isIRI(?x) where ?x is "x"@en               => "false"^^xsd:boolean
-isBlank(?x) where ?x is "x"@en             => "false"^^xsd:boolean
-STR(?x) where ?x is <a:b>                  => "a:b"
-LANG(?x) where ?x is <a:b>                 => error
-DATATYPE(?x) where ?x is <a:b>             => error
-isIRI(?x) where ?x is <a:b>                => "true"^^xsd:boolean
-isBlank(?x) where ?x is <a:b>              => "false"^^xsd:boolean
-isLiteral(?x) where ?x is <a:b>            => "false"^^xsd:boolean
-STR(?x) where ?x is _:b                    => error
-LANG(?x) where ?x is _:b                   => error
-DATATYPE(?x) where ?x is _:b               => error
-isBlank(?x) where ?x is _:b                => "true"^^xsd:boolean
-isIRI(?x) where ?x is _:b                  => "false"^^xsd:boolean
-isLiteral(?x) where ?x is _:b              => "false"^^xsd:boolean
+SELECT ?x ?y { FILTER (STR(?x)) } where ?x is "01"^^xsd:integer => "01"
+SELECT ?x ?y { FILTER (LANG(?x)) } where ?x is "01"^^xsd:integer => ""
+SELECT ?x ?y { FILTER (DATATYPE(?x)) } where ?x is "01"^^xsd:integer => <http://www.w3.org/2001/XMLSchema#integer>
+SELECT ?x ?y { FILTER (STR(?x)) } where ?x is "x"@en => "x"
+SELECT ?x ?y { FILTER (LANG(?x)) } where ?x is "x"@en => "en"
+SELECT ?x ?y { FILTER (DATATYPE(?x)) } where ?x is "x"@en => <http://www.w3.org/1999/02/22-rdf-syntax-ns#langString>
+SELECT ?x ?y { FILTER (isLiteral(?x)) } where ?x is "x"@en => "true"^^<http://www.w3.org/2001/XMLSchema#boolean>
+SELECT ?x ?y { FILTER (isIRI(?x)) } where ?x is "x"@en => "false"^^<http://www.w3.org/2001/XMLSchema#boolean>
+SELECT ?x ?y { FILTER (isBlank(?x)) } where ?x is "x"@en => "false"^^<http://www.w3.org/2001/XMLSchema#boolean>
+SELECT ?x ?y { FILTER (STR(?x)) } where ?x is <a:b> => "a:b"
+SELECT ?x ?y { FILTER (LANG(?x)) } where ?x is <a:b> => Error
+SELECT ?x ?y { FILTER (DATATYPE(?x)) } where ?x is <a:b> => Error
+SELECT ?x ?y { FILTER (isIRI(?x)) } where ?x is <a:b> => "true"^^<http://www.w3.org/2001/XMLSchema#boolean>
+SELECT ?x ?y { FILTER (isBlank(?x)) } where ?x is <a:b> => "false"^^<http://www.w3.org/2001/XMLSchema#boolean>
+SELECT ?x ?y { FILTER (isLiteral(?x)) } where ?x is <a:b> => "false"^^<http://www.w3.org/2001/XMLSchema#boolean>
+SELECT ?x ?y { FILTER (STR(?x)) } where ?x is _:b => Error
+SELECT ?x ?y { FILTER (LANG(?x)) } where ?x is _:b => Error
+SELECT ?x ?y { FILTER (DATATYPE(?x)) } where ?x is _:b => Error
+SELECT ?x ?y { FILTER (isBlank(?x)) } where ?x is _:b => "true"^^<http://www.w3.org/2001/XMLSchema#boolean>
+SELECT ?x ?y { FILTER (isIRI(?x)) } where ?x is _:b => "false"^^<http://www.w3.org/2001/XMLSchema#boolean>
+SELECT ?x ?y { FILTER (isLiteral(?x)) } where ?x is _:b => "false"^^<http://www.w3.org/2001/XMLSchema#boolean>
 "#;
 
-const TABLES: [(Reader, &str); 6] = [
-    (Reader::Expression(Asked::Value), LOGIC),
-    (Reader::Expression(Asked::Value), COMPARISONS),
-    (Reader::Expression(Asked::Value), TERMS),
-    (Reader::Expression(Asked::Value), MEMBERSHIP),
-    (Reader::Expression(Asked::Filter), KEPT),
-    (Reader::Expression(Asked::Value), FUNCTIONS),
+const TABLES: &[(Reader, &str)] = &[
+    (Reader::Value, LOGIC),
+    (Reader::Value, COMPARISONS),
+    (Reader::Value, TERMS),
+    (Reader::Value, MEMBERSHIP),
+    (Reader::Filter, KEPT),
+    (Reader::Value, FUNCTIONS),
 ];
 
 #[test]
 fn expressions_have_their_values(rt: HostRuntime) {
-    assert!(rt; are_all_right(&rt, rt.alloc(), &TABLES));
+    assert!(rt; are_all_lines_right(&rt, rt.alloc(), TABLES));
 }

@@ -43,42 +43,6 @@ pub(crate) type Example = (
     &'static str,
 );
 
-/// A command without its numbers. The query is borrowed.
-#[derive(Clone, Copy)]
-enum Verb<'a> {
-    Select(&'a str),
-    Check,
-    Terms,
-}
-
-/// A command whose query is borrowed.
-#[derive(Clone, Copy)]
-pub(crate) struct Asked<'a> {
-    verb: Verb<'a>,
-    way: Way,
-}
-
-pub(crate) fn select<'a>(query: &'a str, way: Way) -> Asked<'a> {
-    Asked {
-        verb: Verb::Select(query),
-        way,
-    }
-}
-
-pub(crate) fn check(workers: usize, piece: usize) -> Asked<'static> {
-    Asked {
-        verb: Verb::Check,
-        way: (workers, piece, 1),
-    }
-}
-
-pub(crate) fn terms(workers: usize, piece: usize) -> Asked<'static> {
-    Asked {
-        verb: Verb::Terms,
-        way: (workers, piece, 1),
-    }
-}
-
 /// Creates the settings for reading a document. A number that is out of range is replaced by the
 /// nearest one in range.
 fn reading(workers: usize, piece: usize) -> ReadOptions {
@@ -92,59 +56,71 @@ fn text_of(alloc: Global, query: &str) -> Text {
     Text::from_string(String::from_str(alloc, query).unwrap_or(String::new(alloc)))
 }
 
-pub(crate) fn command(alloc: Global, asked: Asked<'_>) -> Command {
-    let (workers, piece, rows) = asked.way;
+/// Creates a command: `check`, `terms`, or the select of a query.
+pub(crate) fn command(alloc: Global, asked: &str, way: Way) -> Command {
+    let (workers, piece, rows) = way;
     let reading = reading(workers, piece);
-    match asked.verb {
-        Verb::Select(query) => Command::Select {
+    match asked {
+        "check" => Command::Check { reading },
+        "terms" => Command::Terms { reading },
+        query => Command::Select {
             query: text_of(alloc, query),
             reading,
             rows,
         },
-        Verb::Check => Command::Check { reading },
-        Verb::Terms => Command::Terms { reading },
     }
 }
 
-/// Runs a command over devices in memory.
+/// Runs a command over devices in memory: `check`, `terms`, or the select of a query.
 pub(crate) fn ran<R: Threads + Wait + RandomSource>(
     rt: &R,
     alloc: Global,
-    asked: Asked<'_>,
+    asked: &str,
+    way: Way,
     reader: &mut SliceSource<'_>,
     writer: &mut VecSink,
 ) -> Result<(), RunFault> {
-    let command = command(alloc, asked);
+    let command = command(alloc, asked, way);
     run(rt, alloc, &command, reader, writer)
 }
 
-/// Returns the output of a command, or the line of its fault.
-fn told<R: Threads + Wait + RandomSource>(
-    rt: &R,
-    alloc: Global,
-    asked: Asked<'_>,
-    doc: &[u8],
-) -> Vec<u8> {
-    let mut reader = SliceSource::new(doc, CHUNK);
-    let mut writer = VecSink::new(alloc, 1000);
-    if let Err(fault) = ran(rt, alloc, asked, &mut reader, &mut writer) {
-        let _tried = write_fault(&fault, &mut writer);
-    }
-    writer.bytes
-}
-
 /// Returns whether a command has this output, or this line of its fault. Prints the case, the way
-/// and both outputs if they differ.
+/// and both outputs if they differ. The command is `check`, `terms`, or the select of a query.
 pub(crate) fn gives<R: Threads + Wait + RandomSource + Print>(
     rt: &R,
     alloc: Global,
     case: &str,
-    asked: Asked<'_>,
+    asked: &str,
+    way: Way,
     doc: &[u8],
     expected: &[u8],
 ) -> bool {
-    let given = told(rt, alloc, asked, doc);
-    is_same(rt, case, asked.way, expected, &given)
+    let mut reader = SliceSource::new(doc, CHUNK);
+    let mut writer = VecSink::new(alloc, 1000);
+    if let Err(fault) = ran(rt, alloc, asked, way, &mut reader, &mut writer) {
+        let _tried = write_fault(&fault, &mut writer);
+    }
+    is_same(rt, case, way, expected, &writer.bytes)
+}
+
+/// Returns whether a command has the output of each case, in each of these ways. A case is a name, a
+/// document and the output.
+pub(crate) fn all_give<R: Threads + Wait + RandomSource + Print>(
+    rt: &R,
+    alloc: Global,
+    asked: &str,
+    ways: &[Way],
+    cases: &[(&str, &str, &str)],
+) -> bool {
+    for way in ways {
+        for (name, doc, expected) in cases {
+            let (doc, expected) = (doc.as_bytes(), expected.as_bytes());
+            if !gives(rt, alloc, *name, asked, *way, doc, expected) {
+                return false;
+            }
+        }
+    }
+    true
 }
 
 /// Returns whether the two outputs are the same. Prints the case, the way and both if they differ.
@@ -184,40 +160,35 @@ pub(crate) fn json(alloc: Global, vars: &str, bindings: &str) -> Result<Vec<u8>,
     Ok(made)
 }
 
-/// Returns whether an example has this output for each number of workers, size of blocks and size of
+/// Returns whether an example has its output for each number of workers, size of blocks and size of
 /// pieces.
-fn is_given_in_every_way<R: Threads + Wait + RandomSource + Print>(
-    rt: &R,
-    alloc: Global,
-    example: &Example,
-    expected: &[u8],
-) -> bool {
-    let (name, doc, query, _, _) = *example;
-    for way in &WAYS {
-        if !gives(
-            rt,
-            alloc,
-            name,
-            select(query, *way),
-            doc.as_bytes(),
-            expected,
-        ) {
-            return false;
-        }
-    }
-    true
-}
-
-/// Returns whether an example has its output.
 fn is_result<R: Threads + Wait + RandomSource + Print>(
     rt: &R,
     alloc: Global,
     example: &Example,
 ) -> bool {
-    match json(alloc, example.3, example.4) {
-        Ok(expected) => is_given_in_every_way(rt, alloc, example, &expected),
+    let (name, doc, query, vars, bindings) = *example;
+    match json(alloc, vars, bindings) {
+        Ok(expected) => is_given_in_every_way(rt, alloc, name, query, doc.as_bytes(), &expected),
         Err(_) => false,
     }
+}
+
+/// Returns whether a select has this output in each way.
+fn is_given_in_every_way<R: Threads + Wait + RandomSource + Print>(
+    rt: &R,
+    alloc: Global,
+    case: &str,
+    query: &str,
+    doc: &[u8],
+    expected: &[u8],
+) -> bool {
+    for way in &WAYS {
+        if !gives(rt, alloc, case, query, *way, doc, expected) {
+            return false;
+        }
+    }
+    true
 }
 
 /// Returns whether each example has its output. Prints the first that has another one.

@@ -1,6 +1,6 @@
 //! Documents that are checked, and documents whose terms are listed.
 
-use super::asking::{Asked, WHOLE, check, gives, select, terms};
+use super::asking::{WHOLE, Way, all_give, gives};
 use super::samples::{ESCAPED, GRAPHS, REPEATED, TWO_LINES};
 use std::alloc::{AllocError, Global};
 use std::random::RandomSource;
@@ -71,30 +71,33 @@ const CHECKED: [(&str, &str, &str); 14] = [
 /// A comment with a byte that is not valid UTF-8.
 const NO_TEXT: &[u8] = b"# \xFF\n";
 
-/// Returns whether `check` has this output, in one block and line by line.
-fn is_checked<R: Threads + Wait + RandomSource + Print>(
-    rt: &R,
-    alloc: Global,
-    name: &str,
-    doc: &[u8],
-    expected: &str,
-) -> bool {
-    gives(rt, alloc, name, check(1, 65536), doc, expected.as_bytes())
-        && gives(rt, alloc, name, check(8, 1), doc, expected.as_bytes())
-}
-
-fn are_checked<R: Threads + Wait + RandomSource + Print>(rt: &R, alloc: Global) -> bool {
-    for (name, doc, expected) in &CHECKED {
-        if !is_checked(rt, alloc, *name, doc.as_bytes(), *expected) {
-            return false;
-        }
-    }
-    is_checked(rt, alloc, "no UTF-8", NO_TEXT, "error: line 1\n")
-}
-
 #[test]
 fn documents_are_checked(rt: HostRuntime) {
-    assert!(rt; are_checked(&rt, rt.alloc()));
+    let (whole, lines) = ((1, 65536, 1), (8, 1, 1));
+    assert!(rt; all_give(&rt, rt.alloc(), "check", &[whole, lines], &CHECKED));
+    let expected = b"error: line 1\n";
+    assert!(rt;
+        gives(
+            &rt,
+            rt.alloc(),
+            "no UTF-8",
+            "check",
+            whole,
+            NO_TEXT,
+            expected
+        )
+    );
+    assert!(rt;
+        gives(
+            &rt,
+            rt.alloc(),
+            "no UTF-8",
+            "check",
+            lines,
+            NO_TEXT,
+            expected
+        )
+    );
 }
 
 /// Creates a document of `count` lines, of which the lines with these two numbers are malformed.
@@ -116,7 +119,7 @@ fn with_bad_lines(alloc: Global, count: u64, bad: (u64, u64)) -> Result<Vec<u8>,
 fn is_line<R: Threads + Wait + RandomSource + Print>(
     rt: &R,
     alloc: Global,
-    asked: Asked<'_>,
+    way: Way,
     doc: &[u8],
     line: u64,
 ) -> bool {
@@ -125,7 +128,8 @@ fn is_line<R: Threads + Wait + RandomSource + Print>(
             rt,
             alloc,
             "malformed lines",
-            asked,
+            "check",
+            way,
             doc,
             expected.as_bytes(),
         ),
@@ -138,18 +142,18 @@ fn is_named<R: Threads + Wait + RandomSource + Print>(
     rt: &R,
     alloc: Global,
     (count, first, second): (u64, u64, u64),
-    asked: Asked<'_>,
+    way: Way,
 ) -> bool {
     match with_bad_lines(alloc, count, (first, second)) {
-        Ok(doc) => is_line(rt, alloc, asked, &doc, first),
+        Ok(doc) => is_line(rt, alloc, way, &doc, first),
         Err(_) => false,
     }
 }
 
 #[test]
 fn the_first_of_two_bad_lines_is_named(rt: HostRuntime) {
-    assert!(rt; is_named(&rt, rt.alloc(), (1000, 2, 900), check(8, 1)));
-    assert!(rt; is_named(&rt, rt.alloc(), (1000, 2, 900), check(8, 65536)));
+    assert!(rt; is_named(&rt, rt.alloc(), (1000, 2, 900), (8, 1, 1)));
+    assert!(rt; is_named(&rt, rt.alloc(), (1000, 2, 900), (8, 65536, 1)));
 }
 
 /// A name, a document, and the output of `terms`.
@@ -181,62 +185,24 @@ const LISTED: [(&str, &str, &str); 5] = [
     ),
 ];
 
-/// Returns whether `terms` has its output for each document.
-fn are_listed<R: Threads + Wait + RandomSource + Print>(
-    rt: &R,
-    alloc: Global,
-    asked: Asked<'_>,
-) -> bool {
-    for (name, doc, expected) in &LISTED {
-        if !gives(rt, alloc, *name, asked, doc.as_bytes(), expected.as_bytes()) {
-            return false;
-        }
-    }
-    true
-}
-
 #[test]
 fn terms_are_listed(rt: HostRuntime) {
-    assert!(rt; are_listed(&rt, rt.alloc(), terms(4, 65536)));
-    assert!(rt; are_listed(&rt, rt.alloc(), terms(2, 1)));
+    let ways = [(4, 65536, 1), (2, 1, 1)];
+    assert!(rt; all_give(&rt, rt.alloc(), "terms", &ways, &LISTED));
 }
 
-/// A query, a document whose last line is malformed, and the output.
-const NOT_SELECTED: [(&str, &str, &str); 3] = [
-    (
-        "SELECT ?o { <http://e/a> <http://e/p> ?o }",
-        HALF_A_PAIR,
-        "error: line 1\n",
-    ),
-    ("SELECT ?o { ?s ?p ?o }", CUT_SHORT, "error: line 3\n"),
-    (
-        "SELECT ?o { <http://e/a> <http://e/p> ?o }",
-        ONE_LINE_MORE,
-        "error: line 4\n",
-    ),
+/// A name, a document whose last line is malformed, and the output of a select.
+const NOT_SELECTED: [(&str, &str, &str); 2] = [
+    ("half a pair of surrogates", HALF_A_PAIR, "error: line 1\n"),
+    ("the last line is bad", ONE_LINE_MORE, "error: line 4\n"),
 ];
 
-fn are_refused<R: Threads + Wait + RandomSource + Print>(rt: &R, alloc: Global) -> bool {
-    for (query, doc, expected) in &NOT_SELECTED {
-        let asked = select(*query, WHOLE);
-        if !gives(
-            rt,
-            alloc,
-            *query,
-            asked,
-            doc.as_bytes(),
-            expected.as_bytes(),
-        ) {
-            return false;
-        }
-    }
-    true
-}
-
-#[test]
-fn a_bad_line_fails_a_select(rt: HostRuntime) {
-    assert!(rt; are_refused(&rt, rt.alloc()));
-}
+/// The same, for a pattern of variables alone.
+const NOT_SCANNED: [(&str, &str, &str); 1] = [(
+    "the last line lacks its dot",
+    CUT_SHORT,
+    "error: line 3\n",
+)];
 
 /// One statement per line.
 const TWICE: &[u8] =
@@ -258,23 +224,12 @@ fn are_prefixes_checked<R: Threads + Wait + RandomSource + Print>(rt: &R, alloc:
     for count in 0..TWICE.len() + 1 {
         let front = &TWICE[..count];
         let text = str::from_utf8(front).unwrap_or("?");
-        if !gives(
-            rt,
-            alloc,
-            text,
-            check(4, 1),
-            front,
-            expected_of_prefix(count),
-        ) {
+        let expected = expected_of_prefix(count);
+        if !gives(rt, alloc, text, "check", (4, 1, 1), front, expected) {
             return false;
         }
     }
     true
-}
-
-#[test]
-fn every_front_of_a_document_is_checked(rt: HostRuntime) {
-    assert!(rt; are_prefixes_checked(&rt, rt.alloc()));
 }
 
 /// Returns whether a malformed line is named at each of sixteen places.
@@ -284,17 +239,27 @@ fn is_each_named<R: Threads + Wait + RandomSource + Print>(
     workers: usize,
 ) -> bool {
     for bad in 1..17 {
-        if !is_named(rt, alloc, (16, bad, bad), check(workers, 1)) {
+        if !is_named(rt, alloc, (16, bad, bad), (workers, 1, 1)) {
             return false;
         }
     }
     true
 }
 
-/// A malformed line is found wherever it is, with every number of workers.
+/// Returns whether a select over a document with a malformed line names the line.
+fn is_select_rejected<R: Threads + Wait + RandomSource + Print>(rt: &R, alloc: Global) -> bool {
+    let query = "SELECT ?o { <http://e/a> <http://e/p> ?o }";
+    all_give(rt, alloc, query, &[WHOLE], &NOT_SELECTED)
+        && all_give(rt, alloc, "SELECT ?o { ?s ?p ?o }", &[WHOLE], &NOT_SCANNED)
+}
+
+/// A malformed line is found wherever it is, with every number of workers, also by a select, and if
+/// the document is cut off anywhere.
 #[test]
 fn each_bad_line_is_named(rt: HostRuntime) {
     assert!(rt; is_each_named(&rt, rt.alloc(), 1));
     assert!(rt; is_each_named(&rt, rt.alloc(), 2));
     assert!(rt; is_each_named(&rt, rt.alloc(), 8));
+    assert!(rt; is_select_rejected(&rt, rt.alloc()));
+    assert!(rt; are_prefixes_checked(&rt, rt.alloc()));
 }

@@ -1,8 +1,8 @@
 //! FILTER ([68] `Filter`), BIND ([60] `Bind`) and the values of expressions ([110] `Expression`).
 
-use super::asking::{Example, WHOLE, are_answered, gives, json, select};
+use super::asking::{Example, WHOLE, are_answered, gives};
 use super::samples::{BLANK, NUMBERS, TAGGED};
-use std::alloc::{AllocError, Global};
+use std::alloc::Global;
 use std::random::RandomSource;
 use std::sync::Wait;
 use std::thread::Threads;
@@ -73,95 +73,78 @@ const FILTERS: [Example; 9] = [
     ),
 ];
 
-#[test]
-fn filters_and_values(rt: HostRuntime) {
-    assert!(rt; are_answered(&rt, rt.alloc(), &FILTERS));
-}
-
-/// Returns the query that binds one variable to the value of an expression.
-fn binding(alloc: Global, expression: &str) -> Result<String, AllocError> {
-    format!(in alloc;
-        "PREFIX x: <http://www.w3.org/2001/XMLSchema#> SELECT ?v {{ BIND({expression} AS ?v) }}"
-    )
-}
-
-/// Returns the bindings of a boolean value, or of an error.
-fn bindings_of(value: Option<bool>) -> &'static str {
+/// Returns the output for a variable that is bound to a boolean, or to nothing.
+fn output_of(value: &str) -> &'static [u8] {
     match value {
-        Some(true) => {
-            "{'v':{'datatype':'http://www.w3.org/2001/XMLSchema#boolean','type':'literal','value':'true'}}"
-        }
-        Some(false) => {
-            "{'v':{'datatype':'http://www.w3.org/2001/XMLSchema#boolean','type':'literal','value':'false'}}"
-        }
-        None => "{}",
+        "true" =>
+            b"{\"head\":{\"vars\":[\"v\"]},\"results\":{\"bindings\":[{\"v\":{\"datatype\":\"http://www.w3.org/2001/XMLSchema#boolean\",\"type\":\"literal\",\"value\":\"true\"}}]}}\n".as_slice(),
+        "false" =>
+            b"{\"head\":{\"vars\":[\"v\"]},\"results\":{\"bindings\":[{\"v\":{\"datatype\":\"http://www.w3.org/2001/XMLSchema#boolean\",\"type\":\"literal\",\"value\":\"false\"}}]}}\n".as_slice(),
+        _ => b"{\"head\":{\"vars\":[\"v\"]},\"results\":{\"bindings\":[{}]}}\n".as_slice(),
     }
 }
 
-/// Comparisons and effective boolean values, with None for an error.
-const VALUES: [(&str, Option<bool>); 28] = [
-    ("\"01\"^^x:integer = \"1.0\"^^x:decimal", Some(true)),
-    ("\"-0\"^^x:integer = \"0.0\"^^x:decimal", Some(true)),
-    ("\"+2\"^^x:integer < \"2.5\"^^x:decimal", Some(true)),
-    ("\"10\"^^x:integer < \"9\"^^x:integer", Some(false)),
-    (
-        "\"18446744073709551617\"^^x:integer = \"1\"^^x:integer",
-        Some(false),
-    ),
-    ("\"1\"^^x:integer = \"1\"^^x:double", None),
-    ("\"1\"^^x:double = \"1\"^^x:double", Some(true)),
-    ("\"a\"@en = \"a\"", None),
-    ("<http://e/a> = \"a\"", Some(false)),
-    ("\"0\"^^x:boolean < \"true\"^^x:boolean", Some(true)),
-    ("\"a\"@en < \"b\"@en", None),
-    ("\"5.\"^^x:decimal = \"5\"^^x:decimal", Some(true)),
-    ("\".\"^^x:decimal = \"0\"^^x:decimal", None),
-    ("!(\"abc\"^^x:integer)", Some(true)),
-    ("\"abc\"^^x:integer && true", Some(false)),
-    ("!(\"0.00\"^^x:decimal)", Some(true)),
-    ("\"0.00\"^^x:decimal && true", Some(false)),
-    ("!(\"\")", Some(true)),
-    ("\"\" && true", Some(false)),
-    ("!(\"1\"^^x:double)", None),
-    ("\"1\"^^x:double && true", None),
-    ("!(<http://e/a>)", None),
-    ("<http://e/a> && true", None),
-    ("BOUND(?u) && ?u", Some(false)),
-    ("true && ?u", None),
-    ("true || ?u", Some(true)),
-    ("!(?u)", None),
-    ("sameTerm(\"01\"^^x:integer, \"1\"^^x:integer)", Some(false)),
-];
+/// Comparisons and effective boolean values.
+const VALUES: &str = r#"
+"01"^^x:integer = "1.0"^^x:decimal => true
+"-0"^^x:integer = "0.0"^^x:decimal => true
+"+2"^^x:integer < "2.5"^^x:decimal => true
+"10"^^x:integer < "9"^^x:integer => false
+"18446744073709551617"^^x:integer = "1"^^x:integer => false
+"1"^^x:integer = "1"^^x:double => error
+"1"^^x:double = "1"^^x:double => true
+"a"@en = "a" => error
+<http://e/a> = "a" => false
+"0"^^x:boolean < "true"^^x:boolean => true
+"a"@en < "b"@en => error
+"5."^^x:decimal = "5"^^x:decimal => true
+"."^^x:decimal = "0"^^x:decimal => error
+!("abc"^^x:integer) => true
+"abc"^^x:integer && true => false
+!("0.00"^^x:decimal) => true
+"0.00"^^x:decimal && true => false
+!("") => true
+"" && true => false
+!("1"^^x:double) => error
+"1"^^x:double && true => error
+!(<http://e/a>) => error
+<http://e/a> && true => error
+BOUND(?u) && ?u => false
+true && ?u => error
+true || ?u => true
+!(?u) => error
+sameTerm("01"^^x:integer, "1"^^x:integer) => false
+"#;
 
-/// Returns whether an expression has this value. `query` binds the variable to it.
-fn is_bound<R: Threads + Wait + RandomSource + Print>(
-    rt: &R,
-    alloc: Global,
-    query: &str,
-    value: Option<bool>,
-) -> bool {
-    match json(alloc, "'v'", bindings_of(value)) {
-        Ok(expected) => gives(rt, alloc, query, select(query, WHOLE), b"", &expected),
-        Err(_) => false,
-    }
-}
-
-/// Returns whether an expression has this value.
+/// Returns whether an expression has this value. An error binds nothing.
 fn has_value<R: Threads + Wait + RandomSource + Print>(
     rt: &R,
     alloc: Global,
     expression: &str,
-    value: Option<bool>,
+    value: &str,
 ) -> bool {
-    match binding(alloc, expression) {
-        Ok(query) => is_bound(rt, alloc, query.as_str(), value),
+    let query = format!(in alloc;
+        "PREFIX x: <http://www.w3.org/2001/XMLSchema#> SELECT ?v {{ BIND({expression} AS ?v) }}"
+    );
+    match query {
+        Ok(query) => gives(
+            rt,
+            alloc,
+            expression,
+            query.as_str(),
+            WHOLE,
+            b"",
+            output_of(value),
+        ),
         Err(_) => false,
     }
 }
 
+/// Returns whether each expression has its value.
 fn have_values<R: Threads + Wait + RandomSource + Print>(rt: &R, alloc: Global) -> bool {
-    for (expression, value) in &VALUES {
-        if !has_value(rt, alloc, *expression, *value) {
+    for line in VALUES.trim().lines() {
+        let (expression, value) = line.split_once(" => ").unwrap_or((line, "no value"));
+        if !has_value(rt, alloc, expression, value) {
             return false;
         }
     }
@@ -169,6 +152,7 @@ fn have_values<R: Threads + Wait + RandomSource + Print>(rt: &R, alloc: Global) 
 }
 
 #[test]
-fn values_are_true_false_or_an_error(rt: HostRuntime) {
+fn filters_and_values(rt: HostRuntime) {
+    assert!(rt; are_answered(&rt, rt.alloc(), &FILTERS));
     assert!(rt; have_values(&rt, rt.alloc()));
 }

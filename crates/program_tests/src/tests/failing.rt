@@ -1,6 +1,6 @@
 //! Readers and writers that fail.
 
-use super::asking::{Asked, CHUNK, WHOLE, Way, check, command, ran, select, terms};
+use super::asking::{CHUNK, WHOLE, Way, command, ran};
 use super::samples::{GRAPHS, REPEATED, TWO_LINES};
 use nquads_core::Device;
 use spq_core::{RunFault, finish, run};
@@ -17,7 +17,7 @@ const OUTPUT: &[u8] =
 
 /// Returns whether a select over devices of the standard library has its output.
 fn agrees_with_std<R: Threads + Wait + RandomSource>(rt: &R, alloc: Global, way: Way) -> bool {
-    let command = command(alloc, select(OBJECTS, way));
+    let command = command(alloc, OBJECTS, way);
     let mut reader = Device {
         inner: REPEATED.as_bytes(),
     };
@@ -62,7 +62,7 @@ fn run_select<R: Threads + Wait + RandomSource>(
     reader: &mut SliceSource<'_>,
     writer: &mut VecSink,
 ) -> Result<String, AllocError> {
-    let done = ran(rt, alloc, select(query, WHOLE), reader, writer);
+    let done = ran(rt, alloc, query, WHOLE, reader, writer);
     let written = written_of(OUTPUT, writer);
     let told = told_of(alloc, done)?;
     let is_read = reader.calls > 0;
@@ -72,40 +72,51 @@ fn run_select<R: Threads + Wait + RandomSource>(
     )
 }
 
-/// Returns whether a run has this end. Prints the case and both ends if it has not.
-fn has_end<R: Print>(
+/// Runs a select over these devices. Returns whether it has this end. Prints the case and both ends if
+/// it has not.
+fn has_end<R: Threads + Wait + RandomSource + Print>(
     rt: &R,
-    case: &str,
-    k: usize,
+    alloc: Global,
+    case: (&str, usize),
+    query: &str,
+    reader: &mut SliceSource<'_>,
+    writer: &mut VecSink,
     expected: &str,
-    end: Result<String, AllocError>,
 ) -> bool {
-    match end {
-        Ok(end) => is_same_end(rt, case, k, expected, end.as_str()),
+    match run_select(rt, alloc, query, reader, writer) {
+        Ok(end) => is_same_end(rt, case, expected, end.as_str()),
         Err(_) => false,
     }
 }
 
 /// Returns whether the two ends are the same. Prints the case and both if they differ.
-fn is_same_end<R: Print>(rt: &R, case: &str, k: usize, expected: &str, end: &str) -> bool {
-    if end == expected {
-        return true;
+fn is_same_end<R: Print>(rt: &R, case: (&str, usize), expected: &str, end: &str) -> bool {
+    if end != expected {
+        let _ = println!(rt; "{} {}: expected {expected}got {end}", case.0, case.1);
     }
-    let _ = println!(rt; "{case} {k}: expected {expected}got {end}");
-    false
+    end == expected
 }
 
 /// Returns whether a run whose writer fails after `k` bytes has written just these.
 fn is_cut_after<R: Threads + Wait + RandomSource + Print>(rt: &R, alloc: Global, k: usize) -> bool {
     let mut reader = SliceSource::new(REPEATED.as_bytes(), CHUNK);
     let mut writer = VecSink::failing_after(alloc, 1, k);
-    let end = run_select(rt, alloc, OBJECTS, &mut reader, &mut writer);
+    let case = ("write", k);
     match format!(in alloc; "Err(Write), Some({k}), 0 and 1, true, status 5, error: output\n") {
-        Ok(expected) => has_end(rt, "write", k, expected.as_str(), end),
+        Ok(expected) => has_end(
+            rt,
+            alloc,
+            case,
+            OBJECTS,
+            &mut reader,
+            &mut writer,
+            expected.as_str(),
+        ),
         Err(_) => false,
     }
 }
 
+/// Returns whether a run has written just the bytes before a failed write, for each number of bytes.
 fn are_cut<R: Threads + Wait + RandomSource + Print>(rt: &R, alloc: Global) -> bool {
     for k in 0..OUTPUT.len() {
         if !is_cut_after(rt, alloc, k) {
@@ -115,55 +126,53 @@ fn are_cut<R: Threads + Wait + RandomSource + Print>(rt: &R, alloc: Global) -> b
     true
 }
 
-#[test]
-fn each_write_that_fails_leaves_a_beginning(rt: HostRuntime) {
-    assert!(rt; are_cut(&rt, rt.alloc()));
-}
-
-#[test]
-fn a_writer_that_takes_nothing_has_failed(rt: HostRuntime) {
-    let mut reader = SliceSource::new(REPEATED.as_bytes(), CHUNK);
-    let mut writer = VecSink::new(rt.alloc(), 0);
-    let end = run_select(&rt, rt.alloc(), OBJECTS, &mut reader, &mut writer);
-    let expected = "Err(Write), Some(0), 0 and 0, true, status 5, error: output\n";
-    assert!(rt; has_end(&rt, "a writer of chunks of", 0, expected, end));
-}
-
-/// Returns whether a run whose reader fails after `k` bytes has written nothing.
-fn is_not_written<R: Threads + Wait + RandomSource + Print>(
-    rt: &R,
-    alloc: Global,
-    k: usize,
-) -> bool {
-    let mut reader = SliceSource::failing_after(REPEATED.as_bytes(), CHUNK, k);
-    let mut writer = VecSink::new(alloc, 1000);
-    let end = run_select(rt, alloc, OBJECTS, &mut reader, &mut writer);
-    let expected = "Err(Read), Some(0), 1 and 0, true, status 5, error: input\n";
-    has_end(rt, "the read after bytes", k, expected, end)
-}
-
+/// Returns whether a run has written nothing before a failed read, for each number of bytes that the
+/// reads before it gave.
 fn are_not_written<R: Threads + Wait + RandomSource + Print>(rt: &R, alloc: Global) -> bool {
+    let expected = "Err(Read), Some(0), 1 and 0, true, status 5, error: input\n";
+    let mut are_right = true;
     for k in 0..REPEATED.len() + 1 {
-        if !is_not_written(rt, alloc, k) {
-            return false;
-        }
+        let mut reader = SliceSource::failing_after(REPEATED.as_bytes(), CHUNK, k);
+        let mut writer = VecSink::new(alloc, 1000);
+        let case = ("the read after bytes", k);
+        are_right &= has_end(rt, alloc, case, OBJECTS, &mut reader, &mut writer, expected);
     }
-    true
+    are_right
 }
 
-#[test]
-fn each_read_that_fails_writes_nothing(rt: HostRuntime) {
-    assert!(rt; are_not_written(&rt, rt.alloc()));
+/// Returns whether a writer that takes nothing fails a run.
+fn is_writer_needed<R: Threads + Wait + RandomSource + Print>(rt: &R, alloc: Global) -> bool {
+    let mut reader = SliceSource::new(REPEATED.as_bytes(), CHUNK);
+    let mut writer = VecSink::new(alloc, 0);
+    let case = ("a writer of chunks of", 0);
+    let expected = "Err(Write), Some(0), 0 and 0, true, status 5, error: output\n";
+    has_end(rt, alloc, case, OBJECTS, &mut reader, &mut writer, expected)
 }
 
-#[test]
-fn a_bad_query_reads_nothing(rt: HostRuntime) {
+/// Returns whether nothing is read for a query that is rejected.
+fn is_nothing_read<R: Threads + Wait + RandomSource + Print>(rt: &R, alloc: Global) -> bool {
     let mut reader = SliceSource::failing_after(REPEATED.as_bytes(), CHUNK, 0);
-    let mut writer = VecSink::new(rt.alloc(), 1000);
+    let mut writer = VecSink::new(alloc, 1000);
     let query = "SELECT ?x { ?x <http://e/p> }";
-    let end = run_select(&rt, rt.alloc(), query, &mut reader, &mut writer);
     let expected = "Err(Query(Syntax)), Some(0), 0 and 0, false, status 2, error: query syntax\n";
-    assert!(rt; has_end(&rt, "a bad query", 0, expected, end));
+    has_end(
+        rt,
+        alloc,
+        ("a bad query", 0),
+        query,
+        &mut reader,
+        &mut writer,
+        expected,
+    )
+}
+
+/// A failed write leaves a prefix of the output, and a failed read or a rejected query leaves nothing.
+#[test]
+fn each_failure_leaves_a_beginning(rt: HostRuntime) {
+    assert!(rt; are_cut(&rt, rt.alloc()));
+    assert!(rt; is_writer_needed(&rt, rt.alloc()));
+    assert!(rt; are_not_written(&rt, rt.alloc()));
+    assert!(rt; is_nothing_read(&rt, rt.alloc()));
 }
 
 /// A number of calls that no reader or writer here reaches.
@@ -185,18 +194,18 @@ struct Effects {
     failed_writes: u64,
 }
 
-/// A command, its document and its output.
-type Sample<'a> = (Asked<'a>, &'a [u8], &'a [u8]);
+/// A command, its way, its document and its output.
+type Sample<'a> = (&'a str, Way, &'a [u8], &'a [u8]);
 
 /// Runs a command over these devices.
 fn run_sample<R: Threads + Wait + RandomSource>(
     rt: &R,
     alloc: Global,
-    (asked, _doc, output): Sample<'_>,
+    (asked, way, _doc, output): Sample<'_>,
     mut reader: SliceSource<'_>,
     mut writer: VecSink,
 ) -> Effects {
-    let done = ran(rt, alloc, asked, &mut reader, &mut writer);
+    let done = ran(rt, alloc, asked, way, &mut reader, &mut writer);
     Effects {
         done,
         rest: reader.rest.len(),
@@ -217,7 +226,7 @@ fn reports_each_failed_read<R: Threads + Wait + RandomSource>(
     sample: Sample<'_>,
     wanted: Result<(), RunFault>,
 ) -> bool {
-    let doc = sample.1;
+    let doc = sample.2;
     for k in 0..MANY {
         let reader = SliceSource::failing_at(doc, CHUNK, k);
         let end = run_sample(rt, alloc, sample, reader, VecSink::new(alloc, 1000));
@@ -241,7 +250,7 @@ fn reports_each_failed_write<R: Threads + Wait + RandomSource>(
     alloc: Global,
     sample: Sample<'_>,
 ) -> bool {
-    let (_, doc, output) = sample;
+    let (_, _, doc, output) = sample;
     let mut before = None;
     for k in 0..MANY {
         let reader = SliceSource::new(doc, CHUNK);
@@ -274,49 +283,39 @@ fn reports_each_failed_write<R: Threads + Wait + RandomSource>(
 fn reports_each_failed_call<R: Threads + Wait + RandomSource>(
     rt: &R,
     alloc: Global,
-    asked: Asked<'_>,
+    asked: &str,
+    way: Way,
     doc: &str,
     output: &[u8],
 ) -> bool {
-    let sample = (asked, doc.as_bytes(), output);
+    let sample = (asked, way, doc.as_bytes(), output);
     reports_each_failed_read(rt, alloc, sample, Ok(()))
         && reports_each_failed_write(rt, alloc, sample)
 }
 
-fn select_tells_each_failed_call<R: Threads + Wait + RandomSource>(
-    rt: &R,
-    alloc: Global,
-    way: Way,
-) -> bool {
-    reports_each_failed_call(rt, alloc, select(OBJECTS, way), REPEATED, OUTPUT)
-}
-
-#[test]
-fn each_call_of_a_select_that_fails_is_reported(rt: HostRuntime) {
-    assert!(rt;
-        select_tells_each_failed_call(&rt, rt.alloc(), WHOLE),
-        "one worker"
-    );
-    assert!(rt;
-        select_tells_each_failed_call(&rt, rt.alloc(), (2, 1, 1)),
-        "two workers"
-    );
-}
-
-#[test]
-fn each_call_of_a_check_that_fails_is_reported(rt: HostRuntime) {
-    let output = b"ok 3 quads 7 terms 2 graphs\n";
-    assert!(rt; reports_each_failed_call(&rt, rt.alloc(), check(2, 1), GRAPHS, output));
+/// Returns whether a check and a list of terms report each failing call, and a check of a malformed
+/// document each failing read.
+fn are_reported<R: Threads + Wait + RandomSource>(rt: &R, alloc: Global) -> bool {
+    let way = (2, 1, 1);
+    let checked = b"ok 3 quads 7 terms 2 graphs\n";
+    let listed = b"<http://e/a>\n<http://e/p>\n_:b\n<http://e/q>\n\"\xC3\xA9\\n\"@en\n";
     let bad = b"<http://e/a> <http://e/p> <http://e/b> .\nx\n".as_slice();
-    let sample = (check(2, 1), bad, b"".as_slice());
-    assert!(rt;
-        reports_each_failed_read(&rt, rt.alloc(), sample, Err(RunFault::BadLine(2))),
-        "a malformed document"
-    );
+    let sample = ("check", way, bad, b"".as_slice());
+    reports_each_failed_call(rt, alloc, "check", way, GRAPHS, checked)
+        && reports_each_failed_read(rt, alloc, sample, Err(RunFault::BadLine(2)))
+        && reports_each_failed_call(rt, alloc, "terms", (1, 65536, 1), TWO_LINES, listed)
 }
 
 #[test]
-fn each_call_of_a_list_of_terms_that_fails_is_reported(rt: HostRuntime) {
-    let output = b"<http://e/a>\n<http://e/p>\n_:b\n<http://e/q>\n\"\xC3\xA9\\n\"@en\n";
-    assert!(rt; reports_each_failed_call(&rt, rt.alloc(), terms(1, 65536), TWO_LINES, output));
+fn each_call_that_fails_is_reported(rt: HostRuntime) {
+    let alloc = rt.alloc();
+    assert!(rt;
+        reports_each_failed_call(&rt, alloc, OBJECTS, WHOLE, REPEATED, OUTPUT),
+        "a select with one worker"
+    );
+    assert!(rt;
+        reports_each_failed_call(&rt, alloc, OBJECTS, (2, 1, 1), REPEATED, OUTPUT),
+        "a select with two workers"
+    );
+    assert!(rt; are_reported(&rt, alloc), "a check or a list of terms");
 }

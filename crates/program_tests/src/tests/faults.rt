@@ -44,25 +44,16 @@ const FAULTS: [(RunFault, &str); 14] = [
     (RunFault::Write, "5 error: output\n"),
 ];
 
-/// Prints a status and the line that a sink holds.
-fn shown(alloc: Global, status: u8, sink: &VecSink) -> Result<String, AllocError> {
+/// Prints the status and the line of a fault, from `finish`, or from `status` and `write_fault`.
+fn told(alloc: Global, fault: RunFault, is_finished: bool) -> Result<String, AllocError> {
+    let mut sink = VecSink::new(alloc, 1000);
+    let status = if is_finished {
+        finish(&Err(fault), &mut sink)
+    } else {
+        let is_written = write_fault(&fault, &mut sink).is_ok();
+        if is_written { status(&fault) } else { 0 }
+    };
     format!(in alloc; "{status} {}", str::from_utf8(&sink.bytes).unwrap_or("?"))
-}
-
-/// Prints the status and the line of a fault, from `status` and `write_fault`.
-fn written(alloc: Global, fault: RunFault) -> Result<String, AllocError> {
-    let mut sink = VecSink::new(alloc, 1000);
-    if write_fault(&fault, &mut sink).is_err() {
-        return String::from_str(alloc, "not written");
-    }
-    shown(alloc, status(&fault), &sink)
-}
-
-/// Prints the status and the line of a fault, from `finish`.
-fn finished(alloc: Global, fault: RunFault) -> Result<String, AllocError> {
-    let mut sink = VecSink::new(alloc, 1000);
-    let status = finish(&Err(fault), &mut sink);
-    shown(alloc, status, &sink)
 }
 
 /// Returns whether a text is this status and this line. Prints the fault and both if not.
@@ -86,8 +77,8 @@ fn is_text<R: Print>(
 /// Returns whether each fault has its status and its line.
 fn are_told<R: Print>(rt: &R, alloc: Global) -> bool {
     for (fault, expected) in &FAULTS {
-        if !is_text(rt, *fault, *expected, written(alloc, *fault))
-            || !is_text(rt, *fault, *expected, finished(alloc, *fault))
+        if !is_text(rt, *fault, *expected, told(alloc, *fault, false))
+            || !is_text(rt, *fault, *expected, told(alloc, *fault, true))
         {
             return false;
         }
@@ -95,14 +86,14 @@ fn are_told<R: Print>(rt: &R, alloc: Global) -> bool {
     true
 }
 
-#[test]
-fn faults_are_written(rt: HostRuntime) {
-    assert!(rt; are_told(&rt, rt.alloc()));
+/// Returns whether a run without a fault has the status 0 and writes nothing.
+fn is_silent(alloc: Global) -> bool {
+    let mut writer = VecSink::new(alloc, 1000);
+    finish(&Ok(()), &mut writer) == 0 && writer.bytes.is_empty()
 }
 
 #[test]
-fn an_end_without_a_fault_writes_nothing(rt: HostRuntime) {
-    let mut writer = VecSink::new(rt.alloc(), 1000);
-    let end = finish(&Ok(()), &mut writer);
-    assert!(rt; end == 0 && writer.bytes.is_empty(), "status {end}");
+fn faults_are_written(rt: HostRuntime) {
+    assert!(rt; are_told(&rt, rt.alloc()));
+    assert!(rt; is_silent(rt.alloc()), "a run without a fault");
 }

@@ -1,8 +1,9 @@
 //! OPTIONAL ([57] `OptionalGraphPattern`), UNION ([67] `GroupOrUnionGraphPattern`), MINUS ([66]
-//! `MinusGraphPattern`) and nested groups ([53] `GroupGraphPattern`).
+//! `MinusGraphPattern`), nested groups ([53] `GroupGraphPattern`) and the tables of `tables`.
 
 use super::asking::{Example, are_answered};
 use super::samples::{NUMBERED, PAIRS, TWO_OBJECTS, TYPED};
+use super::tables::TABLES;
 
 const GROUPS: [Example; 6] = [
     (
@@ -52,4 +53,5 @@ const GROUPS: [Example; 6] = [
 #[test]
 fn groups_are_joined(rt: HostRuntime) {
     assert!(rt; are_answered(&rt, rt.alloc(), &GROUPS));
+    assert!(rt; are_answered(&rt, rt.alloc(), &TABLES));
 }

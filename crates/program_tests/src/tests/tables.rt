@@ -1,9 +1,10 @@
 //! VALUES ([61] `InlineData`).
 
-use super::asking::{Example, are_answered};
+use super::asking::Example;
 use super::samples::TWO_OBJECTS;
 
-const TABLES: [Example; 3] = [
+/// Tables that are joined with the patterns before them.
+pub(crate) const TABLES: [Example; 3] = [
     (
         "UNDEF binds nothing",
         TWO_OBJECTS,
@@ -26,8 +27,3 @@ const TABLES: [Example; 3] = [
         "",
     ),
 ];
-
-#[test]
-fn tables_are_joined(rt: HostRuntime) {
-    assert!(rt; are_answered(&rt, rt.alloc(), &TABLES));
-}

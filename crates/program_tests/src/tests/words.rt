@@ -11,10 +11,13 @@ use test_fixtures::{SliceSource, VecSink};
 
 const STATEMENT: &[u8] = b"<http://e/s> <http://e/p> <http://e/o> .\n";
 
-/// Returns the arguments of a command line.
-pub(crate) fn words_of(alloc: Global, line: &[&str]) -> Result<Vec<String>, AllocError> {
+/// Returns the arguments of a command line, which have bars between them.
+pub(crate) fn words_of(alloc: Global, line: &str) -> Result<Vec<String>, AllocError> {
     let mut words = Vec::new(alloc);
-    for word in line {
+    if line.is_empty() {
+        return Ok(words);
+    }
+    for word in line.split('|') {
         words.push(String::from_str(alloc, word)?)?;
     }
     Ok(words)
@@ -24,13 +27,13 @@ pub(crate) fn words_of(alloc: Global, line: &[&str]) -> Result<Vec<String>, Allo
 /// differ.
 fn is_expected<R: Print>(
     rt: &R,
-    line: &[&str],
+    line: &str,
     (done, output): (Result<(), RunFault>, &[u8]),
     (given, written): (Result<(), RunFault>, &[u8]),
 ) -> bool {
     let is_same = given == done && is_same(rt, "words", WHOLE, output, written);
     if !is_same {
-        let _ = println!(rt; "{line:?}: expected {done:?}, got {given:?}");
+        let _ = println!(rt; "{line}: expected {done:?}, got {given:?}");
     }
     is_same
 }
@@ -40,7 +43,7 @@ fn is_expected<R: Print>(
 fn words_end_so<R: Threads + Wait + RandomSource + Sync + Print>(
     rt: &R,
     alloc: Global,
-    line: &[&str],
+    line: &str,
     words: &[String],
     done: Result<(), RunFault>,
     expected: &[u8],
@@ -56,7 +59,7 @@ fn words_end_so<R: Threads + Wait + RandomSource + Sync + Print>(
 fn end_so<R: Threads + Wait + RandomSource + Sync + Print>(
     rt: &R,
     alloc: Global,
-    line: &[&str],
+    line: &str,
     done: Result<(), RunFault>,
     expected: &[u8],
 ) -> bool {
@@ -66,26 +69,38 @@ fn end_so<R: Threads + Wait + RandomSource + Sync + Print>(
     }
 }
 
-/// Command lines, and the bytes that they write.
-const RUN: [(&[&str], &[u8]); 4] = [
-    (&["spq", "check"], b"ok 1 quads 3 terms 0 graphs\n"),
+/// Command lines, their results, and the bytes that they write. One that is rejected writes nothing.
+const RUN: [(&str, Result<(), RunFault>, &[u8]); 8] = [
+    ("spq|check", Ok(()), b"ok 1 quads 3 terms 0 graphs\n"),
     (
-        &["spq", "check", "--workers", "1"],
+        "spq|check|--workers|1",
+        Ok(()),
         b"ok 1 quads 3 terms 0 graphs\n",
     ),
     (
-        &["spq", "terms"],
+        "spq|terms",
+        Ok(()),
         b"<http://e/s>\n<http://e/p>\n<http://e/o>\n",
     ),
     (
-        &["spq", "select", "--query", "SELECT * {}"],
+        "spq|select|--query|SELECT * {}",
+        Ok(()),
         b"{\"head\":{\"vars\":[]},\"results\":{\"bindings\":[{}]}}\n",
+    ),
+    ("spq", Err(RunFault::Line), b""),
+    ("spq|select", Err(RunFault::Line), b""),
+    ("spq|check|--workers|65", Err(RunFault::Line), b""),
+    (
+        "spq|select|--query|SELECT",
+        Err(RunFault::Query(QueryFault::Syntax)),
+        b"",
     ),
 ];
 
+/// Returns whether each command line has its result and its output.
 fn are_run<R: Threads + Wait + RandomSource + Sync + Print>(rt: &R, alloc: Global) -> bool {
-    for (line, expected) in &RUN {
-        if !end_so(rt, alloc, *line, Ok(()), *expected) {
+    for (line, done, expected) in &RUN {
+        if !end_so(rt, alloc, *line, *done, *expected) {
             return false;
         }
     }
@@ -95,29 +110,4 @@ fn are_run<R: Threads + Wait + RandomSource + Sync + Print>(rt: &R, alloc: Globa
 #[test]
 fn words_are_run(rt: HostRuntime) {
     assert!(rt; are_run(&rt, rt.alloc()));
-}
-
-/// Command lines that write nothing, and their fault.
-const REJECTED: [(&[&str], RunFault); 4] = [
-    (&["spq"], RunFault::Line),
-    (&["spq", "select"], RunFault::Line),
-    (&["spq", "check", "--workers", "65"], RunFault::Line),
-    (
-        &["spq", "select", "--query", "SELECT"],
-        RunFault::Query(QueryFault::Syntax),
-    ),
-];
-
-fn are_rejected<R: Threads + Wait + RandomSource + Sync + Print>(rt: &R, alloc: Global) -> bool {
-    for (line, fault) in &REJECTED {
-        if !end_so(rt, alloc, *line, Err(*fault), b"") {
-            return false;
-        }
-    }
-    true
-}
-
-#[test]
-fn words_that_are_rejected_write_nothing(rt: HostRuntime) {
-    assert!(rt; are_rejected(&rt, rt.alloc()));
 }

@@ -1,14 +1,13 @@
 //! Workers run at the same time, and no result depends on the order in which they finish.
 ghost use Rattle.std.specs.Prelude.{◌≤◌};
 
-use super::asking::json;
 use super::samples::TWO_OBJECTS;
 use dataset_load::{LoadFault, load};
 use piece_cuts::Cuts;
 use piece_pool::Gate;
 use row_pieces::How;
 use spq_core::{Fault, answer};
-use std::alloc::{AllocError, Global};
+use std::alloc::Global;
 use std::random::RandomSource;
 use std::sync::Wait;
 use std::sync::atomic::{AtomicU64, Ordering};
@@ -47,23 +46,14 @@ fn has_rows<R: Threads + Wait + RandomSource>(
     }
 }
 
-/// Returns whether a query over two lines, with each line in a piece, has two rows.
-fn has_two_rows<R: Threads + Wait + RandomSource>(rt: &R, alloc: Global, gate: &Meeting) -> bool {
-    let expected = json(
-        alloc,
-        "'s'",
-        "{'s':{'type':'uri','value':'http://e/a'}},{'s':{'type':'uri','value':'http://e/a'}}",
-    );
-    match expected {
-        Ok(expected) => has_rows(rt, alloc, gate, &expected),
-        Err(_) => false,
-    }
-}
+/// The output with two rows.
+const TWO_ROWS: &[u8] =
+    b"{\"head\":{\"vars\":[\"s\"]},\"results\":{\"bindings\":[{\"s\":{\"type\":\"uri\",\"value\":\"http://e/a\"}},{\"s\":{\"type\":\"uri\",\"value\":\"http://e/a\"}}]}}\n";
 
 #[test]
 fn two_pieces_of_a_document_are_read_at_once(rt: HostRuntime) {
     let gate = Meeting::new();
-    assert!(rt; has_two_rows(&rt, rt.alloc(), &gate), "two rows");
+    assert!(rt; has_rows(&rt, rt.alloc(), &gate, TWO_ROWS), "two rows");
     assert!(rt; gate.is_met(), "the workers did not meet");
 }
 
@@ -110,19 +100,9 @@ impl Gate for ThirdAfterFourth {
     }
 }
 
-/// Creates sixteen lines, of which lines 3 to 16 are malformed.
-fn with_bad_lines(alloc: Global) -> Result<Vec<u8>, AllocError> {
-    let mut doc = Vec::new(alloc);
-    for line in 1..17 {
-        let text = if line < 3 {
-            b"<http://e/a> <http://e/p> <http://e/b> .\n".as_slice()
-        } else {
-            b"x\n".as_slice()
-        };
-        doc.extend_from_slice(text)?;
-    }
-    Ok(doc)
-}
+/// Sixteen lines, of which lines 3 to 16 are malformed.
+const BAD_LINES: &[u8] =
+    b"<http://e/a> <http://e/p> <http://e/b> .\n<http://e/a> <http://e/p> <http://e/b> .\nx\nx\nx\nx\nx\nx\nx\nx\nx\nx\nx\nx\nx\nx\n";
 
 /// Returns whether line 3 is named by a load, line by line, although line 4 is found first.
 fn load_names_line_3<R: Threads + Wait + RandomSource>(
@@ -161,13 +141,8 @@ fn query_names_line_3<R: Threads + Wait + RandomSource>(
 fn names_line_3<R: Threads + Wait + RandomSource>(rt: &R, alloc: Global, workers: usize) -> bool
     requires workers { (1 ≤ workers) × (workers ≤ 64) }
 {
-    match with_bad_lines(alloc) {
-        Ok(doc) => {
-            load_names_line_3(rt, alloc, &doc, workers)
-                && query_names_line_3(rt, alloc, &doc, workers)
-        }
-        Err(_) => false,
-    }
+    load_names_line_3(rt, alloc, BAD_LINES, workers)
+        && query_names_line_3(rt, alloc, BAD_LINES, workers)
 }
 
 /// Each malformed line is in a piece of its own, and line 4 is found before line 3.

@@ -1,23 +1,6 @@
 //! Texts and the rule that rejects each, by example.
-use crate::cases::{Case, Reader, Repeated, all_hold, are_repeated_as, holds};
-use sparql_read::read_query;
-use std::alloc::{AllocError, AllocGlobal, Global};
-
-/// Prints the rule that rejects the text, or `read`.
-pub(crate) fn verdict(alloc: Global, text: &str) -> Result<String, AllocError> {
-    match read_query(alloc, text) {
-        Ok(_query) => String::from_str(alloc, "read"),
-        Err(fault) => format!(in alloc; "{fault:?}"),
-    }
-}
-
-/// Prints the query of the text, or the rule that rejects it.
-pub(crate) fn query(alloc: Global, text: &str) -> Result<String, AllocError> {
-    match read_query(alloc, text) {
-        Ok(query) => format!(in alloc; "{query:?}"),
-        Err(fault) => format!(in alloc; "{fault:?}"),
-    }
-}
+use crate::cases::{Case, Reader, are_all_right, holds};
+use std::alloc::Global;
 
 /// Each rule alone.
 const RULES: &[Case] = &[
@@ -47,11 +30,6 @@ const RULES: &[Case] = &[
     ),
     ("SELECT ?x { ?x <http://e/p> 1.}", "read"),
 ];
-
-#[test]
-fn each_rule_is_reported(rt: HostRuntime) {
-    assert!(rt; all_hold(&rt, rt.alloc(), Reader::Verdict, RULES));
-}
 
 /// Prefixes are checked before IRIs, IRIs before scope, and scope before labels. Each rule applies
 /// to the whole query: also to declarations that a later one replaces, to datatypes, and to the
@@ -83,167 +61,65 @@ const FIRST_RULES: &[Case] = &[
     ("SELECT * { ?x e:p }", "Syntax"),
 ];
 
-#[test]
-fn the_first_rule_rejects(rt: HostRuntime) {
-    assert!(rt; all_hold(&rt, rt.alloc(), Reader::Verdict, FIRST_RULES));
-}
-
 /// Depth is checked before all other rules, up to the first place where there is no terminal.
-const DEPTH_FIRST: &[Repeated] = &[
-    (100, ["SELECT * ", "{", "", "}", ""], "read"),
-    (101, ["SELECT * ", "{", "", "}", ""], "TooDeep"),
-    (101, ["SELECT * ", "{", "", "", ""], "TooDeep"),
-    (100, ["SELECT * ", "{", "", "", ""], "Syntax"),
-    (101, ["SELECT ~ ", "{", "", "", ""], "Syntax"),
-    (101, ["SELECT * ", "{", "~", "", ""], "TooDeep"),
-    (101, ["{ e:a <p> '''", "(", "", "", " }"], "Syntax"),
-    (99, ["SELECT * { FILTER", "(", "true", ")", " }"], "read"),
-    (
-        100,
-        ["SELECT * { FILTER", "(", "true", ")", " }"],
-        "TooDeep",
-    ),
+const DEPTH_FIRST: &[Case] = &[
+    ("SELECT * ‹100×{›‹100×}›", "read"),
+    ("SELECT * ‹101×{›‹101×}›", "TooDeep"),
+    ("SELECT * ‹101×{›", "TooDeep"),
+    ("SELECT * ‹100×{›", "Syntax"),
+    ("SELECT ~ ‹101×{›", "Syntax"),
+    ("SELECT * ‹101×{›~", "TooDeep"),
+    ("{ e:a <p> '''‹101×(› }", "Syntax"),
+    ("SELECT * { FILTER‹99×(›true‹99×)› }", "read"),
+    ("SELECT * { FILTER‹100×(›true‹100×)› }", "TooDeep"),
 ];
-
-#[test]
-fn depth_comes_before_all_other_rules(rt: HostRuntime) {
-    assert!(rt; are_repeated_as(&rt, rt.alloc(), Reader::Verdict, DEPTH_FIRST));
-}
 
 /// A brace closes a parenthesis and the reverse, and a bracket that closes nothing changes nothing.
 /// `[ ]` does not count, nor do brackets in strings, IRIs and comments. A terminal with an invalid
 /// escape is still read.
-const DEPTH_COUNTS: &[Repeated] = &[
-    (101, ["SELECT * { FILTER", "{ )", "", "", ""], "Syntax"),
-    (101, ["SELECT * { FILTER", "( }", "", "", ""], "Syntax"),
-    (101, ["SELECT * {", "[ ] ?p [] . ", "", "", "}"], "read"),
-    (
-        101,
-        ["SELECT * {", "?s ?p '((' , <a:((> . ", "", "", "}"],
-        "read",
-    ),
-    (101, ["SELECT * {", "# ((\n", "", "", "}"], "read"),
-    (101, ["SELECT * {", "{ } ", "", "", "}"], "read"),
-    (101, ["} ) ", "{", "", "", ""], "TooDeep"),
-    (101, ["'\\uD800' ", "{", "", "", ""], "TooDeep"),
+const DEPTH_COUNTS: &[Case] = &[
+    ("SELECT * { FILTER‹101×{ )›", "Syntax"),
+    ("SELECT * { FILTER‹101×( }›", "Syntax"),
+    ("SELECT * {‹101×[ ] ?p [] . ›}", "read"),
+    ("SELECT * {‹101×?s ?p '((' , <a:((> . ›}", "read"),
+    ("SELECT * {‹101×# ((\n›}", "read"),
+    ("SELECT * {‹101×{ } ›}", "read"),
+    ("} ) ‹101×{›", "TooDeep"),
+    ("'\\uD800' ‹101×{›", "TooDeep"),
 ];
-
-#[test]
-fn what_counts_towards_depth(rt: HostRuntime) {
-    assert!(rt; are_repeated_as(&rt, rt.alloc(), Reader::Verdict, DEPTH_COUNTS));
-}
 
 /// A chain or a list of any length is read and dropped at constant depth. The rules apply to its
 /// first part and its last.
-const CHAINS: &[Repeated] = &[
+const CHAINS: &[Case] = &[
     (
-        100000,
-        [
-            "SELECT * { { ?s ?p _:l }",
-            " UNION { ?s ?p ?o }",
-            "",
-            "",
-            " }",
-        ],
+        "SELECT * { { ?s ?p _:l }‹100000× UNION { ?s ?p ?o }› }",
         "read",
     ),
     (
-        100000,
-        [
-            "SELECT * { { ?s ?p _:l }",
-            " UNION {}",
-            "",
-            "",
-            " UNION { ?s ?p _:l } }",
-        ],
+        "SELECT * { { ?s ?p _:l }‹100000× UNION {}› UNION { ?s ?p _:l } }",
         "BlankReuse",
     ),
     (
-        100000,
-        [
-            "SELECT * { { ?s ?p ?o }",
-            " UNION {}",
-            "",
-            "",
-            " BIND(1 AS ?o) }",
-        ],
+        "SELECT * { { ?s ?p ?o }‹100000× UNION {}› BIND(1 AS ?o) }",
         "BindScope",
     ),
     (
-        100000,
-        [
-            "SELECT * { { ?s ?p ?o BIND(1 AS ?o) }",
-            " UNION {}",
-            "",
-            "",
-            " }",
-        ],
+        "SELECT * { { ?s ?p ?o BIND(1 AS ?o) }‹100000× UNION {}› }",
         "BindScope",
     ),
-    (
-        100000,
-        ["SELECT * { FILTER (?a", " || ?a", "", "", ") }"],
-        "read",
-    ),
-    (
-        100000,
-        ["SELECT * { FILTER (?a", " && ?a", "", "", ") }"],
-        "read",
-    ),
-    (
-        100000,
-        ["SELECT * { FILTER (?a IN (1", ", 1", "", "", ")) }"],
-        "read",
-    ),
-    (
-        100000,
-        ["SELECT * { VALUES ?a {", " 1", "", "", " } }"],
-        "read",
-    ),
-    (
-        100000,
-        ["SELECT * { ?s ?p ?o", " . ?s ?p ?o", "", "", " }"],
-        "read",
-    ),
-    (
-        100000,
-        ["SELECT * { ?s ?p ?o", " ; ?p ?o", "", "", " }"],
-        "read",
-    ),
-    (
-        100000,
-        ["SELECT * { ?s ?p ?o", " , ?o", "", "", " }"],
-        "read",
-    ),
-    (100000, ["SELECT * { ", "OPTIONAL {}", "", "", " }"], "read"),
+    ("SELECT * { FILTER (?a‹100000× || ?a›) }", "read"),
+    ("SELECT * { FILTER (?a‹100000× && ?a›) }", "read"),
+    ("SELECT * { FILTER (?a IN (1‹100000×, 1›)) }", "read"),
+    ("SELECT * { VALUES ?a {‹100000× 1› } }", "read"),
+    ("SELECT * { ?s ?p ?o‹100000× . ?s ?p ?o› }", "read"),
+    ("SELECT * { ?s ?p ?o‹100000× ; ?p ?o› }", "read"),
+    ("SELECT * { ?s ?p ?o‹100000× , ?o› }", "read"),
+    ("SELECT * { ‹100000×OPTIONAL {}› }", "read"),
 ];
 
 #[test]
 fn long_chains_are_read(rt: HostRuntime) {
-    assert!(rt; are_repeated_as(&rt, rt.alloc(), Reader::Verdict, CHAINS));
-}
-
-/// A query whose proper prefixes are not queries.
-const WHOLE: &str =
-    "SELECT ?n { ?s <http://e/t> <http://e/k> OPTIONAL { ?s <http://e/n> ?n FILTER(?n < 3) } }";
-
-/// Returns whether each proper prefix of the text is rejected and the whole text is read.
-fn are_prefixes_rejected<R: Print>(rt: &R, alloc: Global, text: &str) -> bool {
-    let mut prefix = String::new(alloc);
-    for c in text.chars() {
-        if !holds(rt, alloc, Reader::Verdict, prefix.as_str(), "Syntax") {
-            return false;
-        }
-        let Ok(()) = prefix.push(c) else {
-            return false;
-        };
-    }
-    holds(rt, alloc, Reader::Verdict, prefix.as_str(), "read")
-}
-
-#[test]
-fn each_prefix_of_a_query_is_rejected(rt: HostRuntime) {
-    assert!(rt; are_prefixes_rejected(&rt, rt.alloc(), WHOLE));
+    assert!(rt; are_all_right(&rt, rt.alloc(), &[(Reader::Verdict, CHAINS)]));
 }
 
 /// The longest terminal is read. An IRI ends at the next `>`. A word is a longest run of letters. A
@@ -277,11 +153,6 @@ const LONGEST: &[Case] = &[
     ("\u{FEFF}SELECT * {}", "Syntax"),
 ];
 
-#[test]
-fn the_longest_terminal_is_read(rt: HostRuntime) {
-    assert!(rt; all_hold(&rt, rt.alloc(), Reader::Verdict, LONGEST));
-}
-
 /// Escapes are allowed only in IRIs and strings, and are decoded after these are delimited. A name
 /// may contain a dot. A blank node label may not contain a colon.
 const ESCAPES: &[Case] = &[
@@ -302,11 +173,6 @@ const ESCAPES: &[Case] = &[
     ("PREFIX e: <a:> SELECT * { ?s ?p e:\\u0041 }", "Syntax"),
     ("PREFIX e: <a:> SELECT * { ?s ?p e:%4 }", "Syntax"),
 ];
-
-#[test]
-fn names_and_escapes(rt: HostRuntime) {
-    assert!(rt; all_hold(&rt, rt.alloc(), Reader::Verdict, ESCAPES));
-}
 
 /// One dot may follow an element, and `;` may end a list. A literal may be a subject. FILTER has an
 /// expression in brackets or a call. Comparisons do not chain. The rows of a table have the length
@@ -333,11 +199,6 @@ const PRODUCTIONS: &[Case] = &[
     ("SELECT {}", "Syntax"),
     ("", "Syntax"),
 ];
-
-#[test]
-fn what_the_productions_derive(rt: HostRuntime) {
-    assert!(rt; all_hold(&rt, rt.alloc(), Reader::Verdict, PRODUCTIONS));
-}
 
 /// The elements before a BIND in its own group count, except FILTER and MINUS.
 const BIND_SCOPES: &[Case] = &[
@@ -371,11 +232,6 @@ const BIND_SCOPES: &[Case] = &[
     ),
 ];
 
-#[test]
-fn what_is_in_scope_of_a_bind(rt: HostRuntime) {
-    assert!(rt; all_hold(&rt, rt.alloc(), Reader::Verdict, BIND_SCOPES));
-}
-
 /// Every element except FILTER and triples ends a basic graph pattern, an empty group too. Each
 /// `[]` has its own label.
 const PATTERNS: &[Case] = &[
@@ -406,11 +262,6 @@ const PATTERNS: &[Case] = &[
         "BlankReuse",
     ),
 ];
-
-#[test]
-fn what_ends_a_pattern(rt: HostRuntime) {
-    assert!(rt; all_hold(&rt, rt.alloc(), Reader::Verdict, PATTERNS));
-}
 
 /// Prefixes are expanded, numbers have their datatype, and every occurrence of a variable is kept.
 const TREES: &[Case] = &[
@@ -457,7 +308,61 @@ const TREES: &[Case] = &[
     ),
 ];
 
+/// A query whose proper beginnings are not queries.
+const WHOLE: &str =
+    "SELECT ?n { ?s <http://e/t> <http://e/k> OPTIONAL { ?s <http://e/n> ?n FILTER(?n < 3) } }";
+
+/// Returns whether each proper beginning of the query is rejected, and the query is read. Prints those
+/// that are not.
+fn are_beginnings_rejected<R: Print>(rt: &R, alloc: Global) -> bool {
+    let mut are_rejected = true;
+    for count in 0..WHOLE.len() {
+        let beginning = str::from_utf8(&WHOLE.as_bytes()[..count]).unwrap_or("?");
+        are_rejected &= holds(rt, alloc, Reader::Verdict, beginning, "Syntax");
+    }
+    are_rejected & holds(rt, alloc, Reader::Verdict, WHOLE, "read")
+}
+
+const ALL_RULES: &[(Reader, &[Case])] = &[(Reader::Verdict, RULES), (Reader::Verdict, FIRST_RULES)];
+
 #[test]
-fn what_is_read(rt: HostRuntime) {
-    assert!(rt; all_hold(&rt, rt.alloc(), Reader::Query, TREES));
+fn each_rule_is_reported(rt: HostRuntime) {
+    assert!(rt; are_all_right(&rt, rt.alloc(), ALL_RULES));
+}
+
+const DEPTHS: &[(Reader, &[Case])] = &[
+    (Reader::Verdict, DEPTH_FIRST),
+    (Reader::Verdict, DEPTH_COUNTS),
+];
+
+#[test]
+fn depth_comes_before_all_other_rules(rt: HostRuntime) {
+    assert!(rt; are_all_right(&rt, rt.alloc(), DEPTHS));
+}
+
+const SCOPES: &[(Reader, &[Case])] = &[
+    (Reader::Verdict, ESCAPES),
+    (Reader::Verdict, BIND_SCOPES),
+    (Reader::Verdict, PATTERNS),
+];
+
+#[test]
+fn scopes_names_and_escapes(rt: HostRuntime) {
+    assert!(rt; are_all_right(&rt, rt.alloc(), SCOPES));
+}
+
+const ALL_PRODUCTIONS: &[(Reader, &[Case])] = &[
+    (Reader::Verdict, PRODUCTIONS),
+    (Reader::Query, TREES),
+];
+
+#[test]
+fn what_the_productions_derive(rt: HostRuntime) {
+    assert!(rt; are_all_right(&rt, rt.alloc(), ALL_PRODUCTIONS));
+}
+
+#[test]
+fn the_longest_terminal_is_read(rt: HostRuntime) {
+    assert!(rt; are_beginnings_rejected(&rt, rt.alloc()));
+    assert!(rt; are_all_right(&rt, rt.alloc(), &[(Reader::Verdict, LONGEST)]));
 }
