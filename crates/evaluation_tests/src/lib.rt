@@ -2,10 +2,15 @@
 //! `plans`, `drawn` and `drawn_patterns`. The expected results are derived by hand from the
 //! standard, or computed by plain_eval.
 //!
+//! Tests of rows of numbers: `merging` of row_core, `pieces` of row_pieces, `row_patterns` of
+//! row_pattern, `joins` of row_join, and `json` of result_json. `cells` prints rows as text, and
+//! cases that are wrong.
+//!
 //! `cases` runs tables, `stores` loads documents, `rows` reads rows and `printing` prints them, and
 //! `ways` has numbers of workers and sizes of pieces.
 //!
-//! Standard: SPARQL 1.1 Query Language, sections 18.3, 18.5 and 18.6.
+//! Standards: SPARQL 1.1 Query Language, sections 18.3, 18.5 and 18.6; SPARQL 1.1 Query Results JSON
+//! Format, section 3.
 //!
 //! The tests have a crate of their own, so a proof of the tests proves no library again. A table is
 //! one constant text, and its test is one call. A function that owns trees or has a long local
@@ -15,17 +20,29 @@
 #[cfg(test)]
 mod cases;
 #[cfg(test)]
+mod cells;
+#[cfg(test)]
 mod drawn;
 #[cfg(test)]
 mod drawn_patterns;
+#[cfg(test)]
+mod joins;
+#[cfg(test)]
+mod json;
+#[cfg(test)]
+mod merging;
 #[cfg(test)]
 mod operators;
 #[cfg(test)]
 mod patterns;
 #[cfg(test)]
+mod pieces;
+#[cfg(test)]
 mod plans;
 #[cfg(test)]
 mod printing;
+#[cfg(test)]
+mod row_patterns;
 #[cfg(test)]
 mod rows;
 #[cfg(test)]

@@ -9,7 +9,7 @@
 //! No standard defines these messages; they are a choice of this project.
 //!
 //! Reading order: specs/Excerpt.antt, `excerpt`; specs/Message.antt, `message`. Tests: `lines` and `queries` of the
-//! crate diagnosis_tests compare whole messages. Example:
+//! crate program_tests compare whole messages. Example:
 //!
 //! ```text
 //! spq: line 3, column 12: a predicate must be an IRI, found a literal

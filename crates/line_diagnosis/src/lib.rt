@@ -14,7 +14,7 @@
 //! file for each family of terminals (`between`, `iris`, `escapes`, `literals`, `labels`),
 //! `completion` (a well-formed end for each state), `diagnosis`, `hint`, `reports`.
 //!
-//! Tests: `lines` of the crate diagnosis_tests.
+//! Tests: `lines` of the crate program_tests.
 //!
 //! Not guaranteed: that the reason is the mistake that the author made. It is about the first
 //! character that is not allowed at its place.

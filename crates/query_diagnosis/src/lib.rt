@@ -19,7 +19,7 @@
 //! `completion`; `expected` (the terminals that may come, as text); `places`,
 //! `rules`; `hint`, `diagnosis`, `reports`.
 //!
-//! Tests: `queries` of the crate diagnosis_tests.
+//! Tests: `queries` of the crate program_tests.
 //!
 //! Not guaranteed: that the reason is the mistake that the author made.
 #![tactic(auto)]

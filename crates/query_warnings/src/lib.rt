@@ -12,7 +12,7 @@
 //! Standard: SPARQL 1.1 Query Language, sections 17.3 (comparisons), 13 (the default graph).
 //!
 //! To read in this order: specs/QueryFeatures.antt, `query_features` (the query), `facts` (the dataset).
-//! Tests: `messages` of the crate diagnosis_tests, which has each warning.
+//! Tests: `messages` of the crate program_tests, which has each warning.
 //!
 //! Not promised: that a row was dropped.
 #![tactic(auto)]

@@ -11,7 +11,7 @@
 //!
 //! Standard: SPARQL 1.1 Query Language, section 18.3 (compatible mappings, merge).
 //!
-//! Reading order: `rows`, `merging`. Tests: `merging` of the crate row_tests.
+//! Reading order: `rows`, `merging`. Tests: `merging` of the crate evaluation_tests.
 //!
 //! Not guaranteed: how much memory a row takes.
 #![tactic(auto)]

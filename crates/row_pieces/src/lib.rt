@@ -7,7 +7,7 @@
 //!
 //! The split is a choice of this project (not fixed by the standard).
 //!
-//! Reading order: `how`, `pieces`. Tests: `pieces` of the crate row_tests; the tests of the
+//! Reading order: `how`, `pieces`. Tests: `pieces` of the crate evaluation_tests; the tests of the
 //! operators there run [`over_pieces`].
 //!
 //! ```text

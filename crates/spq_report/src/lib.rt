@@ -10,7 +10,7 @@
 //! terminal it shows how far a run is that takes more than a second.
 //!
 //! To read in this order: `devices`, `console` (what a terminal shows of a run), `account` (what a message is made of),
-//! `failures` (a message for each fault), `warnings`, `reports`. The tests in diagnosis_tests run tables of messages.
+//! `failures` (a message for each fault), `warnings`, `reports`. The tests in program_tests run tables of messages.
 //!
 //! Not promised: that standard error takes the message.
 #![tactic(auto)]

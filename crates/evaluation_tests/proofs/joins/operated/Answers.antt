@@ -1,5 +1,5 @@
 use Rattle.row_join.proofs.NumberLaws.{knows_all}
-use Rattle.row_tests.proofs.joins.operated.Goals as goal
+use Rattle.evaluation_tests.proofs.joins.operated.Goals as goal
 
 pub left_join-requires-clause-left_known : goal.left_join-requires-clause-left_known
 left_join-requires-clause-left_known g c κs l = knows_all c.args.left.now.rows

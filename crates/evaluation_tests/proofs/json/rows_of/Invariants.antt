@@ -1,6 +1,6 @@
 use Rattle.std.proofs.Common.{◌≡◌, ◌<◌, length}
 use Rattle.algebra_model.specs.Renaming.{Each, EachBound}
-use Rattle.row_tests.proofs.json.rows_of.Given as goal
+use Rattle.evaluation_tests.proofs.json.rows_of.Given as goal
 
 abbrev pub invariant-loop-a : goal.invariant-loop-a
 invariant-loop-a l = record {

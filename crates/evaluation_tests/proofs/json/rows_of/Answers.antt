@@ -1,7 +1,7 @@
 use Rattle.std.proofs.Common.{◌≡◌, ◌<◌, ◌++◌, ◌∙◌, ℕ, List, [], ◌∷◌, Option, None, Some, length, sym, subst}
 use Rattle.algebra_model.specs.Renaming.{Each, EachBound}
 use Rattle.algebra_model.proofs.RangeLaws.{Each-append}
-use Rattle.row_tests.proofs.json.rows_of.Goals as goal
+use Rattle.evaluation_tests.proofs.json.rows_of.Goals as goal
 
 two : (P : ℕ → Type 0) (a b : Option ℕ) → EachBound P (a ∷ []) → EachBound P (b ∷ []) → EachBound P (a ∷ b ∷ [])
 two P None b h k = k
