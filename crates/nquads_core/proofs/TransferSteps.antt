@@ -1,10 +1,13 @@
 -- One step after another on known bytes and counts.
-use Rattle.std.proofs.Common.{ℕ, ◌+◌, ◌-◌, List, [], ◌++◌, length, take, drop, Option, Some, None, append_assoc, arith, ap, sym, ◌∙◌, refl}
+use Rattle.std.proofs.Common.{ℕ, ◌+◌, ◌-◌, List, [], ◌++◌, length, take, drop, Option, Some, None, Result, Ok, Err, append_assoc, arith, ap, sym, ◌∙◌, refl}
 use Rattle.std.proofs.lemmas.List.{append-nil, take_all, length-drop}
+use Rattle.std.specs.Prelude.{OnErr}
 use Rattle.std.specs.Io.KnownBytes.{Consumes, Appends, Keeps}
 use Rattle.std.proofs.Math.Seq.{take-add}
 use Rattle.nquads_core.specs.Device.{Stays, Rises}
-use Rattle.nquads_core.specs.Transfer.{IsReadInPart}
+use Rattle.nquads_core.specs.Transfer.{CountsRead, IsReadInPart}
+use Rattle.nquads_core.specs.declared.transfer.ReadFault.{ReadFault}
+use Rattle.nquads_core.specs.declared.transfer.ReadFault.TheVariants.{Read, Memory}
 
 pub Consumes-more : (a b c : Option (List ℕ)) (xs ys : List ℕ) → Consumes a b xs → Consumes b c ys → Consumes a c (xs ++ ys)
 Consumes-more None b c xs ys h k = tt
@@ -68,6 +71,16 @@ Stays-rises None b c h k = tt
 Stays-rises (Some a) None c h k = absurd h
 Stays-rises (Some a) (Some b) None h k = absurd k
 Stays-rises (Some a) (Some b) (Some c) h k = rw (← h) k
+
+-- a failure after reads that did not fail
+pub fault_counts : (a b c : Option ℕ) (fault : ReadFault) → Stays a b → CountsRead {T = ℕ} b c (Err fault) → CountsRead {T = ℕ} a c (Err fault)
+fault_counts a b c Read h k = Stays-rises a b c h k
+fault_counts a b c Memory h k = Stays-stays a b c h k
+
+-- what is true is true of an error
+pub on_error : {T E : Type 0} (r : Result T E) (P : Type 0) → P → OnErr r P
+on_error (Ok v) P p = tt
+on_error (Err e) P p = p
 
 -- the next n of the bytes from at on
 pub Appends-next : (a b c : Option (List ℕ)) (xs : List ℕ) (at n : ℕ) → Appends a b (take at xs) → Appends b c (take n (take (length xs - at) (drop at xs))) → Appends a c (take (at + n) xs)

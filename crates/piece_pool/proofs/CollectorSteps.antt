@@ -5,7 +5,7 @@ use Rattle.std.proofs.lemmas.List.{map-append, append-nil}
 use Rattle.std.proofs.lemmas.List.Sums.{sum_by-append}
 use Rattle.std.proofs.lemmas.Bool.{eq-eqb}
 use Rattle.std.proofs.lemmas.Bool.Decides.{eqb_tells}
-use Rattle.std.proofs.lemmas.List.Elements.{All-push, All-cons, All-append, All-head, All-tail, All-weaker, All-contains, Contains-get_or, Contains-append_left, Contains-append_right, Contains-append_cases}
+use Rattle.std.proofs.lemmas.List.Elements.{All-nil, All-push, All-cons, All-append, All-head, All-tail, All-weaker, All-contains, Contains-get_or, Contains-append_left, Contains-append_right, Contains-append_cases}
 use Rattle.piece_board.specs.Counts.{times}
 use Rattle.piece_board.specs.Pass.{PassView}
 use Rattle.piece_board.specs.Board.{BoardView, IsPassOf, IsClosed, drawn_by, reported_by}
@@ -28,6 +28,17 @@ module _ {Out Fault : Type 0} (outs outs' : List (ℕ × Out)) (failed failed' :
 -- one more worker that did not stop
 pub unstopped-more : {Out Fault : Type 0} (w : Worked Out Fault) (ws : List (Worked Out Fault)) → w.stopped ≡ false → All (λ (v : Worked Out Fault). v.stopped ≡ false) ws → All (λ (v : Worked Out Fault). v.stopped ≡ false) (w ∷ ws)
 unstopped-more w ws h all = All-cons (λ v. v.stopped ≡ false) w ws h all
+
+-- nothing is collected at first
+pub IsCollected-none : {Out Fault : Type 0} (answers : ℕ → Out → Type 0) (faults : ℕ → Fault → Type 0) (board : BoardView) → IsCollected answers faults board [] [] []
+IsCollected-none {Out = Out} {Fault = Fault} answers faults board = record {
+  of_board = All-nil (λ p. IsPassOf board p);
+  finished = All-nil (λ p. 0 < p.history.finished);
+  returned = All-nil (λ p. answers p.0 p.1);
+  faulted = All-nil (λ p. faults p.0 p.1);
+  reported = refl;
+  covers = All-nil (λ p. CoversUpTo p.history.seen p.history.draws (done_of {Out = Out} {Fault = Fault} [] []));
+}
 
 -- one more worker
 pub IsCollected-more : {Out Fault : Type 0} (answers : ℕ → Out → Type 0) (faults : ℕ → Fault → Type 0) (board : BoardView) (ps : List PassView) (outs : List (ℕ × Out)) (failed : List (ℕ × Fault)) (w : Worked Out Fault) → IsCollected answers faults board ps outs failed → IsWorked answers faults board w → w.stopped ≡ false → IsCollected answers faults board (ps ++ w.pass ∷ []) (outs ++ w.outs.items) (failed ++ w.faults.items)

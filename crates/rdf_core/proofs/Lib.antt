@@ -5,3 +5,4 @@ pub mod EnclosedSteps
 pub mod EscapeLaws
 pub mod EnclosedLaws
 pub mod PlainSteps
+pub mod AppendSteps

@@ -1,5 +1,5 @@
-use Rattle.std.proofs.Common.{rules, arith, suc}
-use Rattle.piece_pool.proofs.CollectorSteps.{unstopped-more}
+use Rattle.std.proofs.Common.{rules, arith, suc, ap, length}
+use Rattle.piece_pool.proofs.CollectorSteps.{IsCollected-none, unstopped-more}
 use Rattle.piece_pool.proofs.collector.collect.Goals as goal
 
 pub add_work-requires : goal.add_work-requires
@@ -21,4 +21,25 @@ loop-worked-preserved g c =
       rest = λ k d below. all (suc k) d (omega arith);
       stopped = λ h. was.stopped (rw steps.0 (unstopped-more c.in-Some.worked _ added.stopped h));
       collected = added.collected;
+    }
+
+pub loop-worked-init : goal.loop-worked-init
+loop-worked-init g c =
+    let made = c.in_ok-with_capacity.ensures in
+    let items = c.into_iter-worked-iterator.ensures.into_iter_gives.0 in record {
+      count = omega (arith, made.len, c.into_iter-worked-iterator.result.rest.ok.0, ap length items, c.args.works.ok.0);
+      rest = rw items c.requires.works;
+      stopped = λ h. rw items at h;
+      collected = rw (made.items, c.new.ensures.items, c.new-2.ensures.items) (IsCollected-none _ _ c.args.board.now);
+    }
+
+pub returns : goal.returns
+returns g c =
+    let was = c.loop-worked.invariant in
+    let left = c.loop-worked.worked-iterator.rest.ok.0 in
+    let none = c.in-None.ensures.steps.0 in record {
+      some = omega (arith, c.seats.ensures.some);
+      stopped = was.stopped (λ k d low. absurd (omega (arith, low, left, none)));
+      count = omega (arith, was.count, none);
+      collected = was.collected;
     }

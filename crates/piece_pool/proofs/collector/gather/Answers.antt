@@ -1,4 +1,4 @@
-use Rattle.std.proofs.Common.{rules, arith, ◌≡◌, ℕ, get_or, ◌<◌, length}
+use Rattle.std.proofs.Common.{arith, ◌≡◌, ℕ, get_or, ◌<◌, length}
 use Rattle.std.proofs.lemmas.List.Elements.{All-contains}
 use Rattle.piece_pool.proofs.CollectorSteps.{drawn-all, Contains-below_least, Contains-least, IsSettled-closed, Contains-pair, answer-at}
 use Rattle.piece_pool.proofs.collector.gather.Goals as goal
@@ -6,13 +6,13 @@ use Rattle.piece_pool.proofs.collector.gather.Goals as goal
 pub fault_of-fault-requires : goal.fault_of-fault-requires
 fault_of-fault-requires g c =
     let all = c.in_ok-passes.ensures.collected in
-    let some : 0 < length c.in_ok-passes.field-0.passes.items = search rules in
+    let some : 0 < length c.in_ok-passes.field-0.passes.items = omega (arith, c.in_ok-passes.field-0.passes.ok.0, c.in_ok-passes.ensures.count, c.requires.all, c.in_ok-passes.ensures.some) in
     record { there = Contains-least _ _ _ _ _ _ _ _ all (IsSettled-closed _ _ _ _ _ c.close-closed.ensures.closed) some (omega arith) }
 
 pub returns-then-closed-n : goal.returns-then-closed-n
 returns-then-closed-n g c =
     let all = c.in_ok-passes.ensures.collected in
-    let some : 0 < length c.in_ok-passes.field-0.passes.items = search rules in
+    let some : 0 < length c.in_ok-passes.field-0.passes.items = omega (arith, c.in_ok-passes.field-0.passes.ok.0, c.in_ok-passes.ensures.count, c.requires.all, c.in_ok-passes.ensures.some) in
     let returned : (i : ℕ) → i < c.close-closed.result.least → (out : _) × g.J.Job.answers c.args.job.now i out = λ i low.
     let pair = Contains-pair _ i (Contains-below_least _ _ _ _ _ _ _ _ all (IsSettled-closed _ _ _ _ _ c.close-closed.ensures.closed) some i low) in
     (pair.0, All-contains (λ p. g.J.Job.answers c.args.job.now p.0 p.1) _ _ all.returned pair.1) in record {
@@ -29,7 +29,7 @@ pub in_order-requires : goal.in_order-requires
 in_order-requires g c = record {
   all = λ i low.
       let all = c.in_ok-passes.ensures.collected in
-      let some : 0 < length c.in_ok-passes.field-0.passes.items = search rules in
+      let some : 0 < length c.in_ok-passes.field-0.passes.items = omega (arith, c.in_ok-passes.field-0.passes.ok.0, c.in_ok-passes.ensures.count, c.requires.all, c.in_ok-passes.ensures.some) in
       Contains-below_least _ _ _ _ _ _ _ _ all (IsSettled-closed _ _ _ _ _ c.close-closed.ensures.closed) some i (omega arith);
 }
 
@@ -37,7 +37,7 @@ pub returns : goal.returns
 returns g c =
     let all = c.in_ok-passes.ensures.collected in
     let outs = c.in_ok-in_order.field-0.items in
-    let some : 0 < length c.in_ok-passes.field-0.passes.items = search rules in
+    let some : 0 < length c.in_ok-passes.field-0.passes.items = omega (arith, c.in_ok-passes.field-0.passes.ok.0, c.in_ok-passes.ensures.count, c.requires.all, c.in_ok-passes.ensures.some) in
     let drawn = drawn-all _ _ _ _ _ _ _ _ all (IsSettled-closed _ _ _ _ _ c.close-closed.ensures.closed) some in
     let each : (i : ℕ) (d : _) → i < c.args.board.pieces → g.J.Job.answers c.args.job.now i (get_or outs i d) = λ i d low.
     All-contains (λ p. g.J.Job.answers c.args.job.now p.0 p.1) _ _ all.returned (c.in_ok-in_order.ensures.each i d (omega (arith, low, drawn))) in

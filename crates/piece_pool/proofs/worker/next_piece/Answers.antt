@@ -1,4 +1,5 @@
-use Rattle.std.proofs.Common.{length-append, ◌∷◌, []}
+use Rattle.std.proofs.Common.{length-append, ◌≡◌, ◌∷◌, [], ◌∙◌, arith}
+use Rattle.piece_pool.specs.declared.worker.Step.TheVariants.{Done, Finished}
 use Rattle.piece_pool.proofs.WorkerSteps.{IsWorkOf-draw, IsWorkOf-output, IsWorkOf-fault, CoversUpTo-done, CoversUpTo-skipped, Contains-output_old, Contains-output_new, Contains-fault_old, Contains-fault_new}
 use Rattle.piece_pool.proofs.worker.next_piece.Goals as goal
 
@@ -57,3 +58,30 @@ returns-then-least-i-clause-done g c e =
       rw c.in-Some.ensures.event at c.in-Some.ensures.room,
       CoversUpTo-skipped _ _ c.in-Some.i _ _ c.requires.covers (rw c.in-Some.ensures.event at c.least.ensures.falls) c.if-least-i.true,
     )
+
+finished_not_done : Finished ≡ Done → ⊥
+finished_not_done e = cc
+
+pub returns-in_default : goal.returns-in_default
+returns-in_default g c =
+    let event = c.in_default.ensures.event in record {
+      of_board = c.draw.ensures.of_board;
+      work = rw event c.requires.work;
+      finished = λ e. rw event (omega arith, c.requires.covers);
+      done = λ e. absurd (finished_not_done e);
+    }
+
+pub skip-requires : goal.skip-requires
+skip-requires g c = record {
+  last = c.least.ensures.last ∙ c.in-Some.ensures.last;
+  above = omega (arith, c.least.ensures.seen, c.if-least-i.true);
+}
+
+pub report-requires : goal.report-requires
+report-requires g c = record {
+  of_board = c.least.ensures.of_board;
+  last = c.least.ensures.last ∙ c.in-Some.ensures.last;
+}
+
+pub returns-then-least-i-clause-of_board : goal.returns-then-least-i-clause-of_board
+returns-then-least-i-clause-of_board g c = rw (c.skip.ensures.same.0, c.skip.ensures.same.1) c.least.ensures.of_board
