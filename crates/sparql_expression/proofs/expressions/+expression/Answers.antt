@@ -1,7 +1,7 @@
 -- The exits of each reader: the terminals that it has read, and the conclusion from the next
 -- terminal.
 use Rattle.std.proofs.Common.{◌≡◌, ◌<◌, ℕ, length, arith, refl, sym, ap, ◌∙◌}
-use Rattle.std.proofs.lemmas.Result.{err_from_is_err_and}
+use Rattle.std.proofs.lemmas.Result.{IfOk-weaker, err_from_is_err_and}
 use Rattle.sparql_lexer.specs.Terminal.{terminals}
 use Rattle.sparql_tree.specs.ExpressionTree.{expression_of, expressions_of, negation, none, then}
 use Rattle.sparql_grammar.specs.Symbol as the
@@ -346,3 +346,137 @@ read_members-members-preserved t c =
       left = members_at (then (expressions_of c.members.members.items) (expression_of c.in_ok-member.member)) (expressions_of c.push.new.self.items) (ap expressions_of c.in_ok-push.ensures.items ∙ pushed c.members.members.items c.in_ok-member.member) (enter (took_branch m (left here) (c.in-Some-accept-2.ensures.accepts names)));
       shorter = omega (arith, c.in-Some-accept-2.ensures.shorter, c.in_ok-member.ensures.shorter, c.members.invariant.shorter);
     }
+
+-- ---- the tokens after what was read are fewer
+
+then_shorter : {a b c : ℕ} → a < b → b < c → a < c
+then_shorter h k = omega arith
+
+pub read_disjunction-returns-in_err-left-clause-shorter : goal.read_disjunction-returns-in_err-left-clause-shorter
+read_disjunction-returns-in_err-left-clause-shorter t c = rw (err_from_is_err_and c.from_residual.result c.from_residual.ensures.1).1 tt
+
+pub read_disjunction-returns-in_err-right-clause-shorter : goal.read_disjunction-returns-in_err-right-clause-shorter
+read_disjunction-returns-in_err-right-clause-shorter t c = rw (err_from_is_err_and c.from_residual-in_err-right.result c.from_residual-in_err-right.ensures.1).1 tt
+
+pub read_disjunction-returns-clause-shorter : goal.read_disjunction-returns-clause-shorter
+read_disjunction-returns-clause-shorter t c = c.parts.invariant.shorter
+
+pub read_conjunction-returns-in_err-left-clause-shorter : goal.read_conjunction-returns-in_err-left-clause-shorter
+read_conjunction-returns-in_err-left-clause-shorter t c = rw (err_from_is_err_and c.from_residual.result c.from_residual.ensures.1).1 tt
+
+pub read_conjunction-returns-in_err-right-clause-shorter : goal.read_conjunction-returns-in_err-right-clause-shorter
+read_conjunction-returns-in_err-right-clause-shorter t c = rw (err_from_is_err_and c.from_residual-in_err-right.result c.from_residual-in_err-right.ensures.1).1 tt
+
+pub read_conjunction-returns-clause-shorter : goal.read_conjunction-returns-clause-shorter
+read_conjunction-returns-clause-shorter t c = c.parts.invariant.shorter
+
+pub read_relation-returns-in_err-left-clause-shorter : goal.read_relation-returns-in_err-left-clause-shorter
+read_relation-returns-in_err-left-clause-shorter t c = rw (err_from_is_err_and c.from_residual.result c.from_residual.ensures.1).1 tt
+
+pub read_relation-returns-in_err-right-clause-shorter : goal.read_relation-returns-in_err-right-clause-shorter
+read_relation-returns-in_err-right-clause-shorter t c = rw (err_from_is_err_and c.from_residual-in_err-right.result c.from_residual-in_err-right.ensures.1).1 tt
+
+pub read_relation-returns-in_err-members-clause-shorter : goal.read_relation-returns-in_err-members-clause-shorter
+read_relation-returns-in_err-members-clause-shorter t c = rw (err_from_is_err_and c.from_residual-in_err-members.result c.from_residual-in_err-members.ensures.1).1 tt
+
+pub read_relation-returns-in_err-members-2-clause-shorter : goal.read_relation-returns-in_err-members-2-clause-shorter
+read_relation-returns-in_err-members-2-clause-shorter t c = rw (err_from_is_err_and c.from_residual-in_err-members-2.result c.from_residual-in_err-members-2.ensures.1).1 tt
+
+pub read_relation-returns-in-Some-clause-shorter : goal.read_relation-returns-in-Some-clause-shorter
+read_relation-returns-in-Some-clause-shorter t c = then_shorter c.in_ok-right.ensures.shorter (then_shorter c.in-Some.ensures.shorter c.in_ok-left.ensures.shorter)
+
+pub read_relation-returns-in-Some-accept_word-clause-shorter : goal.read_relation-returns-in-Some-accept_word-clause-shorter
+read_relation-returns-in-Some-accept_word-clause-shorter t c = then_shorter c.in_ok-members.ensures.shorter (then_shorter c.in-Some-accept_word.ensures.shorter c.in_ok-left.ensures.shorter)
+
+pub read_relation-returns-in_default-accept_word-2-clause-shorter : goal.read_relation-returns-in_default-accept_word-2-clause-shorter
+read_relation-returns-in_default-accept_word-2-clause-shorter t c = c.in_ok-left.ensures.shorter
+
+pub read_relation-returns-in_default-accept_word-3-clause-shorter : goal.read_relation-returns-in_default-accept_word-3-clause-shorter
+read_relation-returns-in_default-accept_word-3-clause-shorter t c = tt
+
+pub read_relation-returns-clause-shorter : goal.read_relation-returns-clause-shorter
+read_relation-returns-clause-shorter t c = then_shorter c.in_ok-members-2.ensures.shorter (then_shorter c.in-Some-accept_word-3.ensures.shorter (then_shorter c.in-Some-accept_word-2.ensures.shorter c.in_ok-left.ensures.shorter))
+
+pub read_unary-returns-in_default-clause-shorter : goal.read_unary-returns-in_default-clause-shorter
+read_unary-returns-in_default-clause-shorter t c = c.read_primary.ensures.shorter
+
+pub read_unary-returns-in_err-inner-clause-shorter : goal.read_unary-returns-in_err-inner-clause-shorter
+read_unary-returns-in_err-inner-clause-shorter t c = rw (err_from_is_err_and c.from_residual.result c.from_residual.ensures.1).1 tt
+
+pub read_unary-returns-clause-shorter : goal.read_unary-returns-clause-shorter
+read_unary-returns-clause-shorter t c = then_shorter c.in_ok-inner.ensures.shorter c.in-Some.ensures.shorter
+
+pub read_primary-returns-in-Some-clause-shorter : goal.read_primary-returns-in-Some-clause-shorter
+read_primary-returns-in-Some-clause-shorter t c = c.read_bracket.ensures.shorter
+
+pub read_primary-returns-then-is_call_next-clause-shorter : goal.read_primary-returns-then-is_call_next-clause-shorter
+read_primary-returns-then-is_call_next-clause-shorter t c = c.read_call.ensures.shorter
+
+pub read_primary-returns-in-Some-2-clause-shorter : goal.read_primary-returns-in-Some-2-clause-shorter
+read_primary-returns-in-Some-2-clause-shorter t c = rw c.in-Some-2.is at c.in_ok-name.ensures.shorter
+
+pub read_primary-returns-in_err-term-clause-shorter : goal.read_primary-returns-in_err-term-clause-shorter
+read_primary-returns-in_err-term-clause-shorter t c = rw (err_from_is_err_and c.from_residual-in_err-term.result c.from_residual-in_err-term.ensures.1).1 tt
+
+pub read_primary-returns-clause-shorter : goal.read_primary-returns-clause-shorter
+read_primary-returns-clause-shorter t c = c.in_ok-term.ensures.shorter
+
+pub read_bracket-returns-in_default-clause-shorter : goal.read_bracket-returns-in_default-clause-shorter
+read_bracket-returns-in_default-clause-shorter t c = tt
+
+pub read_bracket-returns-in_err-inner-clause-shorter : goal.read_bracket-returns-in_err-inner-clause-shorter
+read_bracket-returns-in_err-inner-clause-shorter t c = rw (err_from_is_err_and c.from_residual.result c.from_residual.ensures.1).1 tt
+
+pub read_bracket-returns-in_default-accept-clause-shorter : goal.read_bracket-returns-in_default-accept-clause-shorter
+read_bracket-returns-in_default-accept-clause-shorter t c = tt
+
+pub read_bracket-returns-clause-shorter : goal.read_bracket-returns-clause-shorter
+read_bracket-returns-clause-shorter t c = then_shorter c.in-Some-accept.ensures.shorter (then_shorter c.in_ok-inner.ensures.shorter c.in-Some.ensures.shorter)
+
+pub read_call-returns-in_err-argument-clause-shorter : goal.read_call-returns-in_err-argument-clause-shorter
+read_call-returns-in_err-argument-clause-shorter t c = rw (err_from_is_err_and c.from_residual.result c.from_residual.ensures.1).1 tt
+
+pub read_call-returns-in-Some-clause-shorter : goal.read_call-returns-in-Some-clause-shorter
+read_call-returns-in-Some-clause-shorter t c = then_shorter c.in_ok-argument.ensures.shorter c.in-Some.ensures.shorter
+
+pub read_call-returns-in-Some-accept_word-clause-shorter : goal.read_call-returns-in-Some-accept_word-clause-shorter
+read_call-returns-in-Some-accept_word-clause-shorter t c = IfOk-weaker c.read_bound.result _ _ (λ p h. then_shorter h c.in-Some-accept_word.ensures.shorter) c.read_bound.ensures.shorter
+
+pub read_call-returns-in_default-accept_word-2-clause-shorter : goal.read_call-returns-in_default-accept_word-2-clause-shorter
+read_call-returns-in_default-accept_word-2-clause-shorter t c = tt
+
+pub read_call-returns-clause-shorter : goal.read_call-returns-clause-shorter
+read_call-returns-clause-shorter t c = IfOk-weaker c.read_same_term.result _ _ (λ p h. then_shorter h c.in-Some-accept_word-2.ensures.shorter) c.read_same_term.ensures.shorter
+
+pub read_same_term-returns-in_default-clause-shorter : goal.read_same_term-returns-in_default-clause-shorter
+read_same_term-returns-in_default-clause-shorter t c = tt
+
+pub read_same_term-returns-in_err-left-clause-shorter : goal.read_same_term-returns-in_err-left-clause-shorter
+read_same_term-returns-in_err-left-clause-shorter t c = rw (err_from_is_err_and c.from_residual.result c.from_residual.ensures.1).1 tt
+
+pub read_same_term-returns-in_default-accept-clause-shorter : goal.read_same_term-returns-in_default-accept-clause-shorter
+read_same_term-returns-in_default-accept-clause-shorter t c = tt
+
+pub read_same_term-returns-in_err-right-clause-shorter : goal.read_same_term-returns-in_err-right-clause-shorter
+read_same_term-returns-in_err-right-clause-shorter t c = rw (err_from_is_err_and c.from_residual-in_err-right.result c.from_residual-in_err-right.ensures.1).1 tt
+
+pub read_same_term-returns-in_default-accept-2-clause-shorter : goal.read_same_term-returns-in_default-accept-2-clause-shorter
+read_same_term-returns-in_default-accept-2-clause-shorter t c = tt
+
+pub read_same_term-returns-clause-shorter : goal.read_same_term-returns-clause-shorter
+read_same_term-returns-clause-shorter t c = then_shorter c.in-Some-accept-2.ensures.shorter (then_shorter c.in_ok-right.ensures.shorter (then_shorter c.in-Some-accept.ensures.shorter (then_shorter c.in_ok-left.ensures.shorter c.in-Some.ensures.shorter)))
+
+pub read_members-returns-in_default-clause-shorter : goal.read_members-returns-in_default-clause-shorter
+read_members-returns-in_default-clause-shorter t c = tt
+
+pub read_members-returns-in-Some-accept-clause-shorter : goal.read_members-returns-in-Some-accept-clause-shorter
+read_members-returns-in-Some-accept-clause-shorter t c = then_shorter c.in-Some-accept.ensures.shorter c.in-Some.ensures.shorter
+
+pub read_members-returns-in_err-member-clause-shorter : goal.read_members-returns-in_err-member-clause-shorter
+read_members-returns-in_err-member-clause-shorter t c = rw (err_from_is_err_and c.from_residual.result c.from_residual.ensures.1).1 tt
+
+pub read_members-returns-in_default-accept-3-clause-shorter : goal.read_members-returns-in_default-accept-3-clause-shorter
+read_members-returns-in_default-accept-3-clause-shorter t c = tt
+
+pub read_members-returns-in_default-accept-2-clause-shorter : goal.read_members-returns-in_default-accept-2-clause-shorter
+read_members-returns-in_default-accept-2-clause-shorter t c = then_shorter c.in-Some-accept-3.ensures.shorter (then_shorter c.in_ok-member.ensures.shorter c.members.invariant.shorter)

@@ -1,12 +1,12 @@
 use Rattle.std.proofs.Common.{refl, sym, ap, ◌∙◌}
-use Rattle.std.proofs.lemmas.Result.{err_from_is_err_and}
+use Rattle.std.proofs.lemmas.Result.{IfOk-weaker, err_from_is_err_and}
 use Rattle.sparql_lexer.specs.Terminal.{terminals}
 use Rattle.sparql_tree.specs.GroupTree.{element_of, group_of}
 use Rattle.sparql_tree.specs.GroupTree as g
 use Rattle.sparql_grammar.specs.Symbol as the
 use Rattle.sparql_expression.specs.ParseResult.{seen}
 use Rattle.sparql_expression.proofs.Steps.{begin, took, then_read, part_fails, enter, last_reads, last_fails, done, take_fails, here, left, right, branch, took_branch, skipped, passed_by, untaken_heads, taken_heads}
-use Rattle.sparql_parse.proofs.TripleSteps.{tail, whole, shorter_thrice, up_to, up_twice}
+use Rattle.sparql_parse.proofs.TripleSteps.{tail, whole, shorter_twice, shorter_thrice, up_to, up_twice}
 use Rattle.sparql_parse.proofs.ValueSteps.{body_at, union_at}
 use Rattle.sparql_parse.proofs.ElementSteps.{group_seen, union_seen, optional_seen, minus_seen, graph_seen}
 use Rattle.sparql_parse.proofs.GroupSteps.{group-push, after_run, after_dot}
@@ -89,3 +89,59 @@ read_named_graph-returns-in_err-inner-clause-reads t c = (let p = err_from_is_er
 
 pub read_named_graph-returns-clause-reads : goal.read_named_graph-returns-clause-reads
 read_named_graph-returns-clause-reads t c = last_reads (then_read (begin c.args.names.now (the.named_graph) (terminals c.args.tokens.now)) c.in_ok-name.ensures.reads) c.in_ok-inner.ensures.reads (graph_seen _ _)
+
+-- ---- the tokens after what was read are fewer
+
+pub read_group-returns-in_default-clause-shorter : goal.read_group-returns-in_default-clause-shorter
+read_group-returns-in_default-clause-shorter t c = tt
+
+pub read_group-returns-in_err-rest-clause-shorter : goal.read_group-returns-in_err-rest-clause-shorter
+read_group-returns-in_err-rest-clause-shorter t c = rw (err_from_is_err_and c.from_residual.result c.from_residual.ensures.1).1 tt
+
+pub read_group-returns-in-Some-accept-clause-shorter : goal.read_group-returns-in-Some-accept-clause-shorter
+read_group-returns-in-Some-accept-clause-shorter t c = shorter_twice c.in-Some-accept.ensures.shorter c.elements.invariant.shorter
+
+pub read_group-returns-in_err-element-clause-shorter : goal.read_group-returns-in_err-element-clause-shorter
+read_group-returns-in_err-element-clause-shorter t c = rw (err_from_is_err_and c.from_residual-in_err-element.result c.from_residual-in_err-element.ensures.1).1 tt
+
+pub read_group-returns-in_err-rest-2-clause-shorter : goal.read_group-returns-in_err-rest-2-clause-shorter
+read_group-returns-in_err-rest-2-clause-shorter t c = rw (err_from_is_err_and c.from_residual-in_err-rest-2.result c.from_residual-in_err-rest-2.ensures.1).1 tt
+
+pub read_other-returns-in_err-inner-clause-shorter : goal.read_other-returns-in_err-inner-clause-shorter
+read_other-returns-in_err-inner-clause-shorter t c = rw (err_from_is_err_and c.from_residual.result c.from_residual.ensures.1).1 tt
+
+pub read_other-returns-in-Some-clause-shorter : goal.read_other-returns-in-Some-clause-shorter
+read_other-returns-in-Some-clause-shorter t c = shorter_twice c.in_ok-inner.ensures.shorter c.in-Some.ensures.shorter
+
+pub read_other-returns-in_err-inner-2-clause-shorter : goal.read_other-returns-in_err-inner-2-clause-shorter
+read_other-returns-in_err-inner-2-clause-shorter t c = rw (err_from_is_err_and c.from_residual-in_err-inner-2.result c.from_residual-in_err-inner-2.ensures.1).1 tt
+
+pub read_other-returns-in-Some-accept_word-clause-shorter : goal.read_other-returns-in-Some-accept_word-clause-shorter
+read_other-returns-in-Some-accept_word-clause-shorter t c = shorter_twice c.in_ok-inner-2.ensures.shorter c.in-Some-accept_word.ensures.shorter
+
+pub read_other-returns-in-Some-accept_word-2-clause-shorter : goal.read_other-returns-in-Some-accept_word-2-clause-shorter
+read_other-returns-in-Some-accept_word-2-clause-shorter t c = IfOk-weaker c.read_named_graph.result _ _ (λ p h. shorter_twice h c.in-Some-accept_word-2.ensures.shorter) c.read_named_graph.ensures.shorter
+
+pub read_other-returns-in-Some-accept-clause-shorter : goal.read_other-returns-in-Some-accept-clause-shorter
+read_other-returns-in-Some-accept-clause-shorter t c = c.read_unions.ensures.shorter
+
+pub read_other-returns-clause-shorter : goal.read_other-returns-clause-shorter
+read_other-returns-clause-shorter t c = c.read_simple.ensures.shorter
+
+pub read_unions-returns-in_err-first-clause-shorter : goal.read_unions-returns-in_err-first-clause-shorter
+read_unions-returns-in_err-first-clause-shorter t c = rw (err_from_is_err_and c.from_residual.result c.from_residual.ensures.1).1 tt
+
+pub read_unions-returns-in_err-right-clause-shorter : goal.read_unions-returns-in_err-right-clause-shorter
+read_unions-returns-in_err-right-clause-shorter t c = rw (err_from_is_err_and c.from_residual-in_err-right.result c.from_residual-in_err-right.ensures.1).1 tt
+
+pub read_unions-returns-clause-shorter : goal.read_unions-returns-clause-shorter
+read_unions-returns-clause-shorter t c = c.groups.invariant.shorter
+
+pub read_named_graph-returns-in_err-name-clause-shorter : goal.read_named_graph-returns-in_err-name-clause-shorter
+read_named_graph-returns-in_err-name-clause-shorter t c = rw (err_from_is_err_and c.from_residual.result c.from_residual.ensures.1).1 tt
+
+pub read_named_graph-returns-in_err-inner-clause-shorter : goal.read_named_graph-returns-in_err-inner-clause-shorter
+read_named_graph-returns-in_err-inner-clause-shorter t c = rw (err_from_is_err_and c.from_residual-in_err-inner.result c.from_residual-in_err-inner.ensures.1).1 tt
+
+pub read_named_graph-returns-clause-shorter : goal.read_named_graph-returns-clause-shorter
+read_named_graph-returns-clause-shorter t c = shorter_twice c.in_ok-inner.ensures.shorter c.in_ok-name.ensures.shorter
