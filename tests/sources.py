@@ -204,7 +204,7 @@ class Mutant:
     def __init__(self, crate, folder, name):
         self.crate, self.folder, self.name = crate, folder, name
         self.in_gate = folder == GATE_MUTANTS
-        self.changed, self.prover_paths, self.texts, self.fault = [], [], {}, ""
+        self.changed, self.prover_paths, self.places, self.edits, self.fault = [], [], [], [], ""
         self.path = f"crates/{crate}/{folder}/{name}.edit"
         with open(f"{ROOT}/{self.path}", encoding="utf-8") as file:
             self.apply(file.read())
@@ -229,8 +229,8 @@ class Mutant:
                 self.note(path, texts[path][1], old)
                 new = line.removeprefix("new:").removeprefix(" ")
                 texts[path][1] = texts[path][1].replace(old, new)
+                self.edits.append((path, old, new))
                 old, pairs = "", pairs + 1
-        self.texts = {path: now for path, (_, now) in texts.items()}
         if not pairs or all(was == now for was, now in texts.values()):
             self.fault = "it changes nothing"
 
@@ -251,6 +251,7 @@ class Mutant:
         # (an edit outside any item is one of the imports)
         if found:
             self.prover_paths.append(prover_path(path, found) if is_function else None)
+            self.places.append((path, found.path if is_function else found.name))
 
     def names(self):
         """Returns the changed functions. If no function is changed: the changed items, or else the file."""

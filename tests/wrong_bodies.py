@@ -6,8 +6,12 @@
 
 A mutant is a file crates/CRATE/wrong-bodies/NAME.edit, or gate/NAME.edit in that folder: an edit that makes a
 function of the crate wrong (docs/MUTANTS.md). The script applies it to a copy of the crate and has the prover check
-the functions that it changes. They must be proved without the edit, and must not be proved with it. The whole
-crate is checked if the edit changes something other than a function, or if the prover still proves these functions.
+the functions that it changes. They must be proved without the edit, and must not be proved with it.
+
+A function is proved from the contracts of those that it calls, not from their bodies. So mutants of different functions
+are checked in one run, and each needs an error of its own: one in a function that it changes, or in the proof of
+one. A mutant with no such error is checked alone, and then over the whole crate. So is a mutant that changes something other
+than functions.
 
 The libraries below a crate are those that `rt ci` left in crates/*/out, if they are newer than their sources.
 Otherwise the script builds them in a temporary folder, which takes as long as a proof of these crates.
@@ -30,12 +34,12 @@ import tempfile
 import threading
 from concurrent.futures import ThreadPoolExecutor
 
-from sources import ROOT, crates, mutants
+from sources import ROOT, Function, Source, crates, mutants, original
 
 CACHE = os.path.join(os.environ.get("XDG_CACHE_HOME") or os.path.expanduser("~/.cache"), "spq", "mutants.json")
 PARTS = ("src", "specs", "proofs")
 # An error of the prover or an open goal, with the file that it is in.
-ERROR = re.compile(r"^(?:note: )?(?:\./)?(?P<file>(?:src|specs|proofs)/\S+?):\d+:\d+: .*$", re.M)
+ERROR = re.compile(r"^(?:note: )?(?:\./)?(?P<file>(?:src|specs|proofs)/\S+?):(?P<line>\d+):\d+: .*$", re.M)
 # What the prover says of a text that it cannot read, and of a proof that names what the edit took away.
 UNREADABLE = re.compile(r"is not in scope|has no field|has no `|is no name|was not admitted|operand is missing|expected the end|cannot continue")
 
@@ -121,13 +125,13 @@ def modules_of(paths):
 
 
 class Crate:
-    """A crate, a folder that keeps what is proved of it, and the paths of changed functions that the prover knows."""
+    """A crate, and a folder that keeps what is proved of it."""
 
     def __init__(self, prover, name, kept):
-        self.prover, self.name, self.kept = prover, name, kept
+        self.prover, self.name, self.kept, self.is_by_module = prover, name, kept, False
 
     def is_proved(self, named):
-        """Checks the unchanged functions that the mutants change. Tells whether they are proved."""
+        """Checks the unchanged functions that the mutants change, and returns whether they are proved."""
         paths = sorted({path for mutant in named for path in paths_of(mutant)})
         folder = f"{ROOT}/crates/{self.name}"
         status, said = self.prover.check(self.name, folder, paths, self.kept)
@@ -139,37 +143,110 @@ class Crate:
             print(f"{said[-3000:]}\n{self.name}: the crate itself is not proved, so no mutant was checked", flush=True)
         return not status
 
-    def rejection_of(self, mutant):
-        """Returns why the prover rejects a mutant, or None and why it does not."""
-        if mutant.fault:
-            return None, mutant.fault
+    def check(self, batch, is_whole=False):
+        """Applies mutants to a copy of the crate, and checks the functions that they change, or all. Returns the status and the output."""
         with tempfile.TemporaryDirectory(prefix="spq-mutant-") as room:
             for part in PARTS:
                 if os.path.isdir(f"{ROOT}/crates/{self.name}/{part}"):
                     shutil.copytree(f"{ROOT}/crates/{self.name}/{part}", f"{room}/{part}")
-            for path, text in mutant.texts.items():
+            for path, text in texts_of(batch).items():
                 with open(f"{room}/{path}", "w", encoding="utf-8") as file:
                     file.write(text)
-            paths = modules_of(paths_of(mutant)) if self.is_by_module else paths_of(mutant)
-            status, said = self.prover.check(self.name, room, paths, self.kept)
-            if status == 0 and paths:
-                status, said = self.prover.check(self.name, room, [], self.kept)
-        return judgement(status, said, mutant)
+            paths = [] if is_whole else sorted({path for mutant in batch for path in paths_of(mutant)})
+            return self.prover.check(self.name, room, modules_of(paths) if self.is_by_module else paths, self.kept)
+
+    def rejections(self, batch):
+        """Checks mutants together, and returns those with an error of their own, each with that error."""
+        status, said = self.check(batch)
+        errors, fault = errors_in(status, said)
+        found = {}
+        for mutant in batch if not fault else []:
+            own = [it for it in errors if is_of(it, mutant, batch)]
+            if own:
+                found[mutant] = first_goal(own)
+        return found
+
+    def rejection_of(self, mutant):
+        """Checks a mutant alone. Returns the error by which the prover rejects it, or None and why there is none."""
+        if mutant.fault:
+            return None, mutant.fault
+        is_whole = not paths_of(mutant)
+        status, said = self.check([mutant], is_whole)
+        if status == 0 and not is_whole:
+            status, said = self.check([mutant], True)
+        errors, fault = errors_in(status, said)
+        return (None, fault) if fault else (first_goal(errors), "")
 
 
-def judgement(status, said, mutant):
-    """Returns the error by which the prover rejects a mutant, or None and why it does not."""
+def batches(named):
+    """Groups mutants such that those of a group change different functions, and their edits do not overlap."""
+    groups = []
+    for mutant in named:
+        if mutant.fault or not paths_of(mutant):
+            groups.append([mutant])
+            continue
+        for group in groups:
+            taken = {place for other in group for place in other.places}
+            if paths_of(group[0]) and not group[0].fault and not taken & set(mutant.places) and texts_of([*group, mutant]):
+                group.append(mutant)
+                break
+        else:
+            groups.append([mutant])
+    return groups
+
+
+def texts_of(batch):
+    """Returns the texts of the files that mutants of a crate change, by path, or None if their edits overlap."""
+    texts = {}
+    for mutant in batch:
+        for path, old, new in mutant.edits:
+            text = texts.get(path, original(mutant.crate, path))
+            if text.count(old) != 1:
+                return None
+            texts[path] = text.replace(old, new)
+    return texts
+
+
+def errors_in(status, said):
+    """Returns the prover's errors and open goals, or none and why the output is no rejection."""
     errors = list(ERROR.finditer(said))
     unreadable = next((it[0] for it in errors if not it["file"].startswith("proofs/") and UNREADABLE.search(it[0])), "")
     last = said.rstrip().rpartition("\n")[2]
     if status == 0:
-        return None, "it is still proved"
+        return [], "it is still proved"
     if unreadable or not re.match(r"only=\d+ proved=|logic=not-proved", last):
-        return None, f"the prover cannot read the edited text: {unreadable or last}"
-    goals = [it[0] for it in errors if not UNREADABLE.search(it[0])]
+        return [], f"the prover cannot read the edited text: {unreadable or last}"
     if status != 1 or not errors:
-        return None, f"the prover has no verdict: {last}"
-    return (goals or [f"(only because a proof file names what the edit took away) {errors[0][0]}"])[0], ""
+        return [], f"the prover has no verdict: {last}"
+    return errors, ""
+
+
+def is_of(error, mutant, batch):
+    """Returns whether an error is in a function that the mutant changes, or in the proof of one."""
+    file, line = error["file"], int(error["line"])
+    if file.startswith("src/"):
+        text = texts_of(batch).get(file) or original(mutant.crate, file)
+        source = Source(mutant.crate, file, text)
+        found = source.around(sum(len(it) + 1 for it in text.split("\n")[: line - 1]) + 1)
+        # (a line may begin before its item does)
+        inside = [it for it in source.functions if text.count("\n", 0, it.start) < line <= text.count("\n", 0, it.end) + 1]
+        names = {it.path for it in inside} | ({found.path} if isinstance(found, Function) else set())
+        return any(path == file and name in names for path, name in mutant.places)
+    folders = file.split("/")[1:-1]
+    for path, name in mutant.places:
+        module = [it for it in path.removeprefix("src/").removesuffix(".rt").split("/") if it != "lib"]
+        if folders[: len(module)] == module and len(folders) > len(module):
+            # (a name with a plus is a cycle of calls)
+            is_alone = sum(path in {it for it, _ in other.places} for other in batch) == 1
+            if folders[-1] == name.rpartition("::")[2] or folders[-1].startswith("+") and is_alone:
+                return True
+    return False
+
+
+def first_goal(errors):
+    """Returns the first error that is more than a name that the edit took away, or else the first one."""
+    goals = [it[0] for it in errors if not UNREADABLE.search(it[0])]
+    return (goals or [f"(only because a proof file names what the edit took away) {errors[0][0]}"])[0]
 
 
 def checksum(folder):
@@ -216,14 +293,22 @@ class Results:
         os.replace(f"{CACHE}.new", CACHE)
 
 
-def check_crate(prover, name, keys, results):
-    """Checks mutants of a crate, given with their keys, one after the other over what the checks before proved."""
+def check_crate(prover, name, keys, results, is_gate):
+    """Checks mutants of a crate, given with their keys, over what the checks before proved."""
     prover.build_below(name)
     with tempfile.TemporaryDirectory(prefix="spq-kept-") as kept:
         crate = Crate(prover, name, kept)
-        is_proved = crate.is_proved(keys)
-        for mutant, key in keys.items():
-            results.add(mutant, key, *(crate.rejection_of(mutant) if is_proved else (None, "the crate itself is not proved")))
+        # (the gate has proved the crate)
+        is_proved = is_gate or crate.is_proved(keys)
+        for batch in batches(keys):
+            found = crate.rejections(batch) if is_proved and len(batch) > 1 else {}
+            for mutant in batch:
+                if not is_proved:
+                    results.add(mutant, keys[mutant], None, "the crate itself is not proved")
+                elif mutant in found:
+                    results.add(mutant, keys[mutant], found[mutant], "")
+                else:
+                    results.add(mutant, keys[mutant], *crate.rejection_of(mutant))
 
 
 def changed_since(revision):
@@ -262,7 +347,7 @@ def main():
     with tempfile.TemporaryDirectory(prefix="spq-mutants-") as room, ThreadPoolExecutor(asked.jobs) as lanes:
         prover = Prover(room)
         # The crates with most mutants first.
-        for run in [lanes.submit(check_crate, prover, it, left[it], results) for it in sorted(left, key=lambda it: -len(left[it]))]:
+        for run in [lanes.submit(check_crate, prover, it, left[it], results, asked.gate) for it in sorted(left, key=lambda it: -len(left[it]))]:
             run.result()
     print(f"{results.rejected} mutants rejected, {results.earlier} by an earlier run, {results.missed} not rejected")
     return 1 if results.missed else 0
