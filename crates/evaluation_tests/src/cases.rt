@@ -1,6 +1,8 @@
 //! Tables of cases. A line of a table is a case, `=>`, and the text that its reader prints for it.
 //! Empty lines and lines that begin with `#` are skipped.
+use crate::drawn::drawn;
 use crate::operators::Purpose;
+use crate::plans::Task;
 use crate::{operators, patterns, plans};
 use row_pieces::EvalFault;
 use std::alloc::{AllocError, Global};
@@ -23,6 +25,8 @@ pub(crate) enum Reader {
     Query,
     /// A query: the number of terms that its evaluation adds.
     Added,
+    /// A document, `--`, and a query: whether the solutions are those of plain_eval.
+    Agreement,
     /// Two rows, printed with two workers.
     Printing,
 }
@@ -35,93 +39,123 @@ fn printed<R: RandomSource + Threads + Wait>(
 ) -> Result<String, EvalFault> {
     match reader {
         Reader::Operator(purpose) => operators::operated(rt, alloc, case, purpose),
-        Reader::Table => operators::tabulated(rt, alloc, case),
+        Reader::Table => operators::tabulated(rt, alloc),
         Reader::Pattern => patterns::solved(rt, alloc, case),
         Reader::Graph => plans::graph_alone(rt, alloc, case),
-        Reader::Query => plans::solved(rt, alloc, case),
-        Reader::Added => plans::added(rt, alloc, case),
+        Reader::Query => plans::planned(rt, alloc, case, Task::Solutions),
+        Reader::Added => plans::planned(rt, alloc, case, Task::Growth),
+        Reader::Agreement => {
+            let (document, query) = case.split_once("--").unwrap_or(("", case));
+            plans::planned(rt, alloc, query, Task::Agreement(document))
+        }
         Reader::Printing => operators::met_in_printing(rt, alloc),
     }
 }
 
-/// Appends the case, the expected text and the printed text, if these two differ.
-pub(crate) fn compare(
-    report: &mut String,
-    case: &str,
-    expected: &str,
-    found: &str,
-) -> Result<(), AllocError> {
-    if found == expected {
-        return Ok(());
+/// Returns whether the two texts are equal. Prints the case and both if they are not.
+pub(crate) fn is_same<R: Print>(rt: &R, case: &str, expected: &str, found: &str) -> bool {
+    if found != expected {
+        let _ = println!(rt; "{case}\n  expected {expected}\n  got      {found}");
     }
-    write!(
-        report,
-        "{case}\n  expected {expected}\n  got      {found}\n"
-    )
+    found == expected
 }
 
-/// Checks a case.
-pub(crate) fn check<R: RandomSource + Threads + Wait>(
+/// Returns whether the reader prints the expected text. Prints the case and both texts if not.
+fn holds<R: RandomSource + Threads + Wait + Print>(
     rt: &R,
     alloc: Global,
     reader: Reader,
     case: &str,
     expected: &str,
-    report: &mut String,
-) -> Result<(), EvalFault> {
-    let found = printed(rt, alloc, reader, case)?;
-    Ok(compare(report, case, expected, found.as_str())?)
-}
-
-/// Checks a line of a table.
-fn check_line<R: RandomSource + Threads + Wait>(
-    rt: &R,
-    alloc: Global,
-    reader: Reader,
-    line: &str,
-    report: &mut String,
-) -> Result<(), EvalFault> {
-    if line.is_empty() || line.starts_with("#") {
-        return Ok(());
-    }
-    match line.split_once("=>") {
-        Some((case, expected)) => check(rt, alloc, reader, case.trim(), expected.trim(), report),
-        None => Ok(write!(report, "{line}\n  is no case\n")?),
-    }
-}
-
-/// Returns the cases of a table that fail, each with the expected text and the printed text. The
-/// result is empty if no case fails.
-fn report<R: RandomSource + Threads + Wait>(
-    rt: &R,
-    alloc: Global,
-    reader: Reader,
-    table: &str,
-) -> Result<String, EvalFault> {
-    let mut report = String::new(alloc);
-    for line in table.lines() {
-        check_line(rt, alloc, reader, line.trim(), &mut report)?;
-    }
-    Ok(report)
-}
-
-/// Returns whether a report is empty. Prints it.
-pub(crate) fn is_empty<R: Print>(rt: &R, report: Result<String, EvalFault>) -> bool {
-    match report {
-        Ok(report) => {
-            let _ = print!(rt; "{report}");
-            report.is_empty()
-        }
+) -> bool {
+    match printed(rt, alloc, reader, case) {
+        Ok(found) => is_same(rt, case, expected, found.as_str()),
         Err(_) => false,
     }
 }
 
 /// Returns whether no case of the table fails. Prints those that fail.
-pub(crate) fn are_right<R: RandomSource + Threads + Wait + Print>(
+fn are_right<R: RandomSource + Threads + Wait + Print>(
     rt: &R,
     alloc: Global,
     reader: Reader,
     table: &str,
 ) -> bool {
-    is_empty(rt, report(rt, alloc, reader, table))
+    let mut are_right = true;
+    for line in table.lines() {
+        if !line.is_empty() && !line.starts_with("#") {
+            let (case, expected) = line.split_once("=>").unwrap_or((line, "a line with `=>`"));
+            are_right &= holds(rt, alloc, reader, case.trim(), expected.trim());
+        }
+    }
+    are_right
+}
+
+/// Returns whether no case of the tables fails. Prints those that fail.
+pub(crate) fn are_all_right<R: RandomSource + Threads + Wait + Print>(
+    rt: &R,
+    alloc: Global,
+    tables: &[(Reader, &str)],
+) -> bool {
+    let mut are_all_right = true;
+    for (reader, table) in tables {
+        are_all_right &= are_right(rt, alloc, *reader, *table);
+    }
+    are_all_right
+}
+
+/// A generator of pseudorandom numbers.
+#[derive(Drop)]
+pub(crate) struct Draws {
+    pub(crate) state: u64,
+}
+
+impl Draws {
+    ghost use Rattle.std.specs.Prelude.{◌≤◌};
+
+    pub(crate) fn below(&mut self, n: u64) -> u64
+        requires some { 1 ≤ n }
+    {
+        self.state = self
+            .state
+            .wrapping_mul(6364136223846793005)
+            .wrapping_add(1442695040888963407);
+        (self.state >> 33) % n
+    }
+
+    /// Returns one of the texts.
+    pub(crate) fn one_of(&mut self, texts: &[&'static str]) -> &'static str {
+        let place = self.below(texts.len().max(1) as u64) as usize;
+        texts.get(place).copied().unwrap_or("")
+    }
+}
+
+/// Returns a case: the first part, a text that is drawn from the second one, the third part, and a
+/// text that is drawn from the fourth one.
+fn drawn_case(alloc: Global, parts: &[&str; 4], draws: &mut Draws) -> Result<String, AllocError> {
+    let [before, left, between, right] = *parts;
+    let left = drawn(alloc, left, draws)?;
+    let right = drawn(alloc, right, draws)?;
+    format!(in alloc; "{before}{left}{between}{right}")
+}
+
+/// Returns whether the reader prints `same` for each of `count` pseudorandom cases. Prints those that
+/// fail.
+pub(crate) fn are_same<R: RandomSource + Threads + Wait + Print>(
+    rt: &R,
+    alloc: Global,
+    reader: Reader,
+    parts: &[&str; 4],
+    seed: u64,
+    count: u32,
+) -> bool {
+    let mut are_same = true;
+    let mut draws = Draws { state: seed };
+    for _ in 0..count {
+        are_same &= match drawn_case(alloc, parts, &mut draws) {
+            Ok(case) => holds(rt, alloc, reader, case.as_str(), "same"),
+            Err(_) => false,
+        };
+    }
+    are_same
 }

@@ -2,22 +2,15 @@
 //!
 //! The queries are derived from `RULES`, and the rules on BIND and on blank node labels are not
 //! applied to them. A BIND may thus be to a bound variable, and a label may be in two patterns.
-use crate::cases::{compare, is_empty};
-use crate::operators::{Draws, verdict};
-use crate::plans::{evaluated, plainly, plan_of};
-use crate::ways::{in_one_piece, row_by_row};
-use row_pieces::EvalFault;
-use sparql_algebra::Plan;
+use crate::cases::{Draws, Reader, are_same};
+use rdf_core::Text;
 use sparql_expression::ParseFault;
 use sparql_grammar::Declarations;
-use sparql_lexer::{characters_of, scan_text};
+use sparql_lexer::{Token, characters_of, scan_text};
 use sparql_parse::{Select, parse};
 use sparql_read::mentioned;
 use sparql_tree::Query;
 use std::alloc::{AllocError, AllocGlobal, Global};
-use std::random::RandomSource;
-use std::sync::Wait;
-use std::thread::Threads;
 
 /// Symbols and their alternatives. In a text, each symbol in turn is replaced at each place by one
 /// of its alternatives, which have no symbols but later ones.
@@ -123,7 +116,7 @@ pub(crate) fn drawn(alloc: Global, text: &str, draws: &mut Draws) -> Result<Stri
 }
 
 /// Returns the query that the parser has read, with its variables at each place.
-fn query_of(select: Select, mentioned: Vec<rdf_core::Text>) -> Query {
+fn query_of(select: Select, mentioned: Vec<Text>) -> Query {
     let Select {
         distinct,
         selection,
@@ -141,82 +134,25 @@ fn query_of(select: Select, mentioned: Vec<rdf_core::Text>) -> Query {
     }
 }
 
-/// Parses a query, without the rules that follow the grammar.
-fn parsed(alloc: Global, text: &str) -> Result<Query, ParseFault> {
-    let characters = characters_of(alloc, text)?;
-    let scan = scan_text(alloc, &characters)?;
+/// Parses the tokens of a query.
+fn query_of_tokens(alloc: Global, tokens: &[Token<'_>]) -> Result<Query, ParseFault> {
     let names = Declarations::new(alloc);
-    let mentioned = mentioned(alloc, &scan.tokens)?;
-    let select = parse(alloc, &names, &scan.tokens)?;
+    let mentioned = mentioned(alloc, tokens)?;
+    let select = parse(alloc, &names, tokens)?;
     Ok(query_of(select, mentioned))
 }
 
-/// Prints `same` if the plan has the solutions of plain_eval, row by row and in one piece.
-fn compared<R: RandomSource + Threads + Wait>(
-    rt: &R,
-    alloc: Global,
-    document: &str,
-    plan: &Plan,
-) -> Result<String, EvalFault> {
-    let plain = plainly(alloc, document, plan)?;
-    let cut = evaluated(rt, alloc, document, plan, &row_by_row())?;
-    let whole = evaluated(rt, alloc, document, plan, &in_one_piece())?;
-    Ok(verdict(alloc, plain.as_str(), cut.as_str(), whole.as_str())?)
+/// Parses a query, without the rules that follow the grammar.
+pub(crate) fn parsed(alloc: Global, text: &str) -> Result<Query, ParseFault> {
+    let characters = characters_of(alloc, text)?;
+    let scan = scan_text(alloc, &characters)?;
+    query_of_tokens(alloc, &scan.tokens)
 }
 
-fn planned<R: RandomSource + Threads + Wait>(
-    rt: &R,
-    alloc: Global,
-    document: &str,
-    query: &Query,
-) -> Result<String, EvalFault> {
-    let plan = plan_of(alloc, query)?;
-    compared(rt, alloc, document, &plan)
-}
-
-fn agreement<R: RandomSource + Threads + Wait>(
-    rt: &R,
-    alloc: Global,
-    document: &str,
-    text: &str,
-) -> Result<String, EvalFault> {
-    match parsed(alloc, text) {
-        Ok(query) => planned(rt, alloc, document, &query),
-        Err(ParseFault::Syntax) => Ok(String::from_str(alloc, "no query")?),
-        Err(ParseFault::Memory) => Err(EvalFault::Memory),
-    }
-}
-
-/// Compares the solutions of one query over one document.
-fn check<R: RandomSource + Threads + Wait>(
-    rt: &R,
-    alloc: Global,
-    document: &str,
-    text: &str,
-    report: &mut String,
-) -> Result<(), EvalFault> {
-    let found = agreement(rt, alloc, document, text)?;
-    let case = format!(in alloc; "{document}{text}")?;
-    Ok(compare(report, case.as_str(), "same", found.as_str())?)
-}
-
-/// Compares the solutions of 100 queries, each over a document of its own.
-fn compare_drawn<R: RandomSource + Threads + Wait>(
-    rt: &R,
-    alloc: Global,
-) -> Result<String, EvalFault> {
-    let mut report = String::new(alloc);
-    let mut draws = Draws { state: 7 };
-    for _ in 0..100u32 {
-        let document = drawn(alloc, "δ", &mut draws)?;
-        let text = drawn(alloc, "θ", &mut draws)?;
-        check(rt, alloc, document.as_str(), text.as_str(), &mut report)?;
-    }
-    Ok(report)
-}
-
-/// Every query has the solutions of plain_eval, whatever the workers and the pieces.
+/// Every query has the solutions of plain_eval, whatever the workers and the pieces: 100 queries, each
+/// over a document of its own.
 #[test]
 fn queries_agree_with_the_plain_evaluation(rt: HostRuntime) {
-    assert!(rt; is_empty(&rt, compare_drawn(&rt, rt.alloc())));
+    let parts = ["", "δ", "--", "θ"];
+    assert!(rt; are_same(&rt, rt.alloc(), Reader::Agreement, &parts, 7, 100));
 }

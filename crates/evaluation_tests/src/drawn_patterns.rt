@@ -5,9 +5,8 @@ ghost use Rattle.std.specs.List.{list_all};
 ghost use Rattle.algebra_model.specs.Algebra.{is_below, is_triple_below};
 ghost use Rattle.sparql_algebra.specs.AlgebraOf.{pattern_term_of, triple_pattern_of};
 
-use crate::cases::{compare, is_empty};
+use crate::cases::{Draws, is_same};
 use crate::drawn::drawn;
-use crate::operators::Draws;
 use crate::patterns::{name_of, rows_in};
 use crate::printing::text_of_solutions;
 use crate::stores::iri;
@@ -34,6 +33,7 @@ fn spot(alloc: Global, draws: &mut Draws) -> PatternTerm
     }
 }
 
+/// Returns a triple pattern of three such terms.
 fn triple(alloc: Global, draws: &mut Draws) -> TriplePattern
     ensures below { is_triple_below 2 2 (triple_pattern_of result) ≡ true }
 {
@@ -44,6 +44,7 @@ fn triple(alloc: Global, draws: &mut Draws) -> TriplePattern
     }
 }
 
+/// Prints the solutions of plain_eval over quads.
 fn plainly_over(
     alloc: Global,
     quads: &[Quad],
@@ -68,69 +69,63 @@ fn plainly(
     }
 }
 
-/// Compares the rows of a pattern in one graph of a document.
-fn check<R: RandomSource + Threads + Wait>(
+/// Returns whether a pattern has the rows of plain_eval in one graph of a document. Prints both if not.
+fn is_right<R: RandomSource + Threads + Wait + Print>(
     rt: &R,
     alloc: Global,
     document: &str,
     graph: &str,
     triples: &[TriplePattern],
-    report: &mut String,
-) -> Result<(), EvalFault>
+) -> Result<bool, EvalFault>
     requires below { list_all (is_triple_below 2 2) (map triple_pattern_of triples.now) ≡ true }
 {
     let name = name_of(alloc, graph);
     let plain = plainly(alloc, document, &name, triples)?;
     let found = rows_in(rt, alloc, document, &name, 2, triples)?;
     let case = format!(in alloc; "{document}{triples:?} in {graph}")?;
-    Ok(compare(report, case.as_str(), plain.as_str(), found.as_str())?)
+    Ok(is_same(rt, case.as_str(), plain.as_str(), found.as_str()))
 }
 
-/// Compares the rows of a pattern in the default graph, and in a named graph if the document has its
-/// name.
-fn check_graphs<R: RandomSource + Threads + Wait>(
+/// Returns whether a pattern has the rows of plain_eval in the default graph, and in a named graph if
+/// the document has its name.
+fn is_right_in_graphs<R: RandomSource + Threads + Wait + Print>(
     rt: &R,
     alloc: Global,
     document: &str,
     triples: &[TriplePattern],
-    report: &mut String,
-) -> Result<(), EvalFault>
+) -> Result<bool, EvalFault>
     requires below { list_all (is_triple_below 2 2) (map triple_pattern_of triples.now) ≡ true }
 {
-    check(rt, alloc, document, "default", triples, report)?;
-    if document.contains("<a:x>") {
-        check(rt, alloc, document, "a:x", triples, report)?;
+    let is_right_here = is_right(rt, alloc, document, "default", triples)?;
+    if is_right_here && document.contains("<a:x>") {
+        return is_right(rt, alloc, document, "a:x", triples);
     }
-    Ok(())
+    Ok(is_right_here)
 }
 
-/// Compares the rows of a pattern of two triple patterns.
-fn check_drawn<R: RandomSource + Threads + Wait>(
+/// Returns whether a drawn pattern of two triple patterns has the rows of plain_eval.
+fn is_drawn_right<R: RandomSource + Threads + Wait + Print>(
     rt: &R,
     alloc: Global,
     draws: &mut Draws,
-    report: &mut String,
-) -> Result<(), EvalFault> {
+) -> Result<bool, EvalFault> {
     let document = drawn(alloc, "δ", draws)?;
     let triples = [triple(alloc, draws), triple(alloc, draws)];
-    check_graphs(rt, alloc, document.as_str(), &triples, report)
+    is_right_in_graphs(rt, alloc, document.as_str(), &triples)
 }
 
-/// Compares the rows of 200 patterns.
-fn compare_drawn<R: RandomSource + Threads + Wait>(
-    rt: &R,
-    alloc: Global,
-) -> Result<String, EvalFault> {
-    let mut report = String::new(alloc);
+/// Returns whether 200 drawn patterns have the rows of plain_eval.
+fn are_drawn_right<R: RandomSource + Threads + Wait + Print>(rt: &R, alloc: Global) -> bool {
+    let mut are_right = true;
     let mut draws = Draws { state: 11 };
     for _ in 0..200u32 {
-        check_drawn(rt, alloc, &mut draws, &mut report)?;
+        are_right &= is_drawn_right(rt, alloc, &mut draws) == Ok(true);
     }
-    Ok(report)
+    are_right
 }
 
 /// Every pattern has the rows of plain_eval.
 #[test]
 fn patterns_agree_with_the_plain_one(rt: HostRuntime) {
-    assert!(rt; is_empty(&rt, compare_drawn(&rt, rt.alloc())));
+    assert!(rt; are_drawn_right(&rt, rt.alloc()));
 }

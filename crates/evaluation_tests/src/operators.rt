@@ -4,9 +4,8 @@ ghost use Rattle.std.specs.Prelude.{◌≡◌, IfOk};
 ghost use Rattle.row_pieces.specs.How.{IsRunnable};
 ghost use Rattle.sparql_eval.specs.Evaluated.{AreKnown};
 
-use crate::cases::{Reader, are_right, check, is_empty};
-use crate::drawn::drawn;
-use crate::plans::plan_of;
+use crate::cases::{Reader, are_all_right, are_same};
+use crate::plans::{Task, planned};
 use crate::printing::{text_of_rows, text_of_solutions};
 use crate::rows::{dict_of, rows_of, solutions_of};
 use crate::stores::iri;
@@ -20,8 +19,6 @@ use row_core::Rows;
 use row_pieces::{EvalFault, How};
 use sparql_algebra::{Expr, Plan};
 use sparql_eval::{distinct, extend, filter, join, left_join, minus, project, table, union};
-use sparql_read::read_query;
-use sparql_tree::Query;
 use std::alloc::{AllocError, AllocGlobal, Global};
 use std::hash::RandomState;
 use std::random::RandomSource;
@@ -55,14 +52,6 @@ const WORDS: [(&str, Operator); 8] = [
     ("project", Operator::Project),
 ];
 
-/// An operator, and its rows as text.
-#[derive(Clone, Copy)]
-struct Task<'a> {
-    operator: Operator,
-    left: &'a str,
-    right: &'a str,
-}
-
 /// The purpose of a call of an operator.
 #[derive(Clone, Copy)]
 pub(crate) enum Purpose {
@@ -74,6 +63,16 @@ pub(crate) enum Purpose {
     Compare,
 }
 
+/// A call of an operator: its rows as text, and its purpose.
+#[derive(Clone, Copy)]
+pub(crate) struct Call<'a> {
+    operator: Operator,
+    left: &'a str,
+    right: &'a str,
+    purpose: Purpose,
+}
+
+/// Returns a state for a hash table.
 pub(crate) fn state_of<R: RandomSource>(rt: &R) -> Result<RandomState, EvalFault> {
     match RandomState::new(rt) {
         Ok(state) => Ok(state),
@@ -114,19 +113,28 @@ fn made<R: Threads + Wait, G: Gate + Sync>(
     }
 }
 
-/// Prints the rows of an operator. May print the number of terms that the dictionary then has.
+/// Prints the rows of an operator, after the number of terms that the dictionary then has if that is
+/// the purpose.
+fn shown(alloc: Global, dict: &Dict, rows: &Rows, purpose: Purpose) -> Result<String, AllocError> {
+    let text = text_of_rows(alloc, dict, rows)?;
+    match purpose {
+        Purpose::Answer => format!(in alloc; "{} terms, {text}", dict.len()),
+        _ => Ok(text),
+    }
+}
+
+/// Prints the rows of an operator over these rows.
 fn run_over<R: Threads + Wait, G: Gate + Sync>(
     rt: &R,
     alloc: Global,
     state: RandomState,
     dict: Dict,
-    operator: Operator,
+    call: Call<'_>,
     left: &Rows,
     right: &Rows,
     expression: &Expr,
     how: &How,
     gate: &G,
-    is_counted: bool,
 ) -> Result<String, EvalFault>
     requires wide { left.now.width ≡ 2 }
     requires same_width { right.now.width ≡ 2 }
@@ -134,10 +142,11 @@ fn run_over<R: Threads + Wait, G: Gate + Sync>(
     requires known_right { AreKnown dict right.now }
     requires how { IsRunnable how.now }
 {
+    let operator = call.operator;
     let (rows, dict) = made(
         rt, alloc, state, dict, operator, left, right, expression, how, gate,
     )?;
-    Ok(shown(alloc, &dict, &rows, is_counted)?)
+    Ok(shown(alloc, &dict, &rows, call.purpose)?)
 }
 
 /// Prints the rows of an operator over rows of the dictionary.
@@ -146,68 +155,45 @@ fn run<R: Threads + Wait, G: Gate + Sync>(
     alloc: Global,
     state: RandomState,
     dict: Dict,
-    task: Task<'_>,
+    call: Call<'_>,
     expression: &Expr,
     how: &How,
     gate: &G,
-    is_counted: bool,
 ) -> Result<String, EvalFault>
     requires how { IsRunnable how.now }
 {
-    let left = rows_of(alloc, &dict, task.left)?;
-    let right = rows_of(alloc, &dict, task.right)?;
+    let left = rows_of(alloc, &dict, call.left)?;
+    let right = rows_of(alloc, &dict, call.right)?;
     run_over(
-        rt,
-        alloc,
-        state,
-        dict,
-        task.operator,
-        &left,
-        &right,
-        expression,
-        how,
-        gate,
-        is_counted,
+        rt, alloc, state, dict, call, &left, &right, expression, how, gate,
     )
-}
-
-fn shown(alloc: Global, dict: &Dict, rows: &Rows, is_counted: bool) -> Result<String, AllocError> {
-    let text = text_of_rows(alloc, dict, rows)?;
-    if is_counted {
-        format!(in alloc; "{} terms, {text}", dict.len())
-    } else {
-        Ok(text)
-    }
 }
 
 /// Prints the rows of an operator.
 fn printed_rows<R: RandomSource + Threads + Wait, G: Gate + Sync>(
     rt: &R,
     alloc: Global,
-    task: Task<'_>,
+    call: Call<'_>,
     expression: &Expr,
     how: &How,
     gate: &G,
-    is_counted: bool,
 ) -> Result<String, EvalFault>
     requires how { IsRunnable how.now }
 {
     let state = state_of(rt)?;
     let dict = dict_of(alloc, state)?;
-    run(
-        rt, alloc, state, dict, task, expression, how, gate, is_counted,
-    )
+    run(rt, alloc, state, dict, call, expression, how, gate)
 }
 
 /// Prints whether two workers met in an operator, and its rows.
 fn met<R: RandomSource + Threads + Wait>(
     rt: &R,
     alloc: Global,
-    task: Task<'_>,
+    call: Call<'_>,
     expression: &Expr,
 ) -> Result<String, EvalFault> {
     let gate = Meeting::new();
-    let text = printed_rows(rt, alloc, task, expression, &row_by_row(), &gate, false)?;
+    let text = printed_rows(rt, alloc, call, expression, &row_by_row(), &gate)?;
     let word = if gate.is_met() { "met" } else { "not met" };
     Ok(format!(in alloc; "{word}, {text}")?)
 }
@@ -281,6 +267,7 @@ fn plainly_made(
     }
 }
 
+/// Prints the solutions of an operator of plain_eval on these solutions.
 fn text_of_plain(
     alloc: Global,
     operator: Operator,
@@ -293,45 +280,60 @@ fn text_of_plain(
 }
 
 /// Prints the solutions of an operator of plain_eval.
-fn plainly(alloc: Global, task: Task<'_>, expression: &Expr) -> Result<String, AllocError> {
-    let left = solutions_of(alloc, task.left)?;
-    let right = solutions_of(alloc, task.right)?;
-    text_of_plain(alloc, task.operator, expression, &left, &right)
+fn plainly(alloc: Global, call: Call<'_>, expression: &Expr) -> Result<String, AllocError> {
+    let left = solutions_of(alloc, call.left)?;
+    let right = solutions_of(alloc, call.right)?;
+    text_of_plain(alloc, call.operator, expression, &left, &right)
 }
 
-/// Prints `same` if the operator has the rows of plain_eval, row by row and in one piece.
+/// Appends the rows of an operator, if they differ from those of plain_eval.
+fn compare<R: RandomSource + Threads + Wait>(
+    rt: &R,
+    alloc: Global,
+    call: Call<'_>,
+    expression: &Expr,
+    how: &How,
+    plain: &str,
+    differences: &mut String,
+) -> Result<(), EvalFault>
+    requires how { IsRunnable how.now }
+{
+    let found = printed_rows(rt, alloc, call, expression, how, &OpenGate)?;
+    if found.as_str() != plain {
+        write!(differences, ", {how:?}: {found}, expected {plain}")?;
+    }
+    Ok(())
+}
+
+/// Prints `same`, followed by the rows of the operator that differ from those of plain_eval, row by row
+/// and in one piece.
 fn compared<R: RandomSource + Threads + Wait>(
     rt: &R,
     alloc: Global,
-    task: Task<'_>,
+    call: Call<'_>,
     expression: &Expr,
 ) -> Result<String, EvalFault> {
-    let plain = plainly(alloc, task, expression)?;
-    let cut = printed_rows(rt, alloc, task, expression, &row_by_row(), &OpenGate, false)?;
-    let whole = printed_rows(
+    let plain = plainly(alloc, call, expression)?;
+    let mut text = String::from_str(alloc, "same")?;
+    compare(
         rt,
         alloc,
-        task,
+        call,
+        expression,
+        &row_by_row(),
+        plain.as_str(),
+        &mut text,
+    )?;
+    compare(
+        rt,
+        alloc,
+        call,
         expression,
         &in_one_piece(),
-        &OpenGate,
-        false,
+        plain.as_str(),
+        &mut text,
     )?;
-    Ok(verdict(alloc, plain.as_str(), cut.as_str(), whole.as_str())?)
-}
-
-/// Prints `same`, or the three texts if they differ.
-pub(crate) fn verdict(
-    alloc: Global,
-    plain: &str,
-    cut: &str,
-    whole: &str,
-) -> Result<String, AllocError> {
-    if cut == plain && whole == plain {
-        String::from_str(alloc, "same")
-    } else {
-        format!(in alloc; "{plain}, row by row {cut}, in one piece {whole}")
-    }
+    Ok(text)
 }
 
 /// Returns the condition of a filter directly below the projection.
@@ -345,45 +347,20 @@ fn condition_of(plan: &Plan) -> Option<&Expr> {
     }
 }
 
-fn called<R: RandomSource + Threads + Wait>(
-    rt: &R,
-    alloc: Global,
-    task: Task<'_>,
-    plan: &Plan,
-    purpose: Purpose,
-) -> Result<String, EvalFault> {
-    match (condition_of(plan), purpose) {
-        (Some(it), Purpose::Answer) => {
-            printed_rows(rt, alloc, task, it, &row_by_row(), &OpenGate, true)
-        }
-        (Some(it), Purpose::Meet) => met(rt, alloc, task, it),
-        (Some(it), Purpose::Compare) => compared(rt, alloc, task, it),
-        (None, _) => Ok(String::from_str(alloc, "no expression")?),
-    }
-}
-
-fn planned<R: RandomSource + Threads + Wait>(
-    rt: &R,
-    alloc: Global,
-    task: Task<'_>,
-    query: &Query,
-    purpose: Purpose,
-) -> Result<String, EvalFault> {
-    let plan = plan_of(alloc, query)?;
-    called(rt, alloc, task, &plan, purpose)
-}
-
 /// Calls an operator with the filter of a query as its expression.
-fn read<R: RandomSource + Threads + Wait>(
+pub(crate) fn called<R: RandomSource + Threads + Wait>(
     rt: &R,
     alloc: Global,
-    task: Task<'_>,
-    text: &str,
-    purpose: Purpose,
+    call: Call<'_>,
+    plan: &Plan,
 ) -> Result<String, EvalFault> {
-    match read_query(alloc, text) {
-        Ok(query) => planned(rt, alloc, task, &query, purpose),
-        Err(fault) => Ok(format!(in alloc; "{fault:?}")?),
+    match (condition_of(plan), call.purpose) {
+        (Some(it), Purpose::Answer) => {
+            printed_rows(rt, alloc, call, it, &row_by_row(), &OpenGate)
+        }
+        (Some(it), Purpose::Meet) => met(rt, alloc, call, it),
+        (Some(it), Purpose::Compare) => compared(rt, alloc, call, it),
+        (None, _) => Ok(String::from_str(alloc, "no expression")?),
     }
 }
 
@@ -415,13 +392,14 @@ pub(crate) fn operated<R: RandomSource + Threads + Wait>(
     let (head, rows) = case.split_once(": ").unwrap_or((case, ""));
     let (left, right) = rows.split_once(" and ").unwrap_or((rows, ""));
     let (operator, expression) = operator_of(head);
-    let task = Task {
+    let call = Call {
         operator,
         left,
         right,
+        purpose,
     };
     let text = format!(in alloc; "SELECT ?a ?b {{ FILTER ({expression}) }}")?;
-    read(rt, alloc, task, text.as_str(), purpose)
+    planned(rt, alloc, text.as_str(), Task::Operator(call))
 }
 
 /// A union has the rows of both sides, and DISTINCT each row once. A listed variable that no row
@@ -434,11 +412,6 @@ project: 01           => 3 terms, 1: - <a:y>
 extend true: 0- 1- -- => 4 terms, 3: - "true"^^<http://www.w3.org/2001/XMLSchema#boolean>; <a:x> "true"^^<http://www.w3.org/2001/XMLSchema#boolean>; <a:y> "true"^^<http://www.w3.org/2001/XMLSchema#boolean>
 "#;
 
-#[test]
-fn operators_go_over_rows(rt: HostRuntime) {
-    assert!(rt; are_right(&rt, rt.alloc(), Reader::Operator(Purpose::Answer), ROWS));
-}
-
 /// Two workers meet in every operator that runs over pieces.
 const MEETINGS: &str = r#"
 filter true: 0- 1-           => met, 2: <a:x> -; <a:y> -
@@ -447,11 +420,6 @@ join: 0- 1- and --           => met, 2: <a:x> -; <a:y> -
 left join true: 0- 1- and -- => met, 2: <a:x> -; <a:y> -
 minus: 0- 1- and --          => met, 2: <a:x> -; <a:y> -
 "#;
-
-#[test]
-fn two_workers_meet(rt: HostRuntime) {
-    assert!(rt; are_right(&rt, rt.alloc(), Reader::Operator(Purpose::Meet), MEETINGS));
-}
 
 /// Returns the cells x, UNDEF and y.
 fn cells(alloc: Global) -> Result<Vec<Option<Term>>, AllocError> {
@@ -462,105 +430,50 @@ fn cells(alloc: Global) -> Result<Vec<Option<Term>>, AllocError> {
     Ok(cells)
 }
 
+/// Prints the rows of a table of one row with these cells.
 fn table_over(alloc: Global, dict: Dict, cells: Vec<Option<Term>>) -> Result<String, EvalFault> {
     let (rows, dict) = table(alloc, dict, 2, &[1, 0, 1], &[cells])?;
     Ok(text_of_rows(alloc, &dict, &rows)?)
 }
 
 /// Prints the rows of a table of one row.
-pub(crate) fn tabulated<R: RandomSource>(
-    rt: &R,
-    alloc: Global,
-    _case: &str,
-) -> Result<String, EvalFault> {
+pub(crate) fn tabulated<R: RandomSource>(rt: &R, alloc: Global) -> Result<String, EvalFault> {
     let dict = dict_of(alloc, state_of(rt)?)?;
     table_over(alloc, dict, cells(alloc)?)
 }
 
 /// A cell that is UNDEF binds nothing. If a variable is listed twice, its first place is used.
-const TABLES: &str = "
+const VALUES: &str = "
 VALUES (?b ?a ?b) { (<a:x> UNDEF <a:y>) } => 1: - <a:x>
 ";
 
-#[test]
-fn a_table_lists_rows(rt: HostRuntime) {
-    assert!(rt; are_right(&rt, rt.alloc(), Reader::Table, TABLES));
-}
-
-/// A generator of pseudorandom numbers.
-#[derive(Drop)]
-pub(crate) struct Draws {
-    pub(crate) state: u64,
-}
-
-impl Draws {
-    ghost use Rattle.std.specs.Prelude.{◌≤◌};
-
-    pub(crate) fn below(&mut self, n: u64) -> u64
-        requires some { 1 ≤ n }
-    {
-        self.state = self
-            .state
-            .wrapping_mul(6364136223846793005)
-            .wrapping_add(1442695040888963407);
-        (self.state >> 33) % n
-    }
-
-    /// Returns one of the texts.
-    pub(crate) fn one_of(&mut self, texts: &[&'static str]) -> &'static str {
-        let place = self.below(texts.len().max(1) as u64) as usize;
-        texts.get(place).copied().unwrap_or("")
-    }
-}
-
 /// The operators that are compared.
 const COMPARED: [&str; 9] = [
-    "join",
-    "left join BOUND(?b)",
-    "minus",
-    "filter BOUND(?b)",
-    "extend ?a",
-    "distinct",
-    "union",
-    "extend STR(?a)",
-    "project",
+    "join: ",
+    "left join BOUND(?b): ",
+    "minus: ",
+    "filter BOUND(?b): ",
+    "extend ?a: ",
+    "distinct: ",
+    "union: ",
+    "extend STR(?a): ",
+    "project: ",
 ];
 
-/// Compares the rows of each operator on two lists of rows.
-fn check_all<R: RandomSource + Threads + Wait>(
-    rt: &R,
-    alloc: Global,
-    left: &str,
-    right: &str,
-    report: &mut String,
-) -> Result<(), EvalFault> {
+/// Returns whether each operator has the rows of plain_eval on 20 pairs of lists of rows.
+fn are_compared<R: RandomSource + Threads + Wait + Print>(rt: &R, alloc: Global) -> bool {
+    let reader = Reader::Operator(Purpose::Compare);
+    let mut is_right = true;
     for operator in COMPARED {
-        let case = format!(in alloc; "{operator}: {left} and {right}")?;
-        let reader = Reader::Operator(Purpose::Compare);
-        check(rt, alloc, reader, case.as_str(), "same", report)?;
+        is_right &= are_same(rt, alloc, reader, &[operator, "ψ", " and ", "ψ"], 1, 20);
     }
-    Ok(())
-}
-
-/// Compares the rows of each operator on 20 pairs of lists.
-fn compare_drawn<R: RandomSource + Threads + Wait>(
-    rt: &R,
-    alloc: Global,
-) -> Result<String, EvalFault> {
-    let mut report = String::new(alloc);
-    let mut draws = Draws { state: 1 };
-    for _ in 0..20u32 {
-        let left = drawn(alloc, "ψ", &mut draws)?;
-        let right = drawn(alloc, "ψ", &mut draws)?;
-        check_all(rt, alloc, left.as_str(), right.as_str(), &mut report)?;
-    }
-    Ok(report)
+    is_right
 }
 
 /// Each operator has the rows of plain_eval, whatever the workers and the pieces.
 #[test]
 fn operators_agree_with_the_plain_ones(rt: HostRuntime) {
-    assert!(rt; is_empty(&rt, compare_drawn(&rt, rt.alloc())));
+    assert!(rt; are_compared(&rt, rt.alloc()));
 }
 
 /// Returns the name of one variable.
@@ -598,7 +511,15 @@ pub(crate) fn met_in_printing<R: RandomSource + Threads + Wait>(
     met_over(rt, alloc, &dict)
 }
 
+const TABLES: &[(Reader, &str)] = &[
+    (Reader::Operator(Purpose::Answer), ROWS),
+    (Reader::Operator(Purpose::Meet), MEETINGS),
+    (Reader::Table, VALUES),
+    (Reader::Printing, "0- 1- => met, 4 blocks"),
+];
+
+/// Operators go over rows and tables, and two workers meet in those that run over pieces.
 #[test]
-fn two_printers_meet(rt: HostRuntime) {
-    assert!(rt; are_right(&rt, rt.alloc(), Reader::Printing, "0- 1- => met, 4 blocks"));
+fn operators_go_over_rows(rt: HostRuntime) {
+    assert!(rt; are_all_right(&rt, rt.alloc(), TABLES));
 }

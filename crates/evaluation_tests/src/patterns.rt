@@ -6,7 +6,7 @@ ghost use Rattle.algebra_model.specs.Algebra.{is_triple_below};
 ghost use Rattle.dict_core.specs.NumQuad.{AreBelow};
 ghost use Rattle.sparql_algebra.specs.AlgebraOf.{triple_pattern_of};
 
-use crate::cases::{Reader, are_right};
+use crate::cases::{Reader, are_all_right};
 use crate::printing::text_of_rows;
 use crate::stores::{DOCUMENT, iri, store};
 use crate::ways::row_by_row;
@@ -22,36 +22,19 @@ use std::random::RandomSource;
 use std::sync::Wait;
 use std::thread::Threads;
 
-/// `?0 predicate _:0`
-fn objects_of(alloc: Global, predicate: &str) -> TriplePattern
-    ensures below { is_triple_below 1 2 (triple_pattern_of result) ≡ true }
-{
-    TriplePattern {
-        subject: PatternTerm::Variable(0),
-        predicate: PatternTerm::Term(iri(alloc, predicate)),
-        object: PatternTerm::Label(0),
-    }
-}
-
-/// `?0 _:1 _:0`
-fn anything() -> TriplePattern
-    ensures below { is_triple_below 1 2 (triple_pattern_of result) ≡ true }
-{
-    TriplePattern {
-        subject: PatternTerm::Variable(0),
-        predicate: PatternTerm::Label(1),
-        object: PatternTerm::Label(0),
-    }
-}
-
 /// Returns the pattern of a text: `?0 predicate _:0`, or `?0 _:1 _:0` if the text is `_:1`.
 fn pattern_of(alloc: Global, predicate: &str) -> TriplePattern
     ensures below { is_triple_below 1 2 (triple_pattern_of result) ≡ true }
 {
-    if predicate == "_:1" {
-        anything()
+    let predicate = if predicate == "_:1" {
+        PatternTerm::Label(1)
     } else {
-        objects_of(alloc, predicate)
+        PatternTerm::Term(iri(alloc, predicate))
+    };
+    TriplePattern {
+        subject: PatternTerm::Variable(0),
+        predicate,
+        object: PatternTerm::Label(0),
     }
 }
 
@@ -147,5 +130,5 @@ _:1 in default    => 3: <a:x>; <a:x>; <a:y>
 
 #[test]
 fn patterns_are_solved_in_a_graph(rt: HostRuntime) {
-    assert!(rt; are_right(&rt, rt.alloc(), Reader::Pattern, PATTERNS));
+    assert!(rt; are_all_right(&rt, rt.alloc(), &[(Reader::Pattern, PATTERNS)]));
 }

@@ -5,11 +5,12 @@ ghost use Rattle.dict_core.specs.NumQuad.{AreBelow};
 ghost use Rattle.row_pieces.specs.How.{IsRunnable};
 ghost use Rattle.sparql_algebra.specs.AlgebraOf.{algebra_of, graph_name_of};
 
-use crate::cases::{Reader, are_right};
-use crate::operators::state_of;
+use crate::cases::{Reader, are_all_right};
+use crate::drawn::parsed;
+use crate::operators::{Call, called, state_of};
 use crate::printing::{text_of_rows, text_of_solutions};
 use crate::stores::{DOCUMENT, iri, store};
-use crate::ways::{COUNT, row_by_row, way};
+use crate::ways::{COUNT, in_one_piece, row_by_row, way};
 use dict_core::Dict;
 use nquads_core::read_piece;
 use piece_pool::OpenGate;
@@ -18,14 +19,14 @@ use rdf_core::Quad;
 use row_pieces::{EvalFault, How};
 use sparql_algebra::{GraphName, Operator, Plan, translate};
 use sparql_eval::{evaluate, graph};
-use sparql_read::read_query;
 use sparql_tree::Query;
 use std::alloc::{AllocError, AllocGlobal, Global};
 use std::random::RandomSource;
 use std::sync::Wait;
 use std::thread::Threads;
 
-/// Prints the solutions of a plan over an index.
+/// Prints the solutions of a plan over an index, or how many terms their evaluation adds to the
+/// dictionary.
 fn evaluated_over<R: RandomSource + Threads + Wait>(
     rt: &R,
     alloc: Global,
@@ -33,35 +34,43 @@ fn evaluated_over<R: RandomSource + Threads + Wait>(
     index: &Index,
     plan: &Plan,
     how: &How,
+    is_growth: bool,
 ) -> Result<String, EvalFault>
     requires index { AreBelow (length dict) index.now }
     requires how { IsRunnable how.now }
 {
+    let before = dict.len();
     let (rows, dict) = evaluate(rt, alloc, dict, index, plan, how, &OpenGate)?;
+    if is_growth {
+        return Ok(format!(in alloc; "{}", dict.len().saturating_sub(before))?);
+    }
     Ok(text_of_rows(alloc, &dict, &rows)?)
 }
 
-/// Prints the solutions of a plan over a document.
-pub(crate) fn evaluated<R: RandomSource + Threads + Wait>(
+/// Prints the solutions of a plan over a document, or how many terms their evaluation adds to those of
+/// the document.
+fn evaluated<R: RandomSource + Threads + Wait>(
     rt: &R,
     alloc: Global,
     document: &str,
     plan: &Plan,
     how: &How,
+    is_growth: bool,
 ) -> Result<String, EvalFault>
     requires how { IsRunnable how.now }
 {
     let (dict, index) = store(rt, alloc, document)?;
-    evaluated_over(rt, alloc, dict, &index, plan, how)
+    evaluated_over(rt, alloc, dict, &index, plan, how, is_growth)
 }
 
+/// Prints the solutions of a plan over quads according to plain_eval.
 fn plainly_over(alloc: Global, quads: &[Quad], plan: &Plan) -> Result<String, AllocError> {
     let solutions = plain_eval::evaluate(alloc, plan.names.len(), quads, &None, &plan.tree)?;
     text_of_solutions(alloc, &solutions)
 }
 
 /// Prints the solutions of a plan according to plain_eval.
-pub(crate) fn plainly(alloc: Global, document: &str, plan: &Plan) -> Result<String, AllocError> {
+fn plainly(alloc: Global, document: &str, plan: &Plan) -> Result<String, AllocError> {
     match read_piece(alloc, document.as_bytes()) {
         Ok(piece) => plainly_over(alloc, &piece.quads, plan),
         Err(_) => Err(AllocError),
@@ -73,15 +82,32 @@ pub(crate) fn plainly(alloc: Global, document: &str, plan: &Plan) -> Result<Stri
 fn check_way<R: RandomSource + Threads + Wait>(
     rt: &R,
     alloc: Global,
+    document: &str,
     plan: &Plan,
-    number: u8,
+    how: &How,
+    plain: &str,
+    differences: &mut String,
+) -> Result<(), EvalFault>
+    requires how { IsRunnable how.now }
+{
+    let found = evaluated(rt, alloc, document, plan, how, false)?;
+    if found.as_str() != plain {
+        write!(differences, ", {how:?}: {found}")?;
+    }
+    Ok(())
+}
+
+/// Appends the solutions that differ from those of plain_eval, for each number of workers and size of
+/// pieces.
+fn check_ways<R: RandomSource + Threads + Wait>(
+    rt: &R,
+    alloc: Global,
+    plan: &Plan,
     plain: &str,
     differences: &mut String,
 ) -> Result<(), EvalFault> {
-    let how = way(number);
-    let found = evaluated(rt, alloc, DOCUMENT, plan, &how)?;
-    if found.as_str() != plain {
-        write!(differences, ", {how:?}: {found}")?;
+    for number in 0..COUNT {
+        check_way(rt, alloc, DOCUMENT, plan, &way(number), plain, differences)?;
     }
     Ok(())
 }
@@ -94,92 +120,99 @@ fn everywhere<R: RandomSource + Threads + Wait>(
     plan: &Plan,
 ) -> Result<String, EvalFault> {
     let plain = plainly(alloc, DOCUMENT, plan)?;
-    let mut differences = String::new(alloc);
-    for number in 0..COUNT {
-        check_way(rt, alloc, plan, number, plain.as_str(), &mut differences)?;
-    }
-    Ok(format!(in alloc; "{plain}{differences}")?)
+    let mut text = String::from_str(alloc, plain.as_str())?;
+    check_ways(rt, alloc, plan, plain.as_str(), &mut text)?;
+    Ok(text)
 }
 
-/// Prints how many terms the evaluation of a plan adds to a dictionary.
-fn growth<R: RandomSource + Threads + Wait>(
+/// Prints `same` if the plan has the solutions of plain_eval over the document, row by row and in one
+/// piece, followed by the solutions that differ.
+fn agreement<R: RandomSource + Threads + Wait>(
     rt: &R,
     alloc: Global,
-    dict: Dict,
-    index: &Index,
-    plan: &Plan,
-) -> Result<String, EvalFault>
-    requires index { AreBelow (length dict) index.now }
-{
-    let before = dict.len();
-    let (_rows, dict) = evaluate(rt, alloc, dict, index, plan, &row_by_row(), &OpenGate)?;
-    Ok(format!(in alloc; "{}", dict.len().saturating_sub(before))?)
-}
-
-fn growth_of_document<R: RandomSource + Threads + Wait>(
-    rt: &R,
-    alloc: Global,
+    document: &str,
     plan: &Plan,
 ) -> Result<String, EvalFault> {
-    let (dict, index) = store(rt, alloc, DOCUMENT)?;
-    growth(rt, alloc, dict, &index, plan)
+    let plain = plainly(alloc, document, plan)?;
+    let mut text = String::from_str(alloc, "same")?;
+    check_way(
+        rt,
+        alloc,
+        document,
+        plan,
+        &row_by_row(),
+        plain.as_str(),
+        &mut text,
+    )?;
+    check_way(
+        rt,
+        alloc,
+        document,
+        plan,
+        &in_one_piece(),
+        plain.as_str(),
+        &mut text,
+    )?;
+    Ok(text)
 }
 
 /// What is printed for a query.
 #[derive(Clone, Copy)]
-enum Asked {
+pub(crate) enum Task<'a> {
+    /// Its solutions according to plain_eval over `DOCUMENT`, followed by those that differ, for each
+    /// number of workers and size of pieces.
     Solutions,
+    /// How many terms its evaluation adds to those of `DOCUMENT`.
     Growth,
+    /// Whether it has the solutions of plain_eval over a document, row by row and in one piece.
+    Agreement(&'a str),
+    /// The rows of an operator, with the filter of the query as its expression.
+    Operator(Call<'a>),
+}
+
+/// Prints what is asked for a plan.
+fn done<R: RandomSource + Threads + Wait>(
+    rt: &R,
+    alloc: Global,
+    plan: &Plan,
+    task: Task<'_>,
+) -> Result<String, EvalFault> {
+    match task {
+        Task::Solutions => everywhere(rt, alloc, plan),
+        Task::Growth => evaluated(rt, alloc, DOCUMENT, plan, &row_by_row(), true),
+        Task::Agreement(document) => agreement(rt, alloc, document, plan),
+        Task::Operator(call) => called(rt, alloc, call, plan),
+    }
 }
 
 /// Returns the plan of a query in a box, because a function that owns a tree by value is slow to
 /// prove.
-pub(crate) fn plan_of(alloc: Global, query: &Query) -> Result<Box<Plan>, AllocError> {
+fn plan_of(alloc: Global, query: &Query) -> Result<Box<Plan>, AllocError> {
     Ok(Box::new(alloc, translate(alloc, query)?)?)
 }
 
-fn planned<R: RandomSource + Threads + Wait>(
+/// Prints what is asked for a query.
+fn translated<R: RandomSource + Threads + Wait>(
     rt: &R,
     alloc: Global,
     query: &Query,
-    asked: Asked,
+    task: Task<'_>,
 ) -> Result<String, EvalFault> {
     let plan = plan_of(alloc, query)?;
-    match asked {
-        Asked::Solutions => everywhere(rt, alloc, &plan),
-        Asked::Growth => growth_of_document(rt, alloc, &plan),
-    }
+    done(rt, alloc, &plan, task)
 }
 
-fn read<R: RandomSource + Threads + Wait>(
+/// Prints what is asked for a query. The rules that follow the grammar are not applied to it.
+pub(crate) fn planned<R: RandomSource + Threads + Wait>(
     rt: &R,
     alloc: Global,
     text: &str,
-    asked: Asked,
+    task: Task<'_>,
 ) -> Result<String, EvalFault> {
-    match read_query(alloc, text) {
-        Ok(query) => planned(rt, alloc, &query, asked),
+    match parsed(alloc, text) {
+        Ok(query) => translated(rt, alloc, &query, task),
         Err(fault) => Ok(format!(in alloc; "{fault:?}")?),
     }
-}
-
-/// Prints the solutions of a query according to plain_eval, followed by those that differ, for each
-/// number of workers and size of pieces.
-pub(crate) fn solved<R: RandomSource + Threads + Wait>(
-    rt: &R,
-    alloc: Global,
-    case: &str,
-) -> Result<String, EvalFault> {
-    read(rt, alloc, case, Asked::Solutions)
-}
-
-/// Prints how many terms the evaluation of a query adds to those of the document.
-pub(crate) fn added<R: RandomSource + Threads + Wait>(
-    rt: &R,
-    alloc: Global,
-    case: &str,
-) -> Result<String, EvalFault> {
-    read(rt, alloc, case, Asked::Growth)
 }
 
 /// OPTIONAL ([57] `OptionalGraphPattern`).
@@ -191,7 +224,7 @@ SELECT * { ?s <a:p> ?o OPTIONAL { ?o <a:p> ?z FILTER(sameTerm(?s, <a:y>)) } } =>
 
 #[test]
 fn a_filter_in_optional_sees_the_left_row(rt: HostRuntime) {
-    assert!(rt; are_right(&rt, rt.alloc(), Reader::Query, OPTIONALS));
+    assert!(rt; are_all_right(&rt, rt.alloc(), &[(Reader::Query, OPTIONALS)]));
 }
 
 /// VALUES ([61] `InlineData`), MINUS ([66] `MinusGraphPattern`), UNION ([67]
@@ -210,11 +243,6 @@ SELECT * { ?s <a:q> ?v BIND(STR(?v) AS ?w) }      => 1: <a:x> "5" "5"
 SELECT * { ?s <a:q> ?v BIND(DATATYPE(?v) AS ?w) } => 1: <a:x> "5" <http://www.w3.org/2001/XMLSchema#string>
 "#;
 
-#[test]
-fn queries_have_their_solutions(rt: HostRuntime) {
-    assert!(rt; are_right(&rt, rt.alloc(), Reader::Query, OPERATORS));
-}
-
 /// GRAPH ([58] `GraphGraphPattern`).
 const NAMED_GRAPHS: &str = r#"
 # With a variable each named graph is tried, also one whose name is a blank node. The variable is bound after the
@@ -231,22 +259,12 @@ SELECT * { GRAPH <a:g> { } }                => 1:
 SELECT * { GRAPH <a:none> { } }             => 0:
 "#;
 
-#[test]
-fn a_graph_is_known_by_its_name(rt: HostRuntime) {
-    assert!(rt; are_right(&rt, rt.alloc(), Reader::Query, NAMED_GRAPHS));
-}
-
 /// A computed term that the document has gets the number of that term. Another computed term is
 /// added to the dictionary.
 const ADDED: &str = "
 SELECT * { ?s <a:q> ?v BIND(STR(?v) AS ?w) }      => 0
 SELECT * { ?s <a:q> ?v BIND(DATATYPE(?v) AS ?w) } => 1
 ";
-
-#[test]
-fn a_computed_term_gets_the_number_of_an_equal_one(rt: HostRuntime) {
-    assert!(rt; are_right(&rt, rt.alloc(), Reader::Added, ADDED));
-}
 
 /// Creates the empty pattern, in a box like a plan.
 fn empty_pattern(alloc: Global) -> Result<Box<Operator>, AllocError>
@@ -270,6 +288,7 @@ fn graph_name(alloc: Global, text: &str) -> GraphName
     }
 }
 
+/// Prints the solutions of a tree in a graph, or in each, over an index.
 fn graph_over<R: RandomSource + Threads + Wait>(
     rt: &R,
     alloc: Global,
@@ -298,6 +317,7 @@ fn graph_over<R: RandomSource + Threads + Wait>(
     Ok(text_of_rows(alloc, &dict, &rows)?)
 }
 
+/// Does the same over the document.
 fn graph_of_document<R: RandomSource + Threads + Wait>(
     rt: &R,
     alloc: Global,
@@ -328,7 +348,15 @@ const ALONE: &str = "
 a:none => 0:
 ";
 
+const TABLES: &[(Reader, &str)] = &[
+    (Reader::Query, OPERATORS),
+    (Reader::Query, NAMED_GRAPHS),
+    (Reader::Added, ADDED),
+    (Reader::Graph, ALONE),
+];
+
+/// Queries have their solutions and add their terms, and so has a graph of the empty pattern.
 #[test]
-fn graph_of_the_empty_pattern(rt: HostRuntime) {
-    assert!(rt; are_right(&rt, rt.alloc(), Reader::Graph, ALONE));
+fn plans_have_their_solutions(rt: HostRuntime) {
+    assert!(rt; are_all_right(&rt, rt.alloc(), TABLES));
 }
