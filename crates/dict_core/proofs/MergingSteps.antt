@@ -92,7 +92,7 @@ merged_piece done back piece dict own grown all new mine numbers slice b back_is
     (subst (λ l. IsNumbered (done ++ piece) merged l) listed
     (subst (λ q. IsNumbered (done ++ q) merged (all ++ map (renamed numbers) mine)) back_is base))
 
--- a piece that was looked up and is taken in
+-- a piece that was looked up and is added
 pub taken_in : (earlier dict grown : List Term) (done quads : List QuadParts) (all new mine : List NumQuad) (seen : List Seen) (numbers slice : List ℕ)
     → AreDistinct dict → IsGrown earlier dict → AllZip (IsSeen earlier) (first_appearances (terms_of quads)) seen
     → quads_at (first_appearances (terms_of quads)) mine ≡ quads → AreBelow (length seen) mine → IsNumbered done dict all

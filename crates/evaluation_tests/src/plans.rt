@@ -170,7 +170,7 @@ pub(crate) enum Task<'a> {
     Operator(Call<'a>),
 }
 
-/// Prints what is asked for a plan.
+/// Prints the parts that the case names, for a plan.
 fn done<R: RandomSource + Threads + Wait>(
     rt: &R,
     alloc: Global,
@@ -191,7 +191,7 @@ fn plan_of(alloc: Global, query: &Query) -> Result<Box<Plan>, AllocError> {
     Ok(Box::new(alloc, translate(alloc, query)?)?)
 }
 
-/// Prints what is asked for a query.
+/// Prints the parts that the case names, for a query.
 fn translated<R: RandomSource + Threads + Wait>(
     rt: &R,
     alloc: Global,
@@ -202,7 +202,7 @@ fn translated<R: RandomSource + Threads + Wait>(
     done(rt, alloc, &plan, task)
 }
 
-/// Prints what is asked for a query. The rules that follow the grammar are not applied to it.
+/// Prints the parts that the case names, for a query. The rules that follow the grammar are not applied to it.
 pub(crate) fn planned<R: RandomSource + Threads + Wait>(
     rt: &R,
     alloc: Global,
