@@ -3,7 +3,7 @@ use crate::cases::{Reader, are_all_lines_right};
 use crate::expressions::serialized;
 use crate::terms::read;
 use rdf_core::Term;
-use sparql_algebra::{Expr, Lookup, Operator, Plan, test, value};
+use sparql_algebra::{Expr, ExprFault, Lookup, Operator, Plan, test, value};
 use std::alloc::{AllocError, Global};
 
 /// A row of one variable.
@@ -36,7 +36,8 @@ fn evaluated(alloc: Global, reader: Reader, expr: &Expr, row: &Row) -> Result<St
     }
     match value(alloc, expr, row) {
         Ok(term) => serialized(alloc, &term),
-        Err(fault) => format!(in alloc; "{fault:?}"),
+        Err(ExprFault::Error) => String::from_str(alloc, "Error"),
+        Err(ExprFault::Memory) => String::from_str(alloc, "Memory"),
     }
 }
 
