@@ -38,8 +38,8 @@ from sources import ROOT, Function, Source, crates, mutants, original
 
 CACHE = os.path.join(os.environ.get("XDG_CACHE_HOME") or os.path.expanduser("~/.cache"), "spq", "mutants.json")
 PARTS = ("src", "specs", "proofs")
-# An error of the prover or an open goal, with the file that it is in.
-ERROR = re.compile(r"^(?:note: )?(?:\./)?(?P<file>(?:src|specs|proofs)/\S+?):(?P<line>\d+):\d+: .*$", re.M)
+# An error of the prover, or a goal that is not proved, with its place. The prover also prints other notes with a place.
+ERROR = re.compile(r"^(?P<goal>note: )?(?:\./)?(?P<file>(?:src|specs|proofs)/\S+?):(?P<line>\d+):\d+: (?(goal)it is not proved|error\b).*$", re.M)
 # What the prover says of a text that it cannot read, and of a proof that names what the edit took away.
 UNREADABLE = re.compile(r"is not in scope|has no field|has no `|is no name|was not admitted|operand is missing|expected the end|cannot continue")
 
@@ -216,9 +216,7 @@ def errors_in(status, said):
         return [], "it is still proved"
     if unreadable or not re.match(r"only=\d+ proved=|logic=not-proved", last):
         return [], f"the prover cannot read the edited text: {unreadable or last}"
-    if status != 1 or not errors:
-        return [], f"the prover has no verdict: {last}"
-    return errors, ""
+    return (errors, "") if status == 1 else ([], f"the prover has no verdict: {last}")
 
 
 def is_of(error, mutant, batch):
@@ -246,7 +244,8 @@ def is_of(error, mutant, batch):
 def first_goal(errors):
     """Returns the first error that is more than a name that the edit took away, or else the first one."""
     goals = [it[0] for it in errors if not UNREADABLE.search(it[0])]
-    return (goals or [f"(only because a proof file names what the edit took away) {errors[0][0]}"])[0]
+    names = [f"(only because a proof file names what the edit took away) {it[0]}" for it in errors[:1]]
+    return (goals or names or ["the prover's output names no place"])[0]
 
 
 def checksum(folder):
