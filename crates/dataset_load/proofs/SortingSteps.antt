@@ -19,21 +19,27 @@ pub record AreSorted (quads gspo gpos gosp : List NumQuad) : Type 0 where
   pub same_second : IsPermutation gspo gpos
   pub same_third : IsPermutation gspo gosp
 
+sorted_three : (quads gspo gpos gosp : List NumQuad) → IsSortedList Gspo quads gspo → IsSortedList Gpos quads gpos → IsSortedList Gosp quads gosp → AreSorted quads gspo gpos gosp
+sorted_three quads gspo gpos gosp p q r = record {
+  first = p;
+  second = q;
+  third = r;
+  same_second = same_once (without_repeats quad_eq quads) gspo gpos p.each_once q.each_once;
+  same_third = same_once (without_repeats quad_eq quads) gspo gosp p.each_once r.each_once;
+}
+
 pub three_sorted : (quads : List NumQuad) (lists : List (Vec NumQuad Global)) (a b c : Vec NumQuad Global)
     → ((i : ℕ) (d : Vec NumQuad Global) → i < 3 → IsSortedList (order_at i) quads (slice_index_or lists i d).items)
     → lists ≡ a ∷ b ∷ c ∷ [] → AreSorted quads a.items b.items c.items
 three_sorted quads lists a b c each e =
     let at = subst (λ (ls : List (Vec NumQuad Global)). (i : ℕ) (d : Vec NumQuad Global) → i < 3 → IsSortedList (order_at i) quads (slice_index_or ls i d).items) e each in
-    let p : IsSortedList Gspo quads a.items = at 0 a (omega arith) in
-    let q : IsSortedList Gpos quads b.items = at 1 a (omega arith) in
-    let r : IsSortedList Gosp quads c.items = at 2 a (omega arith) in
-    record {
-      first = p;
-      second = q;
-      third = r;
-      same_second = same_once (without_repeats quad_eq quads) a.items b.items p.each_once q.each_once;
-      same_third = same_once (without_repeats quad_eq quads) a.items c.items p.each_once r.each_once;
-    }
+    sorted_three quads a.items b.items c.items (at 0 a (omega arith)) (at 1 a (omega arith)) (at 2 a (omega arith))
+
+-- the same of lists that are packed
+pub three_packed : (quads : List NumQuad) (lists : List (List NumQuad)) (a b c : List NumQuad) → AreSortedLists quads lists → lists ≡ a ∷ b ∷ c ∷ [] → AreSorted quads a b c
+three_packed quads lists a b c are e =
+    let at = subst (λ (ls : List (List NumQuad)). (i : ℕ) → i < 3 → IsSortedList (order_at i) quads (slice_index_or ls i [])) e are.each in
+    sorted_three quads a b c (at 0 (omega arith)) (at 1 (omega arith)) (at 2 (omega arith))
 
 -- nothing is left to move
 pub all_moved : {A : Type 0} (done left whole : List A) → done ++ left ≡ whole → length left ≡ 0 → done ≡ whole
@@ -47,11 +53,12 @@ index_once (Ok index) lists a b c e is = λ quads are.
     subst (λ (list : List NumQuad). IsPermutation (without_repeats quad_eq quads) list) (sym is) (three_sorted quads lists a b c are e).first.each_once
 index_once (Err failed) lists a b c e is = tt
 
--- the lists that were unpacked
-pub unpacked : (quads : List NumQuad) (lists : List (List NumQuad)) (outs : List (Vec NumQuad Global)) → AreSortedLists quads lists
-    → ((i : ℕ) (d : Vec NumQuad Global) → i < 3 → (slice_index_or outs i d).items ≡ slice_index_or lists i [])
-    → (i : ℕ) (d : Vec NumQuad Global) → i < 3 → IsSortedList (order_at i) quads (slice_index_or outs i d).items
-unpacked quads lists outs are same i d low = subst (λ (list : List NumQuad). IsSortedList (order_at i) quads list) (sym (same i d low)) (are.each i low)
+-- the index of the first of three packed lists has each quad once
+pub packed_once : (r : Result (List NumQuad) AllocError) (lists : List (List NumQuad)) (a b c first : List NumQuad) → lists ≡ a ∷ b ∷ c ∷ [] → first ≡ a
+    → IfOk r (λ index. index ≡ first) → IfOk r (λ index. (quads : List NumQuad) → AreSortedLists quads lists → IsPermutation (without_repeats quad_eq quads) index)
+packed_once (Ok index) lists a b c first e same is = λ quads are.
+    subst (λ (list : List NumQuad). IsPermutation (without_repeats quad_eq quads) list) (sym (is ∙ same)) (three_packed quads lists a b c are e).first.each_once
+packed_once (Err failed) lists a b c first e same is = tt
 
 some_at : (quads : List NumQuad) (lists : List (List NumQuad)) (found : List (Option (List NumQuad))) → map Some lists ≡ found
     → ((i : ℕ) (d : Option (List NumQuad)) → i < 3 → IfSome (slice_index_or found i d) (IsSortedList (order_at i) quads))

@@ -7,8 +7,8 @@ ghost use Rattle.dataset_load.specs.Lines.{text_at};
 ghost use Rattle.dataset_load.specs.Rounds.{IsReadPiece};
 
 use crate::read_piece::ReadPiece;
-use dict_core::{Dict, look_up, number_lines};
-use nquads_core::{PieceFault, count_lines};
+use dict_core::{Dict, NumberedLines, look_up, number_lines};
+use nquads_core::PieceFault;
 use piece_pool::{Job, JobFault};
 use std::alloc::Global;
 use std::hash::RandomState;
@@ -53,7 +53,7 @@ fn piece_at<'d>(pieces: &[&'d [u8]], i: u64) -> &'d [u8]
     }
 }
 
-/// Numbers a piece by itself, looks its terms up, and counts its lines.
+/// Numbers a piece by itself, counting its lines, and looks its terms up.
 fn read_against(
     alloc: Global,
     state: RandomState,
@@ -63,16 +63,13 @@ fn read_against(
     ensures read { IfOk result (IsReadPiece dict.now bytes.now) }
     ensures bad { IfErr result (IfOwn (IsFirstMalformed (lines bytes.now))) }
 {
-    let local = match number_lines(alloc, state, bytes) {
-        Ok(local) => local,
+    let NumberedLines { piece, lines } = match number_lines(alloc, state, bytes) {
+        Ok(numbered) => numbered,
         Err(PieceFault::BadLine(line)) => return Err(JobFault::Own(line)),
         Err(PieceFault::Memory) => return Err(JobFault::Memory),
     };
-    let Ok(seen) = look_up(alloc, dict, local) else {
+    let Ok(seen) = look_up(alloc, dict, piece) else {
         return Err(JobFault::Memory);
     };
-    Ok(ReadPiece {
-        seen,
-        lines: count_lines(bytes),
-    })
+    Ok(ReadPiece { seen, lines })
 }

@@ -81,44 +81,6 @@ impl<'q> Job for PackedLists<'q> {
     ghost exclusive = { λ _ _ _ _ _ absurd. absurd };
 }
 
-/// Three pieces of work: the lists of an index that are packed.
-#[derive(Drop)]
-struct UnpackedLists<'l> {
-    lists: &'l [PackedList],
-}
-
-impl<'l> Job for UnpackedLists<'l> {
-    ghost use Rattle.std.specs.Prelude.{◌≡◌, [], slice_index_or};
-
-    type Out = Vec<NumQuad>;
-
-    type Fault = ();
-
-    ghost answers = { λ job i out. out.items ≡ slice_index_or job.lists.now i [] };
-
-    ghost faults = { λ _ _ _. ⊥ };
-
-    fn run(&self, alloc: Global, i: u64) -> Result<Vec<NumQuad>, JobFault<()>> {
-        match unpacked_list(alloc, self.lists, i) {
-            Ok(quads) => Ok(quads),
-            Err(_) => Err(JobFault::Memory),
-        }
-    }
-
-    ghost exclusive = { λ _ _ _ _ _ absurd. absurd };
-}
-
-/// The quads of the list with this number, and none after the last list.
-fn unpacked_list(alloc: Global, lists: &[PackedList], i: u64) -> Result<Vec<NumQuad>, AllocError>
-    ensures list { IfOk result (λ list. list.items ≡ slice_index_or lists.now i []) }
-{
-    if i < lists.len() as u64 {
-        lists[i as usize].quads(alloc)
-    } else {
-        Ok(Vec::new(alloc))
-    }
-}
-
 /// The index of these quads: a statement that is repeated counts once. The quads are freed before the lists of the
 /// index are made, so that at most one copy of the quads is in memory with them.
 ///
@@ -139,7 +101,7 @@ pub(crate) fn sorted_index<R: Threads + Wait>(
     match packed_lists(rt, alloc, quads.as_slice(), workers)? {
         Some(lists) => {
             drop(quads);
-            unpacked_index(rt, alloc, lists.as_slice(), workers)
+            Ok(unpacked_index(alloc, lists)?)
         }
         None => plain_index(rt, alloc, quads.as_slice(), workers),
     }
@@ -180,25 +142,17 @@ fn all_found<T: Drop>(alloc: Global, found: Vec<Option<T>>) -> Result<Option<Vec
     Ok(Some(values))
 }
 
-/// The index of these lists.
-fn unpacked_index<R: Threads + Wait>(
-    rt: &R,
-    alloc: Global,
-    lists: &[PackedList],
-    workers: usize,
-) -> Result<Index, LoadFault>
-    requires workers { (1 ≤ workers) × (workers ≤ most_workers) }
-    requires lists { (quads : _) × AreSortedLists quads lists.now }
-    ensures each_once { IfOk result (λ index. (quads : _) → AreSortedLists quads lists.now
+/// The index of these lists. The keys of a list are freed before the next list is unpacked.
+fn unpacked_index(alloc: Global, lists: Vec<PackedList>) -> Result<Index, AllocError>
+    requires lists { (quads : _) × AreSortedLists quads lists.items }
+    ensures each_once { IfOk result (λ index. (quads : _) → AreSortedLists quads lists.items
         → IsPermutation (without_repeats quad_eq quads) index) }
-    ensures refused { IfErr result (IfBadLine (λ _. ⊥)) }
-    ensures one_worker { workers ≡ 1 → IfErr result IsOneWorkerLoadFault }
 {
-    let job = UnpackedLists { lists };
-    match run_all(rt, alloc, workers, 3, &job, &OpenGate)? {
-        Outcome::All(lists) => Ok(index_of(alloc, lists)?),
-        Outcome::First { .. } => unreachable!(),
-    }
+    let (gspo, gpos, gosp) = three(lists);
+    let gspo = gspo.into_quads(alloc)?;
+    let gpos = gpos.into_quads(alloc)?;
+    let gosp = gosp.into_quads(alloc)?;
+    Index::of_lists(alloc, gspo, gpos, gosp)
 }
 
 /// The index of quads of any numbers.

@@ -37,7 +37,7 @@ pub use laws::{absorbing_keeps_the_numbering, earlier_places_serve, equality_is_
 pub use local_piece::{LocalPiece, number_piece};
 pub use merging::merge;
 pub use num_quad::NumQuad;
-pub use numbering::number_lines;
+pub use numbering::{NumberedLines, number_lines};
 pub use rounds::{add_piece, look_up};
 pub use seen::Seen;
 pub use seen_piece::SeenPiece;

@@ -1,5 +1,5 @@
 //! The lines of a piece, read and numbered.
-ghost use Rattle.std.specs.Prelude.{◌≡◌, ℕ, IfOk, IfErr};
+ghost use Rattle.std.specs.Prelude.{◌≡◌, ℕ, length, IfOk, IfErr};
 ghost use Rattle.nquads_core.specs.Lines.{lines};
 ghost use Rattle.nquads_core.specs.Pieces.{HaveStatements, IsFirstMalformed};
 ghost use Rattle.nquads_core.specs.declared.fault.PieceFault.TheVariants.{BadLine};
@@ -10,8 +10,17 @@ use nquads_core::{PieceFault, read_piece, split_piece};
 use std::alloc::Global;
 use std::hash::RandomState;
 
-/// Reads a piece of an N-Quads document and numbers its quads by themselves: `read_piece`, and then
-/// `number_piece` (RDF 1.1 N-Quads, grammar).
+/// The numbered quads of the lines of a piece, and how many lines there are.
+#[derive(Drop)]
+pub struct NumberedLines {
+    /// The quads, numbered by themselves.
+    pub piece: LocalPiece,
+    /// The number of lines, those without a statement among them.
+    pub lines: u64,
+}
+
+/// Reads a piece of an N-Quads document, numbers its quads by themselves, and counts its lines: `read_piece`, and
+/// then `number_piece` (RDF 1.1 N-Quads, grammar).
 ///
 /// The plain form is just these two calls. For speed the piece is first split into slices, and each
 /// distinct slice is read once; the two calls remain for a piece that this does not read.
@@ -23,31 +32,42 @@ pub fn number_lines(
     alloc: Global,
     state: RandomState,
     bytes: &[u8],
-) -> Result<LocalPiece, PieceFault>
-    ensures quads { IfOk result (λ local. HaveStatements (lines bytes.now) local) }
+) -> Result<NumberedLines, PieceFault>
+    ensures quads { IfOk result (λ numbered. HaveStatements (lines bytes.now) numbered.piece) }
+    ensures count { IfOk result (λ numbered. numbered.lines ≡ length (lines bytes.now)) }
     ensures bad_line { IfErr result
         (λ fault. (k : ℕ) → fault ≡ BadLine k → IsFirstMalformed (lines bytes.now) k) }
 {
     match number_split(alloc, state, bytes) {
-        Ok(local) => Ok(local),
+        Ok(numbered) => Ok(numbered),
         Err(NamingFault::Doubt) => number_read(alloc, state, bytes),
         Err(NamingFault::Memory) => Err(PieceFault::Memory),
     }
 }
 
 /// Numbers a piece by its slices.
-fn number_split(alloc: Global, state: RandomState, bytes: &[u8]) -> Result<LocalPiece, NamingFault>
-    ensures quads { IfOk result (λ local. HaveStatements (lines bytes.now) local) }
+fn number_split(
+    alloc: Global,
+    state: RandomState,
+    bytes: &[u8],
+) -> Result<NumberedLines, NamingFault>
+    ensures quads { IfOk result (λ numbered. HaveStatements (lines bytes.now) numbered.piece) }
+    ensures count { IfOk result (λ numbered. numbered.lines ≡ length (lines bytes.now)) }
 {
-    match split_piece(alloc, bytes)? {
-        Some(raws) => number_statements(alloc, state, raws.as_slice()),
-        None => Err(NamingFault::Doubt),
-    }
+    let Some(split) = split_piece(alloc, bytes)? else {
+        return Err(NamingFault::Doubt);
+    };
+    let piece = number_statements(alloc, state, split.statements.as_slice())?;
+    Ok(NumberedLines {
+        piece,
+        lines: split.lines,
+    })
 }
 
 /// Numbers a piece quad by quad.
-fn number_read(alloc: Global, state: RandomState, bytes: &[u8]) -> Result<LocalPiece, PieceFault>
-    ensures quads { IfOk result (λ local. HaveStatements (lines bytes.now) local) }
+fn number_read(alloc: Global, state: RandomState, bytes: &[u8]) -> Result<NumberedLines, PieceFault>
+    ensures quads { IfOk result (λ numbered. HaveStatements (lines bytes.now) numbered.piece) }
+    ensures count { IfOk result (λ numbered. numbered.lines ≡ length (lines bytes.now)) }
     ensures bad_line { IfErr result
         (λ fault. (k : ℕ) → fault ≡ BadLine k → IsFirstMalformed (lines bytes.now) k) }
 {
@@ -55,8 +75,9 @@ fn number_read(alloc: Global, state: RandomState, bytes: &[u8]) -> Result<LocalP
         Ok(piece) => piece,
         Err(fault) => return Err(fault),
     };
+    let lines = piece.lines;
     match number_piece(alloc, state, piece) {
-        Ok(local) => Ok(local),
+        Ok(piece) => Ok(NumberedLines { piece, lines }),
         Err(_) => Err(PieceFault::Memory),
     }
 }

@@ -19,7 +19,7 @@ use std::alloc::{AllocError, Global};
 use term_values::compare;
 
 /// Why an expression has no value.
-#[derive(Clone, Copy)]
+#[derive(Clone, Copy, Debug, PartialEq, Eq)]
 pub enum ExprFault {
     /// The expression is an error over this row.
     Error,

@@ -118,7 +118,7 @@ fn check_packed<R: Abort>(
 ) {
     match PackedList::of(alloc, quads, order).expect(rt, "a packed list") {
         Some(list) => {
-            let found = list.quads(alloc).expect(rt, "quads");
+            let found = list.into_quads(alloc).expect(rt, "quads");
             assert!(rt; found.as_slice() == expected, "a packed list");
         }
         None => assert!(rt; expected.is_empty(), "no packed list"),

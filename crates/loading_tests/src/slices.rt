@@ -20,7 +20,7 @@ fn append_all(out: &mut String, statements: &[RawStatement<'_>]) -> Result<(), A
 /// Appends the slices of the statements of a piece, or `not split`.
 pub(crate) fn slices(out: &mut String, alloc: Global, piece: &[u8]) -> Result<(), AllocError> {
     match split_piece(alloc, piece) {
-        Ok(Some(statements)) => append_all(out, &statements),
+        Ok(Some(split)) => append_all(out, &split.statements),
         Ok(None) => out.push_str("not split"),
         Err(fault) => Err(fault),
     }

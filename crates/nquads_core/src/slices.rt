@@ -27,6 +27,15 @@ pub struct RawStatement<'a> {
     pub graph: Option<&'a str>,
 }
 
+/// The statements of a piece as slices of it, and the number of its lines.
+#[derive(Drop)]
+pub struct SplitPiece<'a> {
+    /// The slices of its statements, in order, with repeats.
+    pub statements: Vec<RawStatement<'a>>,
+    /// The number of its lines, those without a statement among them.
+    pub lines: u64,
+}
+
 /// The first line of a text without CR, without its LF, and what follows that.
 fn cut_line(text: &str) -> (&str, &str)
     requires some { 0 < length text.now }
@@ -148,8 +157,8 @@ fn add_line<'a>(line: &'a str, statements: &mut Vec<RawStatement<'a>>) -> Result
     Ok(true)
 }
 
-/// Splits a piece of an N-Quads document into the slices of its statements, in order, with repeats (RDF
-/// 1.1 N-Quads, [1] `nquadsDoc`). A line without a statement has no slices.
+/// Splits a piece of an N-Quads document into the slices of its statements, in order, with repeats, and counts
+/// its lines (RDF 1.1 N-Quads, [1] `nquadsDoc`). A line without a statement has no slices.
 ///
 /// If each slice denotes a term that is allowed at its place, the lines of the piece hold the quads of
 /// these terms: [`read_piece`](crate::read_piece) would read the same quads.
@@ -159,9 +168,11 @@ fn add_line<'a>(line: &'a str, statements: &mut Vec<RawStatement<'a>>) -> Result
 ///
 /// # Errors
 /// `AllocError` if an allocation fails.
-pub fn split_piece(alloc: Global, bytes: &[u8]) -> Result<Option<Vec<RawStatement<'_>>>, AllocError>
+pub fn split_piece(alloc: Global, bytes: &[u8]) -> Result<Option<SplitPiece<'_>>, AllocError>
     ensures statements { IfOk result (λ split. IfSome split
-        (λ statements. AreStatements (lines bytes.now) statements.items)) }
+        (λ piece. AreStatements (lines bytes.now) piece.statements.items)) }
+    ensures lines { IfOk result (λ split. IfSome split
+        (λ piece. piece.lines ≡ length (lines bytes.now))) }
 {
     let Ok(text) = simdutf8::basic::from_utf8(bytes) else {
         return Ok(None);
@@ -170,13 +181,18 @@ pub fn split_piece(alloc: Global, bytes: &[u8]) -> Result<Option<Vec<RawStatemen
         return Ok(None);
     }
     let mut statements = Vec::new(alloc);
+    let mut count = 0u64;
     let mut rest = text;
     while !rest.is_empty() {
         let (line, after) = cut_line(rest);
         if !add_line(line, &mut statements)? {
             return Ok(None);
         }
+        count += 1;
         rest = after;
     }
-    Ok(Some(statements))
+    Ok(Some(SplitPiece {
+        statements,
+        lines: count,
+    }))
 }

@@ -61,12 +61,12 @@ impl PackedList {
         Ok(Some(PackedList { keys, order }))
     }
 
-    /// Returns the quads.
+    /// Returns the quads. The keys are freed.
     ///
     /// # Errors
     /// `AllocError` if an allocation fails.
-    pub fn quads(&self, alloc: Global) -> Result<Vec<NumQuad>, AllocError>
-        ensures quads { IfOk result (λ quads. quads.items ≡ self.now) }
+    pub fn into_quads(self, alloc: Global) -> Result<Vec<NumQuad>, AllocError>
+        ensures quads { IfOk result (λ quads. quads.items ≡ self) }
     {
         quads_of(alloc, self.keys.as_slice(), self.order)
     }

@@ -38,7 +38,7 @@ pub fn sorted_list(
     ensures distinct { IfOk result (λ list. IsWithoutRepeats quad_eq list.items) }
 {
     match PackedList::of(alloc, quads, order)? {
-        Some(list) => list.quads(alloc),
+        Some(list) => list.into_quads(alloc),
         None => plain_list(alloc, quads, order),
     }
 }

@@ -1,13 +1,18 @@
-use Rattle.dataset_load.proofs.SortingSteps.{unpacked}
+use Rattle.dataset_load.proofs.SortingSteps.{packed_once, three_packed}
 use Rattle.dataset_load.proofs.sorting.unpacked_index.Goals as goal
 
-pub index_of-requires : goal.index_of-requires
-index_of-requires g c =
-    let all = rw c.in-All.is at c.in_ok-lists.ensures.outcome in
-    let lists = c.requires.lists in
-    record { three = all.count; lists = (lists.0, unpacked lists.0 c.args.lists.now c.in-All.lists.items lists.1 (λ i d low. all.each i d low)) }
+pub of_lists-requires : goal.of_lists-requires
+of_lists-requires c =
+    let lists = three_packed c.requires.lists.0 c.args.lists.items c.three-gspo.result.0 c.three-gspo.result.1 c.three-gspo.result.2 c.requires.lists.1 c.three-gspo.ensures.same in record {
+      distinct = rw c.in_ok-gspo.ensures.quads lists.first.distinct;
+      sorted_gspo = rw c.in_ok-gspo.ensures.quads lists.first.sorted;
+      sorted_gpos = rw c.in_ok-gpos.ensures.quads lists.second.sorted;
+      sorted_gosp = rw c.in_ok-gosp.ensures.quads lists.third.sorted;
+      same_gpos = rw (c.in_ok-gspo.ensures.quads, c.in_ok-gpos.ensures.quads) lists.same_second;
+      same_gosp = rw (c.in_ok-gspo.ensures.quads, c.in_ok-gosp.ensures.quads) lists.same_third;
+    }
 
-pub returns-clause-each_once : goal.returns-clause-each_once
-returns-clause-each_once g c = λ quads are.
-    let all = rw c.in-All.is at c.in_ok-lists.ensures.outcome in
-    c.in_ok-index_of-in-All.ensures.each_once quads (unpacked quads c.args.lists.now c.in-All.lists.items are (λ i d low. all.each i d low))
+pub returns : goal.returns
+returns c = record {
+  each_once = packed_once c.of_lists.result c.args.lists.items c.three-gspo.result.0 c.three-gspo.result.1 c.three-gspo.result.2 _ c.three-gspo.ensures.same c.in_ok-gspo.ensures.quads c.of_lists.ensures.quads;
+}
