@@ -148,10 +148,18 @@ fn check_task<R: Threads + Wait + Abort>(rt: &R, alloc: Global, workers: usize, 
     let gate = Counter::new();
     let job = Numbers::sound_below(100);
     let mut runs = 0u64;
-    let (outcome, given) = run_all_with(rt, alloc, workers, n, &job, &gate, &mut || {
-        runs += 1;
-        7u64
-    });
+    let (outcome, given) = run_all_with(
+        rt,
+        alloc,
+        workers,
+        n,
+        &job,
+        &gate,
+        &mut || {
+            runs += 1;
+            7u64
+        },
+    );
     let outcome = outcome.expect(rt, "a run");
     equal_by(rt, "in place", workers, n, in_place(&outcome));
     equal_by(rt, "left", workers, n, gate.left());
@@ -194,9 +202,15 @@ fn a_task_meets_a_worker(rt: HostRuntime) {
         meeting: Meeting::new(),
     };
     let job = Numbers::sound_below(2);
-    let (outcome, ()) = run_all_with(&rt, rt.alloc(), 2, 2, &job, &gate, &mut || {
-        gate.meeting.enter(1)
-    });
+    let (outcome, ()) = run_all_with(
+        &rt,
+        rt.alloc(),
+        2,
+        2,
+        &job,
+        &gate,
+        &mut || { gate.meeting.enter(1) },
+    );
     let outcome = outcome.expect(&rt, "a run");
     equal(&rt, "in place", 2, in_place(&outcome));
     assert!(rt; gate.meeting.is_met(), "the task did not meet a worker");

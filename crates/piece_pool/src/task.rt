@@ -1,5 +1,5 @@
 //! A task for the caller's thread.
-ghost use Rattle.std.specs.Prelude.{◌≡◌, ⊤};
+ghost use Rattle.std.specs.Prelude.{◌≡◌};
 
 /// A task that the caller's thread runs once, while the workers run.
 ///
@@ -37,7 +37,7 @@ impl Task for NoTask {
     fn run(self) {}
 }
 
-/// A borrowed closure. The task returns the reference, so that its lender is known afterwards.
+/// A borrowed closure. The task returns the reference, so that what it refers to is known afterwards.
 #[derive(Drop)]
 pub(crate) struct Borrowed<'f, F> {
     pub(crate) f: &'f mut F,
@@ -60,7 +60,7 @@ impl<'f, F: FnMut() -> T, T> Task for Borrowed<'f, F> {
     }
 }
 
-/// Does nothing. The use of a returned reference ties it to the parameter that lent it.
-pub(crate) fn take_back<T>(lent: &mut T)
-    ensures same { lent.new ≡ lent.old }
+/// Does nothing. Using a returned reference ties it to the parameter that it was borrowed from.
+pub(crate) fn take_back<T>(reference: &mut T)
+    ensures same { reference.new ≡ reference.old }
 {}
