@@ -1,5 +1,5 @@
 -- Rounds of blocks that are read one after the other.
-use Rattle.std.proofs.Common.{◌≡◌, ℕ, suc, List, [], ◌∷◌, ◌++◌, Bool, true, false, Option, Some, None, Result, Ok, Err, Vec, Global, refl, sym, ap, ◌∙◌, subst, append_assoc, append-nil, inl, inr, ◌⊎◌, arith}
+use Rattle.std.proofs.Common.{◌≡◌, ℕ, suc, List, [], ◌∷◌, ◌++◌, Bool, true, false, Option, Some, None, IsSomeAnd, MatchOption, Ok, Err, Vec, Global, refl, sym, ap, ◌∙◌, subst, append_assoc, append-nil, inl, inr, ◌⊎◌, arith}
 use Rattle.std.specs.Io.KnownBytes.{Consumes, IsAtEnd}
 use Rattle.nquads_core.specs.Lines.{lines, EndsLine}
 use Rattle.nquads_core.specs.Device.{Stays}
@@ -13,7 +13,6 @@ use Rattle.dataset_load.specs.declared.numbered.Numbered.{Numbered}
 use Rattle.nquads_core.specs.declared.transfer.ReadFault.{ReadFault}
 use Rattle.nquads_core.specs.declared.transfer.ReadFault.TheVariants.{Read as ReadFails, Memory as ReadMemory}
 use Rattle.nquads_core.specs.Pieces.{IsBadLine}
-use Rattle.dataset_load.specs.declared.reader_fault.ReaderFault.{ReaderFault}
 use Rattle.dataset_load.specs.declared.fault.LoadFault.{LoadFault}
 use Rattle.dataset_load.specs.declared.fault.LoadFault.TheVariants.{BadLine, WorkerRefused, Memory}
 use Rattle.dataset_load.specs.Fault.{IfBadLine}
@@ -23,8 +22,10 @@ use Rattle.dataset_load.specs.Store.{StoreView}
 use Rattle.dataset_load.specs.Rounds.{HasRead}
 use Rattle.dataset_load.specs.ReaderFault.{CountsLoading, IfBadLineRead, fault_of_load, fault_of_read}
 use Rattle.dataset_load.specs.Streaming.{IsBadLineFrom, IsBadSoFar, IsLoadedFrom, IsReadFrom, IsReadIn, IsReadUpTo, TakesRest, TakesRound}
+use Rattle.dataset_load.specs.declared.reader.FilledRound.{FilledRound}
+use Rattle.dataset_load.specs.Ahead.{IsNextRound, IsReadAhead, texts_of}
 use Rattle.dataset_load.proofs.LineLaws.{bad_before, lines_of_pieces}
-use Rattle.dataset_load.proofs.ReaderSteps.{nothing_after, read_front, read_start, whole_all}
+use Rattle.dataset_load.proofs.ReaderSteps.{nothing_after, read_front, read_start}
 
 -- ---- the bytes of a round
 
@@ -103,75 +104,119 @@ ends_joined x (p ∷ ps) h each =
     subst EndsLine (append_assoc x p (joined ps))
     (ends_joined (x ++ p) ps (ends_both x p h (each 0 (omega arith))) (λ i low. each (suc i) (omega arith)))
 
-module _ (a b c : Option (List ℕ)) (kept : List ℕ) (so_far : Numbered) (ps : List (List ℕ)) (was : IsReadUpTo a b kept so_far) where
-  pub up_to_more : (kept' : List ℕ) (now : Numbered) → TakesRound b c kept kept' (joined ps) → EachEnds ps
-      → ((before : List (List ℕ)) → HasRead so_far before → HasRead now (before ++ all_lines ps)) → IsReadUpTo a c kept' now
-  up_to_more kept' now bytes each read = record {
-    done = was.done ++ joined ps;
-    bytes = in_round a b c was.done kept kept' (joined ps) was.bytes bytes;
-    whole = ends_joined was.done ps was.whole each;
-    read = subst (λ (ls : List (List ℕ)). HasRead now ls) (sym (lines_after was.done ps was.whole (whole_all ps each))) (read (lines was.done) was.read);
+-- ---- a round that is added after the next one was read
+
+-- the round that was read after these lines were numbered
+pub ahead : (a b c : Option (List ℕ)) (kept kept' : List ℕ) (so_far : Numbered) (round : FilledRound) → IsReadUpTo a b kept so_far → IsNextRound b c kept kept' round
+    → IsReadAhead a c kept' so_far round
+ahead a b c kept kept' so_far round was filled = record {
+  done = was.done;
+  whole = was.whole;
+  read = was.read;
+  few = filled.few;
+  whole_lines = filled.whole_lines;
+  more = λ is. ((filled.more is).0, in_round a b c was.done kept kept' (joined (texts_of round)) was.bytes (filled.more is).1);
+  last = λ is. (in_rest a b c was.done kept (joined (texts_of round)) was.bytes (filled.last is).0, (filled.last is).1);
+}
+
+-- what is kept of a reader, before what it has left
+abbrev with_kept : Option (List ℕ) → List ℕ → Option (List ℕ)
+with_kept None kept = None
+with_kept (Some xs) kept = Some (kept ++ xs)
+
+in_kept : (b : Option (List ℕ)) (kept : List ℕ) → IsReadIn (with_kept b kept) b [] kept
+in_kept None kept = tt
+in_kept (Some xs) kept = refl
+
+kept_in : (a b c : Option (List ℕ)) (done kept : List ℕ) (part : IsReadInPart (with_kept b kept) c) → IsReadIn a b done kept → IsReadIn a c done part.taken
+kept_in None b c done kept part h = tt
+kept_in (Some xs) None c done kept part h = absurd h
+kept_in (Some xs) (Some ys) None done kept part h = absurd part.consumed
+kept_in (Some xs) (Some ys) (Some zs) done kept part h = h ∙ ap (λ bs. done ++ bs) part.consumed
+
+-- bytes were taken from the reader, and whatever was kept and left before is known in part
+abbrev pub TakesPart : Option (List ℕ) → Option (List ℕ) → List ℕ → Type 0
+TakesPart b c kept = (start : Option (List ℕ)) (done : List ℕ) → IsReadIn start b done kept → IsReadInPart start c
+
+-- the lines of a round are added
+abbrev pub AddsLines : Numbered → Numbered → FilledRound → Type 0
+AddsLines so_far now round = (before : List (List ℕ)) → HasRead so_far before → HasRead now (before ++ all_lines (texts_of round))
+
+-- this line of those before and of a round is the first that is malformed
+abbrev pub HasBadLine : Numbered → FilledRound → ℕ → Type 0
+HasBadLine so_far round n = (before : List (List ℕ)) → HasRead so_far before → IsBadLine (before ++ all_lines (texts_of round)) n
+
+module _ (a b c : Option (List ℕ)) (kept : List ℕ) (so_far : Numbered) (round : FilledRound) (was : IsReadAhead a b kept so_far round) where
+  abbrev done_now : List ℕ
+  done_now = was.done ++ joined (texts_of round)
+
+  lines_now : lines done_now ≡ lines was.done ++ all_lines (texts_of round)
+  lines_now = lines_after was.done (texts_of round) was.whole was.whole_lines
+
+  read_now : (now : Numbered) → AddsLines so_far now round → HasRead now (lines done_now)
+  read_now now read = subst (λ (ls : List (List ℕ)). HasRead now ls) (sym lines_now) (read (lines was.done) was.read)
+
+  up_to_now : (now : Numbered) → round.is_last ≡ false → AddsLines so_far now round → IsReadUpTo a b kept now
+  up_to_now now is read = record {
+    done = done_now;
+    bytes = (was.more is).1;
+    whole = ends_joined was.done (texts_of round) was.whole (was.more is).0;
+    read = read_now now read;
   }
 
-  pub up_to_last : (now : Numbered) → TakesRest b c kept (joined ps) → IsAtEnd c → AreWholeLines ps
-      → ((before : List (List ℕ)) → HasRead so_far before → HasRead now (before ++ all_lines ps)) → IsReadFrom a c now
-  up_to_last now bytes end whole read = record {
-    doc = was.done ++ joined ps;
-    consumed = in_rest a b c was.done kept (joined ps) was.bytes bytes;
-    at_end = end;
-    read = subst (λ (ls : List (List ℕ)). HasRead now ls) (sym (lines_after was.done ps was.whole whole)) (read (lines was.done) was.read);
+  at_last : c ≡ b → round.is_last ≡ true → Consumes a c done_now × IsAtEnd c
+  at_last same is = (
+    subst (λ (x : Option (List ℕ)). Consumes a x done_now) (sym same) (was.last is).0,
+    subst (λ (x : Option (List ℕ)). IsAtEnd x) (sym same) (was.last is).1,
+  )
+
+  pub read_round : (kept' : List ℕ) (now : Numbered) (next : Option FilledRound) → (round.is_last ≡ true → (next ≡ None) × (c ≡ b))
+      → (round.is_last ≡ false → IsSomeAnd next (IsNextRound b c kept kept')) → AddsLines so_far now round
+      → MatchOption next (IsReadFrom a c now) (IsReadAhead a c kept' now)
+  read_round kept' now next ended filled read = by round.is_last refl
+    where
+      some : (r : Option FilledRound) → round.is_last ≡ false → IsSomeAnd r (IsNextRound b c kept kept') → MatchOption r (IsReadFrom a c now) (IsReadAhead a c kept' now)
+      some None is f = absurd f
+      some (Some r) is f = ahead a b c kept kept' now r (up_to_now now is read) f
+
+      by : (is_last : Bool) → round.is_last ≡ is_last → MatchOption next (IsReadFrom a c now) (IsReadAhead a c kept' now)
+      by false is = some next is (filled is)
+      by true is =
+          let e = ended is in
+          let last = at_last e.1 is in
+          subst (λ (r : Option FilledRound). MatchOption r (IsReadFrom a c now) (IsReadAhead a c kept' now)) (sym e.0)
+          record { doc = done_now; consumed = last.0; at_end = last.1; read = read_now now read }
+
+  pub bad_ahead : (n : ℕ) → (round.is_last ≡ true → c ≡ b) → (round.is_last ≡ false → TakesPart b c kept) → HasBadLine so_far round n → IsBadSoFar a c n
+  bad_ahead n ended taken bad = record {
+    done = done_now;
+    bad = subst (λ (ls : List (List ℕ)). IsBadLine ls n) (sym lines_now) (bad (lines was.done) was.read);
+    rest = by round.is_last refl;
   }
+    where
+      by : (is_last : Bool) → round.is_last ≡ is_last → ((kept : List ℕ) × IsReadIn a c done_now kept × EndsLine done_now) ⊎ (Consumes a c done_now × IsAtEnd c)
+      by false is =
+          let part = taken is (with_kept b kept) [] (in_kept b kept) in
+          inl (part.taken, kept_in a b c done_now kept part (was.more is).1, ends_joined was.done (texts_of round) was.whole (was.more is).0)
+      by true is = inr (at_last (ended is) is)
 
-  bad_lines : (n : ℕ) → AreWholeLines ps → ((before : List (List ℕ)) → HasRead so_far before → IsBadLine (before ++ all_lines ps) n) → IsBadLine (lines (was.done ++ joined ps)) n
-  bad_lines n whole bad = subst (λ (ls : List (List ℕ)). IsBadLine ls n) (sym (lines_after was.done ps was.whole whole)) (bad (lines was.done) was.read)
+  pub part_ahead : (round.is_last ≡ true → c ≡ b) → (round.is_last ≡ false → TakesPart b c kept) → IsReadInPart a c
+  part_ahead ended taken = by round.is_last refl
+    where
+      by : (is_last : Bool) → round.is_last ≡ is_last → IsReadInPart a c
+      by false is = taken is a done_now (was.more is).1
+      by true is = record { taken = done_now; consumed = (at_last (ended is) is).0 }
 
-  pub bad_more : (kept' : List ℕ) (n : ℕ) → TakesRound b c kept kept' (joined ps) → EachEnds ps
-      → ((before : List (List ℕ)) → HasRead so_far before → IsBadLine (before ++ all_lines ps) n) → IsBadSoFar a c n
-  bad_more kept' n bytes each bad = record {
-    done = was.done ++ joined ps;
-    bad = bad_lines n (whole_all ps each) bad;
-    rest = inl (kept', in_round a b c was.done kept kept' (joined ps) was.bytes bytes, ends_joined was.done ps was.whole each);
-  }
+-- what was read of the reader, up to the end of a round and what is kept after it
+pub part_so_far : (a b : Option (List ℕ)) (kept : List ℕ) (so_far : Numbered) (round : FilledRound) → IsReadAhead a b kept so_far round → IsReadInPart a b
+part_so_far a b kept so_far round was = part_ahead a b b kept so_far round was (λ _. refl) (λ is start done h. record { taken = done ++ kept; consumed = read_front start b done kept h })
 
-  pub bad_last : (n : ℕ) → TakesRest b c kept (joined ps) → IsAtEnd c → AreWholeLines ps
-      → ((before : List (List ℕ)) → HasRead so_far before → IsBadLine (before ++ all_lines ps) n) → IsBadSoFar a c n
-  bad_last n bytes end whole bad = record {
-    done = was.done ++ joined ps;
-    bad = bad_lines n whole bad;
-    rest = inr (in_rest a b c was.done kept (joined ps) was.bytes bytes, end);
-  }
-
--- the two ends of a round
-abbrev pub RoundEnds : Option (List ℕ) → Option (List ℕ) → List ℕ → List ℕ → List (List ℕ) → Type 0
-RoundEnds b c kept kept' ps = (TakesRound b c kept kept' (joined ps) × EachEnds ps) ⊎ (TakesRest b c kept (joined ps) × IsAtEnd c)
-
--- which of the two it is
-pub ok_no : (is_last : Bool) → ◌≡◌ {A = Result Bool ReaderFault} (Ok is_last) (Ok false) → ◌≡◌ {A = Result Bool ReadFault} (Ok is_last) (Ok false)
-ok_no is_last e = let same : is_last ≡ false = cc in ap Ok same
-
-pub ok_yes : (is_last : Bool) → ◌≡◌ {A = Result Bool ReaderFault} (Ok is_last) (Ok true) → ◌≡◌ {A = Result Bool ReadFault} (Ok is_last) (Ok true)
-ok_yes is_last e = let same : is_last ≡ true = cc in ap Ok same
-
-pub round_ends : (b c : Option (List ℕ)) (kept kept' : List ℕ) (ps : List (List ℕ)) (is_last : Bool)
-    → (◌≡◌ {A = Result Bool ReadFault} (Ok is_last) (Ok false) → EachEnds ps) → (◌≡◌ {A = Result Bool ReadFault} (Ok is_last) (Ok false) → TakesRound b c kept kept' (joined ps))
-    → (◌≡◌ {A = Result Bool ReadFault} (Ok is_last) (Ok true) → IsAtEnd c) → (◌≡◌ {A = Result Bool ReadFault} (Ok is_last) (Ok true) → TakesRest b c kept (joined ps))
-    → RoundEnds b c kept kept' ps
-round_ends b c kept kept' ps false each bytes end rest = inl (bytes refl, each refl)
-round_ends b c kept kept' ps true each bytes end rest = inr (rest refl, end refl)
-
-pub bad_round : (b c : Option (List ℕ)) (kept kept' : List ℕ) (so_far : Numbered) (ps : List (List ℕ)) (fault : LoadFault)
-    → RoundEnds b c kept kept' ps → AreWholeLines ps
-    → IfBadLine (λ n. (before : List (List ℕ)) → HasRead so_far before → IsBadLine (before ++ all_lines ps) n) fault
-    → IfBadLineRead (λ n. (start : Option (List ℕ)) → IsReadUpTo start b kept so_far → IsBadSoFar start c n) (fault_of_load fault)
-bad_round b c kept kept' so_far ps (BadLine n) (inl more) whole bad = λ start was. bad_more start b c kept so_far ps was kept' n more.0 more.1 bad
-bad_round b c kept kept' so_far ps (BadLine n) (inr last) whole bad = λ start was. bad_last start b c kept so_far ps was n last.0 last.1 whole bad
-bad_round b c kept kept' so_far ps WorkerRefused ends whole bad = tt
-bad_round b c kept kept' so_far ps Memory ends whole bad = tt
-
-pub part_round : (b c : Option (List ℕ)) (kept kept' : List ℕ) (so_far : Numbered) (ps : List (List ℕ)) → RoundEnds b c kept kept' ps
-    → (start : Option (List ℕ)) → IsReadUpTo start b kept so_far → IsReadInPart start c
-part_round b c kept kept' so_far ps (inl more) start was = part_of_round b c kept kept' (joined ps) more.0 start was.done was.bytes
-part_round b c kept kept' so_far ps (inr last) start was = part_of_rest b c kept (joined ps) last.0 start was.done was.bytes
+pub bad_round : (b c : Option (List ℕ)) (kept : List ℕ) (so_far : Numbered) (round : FilledRound) (fault : LoadFault)
+    → (round.is_last ≡ true → c ≡ b) → (round.is_last ≡ false → TakesPart b c kept) → IfBadLine (HasBadLine so_far round) fault
+    → IfBadLineRead (λ n. (start : Option (List ℕ)) → IsReadAhead start b kept so_far round → IsBadSoFar start c n) (fault_of_load fault)
+bad_round b c kept so_far round (BadLine n) ended taken bad = λ start was. bad_ahead start b c kept so_far round was n ended taken bad
+bad_round b c kept so_far round WorkerRefused ended taken bad = tt
+bad_round b c kept so_far round Memory ended taken bad = tt
 
 -- ---- the start and the end of the reader
 
@@ -182,9 +227,6 @@ up_to_start a kept so_far none read = record {
   whole = inl refl;
   read = subst (λ (ls : List (List ℕ)). HasRead so_far ls) (sym lines_nil) read;
 }
-
-pub up_to_part : (a b : Option (List ℕ)) (kept : List ℕ) (so_far : Numbered) → IsReadUpTo a b kept so_far → IsReadInPart a b
-up_to_part a b kept so_far was = record { taken = was.done ++ kept; consumed = read_front a b was.done kept was.bytes }
 
 pub part_both : (a b c : Option (List ℕ)) → IsReadInPart a b → IsReadInPart b c → IsReadInPart a c
 part_both a b c h k = in-part-more a b c h.taken h.consumed k

@@ -7,3 +7,4 @@ pub mod ReaderFault
 pub mod Streaming
 pub mod Found
 pub mod Counted
+pub mod Ahead

@@ -29,7 +29,7 @@ use std::thread::Threads;
 /// the cuts, nor their number, nor the gate changes the result.
 ///
 /// The gate sees pieces by their place in a round, from 0 on anew in each: a round ends at the first
-/// piece with which it has 8 MiB and 16 pieces for each worker, at 2^20 pieces, or at the end of the
+/// piece with which it has 4 MiB and 16 pieces for each worker, at 2^20 pieces, or at the end of the
 /// document. The sorting of the index calls no gate of the caller.
 ///
 /// # Requires

@@ -1,11 +1,12 @@
 //! A document that is read in blocks of whole lines.
-ghost use Rattle.std.specs.Prelude.{◌≡◌, ◌≤◌, ◌^◌, [], false, length, true, IfOk, IfSome, Ok, OnErr, OnOk};
+ghost use Rattle.std.specs.Prelude.{◌≡◌, ◌≤◌, ◌^◌, [], false, length, true, IfOk, IfSome, IsSomeAnd, None, Ok, OnErr, OnOk};
 ghost use Rattle.std.specs.Io.KnownBytes.{Consumes, IsAtEnd};
 ghost use Rattle.nquads_core.specs.Transfer.{CountsRead, IsReadInPart};
 ghost use Rattle.piece_pool.specs.Limits.{most_workers};
 ghost use Rattle.piece_cuts.specs.Laws.{EndsWithLineFeed};
 ghost use Rattle.dataset_load.specs.Lines.{AreBlocksOf, AreWholeLines, EachEnds, block_texts, joined};
 ghost use Rattle.dataset_load.specs.Streaming.{IsReadIn, TakesRest, TakesRound};
+ghost use Rattle.dataset_load.specs.Ahead.{IsNextRound};
 
 use crate::rounds::{PIECES_A_ROUND, is_full};
 use nquads_core::{ReadFault, Source};
@@ -81,12 +82,78 @@ fn append_blocks<S: Source>(
     }
 }
 
+/// The blocks of a round.
+#[derive(Drop)]
+pub(crate) struct FilledRound {
+    pub(crate) blocks: Vec<Vec<u8>>,
+    /// Whether the reader is at its end.
+    pub(crate) is_last: bool,
+}
+
+/// Reads the blocks of the next round.
+///
+/// # Errors
+/// - `Read` if the reader fails. Bytes before that may have been taken from it.
+/// - `Memory` if an allocation fails. Bytes may have been taken from the reader.
+pub(crate) fn next_round<S: Source>(
+    alloc: Global,
+    blocks: &mut Blocks,
+    reader: &mut S,
+    workers: usize,
+) -> Result<FilledRound, ReadFault>
+    requires workers { (1 ≤ workers) × (workers ≤ most_workers) }
+    requires reading { blocks.old.state ≡ BlockState.Reading }
+    ensures round { IfOk result (IsNextRound (S.left reader.old) (S.left reader.new)
+        blocks.old.kept blocks.new.kept) }
+    ensures reading { IfOk result
+        (λ round. round.is_last ≡ false → blocks.new.state ≡ BlockState.Reading) }
+    ensures taken { (start : _) (done : _) → IsReadIn start (S.left reader.old) done blocks.old.kept
+        → IsReadInPart start (S.left reader.new) }
+    ensures count { CountsRead (S.failures reader.old) (S.failures reader.new) result }
+{
+    let mut round = Vec::new(alloc);
+    let is_last = fill_round(&mut round, blocks, reader, workers)?;
+    Ok(FilledRound {
+        blocks: round,
+        is_last,
+    })
+}
+
+/// Reads the blocks of the round after this one, or returns None if this is the last one.
+///
+/// # Errors
+/// As `next_round`.
+pub(crate) fn round_after<S: Source>(
+    alloc: Global,
+    is_last: bool,
+    blocks: &mut Blocks,
+    reader: &mut S,
+    workers: usize,
+) -> Result<Option<FilledRound>, ReadFault>
+    requires workers { (1 ≤ workers) × (workers ≤ most_workers) }
+    requires reading { is_last ≡ false → blocks.old.state ≡ BlockState.Reading }
+    ensures none { is_last ≡ true → (result ≡ Ok None) × (reader.new ≡ reader.old) }
+    ensures round { is_last ≡ false → IfOk result (λ next. IsSomeAnd next
+        (IsNextRound (S.left reader.old) (S.left reader.new) blocks.old.kept blocks.new.kept)) }
+    ensures reading { IfOk result (λ next. IfSome next
+        (λ round. round.is_last ≡ false → blocks.new.state ≡ BlockState.Reading)) }
+    ensures taken { is_last ≡ false → (start : _) (done : _)
+        → IsReadIn start (S.left reader.old) done blocks.old.kept
+        → IsReadInPart start (S.left reader.new) }
+    ensures count { CountsRead (S.failures reader.old) (S.failures reader.new) result }
+{
+    if is_last {
+        return Ok(None);
+    }
+    Ok(Some(next_round(alloc, blocks, reader, workers)?))
+}
+
 /// Reads the blocks of a round, and returns whether the reader is at its end.
 ///
 /// # Errors
 /// - `Read` if the reader fails. Bytes before that may have been taken from it.
 /// - `Memory` if an allocation fails. Bytes may have been taken from the reader.
-pub(crate) fn fill_round<S: Source>(
+fn fill_round<S: Source>(
     round: &mut Vec<Vec<u8>>,
     blocks: &mut Blocks,
     reader: &mut S,

@@ -20,7 +20,7 @@ use crate::read_piece::ReadPiece;
 use crate::round_job::Round;
 use dict_core::{Dict, NumQuad, add_piece};
 use nquads_core::count_lines;
-use piece_pool::{Gate, OffsetGate, Outcome, PoolFault, run_all};
+use piece_pool::{Gate, OffsetGate, Outcome, PoolFault, run_all_with};
 use std::alloc::{AllocError, Global};
 use std::hash::RandomState;
 use std::sync::Wait;
@@ -30,7 +30,7 @@ use std::thread::Threads;
 const PIECES_A_WORKER: usize = 16;
 
 /// The least number of bytes of a round, except in the last round.
-const BYTES_A_ROUND: usize = 8 << 20;
+const BYTES_A_ROUND: usize = 4 << 20;
 
 /// The largest number of pieces of a round.
 pub(crate) const PIECES_A_ROUND: usize = 1 << 20;
@@ -63,17 +63,28 @@ pub(crate) fn number_pieces<R: Threads + Wait, G: Gate + Sync>(
             gate,
             first: from as u64,
         };
-        add_round(rt, alloc, state, &mut so_far, round, workers, &gate)?;
+        let (added, ()) = add_round(
+            rt,
+            alloc,
+            state,
+            &mut so_far,
+            round,
+            workers,
+            &gate,
+            &mut || (),
+        );
+        added?;
         from = to;
     }
     Ok(so_far)
 }
 
-/// Reads the pieces of a round in parallel, and adds their quads to those of the rounds before.
+/// Reads the pieces of a round in parallel, and adds their quads to those of the rounds before. The caller's
+/// thread runs the task meanwhile.
 ///
 /// # Errors
-/// As `number_pieces`, of the lines before and these.
-pub(crate) fn add_round<R: Threads + Wait, G: Gate + Sync>(
+/// As `number_pieces`, of the lines before and these. They do not stop the task.
+pub(crate) fn add_round<R: Threads + Wait, G: Gate + Sync, F: FnMut() -> T, T>(
     rt: &R,
     alloc: Global,
     state: RandomState,
@@ -81,30 +92,28 @@ pub(crate) fn add_round<R: Threads + Wait, G: Gate + Sync>(
     pieces: &[&[u8]],
     workers: usize,
     gate: &G,
-) -> Result<(), LoadFault>
+    task: &mut F,
+) -> (Result<(), LoadFault>, T)
     requires workers { (1 ≤ workers) × (workers ≤ most_workers) }
     requires pieces { length pieces.now ≤ 2 ^ 20 }
     requires countable { so_far.old.lines ≤ 2 ^ 127 }
-    ensures numbered { OnOk result ((before : _) → HasRead so_far.old before
+    requires task { F.pre task.old }
+    ensures numbered { OnOk result.0 ((before : _) → HasRead so_far.old before
         → HasRead so_far.new (before ++ all_lines (texts pieces.now))) }
-    ensures counted { OnOk result
+    ensures counted { OnOk result.0
         (so_far.new.lines ≤ so_far.old.lines + length pieces.now * (2 ^ 64 - 1)) }
-    ensures bad_line { IfErr result (IfBadLine (λ n. (before : _) → HasRead so_far.old before
+    ensures bad_line { IfErr result.0 (IfBadLine (λ n. (before : _) → HasRead so_far.old before
         → IsBadLine (before ++ all_lines (texts pieces.now)) n)) }
-    ensures one_worker { workers ≡ 1 → IfErr result IsOneWorkerLoadFault }
+    ensures one_worker { workers ≡ 1 → IfErr result.0 IsOneWorkerLoadFault }
+    ensures task { F.step task.old result.1 task.new }
 {
-    let outcome = read_round(rt, alloc, state, pieces, &so_far.dict, workers, gate)?;
-    match outcome {
-        Outcome::All(read) => Ok(add_read_pieces(alloc, so_far, read)?),
-        Outcome::First { piece, fault } => {
-            let line = so_far.lines + line_number(pieces, piece as usize, fault);
-            Err(LoadFault::BadLine(line))
-        }
-    }
+    let (outcome, given) = read_round(rt, alloc, state, pieces, &so_far.dict, workers, gate, task);
+    (add_outcome(alloc, so_far, pieces, outcome), given)
 }
 
-/// Reads the pieces of a round against the dictionary of the rounds before.
-fn read_round<R: Threads + Wait, G: Gate + Sync>(
+/// Reads the pieces of a round against the dictionary of the rounds before. The caller's thread runs the task
+/// meanwhile.
+fn read_round<R: Threads + Wait, G: Gate + Sync, F: FnMut() -> T, T>(
     rt: &R,
     alloc: Global,
     state: RandomState,
@@ -112,20 +121,53 @@ fn read_round<R: Threads + Wait, G: Gate + Sync>(
     dict: &Dict,
     workers: usize,
     gate: &G,
-) -> Result<Outcome<ReadPiece, u64>, PoolFault>
+    task: &mut F,
+) -> (Result<Outcome<ReadPiece, u64>, PoolFault>, T)
     requires workers { (1 ≤ workers) × (workers ≤ most_workers) }
     requires pieces { length pieces.now ≤ most_pieces }
-    ensures outcome { IfOk result
+    requires task { F.pre task.old }
+    ensures outcome { IfOk result.0
         (IsPoolOutcome (λ i out. IsReadPiece dict.now (text_at pieces.now i) out)
         (λ i line. IsFirstMalformed (lines (text_at pieces.now i)) line) (length pieces.now)) }
-    ensures one_worker { workers ≡ 1 → IfErr result (λ fault. fault ≡ Memory) }
+    ensures one_worker { workers ≡ 1 → IfErr result.0 (λ fault. fault ≡ Memory) }
+    ensures task { F.step task.old result.1 task.new }
 {
     let job = Round {
         pieces,
         dict,
         state,
     };
-    run_all(rt, alloc, workers, pieces.len() as u64, &job, gate)
+    run_all_with(rt, alloc, workers, pieces.len() as u64, &job, gate, task)
+}
+
+/// Adds the pieces of a round that were read, or finds the number of the first malformed line.
+fn add_outcome(
+    alloc: Global,
+    so_far: &mut Numbered,
+    pieces: &[&[u8]],
+    outcome: Result<Outcome<ReadPiece, u64>, PoolFault>,
+) -> Result<(), LoadFault>
+    requires pieces { length pieces.now ≤ 2 ^ 20 }
+    requires countable { so_far.old.lines ≤ 2 ^ 127 }
+    requires outcome { IfOk outcome
+        (IsPoolOutcome (λ i out. IsReadPiece so_far.old.dict (text_at pieces.now i) out)
+        (λ i line. IsFirstMalformed (lines (text_at pieces.now i)) line) (length pieces.now)) }
+    ensures numbered { OnOk result ((before : _) → HasRead so_far.old before
+        → HasRead so_far.new (before ++ all_lines (texts pieces.now))) }
+    ensures counted { OnOk result
+        (so_far.new.lines ≤ so_far.old.lines + length pieces.now * (2 ^ 64 - 1)) }
+    ensures bad_line { IfErr result (IfBadLine (λ n. (before : _) → HasRead so_far.old before
+        → IsBadLine (before ++ all_lines (texts pieces.now)) n)) }
+    ensures one_worker { IfErr outcome (λ fault. fault ≡ Memory)
+        → IfErr result IsOneWorkerLoadFault }
+{
+    match outcome? {
+        Outcome::All(read) => Ok(add_read_pieces(alloc, so_far, read)?),
+        Outcome::First { piece, fault } => {
+            let line = so_far.lines + line_number(pieces, piece as usize, fault);
+            Err(LoadFault::BadLine(line))
+        }
+    }
 }
 
 /// Where the round that begins at `from` ends.

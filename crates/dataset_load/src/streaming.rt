@@ -1,5 +1,5 @@
 //! Loading the rest of a reader, round by round, so that the document is never held as a whole.
-ghost use Rattle.std.specs.Prelude.{◌≡◌, ◌+◌, ◌≤◌, ◌^◌, ◌++◌, [], false, length, true, IfErr, IfOk, Ok, OnErr, OnOk};
+ghost use Rattle.std.specs.Prelude.{◌≡◌, ◌+◌, ◌≤◌, ◌^◌, ◌++◌, false, length, IfErr, IfOk, IfSome, MatchOption, OnErr, OnOk};
 ghost use Rattle.std.specs.Io.KnownBytes.{IsAtEnd};
 ghost use Rattle.nquads_core.specs.Transfer.{CountsRead, IsReadInPart};
 ghost use Rattle.nquads_core.specs.Pieces.{IsBadLine};
@@ -10,13 +10,14 @@ ghost use Rattle.dataset_load.specs.Lines.{all_lines, block_texts};
 ghost use Rattle.dataset_load.specs.Rounds.{HasRead};
 ghost use Rattle.dataset_load.specs.ReaderFault.{CountsLoading, IfBadLineRead, IsOneWorkerReaderFault};
 ghost use Rattle.dataset_load.specs.Streaming.{IsBadLineFrom, IsBadSoFar, IsLoadedFrom, IsReadFrom, IsReadUpTo};
+ghost use Rattle.dataset_load.specs.Ahead.{IsReadAhead};
 
 use crate::counted::{Counted, counted_of};
 use crate::fault::LoadFault;
 use crate::load_notes::{LoadNotes, Rounds};
 use crate::loading::{borrowed_blocks, hash_state, store_of};
 use crate::numbered::Numbered;
-use crate::reader::fill_round;
+use crate::reader::{FilledRound, next_round, round_after};
 use crate::reader_fault::ReaderFault;
 use crate::rounds::add_round;
 use crate::store::Store;
@@ -30,11 +31,11 @@ use std::random::RandomSource;
 use std::sync::Wait;
 use std::thread::Threads;
 
-/// The rounds of a document, at the most. A round has at least 8 MiB or 2^20 lines, except the last one.
+/// The rounds of a document, at the most. A round has at least 4 MiB or 2^20 lines, except the last one.
 const MOST_ROUNDS: u64 = 1 << 40;
 
-/// Loads the rest of a reader, as `load_blocks` does after `read_blocks`. Only the blocks of one round
-/// are in memory at a time. `notes` gets what a message about a failure shows.
+/// Loads the rest of a reader, as `load_blocks` does after `read_blocks`. Only the blocks of two rounds are in
+/// memory at a time: one that is parsed, and the next one. `notes` gets what a message about a failure shows.
 ///
 /// # Requires
 /// `size` is 1 or more, and `workers` is 1 to 64.
@@ -45,7 +46,7 @@ const MOST_ROUNDS: u64 = 1 << 40;
 /// - `WorkerRefused` if a worker thread could not be started. Those that were started have been joined.
 ///   With one worker no thread is started, so this cannot occur.
 /// - `Memory` if an allocation fails, or if the document has more than 2^40 rounds.
-/// - `Read` if the reader fails in this call.
+/// - `Read` if the reader fails in this call. It takes precedence over the other errors.
 ///
 /// On every error, the bytes that were taken are a beginning of what the reader had left.
 pub fn load_reader<R: Threads + Wait + RandomSource, S: Source, G: Gate + Sync>(
@@ -200,7 +201,7 @@ fn number_reader<R: Threads + Wait + RandomSource, S: Source, G: Gate + Sync>(
     Ok(so_far)
 }
 
-/// Reads the rounds of a reader, one after the other.
+/// Reads the rounds of a reader. Each round is read while the one before is parsed.
 fn number_rounds<R: Threads + Wait, S: Source, G: Gate + Sync>(
     rt: &R,
     alloc: Global,
@@ -222,16 +223,21 @@ fn number_rounds<R: Threads + Wait, S: Source, G: Gate + Sync>(
     ensures count { CountsLoading (S.failures reader.old) (S.failures reader.new) result }
     ensures one_worker { workers ≡ 1 → IfErr result IsOneWorkerReaderFault }
 {
+    let mut round = next_round(alloc, blocks, reader, workers)?;
     for _ in 0..MOST_ROUNDS {
-        if number_round(rt, alloc, state, so_far, blocks, reader, workers, rounds)? {
+        let next = number_round(
+            rt, alloc, state, so_far, blocks, reader, workers, rounds, round,
+        )?;
+        let Some(next) = next else {
             return Ok(());
-        }
+        };
+        round = next;
     }
     Err(ReaderFault::Memory)
 }
 
-/// Reads the blocks of the next round, and adds their quads to those of the rounds before. Returns whether
-/// the reader is at its end.
+/// Adds the quads of a round to those of the rounds before, and returns the next round, or None after the last
+/// one. The caller's thread reads the next round while the workers parse this one.
 fn number_round<R: Threads + Wait, S: Source, G: Gate + Sync>(
     rt: &R,
     alloc: Global,
@@ -241,36 +247,56 @@ fn number_round<R: Threads + Wait, S: Source, G: Gate + Sync>(
     reader: &mut S,
     workers: usize,
     rounds: &mut Rounds<'_, G>,
-) -> Result<bool, ReaderFault>
+    round: FilledRound,
+) -> Result<Option<FilledRound>, ReaderFault>
     requires workers { (1 ≤ workers) × (workers ≤ most_workers) }
-    requires reading { blocks.old.state ≡ BlockState.Reading }
+    requires few { length round.blocks.items ≤ 2 ^ 20 }
+    requires reading { round.is_last ≡ false → blocks.old.state ≡ BlockState.Reading }
     requires countable { so_far.old.lines ≤ 2 ^ 127 }
-    ensures reading { result ≡ Ok false → blocks.new.state ≡ BlockState.Reading }
+    ensures reading { IfOk result (λ next. IfSome next
+        (λ round. round.is_last ≡ false → blocks.new.state ≡ BlockState.Reading)) }
     ensures counted { OnOk result (so_far.new.lines ≤ so_far.old.lines + 2 ^ 84) }
-    ensures more { result ≡ Ok false → (start : _)
-        → IsReadUpTo start (S.left reader.old) blocks.old.kept so_far.old
-        → IsReadUpTo start (S.left reader.new) blocks.new.kept so_far.new }
-    ensures last { result ≡ Ok true → (start : _)
-        → IsReadUpTo start (S.left reader.old) blocks.old.kept so_far.old
-        → IsReadFrom start (S.left reader.new) so_far.new }
+    ensures read { IfOk result (λ next. (start : _)
+        → IsReadAhead start (S.left reader.old) blocks.old.kept so_far.old round
+        → MatchOption next (IsReadFrom start (S.left reader.new) so_far.new)
+        (IsReadAhead start (S.left reader.new) blocks.new.kept so_far.new)) }
     ensures bad_line { IfErr result (IfBadLineRead (λ n. (start : _)
-        → IsReadUpTo start (S.left reader.old) blocks.old.kept so_far.old
+        → IsReadAhead start (S.left reader.old) blocks.old.kept so_far.old round
         → IsBadSoFar start (S.left reader.new) n)) }
     ensures taken { OnErr result ((start : _)
-        → IsReadUpTo start (S.left reader.old) blocks.old.kept so_far.old
+        → IsReadAhead start (S.left reader.old) blocks.old.kept so_far.old round
         → IsReadInPart start (S.left reader.new)) }
     ensures count { CountsLoading (S.failures reader.old) (S.failures reader.new) result }
     ensures one_worker { workers ≡ 1 → IfErr result IsOneWorkerReaderFault }
 {
-    let mut round = Vec::new(alloc);
-    let is_last = fill_round(&mut round, blocks, reader, workers)?;
-    add_blocks(rt, alloc, state, so_far, round.as_slice(), workers, rounds)?;
-    blocks.reuse(round);
-    Ok(is_last)
+    let is_last = round.is_last;
+    let (added, next) = add_blocks(
+        rt,
+        alloc,
+        state,
+        so_far,
+        round.blocks.as_slice(),
+        workers,
+        rounds,
+        &mut || round_after(alloc, is_last, blocks, reader, workers),
+    );
+    match next {
+        Ok(next) => {
+            added?;
+            blocks.reuse(round.blocks);
+            Ok(next)
+        }
+        Err(ReadFault::Read) => Err(ReaderFault::Read),
+        Err(ReadFault::Memory) => match added {
+            Err(LoadFault::WorkerRefused) => Err(ReaderFault::WorkerRefused),
+            _ => Err(ReaderFault::Memory),
+        },
+    }
 }
 
-/// Adds the quads of blocks to those of the rounds before.
-fn add_blocks<R: Threads + Wait, G: Gate + Sync>(
+/// Adds the quads of blocks to those of the rounds before. The caller's thread runs the task while the workers
+/// parse the blocks.
+fn add_blocks<R: Threads + Wait, G: Gate + Sync, F: FnMut() -> T, T>(
     rt: &R,
     alloc: Global,
     state: RandomState,
@@ -278,23 +304,37 @@ fn add_blocks<R: Threads + Wait, G: Gate + Sync>(
     blocks: &[Vec<u8>],
     workers: usize,
     rounds: &mut Rounds<'_, G>,
-) -> Result<(), LoadFault>
+    task: &mut F,
+) -> (Result<(), LoadFault>, T)
     requires workers { (1 ≤ workers) × (workers ≤ most_workers) }
     requires blocks { length blocks.now ≤ 2 ^ 20 }
     requires countable { so_far.old.lines ≤ 2 ^ 127 }
-    ensures numbered { OnOk result ((before : _) → HasRead so_far.old before
+    requires task { F.pre task.old }
+    ensures numbered { OnOk result.0 ((before : _) → HasRead so_far.old before
         → HasRead so_far.new (before ++ all_lines (block_texts blocks.now))) }
-    ensures counted { OnOk result (so_far.new.lines ≤ so_far.old.lines + 2 ^ 84) }
-    ensures bad_line { IfErr result (IfBadLine (λ n. (before : _) → HasRead so_far.old before
+    ensures counted { OnOk result.0 (so_far.new.lines ≤ so_far.old.lines + 2 ^ 84) }
+    ensures bad_line { IfErr result.0 (IfBadLine (λ n. (before : _) → HasRead so_far.old before
         → IsBadLine (before ++ all_lines (block_texts blocks.now)) n)) }
-    ensures one_worker { workers ≡ 1 → IfErr result IsOneWorkerLoadFault }
+    ensures one_worker { workers ≡ 1 → IfErr result.0 IsOneWorkerLoadFault }
+    ensures task { F.step task.old result.1 task.new }
 {
-    let pieces = borrowed_blocks(alloc, blocks)?;
+    let Ok(pieces) = borrowed_blocks(alloc, blocks) else {
+        return (Err(LoadFault::Memory), task());
+    };
     let before = so_far.lines;
     let gate = rounds.offset_gate();
-    let added = add_round(rt, alloc, state, so_far, pieces.as_slice(), workers, &gate);
+    let (added, given) = add_round(
+        rt,
+        alloc,
+        state,
+        so_far,
+        pieces.as_slice(),
+        workers,
+        &gate,
+        task,
+    );
     rounds.add(alloc, blocks, before, &added);
-    added
+    (added, given)
 }
 
 /// Reads a reader to its end, and drops what is read.

@@ -9,7 +9,7 @@ use crate::cases::{equal, equal_by};
 use piece_board::{Board, BoardFault, Pass};
 use piece_pool::{
     Gate, Job, JobFault, OffsetGate, OpenGate, Outcome, PoolFault, Worked, gather, run_all,
-    run_pieces, work,
+    run_all_with, run_pieces, work,
 };
 use std::alloc::{AllocError, Global};
 use std::process::Abort;
@@ -138,6 +138,82 @@ fn check_offset<R: Threads + Wait + Abort>(rt: &R, alloc: Global, workers: usize
 fn an_offset_gate_numbers_the_pieces_of_a_document(rt: HostRuntime) {
     check_offset(&rt, rt.alloc(), 1);
     check_offset(&rt, rt.alloc(), 2);
+}
+
+/// Runs `n` sound pieces and a task. Checks that each output is at its index, and what the task returned and wrote.
+fn check_task<R: Threads + Wait + Abort>(rt: &R, alloc: Global, workers: usize, n: u64)
+    requires workers { (1 ≤ workers) × (workers ≤ most_workers) }
+    requires pieces { n ≤ most_pieces }
+{
+    let gate = Counter::new();
+    let job = Numbers::sound_below(100);
+    let mut runs = 0u64;
+    let (outcome, given) = run_all_with(
+        rt,
+        alloc,
+        workers,
+        n,
+        &job,
+        &gate,
+        &mut || {
+            runs += 1;
+            7u64
+        },
+    );
+    let outcome = outcome.expect(rt, "a run");
+    equal_by(rt, "in place", workers, n, in_place(&outcome));
+    equal_by(rt, "left", workers, n, gate.left());
+    equal_by(rt, "given by the task", workers, 7, given);
+    equal_by(rt, "runs of the task", workers, 1, runs);
+}
+
+/// The task runs once, and the outputs are those of a run without one.
+#[test]
+fn a_task_for_the_caller(rt: HostRuntime) {
+    let alloc = rt.alloc();
+    check_task(&rt, alloc, 1, 9);
+    check_task(&rt, alloc, 2, 9);
+    check_task(&rt, alloc, 8, 3);
+    check_task(&rt, alloc, 4, 1);
+    check_task(&rt, alloc, 4, 0);
+}
+
+/// A gate at which piece 0 waits for the task of the caller.
+#[derive(Drop)]
+struct Awaiting {
+    meeting: Meeting,
+}
+
+impl Gate for Awaiting {
+    fn enter(&self, i: u64) {
+        if i == 0 {
+            self.meeting.enter(0);
+        }
+    }
+
+    fn leave(&self, _i: u64) {}
+}
+
+/// The task and a piece that wait for each other meet, so the task runs while a worker does. After the workers are
+/// joined, the wait would have reached its limit.
+#[test]
+fn a_task_meets_a_worker(rt: HostRuntime) {
+    let gate = Awaiting {
+        meeting: Meeting::new(),
+    };
+    let job = Numbers::sound_below(2);
+    let (outcome, ()) = run_all_with(
+        &rt,
+        rt.alloc(),
+        2,
+        2,
+        &job,
+        &gate,
+        &mut || { gate.meeting.enter(1) },
+    );
+    let outcome = outcome.expect(&rt, "a run");
+    equal(&rt, "in place", 2, in_place(&outcome));
+    assert!(rt; gate.meeting.is_met(), "the task did not meet a worker");
 }
 
 /// Calls `work` on two threads, with one pass each.

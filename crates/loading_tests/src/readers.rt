@@ -165,8 +165,8 @@ fn a_reader_loads_as_the_document(rt: HostRuntime) {
     check_calls(&rt, rt.alloc(), 65536, 4);
 }
 
-/// A document that is read in two rounds: 144 comments of 64 KiB, and then a malformed line.
-fn two_rounds(alloc: Global) -> Result<Vec<u8>, AllocError> {
+/// A document that is read in three rounds: 144 comments of 64 KiB, and then a malformed line.
+fn three_rounds(alloc: Global) -> Result<Vec<u8>, AllocError> {
     let mut doc = Vec::new(alloc);
     for lines in 1..145 {
         doc.resize(lines * 65536 - 1, b'#')?;
@@ -185,7 +185,7 @@ fn check_gate<R: Abort>(rt: &R, gate: &Counter) {
 /// A line is counted over the rounds, and a gate gets the number of a piece in the document.
 #[test]
 fn rounds_count_lines_and_pieces_of_the_document(rt: HostRuntime) {
-    let doc = two_rounds(rt.alloc()).expect(&rt, "a document");
+    let doc = three_rounds(rt.alloc()).expect(&rt, "a document");
     let gate = Counter::new();
     let found = streamed(&rt, rt.alloc(), Call::Load, doc.as_slice(), 65536, 1, &gate);
     gives(&rt, "a reader", "Err(BadLine(145)), false, x", found);
@@ -196,24 +196,63 @@ fn rounds_count_lines_and_pieces_of_the_document(rt: HostRuntime) {
     check_gate(&rt, &gate);
 }
 
-/// The document of two rounds with a malformed first line.
+/// A document that is read in three rounds: 144 statements with a subject of their own, and a comment after each.
+fn statements(alloc: Global) -> Result<Vec<u8>, AllocError> {
+    let mut doc = Vec::new(alloc);
+    for lines in 1..145 {
+        let statement = format!(in alloc; "<http://e/{lines}> <http://e/p> <http://e/o> .\n")?;
+        doc.extend_from_slice(statement.as_bytes())?;
+        doc.resize(lines * 66000 - 1, b'#')?;
+        doc.push(b'\n')?;
+    }
+    Ok(doc)
+}
+
+/// Every round is added, whichever thread reads the next one.
+#[test]
+fn all_rounds_are_added(rt: HostRuntime) {
+    let doc = statements(rt.alloc()).expect(&rt, "a document");
+    for workers in 1..3 {
+        let found = streamed(
+            &rt,
+            rt.alloc(),
+            Call::Count,
+            doc.as_slice(),
+            65536,
+            workers,
+            &OpenGate,
+        );
+        gives_by(
+            &rt,
+            "three rounds",
+            [65536, workers],
+            "Ok((144, 146, 0)), true, ",
+            found,
+        );
+    }
+}
+
+/// The document of three rounds with a malformed first line.
 fn malformed_rounds(alloc: Global) -> Result<Vec<u8>, AllocError> {
-    let mut doc = two_rounds(alloc)?;
+    let mut doc = three_rounds(alloc)?;
     if let Some(first) = doc.first_mut() {
         *first = b'x';
     }
     Ok(doc)
 }
 
-/// Reads the document from a reader that fails once `until` bytes were read, with two workers, and prints the fault and
-/// the number of calls that failed.
+/// Reads the document from a reader that fails once `until` bytes were read, and prints the fault and the number of
+/// calls that failed.
 fn failing<R: Threads + Wait + RandomSource>(
     rt: &R,
     alloc: Global,
     call: Call,
     doc: &[u8],
     until: usize,
-) -> Result<String, AllocError> {
+    workers: usize,
+) -> Result<String, AllocError>
+    requires workers { (1 ≤ workers) × (workers ≤ 64) }
+{
     let mut reader = SliceSource::failing_after(doc, 8192, until);
     let mut notes = LoadNotes::new();
     let found = counts_of(
@@ -222,27 +261,31 @@ fn failing<R: Threads + Wait + RandomSource>(
         call,
         &mut reader,
         65536,
-        2,
+        workers,
         &OpenGate,
         &mut notes,
     );
     format!(in alloc; "{found:?}, {}", reader.failed)
 }
 
-/// Where a reader of the document of two rounds fails: the name, what is called, and the number of bytes that were read.
+/// Where a reader of the document of three rounds fails: the name, what is called, and the number of bytes that were
+/// read.
 const FAILURES: &[(&str, Call, usize)] = &[
     ("the first read of a load", Call::Load, 0),
     ("the first read of a count", Call::Count, 0),
     ("the first read of terms", Call::Terms, 0),
     ("the first round", Call::Count, 1 << 20),
-    ("between the rounds", Call::Load, 8 << 20),
-    ("the second round", Call::Count, (8 << 20) + 8192),
+    ("between the rounds", Call::Load, 4 << 20),
+    ("the second round", Call::Count, (4 << 20) + 8192),
+    ("the last round", Call::Terms, (8 << 20) + 8192),
 ];
 
-/// Where it fails while the rest is read after a malformed line.
+/// Where it fails although the first line is malformed: while the next round is read, or the rest is dropped.
 const LATER_FAILURES: &[(&str, Call, usize)] = &[
-    ("after a malformed line", Call::Count, (8 << 20) + 8192),
-    ("after a malformed line", Call::Terms, 9 << 20),
+    ("the next round", Call::Load, 4 << 20),
+    ("the next round", Call::Count, (4 << 20) + 8192),
+    ("the rest", Call::Count, (8 << 20) + 8192),
+    ("the rest", Call::Terms, 9 << 20),
 ];
 
 /// Checks that a failure of the reader is reported, once, for each of these places.
@@ -251,17 +294,40 @@ fn check_failures<R: Threads + Wait + RandomSource + Abort>(
     alloc: Global,
     doc: &[u8],
     failures: &[(&str, Call, usize)],
-) {
+    workers: usize,
+)
+    requires workers { (1 ≤ workers) × (workers ≤ 64) }
+{
     for (name, call, until) in failures {
-        let found = failing(rt, alloc, *call, doc, *until);
-        gives_by(rt, *name, [*until, 2], "Err(Read), 1", found);
+        let found = failing(rt, alloc, *call, doc, *until, workers);
+        gives_by(rt, *name, [*until, workers], "Err(Read), 1", found);
     }
 }
 
+/// A failure of the reader takes precedence over a malformed line.
 #[test]
 fn a_failing_reader_is_reported(rt: HostRuntime) {
-    let doc = two_rounds(rt.alloc()).expect(&rt, "a document");
-    check_failures(&rt, rt.alloc(), doc.as_slice(), FAILURES);
+    let doc = three_rounds(rt.alloc()).expect(&rt, "a document");
+    check_failures(&rt, rt.alloc(), doc.as_slice(), FAILURES, 1);
+    check_failures(&rt, rt.alloc(), doc.as_slice(), FAILURES, 2);
     let malformed = malformed_rounds(rt.alloc()).expect(&rt, "a document");
-    check_failures(&rt, rt.alloc(), malformed.as_slice(), LATER_FAILURES);
+    check_failures(&rt, rt.alloc(), malformed.as_slice(), LATER_FAILURES, 1);
+    check_failures(&rt, rt.alloc(), malformed.as_slice(), LATER_FAILURES, 2);
+}
+
+/// A malformed line of the first round is reported, although the next round was read.
+#[test]
+fn a_malformed_line_before_other_rounds(rt: HostRuntime) {
+    let doc = malformed_rounds(rt.alloc()).expect(&rt, "a document");
+    for workers in 1..3 {
+        let found = failing(
+            &rt,
+            rt.alloc(),
+            Call::Load,
+            doc.as_slice(),
+            usize::MAX,
+            workers,
+        );
+        gives_by(&rt, "line 1", [65536, workers], "Err(BadLine(1)), 0", found);
+    }
 }

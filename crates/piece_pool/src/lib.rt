@@ -6,16 +6,18 @@
 //! a worker or a gate, so every number of workers gives the same result. With one worker, or with
 //! at most one piece, the caller's thread runs the pieces, so `WorkerRefused` cannot occur.
 //!
-//! [`run_pieces`] does the same but always starts a thread for each worker. It consists of two
+//! [`run_all_with`] does the same, and runs a task on the caller's thread while the workers run.
+//!
+//! [`run_pieces`] does the same as [`run_all`] but always starts a thread for each worker. It consists of two
 //! functions. Each worker calls [`work`] with a pass of a claim board (crate piece_board) and never
 //! waits. [`gather`] combines what all workers return.
 //!
 //! Everything here is a choice of this project (not fixed by a standard).
 //!
 //! Reading order: `job` (the work), `gate` (callbacks before and after each piece), `worker` (the
-//! loop of a worker), `collector` (outputs by number), `pool` (starting and joining the workers),
-//! `running` (in parallel, or on the caller's thread). Tests: `pools` of the crate
-//! loading_tests.
+//! loop of a worker), `collector` (outputs by number), `task` (a task for the caller's thread), `pool`
+//! (starting and joining the workers), `running` (in parallel, or on the caller's thread). Tests:
+//! `pools` of the crate loading_tests.
 //!
 //! ```text
 //! let outcome = run_all(&rt, alloc, 4, 1000, &job, &OpenGate)?;
@@ -31,13 +33,14 @@ mod gate;
 mod job;
 mod pool;
 mod running;
+mod task;
 mod worker;
 
 pub use collector::{Outcome, gather};
 pub use gate::{Gate, OffsetGate, OpenGate};
 pub use job::{Job, JobFault};
 pub use pool::{PoolFault, run_pieces};
-pub use running::run_all;
+pub use running::{run_all, run_all_with};
 pub use worker::{Worked, work};
 
 /// The places at which a document in memory is split into pieces.

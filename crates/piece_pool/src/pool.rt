@@ -1,5 +1,5 @@
 //! Starting and joining the workers.
-ghost use Rattle.std.specs.Prelude.{◌≡◌, ◌≤◌, IfOk, IfErr, IfSome, All, vec_len};
+ghost use Rattle.std.specs.Prelude.{◌≡◌, ◌≤◌, [], IfOk, IfErr, IfSome, All, vec_capacity, vec_len};
 ghost use Rattle.piece_pool.specs.Limits.{most_pieces, most_workers};
 ghost use Rattle.piece_board.specs.Pass.{unused};
 ghost use Rattle.piece_pool.specs.Worked.{IsWorked};
@@ -10,6 +10,7 @@ use crate::collector::{Outcome, gather};
 use crate::gate::Gate;
 use crate::job::Job;
 use crate::running::run_alone;
+use crate::task::{NoTask, Task};
 use crate::worker::{Worked, work};
 use core::thread::Stack;
 use piece_board::{Board, BoardFault, Pass};
@@ -105,41 +106,72 @@ where
     }
     let seats = n.min(workers as u64) as usize;
     let (board, passes) = Board::open(alloc, n, seats)?;
-    let works = run_workers(rt, alloc, &board, passes, job, gate)?;
-    Ok(gather(alloc, board, works, job)?)
+    let (works, ()) = run_workers(rt, alloc, &board, passes, job, gate, NoTask);
+    gathered(alloc, board, works, job)
 }
 
-/// Runs one thread for each pass, and returns what the workers return.
-fn run_workers<R: Threads + Wait, J: Job + Sync, G: Gate + Sync>(
+/// Combines what the workers returned, if all of them were started.
+pub(crate) fn gathered<J: Job>(
+    alloc: Global,
+    board: Board,
+    works: Result<Vec<Worked<J::Out, J::Fault>>, PoolFault>,
+    job: &J,
+) -> Result<Outcome<J::Out, J::Fault>, PoolFault>
+where
+    J::Out: Drop,
+    J::Fault: Drop,
+    requires all { IfOk works (λ ws. vec_len ws ≡ board.seats) }
+    requires works { IfOk works (λ ws. All (IsWorked (J.answers job.now) (J.faults job.now) board)
+        ws.items) }
+    ensures outcome { IfOk result (IsPoolOutcome (J.answers job.now) (J.faults job.now) board.pieces) }
+{
+    Ok(gather(alloc, board, works?, job)?)
+}
+
+/// Runs one thread for each pass, and the task on the caller's thread. Returns what the workers return, and what
+/// the task returns.
+pub(crate) fn run_workers<
+    R: Threads + Wait,
+    J: Job + Sync,
+    G: Gate + Sync,
+    T: Task<Output = A> + Drop,
+    A,
+>(
     rt: &R,
     alloc: Global,
     board: &Board,
     passes: Vec<Pass>,
     job: &J,
     gate: &G,
-) -> Result<Vec<Worked<J::Out, J::Fault>>, PoolFault>
+    task: T,
+) -> (Result<Vec<Worked<J::Out, J::Fault>>, PoolFault>, A)
 where
     J::Out: Send + Drop,
     J::Fault: Send + Drop,
     requires unused { All (λ p. p ≡ unused board.now.id board.now.pieces) passes.items }
-    ensures len { IfOk result (λ ws. vec_len ws ≡ vec_len passes) }
-    ensures works { IfOk result (λ ws. All (IsWorked (J.answers job.now) (J.faults job.now)
+    requires task { T.can_run task }
+    ensures len { IfOk result.0 (λ ws. vec_len ws ≡ vec_len passes) }
+    ensures works { IfOk result.0 (λ ws. All (IsWorked (J.answers job.now) (J.faults job.now)
         board.now) ws.items) }
+    ensures task { T.run_gives task result.1 }
 {
     thread::scope(
         thread::scope_env(),
         rt,
-        |scope| -> Result<Vec<Worked<J::Out, J::Fault>>, PoolFault>
-            requires { All (λ p. p ≡ unused board.now.id board.now.pieces) passes.items }
-            ensures len { IfOk result (λ ws. vec_len ws ≡ vec_len passes) }
-            ensures works { IfOk result (λ ws. All (IsWorked (J.answers job.entry.now)
+        |scope| -> (Result<Vec<Worked<J::Out, J::Fault>>, PoolFault>, A)
+            requires unused { All (λ p. p ≡ unused board.now.id board.now.pieces) passes.items }
+            requires task { T.can_run task }
+            ensures len { IfOk result.0 (λ ws. vec_len ws ≡ vec_len passes) }
+            ensures works { IfOk result.0 (λ ws. All (IsWorked (J.answers job.entry.now)
                 (J.faults job.entry.now) board.entry.now) ws.items) }
-        { start_and_join(rt, scope, alloc, board, passes, job, gate) },
+            ensures task { T.run_gives task result.1 }
+        { start_and_join(rt, scope, alloc, board, passes, job, gate, task) },
     )
 }
 
-/// Starts a worker for each pass, until one cannot be started. Joins all that were started.
-fn start_and_join<'s, E, R: Threads, J: Job + Sync, G: Gate + Sync>(
+/// Starts a worker for each pass, until one cannot be started. Runs the task, and then joins all that were
+/// started.
+fn start_and_join<'s, E, R: Threads, J: Job + Sync, G: Gate + Sync, T: Task<Output = A> + Drop, A>(
     rt: &R,
     scope: &Scope<'s, E>,
     alloc: Global,
@@ -147,25 +179,61 @@ fn start_and_join<'s, E, R: Threads, J: Job + Sync, G: Gate + Sync>(
     passes: Vec<Pass>,
     job: &'s J,
     gate: &'s G,
-) -> Result<Vec<Worked<J::Out, J::Fault>>, PoolFault>
+    task: T,
+) -> (Result<Vec<Worked<J::Out, J::Fault>>, PoolFault>, A)
 where
     J::Out: Send + Drop,
     J::Fault: Send + Drop,
     requires unused { All (λ p. p ≡ unused board.now.id board.now.pieces) passes.items }
-    ensures len { IfOk result (λ ws. vec_len ws ≡ vec_len passes) }
-    ensures works { IfOk result (λ ws. All (IsWorked (J.answers job.now) (J.faults job.now)
+    requires task { T.can_run task }
+    ensures len { IfOk result.0 (λ ws. vec_len ws ≡ vec_len passes) }
+    ensures works { IfOk result.0 (λ ws. All (IsWorked (J.answers job.now) (J.faults job.now)
         board.now) ws.items) }
+    ensures task { T.run_gives task result.1 }
 {
     let count = passes.len();
-    let mut works = Vec::with_capacity(alloc, count)?;
-    let handles = start(scope, alloc, board, passes, job, gate)?;
+    let started = start_with_room(scope, alloc, board, passes, job, gate);
+    let given = task.run();
+    let Ok((handles, mut works)) = started else {
+        return (Err(PoolFault::Memory), given);
+    };
     for handle in handles {
         works.push_reserved(handle.join(rt));
     }
     if works.len() < count {
-        return Err(PoolFault::WorkerRefused);
+        return (Err(PoolFault::WorkerRefused), given);
     }
-    Ok(works)
+    (Ok(works), given)
+}
+
+/// Allocates room for what the workers return, and then starts them.
+fn start_with_room<'s, E, J: Job + Sync, G: Gate + Sync>(
+    scope: &Scope<'s, E>,
+    alloc: Global,
+    board: &'s Board,
+    passes: Vec<Pass>,
+    job: &'s J,
+    gate: &'s G,
+) -> Result<
+    (
+        Vec<PromisedHandle<Worked<J::Out, J::Fault>, WorkOn<J>>>,
+        Vec<Worked<J::Out, J::Fault>>,
+    ),
+    AllocError,
+>
+where
+    J::Out: Send + Drop,
+    J::Fault: Send + Drop,
+    requires unused { All (λ p. p ≡ unused board.now.id board.now.pieces) passes.items }
+    ensures most { IfOk result (λ started. vec_len started.0 ≤ vec_len passes) }
+    ensures promised { IfOk result (λ started. All (λ h. (h.promise.job.value ≡ job.now)
+        × (h.promise.board.value ≡ board.now)) started.0.items) }
+    ensures none { IfOk result (λ started. started.1.items ≡ []) }
+    ensures room { IfOk result (λ started. vec_len passes ≤ vec_capacity started.1) }
+{
+    let room = Vec::with_capacity(alloc, passes.len())?;
+    let handles = start(scope, alloc, board, passes, job, gate)?;
+    Ok((handles, room))
 }
 
 /// Starts a worker for each pass, until one cannot be started. Returns the handles of those that

@@ -9,7 +9,8 @@ ghost use Rattle.piece_pool.specs.declared.pool.PoolFault.TheVariants.{Memory};
 use crate::collector::{Outcome, gather};
 use crate::gate::Gate;
 use crate::job::Job;
-use crate::pool::{PoolFault, run_pieces};
+use crate::pool::{PoolFault, gathered, run_pieces, run_workers};
+use crate::task::{Borrowed, take_back};
 use crate::worker::{Worked, work};
 use piece_board::{Board, Pass};
 use std::alloc::{AllocError, Global};
@@ -50,6 +51,50 @@ where
         return run_alone(alloc, n, job, gate);
     }
     run_pieces(rt, alloc, workers, n, job, gate)
+}
+
+/// Runs the pieces 0 to `n - 1` of a job as [`run_all`] does, and a task on the caller's thread. Returns the
+/// result of the job and that of the task.
+///
+/// The task runs exactly once, whatever the result of the job: after the workers are started and before
+/// they are joined, or after the pieces if no thread is started.
+///
+/// # Requires
+/// `workers` is 1 to 64, `n` is at most 2^62, and the task may be called.
+///
+/// # Errors
+/// As `run_all`, of the job. They do not stop the task.
+pub fn run_all_with<R: Threads + Wait, J: Job + Sync, G: Gate + Sync, F: FnMut() -> T, T>(
+    rt: &R,
+    alloc: Global,
+    workers: usize,
+    n: u64,
+    job: &J,
+    gate: &G,
+    task: &mut F,
+) -> (Result<Outcome<J::Out, J::Fault>, PoolFault>, T)
+where
+    J::Out: Send + Drop,
+    J::Fault: Send + Drop,
+    requires workers { (1 ≤ workers) × (workers ≤ most_workers) }
+    requires pieces { n ≤ most_pieces }
+    requires task { F.pre task.old }
+    ensures outcome { IfOk result.0 (IsPoolOutcome (J.answers job.now) (J.faults job.now) n) }
+    ensures alone { n ≤ 1 → IfErr result.0 (λ fault. fault ≡ Memory) }
+    ensures one_worker { workers ≡ 1 → IfErr result.0 (λ fault. fault ≡ Memory) }
+    ensures task { F.step task.old result.1 task.new }
+{
+    if workers == 1 || n <= 1 {
+        return (run_alone(alloc, n, job, gate), task());
+    }
+    let seats = n.min(workers as u64) as usize;
+    let Ok((board, passes)) = Board::open(alloc, n, seats) else {
+        return (Err(PoolFault::Memory), task());
+    };
+    let borrowed = Borrowed { f: task };
+    let (works, (task, given)) = run_workers(rt, alloc, &board, passes, job, gate, borrowed);
+    take_back(task);
+    (gathered(alloc, board, works, job), given)
 }
 
 /// Runs the pieces 0 to `n - 1` of a job on the caller's own thread. The result is that of

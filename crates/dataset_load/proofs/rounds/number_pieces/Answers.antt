@@ -8,19 +8,21 @@ pub loop-from-preserved : goal.loop-from-preserved
 loop-from-preserved g c =
     let was = c.loop-from.invariant in
     let to = lines_to c.args.pieces.now c.loop-from.from c.round_end-to.result (omega arith) in
-    let done = rw c.part-round.ensures.value at (c.in_ok-add_round.ensures.numbered _ was.read) in
+    let numbered = rw c.in_ok-added.was at c.add_round-added.ensures.numbered in
+    let counted = rw c.in_ok-added.was at c.add_round-added.ensures.counted in
+    let done = rw c.part-round.ensures.value at (numbered _ was.read) in
     record {
       inside = c.round_end-to.ensures.within;
-      countable = omega (arith, was.countable, c.in_ok-add_round.ensures.counted, c.part-round.ensures.len);
-      read = subst (λ (ls : List (List ℕ)). HasRead c.add_round.new.so_far ls) to done;
+      countable = omega (arith, was.countable, counted, c.part-round.ensures.len);
+      read = subst (λ (ls : List (List ℕ)). HasRead c.add_round-added.new.so_far ls) to done;
     }
 
 pub returns-clause-numbered : goal.returns-clause-numbered
 returns-clause-numbered g c =
     subst (λ (ls : List (List ℕ)). HasRead c.loop-from.so_far ls) (lines_up_to_end c.args.pieces.now c.loop-from.from (omega arith)) c.loop-from.invariant.read
 
-pub returns-in_err-add_round-clause-bad_line : goal.returns-in_err-add_round-clause-bad_line
-returns-in_err-add_round-clause-bad_line g c =
-    let p = err_from_is_err_and c.from_residual-in_err-add_round.result c.from_residual-in_err-add_round.ensures.1 in
+pub returns-in_err-added-clause-bad_line : goal.returns-in_err-added-clause-bad_line
+returns-in_err-added-clause-bad_line g c =
+    let p = err_from_is_err_and c.from_residual-in_err-added.result c.from_residual-in_err-added.ensures.1 in
     rw (p.1, p.2) (bad_fault c.args.pieces.now c.part-round.result.now c.loop-from.from c.round_end-to.result c.loop-from.so_far _ (omega arith) c.part-round.ensures.value
-    c.loop-from.invariant.read c.in_err-add_round.ensures.bad_line)
+    c.loop-from.invariant.read (rw c.in_err-added.was at c.add_round-added.ensures.bad_line))

@@ -1,8 +1,17 @@
-use Rattle.dataset_load.proofs.StreamingSteps.{up_to_part}
+use Rattle.std.proofs.Common.{rules, arith}
+use Rattle.dataset_load.proofs.StreamingSteps.{ahead, part_so_far}
 use Rattle.dataset_load.proofs.streaming.number_rounds.Goals as goal
 
+pub loop-init : goal.loop-init
+loop-init g c = record {
+  state = search rules;
+  countable = omega (arith, c.requires.none);
+  read = ahead _ _ _ _ _ _ _ c.requires.start c.in_ok-round.ensures.round;
+  failures = search rules;
+}
+
 pub returns-clause-taken : goal.returns-clause-taken
-returns-clause-taken g c = up_to_part _ _ _ _ c.loop.invariant.read
+returns-clause-taken g c = part_so_far _ _ _ _ _ c.loop.invariant.read
 
 pub returns-clause-count : goal.returns-clause-count
 returns-clause-count g c = c.loop.invariant.failures

@@ -1,13 +1,13 @@
-use Rattle.std.proofs.Common.{◌≡◌, ◌≤◌, ◌*◌, ◌^◌}
+use Rattle.std.proofs.Common.{◌≡◌, ◌≤◌, ◌*◌, ◌^◌, false}
 use Rattle.piece_cuts.specs.declared.blocks.BlockState.TheVariants.{Reading}
 use Rattle.nquads_core.specs.Device.{Stays}
-use Rattle.dataset_load.specs.Streaming.{IsReadUpTo}
+use Rattle.dataset_load.specs.Ahead.{IsReadAhead}
 use Rattle.dataset_load.proofs.streaming.number_rounds.Given as goal
 
 abbrev pub invariant-loop : goal.invariant-loop
 invariant-loop g l = record {
-  state : l.blocks.state ≡ Reading;
+  state : l.round.is_last ≡ false → l.blocks.state ≡ Reading;
   countable : l.so_far.lines ≤ l.counter * 2 ^ 84;
-  read : IsReadUpTo (g.S.Source.left l.fn.reader) (g.S.Source.left l.reader) l.blocks.kept l.so_far;
+  read : IsReadAhead (g.S.Source.left l.fn.reader) (g.S.Source.left l.reader) l.blocks.kept l.so_far l.round;
   failures : Stays (g.S.Source.failures l.fn.reader) (g.S.Source.failures l.reader);
 }

@@ -1,4 +1,4 @@
-use Rattle.std.proofs.Common.{rules, arith, suc, ap, length, ◌≡◌}
+use Rattle.std.proofs.Common.{rules, arith, suc, ap, length}
 use Rattle.std.proofs.lemmas.List.Elements.{All-nil, All-push}
 use Rattle.piece_pool.specs.Worked.{IsWorked}
 use Rattle.piece_pool.proofs.pool.start_and_join.Goals as goal
@@ -17,18 +17,10 @@ loop-handle-preserved g c =
 
 pub loop-handle-init : goal.loop-handle-init
 loop-handle-init g c =
-    let made = c.in_ok-works.ensures in
-    let started = c.in_ok-handles.ensures in
+    let started = c.in-Ok.ensures in
     let items = c.into_iter-handle-iterator.ensures.into_iter_gives.0 in record {
-      count = omega (arith, made.len, c.into_iter-handle-iterator.result.rest.ok.0, ap length items, c.in_ok-handles.handles.ok.0, started.most, c.len-count.ensures);
-      room = omega (arith, made.capacity);
+      count = omega (arith, ap length started.none, c.into_iter-handle-iterator.result.rest.ok.0, ap length items, c.in-Ok.handles.ok.0, started.most, c.len-count.ensures);
+      room = omega (arith, started.room, c.len-count.ensures);
       promised = rw items started.promised;
-      worked = rw made.items (All-nil (IsWorked (g.J.Job.answers c.args.job.now) (g.J.Job.faults c.args.job.now) c.args.board.now));
-    }
-
-pub returns : goal.returns
-returns g c =
-    let was = c.loop-handle.invariant in record {
-      len = omega (arith, was.count, c.if-len-count.false, c.len.ensures, c.len-count.ensures);
-      works = was.worked;
+      worked = rw started.none (All-nil (IsWorked (g.J.Job.answers c.args.job.now) (g.J.Job.faults c.args.job.now) c.args.board.now));
     }
