@@ -5,9 +5,9 @@ use crate::cases::{equal, gives};
 use crate::terms::text;
 use dict_core::{
     Dict, LocalPiece, NumQuad, Seen, SeenPiece, absorbing_keeps_the_numbering, add_piece,
-    earlier_places_serve, look_up, merge, number_piece,
+    earlier_places_serve, look_up, merge, number_lines, number_piece,
 };
-use nquads_core::read_piece;
+use nquads_core::{PieceFault, read_piece};
 use rdf_core::{Term, Text};
 use std::alloc::{AllocError, AllocGlobal, Global};
 use std::hash::RandomState;
@@ -122,6 +122,52 @@ fn check<R: Abort>(
     quads: &[NumQuad],
 ) {
     gives(rt, case, expected, printed(alloc, dict, quads));
+}
+
+/// Prints the number of lines of a text, and its dictionary and quads, or the number of the malformed line.
+fn printed_lines(alloc: Global, state: RandomState, text: &str) -> Result<String, AllocError> {
+    match number_lines(alloc, state, text.as_bytes()) {
+        Ok(read) => {
+            let found = printed(alloc, read.piece.dict(), read.piece.quads())?;
+            format!(in alloc; "{} lines: {found}", read.lines)
+        }
+        Err(PieceFault::BadLine(k)) => format!(in alloc; "malformed {k}"),
+        Err(PieceFault::Memory) => Err(AllocError),
+    }
+}
+
+/// Pieces, and what is numbered. Malformed lines are numbered from 0. The first three pieces are split into slices; two
+/// slices of the third one denote the same term. `read_piece` reads the others.
+const NUMBERED: &[(&str, &str)] = &[
+    ("\n# c\n", "2 lines: "),
+    (
+        "_:a <a:p> _:b .\n_:b <a:p> _:a <a:g> .\n",
+        "2 lines: Some(0) Blank(a); Some(1) Iri(a:p); Some(2) Blank(b); Some(3) Iri(a:g); Some(0) Some(1) Some(2) None Some(2) Some(1) Some(0) Some(3) ",
+    ),
+    (
+        "_:a <a:p> <a:b> .\n_:a <a:p> <a:\\u0062> .\n",
+        "2 lines: Some(0) Blank(a); Some(1) Iri(a:p); Some(2) Iri(a:b); Some(0) Some(1) Some(2) None Some(0) Some(1) Some(2) None ",
+    ),
+    (
+        "_:a<a:p>_:b.\r\n\r\n_:a <a:p> _:a .",
+        "3 lines: Some(0) Blank(a); Some(1) Iri(a:p); Some(2) Blank(b); Some(0) Some(1) Some(2) None Some(0) Some(1) Some(0) None ",
+    ),
+    ("_:a <a:p> _:b .\n\"a\" <a:p> _:b .\n", "malformed 1"),
+    ("_:a <a:p> _:b .\n_:a _:p _:b .\nx", "malformed 1"),
+    ("_:a <a:p> <b> .\n", "malformed 0"),
+];
+
+#[test]
+fn the_lines_of_a_piece_are_numbered(rt: HostRuntime) {
+    let state = RandomState::new(&rt).expect(&rt, "a hash state");
+    for (text, expected) in NUMBERED {
+        gives(
+            &rt,
+            *text,
+            *expected,
+            printed_lines(rt.alloc(), state, *text),
+        );
+    }
 }
 
 /// IRIs that are added in turn, and their numbers.
