@@ -28,9 +28,7 @@ use std::thread::Threads;
 /// Concepts, section 4). Workers read the pieces in parallel, and one worker is the caller itself. Neither
 /// the cuts, nor their number, nor the gate changes the result.
 ///
-/// The gate sees pieces by their place in a round, from 0 on anew in each: a round ends at the first
-/// piece with which it has 4 MiB and 16 pieces for each worker, at 2^20 pieces, or at the end of the
-/// document. The sorting of the index calls no gate of the caller.
+/// The gate sees each piece by its number in the document. The sorting of the index does not call it.
 ///
 /// # Requires
 /// `cuts` are cuts of this document, and `workers` is 1 to 64.
