@@ -94,10 +94,13 @@ class Prover:
                     self.folders[used] = self.built(used) or self.build(used)
 
     def built(self, crate):
-        """Returns the folder of a crate's library, if it is newer than its sources."""
+        """Returns the folder of a crate's library, if it is newer than its sources.
+
+        The files of a library that `rt ci` kept from an earlier run are as old as that run. Its folder is new.
+        """
         folder = f"{ROOT}/crates/{crate}/out/rlib"
-        mark = f"{folder}/{crate}.rlib/format"
-        return folder if os.path.isfile(mark) and os.path.getmtime(mark) > newest_source(crate) else None
+        library = f"{folder}/{crate}.rlib"
+        return folder if os.path.isdir(library) and os.path.getmtime(library) > newest_source(crate) else None
 
     def build(self, crate):
         """Proves a crate and builds its library."""
