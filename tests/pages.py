@@ -45,7 +45,7 @@ COMMON = {"copy", "get", "last", "len", "next", "read", "run", "term", "write", 
 
 # The public calls and types, by the crate that offers them and by topic.
 SECTIONS = [
-    ("rdf_core", "Terms, quads and their N-Quads form", ["Term::copy", "write_term"], ["Term", "Text", "Quad"]),
+    ("rdf_core", "Terms, quads and their N-Quads form", ["equality_is_identity", "order_is_by_parts", "Term::copy", "Quad::of", "Quad::copy", "write_term"], ["Term", "Text", "Quad"]),
     ("nquads_core", "Reading N-Quads", ["read_line", "read_piece", "split_piece", "read_term"], ["Piece", "RawStatement", "LineFault", "PieceFault"]),
     ("nquads_core", "Readers and writers", ["Source::read", "Sink::write"], ["Source", "Sink", "Device", "DeviceFailed"]),
     ("piece_board", "The claim board of the workers",
@@ -62,7 +62,7 @@ SECTIONS = [
     ("sparql_read", "Reading a query", ["read_query"],
      ["Query", "Selection", "Element", "Triple", "PatternTerm", "GraphName", "Expression", "Function", "Comparison", "QueryFault"]),
     ("sparql_algebra", "Translation to the algebra", ["translate"], ["Plan", "Operator", "TriplePattern", "PatternTerm", "GraphName"]),
-    ("expression_values", "Expressions", ["value", "Lookup::get", "truth", "compare"], ["Expr", "Lookup", "ExprFault", "Comparison", "Function"]),
+    ("sparql_algebra", "Expressions", ["value", "Lookup::get", "truth", "compare"], ["Expr", "Lookup", "ExprFault", "Comparison", "Function"]),
     ("sparql_eval", "Rows of solutions", ["Rows::width", "Rows::len", "Rows::get"], ["Rows", "How", "EvalFault"]),
     ("sparql_eval", "Evaluation of a plan", ["evaluate"], []),
     ("sparql_eval", "The operators of the algebra",
@@ -70,7 +70,7 @@ SECTIONS = [
     ("spq_core", "Loading a dataset",
      ["load", "load_blocks", "Store::dict", "Store::index", "Store::quads", "Store::terms", "Store::graphs"], ["Store", "LoadFault"]),
     ("dataset_load", "Loading from a reader", ["load_reader", "count_reader", "load_terms", "read_blocks"], ["LoadNotes", "Counted", "ReaderFault"]),
-    ("spq_core", "Answering a query", ["answer"], ["Fault"]),
+    ("spq_core", "Evaluating a query", ["answer"], ["Fault"]),
     ("spq_core", "The program", ["read_command", "run", "run_words", "write_fault", "finish", "status"], ["Command", "CommandFault", "RunFault", "Ran"]),
 ]
 
@@ -130,9 +130,9 @@ def found_at(home, name):
 
 @functools.lru_cache(maxsize=None)
 def re_exporters(crate, name):
-    """Returns the crates that re-export this name of the crate."""
+    """Returns the crates that re-export this name of the crate, also under another name."""
     others = [it for it in crates() if it not in INNER and it != crate]
-    return [it for it in others for here, (_, there, _) in root_of(it).imports().items() if there == name and origin(it, here) == (crate, name) and exported_from(it, here)]
+    return [it for it in others if any(exported_from(it, here) and origin(it, here) == (crate, name) for here in root_of(it).imports())]
 
 
 def call_at(home, path):
@@ -154,14 +154,18 @@ def call_at(home, path):
 
 @functools.lru_cache(maxsize=None)
 def trait_members():
-    """Returns the definitions that traits of the repository declare: `{member: (file, trait)}`."""
-    found = {}
-    for crate in crates():
-        for source in code_of(crate):
-            for trait in (it for it in source.items if it.kind == "trait"):
-                for member in GHOST_MEMBER.findall(source.code, trait.start, trait.end):
-                    found[member] = source, trait.name
-    return found
+    """Returns the definitions that traits of the repository declare: `[(member, file, trait), ..]`."""
+    traits = [(source, it) for crate in crates() for source in code_of(crate) for it in source.items if it.kind == "trait"]
+    return [(member, source, it.name) for source, it in traits for member in GHOST_MEMBER.findall(source.code, it.start, it.end)]
+
+
+def bounds_at(source, function):
+    """Returns the bounds of the type parameters of a function and of its block: `{letter: text}`."""
+    block = source.code[function.owner.start : source.code.find("{", function.owner.start)] if function.owner else ""
+    bounds = {}
+    for letter, bound in re.findall(r"\b([A-Z]): ([^,>]*)", block + "\n" + function.signature):
+        bounds[letter] = bounds.get(letter, "") + " " + bound
+    return bounds
 
 
 def mentions(name, clause):
@@ -183,10 +187,11 @@ def cited(source, function, clause):
     modules = source.definitions_at(function)
     files = {definition_file(module) for name, module in modules.items() if mentions(name, clause)} - {None}
     links = [f"[{crate}/{name}](../crates/{crate}/specs/{name}.antt)" for crate, name in sorted(files)]
-    traits = set()
-    for member, (place, trait) in trait_members().items():
+    traits, bounds = set(), bounds_at(source, function)
+    for member, place, trait in trait_members():
         within = function.owner and function.owner.kind == "trait" and function.owner.name == trait
-        if re.search(rf"(?<![\w.'])(?:[A-Z]\.{'|' if within else ''}){member}(?![\w'])", clause):
+        letters = re.findall(rf"(?<![\w.'])([A-Z])\.{member}(?![\w'])", clause)
+        if any(re.search(rf"\b{trait}\b", bounds.get(it, trait)) for it in letters) or within and re.search(rf"(?<![\w.']){member}(?![\w'])", clause):
             traits.add(f"[{trait}::{member}](../crates/{place.crate}/{place.path})")
     return links + sorted(traits)
 
@@ -293,7 +298,10 @@ def hidden(crate):
 
 
 def mutants_of(crate, path):
-    """Returns the mutants that change a function, or a helper that it alone reaches, as the page shows them."""
+    """Returns the mutants that change a function, or a helper that it alone reaches, as the page shows them.
+
+    If there are none: those of the private functions that it reaches and others reach too.
+    """
     helpers = own_helpers(crate)
     shown = []
     for it in mutants():
@@ -304,7 +312,21 @@ def mutants_of(crate, path):
             shown.append(f"`{it.name}`")
         elif inside:
             shown.append(f"`{it.name}` (in {spelled(inside)})")
-    return shown
+    return shown or shared_mutants(crate, path)
+
+
+def shared_mutants(crate, path):
+    start = [(source, it) for source in code_of(crate) for it in source.functions if it.path == path]
+    shared = {it.path for it in reached(crate, start) if it in hidden(crate)}
+    found = [(it, [name for name in it.names() if name in shared]) for it in mutants() if it.crate == crate]
+    shown = [f"`{it.name}` (in {spelled(names)})" for it, names in found if names]
+    return ["of helpers that other calls use too: " + shown[0], *shown[1:]] if shown else []
+
+
+def mutants_of_methods(trait, method):
+    """Returns the mutants that change this method where a type implements the trait."""
+    paths = {(crate, f"{name}::{method}") for crate, name in implementers(trait)}
+    return [f"`{it.crate}/{it.name}` (in {spelled(it.names())})" for it in mutants() if any((it.crate, name) in paths for name in it.names())]
 
 
 # The parts of the pages.
@@ -329,10 +351,19 @@ def test_lines(crate, function):
     return "; ".join(lines) or "no test"
 
 
+@functools.lru_cache(maxsize=None)
 def implementers(trait):
-    """Returns the types that implement a trait of the repository, outside of tests and programs."""
-    named = [it for crate in crates() if crate not in INNER for source in code_of(crate) for it in source.items if it.kind == "impl" and it.trait == trait]
-    return sorted({it.name for it in named})
+    """Returns the types that implement a trait of the repository, outside of programs, with their crates."""
+    places = [(crate, source) for crate in crates() if crate not in INNER or crate.startswith("test_") or crate.endswith("_tests") for source in code_of(crate)]
+    return sorted({(crate, it.name) for crate, source in places for it in source.items if it.kind == "impl" and it.trait == trait})
+
+
+def implementer_lines(trait):
+    """Returns the lines that list the types that implement a trait: those of the program, and those of tests."""
+    found = implementers(trait)
+    lines = [f"- Implemented by: {spelled(sorted({name for crate, name in found if crate not in INNER})) or 'tests only'}"]
+    for_tests = [f"`{name}` ({crate})" for crate, name in found if crate in INNER]
+    return lines + ([f"- Implemented for tests by: {', '.join(for_tests)}"] if for_tests else [])
 
 
 def call_lines(home, path):
@@ -346,10 +377,12 @@ def call_lines(home, path):
     lacking = "" if is_offered else f"; not re-exported yet by `{home}`"
     lines = [f"### `{path}`", "", "```rust", *function.signature.split("\n"), "```", ""]
     lines += [f"Defined in [{crate}](../crates/{crate}/{source.path}){others}{lacking}.", "", *clause_rows(source, function), ""]
+    shown = mutants_of(crate, function.path)
     if function.owner and function.owner.kind == "trait":
-        lines += [f"- Implemented by: {spelled(implementers(function.owner.name)) or 'tests only'}"]
+        lines += implementer_lines(function.owner.name)
+        shown = mutants_of_methods(function.owner.name, function.name)
     lines += [f"- Called by: {test_lines(crate, function)}"]
-    return lines + [f"- Mutants: {', '.join(mutants_of(crate, function.path)) or 'none'}", ""]
+    return lines + [f"- Mutants: {', '.join(shown) or 'none'}", ""]
 
 
 def type_row(home, name):

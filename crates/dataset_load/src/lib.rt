@@ -9,11 +9,11 @@
 //!
 //! Standards: RDF 1.1 N-Quads, grammar; RDF 1.1 Concepts and Abstract Syntax, section 4.
 //!
-//! [`load_reader`] loads the rest of a reader: it is [`read_blocks`] followed by [`load_blocks`], but only
-//! the blocks of two rounds are in memory at a time: one that is parsed, and the next one (`IsLoadedFrom`,
-//! `IsBadLineFrom` in specs/Streaming.antt). [`count_reader`] returns only the dictionary and the counts of that store, and
-//! [`load_terms`] only the dictionary. Neither builds an index (`IsCountedFrom`, `AreTermsFrom` in
-//! specs/Counted.antt).
+//! [`load_reader`] loads the rest of a reader. Its result is that of [`read_blocks`] followed by
+//! [`load_blocks`] (`IsLoadedFrom`, `IsBadLineFrom` in specs/Streaming.antt). Only the blocks of two rounds
+//! are in memory at a time: one that is parsed, and the next one. [`count_reader`] returns only the
+//! dictionary and the counts of that store, and [`load_terms`] only the dictionary. Neither builds an
+//! index (`IsCountedFrom`, `AreTermsFrom` in specs/Counted.antt).
 //!
 //! To read in this order: `fault`, `store`, `read_piece` and `round_job` (one piece), `numbered` and
 //! `rounds` (all pieces), `sorting` (the lists of the index), `loading`, `reader` (blocks of a reader),

@@ -58,7 +58,7 @@ impl Store {
         &self.index
     }
 
-    /// The dictionary and the index, of which the store was made.
+    /// Returns the dictionary and the index from which the store was made.
     pub fn into_parts(self) -> (Dict, Index)
         ensures dict { result.0 ≡ self.dict }
         ensures index { result.1 ≡ self.index }

@@ -31,7 +31,7 @@ use std::random::RandomSource;
 use std::sync::Wait;
 use std::thread::Threads;
 
-/// The rounds of a document, at the most. A round has at least 4 MiB or 2^20 lines, except the last one.
+/// The largest number of rounds of a document. A round has at least 4 MiB or 2^20 lines, except the last one.
 const MOST_ROUNDS: u64 = 1 << 40;
 
 /// Loads the rest of a reader, as `load_blocks` does after `read_blocks`. Only the blocks of two rounds are in
@@ -341,7 +341,7 @@ fn add_blocks<R: Threads + Wait, G: Gate + Sync, F: FnMut() -> T, T>(
 ///
 /// # Errors
 /// - `Read` if the reader fails.
-/// - `Memory` if the end does not come in 2^64 - 1 reads.
+/// - `Memory` if the reader has not ended after 2^64 - 1 reads.
 fn skip_rest<S: Source>(reader: &mut S) -> Result<(), ReadFault>
     ensures part { IsReadInPart (S.left reader.old) (S.left reader.new) }
     ensures at_end { OnOk result (IsAtEnd (S.left reader.new)) }

@@ -1,4 +1,4 @@
--- The places that insertions answer are the numbers that the terms have.
+-- The places that insertions return are the numbers that the terms have.
 use Rattle.std.proofs.Common.{◌≡◌, ℕ, List, [], ◌∷◌, ◌++◌, Some, slice_get, append_assoc, refl, sym, ap, ◌∙◌, subst}
 use Rattle.std.specs.List.{AllZip, position_or_len}
 use Rattle.indexmap.specs.IndexSet.{insert_key, insert_all}

@@ -15,7 +15,7 @@ pub struct KeyedHasher {
     key: u64,
 }
 
-/// Makes the hasher of each key, always with the same secret keys.
+/// Makes a hasher for each value, with the same two secret keys.
 #[derive(Clone, Copy)]
 pub struct HashState {
     initial: KeyedHasher,

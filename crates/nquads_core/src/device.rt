@@ -36,7 +36,7 @@ pub trait Source {
 /// What bytes are written to.
 ///
 /// A sink may expose three things to contracts: the bytes that it holds, how many of its calls
-/// failed, and what a call may answer and leave.
+/// failed, and what a call may return and leave.
 pub trait Sink {
     /// The bytes that were written, if they are exposed.
     ghost held: { Self → Option (List ℕ) };

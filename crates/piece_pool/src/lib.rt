@@ -8,8 +8,8 @@
 //!
 //! [`run_all_with`] does the same, and runs a task on the caller's thread while the workers run.
 //!
-//! [`run_pieces`] does the same as [`run_all`] but always starts a thread for each worker. It consists of two
-//! functions. Each worker calls [`work`] with a pass of a claim board (crate piece_board) and never
+//! [`run_pieces`] does the same as [`run_all`], but starts a thread also for one worker and for one piece. It
+//! consists of two functions. Each worker calls [`work`] with a pass of a claim board (crate piece_board) and never
 //! waits. [`gather`] combines what all workers return.
 //!
 //! Everything here is a choice of this project (not fixed by a standard).

@@ -3,8 +3,8 @@ ghost use Rattle.std.specs.Prelude.{◌≡◌};
 
 /// A task that the caller's thread runs once, while the workers run.
 ///
-/// The calls of threads say nothing of what a closure writes through a `&mut` that it captures. So
-/// the pool is passed a value of this trait, which returns what it wrote to.
+/// The contracts of the thread calls say nothing of what a closure writes through a `&mut` that it
+/// captures. So the pool is passed a value of this trait, which returns what it wrote to.
 pub(crate) trait Task {
     /// What the task returns.
     type Output;

@@ -240,6 +240,6 @@ index_names quads dict numbered index graphs h once named =
     (subst (λ l. IsPermutation (without_repeats term_eq l) (map (term_at dict) (without_repeats nat_eq (graph_names index)))) (sym (names_mapped dict index)) mapped)
     (IsPermutation-map (term_at dict) (without_repeats nat_eq (graph_names index)) graphs named)
 
--- two lists that each have the quads once are one list in two orders: what `Index::of_lists` asks
+-- two lists that each have the quads once are one list in two orders: what `Index::of_lists` requires
 pub same_once : {X : Type 0} (once left right : List X) → IsPermutation once left → IsPermutation once right → IsPermutation left right
 same_once once left right a b = IsPermutation-trans left once right (IsPermutation-sym once left a) b

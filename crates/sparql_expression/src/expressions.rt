@@ -59,6 +59,7 @@ pub fn read_disjunction<'t, 'a>(
     Ok((left, rest))
 }
 
+/// Reads a [112] ConditionalAndExpression.
 #[cycle(expression)]
 fn read_conjunction<'t, 'a>(
     alloc: Global,
@@ -78,6 +79,7 @@ fn read_conjunction<'t, 'a>(
     Ok((left, rest))
 }
 
+/// Reads a [114] RelationalExpression.
 #[cycle(expression)]
 fn read_relation<'t, 'a>(
     alloc: Global,
@@ -108,6 +110,7 @@ fn read_relation<'t, 'a>(
     Ok((Expression::Not(Box::new(alloc, inner)?), remaining))
 }
 
+/// Reads a [118] UnaryExpression.
 #[cycle(expression)]
 fn read_unary<'t, 'a>(
     alloc: Global,
@@ -153,6 +156,7 @@ pub fn is_call_next(tokens: &[Token]) -> bool
     }
 }
 
+/// Reads a [119] PrimaryExpression.
 #[cycle(expression)]
 fn read_primary<'t, 'a>(
     alloc: Global,

@@ -1,5 +1,5 @@
 -- The productions that a terminal can continue, and the terminals that a production may begin with.
--- The contracts of the readers in sparql_expression use `reach` and `next_level` (through `Reads`),
+-- The contracts of the readers in sparql_expression use `reach` and `next_level` (through `Parses`),
 -- `heads` and `is_call`. Only private clauses use the other definitions. The grammar itself does
 -- not look ahead.
 use Rattle.std.specs.Prelude.{ℕ, List, [], ◌∷◌, Bool, true, false}

@@ -2,8 +2,8 @@
 -- leaves out. The standard's production is above each right side, with its number and name. It
 -- lists only the alternatives that the reader has. [140] PNAME_NS, [139] IRIREF,
 -- [142] BLANK_NODE_LABEL, [145] LANGTAG, [146] INTEGER, [163] ANON, [130] NumericLiteral,
--- [134] BooleanLiteral, [135] String, [136] iri and [108] Var are terminals or classes of terminals
--- (Class.antt).
+-- [134] BooleanLiteral, [135] String, [136] iri, [137] PrefixedName and [108] Var are terminals or classes
+-- of terminals (Class.antt).
 use Rattle.std.specs.Prelude.{◌≡◌, ℕ, List, [], ◌∷◌, ◌++◌, Bool, true, false, Option, Some, None, length, ◌==◌, map}
 use Rattle.rdf_core.specs.Vocabulary.{xsd_string, rdf_lang_string, rdf_type}
 use Rattle.rdf_core.specs.declared.term.Term.{Term}
@@ -42,7 +42,8 @@ right_side the.disjunction = part the.conjunction (λ a. last (the.more_or a) (�
 right_side (the.more_or a) = choice
     (sign s.Or (part the.conjunction (λ b. last (the.more_or (x.either a b)) (λ e. e))))
     (give a)
--- [112] ConditionalAndExpression ::= RelationalExpression ('&&' RelationalExpression)*
+-- [112] ConditionalAndExpression ::= ValueLogical ('&&' ValueLogical)*
+-- [113] ValueLogical ::= RelationalExpression
 right_side the.conjunction = part the.relation (λ a. last (the.more_and a) (λ e. e))
 right_side (the.more_and a) = choice
     (sign s.And (part the.relation (λ b. last (the.more_and (x.both a b)) (λ e. e))))
@@ -93,7 +94,8 @@ right_side the.term = choice (take name (λ i. give (rdf.Iri i)))
 right_side (the.literal v) = choice (take language (λ l. give (tagged v l)))
     (choice (sign s.Carets (take name (λ i. give (plain v i))))
     (give (plain v xsd_string)))
--- [106] VarOrTerm ::= Var | BlankNode | iri | RDFLiteral | NumericLiteral | BooleanLiteral
+-- [106] VarOrTerm ::= Var | GraphTerm
+-- [109] GraphTerm ::= iri | RDFLiteral | NumericLiteral | BooleanLiteral | BlankNode
 -- [138] BlankNode ::= BLANK_NODE_LABEL | ANON
 -- An ANON is a label that occurs nowhere else. `;` and `,` repeat it as they repeat any subject.
 right_side the.pattern_term = choice (take variable (λ v. give (place.Variable v)))
@@ -105,7 +107,9 @@ right_side the.pattern_term = choice (take variable (λ v. give (place.Variable 
 right_side the.verb = choice (take variable (λ v. give (place.Variable v)))
     (choice (take name (λ i. give (place.Term (rdf.Iri i))))
     (word w.A (give (place.Term (rdf.Iri rdf_type)))))
--- [79] ObjectList ::= VarOrTerm (',' VarOrTerm)*
+-- [79] ObjectList ::= Object (',' Object)*
+-- [80] Object ::= GraphNode
+-- [104] GraphNode ::= VarOrTerm
 right_side (the.objects a b ts) = part the.pattern_term (λ c. last (the.more_objects a b (and_triple ts a b c)) (λ us. us))
 right_side (the.more_objects a b ts) = choice (sign s.Comma (last (the.objects a b ts) (λ us. us))) (give ts)
 -- [75] TriplesSameSubject ::= VarOrTerm PropertyListNotEmpty

@@ -132,7 +132,7 @@ fn read_pattern<'t, 'a>(
     read_pattern_group(alloc, names, distinct, selection, after)
 }
 
-/// Reads a query after WHERE.
+/// Reads a query after WHERE: its [53] GroupGraphPattern and its [18] SolutionModifier.
 fn read_pattern_group<'t, 'a>(
     alloc: Global,
     names: &Declarations,

@@ -145,7 +145,7 @@ fn read_objects<'t, 'a>(
     Ok(rest)
 }
 
-/// Reads one object, and appends its triple.
+/// Reads one [80] Object, and appends its triple.
 fn read_object<'t, 'a>(
     alloc: Global,
     names: &Declarations,
@@ -166,7 +166,7 @@ fn read_object<'t, 'a>(
     Ok(rest)
 }
 
-/// Reads a verb and its objects, and appends the triples of this subject.
+/// Reads the [78] Verb and [79] ObjectList of a [77] PropertyListNotEmpty, and appends the triples of this subject.
 fn read_property<'t, 'a>(
     alloc: Global,
     names: &Declarations,
