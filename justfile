@@ -40,7 +40,7 @@ pages:
     tests/pages.py --write
     tests/words.py
 
-# run every command and query that the pages show, with the built program
+# run the commands that README and docs show with their output, and the queries of docs/USAGE.md, with the built program
 tour program='crates/spq/out/spq':
     tests/tour.py {{program}}
     tests/usage.py {{program}}

@@ -2,21 +2,24 @@
 """Runs the commands that the documents show, and compares what is printed with what they show.
 
     tour.py [PROGRAM] [--only WORD] [--write]
+    tour.py --covered
 
-PROGRAM is the program (crates/spq/out/spq where none is given). The commands are those of the blocks
-that begin with ```console in README.md and docs: a line `$ COMMAND`, which lines `> REST` continue, and
-below it what it prints at a terminal, on standard output and on standard error. The commands of a page run in
-one shell, in a folder with the files of docs/tour and with the program on the PATH as `spq`. They need jq, gzip, xz, zstd, pv,
-GNU parallel and serdi. `--write` puts what was printed into the pages.
+PROGRAM is the program (crates/spq/out/spq where none is given). The commands are those of the blocks that begin with
+```console in the pages, which are all files *.md: a line `$ COMMAND`, which lines `> REST` continue, and below it what it
+prints at a terminal, on standard output and on standard error. The commands of a page run in one shell, in a folder with the
+files of docs/tour and with the program on the PATH as `spq`. They need jq, gzip, xz, zstd, pv, GNU parallel and serdi.
+`--write` puts what was printed into the pages.
 
 A block to paste begins with ```sh, and a block ```text right after it has what it prints. It runs in a shell of its own, in a
 folder that has docs/tour, with the program in ~/.local/bin.
+
+Each other block of commands has to be in NOT_RUN, with the reason why it is not run. `--covered` checks only this, and needs
+no program.
 
 The examples in the tables of docs/DIAGNOSTICS.md are run too: each line or query has to give the column and the
 reason that its row says. Python 3 standard library only.
 """
 import argparse
-import glob
 import os
 import re
 import shutil
@@ -29,6 +32,25 @@ import terminal
 HERE = os.path.dirname(os.path.abspath(__file__))
 ROOT = os.path.dirname(HERE)
 MARK = "-- next command --"
+# The blocks of commands that are not run: the page, a text that no other such block of the page has, and the reason.
+NOT_RUN = [
+    ("README.md", "./install ", "proves and builds the program"),
+    ("README.md", ".ci/run ", "the gate itself"),
+    ("bench/README.md", "apt-get install raptor2-utils", "installs packages"),
+    ("bench/README.md", "bench/compare.py --tables growth", "benchmarks"),
+    ("bench/README.md", "bench/compare.py --baseline", "benchmarks"),
+    ("bench/README.md", "bench/compare.py --oxigraph", "benchmarks"),
+    ("bench/README.md", "bench/queries.py --only join", "benchmarks"),
+    ("distributed/README.md", "spq-dask terms ", "the forms of the command line"),
+    ("distributed/README.md", "apt-get install python3-distributed", "installs packages; needs Dask"),
+    ("distributed/README.md", "dask-scheduler --host", "needs Dask and other machines"),
+    ("distributed/README.md", "spq-dask check --scheduler", "needs Dask and other machines"),
+    ("distributed/README.md", "distributed/tests/run [PROGRAM]", "the tests of spq-dask"),
+    ("docs/PARTS.md", "spq-dask terms --quiet", "distributed/tests/test_commands.py runs them; needs Dask"),
+    ("docs/RECIPES.md", "systemd-run --user", "needs systemd"),
+]
+# A block of commands and what it holds. It may be in a list.
+BLOCK = re.compile(r"^ *```(?:sh|bash|shell|console)\b[^\n]*\n(.*?)^ *```$", re.S | re.M)
 
 
 class Command:
@@ -62,6 +84,47 @@ def pasted(lines):
         command.shown = block[2].split("\n")
         found.append(command)
     return found
+
+
+def pages():
+    """Returns the paths of the pages. README.md comes first."""
+    found = []
+    for place, folders, files in os.walk(ROOT):
+        folders[:] = [folder for folder in folders if folder not in (".git", "out")]
+        found += [os.path.relpath(os.path.join(place, file), ROOT) for file in files if file.endswith(".md")]
+    return sorted(found, key=lambda page: (page != "README.md", page))
+
+
+def lines_of(page):
+    with open(os.path.join(ROOT, page)) as source:
+        return source.read().split("\n")
+
+
+def found_in(lines):
+    """Returns the commands and the blocks to paste of a page, in their order."""
+    return sorted(commands(lines) + pasted(lines), key=lambda command: command.head)
+
+
+def uncovered():
+    """Returns how many blocks of commands are neither run nor in NOT_RUN, and how many entries are not of one block. Prints them."""
+    total, left, blocks = 0, [], {entry: 0 for entry in NOT_RUN}
+    for page in pages():
+        lines = lines_of(page)
+        run_lines = {command.line for command in found_in(lines)}
+        text = "\n".join(lines)
+        for block in BLOCK.finditer(text):
+            total += 1
+            first, last = (text.count("\n", 0, place) + 1 for place in block.span(1))
+            if run_lines.intersection(range(first, last)):
+                continue
+            entries = [entry for entry in NOT_RUN if entry[0] == page and entry[1] in block[1]]
+            for entry in entries:
+                blocks[entry] += 1
+            if not entries:
+                left.append(f"{page}:{first}: is neither run nor in NOT_RUN: {lines[first - 1].strip()}")
+    left += [f"NOT_RUN: {entry[:2]} is in {count} blocks that are not run" for entry, count in blocks.items() if count != 1]
+    print("\n".join([*left, f"{total} blocks of commands: {len(NOT_RUN)} are in NOT_RUN, {len(left)} errors"]))
+    return len(left)
 
 
 def cell_text(cell):
@@ -143,16 +206,18 @@ def main():
     words.add_argument("program", nargs="?", default=os.path.join(ROOT, "crates", "spq", "out", "spq"))
     words.add_argument("--only", default="", help="the pages with this word in their path")
     words.add_argument("--write", action="store_true")
+    words.add_argument("--covered", action="store_true", help="check only that each block of commands is run or in NOT_RUN")
     given = words.parse_args()
+    failed = uncovered()
+    if given.covered:
+        sys.exit(1 if failed else 0)
     if not os.path.exists(given.program):
         sys.exit(f"no program at {given.program}: build it first (see README)")
     with open(os.path.join(ROOT, "docs", "DIAGNOSTICS.md")) as source:
-        failed = wrong_examples(source.read(), os.path.abspath(given.program))
-    for path in [os.path.join(ROOT, "README.md"), *sorted(glob.glob(os.path.join(ROOT, "docs", "*.md")))]:
-        page = os.path.relpath(path, ROOT)
-        with open(path) as source:
-            lines = source.read().split("\n")
-        found = sorted(commands(lines) + pasted(lines), key=lambda command: command.head) if given.only in page else []
+        failed += wrong_examples(source.read(), os.path.abspath(given.program))
+    for page in pages():
+        lines = lines_of(page)
+        found = found_in(lines) if given.only in page else []
         if not found:
             continue
         run(page, found, os.path.abspath(given.program))
@@ -162,7 +227,7 @@ def main():
         print(f"{page}: {len(found) - len(wrong)} of {len(found)} commands print what is shown")
         failed += len(wrong)
         if given.write:
-            with open(path, "w") as out:
+            with open(os.path.join(ROOT, page), "w") as out:
                 out.write("\n".join(written(lines, found)))
     sys.exit(1 if failed else 0)
 

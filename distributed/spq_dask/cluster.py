@@ -29,7 +29,7 @@ def connected(scheduler: Optional[str], processes: Optional[int]) -> Iterator[Cl
     Without an address the scheduler is the one that Dask's configuration names.
     Workers elsewhere get this package from here. Raises `Failed` if there is no scheduler at the address.
     """
-    for name in ("asyncio", "distributed", "tornado"):  # failures are told in one line
+    for name in ("asyncio", "distributed", "tornado"):  # failures are reported in one line
         logging.getLogger(name).setLevel(logging.CRITICAL + 1)
     warnings.filterwarnings("ignore", "Port .* is already in use", UserWarning)  # another port is taken then
     # Dask would look for the Python code that starts tasks, to show it in the dashboard. That takes 0.05 seconds.
@@ -106,7 +106,7 @@ class Run:
         return min(blocks, max(1, self.workers(), blocks // 8))
 
     def start(self, tasks: list[Delayed]) -> list[Delayed]:
-        """Starts tasks, and returns tasks that stand for their results, which stay on the workers."""
+        """Starts tasks, and returns the tasks, whose results stay on the workers."""
         return self.client.persist(tasks)
 
     def results(self, tasks: list[Delayed]) -> list[Any]:

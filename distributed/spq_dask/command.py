@@ -77,7 +77,7 @@ def parser() -> Parser:
     commands.add_parser("check", parents=[common], help="count the distinct quads, terms and graph names")
     commands.add_parser("terms", parents=[common], help="list the distinct terms")
     selecting = commands.add_parser(
-        "select", parents=[common], help="answer a query", formatter_class=argparse.RawDescriptionHelpFormatter
+        "select", parents=[common], help="evaluate a query", formatter_class=argparse.RawDescriptionHelpFormatter
     )
     selecting.conditions = True
     selecting.add_argument("--query", required=True, metavar="TEXT")

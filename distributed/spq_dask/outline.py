@@ -17,9 +17,9 @@ CONDITIONS = {
     "lines": "the query is one triple pattern, perhaps in GRAPH, with FILTER, BIND and VALUES, or a UNION of such groups; "
     "and no quad is in two blocks, unless the query has DISTINCT",
     "subject": "every triple pattern has the same variable as subject, and every group, also of UNION, OPTIONAL and MINUS, "
-    "begins with such a pattern or one GRAPH around it, apart from FILTER, BIND and VALUES",
+    "begins with a pattern of this kind or one GRAPH around it, apart from FILTER, BIND and VALUES",
     "graph": "every triple pattern is in a GRAPH with the same name, no GRAPH is in another, and every group outside of "
-    "GRAPH, also of UNION, OPTIONAL and MINUS, begins with such a GRAPH, apart from FILTER, BIND and VALUES",
+    "GRAPH, also of UNION, OPTIONAL and MINUS, begins with a GRAPH of this kind, apart from FILTER, BIND and VALUES",
     "graph with the default graph": "every GRAPH has the same name, no GRAPH is in another, the query has one and so has "
     "each side of a UNION with GRAPH, and an OPTIONAL or MINUS with GRAPH has one before it and one in its own group",
 }
@@ -128,7 +128,7 @@ def read(text: str) -> Outline:
 
 
 def is_row_by_row(group: Group, in_graph: bool = False) -> bool:
-    """Tells whether each row comes from one quad."""
+    """Returns whether each row comes from one quad."""
     if len(group) != 1:
         return False
     only = group[0]
@@ -140,25 +140,25 @@ def is_row_by_row(group: Group, in_graph: bool = False) -> bool:
 
 
 def is_keyed_by_subject(group: Group) -> bool:
-    """Tells whether each row of each group binds the one variable that is the subject of all triples."""
+    """Returns whether each row of each group binds the one variable that is the subject of all triples."""
     subjects = {element.subject for element in _elements(group) if isinstance(element, Triple)}
     return len(subjects) == 1 and min(subjects).startswith("?") and _begins_keyed(group, Triple)
 
 
 def is_keyed_by_graph(group: Group) -> bool:
-    """Tells whether each row of each group comes from one graph, and all have its name."""
+    """Returns whether each row of each group comes from one graph, and all have its name."""
     return _has_one_graph_name(group) and _begins_keyed(group, Graph)
 
 
 def is_keyed_beside_default(group: Group) -> bool:
-    """Tells whether each row of each group with GRAPH comes from one graph and the default graph."""
+    """Returns whether each row of each group with GRAPH comes from one graph and the default graph."""
     return _has_one_graph_name(group) and _is_keyed_beside(group)
 
 
 def _begins_keyed(group: Group, key: type[Element], in_graph: bool = False) -> bool:
-    """Tells whether a group and the groups in it begin with an element of this type.
+    """Returns whether a group and the groups in it begin with an element of this type.
 
-    If that is a triple, one GRAPH may be around it. A GRAPH around another asks for all names of graphs.
+    If that is a triple, one GRAPH may be around it. A GRAPH around another requires all names of graphs.
     """
 
     def is_keyed(element: Element) -> bool:
@@ -174,7 +174,7 @@ def _begins_keyed(group: Group, key: type[Element], in_graph: bool = False) -> b
 
 
 def _is_keyed_beside(group: Group) -> bool:
-    """Tells whether a group has a GRAPH, and has it before any OPTIONAL or MINUS with GRAPH."""
+    """Returns whether a group has a GRAPH, and has it before any OPTIONAL or MINUS with GRAPH."""
     found = False
     for element in group:
         if not any(isinstance(inner, Graph) for inner in _elements([element])):

@@ -23,7 +23,7 @@ PIECE = 1 << 18  # the least size of a block that a thread of `spq` reads; best 
 
 
 class Failed(Exception):
-    """A run without a result: its status, its first line, and what else to tell the user."""
+    """A run without a result: its status, its first line, and a message for the user."""
 
     def __init__(self, status: int, line: str, reason: str = "") -> None:
         super().__init__(status, line, reason)
@@ -55,7 +55,7 @@ class Spq:
             return self.told(status, output)
 
     def run_into(self, output: io.FileIO, words: list[str], source: io.FileIO) -> int:
-        """Runs a command over a file in memory, with such a file as its standard output. Returns the status, also of a kill.
+        """Runs a command whose standard input and output are files in memory. Returns the status, also of a kill.
 
         Raises `Failed` as `run`.
         """
@@ -89,7 +89,7 @@ class Spq:
             raise Failed(status, output.decode().strip())
 
     def write_outputs(self, output: io.FileIO, words: list[str], text: Text, file: io.FileIO) -> None:
-        """Does what `outputs` does, for a text that is in a file in memory, too, and writes the outputs to such a file."""
+        """Does what `outputs` does, for a text that is also in a file in memory, and writes the outputs to a file in memory."""
         status = self.run_into(output, words, file)
         if status:
             first = self.told(status, output)

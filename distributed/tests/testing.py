@@ -92,7 +92,7 @@ def file(text: bytes, name: str = "document.nq") -> str:
 
 
 def script(text: str) -> str:
-    """Writes a shell script that stands in for `spq`, and returns its path."""
+    """Writes a shell script that replaces `spq`, and returns its path."""
     path = file(f"#!/bin/sh\nSPQ={SPQ}\n{text}\n".encode(), "stand-in")
     os.chmod(path, 0o755)
     return path
@@ -105,7 +105,7 @@ def spq(words: Sequence[str], text: bytes) -> tuple[int, bytes]:
 
 
 def spq_dask(words: Sequence[str], *files: str, program: Optional[str] = None) -> tuple[int, bytes, str]:
-    """Runs spq-dask in this process, with the client. Returns its status, its output, and what it tells the user."""
+    """Runs spq-dask in this process, with the client. Returns its status, its output, and what it prints for the user."""
     out, told = io.BytesIO(), io.StringIO()
     with contextlib.redirect_stderr(told):
         status = run_words([words[0], "--quiet", "--spq", program or SPQ, *words[1:], *files], out, CLIENT)
