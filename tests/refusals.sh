@@ -35,7 +35,7 @@ refuse_each() {
             return 1
         fi
         if ! grep -qx refused "$room/told"; then
-            if grep -q 'was refused' "$room/said"; then
+            if grep -qE '(memory|a worker) failed' "$room/said"; then
                 printf '%s: a failure is reported, but no call failed\n' "$2"
                 return 1
             fi
@@ -47,10 +47,10 @@ refuse_each() {
             fi
             return 0
         fi
-        if [ "$3" = GROWTH ] && grep -qx 'a worker was refused' "$room/said"; then
+        if [ "$3" = GROWTH ] && grep -qx 'a worker failed' "$room/said"; then
             inside=$((inside + 1))
         fi
-        if [ "$3" = START ] && ! grep -qx 'a worker was refused' "$room/said"; then
+        if [ "$3" = START ] && ! grep -qx 'a worker failed' "$room/said"; then
             printf '%s: the failed start %s is not reported\n' "$2" "$n"
             return 1
         fi

@@ -104,14 +104,43 @@ fn merged(
     Ok(row)
 }
 
-/// Returns whether the merge of two rows is this row.
-fn is_merged(alloc: Global, a: &[Option<u64>], b: &[Option<u64>], expected: &[Option<u64>]) -> bool
+/// Checks whether two rows are compatible. Prints the rows and both results if they differ.
+fn check_compatible<R: Abort>(rt: &R, a: &[Option<u64>], b: &[Option<u64>], expected: bool)
     requires same_width { length a.now ≡ length b.now }
 {
-    match merged(alloc, a, b) {
-        Ok(row) => row.as_slice() == expected,
-        Err(_) => false,
-    }
+    let found = is_compatible(a, b);
+    assert!(rt;
+        found == expected,
+        "are {a:?} and {b:?} compatible: expected {expected}, found {found}"
+    );
+}
+
+/// Checks whether two rows share a variable. Prints the rows and both results if they differ.
+fn check_shares<R: Abort>(rt: &R, a: &[Option<u64>], b: &[Option<u64>], expected: bool)
+    requires same_width { length a.now ≡ length b.now }
+{
+    let found = shares(a, b);
+    assert!(rt;
+        found == expected,
+        "do {a:?} and {b:?} share: expected {expected}, found {found}"
+    );
+}
+
+/// Checks the merge of two rows. Prints the rows, and both merges if they differ.
+fn check_merged<R: Abort>(
+    rt: &R,
+    alloc: Global,
+    a: &[Option<u64>],
+    b: &[Option<u64>],
+    expected: &[Option<u64>],
+)
+    requires same_width { length a.now ≡ length b.now }
+{
+    let found = merged(alloc, a, b).expect(rt, "a merge");
+    assert!(rt;
+        found.as_slice() == expected,
+        "{a:?} and {b:?}: expected {expected:?}, found {found:?}"
+    );
 }
 
 #[test]
@@ -119,7 +148,9 @@ fn two_rows_agree_share_and_merge(rt: HostRuntime) {
     let a = [Some(1), None, Some(3)];
     let b = [Some(1), Some(2), None];
     let c = [Some(2), None, None];
-    assert!(rt; is_compatible(&a, &b) && !is_compatible(&a, &c));
-    assert!(rt; shares(&a, &b) && !shares(&[None, Some(1)], &[Some(1), None]));
-    assert!(rt; is_merged(rt.alloc(), &a, &b, &[Some(1), Some(2), Some(3)]));
+    check_compatible(&rt, &a, &b, true);
+    check_compatible(&rt, &a, &c, false);
+    check_shares(&rt, &a, &b, true);
+    check_shares(&rt, &[None, Some(1)], &[Some(1), None], false);
+    check_merged(&rt, rt.alloc(), &a, &b, &[Some(1), Some(2), Some(3)]);
 }

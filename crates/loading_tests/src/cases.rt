@@ -78,6 +78,14 @@ pub(crate) fn same<R: Abort>(rt: &R, case: &str, expected: &str, found: &str) {
     );
 }
 
+/// Checks that the bytes are equal. Prints the case and both as text if they are not.
+pub(crate) fn same_bytes<R: Abort>(rt: &R, case: &str, expected: &[u8], found: &[u8]) {
+    let is_same = found == expected;
+    let expected = str::from_utf8(expected).unwrap_or("?");
+    let found = str::from_utf8(found).unwrap_or("?");
+    assert!(rt; is_same, "{case}: expected {expected}, found {found}");
+}
+
 /// Checks that the two numbers are equal. Prints the case and both if they are not.
 pub(crate) fn equal<R: Abort>(rt: &R, case: &str, expected: u64, found: u64) {
     assert!(rt;

@@ -1,7 +1,7 @@
 //! Documents by example: what is loaded of each, with any cuts and any number of workers.
 ghost use Rattle.std.specs.Prelude.{◌≤◌};
 
-use crate::cases::gives_by;
+use crate::cases::{gives, gives_by};
 use dataset_load::{LoadFault, Store, load, load_blocks, read_blocks};
 use nquads_core::{Device, ReadFault};
 use piece_cuts::Cuts;
@@ -170,15 +170,21 @@ fn blocks_load_as_the_document(rt: HostRuntime) {
     check_blocks(&rt, rt.alloc());
 }
 
-/// Returns whether the store of the two graphs has its terms, quads and graphs, also in its parts.
-fn has_parts(store: Store) -> bool {
-    let is_whole = store.dict().len() == 7 && store.index().quads() == 3;
+/// Prints the numbers of terms and quads of a store, and the numbers of terms and graphs of its parts.
+fn shown_parts(alloc: Global, store: Store) -> Result<String, AllocError> {
+    let terms = store.dict().len();
+    let quads = store.index().quads();
     let (dict, index) = store.into_parts();
-    is_whole && dict.len() == 7 && index.graphs().len() == 2
+    format!(in alloc;
+        "{terms} terms, {quads} quads; {} terms, {} graphs",
+        dict.len(),
+        index.graphs().len()
+    )
 }
 
 #[test]
 fn a_store_exposes_its_parts(rt: HostRuntime) {
     let store = loaded(&rt, rt.alloc(), GRAPHS, 1, 2, &OpenGate).expect(&rt, "a store");
-    assert!(rt; has_parts(store));
+    let expected = "7 terms, 3 quads; 7 terms, 2 graphs";
+    gives(&rt, "two graphs", expected, shown_parts(rt.alloc(), store));
 }

@@ -54,6 +54,15 @@ pub(crate) fn built(alloc: Global) -> Result<Index, AllocError> {
     Index::build(alloc, Vec::from_slice(alloc, &QUADS)?)
 }
 
+/// Checks that the only graph name of the index is 5.
+pub(crate) fn check_graphs<R: Abort>(rt: &R, name: &str, index: &Index) {
+    let found = index.graphs();
+    assert!(rt;
+        found == [5].as_slice(),
+        "{name}, graphs: expected [5], found {found:?}"
+    );
+}
+
 /// Checks that the index has three quads, one graph name, and one quad with predicate 1 and object 3.
 fn check_counts<R: Abort>(rt: &R, name: &str, index: Result<Index, AllocError>) {
     let index = index.expect(rt, name);
@@ -64,7 +73,7 @@ fn check_counts<R: Abort>(rt: &R, name: &str, index: Result<Index, AllocError>) 
         1,
         index.scan(None, None, Some(1), Some(3)).len() as u64,
     );
-    assert!(rt; index.graphs() == [5].as_slice(), "{name}: graphs");
+    check_graphs(rt, name, &index);
 }
 
 /// A repeated statement counts once, and a graph has a name if a quad names it.
@@ -108,7 +117,7 @@ fn quads_are_counted_once(rt: HostRuntime) {
     check_counted(&rt, rt.alloc(), "not packed", &quads, expected);
 }
 
-/// Checks that the packed list of the quads gives these quads back, or that there is none if these are none.
+/// Checks that the packed list of the quads returns `expected`. If there is no packed list, `expected` must be empty.
 fn check_packed<R: Abort>(
     rt: &R,
     alloc: Global,
@@ -119,9 +128,15 @@ fn check_packed<R: Abort>(
     match PackedList::of(alloc, quads, order).expect(rt, "a packed list") {
         Some(list) => {
             let found = list.into_quads(alloc).expect(rt, "quads");
-            assert!(rt; found.as_slice() == expected, "a packed list");
+            assert!(rt;
+                found.as_slice() == expected,
+                "{quads:?} in {order:?}: expected {expected:?}, found {found:?}"
+            );
         }
-        None => assert!(rt; expected.is_empty(), "no packed list"),
+        None => assert!(rt;
+            expected.is_empty(),
+            "{quads:?} in {order:?}: expected {expected:?}, found no packed list"
+        ),
     }
 }
 
@@ -167,17 +182,28 @@ fn check_scans<R: Abort>(rt: &R, index: &Index) {
     }
 }
 
-/// Returns whether each of two scans gives its quad.
-fn are_given(index: &Index) -> bool {
-    index.scan(None, None, None, Some(3)) == [quad(None, 0, 1, 3)].as_slice()
-        && index.scan(Some(5), Some(0), None, None) == [quad(Some(5), 0, 1, 2)].as_slice()
+/// A scan, given by graph, subject, predicate and object, and the only quad that it returns.
+pub(crate) type QuadScan = ([Option<u64>; 4], NumQuad);
+
+/// Checks that a scan returns its quad.
+pub(crate) fn check_scan<R: Abort>(rt: &R, name: &str, index: &Index, scan: QuadScan) {
+    let (given, expected) = scan;
+    let [g, s, p, o] = given;
+    let found = index.scan(g, s, p, o);
+    assert!(rt;
+        found == [expected].as_slice(),
+        "{name}, scan of {given:?}: expected {expected:?}, found {found:?}"
+    );
 }
 
 #[test]
 fn scans_give_what_agrees(rt: HostRuntime) {
     let index = built(rt.alloc()).expect(&rt, "an index");
     check_scans(&rt, &index);
-    assert!(rt; are_given(&index), "the quads of two scans");
+    let by_object = ([None, None, None, Some(3)], quad(None, 0, 1, 3));
+    check_scan(&rt, "built", &index, by_object);
+    let by_subject = ([Some(5), Some(0), None, None], quad(Some(5), 0, 1, 2));
+    check_scan(&rt, "built", &index, by_subject);
 }
 
 /// Checks that the sorted list of the quads is this one.
@@ -189,7 +215,10 @@ fn check_sorted<R: Abort>(
     expected: &[NumQuad],
 ) {
     let list = sorted_list(alloc, quads, order).expect(rt, "a list");
-    assert!(rt; list.as_slice() == expected, "{order:?}: found {list:?}");
+    assert!(rt;
+        list.as_slice() == expected,
+        "{order:?}: expected {expected:?}, found {list:?}"
+    );
 }
 
 /// Each order alone: no graph comes first, then the positions of the name.

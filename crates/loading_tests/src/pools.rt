@@ -19,7 +19,7 @@ use std::thread::Threads;
 use test_fixtures::{Counter, Meeting, Numbers};
 
 /// Returns the number of results if result `i` is `i` for each of them, and otherwise the largest number.
-fn in_place(outcome: &Outcome<u64, u64>) -> u64 {
+pub(crate) fn in_place(outcome: &Outcome<u64, u64>) -> u64 {
     let Outcome::All(outs) = outcome else {
         return u64::MAX;
     };
@@ -32,7 +32,7 @@ fn in_place(outcome: &Outcome<u64, u64>) -> u64 {
 }
 
 /// Returns the number of the faulty piece if that is its fault too, and otherwise the largest number.
-fn faulty(outcome: &Outcome<u64, u64>) -> u64 {
+pub(crate) fn faulty(outcome: &Outcome<u64, u64>) -> u64 {
     match outcome {
         Outcome::First { piece, fault } if *piece == *fault => *piece,
         _ => u64::MAX,
@@ -101,7 +101,10 @@ fn the_least_fault_is_named(rt: HostRuntime) {
 #[test]
 fn pieces_above_a_fault_are_skipped(rt: HostRuntime) {
     let found = entered_until(&rt, rt.alloc(), 1, 16, 0);
-    assert!(rt; found == (1, 0), "other pieces were run");
+    assert!(rt;
+        found == (1, 0),
+        "pieces that were run, and their sum: expected (1, 0), found {found:?}"
+    );
 }
 
 /// Two pieces that wait for each other meet, so two threads run them at the same time. With a
@@ -303,8 +306,11 @@ impl Job for Starved {
 /// If a job is out of memory, the pool returns an error and no faulty piece.
 #[test]
 fn a_job_without_memory(rt: HostRuntime) {
-    let outcome = run_pieces(&rt, rt.alloc(), 2, 5, &Starved, &OpenGate);
-    assert!(rt; matches!(outcome, Err(PoolFault::Memory)));
+    let fault = run_pieces(&rt, rt.alloc(), 2, 5, &Starved, &OpenGate).err();
+    assert!(rt;
+        fault == Some(PoolFault::Memory),
+        "5 pieces with 2 workers: expected Some(Memory), found {fault:?}"
+    );
 }
 
 /// A job that returns for each piece a word of a borrowed list.
@@ -331,14 +337,17 @@ impl<'a> Job for Words<'a> {
     ghost exclusive = { λ _ _ _ _ _ f. f };
 }
 
-/// Returns whether the results are these words.
-fn are_words(
-    outcome: &Result<Outcome<Option<u64>, u64>, PoolFault>,
-    words: &[Option<u64>],
-) -> bool {
+/// Checks that the results are these words. Prints both if they are not.
+fn check_words<R: Abort>(rt: &R, outcome: &Outcome<Option<u64>, u64>, expected: &[Option<u64>]) {
     match outcome {
-        Ok(Outcome::All(outs)) => outs.as_slice() == words,
-        _ => false,
+        Outcome::All(found) => assert!(rt;
+            found.as_slice() == expected,
+            "words: expected {expected:?}, found {found:?}"
+        ),
+        Outcome::First { piece, .. } => assert!(rt;
+            false,
+            "words: expected {expected:?}, found a fault of piece {piece}"
+        ),
     }
 }
 
@@ -347,6 +356,6 @@ fn are_words(
 fn a_job_that_borrows(rt: HostRuntime) {
     let words = [7u64, 8, 9];
     let job = Words { words: &words };
-    let outcome = run_pieces(&rt, rt.alloc(), 2, 4, &job, &OpenGate);
-    assert!(rt; are_words(&outcome, &[Some(7), Some(8), Some(9), None]));
+    let outcome = run_pieces(&rt, rt.alloc(), 2, 4, &job, &OpenGate).expect(&rt, "a run");
+    check_words(&rt, &outcome, &[Some(7), Some(8), Some(9), None]);
 }

@@ -22,7 +22,7 @@ fn noted(alloc: Global, notes: &LoadNotes) -> Result<String, AllocError> {
 }
 
 /// What is called with a reader.
-#[derive(Clone, Copy)]
+#[derive(Clone, Copy, Debug)]
 pub(crate) enum Call {
     Load,
     Count,

@@ -8,7 +8,7 @@ use std::cmp::Ordering;
 use std::process::Abort;
 
 /// The parts of a term.
-#[derive(Clone, Copy)]
+#[derive(Clone, Copy, Debug)]
 enum Parts {
     Blank(&'static str),
     Iri(&'static str),
@@ -41,22 +41,34 @@ fn term(alloc: Global, parts: Parts) -> Term {
 fn check_text<R: Abort>(rt: &R, alloc: Global, characters: &str) {
     let made = text(alloc, characters);
     let copied = made.copy(alloc).expect(rt, "a copy");
-    assert!(rt; made == copied, "the copy of {characters}");
+    assert!(rt;
+        made == copied,
+        "a copy: expected {characters}, found {copied}"
+    );
     gives(rt, "printed", characters, format!(in alloc; "{made}"));
     same(rt, "given back", characters, copied.into_string().as_str());
 }
 
-/// Returns whether the first text is less than the second one.
-fn is_less(alloc: Global, first: &str, second: &str) -> bool {
+/// Compares two texts by `cmp` and by `partial_cmp`.
+fn text_orders(alloc: Global, first: &str, second: &str) -> (Ordering, Option<Ordering>) {
     let first = text(alloc, first);
     let second = text(alloc, second);
-    first.cmp(&second) == Ordering::Less && first.partial_cmp(&second) == Some(Ordering::Less)
+    (first.cmp(&second), first.partial_cmp(&second))
+}
+
+/// Checks that the first text is less than the second one. Prints both and their order if it is not.
+fn check_less<R: Abort>(rt: &R, alloc: Global, first: &str, second: &str) {
+    let found = text_orders(alloc, first, second);
+    assert!(rt;
+        found == (Ordering::Less, Some(Ordering::Less)),
+        "{first} and {second}: expected (Less, Some(Less)), found {found:?}"
+    );
 }
 
 #[test]
 fn texts_are_made_and_given_back(rt: HostRuntime) {
     check_text(&rt, rt.alloc(), "b\u{e9}");
-    assert!(rt; is_less(rt.alloc(), "b\u{e9}", "c"));
+    check_less(&rt, rt.alloc(), "b\u{e9}", "c");
 }
 
 /// Terms and their N-Quads forms.
@@ -123,19 +135,25 @@ fn order(alloc: Global, first: Parts, second: Parts) -> Ordering {
 /// Checks that each of these terms is less than the next one.
 fn check_order<R: Abort>(rt: &R, alloc: Global, terms: &[Parts]) {
     for i in 1..terms.len() {
-        let found = order(alloc, terms[i - 1], terms[i]);
-        assert!(rt; found == Ordering::Less, "terms {i} - 1 and {i}");
+        let (first, second) = (terms[i - 1], terms[i]);
+        let found = order(alloc, first, second);
+        assert!(rt;
+            found == Ordering::Less,
+            "{first:?} and {second:?}: expected Less, found {found:?}"
+        );
     }
 }
 
-/// Returns whether a copy of the first term is equal to it, and the second one is not.
-fn is_same_only_as_copy(alloc: Global, first: Parts, second: Parts) -> bool {
+/// Checks that a copy of the first term is equal to it, and the second one is not.
+fn check_copy<R: Abort>(rt: &R, alloc: Global, first: Parts, second: Parts) {
     let first = term(alloc, first);
     let second = term(alloc, second);
-    match first.copy(alloc) {
-        Ok(copy) => copy == first && first != second,
-        Err(_) => false,
-    }
+    let copy = first.copy(alloc).expect(rt, "a copy");
+    assert!(rt; copy == first, "a copy: expected {first:?}, found {copy:?}");
+    assert!(rt;
+        first != second,
+        "expected another term than {first:?}, found {second:?}"
+    );
 }
 
 /// A literal without a language tag.
@@ -149,7 +167,7 @@ fn terms_are_ordered(rt: HostRuntime) {
     check_order(&rt, rt.alloc(), TERMS);
     check_order(&rt, rt.alloc(), LITERALS);
     let tagged = Parts::Literal("x", RDF_LANG_STRING, Some("en"));
-    assert!(rt; is_same_only_as_copy(rt.alloc(), X, tagged));
+    check_copy(&rt, rt.alloc(), X, tagged);
 }
 
 /// Makes a quad with the predicate `A`, if the terms may be in these positions.
@@ -157,12 +175,13 @@ fn quad(alloc: Global, s: Parts, o: Parts, g: Option<Term>) -> Option<Quad> {
     Quad::of(term(alloc, s), term(alloc, A), term(alloc, o), g)
 }
 
-/// Returns whether the quad is equal to its copy.
-fn is_its_copy(alloc: Global, quad: &Quad) -> bool {
-    match quad.copy(alloc) {
-        Ok(copy) => copy == *quad,
-        Err(_) => false,
-    }
+/// Checks that a copy of the quad is equal to it.
+fn check_quad_copy<R: Abort>(rt: &R, alloc: Global, quad: &Quad) {
+    let copy = quad.copy(alloc).expect(rt, "a copy of a quad");
+    assert!(rt;
+        copy == *quad,
+        "a copy of a quad: expected {quad:?}, found {copy:?}"
+    );
 }
 
 /// Returns whether a term is a node, and whether it is an IRI.
@@ -171,16 +190,29 @@ fn kinds(alloc: Global, parts: Parts) -> (bool, bool) {
     (is_node(&term), is_iri(&term))
 }
 
+/// Checks whether a term is a node, and whether it is an IRI.
+fn check_kinds<R: Abort>(rt: &R, alloc: Global, parts: Parts, expected: (bool, bool)) {
+    let found = kinds(alloc, parts);
+    assert!(rt;
+        found == expected,
+        "{parts:?} as a node and as an IRI: expected {expected:?}, found {found:?}"
+    );
+}
+
 /// Checks that a literal may be the object of a quad, and not the subject.
 fn check_quads<R: Abort>(rt: &R, alloc: Global) {
-    assert!(rt; quad(alloc, X, A, None).is_none(), "a literal as subject");
+    let none = quad(alloc, X, A, None);
+    assert!(rt;
+        none.is_none(),
+        "a literal as subject: expected None, found {none:?}"
+    );
     let quad = quad(alloc, A, X, Some(term(alloc, A))).expect(rt, "a literal as object");
-    assert!(rt; is_its_copy(alloc, &quad), "a copy of a quad");
+    check_quad_copy(rt, alloc, &quad);
 }
 
 #[test]
 fn quads_have_terms_that_may_be_there(rt: HostRuntime) {
-    assert!(rt; kinds(rt.alloc(), A) == (true, true), "an IRI");
-    assert!(rt; kinds(rt.alloc(), X) == (false, false), "a literal");
+    check_kinds(&rt, rt.alloc(), A, (true, true));
+    check_kinds(&rt, rt.alloc(), X, (false, false));
     check_quads(&rt, rt.alloc());
 }

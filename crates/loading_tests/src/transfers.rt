@@ -1,6 +1,6 @@
 //! Transfers over devices in memory that transfer few bytes with each call and fail at a given
 //! byte.
-use crate::cases::{equal, gives};
+use crate::cases::{equal, gives, same_bytes};
 use nquads_core::{Device, ReadFault, Source, read_more, read_to_end, write_all};
 use std::alloc::{AllocError, AllocGlobal, Global};
 use std::process::Abort;
@@ -9,7 +9,7 @@ use test_fixtures::{SliceSource, VecSink};
 /// Checks that all bytes of a reader are these.
 fn check_all<R: Abort, S: Source>(rt: &R, alloc: Global, reader: &mut S, expected: &[u8]) {
     let bytes = read_to_end(alloc, reader).expect(rt, "a reader");
-    assert!(rt; bytes.as_slice() == expected, "all bytes in order");
+    same_bytes(rt, "all bytes in order", expected, bytes.as_slice());
 }
 
 #[test]
@@ -44,44 +44,43 @@ fn a_reader_that_fails_differs_from_the_end(rt: HostRuntime) {
     let fault = read_to_end(rt.alloc(), &mut reader).err();
     assert!(rt;
         fault == Some(ReadFault::Read),
-        "four bytes were there, and then a failure"
+        "a failure after four bytes: expected Some(Read), found {fault:?}"
     );
     equal(&rt, "calls that failed", 1, reader.failed);
 }
 
+/// Checks whether the writer takes this text.
+fn check_write<R: Abort>(rt: &R, writer: &mut VecSink, text: &str, expected: bool) {
+    let found = write_all(writer, text.as_bytes()).is_ok();
+    assert!(rt;
+        found == expected,
+        "is {text} written: expected {expected}, found {found}"
+    );
+}
+
+/// The writer takes five bytes. An empty text needs no write, and one byte more fails.
 #[test]
 fn writes_a_byte_a_call_up_to_the_failure(rt: HostRuntime) {
     let mut writer = VecSink::failing_after(rt.alloc(), 1, 5);
-    assert!(rt;
-        write_all(&mut writer, b"abcde").is_ok(),
-        "as many bytes as it takes"
-    );
-    assert!(rt;
-        write_all(&mut writer, b"").is_ok(),
-        "an empty text needs no write"
-    );
-    assert!(rt;
-        write_all(&mut writer, b"f").is_err(),
-        "one byte more fails"
-    );
-    assert!(rt;
-        writer.bytes.as_slice() == b"abcde".as_slice(),
-        "what was written before stays"
-    );
+    check_write(&rt, &mut writer, "abcde", true);
+    check_write(&rt, &mut writer, "", true);
+    check_write(&rt, &mut writer, "f", false);
+    same_bytes(&rt, "all writes", b"abcde", writer.bytes.as_slice());
     equal(&rt, "calls that failed", 1, writer.failed);
 }
 
-/// Returns whether a vector takes the bytes, and then holds them.
-fn is_taken(alloc: Global, bytes: &[u8]) -> bool {
+/// Checks that a vector takes the bytes, and then holds them.
+fn check_taken<R: Abort>(rt: &R, alloc: Global, bytes: &[u8]) {
     let mut writer = Device {
         inner: Vec::new(alloc),
     };
-    write_all(&mut writer, bytes).is_ok() && writer.inner.as_slice() == bytes
+    write_all(&mut writer, bytes).expect(rt, "a write to a vector");
+    same_bytes(rt, "a vector", bytes, writer.inner.as_slice());
 }
 
 #[test]
 fn devices_of_std_give_and_take_the_same_bytes(rt: HostRuntime) {
     let text = b"abc".as_slice();
     check_all(&rt, rt.alloc(), &mut Device { inner: text }, text);
-    assert!(rt; is_taken(rt.alloc(), text));
+    check_taken(&rt, rt.alloc(), text);
 }

@@ -4,7 +4,7 @@ use crate::tests::words::words_of;
 use spq_command::{Command, read_command};
 use std::alloc::{AllocError, Global};
 
-/// Prints the command of these arguments, or the reason why they are none.
+/// Prints the command of these arguments, or why they are not a command line.
 fn told_words(alloc: Global, words: &[String]) -> Result<String, AllocError> {
     match read_command(alloc, words) {
         Ok(command) => command_text(alloc, &command),

@@ -27,7 +27,7 @@ fn refused<R: Print>(rt: &R, fault: Fault, wanted: Result<&[u8], Fault>) -> Opti
         Fault::WorkerRefused => "a worker",
         _ => return Some(wanted == Err(fault)),
     };
-    let _ = println!(rt; "{what} was refused");
+    let _ = println!(rt; "{what} failed");
     None
 }
 
@@ -178,7 +178,7 @@ fn holds<R: Print>(rt: &R, fact: &str, is_true: bool) -> bool {
 /// A failed attempt must leave these bytes alone.
 fn has_letters<R: Print>(rt: &R, term: &Term, out: &mut Vec<u8>) -> bool {
     if write_term(term, out).is_err() {
-        let _ = println!(rt; "memory was refused");
+        let _ = println!(rt; "memory failed");
         if !holds(rt, "what was there before", out.as_slice() == &WRITTEN[..2])
             || !holds(rt, "a second try", write_term(term, out).is_ok())
         {

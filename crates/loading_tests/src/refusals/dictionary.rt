@@ -23,21 +23,19 @@ fn is_named(term: &Term, name: &str) -> bool {
     }
 }
 
-/// Returns whether the dictionary has exactly these IRIs, in this order, by each of its look-ups.
-fn has(dict: &Dict, names: &[&str]) -> bool {
-    if dict.len() != names.len() {
-        return false;
-    }
+/// Checks that the dictionary has exactly these IRIs, in this order, by each of its look-ups.
+fn check_terms<R: Abort>(rt: &R, case: &str, dict: &Dict, names: &[&str]) {
+    equal(rt, case, names.len() as u64, dict.len() as u64);
     for n in 0..names.len() {
-        if n >= dict.len() {
-            return false;
-        }
+        assert!(rt; n < dict.len(), "{case}: no term {n}");
+        let name = names[n];
         let term = dict.term(n as u64);
-        if !is_named(term, names[n]) || dict.number_of(term) != Some(n as u64) {
-            return false;
-        }
+        let number = dict.number_of(term);
+        assert!(rt;
+            is_named(term, name) && number == Some(n as u64),
+            "{case}: expected {name} with number {n}, found {term:?} with number {number:?}"
+        );
     }
-    true
 }
 
 /// Adds an IRI, at the second try if the first one fails, and returns its number. Checks that the first one returns the
@@ -53,9 +51,10 @@ fn intern_twice<R: Abort>(
         Ok(number) => number,
         Err(back) => {
             assert!(rt;
-                is_named(&back, name) && has(dict, earlier),
-                "{name}: an error"
+                is_named(&back, name),
+                "an error: expected {name}, found {back:?}"
             );
+            check_terms(rt, "terms after an error", dict, earlier);
             dict.intern(back).expect(rt, "a second try")
         }
     }
@@ -70,7 +69,7 @@ fn check_interned<R: Abort>(rt: &R, alloc: Global, dict: &mut Dict, names: &[&st
         let number = intern_twice(rt, dict, &names[..n], names[n], term);
         equal(rt, names[n], n as u64, number);
     }
-    assert!(rt; has(dict, names), "other terms");
+    check_terms(rt, "terms", dict, names);
 }
 
 /// On error `intern` returns the term, and the dictionary is unchanged.
@@ -91,7 +90,7 @@ const OTHER: [&str; 5] = [B, C, G, P, Q];
 
 /// Checks that an error leaves the dictionary unchanged, and absorbs an equal one.
 fn absorb_again<R: Abort>(rt: &R, alloc: Global, state: RandomState, dict: &mut Dict) -> Vec<u64> {
-    assert!(rt; has(dict, &[A, B]), "an error changes the dictionary");
+    check_terms(rt, "terms after an error", dict, &[A, B]);
     let again = dict_of(alloc, state, &OTHER).expect(rt, "a second try");
     dict.absorb(again).expect(rt, "a second try")
 }
@@ -111,9 +110,9 @@ fn check_absorbed<R: Abort>(
     };
     assert!(rt;
         numbers.as_slice() == [1, 2, 3, 4, 5].as_slice(),
-        "other numbers"
+        "numbers: expected [1, 2, 3, 4, 5], found {numbers:?}"
     );
-    assert!(rt; has(dict, &[A, B, C, G, P, Q]), "other terms");
+    check_terms(rt, "terms", dict, &[A, B, C, G, P, Q]);
 }
 
 /// On error `absorb` leaves the dictionary unchanged, for any new terms of the other one.
@@ -133,7 +132,10 @@ fn a_failed_absorption_changes_nothing(rt: HostRuntime) {
 
 /// Checks that the quads are these, and that the dictionary has six terms.
 fn check_quads<R: Abort>(rt: &R, dict: &Dict, quads: &[NumQuad], expected: &[NumQuad]) {
-    assert!(rt; quads == expected, "other quads");
+    assert!(rt;
+        quads == expected,
+        "quads: expected {expected:?}, found {quads:?}"
+    );
     equal(rt, "terms", 6, dict.len() as u64);
 }
 
@@ -176,11 +178,11 @@ fn add_again<R: Abort>(
     dict: &mut Dict,
     quads: &mut Vec<NumQuad>,
 ) {
-    assert!(rt; has(dict, &[A, P, B]), "an error changes the dictionary");
+    check_terms(rt, "terms after an error", dict, &[A, P, B]);
     let before = [quad(None, 0, 1, 2)];
     assert!(rt;
         quads.as_slice() == before.as_slice(),
-        "an error changes the quads"
+        "quads after an error: expected {before:?}, found {quads:?}"
     );
     let again = looked_up(alloc, state, dict, THIRD).expect(rt, "a second try");
     add_piece(alloc, dict, quads, again).expect(rt, "a second try");

@@ -5,6 +5,7 @@
 //! worker threads. At most one of them fails in a run, so a second try must succeed.
 ghost use Rattle.std.specs.Prelude.{◌≤◌};
 
+use crate::cases::equal_by;
 use crate::documents::{
     BAD, Counts, GRAPHS, NUMBERED, REPEATED, TAGGED, TWO_LINES, TYPED, counts, loaded,
     loaded_blocks,
@@ -20,7 +21,7 @@ use std::thread::Threads;
 use test_fixtures::Counter;
 
 /// How a document is read.
-#[derive(Clone, Copy)]
+#[derive(Clone, Copy, Debug)]
 enum Manner {
     /// It is loaded line by line.
     Lines,
@@ -77,31 +78,39 @@ fn lacks_resources<R: Print>(rt: &R, counts: &Counts) -> bool {
         Err(LoadFault::WorkerRefused) => "a worker",
         _ => return false,
     };
-    let _ = println!(rt; "{what} was refused");
+    let _ = println!(rt; "{what} failed");
     true
 }
 
-/// Returns whether the document has these counts, at the second try if an allocation or a start fails. After each try,
+/// Checks that the document has these counts, at the second try if an allocation or a start fails. After each try,
 /// each piece that entered the gate must have left it.
-fn comes_to<R: Threads + Wait + RandomSource + Print>(
+fn check_manner<R: Threads + Wait + RandomSource + Print + Abort>(
     rt: &R,
     alloc: Global,
     manner: Manner,
     doc: &[u8],
     workers: usize,
     expected: Counts,
-) -> bool
+)
     requires workers { (1 ≤ workers) × (workers ≤ 64) }
 {
     let gate = Counter::new();
     let mut given = read(rt, alloc, manner, doc, workers, &gate);
     if lacks_resources(rt, &given) {
-        if !gate.is_balanced() {
-            return false;
-        }
+        equal_by(
+            rt,
+            "left after a fault",
+            workers,
+            gate.entered(),
+            gate.left(),
+        );
         given = read(rt, alloc, manner, doc, workers, &gate);
     }
-    given == expected && gate.is_balanced()
+    assert!(rt;
+        given == expected,
+        "{manner:?} with {workers} workers: expected {expected:?}, found {given:?}"
+    );
+    equal_by(rt, "left", workers, gate.entered(), gate.left());
 }
 
 /// Every manner, with one worker and with two.
@@ -124,8 +133,7 @@ fn check<R: Threads + Wait + RandomSource + Print + Abort>(
     expected: Counts,
 ) {
     for (manner, workers) in MANNERS {
-        let is_right = comes_to(rt, alloc, *manner, doc, *workers, expected);
-        assert!(rt; is_right, "{workers} workers: expected {expected:?}");
+        check_manner(rt, alloc, *manner, doc, *workers, expected);
     }
 }
 

@@ -4,18 +4,22 @@
 //! failing, then with the second, and so on, until a run in which none fails. At most one allocation fails in a run,
 //! so a second try must succeed.
 
-use crate::index::{QUADS, built, quad, side_by_side};
+use crate::cases::equal;
+use crate::index::{QUADS, built, check_graphs, check_scan, quad, side_by_side};
 use quad_index::{Index, SortOrder, sorted_list};
 use std::alloc::{AllocError, AllocGlobal, Global};
 use std::process::Abort;
 
-/// Returns whether the index is that of the four quads.
-fn is_right(index: &Index) -> bool {
-    index.quads() == 3
-        && index.graphs() == [5].as_slice()
-        && index.scan(None, None, Some(1), Some(3)) == [quad(None, 0, 1, 3)].as_slice()
-        && index.scan(None, Some(0), None, Some(2)) == [quad(None, 0, 1, 2)].as_slice()
-        && index.scan(Some(5), Some(0), None, None) == [quad(Some(5), 0, 1, 2)].as_slice()
+/// Checks that the index is that of the four quads.
+fn check_right<R: Abort>(rt: &R, name: &str, index: &Index) {
+    equal(rt, name, 3, index.quads());
+    check_graphs(rt, name, index);
+    let by_object = ([None, None, Some(1), Some(3)], quad(None, 0, 1, 3));
+    check_scan(rt, name, index, by_object);
+    let by_subject = ([None, Some(0), None, Some(2)], quad(None, 0, 1, 2));
+    check_scan(rt, name, index, by_subject);
+    let of_graph = ([Some(5), Some(0), None, None], quad(Some(5), 0, 1, 2));
+    check_scan(rt, name, index, of_graph);
 }
 
 /// Returns the index of the four quads, built at once or from sorted lists.
@@ -33,7 +37,8 @@ fn check_index<R: Abort>(rt: &R, alloc: Global, is_built: bool) {
         Ok(index) => index,
         Err(_) => index_of(alloc, is_built).expect(rt, "a second try"),
     };
-    assert!(rt; is_right(&index));
+    let name = if is_built { "built" } else { "sorted" };
+    check_right(rt, name, &index);
 }
 
 /// On error `Index::build` drops its list, and an equal list is built.
@@ -48,7 +53,7 @@ fn check_listed<R: Abort>(rt: &R, alloc: Global) {
         Ok(list) => list,
         Err(_) => sorted_list(alloc, &QUADS, SortOrder::Gpos).expect(rt, "a second try"),
     };
-    assert!(rt; list.len() == 3);
+    equal(rt, "the length of a list", 3, list.len() as u64);
 }
 
 /// On error `sorted_list` leaves the quads that it borrows, and `of_lists` drops its lists.

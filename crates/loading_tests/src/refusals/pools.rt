@@ -8,6 +8,8 @@
 ghost use Rattle.std.specs.Prelude.{◌≤◌};
 ghost use Rattle.piece_pool.specs.Limits.{most_workers};
 
+use crate::cases::equal_by;
+use crate::pools::{faulty, in_place};
 use piece_pool::{Outcome, PoolFault, run_pieces};
 use std::alloc::Global;
 use std::process::Abort;
@@ -15,41 +17,42 @@ use std::sync::Wait;
 use std::thread::Threads;
 use test_fixtures::{Counter, Numbers};
 
-/// Runs nine pieces again after a fault. Returns None if a piece that entered the gate has not left
-/// it.
-fn outcome_again<R: Threads + Wait + Print>(
+/// Runs nine pieces again after a fault. Checks that each piece that entered the gate has left it.
+fn outcome_again<R: Threads + Wait + Print + Abort>(
     rt: &R,
     alloc: Global,
     workers: usize,
     job: &Numbers,
     gate: &Counter,
     fault: PoolFault,
-) -> Option<Outcome<u64, u64>>
+) -> Outcome<u64, u64>
     requires workers { (1 ≤ workers) × (workers ≤ most_workers) }
 {
     print_fault(rt, fault);
-    if gate.is_balanced() {
-        run_pieces(rt, alloc, workers, 9, job, gate).ok()
-    } else {
-        None
-    }
+    equal_by(
+        rt,
+        "left after a fault",
+        workers,
+        gate.entered(),
+        gate.left(),
+    );
+    run_pieces(rt, alloc, workers, 9, job, gate).expect(rt, "a second try")
 }
 
 /// Runs nine pieces; those below `sound` are not faulty. If an allocation or a start of a worker
-/// fails, this is printed for the script, and the pieces are run again. Returns None if a piece
-/// that entered the gate has not left it.
-fn outcome_of<R: Threads + Wait + Print>(
+/// fails, this is printed for the script, and the pieces are run again.
+fn outcome_of<R: Threads + Wait + Print + Abort>(
     rt: &R,
     alloc: Global,
     workers: usize,
     sound: u64,
-) -> Option<Outcome<u64, u64>>
+) -> Outcome<u64, u64>
     requires workers { (1 ≤ workers) × (workers ≤ most_workers) }
 {
     let gate = Counter::new();
     let job = Numbers::sound_below(sound);
     match run_pieces(rt, alloc, workers, 9, &job, &gate) {
-        Ok(outcome) => Some(outcome),
+        Ok(outcome) => outcome,
         Err(fault) => outcome_again(rt, alloc, workers, &job, &gate, fault),
     }
 }
@@ -59,23 +62,15 @@ fn print_fault<R: Print>(rt: &R, fault: PoolFault) {
         PoolFault::Memory => "memory",
         PoolFault::WorkerRefused => "a worker",
     };
-    let _ = println!(rt; "{what} was refused");
-}
-
-/// Returns whether the outputs are the numbers of the nine pieces.
-fn are_outputs(outcome: &Option<Outcome<u64, u64>>) -> bool {
-    match outcome {
-        Some(Outcome::All(outs)) => outs.as_slice() == [0u64, 1, 2, 3, 4, 5, 6, 7, 8].as_slice(),
-        _ => false,
-    }
+    let _ = println!(rt; "{what} failed");
 }
 
 /// Checks that all nine pieces have their outputs.
 fn check_outputs<R: Threads + Wait + Print + Abort>(rt: &R, alloc: Global, workers: usize)
     requires workers { (1 ≤ workers) × (workers ≤ most_workers) }
 {
-    let is_right = are_outputs(&outcome_of(rt, alloc, workers, 100));
-    assert!(rt; is_right, "{workers} workers");
+    let outcome = outcome_of(rt, alloc, workers, 100);
+    equal_by(rt, "in place", workers, 9, in_place(&outcome));
 }
 
 /// Each started worker has been joined, and an error is not replaced by outputs.
@@ -86,17 +81,12 @@ fn a_failed_run_joins_its_workers(rt: HostRuntime) {
     check_outputs(&rt, rt.alloc(), 4);
 }
 
-/// Returns whether the faulty piece is the one with number 4.
-fn is_fourth(outcome: &Option<Outcome<u64, u64>>) -> bool {
-    matches!(outcome, Some(Outcome::First { piece: 4, fault: 4 }))
-}
-
 /// Checks that the least of the faulty pieces is named.
 fn check_named<R: Threads + Wait + Print + Abort>(rt: &R, alloc: Global, workers: usize)
     requires workers { (1 ≤ workers) × (workers ≤ most_workers) }
 {
-    let is_right = is_fourth(&outcome_of(rt, alloc, workers, 4));
-    assert!(rt; is_right, "{workers} workers");
+    let outcome = outcome_of(rt, alloc, workers, 4);
+    equal_by(rt, "faulty", workers, 4, faulty(&outcome));
 }
 
 /// No other piece is returned in place of the least faulty one.

@@ -1,6 +1,6 @@
 //! Readers and writers that fail.
 
-use super::asking::{CHUNK, WHOLE, Way, command, ran};
+use super::asking::{CHUNK, WHOLE, Way, command, is_same, ran};
 use super::samples::{GRAPHS, REPEATED, TWO_LINES};
 use nquads_core::Device;
 use spq_core::{RunFault, finish, run};
@@ -15,8 +15,20 @@ const OBJECTS: &str = "SELECT ?o { <http://e/a> <http://e/p> ?o }";
 const OUTPUT: &[u8] =
     b"{\"head\":{\"vars\":[\"o\"]},\"results\":{\"bindings\":[{\"o\":{\"type\":\"uri\",\"value\":\"http://e/b\"}},{\"o\":{\"type\":\"literal\",\"value\":\"x\"}}]}}\n";
 
-/// Returns whether a select over devices of the standard library has its output.
-fn agrees_with_std<R: Threads + Wait + RandomSource>(rt: &R, alloc: Global, way: Way) -> bool {
+/// Returns whether a run ended without a fault. Prints the way and the fault if not.
+fn is_done<R: Print>(rt: &R, way: Way, done: Result<(), RunFault>) -> bool {
+    if done != Ok(()) {
+        let _ = println!(rt; "by workers, bytes and rows {way:?}: expected Ok(()), got {done:?}");
+    }
+    done == Ok(())
+}
+
+/// Returns whether a select over devices of the standard library has its output. Prints the way and both outputs if not.
+fn agrees_with_std<R: Threads + Wait + RandomSource + Print>(
+    rt: &R,
+    alloc: Global,
+    way: Way,
+) -> bool {
     let command = command(alloc, OBJECTS, way);
     let mut reader = Device {
         inner: REPEATED.as_bytes(),
@@ -25,7 +37,7 @@ fn agrees_with_std<R: Threads + Wait + RandomSource>(rt: &R, alloc: Global, way:
         inner: Vec::new(alloc),
     };
     let ran = run(rt, alloc, &command, &mut reader, &mut writer);
-    ran == Ok(()) && writer.inner.as_slice() == OUTPUT
+    is_done(rt, way, ran) && is_same(rt, OBJECTS, way, OUTPUT, writer.inner.as_slice())
 }
 
 /// Devices of the standard library do not count failures, so no clause can say that none failed.

@@ -1,6 +1,7 @@
 //! Workers run at the same time, and no result depends on the order in which they finish.
 ghost use Rattle.std.specs.Prelude.{◌≤◌};
 
+use super::asking::is_same;
 use super::samples::TWO_OBJECTS;
 use dataset_load::{LoadFault, load};
 use piece_cuts::Cuts;
@@ -32,8 +33,8 @@ pub(crate) fn by_lines<R: Threads + Wait + RandomSource, G: Gate + Sync>(
     answer(rt, alloc, doc, query, &cuts, &how, gate)
 }
 
-/// Returns whether a query over two lines, with each line in a piece, has this result.
-fn has_rows<R: Threads + Wait + RandomSource>(
+/// Returns whether a query over two lines, with each line in a piece, has this result. Prints both if it has not.
+fn has_rows<R: Threads + Wait + RandomSource + Print>(
     rt: &R,
     alloc: Global,
     gate: &Meeting,
@@ -41,8 +42,11 @@ fn has_rows<R: Threads + Wait + RandomSource>(
 ) -> bool {
     let query = "SELECT ?s { ?s <http://e/p> _:x }";
     match by_lines(rt, alloc, TWO_OBJECTS.as_bytes(), query, 2, 1024, gate) {
-        Ok(given) => given.as_slice() == expected,
-        Err(_) => false,
+        Ok(given) => is_same(rt, query, (2, 1, 1024), expected, given.as_slice()),
+        Err(fault) => {
+            let _ = println!(rt; "{query}, by 2 workers: expected two rows, got {fault:?}");
+            false
+        }
     }
 }
 
@@ -104,8 +108,36 @@ impl Gate for ThirdAfterFourth {
 const BAD_LINES: &[u8] =
     b"<http://e/a> <http://e/p> <http://e/b> .\n<http://e/a> <http://e/p> <http://e/b> .\nx\nx\nx\nx\nx\nx\nx\nx\nx\nx\nx\nx\nx\nx\n";
 
+/// Returns whether a fact holds. Prints the case and the number of workers if it does not.
+fn holds<R: Print>(rt: &R, case: &str, workers: usize, is_true: bool) -> bool {
+    if !is_true {
+        let _ = println!(rt; "not so with {workers} workers: {case}");
+    }
+    is_true
+}
+
+/// Returns whether a load has the fault of line 3. Prints both faults if not.
+fn is_load_fault<R: Print>(rt: &R, workers: usize, fault: Option<LoadFault>) -> bool {
+    let expected = Some(LoadFault::BadLine(3));
+    if fault != expected {
+        let _ = println!(rt; "a load with {workers} workers: expected {expected:?}, got {fault:?}");
+    }
+    fault == expected
+}
+
+/// Returns whether a query has the fault of line 3. Prints both faults if not.
+fn is_query_fault<R: Print>(rt: &R, workers: usize, fault: Option<Fault>) -> bool {
+    let expected = Some(Fault::BadLine(3));
+    if fault != expected {
+        let _ = println!(rt;
+            "a query with {workers} workers: expected {expected:?}, got {fault:?}"
+        );
+    }
+    fault == expected
+}
+
 /// Returns whether line 3 is named by a load, line by line, although line 4 is found first.
-fn load_names_line_3<R: Threads + Wait + RandomSource>(
+fn load_names_line_3<R: Threads + Wait + RandomSource + Print>(
     rt: &R,
     alloc: Global,
     doc: &[u8],
@@ -117,14 +149,15 @@ fn load_names_line_3<R: Threads + Wait + RandomSource>(
     match Cuts::every(alloc, doc, 1) {
         Ok(cuts) => {
             let fault = load(rt, alloc, doc, &cuts, workers, &gate).err();
-            fault == Some(LoadFault::BadLine(3)) && gate.is_kept()
+            is_load_fault(rt, workers, fault)
+                && holds(rt, "a load finds line 4 first", workers, gate.is_kept())
         }
         Err(_) => false,
     }
 }
 
 /// Returns whether line 3 is named by a query, line by line, although line 4 is found first.
-fn query_names_line_3<R: Threads + Wait + RandomSource>(
+fn query_names_line_3<R: Threads + Wait + RandomSource + Print>(
     rt: &R,
     alloc: Global,
     doc: &[u8],
@@ -134,11 +167,16 @@ fn query_names_line_3<R: Threads + Wait + RandomSource>(
 {
     let gate = ThirdAfterFourth::fresh();
     let fault = by_lines(rt, alloc, doc, "SELECT * { }", workers, 1024, &gate).err();
-    fault == Some(Fault::BadLine(3)) && gate.is_kept()
+    is_query_fault(rt, workers, fault)
+        && holds(rt, "a query finds line 4 first", workers, gate.is_kept())
 }
 
 /// Returns whether line 3 is named although line 4 is found first, for a load and for a query.
-fn names_line_3<R: Threads + Wait + RandomSource>(rt: &R, alloc: Global, workers: usize) -> bool
+fn names_line_3<R: Threads + Wait + RandomSource + Print>(
+    rt: &R,
+    alloc: Global,
+    workers: usize,
+) -> bool
     requires workers { (1 ≤ workers) × (workers ≤ 64) }
 {
     load_names_line_3(rt, alloc, BAD_LINES, workers)
