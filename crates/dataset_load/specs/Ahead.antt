@@ -1,9 +1,10 @@
 -- A round of blocks that was read, and whose lines are not added yet. Only private clauses use these definitions.
-use Rattle.std.specs.Prelude.{◌≡◌, ℕ, ◌≤◌, ◌^◌, List, ◌++◌, length, true, false, Option}
+use Rattle.std.specs.Prelude.{◌≡◌, ℕ, ◌≤◌, List, ◌++◌, length, true, false, Option}
 use Rattle.std.specs.Io.KnownBytes.{Consumes, IsAtEnd}
 use Rattle.nquads_core.specs.Lines.{lines, EndsLine}
 use Rattle.dataset_load.specs.declared.numbered.Numbered.{Numbered}
 use Rattle.dataset_load.specs.declared.reader.FilledRound.{FilledRound}
+use Rattle.dataset_load.specs.Limits.{most_pieces_of_a_round}
 use Rattle.dataset_load.specs.Lines.{AreWholeLines, EachEnds, block_texts, joined}
 use Rattle.dataset_load.specs.Rounds.{HasRead}
 use Rattle.dataset_load.specs.Streaming.{IsReadIn, TakesRest, TakesRound}
@@ -15,7 +16,7 @@ texts_of round = block_texts round.blocks.items
 -- The blocks are whole lines. They are the front of what was kept and left, and what is kept and left now follows; or
 -- they are all of it, and the reader is at its end.
 pub record IsNextRound (left left' : Option (List ℕ)) (kept kept' : List ℕ) (round : FilledRound) : Type 0 where
-  pub few : length round.blocks.items ≤ 2 ^ 20
+  pub few : length round.blocks.items ≤ most_pieces_of_a_round
   pub whole_lines : AreWholeLines (texts_of round)
   pub more : round.is_last ≡ false → EachEnds (texts_of round) × TakesRound left left' kept kept' (joined (texts_of round))
   pub last : round.is_last ≡ true → TakesRest left left' kept (joined (texts_of round)) × IsAtEnd left'
@@ -26,7 +27,7 @@ pub record IsReadAhead (left left' : Option (List ℕ)) (kept : List ℕ) (so_fa
   pub done : List ℕ
   pub whole : EndsLine done
   pub read : HasRead so_far (lines done)
-  pub few : length round.blocks.items ≤ 2 ^ 20
+  pub few : length round.blocks.items ≤ most_pieces_of_a_round
   pub whole_lines : AreWholeLines (texts_of round)
   pub more : round.is_last ≡ false → EachEnds (texts_of round) × IsReadIn left left' (done ++ joined (texts_of round)) kept
   pub last : round.is_last ≡ true → Consumes left left' (done ++ joined (texts_of round)) × IsAtEnd left'

@@ -1,3 +1,4 @@
+pub mod Limits
 pub mod Lines
 pub mod Store
 pub mod Loaded

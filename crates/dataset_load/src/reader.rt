@@ -4,6 +4,7 @@ ghost use Rattle.std.specs.Io.KnownBytes.{Consumes, IsAtEnd};
 ghost use Rattle.nquads_core.specs.Transfer.{CountsRead, IsReadInPart};
 ghost use Rattle.piece_pool.specs.Limits.{most_workers};
 ghost use Rattle.piece_cuts.specs.Laws.{EndsWithLineFeed};
+ghost use Rattle.dataset_load.specs.Limits.{most_pieces_of_a_round};
 ghost use Rattle.dataset_load.specs.Lines.{AreBlocksOf, AreWholeLines, EachEnds, block_texts, joined};
 ghost use Rattle.dataset_load.specs.Streaming.{IsReadIn, TakesRest, TakesRound};
 ghost use Rattle.dataset_load.specs.Ahead.{IsNextRound};
@@ -162,7 +163,7 @@ fn fill_round<S: Source>(
     requires empty { round.old.items ≡ [] }
     requires workers { (1 ≤ workers) × (workers ≤ most_workers) }
     requires reading { blocks.old.state ≡ BlockState.Reading }
-    ensures few { length round.new.items ≤ 2 ^ 20 }
+    ensures few { length round.new.items ≤ most_pieces_of_a_round }
     ensures whole_lines { OnOk result (AreWholeLines (block_texts round.new.items)) }
     ensures each_ends { result ≡ Ok false → EachEnds (block_texts round.new.items) }
     ensures reading { result ≡ Ok false → blocks.new.state ≡ BlockState.Reading }

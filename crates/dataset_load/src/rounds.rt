@@ -11,6 +11,7 @@ ghost use Rattle.piece_pool.specs.Outcome.{IsPoolOutcome};
 ghost use Rattle.piece_pool.specs.declared.pool.PoolFault.TheVariants.{Memory};
 ghost use Rattle.dict_core.specs.Numbered.{IsNumbered, joined};
 ghost use Rattle.dataset_load.specs.Fault.{IfBadLine, IsOneWorkerLoadFault};
+ghost use Rattle.dataset_load.specs.Limits.{most_pieces_of_a_round};
 ghost use Rattle.dataset_load.specs.Lines.{all_lines, text_at, texts};
 ghost use Rattle.dataset_load.specs.Rounds.{AreLookedUp, HasRead, IsReadPiece, line_total};
 
@@ -95,7 +96,7 @@ pub(crate) fn add_round<R: Threads + Wait, G: Gate + Sync, F: FnMut() -> T, T>(
     task: &mut F,
 ) -> (Result<(), LoadFault>, T)
     requires workers { (1 ≤ workers) × (workers ≤ most_workers) }
-    requires pieces { length pieces.now ≤ 2 ^ 20 }
+    requires pieces { length pieces.now ≤ most_pieces_of_a_round }
     requires countable { so_far.old.lines ≤ 2 ^ 127 }
     requires task { F.pre task.old }
     ensures numbered { OnOk result.0 ((before : _) → HasRead so_far.old before
@@ -147,7 +148,7 @@ fn add_outcome(
     pieces: &[&[u8]],
     outcome: Result<Outcome<ReadPiece, u64>, PoolFault>,
 ) -> Result<(), LoadFault>
-    requires pieces { length pieces.now ≤ 2 ^ 20 }
+    requires pieces { length pieces.now ≤ most_pieces_of_a_round }
     requires countable { so_far.old.lines ≤ 2 ^ 127 }
     requires outcome { IfOk outcome
         (IsPoolOutcome (λ i out. IsReadPiece so_far.old.dict (text_at pieces.now i) out)
@@ -176,7 +177,7 @@ fn round_end(pieces: &[&[u8]], from: usize, workers: usize) -> usize
     requires workers { (1 ≤ workers) × (workers ≤ most_workers) }
     ensures some { from < result }
     ensures within { result ≤ length pieces.now }
-    ensures small { result ≤ from + 2 ^ 20 }
+    ensures small { result ≤ from + most_pieces_of_a_round }
 {
     let most = (pieces.len() - from).min(PIECES_A_ROUND);
     let mut bytes = 0usize;
@@ -212,7 +213,7 @@ fn add_read_pieces(
     so_far: &mut Numbered,
     pieces: Vec<ReadPiece>,
 ) -> Result<(), AllocError>
-    requires pieces { length pieces.items ≤ 2 ^ 20 }
+    requires pieces { length pieces.items ≤ most_pieces_of_a_round }
     requires countable { so_far.old.lines ≤ 2 ^ 127 }
     ensures numbered { OnOk result ((done : List QuadParts) (each : List (List QuadParts))
         → IsNumbered done so_far.old.dict so_far.old.quads.items
@@ -262,7 +263,7 @@ fn count_read(pieces: &[ReadPiece]) -> u128
 /// The number of a line over all pieces, counted from 1; `line` is its place in its piece.
 fn line_number(pieces: &[&[u8]], piece: usize, line: u64) -> u128
     requires inside { piece ≤ length pieces.now }
-    requires few { length pieces.now ≤ 2 ^ 20 }
+    requires few { length pieces.now ≤ most_pieces_of_a_round }
     ensures number { result ≡ length (all_lines (texts (take piece pieces.now))) + line + 1 }
     ensures small { result ≤ 2 ^ 85 }
 {

@@ -6,6 +6,7 @@ ghost use Rattle.nquads_core.specs.Pieces.{IsBadLine};
 ghost use Rattle.piece_pool.specs.Limits.{most_workers};
 ghost use Rattle.dataset_load.specs.Counted.{AreTermsFrom, IsCountedFrom};
 ghost use Rattle.dataset_load.specs.Fault.{IfBadLine, IsOneWorkerLoadFault};
+ghost use Rattle.dataset_load.specs.Limits.{most_pieces_of_a_round};
 ghost use Rattle.dataset_load.specs.Lines.{all_lines, block_texts};
 ghost use Rattle.dataset_load.specs.Rounds.{HasRead};
 ghost use Rattle.dataset_load.specs.ReaderFault.{CountsLoading, IfBadLineRead, IsOneWorkerReaderFault};
@@ -250,7 +251,7 @@ fn number_round<R: Threads + Wait, S: Source, G: Gate + Sync>(
     round: FilledRound,
 ) -> Result<Option<FilledRound>, ReaderFault>
     requires workers { (1 ≤ workers) × (workers ≤ most_workers) }
-    requires few { length round.blocks.items ≤ 2 ^ 20 }
+    requires few { length round.blocks.items ≤ most_pieces_of_a_round }
     requires reading { round.is_last ≡ false → blocks.old.state ≡ BlockState.Reading }
     requires countable { so_far.old.lines ≤ 2 ^ 127 }
     ensures reading { IfOk result (λ next. IfSome next
@@ -307,7 +308,7 @@ fn add_blocks<R: Threads + Wait, G: Gate + Sync, F: FnMut() -> T, T>(
     task: &mut F,
 ) -> (Result<(), LoadFault>, T)
     requires workers { (1 ≤ workers) × (workers ≤ most_workers) }
-    requires blocks { length blocks.now ≤ 2 ^ 20 }
+    requires blocks { length blocks.now ≤ most_pieces_of_a_round }
     requires countable { so_far.old.lines ≤ 2 ^ 127 }
     requires task { F.pre task.old }
     ensures numbered { OnOk result.0 ((before : _) → HasRead so_far.old before
