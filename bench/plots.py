@@ -36,19 +36,23 @@ def bars(title, label, values, texts):
 
 
 def bar_color(name):
-    return "tab:blue" if name.startswith("spq") else "lightblue" if name.startswith("baseline") else "darkgray"
+    return "tab:blue" if name.startswith("spq") else "darkgray"
+
+
+def without_baseline(results):
+    return {name: it for name, it in results.items() if not name.startswith("baseline")}
 
 
 def load_time(quads, results):
-    values = {name: it["seconds"] for name, it in results.items()}
+    values = {name: it["seconds"] for name, it in without_baseline(results).items()}
     texts = {name: f"{seconds:.2f}" for name, seconds in values.items()}
     return bars(f"Time to load or parse {quads:,} quads", "seconds", values, texts)
 
 
 def peak_memory(quads, results):
-    values = {name: it["peak"] for name, it in results.items()}
-    texts = {name: f"at most {math.ceil(it['peak'])}" if it["is_limit"] else f"{it['peak']:.0f}"
-             for name, it in results.items()}
+    shown = without_baseline(results)
+    values = {name: it["peak"] for name, it in shown.items()}
+    texts = {name: f"at most {math.ceil(it['peak'])}" if it["is_limit"] else f"{it['peak']:.0f}" for name, it in shown.items()}
     return bars(f"Peak memory, {quads:,} quads", "MiB", values, texts)
 
 

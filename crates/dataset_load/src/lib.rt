@@ -4,8 +4,8 @@
 //! [`load`] reads a document that is cut into pieces, and [`load_blocks`] one that is split into blocks, both in
 //! parallel. The crates above use one contract of both: the terms of the store are the distinct terms of the
 //! document by first appearance, its index, read through them, is the set of the document's quads
-//! (`IsLoaded`), and a fault names the first malformed line (`IsBadLine` of nquads_core). No
-//! clause names a worker, a cut or a gate.
+//! (`IsLoaded`), and a fault names the first malformed line (`IsBadLine` of nquads_core). These
+//! clauses name no worker, and the result that they define depends on no cut or gate.
 //!
 //! Standards: RDF 1.1 N-Quads, grammar; RDF 1.1 Concepts and Abstract Syntax, section 4.
 //!
@@ -17,7 +17,7 @@
 //!
 //! To read in this order: `fault`, `store`, `read_piece` and `round_job` (one piece), `numbered` and
 //! `rounds` (all pieces), `sorting` (the lists of the index), `loading`, `reader` (blocks of a reader),
-//! `reader_fault`, `counted`, `streaming`.
+//! `reader_fault`, `counted`, `finding` and `load_notes` (the malformed line, for messages), `streaming`.
 //!
 //! Tests: `documents`, `readers` and `refusals` of the crate loading_tests.
 //!

@@ -1,5 +1,5 @@
--- The hash function of the dictionaries: a folded multiplication with a secret key, as the kit's `FoldHasher` is one
--- with a fixed key.
+-- The hash function of the dictionaries: a folded multiplication with two secret keys (the first state, and `key`), where
+-- the kit's `FoldHasher` has fixed ones.
 --
 -- These definitions repeat the code step by step. They are not a specification that the code is measured
 -- against. The trait `Hasher` of the standard library requires a description of the state after each `write` and

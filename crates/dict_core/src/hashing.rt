@@ -1,7 +1,8 @@
 //! The hash function of the dictionaries: the kit's `FoldHasher` with secret keys.
 //!
-//! It multiplies 16 bytes at a time to 128 bits, and joins the halves by xor. The kit's hasher has fixed keys, so
-//! strangers can choose terms that collide. Here both keys come from the runtime, and nobody sees a hash.
+//! It takes two words of 64 bits at a time, combines one with the state and one with the key by xor, multiplies
+//! them to 128 bits, and joins the halves by xor. With fixed keys, as in the kit's hasher, strangers could choose
+//! terms that collide. Here the first state and the key come from the runtime, and no output shows a hash.
 ghost use Rattle.std.specs.Prelude.{◌≡◌, ◌+◌, ◌≤◌, length};
 ghost use Rattle.core.specs.Hash.FoldHasher.{folded_multiply, read_u32, read_u64, read_short};
 ghost use Rattle.dict_core.specs.Hashing.{write, finish};

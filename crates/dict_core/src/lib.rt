@@ -1,14 +1,15 @@
 //! Numbers for terms: the quads of a document as quads of numbers, and the terms by number.
 //!
-//! A [`Dict`] is seen as the list of its distinct terms; a term's number is its place, from 0.
-//! [`number_piece`] numbers the quads of one piece by a dictionary of their own, [`number_lines`] does
-//! so from the bytes of the piece, and [`merge`] joins such pieces, in order: the dictionary has
-//! exactly the terms of the quads by first appearance, and the numbered quads, read through it, are
-//! the quads (the word `IsNumbered` of specs/Numbered.antt, which the loader above uses).
+//! Contracts see a [`Dict`] as the list of its distinct terms. A term's number is its place, from 0.
+//! [`number_piece`] numbers the quads of one piece by a dictionary of the piece. [`number_lines`] does so
+//! from the bytes of the piece. [`merge`] joins such pieces, in order. The merged dictionary has exactly
+//! the terms of the quads, by first appearance. The numbered quads, read through it, are the quads
+//! (`IsNumbered` in specs/Numbered.antt).
 //!
 //! For loading in parallel, [`look_up`] looks the terms of a piece up in a borrowed dictionary, and
-//! [`add_piece`] adds what is new, in order. The laws of `laws` say that the result is the same. The crate
-//! `loading_tests` tests both.
+//! [`add_piece`] adds what is new, in order. The laws `absorbing_keeps_the_numbering` and
+//! `earlier_places_serve`, and the clause `numbered` of `add_piece`, say that the result is the same. The
+//! crate `loading_tests` tests both.
 //!
 //! When two terms are the same: RDF 1.1 Concepts and Abstract Syntax, section 3. The numbers are a choice of
 //! this project.
@@ -16,7 +17,7 @@
 //! To read in this order: `dict`, `num_quad`, `local_piece`, `numbering`, `slice_numbers`, `merging`, `seen`,
 //! `seen_piece`, `rounds`, `laws`; `inserting` and `hashing` are private.
 //!
-//! Not promised: anything of the hashing but that no result depends on it.
+//! Not promised: which hash a term has. No result depends on it.
 #![tactic(auto)]
 
 mod dict;

@@ -1,12 +1,13 @@
 //! Runs numbered pieces of work on worker threads. The result is the output of every piece in
 //! order, or the first faulty piece.
 //!
-//! Other crates call [`run_all`]. It runs a [`Job`] over the pieces `0` to `n - 1`. The result
-//! ([`Outcome`], defined in specs/Outcome.antt) depends only on the job and `n`. No clause mentions
-//! a worker or a gate, so every number of workers gives the same result. With one worker, or with
-//! at most one piece, the caller's thread runs the pieces, so `WorkerRefused` cannot occur.
+//! Other crates call [`run_all`] and [`run_all_with`]. They run a [`Job`] over the pieces `0` to `n - 1`. The
+//! result is an [`Outcome`] that depends only on the job and `n` (`IsPoolOutcome` in specs/Outcome.antt). The
+//! clause `outcome` mentions no worker and no gate, so every number of workers gives the same result. With
+//! one worker, or with at most one piece, the caller's thread runs the pieces, so `WorkerRefused` cannot occur.
 //!
-//! [`run_all_with`] does the same, and runs a task on the caller's thread while the workers run.
+//! [`run_all_with`] also runs a task on the caller's thread: while the workers run, or after the pieces if no
+//! thread is started.
 //!
 //! [`run_pieces`] does the same as [`run_all`], but starts a thread also for one worker and for one piece. It
 //! consists of two functions. Each worker calls [`work`] with a pass of a claim board (crate piece_board) and never

@@ -1,7 +1,7 @@
 //! A task for the caller's thread.
 ghost use Rattle.std.specs.Prelude.{◌≡◌};
 
-/// A task that the caller's thread runs once, while the workers run.
+/// A task that the caller's thread runs once.
 ///
 /// The contracts of the thread calls say nothing of what a closure writes through a `&mut` that it
 /// captures. So the pool is passed a value of this trait, which returns what it wrote to.

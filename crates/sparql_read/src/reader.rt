@@ -102,7 +102,7 @@ fn read_terminals(
 ///
 /// # Errors
 /// - The first rule that rejects the text, in the order of [`QueryFault`].
-/// - `Memory` if an allocation fails. It says nothing about the text.
+/// - `Memory` if an allocation fails.
 pub fn read_query(alloc: Global, text: &str) -> Result<Query, QueryFault>
     ensures read { IsReadResult (chars text.now) (seen result) }
 {

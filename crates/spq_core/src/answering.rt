@@ -41,7 +41,7 @@ use std::thread::Threads;
 ///
 /// # Errors
 /// - `Query(fault)` if this is the first rule that rejects the text. It is never `QueryFault::Memory`.
-/// - `Memory` if an allocation fails. It says nothing of the text.
+/// - `Memory` if an allocation fails.
 pub fn valid_query(alloc: Global, text: &str) -> Result<Query, Fault>
     ensures query { IfOk result (λ q. IsValidQuery (chars text.now) (query_of q)) }
     ensures rejected { IfErr result (IsQueryFaultOf text.now) }
@@ -202,7 +202,7 @@ fn joined(alloc: Global, blocks: &[Vec<u8>]) -> Result<Vec<u8>, AllocError>
 ///   malformed line.
 /// - `WorkerRefused` if the text is a query, and a worker thread could not be started. Those that were
 ///   started have been joined. With one worker no thread is started, so it cannot occur.
-/// - `Memory` if an allocation fails. It says nothing of query and document.
+/// - `Memory` if an allocation fails, or if the runtime gives no random numbers.
 pub fn answer<R: Threads + Wait + RandomSource, G: Gate + Sync>(
     rt: &R,
     alloc: Global,

@@ -13,9 +13,9 @@ pub enum Fault {
     /// The line, counted from 1, is the first malformed line.
     BadLine(u128),
     /// A worker thread could not be started. Those that were started have been joined. The text is a query.
-    /// This says nothing of the document.
+    /// The document may be malformed.
     WorkerRefused,
-    /// Out of memory. This says nothing of query and document.
+    /// Out of memory, or the runtime gives no random numbers.
     Memory,
 }
 

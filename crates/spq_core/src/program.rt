@@ -374,7 +374,7 @@ fn write_blocks<K: Sink>(writer: &mut K, blocks: &[Vec<u8>]) -> Result<(), Devic
 ///   reader was read to its end.
 /// - `WorkerRefused` if a worker thread could not be started. The query of a `select` is valid: it was
 ///   checked before. With one worker no thread is started, so this cannot occur.
-/// - `Memory` if an allocation fails.
+/// - `Memory` if an allocation fails, or for one of the other reasons of `load_reader`.
 /// - `Read` if the reader fails.
 /// - `Write` if the writer fails, or if a write takes none of the next bytes of the output. A beginning
 ///   of the output was written, and not all of it. A writer that took none is as that write left it,
@@ -382,8 +382,8 @@ fn write_blocks<K: Sink>(writer: &mut K, blocks: &[Vec<u8>]) -> Result<(), Devic
 ///
 /// On every error, the bytes that were taken are a beginning of what the reader had left, and either
 /// the reader is unchanged or the query is valid. On every error but `Write`, the writer is unchanged.
-/// The reader fails in no call of a run that does not return `Read`, and the writer fails in no call of
-/// a run that does not return `Write`.
+/// If the reader exposes how many of its calls failed, the count rises on `Read` and on no other result. If
+/// the writer exposes it, the count is unchanged on every result but `Write`.
 pub fn run<R: Threads + Wait + RandomSource, S: Source, K: Sink>(
     rt: &R,
     alloc: Global,

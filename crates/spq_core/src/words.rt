@@ -290,7 +290,7 @@ fn run_command<
 /// - `WorkerRefused` if a worker thread, or the thread of a query, could not be started. The query of a
 ///   `select` is then valid. Nothing is read or written if it was the thread of a query. With one
 ///   worker no other thread is started, so it cannot occur in a `check` or a `terms`.
-/// - `Memory` if an allocation fails.
+/// - `Memory` if an allocation fails, or for one of the other reasons of `load_reader`.
 /// - All else as in [`run`](crate::run).
 ///
 /// The reader and the writer are handed back after each of them.
