@@ -1,4 +1,4 @@
-//! The search for a line.
+//! Finds a line of a document by its number.
 ghost use Rattle.std.specs.Prelude.{◌≡◌, ◌<◌, ◌≤◌, ◌∷◌, ◌-◌, IfSome, Some, length, take};
 ghost use Rattle.std.specs.List.{slice_get};
 ghost use Rattle.nquads_core.specs.Lines.{begins_with_lf, lines};
@@ -8,7 +8,7 @@ use memchr::memchr2;
 use nquads_core::count_lines;
 use std::alloc::Global;
 
-/// How many bytes of a line are kept at the most.
+/// The largest number of bytes of a line that is kept.
 const MOST: usize = 1 << 20;
 
 /// A line of a document.
@@ -28,7 +28,7 @@ fn begins_with_lf(text: &[u8]) -> bool
     !text.is_empty() && text[0] == b'\n'
 }
 
-/// The first line, without its line end, and what follows it.
+/// Splits off the first line. Returns it without its line end, and what follows the line end.
 fn first_line(text: &[u8]) -> (&[u8], &[u8])
     requires { 0 < length text.now }
     ensures lines { lines text.now ≡ result.0.now ∷ lines result.1.now }
@@ -48,7 +48,7 @@ fn first_line(text: &[u8]) -> (&[u8], &[u8])
     (line, rest)
 }
 
-/// Line k of a text, counted from 0, and whether the text ends with its bytes.
+/// Finds line `k` of a text, counted from 0. Returns it, and whether the text ends with its bytes.
 fn line_in(text: &[u8], k: u128) -> Option<(&[u8], bool)>
     ensures line { IfSome result (λ found. slice_get (lines text.now) k ≡ Some found.0.now) }
 {
@@ -65,7 +65,7 @@ fn line_in(text: &[u8], k: u128) -> Option<(&[u8], bool)>
     None
 }
 
-/// Line k of the blocks, counted from 0, and whether its block ends with its bytes.
+/// Finds line `k` of the blocks, counted from 0. Returns it, and whether its block ends with its bytes.
 fn line_of(blocks: &[Vec<u8>], k: u128) -> Option<(&[u8], bool)>
     ensures line { IfSome result (λ found. slice_get (block_lines blocks.now) k ≡ Some found.0.now) }
 {
@@ -80,7 +80,7 @@ fn line_of(blocks: &[Vec<u8>], k: u128) -> Option<(&[u8], bool)>
     None
 }
 
-/// The first bytes of a line, at most `most`.
+/// Returns the first bytes of a line, at most `most`.
 fn beginning(line: &[u8], most: usize) -> &[u8]
     ensures value { result.now ≡ take most line.now }
 {
@@ -91,7 +91,7 @@ fn beginning(line: &[u8], most: usize) -> &[u8]
 }
 
 /// Returns line `number` of a document split into blocks, counted from 1, or the beginning of a very long one.
-/// None: there is no such line, or no memory for it.
+/// Returns None if there is no line with this number, or if an allocation fails.
 ///
 /// Each block but the last has to be empty or to end with LF.
 pub fn line_at(alloc: Global, blocks: &[Vec<u8>], number: u128) -> Option<Line>

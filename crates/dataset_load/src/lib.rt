@@ -1,11 +1,13 @@
-//! From a document to its dataset: bytes of N-Quads go in, and out comes a [`Store`], or the first
-//! malformed line.
+//! Loads N-Quads documents. The result is a [`Store`] with the dataset, or the first malformed line.
 //!
 //! [`load`] reads a document that is cut into pieces, and [`load_blocks`] one that is split into blocks, both in
-//! parallel. The crates above use one contract of both: the terms of the store are the distinct terms of the
-//! document by first appearance, its index, read through them, is the set of the document's quads
-//! (`IsLoaded`), and a fault names the first malformed line (`IsBadLine` of nquads_core). These
-//! clauses name no worker, and the result that they define depends on no cut or gate.
+//! parallel. Other crates rely on the contract that both have:
+//!
+//! - The terms of the store are the distinct terms of the document by first appearance. The index of the store,
+//!   read through these terms, is the set of the document's quads (`IsLoaded`).
+//! - A fault has the number of the first malformed line (`IsBadLine` of nquads_core).
+//!
+//! These clauses mention no worker, and the result that they define depends on no cut or gate.
 //!
 //! Standards: RDF 1.1 N-Quads, grammar; RDF 1.1 Concepts and Abstract Syntax, section 4.
 //!
@@ -15,8 +17,8 @@
 //! dictionary and the counts of that store, and [`load_terms`] only the dictionary. Neither builds an
 //! index (`IsCountedFrom`, `AreTermsFrom` in specs/Counted.antt).
 //!
-//! To read in this order: `fault`, `store`, `read_piece` and `round_job` (one piece), `numbered` and
-//! `rounds` (all pieces), `sorting` (the lists of the index), `loading`, `reader` (blocks of a reader),
+//! Reading order: `fault`, `store`, `read_piece` and `round_job` (one piece), `numbered` and `rounds`
+//! (all pieces), `sorting` (the lists of the index), `loading`, `reader` (blocks of a reader),
 //! `reader_fault`, `counted`, `finding` and `load_notes` (the malformed line, for messages), `streaming`.
 //!
 //! Tests: `documents`, `readers` and `refusals` of the crate loading_tests.
@@ -28,8 +30,8 @@
 //!
 //! The cuts that `Cuts::every` makes of a document fit it, so the condition of [`load`] is met.
 //!
-//! Not promised: that a second thread ran, which worker read what, how much memory is used, that a
-//! call returns (it joins its workers).
+//! Not guaranteed: that a second thread runs, which worker reads which piece, how much memory is used, and
+//! that a call returns (it joins its workers).
 #![tactic(auto)]
 
 mod counted;

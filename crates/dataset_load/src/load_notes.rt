@@ -1,11 +1,11 @@
-//! What loading notes for messages to people, besides what it returns. No clause and no result depends on it.
+//! Notes that loading takes for the message about a failure. No clause and no result depends on them.
 
 use crate::fault::LoadFault;
 use crate::finding::{Line, line_at};
 use piece_pool::OffsetGate;
 use std::alloc::Global;
 
-/// What loading notes for a message about a failure.
+/// Notes that loading takes for the message about a failure.
 #[derive(Debug, Drop)]
 pub struct LoadNotes {
     /// The malformed line whose number is returned, if there was memory for it.
@@ -15,7 +15,7 @@ pub struct LoadNotes {
 }
 
 impl LoadNotes {
-    /// Returns notes with nothing in them.
+    /// Creates empty notes.
     pub fn new() -> LoadNotes {
         LoadNotes {
             line: None,

@@ -1,4 +1,4 @@
-//! From a document to a store.
+//! Loads a document that is in memory.
 ghost use Rattle.std.specs.Prelude.{◌≡◌, ◌≤◌, IfOk, IfErr};
 ghost use Rattle.nquads_core.specs.Lines.{lines};
 ghost use Rattle.nquads_core.specs.Pieces.{IsBadLine};
@@ -23,12 +23,13 @@ use std::random::RandomSource;
 use std::sync::Wait;
 use std::thread::Threads;
 
-/// Loads a document that is cut into pieces: its terms by first appearance, within a quad subject,
-/// predicate, object, graph name, and an index of the set of its quads (RDF 1.1 N-Quads; RDF 1.1
-/// Concepts, section 4). Workers read the pieces in parallel, and one worker is the caller itself. Neither
-/// the cuts, nor their number, nor the gate changes the result.
+/// Loads a document that is cut into pieces (RDF 1.1 N-Quads; RDF 1.1 Concepts, section 4). The store has the
+/// terms by first appearance, within a quad in the order subject, predicate, object, graph name. Its index is
+/// the set of the quads.
 ///
-/// The gate sees each piece by its number in the document. The sorting of the index does not call it.
+/// Workers read the pieces in parallel. With one worker, the caller's thread reads them. Neither the cuts, nor
+/// their number, nor the gate changes the result. The gate is called with the number of each piece in the
+/// document. The sorting of the index does not call it.
 ///
 /// # Requires
 /// `cuts` are cuts of this document, and `workers` is 1 to 64.
@@ -99,7 +100,7 @@ fn load_pieces<R: Threads + Wait + RandomSource, G: Gate + Sync>(
     store_of(rt, alloc, so_far, workers)
 }
 
-/// The store of quads that are numbered.
+/// Builds the store of quads that are numbered.
 pub(crate) fn store_of<R: Threads + Wait>(
     rt: &R,
     alloc: Global,
@@ -117,7 +118,7 @@ pub(crate) fn store_of<R: Threads + Wait>(
     Ok(Store::of_parts(dict, index))
 }
 
-/// A hash state of the runtime's choice, since strangers choose the terms.
+/// Creates a hash state with random keys of the runtime, because the terms are untrusted input.
 pub(crate) fn hash_state<R: RandomSource>(rt: &R) -> Result<RandomState, AllocError> {
     match RandomState::new(rt) {
         Ok(state) => Ok(state),
@@ -125,7 +126,7 @@ pub(crate) fn hash_state<R: RandomSource>(rt: &R) -> Result<RandomState, AllocEr
     }
 }
 
-/// The pieces of a document, in order.
+/// Returns the pieces of a document, in order.
 fn pieces_of<'d>(alloc: Global, doc: &'d [u8], cuts: &Cuts) -> Result<Vec<&'d [u8]>, AllocError>
     requires fits { AreCuts doc.now cuts.now }
     ensures lines { IfOk result (λ v. all_lines (texts v.items) ≡ lines doc.now) }
@@ -138,7 +139,7 @@ fn pieces_of<'d>(alloc: Global, doc: &'d [u8], cuts: &Cuts) -> Result<Vec<&'d [u
     Ok(pieces)
 }
 
-/// The bytes of the blocks, in order.
+/// Returns the bytes of the blocks, in order.
 pub(crate) fn borrowed_blocks(alloc: Global, blocks: &[Vec<u8>]) -> Result<Vec<&[u8]>, AllocError>
     ensures texts { IfOk result (λ v. texts v.items ≡ block_texts blocks.now) }
 {

@@ -17,7 +17,8 @@ impl Numbered {
     ghost use Rattle.std.specs.Prelude.{IfOk, [], ◌≡◌};
     ghost use Rattle.dataset_load.specs.Rounds.{HasRead};
 
-    /// Nothing was read yet. Strangers choose the terms, so the hash state comes from the runtime.
+    /// Creates the state in which no line is read. The hash state comes from the runtime, because the terms are
+    /// untrusted input.
     ///
     /// # Errors
     /// `AllocError` if an allocation fails.

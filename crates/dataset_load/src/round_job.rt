@@ -42,7 +42,7 @@ impl<'d> Job for Round<'d> {
     ghost exclusive = { λ job i out line read bad. not_both _ _ _ read.statements bad };
 }
 
-/// The piece of this number, and no bytes after the last one.
+/// Returns the piece with this number, or no bytes if there is none.
 fn piece_at<'d>(pieces: &[&'d [u8]], i: u64) -> &'d [u8]
     ensures bytes { result.now ≡ text_at pieces.now i }
 {
@@ -53,7 +53,7 @@ fn piece_at<'d>(pieces: &[&'d [u8]], i: u64) -> &'d [u8]
     }
 }
 
-/// Numbers a piece by itself, counting its lines, and looks its terms up.
+/// Numbers the quads of a piece by a dictionary of their own, counts its lines, and looks up its terms.
 fn read_against(
     alloc: Global,
     state: RandomState,

@@ -36,8 +36,8 @@ const BYTES_A_ROUND: usize = 4 << 20;
 /// The largest number of pieces of a round.
 pub(crate) const PIECES_A_ROUND: usize = 1 << 20;
 
-/// Reads all pieces, round by round: their terms by first appearance, and their quads by number, in
-/// order.
+/// Reads all pieces, round by round. Returns their terms by first appearance, their quads by number, in
+/// order, and the number of their lines.
 ///
 /// # Errors
 /// - `BadLine(n)` if the line, counted from 1 over all pieces, is the first that is malformed.
@@ -81,7 +81,7 @@ pub(crate) fn number_pieces<R: Threads + Wait, G: Gate + Sync>(
 }
 
 /// Reads the pieces of a round in parallel, and adds their quads to those of the rounds before. The caller's
-/// thread runs the task meanwhile.
+/// thread runs the task, as in [`run_all_with`].
 ///
 /// # Errors
 /// As `number_pieces`, of the lines before and these. They do not stop the task.
@@ -112,8 +112,8 @@ pub(crate) fn add_round<R: Threads + Wait, G: Gate + Sync, F: FnMut() -> T, T>(
     (add_outcome(alloc, so_far, pieces, outcome), given)
 }
 
-/// Reads the pieces of a round against the dictionary of the rounds before. The caller's thread runs the task
-/// meanwhile.
+/// Reads the pieces of a round against the dictionary of the rounds before. The caller's thread runs the task,
+/// as in [`run_all_with`].
 fn read_round<R: Threads + Wait, G: Gate + Sync, F: FnMut() -> T, T>(
     rt: &R,
     alloc: Global,
@@ -171,7 +171,7 @@ fn add_outcome(
     }
 }
 
-/// Where the round that begins at `from` ends.
+/// Returns where the round that begins at `from` ends.
 fn round_end(pieces: &[&[u8]], from: usize, workers: usize) -> usize
     requires from { from < length pieces.now }
     requires workers { (1 ≤ workers) × (workers ≤ most_workers) }
@@ -190,7 +190,7 @@ fn round_end(pieces: &[&[u8]], from: usize, workers: usize) -> usize
     from + most
 }
 
-/// Whether a round with this number of pieces and bytes is long enough.
+/// Returns whether a round with this number of pieces and bytes is long enough.
 pub(crate) fn is_full(pieces: usize, bytes: usize, workers: usize) -> bool
     requires workers { (1 ≤ workers) × (workers ≤ most_workers) }
     ensures some { result ≡ true → 1 ≤ pieces }
@@ -248,7 +248,7 @@ fn add_pieces(
     Ok(())
 }
 
-/// How many lines the pieces of a round have.
+/// Returns the number of lines of the pieces of a round.
 fn count_read(pieces: &[ReadPiece]) -> u128
     ensures total { result ≡ line_total pieces.now }
     ensures small { result ≤ length pieces.now * (2 ^ 64 - 1) }
@@ -260,7 +260,8 @@ fn count_read(pieces: &[ReadPiece]) -> u128
     count
 }
 
-/// The number of a line over all pieces, counted from 1; `line` is its place in its piece.
+/// Returns the number of a line over all pieces, counted from 1. `line` is its place in its piece, counted
+/// from 0.
 fn line_number(pieces: &[&[u8]], piece: usize, line: u64) -> u128
     requires inside { piece ≤ length pieces.now }
     requires few { length pieces.now ≤ most_pieces_of_a_round }

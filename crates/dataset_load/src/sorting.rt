@@ -81,8 +81,8 @@ impl<'q> Job for PackedLists<'q> {
     ghost exclusive = { λ _ _ _ _ _ absurd. absurd };
 }
 
-/// The index of these quads: a statement that is repeated counts once. The quads are freed before the lists of the
-/// index are made, so that at most one copy of the quads is in memory with them.
+/// Builds the index of these quads. A repeated statement counts once. If all numbers can be packed, the quads are
+/// freed before the lists of the index are unpacked.
 ///
 /// # Errors
 /// `WorkerRefused` and `Memory` as in a pool. With one worker the first cannot occur.
@@ -107,7 +107,7 @@ pub(crate) fn sorted_index<R: Threads + Wait>(
     }
 }
 
-/// The packed lists of these quads, or `None` if a number of a quad is too large.
+/// Sorts the quads into three packed lists, in parallel. Returns `None` if a number of a quad is too large.
 fn packed_lists<R: Threads + Wait>(
     rt: &R,
     alloc: Global,
@@ -127,7 +127,7 @@ fn packed_lists<R: Threads + Wait>(
     }
 }
 
-/// The values, or `None` if one of them is `None`.
+/// Returns the values, or `None` if one of them is `None`.
 fn all_found<T: Drop>(alloc: Global, found: Vec<Option<T>>) -> Result<Option<Vec<T>>, AllocError>
     ensures values { IfOk result
         (λ all. IfSome all (λ values. map Some values.items ≡ found.items)) }
@@ -142,7 +142,7 @@ fn all_found<T: Drop>(alloc: Global, found: Vec<Option<T>>) -> Result<Option<Vec
     Ok(Some(values))
 }
 
-/// The index of these lists. The keys of a list are freed before the next list is unpacked.
+/// Builds the index of these lists. The keys of a list are freed before the next list is unpacked.
 fn unpacked_index(alloc: Global, lists: Vec<PackedList>) -> Result<Index, AllocError>
     requires lists { (quads : _) × AreSortedLists quads lists.items }
     ensures each_once { IfOk result (λ index. (quads : _) → AreSortedLists quads lists.items
@@ -155,7 +155,7 @@ fn unpacked_index(alloc: Global, lists: Vec<PackedList>) -> Result<Index, AllocE
     Index::of_lists(alloc, gspo, gpos, gosp)
 }
 
-/// The index of quads of any numbers.
+/// Builds the index of quads whose numbers may have any size.
 fn plain_index<R: Threads + Wait>(
     rt: &R,
     alloc: Global,
@@ -175,7 +175,7 @@ fn plain_index<R: Threads + Wait>(
     }
 }
 
-/// The index of these three lists.
+/// Builds the index of these three lists.
 fn index_of(alloc: Global, lists: Vec<Vec<NumQuad>>) -> Result<Index, AllocError>
     requires three { length lists.items ≡ 3 }
     requires lists { (quads : _) × AreOwnedSortedLists quads lists.items }
@@ -186,7 +186,7 @@ fn index_of(alloc: Global, lists: Vec<Vec<NumQuad>>) -> Result<Index, AllocError
     Index::of_lists(alloc, gspo, gpos, gosp)
 }
 
-/// The three values of a list.
+/// Returns the three values of a list.
 fn three<T: Drop>(list: Vec<T>) -> (T, T, T)
     requires three { length list.items ≡ 3 }
     ensures same { list.items ≡ result.0 ∷ result.1 ∷ result.2 ∷ [] }

@@ -7,8 +7,9 @@ use dict_core::Dict;
 use quad_index::Index;
 use std::marker::Model;
 
-/// A dataset: its terms, numbered by first appearance, and an index of its quads of numbers. A
-/// contract sees the terms and the numbered quads. Each number in the index is the number of a term.
+/// A dataset: its terms, numbered by first appearance, and an index of its quads of numbers. In
+/// contracts this type is its terms and its numbered quads. Each number in the index is the number of
+/// a term.
 pub struct Store {
     dict: Dict,
     index: Index,
@@ -35,7 +36,7 @@ impl Model for Store {
 }
 
 impl Store {
-    /// A store of these parts.
+    /// Creates a store of a dictionary and an index.
     pub(crate) fn of_parts(dict: Dict, index: Index) -> Store
         requires below { AreBelow (length dict) index }
         ensures parts { result ≡ record { dict = dict; index = index } }
@@ -43,14 +44,14 @@ impl Store {
         Store { dict, index }
     }
 
-    /// The terms by number.
+    /// Returns the terms by number.
     pub fn dict(&self) -> &Dict
         ensures terms { result.now ≡ self.now.dict }
     {
         &self.dict
     }
 
-    /// The index of the quads.
+    /// Returns the index of the quads.
     pub fn index(&self) -> &Index
         ensures quads { result.now ≡ self.now.index }
         ensures below { AreBelow (length self.now.dict) self.now.index }
@@ -68,21 +69,21 @@ impl Store {
         (dict, index)
     }
 
-    /// How many distinct quads there are.
+    /// Returns the number of distinct quads.
     pub fn quads(&self) -> u64
         ensures count { result ≡ length self.now.index }
     {
         self.index.quads()
     }
 
-    /// How many distinct terms there are.
+    /// Returns the number of distinct terms.
     pub fn terms(&self) -> u64
         ensures count { result ≡ length self.now.dict }
     {
         self.dict.len() as u64
     }
 
-    /// How many graphs have a name.
+    /// Returns the number of distinct graph names.
     pub fn graphs(&self) -> u64
         ensures count { result ≡ length (names_in self.now.index) }
     {

@@ -11,7 +11,7 @@ use std::alloc::{AllocError, Global};
 use std::hash::RandomState;
 use std::marker::Model;
 
-/// Distinct terms, numbered from 0 in the order in which they came. A contract sees their list.
+/// Distinct terms, numbered from 0 in the order in which they were added. In contracts this type is their list.
 pub struct Dict {
     pub(crate) terms: IndexSet<Term, HashState>,
 }
@@ -37,9 +37,9 @@ impl Model for Dict {
 }
 
 impl Dict {
-    /// An empty dictionary. Strangers choose the terms, so the hash state comes from the runtime.
+    /// Creates an empty dictionary. The hash state comes from the runtime, because the terms are untrusted input.
     ///
-    /// It allocates nothing yet, and does not fail.
+    /// Allocates nothing, and does not fail.
     pub fn new(alloc: Global, state: RandomState) -> Result<Dict, AllocError>
         ensures empty { result ≡ Ok [] }
     {
@@ -48,7 +48,7 @@ impl Dict {
         })
     }
 
-    /// An empty dictionary with room for `n` terms.
+    /// Creates an empty dictionary with room for `n` terms.
     ///
     /// # Errors
     /// `AllocError` if an allocation fails.
@@ -64,7 +64,7 @@ impl Dict {
         })
     }
 
-    /// How many terms there are.
+    /// Returns the number of terms.
     pub fn len(&self) -> usize
         ensures value { result ≡ length self.now }
         ensures small { result < 2 ^ 63 }
@@ -73,7 +73,7 @@ impl Dict {
         self.terms.len()
     }
 
-    /// The number of a term, which goes last where it was not there.
+    /// Returns the number of a term. A new term is appended.
     ///
     /// # Errors
     /// The term itself, if it is new and an allocation fails. The dictionary is unchanged.
@@ -91,7 +91,7 @@ impl Dict {
         }
     }
 
-    /// The number of a term, or None where the dictionary lacks it.
+    /// Returns the number of a term, or None if the term is not in the dictionary.
     pub fn number_of(&self, term: &Term) -> Option<u64>
         ensures value { MatchOption result (¬ (Contains self.now term.now))
             (λ n. slice_get self.now n ≡ Some term.now) }
@@ -102,8 +102,8 @@ impl Dict {
         }
     }
 
-    /// Adds the terms of another dictionary, those that are new after the others and in their order, and
-    /// returns the number that each of them has now, in the order of `other`.
+    /// Appends the terms of another dictionary that are new, in their order. Returns the number that each term
+    /// of `other` has now, in the order of `other`.
     ///
     /// # Errors
     /// `AllocError` if an allocation fails. This dictionary is unchanged, and `other` is dropped.
@@ -124,7 +124,7 @@ impl Dict {
         terms
     }
 
-    /// The term of a number.
+    /// Returns the term with this number.
     ///
     /// # Requires
     /// The number is below `len`.

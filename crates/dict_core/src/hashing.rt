@@ -1,7 +1,7 @@
 //! The hash function of the dictionaries: the kit's `FoldHasher` with secret keys.
 //!
 //! It takes two words of 64 bits at a time, combines one with the state and one with the key by xor, multiplies
-//! them to 128 bits, and joins the halves by xor. With fixed keys, as in the kit's hasher, strangers could choose
+//! them to 128 bits, and joins the halves by xor. With fixed keys, as in the kit's hasher, an attacker could choose
 //! terms that collide. Here the first state and the key come from the runtime, and no output shows a hash.
 ghost use Rattle.std.specs.Prelude.{◌≡◌, ◌+◌, ◌≤◌, length};
 ghost use Rattle.core.specs.Hash.FoldHasher.{folded_multiply, read_u32, read_u64, read_short};
@@ -23,7 +23,7 @@ pub struct HashState {
 }
 
 impl HashState {
-    /// Derives two keys from those of a `RandomState`, which strangers do not know.
+    /// Derives two keys from those of a `RandomState`, which an attacker does not know.
     pub(crate) fn new(state: RandomState) -> HashState {
         HashState {
             initial: KeyedHasher {
@@ -44,7 +44,7 @@ impl BuildHasher for HashState {
     }
 }
 
-/// The two halves of the product, joined by xor.
+/// Returns the xor of the two halves of the 128-bit product.
 #[inline(always)]
 fn folded_multiply(a: u64, b: u64) -> u64
     ensures { result ≡ folded_multiply a b }
@@ -53,7 +53,7 @@ fn folded_multiply(a: u64, b: u64) -> u64
     (product & 0xFFFF_FFFF_FFFF_FFFF) as u64 ^ (product >> 64) as u64
 }
 
-/// The four bytes from `at` on, the lowest first.
+/// Reads the four bytes from `at` on as a number, the lowest byte first.
 #[inline(always)]
 fn read_u32(bytes: &[u8], at: usize) -> u64
     requires within { at + 4 ≤ length bytes.now }
@@ -62,7 +62,7 @@ fn read_u32(bytes: &[u8], at: usize) -> u64
     u32::from_le_bytes([bytes[at], bytes[at + 1], bytes[at + 2], bytes[at + 3]]) as u64
 }
 
-/// The eight bytes from `at` on, the lowest first.
+/// Reads the eight bytes from `at` on as a number, the lowest byte first.
 #[inline(always)]
 fn read_u64(bytes: &[u8], at: usize) -> u64
     requires within { at + 8 ≤ length bytes.now }
@@ -71,7 +71,7 @@ fn read_u64(bytes: &[u8], at: usize) -> u64
     read_u32(bytes, at) | read_u32(bytes, at + 4) << 32
 }
 
-/// Up to eight bytes as one number, by reads that may overlap.
+/// Reads up to eight bytes as one number. The reads may overlap.
 #[inline(always)]
 fn read_short(bytes: &[u8]) -> u64
     requires short { length bytes.now ≤ 8 }

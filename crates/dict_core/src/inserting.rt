@@ -12,8 +12,8 @@ use indexmap::IndexSet;
 use rdf_core::Term;
 use std::alloc::{AllocError, Global};
 
-/// Inserts the terms in turn, and returns the place of each. On error the set is unchanged: the room for
-/// all is made first.
+/// Inserts the terms in turn, and returns the place of each. On error the set is unchanged, because room for
+/// all terms is allocated first.
 pub(crate) fn insert_terms(
     alloc: Global,
     set: &mut IndexSet<Term, HashState>,
@@ -35,8 +35,8 @@ pub(crate) fn insert_terms(
     Ok(places)
 }
 
-/// Inserts the new terms in turn, and returns the place of each term. On error the set is unchanged: the
-/// room for all is made first.
+/// Inserts the new terms in turn, and returns the place of each term. On error the set is unchanged, because
+/// room for all terms is allocated first.
 pub(crate) fn insert_new(
     alloc: Global,
     set: &mut IndexSet<Term, HashState>,

@@ -1,23 +1,23 @@
-//! Numbers for terms: the quads of a document as quads of numbers, and the terms by number.
+//! Numbers terms: the quads of a document become quads of numbers, and a dictionary has the terms by number.
 //!
-//! Contracts see a [`Dict`] as the list of its distinct terms. A term's number is its place, from 0.
+//! In contracts a [`Dict`] is the list of its distinct terms. A term's number is its place, counted from 0.
 //! [`number_piece`] numbers the quads of one piece by a dictionary of the piece. [`number_lines`] does so
-//! from the bytes of the piece. [`merge`] joins such pieces, in order. The merged dictionary has exactly
+//! from the bytes of the piece. [`merge`] merges numbered pieces, in order. The merged dictionary has exactly
 //! the terms of the quads, by first appearance. The numbered quads, read through it, are the quads
 //! (`IsNumbered` in specs/Numbered.antt).
 //!
-//! For loading in parallel, [`look_up`] looks the terms of a piece up in a borrowed dictionary, and
+//! For loading in parallel, [`look_up`] looks up the terms of a piece in a borrowed dictionary, and
 //! [`add_piece`] adds what is new, in order. The laws `absorbing_keeps_the_numbering` and
 //! `earlier_places_serve`, and the clause `numbered` of `add_piece`, say that the result is the same. The
 //! crate `loading_tests` tests both.
 //!
-//! When two terms are the same: RDF 1.1 Concepts and Abstract Syntax, section 3. The numbers are a choice of
-//! this project.
+//! Standard: RDF 1.1 Concepts and Abstract Syntax, section 3 (when two terms are the same). The numbers are a
+//! choice of this project.
 //!
-//! To read in this order: `dict`, `num_quad`, `local_piece`, `numbering`, `slice_numbers`, `merging`, `seen`,
-//! `seen_piece`, `rounds`, `laws`; `inserting` and `hashing` are private.
+//! Reading order: `dict`, `num_quad`, `local_piece`, `numbering`, `slice_numbers`, `merging`, `seen`,
+//! `seen_piece`, `rounds`, `laws`. `inserting` and `hashing` are private.
 //!
-//! Not promised: which hash a term has. No result depends on it.
+//! Not guaranteed: which hash a term has. No result depends on it.
 #![tactic(auto)]
 
 mod dict;

@@ -15,8 +15,8 @@ use std::alloc::{AllocError, Global};
 use std::hash::RandomState;
 use std::marker::Model;
 
-/// The quads of one piece of a document, numbered by a dictionary of their own. A contract sees
-/// them as the quads themselves, in order.
+/// The quads of one piece of a document, numbered by a dictionary of their own. In contracts this
+/// type is the list of the quads, in order.
 ///
 /// The dictionary has the terms of these quads by first appearance, within a quad subject,
 /// predicate, object, graph name, and no other.
@@ -40,14 +40,14 @@ impl Model for LocalPiece {
 }
 
 impl LocalPiece {
-    /// The piece's own dictionary.
+    /// Returns the dictionary of the piece.
     pub fn dict(&self) -> &Dict
         ensures terms { result.now ≡ first_appearances (terms_of self.now) }
     {
         &self.dict
     }
 
-    /// The piece's quads, as numbers of its own dictionary.
+    /// Returns the quads of the piece, as numbers of its dictionary.
     pub fn quads(&self) -> &[NumQuad]
         ensures numbered { IsNumbered self.now (first_appearances (terms_of self.now)) result.now }
     {
@@ -55,8 +55,8 @@ impl LocalPiece {
     }
 }
 
-/// Numbers the quads of a piece by themselves, in order, repeats kept. The terms are moved, not
-/// copied; the number of lines of the piece is dropped.
+/// Numbers the quads of a piece by a dictionary of their own, in order, with repeats. The terms are
+/// moved, not copied. The number of lines of the piece is dropped.
 ///
 /// # Errors
 /// `AllocError` if an allocation fails. The piece is dropped.

@@ -10,8 +10,8 @@ use crate::num_quad::NumQuad;
 use std::alloc::{AllocError, Global};
 use std::hash::RandomState;
 
-/// Merges consecutive pieces: the dictionary has their terms by first appearance over all of them, and the
-/// quads are in order, repeats kept. The terms are moved, not copied.
+/// Merges consecutive pieces. The dictionary has the terms by first appearance over all pieces, and the
+/// quads are in order, with repeats. The terms are moved, not copied.
 ///
 /// # Errors
 /// `AllocError` if an allocation fails. The pieces are dropped.
@@ -44,7 +44,7 @@ fn merge_piece(dict: &mut Dict, all: &mut Vec<NumQuad>, piece: LocalPiece) -> Re
     Ok(())
 }
 
-/// How many quads the pieces have, for the room that is made at once.
+/// Counts the quads of the pieces, so that room for all of them is allocated at once.
 fn count_quads(pieces: &[LocalPiece]) -> usize {
     let mut count: usize = 0;
     for piece in pieces {
@@ -53,7 +53,7 @@ fn count_quads(pieces: &[LocalPiece]) -> usize {
     count
 }
 
-/// Appends the quads, the n-th of the numbers in the place of each number n.
+/// Appends the quads, with each number `n` in them replaced by `numbers[n]`.
 pub(crate) fn append_renamed(all: &mut Vec<NumQuad>, numbers: &[u64], quads: Vec<NumQuad>)
     requires below { AreBelow (length numbers.now) quads.items }
     requires room { vec_len all.old + vec_len quads ≤ vec_capacity all.old }

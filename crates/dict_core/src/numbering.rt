@@ -10,20 +10,20 @@ use nquads_core::{PieceFault, read_piece, split_piece};
 use std::alloc::Global;
 use std::hash::RandomState;
 
-/// The numbered quads of the lines of a piece, and how many lines there are.
+/// The numbered quads of the lines of a piece, and the number of its lines.
 #[derive(Drop)]
 pub struct NumberedLines {
-    /// The quads, numbered by themselves.
+    /// The quads, numbered by a dictionary of their own.
     pub piece: LocalPiece,
-    /// The number of lines, those without a statement among them.
+    /// The number of lines, including those without a statement.
     pub lines: u64,
 }
 
-/// Reads a piece of an N-Quads document, numbers its quads by themselves, and counts its lines: `read_piece`, and
-/// then `number_piece` (RDF 1.1 N-Quads, grammar).
+/// Reads a piece of an N-Quads document (RDF 1.1 N-Quads, grammar). Numbers its quads by a dictionary of their
+/// own, and counts its lines.
 ///
-/// The plain form is just these two calls. For speed the piece is first split into slices, and each
-/// distinct slice is read once; the two calls remain for a piece that this does not read.
+/// The plain form is a call of `read_piece` and one of `number_piece`. For speed the piece is first split into
+/// slices, and each distinct slice is read once. The two calls remain for a piece that cannot be read like this.
 ///
 /// # Errors
 /// - `BadLine(k)` if line k of the piece, counted from 0, is the first that is malformed.

@@ -19,8 +19,8 @@ use crate::seen_piece::SeenPiece;
 use rdf_core::Term;
 use std::alloc::{AllocError, Global};
 
-/// Looks each term of a piece up in a dictionary, which is only borrowed, so that many pieces may be
-/// looked up at once. The terms that it lacks are moved into the result.
+/// Looks up each term of a piece in a dictionary. The dictionary is only borrowed, so pieces may be looked
+/// up in parallel. The terms that it lacks are moved into the result.
 ///
 /// # Errors
 /// `AllocError` if an allocation fails. The piece is dropped.
@@ -51,8 +51,8 @@ fn look_up_term(dict: &Dict, term: Term) -> Seen
     }
 }
 
-/// Adds a piece after those that are there: its new terms after the other terms, and its quads, renamed,
-/// after the other quads.
+/// Adds a piece after those that were added before. Appends its new terms to the dictionary, and its quads,
+/// with the numbers of the dictionary, to the list.
 ///
 /// The piece may have been looked up in an earlier state of the dictionary.
 ///

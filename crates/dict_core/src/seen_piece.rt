@@ -10,7 +10,7 @@ use crate::seen::Seen;
 pub struct SeenPiece {
     /// The piece's terms by first appearance, as the look-ups returned them.
     pub seen: Vec<Seen>,
-    /// The piece's quads; a number n is the place of a term in `seen`.
+    /// The piece's quads. Each number in them is the place of a term in `seen`.
     pub quads: Vec<NumQuad>,
     pub ghost below: { AreBelow (length seen.items) quads.items },
 }

@@ -140,7 +140,7 @@ fn number_all<'a>(
     Ok(())
 }
 
-/// The numbers of a statement's terms.
+/// Returns the numbers of a statement's terms.
 fn number_statement<'a>(
     slices: &mut Slices<'a>,
     guesses: &mut Guesses,
@@ -164,7 +164,7 @@ fn number_statement<'a>(
     Ok(NumQuad { g, s, p, o })
 }
 
-/// The number of the IRI or blank node that a slice denotes.
+/// Returns the number of the IRI or blank node that a slice denotes.
 fn number_node<'a>(
     slices: &mut Slices<'a>,
     guess: &mut usize,
@@ -184,7 +184,7 @@ fn number_node<'a>(
     }
 }
 
-/// The number of the IRI that a slice denotes.
+/// Returns the number of the IRI that a slice denotes.
 fn number_iri<'a>(
     slices: &mut Slices<'a>,
     guess: &mut usize,
@@ -204,7 +204,7 @@ fn number_iri<'a>(
     }
 }
 
-/// Whether a slice is at this place.
+/// Returns whether this slice is at this place.
 fn is_at(slices: &Slices<'_>, place: usize, raw: &str) -> bool
     ensures { result ≡ true → IsAt slices.now.texts.keys place raw.now }
 {
@@ -214,8 +214,8 @@ fn is_at(slices: &Slices<'_>, place: usize, raw: &str) -> bool
     }
 }
 
-/// The number of the term that a slice denotes: it is looked up, or read if the slice is new. `guess` is
-/// set to the place of the slice.
+/// Returns the number of the term that a slice denotes. The term is read only if the slice is new. `guess`
+/// is set to the place of the slice.
 fn number_slice<'a>(
     slices: &mut Slices<'a>,
     guess: &mut usize,

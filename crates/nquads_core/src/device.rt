@@ -1,4 +1,4 @@
-//! What bytes are read from and written to, and the two devices over a reader or a writer of std.
+//! Sources and sinks of bytes, and devices over the readers and writers of std.
 ghost use Rattle.std.specs.Prelude.{ℕ, ◌≤◌, List, Option, Result, IfOk, length};
 ghost use Rattle.nquads_core.specs.declared.device.DeviceFailed.{DeviceFailed};
 ghost use Rattle.std.specs.Io.KnownBytes.{ReadConsumes, WriteAppends};
@@ -6,23 +6,23 @@ ghost use Rattle.nquads_core.specs.Device.{Counts};
 
 use std::io::{Read, Write};
 
-/// That a device failed in a call.
+/// A call of a device failed.
 #[derive(Clone, Copy, Debug, PartialEq, Eq)]
 pub struct DeviceFailed;
 
-/// What bytes are read from.
+/// A source of bytes.
 ///
-/// A source may expose two things to contracts: the bytes that it has left, and how many of its
-/// calls failed. What it does not expose is `None`, and contracts say nothing of it.
+/// A source may expose two things to contracts: the bytes that are left in it, and the number of its
+/// calls that failed. What it does not expose is `None`, and contracts say nothing about it.
 pub trait Source {
     /// The bytes that are left, if they are exposed.
     ghost left: { Self → Option (List ℕ) };
 
-    /// How many calls failed, if the count is exposed.
+    /// The number of calls that failed, if it is exposed.
     ghost failures: { Self → Option ℕ };
 
-    /// Puts the next bytes at the front of the buffer, and returns how many these are: never more
-    /// than the buffer holds, and into a buffer that is not empty 0 only at the end.
+    /// Puts the next bytes at the front of the buffer, and returns their number. It is at most the
+    /// length of the buffer. For a buffer that is not empty, it is 0 only at the end.
     ///
     /// # Errors
     /// `DeviceFailed`: the source failed. No byte was taken, and the count of failures rose by one
@@ -33,18 +33,18 @@ pub trait Source {
         ensures count { Counts (failures self.old) (failures self.new) result };
 }
 
-/// What bytes are written to.
+/// A sink for bytes.
 ///
-/// A sink may expose three things to contracts: the bytes that it holds, how many of its calls
-/// failed, and what a call may return and leave.
+/// A sink may expose three things to contracts: the bytes that it holds, the number of its calls
+/// that failed, and what a call may return and leave.
 pub trait Sink {
     /// The bytes that were written, if they are exposed.
     ghost held: { Self → Option (List ℕ) };
 
-    /// How many calls failed, if the count is exposed.
+    /// The number of calls that failed, if it is exposed.
     ghost failures: { Self → Option ℕ };
 
-    /// What a write of these bytes may return, and the sink after it. If it is not exposed, anything.
+    /// What a write of these bytes may return, and the sink after it. Not exposed: anything.
     ghost write_gives: { Self → List ℕ → Result ℕ DeviceFailed → Self → Type 0 } = { λ _ _ _ _. Unit {0} };
 
     /// Takes bytes from the front of the text, and returns how many. It may take none.

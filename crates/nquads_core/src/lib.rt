@@ -1,24 +1,23 @@
-//! N-Quads: from the bytes of a document to its quads, and the devices that bytes come from and go
-//! to.
+//! Parses N-Quads: from the bytes of a document to its quads. Also defines sources and sinks of bytes.
 //!
 //! [`read_piece`] takes whole lines of a document and returns their quads in order, or the first malformed
-//! line. The crates above use its clauses `quads`, `lines` and `bad_line`.
+//! line. Other crates rely on its clauses `quads`, `lines` and `bad_line`.
 //! [`split_piece`] only splits the statements into slices of the document, and [`read_term`] reads the
-//! term of a slice; these two are sound, and `read_piece` reads what they do not accept.
+//! term of a slice. What these two return is right, but they do not accept all that `read_piece` reads.
 //!
 //! Standard: RDF 1.1 N-Quads (Recommendation of 2014), grammar, with four rules of this project: a CR that
 //! no LF follows ends a line too; an IRI has a scheme, and no escape in it names a character that may not
 //! occur there without an escape; a line with a byte order mark is malformed; tags are kept in lower case.
 //!
-//! To read in this order: `fault`, `token` (the terminals), `statement` (the productions), `line`,
-//! `piece`, `slices`, `raw_term`, `laws`; and apart from these `device` and `transfer`.
+//! Reading order: `fault`, `token` (the terminals), `statement` (the productions), `line`, `piece`,
+//! `slices`, `raw_term`, `laws`. `device` and `transfer` are independent of these.
 //!
 //! ```text
 //! let piece = read_piece(alloc, b"<http://e/a> <http://e/p> \"x\"@en-GB.\n")?;
 //! ```
 //! returns one quad and one line. The crate `loading_tests` runs tables of lines like this one.
 //!
-//! Not promised: full checking of IRIs, or that a language tag is registered.
+//! Not guaranteed: full checking of IRIs, and that a language tag is registered.
 #![tactic(auto)]
 
 pub mod device;

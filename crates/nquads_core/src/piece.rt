@@ -16,9 +16,9 @@ use std::alloc::{AllocFailed, Global};
 /// What a piece of a document holds.
 #[derive(Debug, Drop)]
 pub struct Piece {
-    /// The quads of its lines in order, repeats kept.
+    /// The quads of its lines, in order, with repeats.
     pub quads: Vec<Quad>,
-    /// How many lines it has, those without a statement among them.
+    /// The number of its lines, including those without a statement.
     pub lines: u64,
 }
 
@@ -28,7 +28,7 @@ fn begins_with_lf(text: &[u8]) -> bool
     !text.is_empty() && text[0] == b'\n'
 }
 
-/// The first line, without its line end, and what follows it.
+/// Splits off the first line. Returns it without its line end, and what follows the line end.
 fn first_line(text: &[u8]) -> (&[u8], &[u8])
     requires { 0 < length text.now }
     ensures lines { lines text.now ≡ result.0.now ∷ lines result.1.now }
@@ -48,7 +48,7 @@ fn first_line(text: &[u8]) -> (&[u8], &[u8])
     (line, rest)
 }
 
-/// Puts a quad after the others, if there is one.
+/// Appends a quad, if there is one.
 fn add(quads: &mut Vec<Quad>, quad: Option<Quad>) -> Result<(), AllocFailed<Quad>>
     ensures { OnOk result (map parts_of quads.new.items
         ≡ map parts_of quads.old.items ++ option_to_list (option_map parts_of quad)) }
@@ -59,11 +59,11 @@ fn add(quads: &mut Vec<Quad>, quad: Option<Quad>) -> Result<(), AllocFailed<Quad
     Ok(())
 }
 
-/// Reads a piece of an N-Quads document: the quads of its lines in order, repeats kept, and how many
-/// lines it has (RDF 1.1 N-Quads, [1] `nquadsDoc`).
+/// Reads a piece of an N-Quads document (RDF 1.1 N-Quads, [1] `nquadsDoc`). Returns the quads of its
+/// lines, in order, with repeats, and the number of its lines.
 ///
 /// A line ends with LF, with CR LF, or with a CR that no LF follows ([8] `EOL`). What follows the last line
-/// end is a line if it is not empty. A line without a statement counts and gives no quad.
+/// end is a line if it is not empty. A line without a statement counts, but has no quad.
 ///
 /// # Errors
 /// - `BadLine(k)` if line k of the piece, counted from 0, is the first that is malformed.
@@ -95,7 +95,7 @@ pub fn read_piece(alloc: Global, bytes: &[u8]) -> Result<Piece, PieceFault>
     })
 }
 
-/// What follows the first line of a text without CR.
+/// Returns what follows the first line of a text without CR.
 fn after_line(text: &[u8]) -> &[u8]
     requires some { 0 < length text.now }
     requires no_cr { HasNoCr text.now }
@@ -109,7 +109,7 @@ fn after_line(text: &[u8]) -> &[u8]
     }
 }
 
-/// The number of lines of a text without CR. A search for one byte is faster than a search for two.
+/// Counts the lines of a text without CR. A search for one byte is faster than a search for two.
 fn count_plain_lines(text: &[u8]) -> u64
     requires no_cr { HasNoCr text.now }
     ensures count { result ≡ length (lines text.now) }
@@ -123,7 +123,7 @@ fn count_plain_lines(text: &[u8]) -> u64
     count
 }
 
-/// The number of lines of a text that contains a CR.
+/// Counts the lines of a text that may contain a CR.
 fn count_all_lines(text: &[u8]) -> u64
     ensures count { result ≡ length (lines text.now) }
 {

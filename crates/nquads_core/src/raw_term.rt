@@ -22,7 +22,7 @@ fn is_over(text: &str) -> bool
     }
 }
 
-/// The term, if nothing follows it.
+/// Returns the term if nothing follows it.
 fn alone(term: Term, rest: &str) -> Result<Term, LineFault>
     ensures { Gives (λ t. t) result (alone term (chars rest.now)) }
 {
@@ -33,7 +33,7 @@ fn alone(term: Term, rest: &str) -> Result<Term, LineFault>
     }
 }
 
-/// The literal of a string and the terminal that follows it.
+/// Builds the literal of a string and its suffix. The first terminal of the suffix is given.
 fn suffix_alone(alloc: Global, lexical: Text, token: Token, rest: &str) -> Result<Term, LineFault>
     ensures { Gives (λ t. t) result (suffix_alone lexical (token_view token, chars rest.now)) }
 {
@@ -55,7 +55,7 @@ fn suffix_alone(alloc: Global, lexical: Text, token: Token, rest: &str) -> Resul
     }
 }
 
-/// The literal of a string and what follows it.
+/// Builds the literal of a string and what follows the string.
 fn literal_alone(alloc: Global, lexical: Text, rest: &str) -> Result<Term, LineFault>
     ensures { Gives (λ t. t) result (literal_alone lexical (chars rest.now)) }
 {
@@ -66,7 +66,7 @@ fn literal_alone(alloc: Global, lexical: Text, rest: &str) -> Result<Term, LineF
     suffix_alone(alloc, lexical, token, rest)
 }
 
-/// The term of the terminals of a text, the first of which is given.
+/// Builds the term of a text, whose first terminal is given.
 fn object_alone(alloc: Global, token: Token, rest: &str) -> Result<Term, LineFault>
     ensures { Gives (λ t. t) result (object_alone (token_view token, chars rest.now)) }
 {
@@ -89,7 +89,7 @@ fn whole_term(alloc: Global, raw: &str) -> Result<Term, LineFault>
 /// Reads the term that a slice of a line denotes: an IRI, a blank node label, or a literal with its
 /// language tag or datatype, with no blank before, inside or after it (RDF 1.1 N-Quads, [5] `object`).
 ///
-/// `None` if the slice is not exactly one such term.
+/// Returns `None` if the slice is not exactly one such term.
 ///
 /// # Errors
 /// `AllocError` if an allocation fails.

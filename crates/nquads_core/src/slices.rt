@@ -32,11 +32,11 @@ pub struct RawStatement<'a> {
 pub struct SplitPiece<'a> {
     /// The slices of its statements, in order, with repeats.
     pub statements: Vec<RawStatement<'a>>,
-    /// The number of its lines, those without a statement among them.
+    /// The number of its lines, including those without a statement.
     pub lines: u64,
 }
 
-/// The first line of a text without CR, without its LF, and what follows that.
+/// Splits off the first line of a text without CR. Returns it without its LF, and what follows the LF.
 fn cut_line(text: &str) -> (&str, &str)
     requires some { 0 < length text.now }
     requires no_cr { HasNoCr text.now }
@@ -53,7 +53,7 @@ fn cut_line(text: &str) -> (&str, &str)
     (&text[..end], &text[end + 1..])
 }
 
-/// Whether an odd number of backslashes is before this place.
+/// Returns whether an odd number of backslashes is directly before this place.
 fn is_escaped(text: &[u8], at: usize) -> bool
     requires { at ≤ length text.now }
 {
@@ -64,7 +64,8 @@ fn is_escaped(text: &[u8], at: usize) -> bool
     (at - from) % 2 == 1
 }
 
-/// Where the string at the front ends, after its closing quote, and 0 if the text begins with no quote.
+/// Returns where the string at the front ends, after its closing quote. Returns 0 if the text begins with
+/// no quote, and None if the string does not end.
 fn string_end(text: &[u8]) -> Option<usize>
     ensures { IfSome result (λ end. end ≤ length text.now) }
 {
@@ -82,7 +83,7 @@ fn string_end(text: &[u8]) -> Option<usize>
     None
 }
 
-/// The slice up to the first space from this place on, and what follows that space.
+/// Splits a text at the first space from this place on. Returns what is before the space and after it.
 fn cut_at_space(text: &str, from: usize) -> Option<(&str, &str)>
     requires { from ≤ length text.now }
     ensures { IfSome result (λ x. text.now ≡ x.0.now ++ 32 ∷ x.1.now) }
@@ -91,8 +92,8 @@ fn cut_at_space(text: &str, from: usize) -> Option<(&str, &str)>
     Some((&text[..end], &text[end + 1..]))
 }
 
-/// The slice of the term at the front, which a space ends, and what follows that space. A space inside
-/// the quotes of a literal ends nothing.
+/// Splits off the term at the front, which a space ends. Returns its slice, and what follows the space. A
+/// space inside the quotes of a literal does not end the term.
 fn cut_term(text: &str) -> Option<(&str, &str)>
     ensures { IfSome result (λ x. text.now ≡ x.0.now ++ 32 ∷ x.1.now) }
 {
@@ -100,7 +101,7 @@ fn cut_term(text: &str) -> Option<(&str, &str)>
     cut_at_space(text, from)
 }
 
-/// What follows the dot at the front.
+/// Returns what follows the dot at the front, or None if there is no dot.
 fn after_dot(text: &str) -> Option<&str>
     ensures { IfSome result (λ rest. text.now ≡ 46 ∷ rest.now) }
 {
@@ -111,7 +112,7 @@ fn after_dot(text: &str) -> Option<&str>
     Some(&text[1..])
 }
 
-/// The slice of the graph label, if there is one, and what follows the dot.
+/// Splits off the graph label, if there is one, and the dot. Returns the label and what follows the dot.
 fn cut_graph(text: &str) -> Option<(Option<&str>, &str)>
     ensures { IfSome result (λ x. text.now ≡ graph_then (option_copied x.0) (46 ∷ x.1.now)) }
 {
@@ -123,7 +124,7 @@ fn cut_graph(text: &str) -> Option<(Option<&str>, &str)>
     Some((Some(graph), rest))
 }
 
-/// The slices of a line that holds a statement.
+/// Splits a line that holds a statement into the slices of its terms.
 fn split_statement(line: &str) -> Option<RawStatement<'_>>
     ensures { IfSome result (IsLaidOut line.now) }
 {
@@ -142,7 +143,7 @@ fn split_statement(line: &str) -> Option<RawStatement<'_>>
     })
 }
 
-/// Puts the statement of a line after the others, if it has one. False if it is not split.
+/// Appends the statement of a line, if it has one. Returns false if the line cannot be split.
 fn add_line<'a>(line: &'a str, statements: &mut Vec<RawStatement<'a>>) -> Result<bool, AllocError>
     ensures { IfOk result (λ split. split ≡ true
         → Adds line.now statements.old.items statements.new.items) }
@@ -163,8 +164,8 @@ fn add_line<'a>(line: &'a str, statements: &mut Vec<RawStatement<'a>>) -> Result
 /// If each slice denotes a term that is allowed at its place, the lines of the piece hold the quads of
 /// these terms: [`read_piece`](crate::read_piece) would read the same quads.
 ///
-/// `None` if the piece is not UTF-8, contains a CR, or has a line that is not a blank line, a comment, or
-/// a statement with one space after each term. The piece may still be valid; read it with `read_piece`.
+/// Returns `None` if the piece is not UTF-8, contains a CR, or has a line that is not a blank line, a comment,
+/// or a statement with one space after each term. The piece may still be valid: `read_piece` decides.
 ///
 /// # Errors
 /// `AllocError` if an allocation fails.

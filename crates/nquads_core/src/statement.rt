@@ -37,7 +37,7 @@ pub fn iri_of(token: Token) -> Option<Text>
     }
 }
 
-/// The literal of a string without a suffix.
+/// Builds the literal of a string without a suffix.
 pub fn string_literal(alloc: Global, lexical: Text) -> Result<Term, AllocError>
     ensures { IfOk result (λ term. term ≡ Literal lexical xsd_string None) }
 {
@@ -49,7 +49,7 @@ pub fn string_literal(alloc: Global, lexical: Text) -> Result<Term, AllocError>
     })
 }
 
-/// The literal of a string with a language tag.
+/// Builds the literal of a string with a language tag.
 pub fn tagged_literal(alloc: Global, lexical: Text, tag: Text) -> Result<Term, AllocError>
     ensures { IfOk result (λ term. term ≡ Literal lexical rdf_lang_string (Some tag)) }
 {
@@ -61,7 +61,8 @@ pub fn tagged_literal(alloc: Global, lexical: Text, tag: Text) -> Result<Term, A
     })
 }
 
-/// The literal whose datatype follows `^^`, the first terminal after it, and what follows that.
+/// Reads the datatype after `^^`, and the first terminal after it. Returns the literal, that terminal, and
+/// what follows it.
 fn typed_literal(alloc: Global, lexical: Text, rest: &str) -> Result<(Term, Token, &str), LineFault>
     ensures { Gives (λ x. (x.0, (token_view x.1, chars x.2.now))) result (literal_of lexical (carets, chars rest.now)) }
 {
@@ -78,7 +79,7 @@ fn typed_literal(alloc: Global, lexical: Text, rest: &str) -> Result<(Term, Toke
     Ok((term, token, rest))
 }
 
-/// A literal, the first terminal after it, and what follows that ([7] `literal`).
+/// Returns a literal, the first terminal after it, and what follows that terminal ([7] `literal`).
 fn literal_of(
     alloc: Global,
     lexical: Text,
@@ -98,7 +99,7 @@ fn literal_of(
     }
 }
 
-/// An object, the first terminal after it, and what follows that ([5] `object`).
+/// Returns an object, the first terminal after it, and what follows that terminal ([5] `object`).
 fn object_of(
     alloc: Global,
     object: Token,
@@ -115,7 +116,7 @@ fn object_of(
     }
 }
 
-/// What follows a dot, if the text begins with one.
+/// Reads the dot after a graph label, and returns what follows it.
 fn after_dot(alloc: Global, text: &str) -> Result<&str, LineFault>
     ensures { (name : Term) → Gives (λ rest. (Some name, chars rest.now)) result
         (graph_dot_at name (chars text.now)) }
@@ -129,7 +130,8 @@ fn after_dot(alloc: Global, text: &str) -> Result<&str, LineFault>
     }
 }
 
-/// The graph label if there is one, and what follows the dot ([6] `graphLabel`).
+/// Reads the graph label, if there is one, and the dot ([6] `graphLabel`). Returns the graph name and what
+/// follows the dot.
 fn graph_of(alloc: Global, token: Token, rest: &str) -> Result<(Option<Term>, &str), LineFault>
     ensures found { Gives (λ x. (x.0, chars x.1.now)) result (graph_of (token_view token, chars rest.now)) }
     ensures name { IfOk result (λ x. is_graph_name x.0 ≡ true) }
@@ -144,7 +146,7 @@ fn graph_of(alloc: Global, token: Token, rest: &str) -> Result<(Option<Term>, &s
     Ok((Some(name), rest))
 }
 
-/// The quad of a text that holds a statement ([2] `statement`).
+/// Reads a statement, and returns its quad ([2] `statement`).
 #[tactic(auto, unfolding(crate::specs::LineParser::statement_at))]
 fn statement(alloc: Global, text: &str) -> Result<Quad, LineFault>
     ensures { Gives (λ q. Some (parts_of q)) result (statement_at (chars text.now)) }
@@ -172,7 +174,7 @@ fn statement(alloc: Global, text: &str) -> Result<Quad, LineFault>
     })
 }
 
-/// The quad of a text, or None if it has nothing but blanks and a comment.
+/// Reads a line, and returns its quad, or None if the line has only blanks and perhaps a comment.
 #[tactic(auto, unfolding(crate::specs::LineParser::line_at))]
 pub fn read_text(alloc: Global, text: &str) -> Result<Option<Quad>, LineFault>
     ensures { Gives (λ q. option_map parts_of q) result (line_at (chars text.now)) }

@@ -34,7 +34,7 @@ fn is_blank(c: char) -> bool
     c == ' ' || c == '\t'
 }
 
-/// The part of the text before `rest`, with which the text ends.
+/// Returns the part of the text before `rest`. The text ends with `rest`.
 fn text_before<'a>(text: &'a str, rest: &str) -> &'a str
     requires { (front : List ℕ) × (text.now ≡ front ++ rest.now) }
     ensures { text.now ≡ result.now ++ rest.now }
@@ -42,7 +42,7 @@ fn text_before<'a>(text: &'a str, rest: &str) -> &'a str
     &text[..text.len() - rest.len()]
 }
 
-/// What follows the blanks at the front.
+/// Skips the blanks at the front, and returns what follows them.
 pub fn skip_blanks(text: &str) -> &str
     ensures { chars result.now ≡ skip_blanks (chars text.now) }
 {
@@ -56,7 +56,7 @@ pub fn skip_blanks(text: &str) -> &str
     rest
 }
 
-/// What follows a label, after its first character.
+/// Skips a label after its first character, and returns what follows it.
 fn skip_label_tail(text: &str) -> &str
     ensures { chars result.now ≡ (label_tail_at (chars text.now)).1 }
 {
@@ -75,7 +75,7 @@ fn skip_label_tail(text: &str) -> &str
     good
 }
 
-/// After `_:`: the label, and what follows it ([141s] `BLANK_NODE_LABEL`).
+/// Reads a label after `_:`, and returns it with what follows it ([141s] `BLANK_NODE_LABEL`).
 fn read_label(alloc: Global, text: &str) -> Result<(Text, &str), LineFault>
     ensures { Gives (λ x. (x.0, chars x.1.now)) result (label_at (chars text.now)) }
 {
@@ -99,7 +99,7 @@ fn begins_alphanumeric(text: &str) -> bool
     }
 }
 
-/// Whether a subtag begins with this hyphen.
+/// Returns whether this character is a hyphen that an ASCII letter or digit follows.
 fn is_hyphen(c: char, after: &str) -> bool
     ensures { result ≡ ((c == 45) && begins is_ascii_alphanumeric (chars after.now)) }
 {
@@ -112,7 +112,7 @@ fn is_subtag_char(c: char, after: &str) -> bool
     c.is_ascii_alphanumeric() || is_hyphen(c, after)
 }
 
-/// What follows the subtags, after a character of one.
+/// Skips the subtags after the first hyphen, and returns what follows them.
 fn skip_subtags(text: &str) -> &str
     ensures { chars result.now ≡ (subtags_at (chars text.now)).1 }
 {
@@ -126,7 +126,7 @@ fn skip_subtags(text: &str) -> &str
     rest
 }
 
-/// What follows a tag.
+/// Skips a language tag, and returns what follows it.
 fn skip_tag(text: &str) -> &str
     ensures { chars result.now ≡ (tag_tail_at (chars text.now)).1 }
 {
@@ -143,7 +143,7 @@ fn skip_tag(text: &str) -> &str
     rest
 }
 
-/// After `@`: the tag in lower case, and what follows it ([144s] `LANGTAG`).
+/// Reads a tag after `@`, and returns it in lower case with what follows it ([144s] `LANGTAG`).
 fn read_tag(alloc: Global, text: &str) -> Result<(Text, &str), LineFault>
     ensures { Gives (λ x. (x.0, chars x.1.now)) result (tag_at (chars text.now)) }
 {
@@ -158,7 +158,7 @@ fn read_tag(alloc: Global, text: &str) -> Result<(Text, &str), LineFault>
     Ok((tag, rest))
 }
 
-/// After `<`: the IRI, which has a scheme, and what follows the `>` ([10] `IRIREF`).
+/// Reads an IRI with a scheme after `<`, and returns it with what follows the `>` ([10] `IRIREF`).
 fn read_iri(alloc: Global, text: &str) -> Result<(Text, &str), LineFault>
     ensures value { Gives (λ x. (x.0, chars x.1.now)) result (iri_at (chars text.now)) }
 {
@@ -174,7 +174,8 @@ fn read_iri(alloc: Global, text: &str) -> Result<(Text, &str), LineFault>
     }
 }
 
-/// After a quote: the string, and what follows the closing quote ([11] `STRING_LITERAL_QUOTE`).
+/// Reads a string after its opening quote, and returns it with what follows the closing quote
+/// ([11] `STRING_LITERAL_QUOTE`).
 fn read_string(alloc: Global, text: &str) -> Result<(Text, &str), LineFault>
     ensures value { Gives (λ x. (x.0, chars x.1.now)) result (string_at (chars text.now)) }
 {
@@ -184,7 +185,7 @@ fn read_string(alloc: Global, text: &str) -> Result<(Text, &str), LineFault>
     }
 }
 
-/// What follows this character.
+/// Returns what follows this character, or None if the text does not begin with it.
 fn after_char(expected: char, text: &str) -> Option<&str>
     ensures { Finds (λ x. chars x.now) result (after_char expected (chars text.now)) }
 {
@@ -192,7 +193,7 @@ fn after_char(expected: char, text: &str) -> Option<&str>
     if c == expected { Some(after) } else { None }
 }
 
-/// The terminal that begins with this character, and what follows it.
+/// Reads the terminal that begins with this character, and returns it with what follows it.
 #[tactic(auto, unfolding(crate::specs::LineParser::terminal_at))]
 fn token_from(alloc: Global, c: char, after: &str) -> Result<(Token, &str), LineFault>
     ensures { Gives (λ x. (token_view x.0, chars x.1.now)) result (terminal_at (c ∷ chars after.now)) }
@@ -228,7 +229,7 @@ fn token_from(alloc: Global, c: char, after: &str) -> Result<(Token, &str), Line
     Err(LineFault::Bad)
 }
 
-/// The terminal at the front, and what follows it.
+/// Reads the terminal at the front, and returns it with what follows it.
 #[tactic(auto, unfolding(crate::specs::LineParser::terminal_at))]
 pub fn token_at(alloc: Global, text: &str) -> Result<(Token, &str), LineFault>
     ensures { Gives (λ x. (token_view x.0, chars x.1.now)) result (terminal_at (chars text.now)) }
@@ -239,14 +240,14 @@ pub fn token_at(alloc: Global, text: &str) -> Result<(Token, &str), LineFault>
     token_from(alloc, c, after)
 }
 
-/// The next terminal, after blanks, and what follows it.
+/// Reads the next terminal, after blanks, and returns it with what follows it.
 pub fn next_token(alloc: Global, text: &str) -> Result<(Token, &str), LineFault>
     ensures { Gives (λ x. (token_view x.0, chars x.1.now)) result (next (chars text.now)) }
 {
     token_at(alloc, skip_blanks(text))
 }
 
-/// Whether nothing is left but blanks and a comment.
+/// Returns whether only blanks and perhaps a comment are left.
 pub fn is_end(text: &str) -> bool
     ensures { result ≡ is_end (skip_blanks (chars text.now)) }
 {

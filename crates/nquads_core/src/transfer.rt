@@ -14,7 +14,7 @@ pub enum ReadFault {
     Memory,
 }
 
-/// All bytes that the reader has left.
+/// Reads all bytes that are left in the reader.
 ///
 /// # Errors
 /// - `Read` if the reader fails in this call. Bytes before that may have been taken from it.
@@ -35,7 +35,7 @@ pub fn read_to_end<S: Source>(alloc: Global, reader: &mut S) -> Result<Vec<u8>, 
     }
 }
 
-/// Appends the bytes of one read, and returns how many there are: 0 only at the end.
+/// Appends the bytes of one read, and returns their number. It is 0 only at the end.
 ///
 /// # Errors
 /// - `Read` if the reader fails in this call. `bytes` is unchanged.
@@ -58,12 +58,12 @@ pub fn read_more<S: Source>(reader: &mut S, bytes: &mut Vec<u8>) -> Result<usize
     Ok(n)
 }
 
-/// Writes the whole text, by as many writes as the writer needs.
+/// Writes the whole text, with as many writes as the writer needs.
 ///
 /// # Errors
-/// `DeviceFailed`: the writer failed in this call, or took no byte of a text that was not empty. Where
-/// it failed, its count rose by one; where it took no byte, no call of it failed, and it is as that call
-/// left it. A beginning of the text was written, and not all of it.
+/// `DeviceFailed`: the writer failed in this call, or took no byte of a text that was not empty. If it
+/// failed, its count rose by one. If it took no byte, none of its calls failed, and it is as the last
+/// call left it. Only a beginning of the text was written, and not all of it.
 pub fn write_all<K: Sink>(writer: &mut K, text: &[u8]) -> Result<(), DeviceFailed>
     ensures ok { OnOk result (Appends (K.held writer.old) (K.held writer.new) text.now) }
     ensures ok_count { OnOk result (Stays (K.failures writer.old) (K.failures writer.new)) }

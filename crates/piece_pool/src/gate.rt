@@ -4,11 +4,10 @@ ghost use Rattle.std.specs.Prelude.{◌≡◌, ◌+◌, ◌<◌, ◌^◌};
 /// Callbacks of a worker: it calls `enter` before it runs piece `i`, and `leave` after. No contract
 /// mentions a gate, so no gate changes a result.
 pub trait Gate {
-    /// Called before a worker runs piece `i`, on the thread of the worker.
+    /// Runs before a worker runs piece `i`, on the thread of the worker.
     fn enter(&self, i: u64);
 
-    /// Called on the same thread after the worker ran piece `i`, whether the piece is faulty or
-    /// not.
+    /// Runs on the same thread after the worker ran piece `i`, whether the piece is faulty or not.
     fn leave(&self, i: u64);
 }
 

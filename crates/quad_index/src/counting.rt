@@ -8,7 +8,7 @@ use crate::sort_order::{SortOrder, sort_once};
 use dict_core::NumQuad;
 use std::alloc::{AllocError, Global};
 
-/// How many quads an index has, and how many graph names.
+/// The numbers of quads and graph names of an index.
 #[derive(Debug, Clone, Copy, PartialEq, Eq)]
 pub struct IndexCounts {
     /// The number of distinct quads.
@@ -19,7 +19,8 @@ pub struct IndexCounts {
 
 /// Counts the quads and the graph names of the index of these quads. A repeated quad counts once.
 ///
-/// The index is not built: one list of packed keys is sorted in place, and the quads are freed before.
+/// The index is not built. If all numbers can be packed, one list of packed keys is sorted in place, and the
+/// quads are freed before.
 ///
 /// # Errors
 /// `AllocError` if an allocation fails. The list is dropped.
@@ -65,7 +66,7 @@ fn count_graphs(keys: &[u128]) -> u64
     count
 }
 
-/// Counts the quads and the graph names of quads of any numbers.
+/// Counts the quads and the graph names of quads whose numbers may have any size.
 fn count_plain(alloc: Global, quads: Vec<NumQuad>) -> Result<IndexCounts, AllocError>
     ensures counts { IfOk result (IsCountOf quads.items) }
 {

@@ -15,8 +15,8 @@ use dict_core::NumQuad;
 use std::alloc::{AllocError, Global};
 use std::marker::Model;
 
-/// A set of numbered quads that is quick to search. A contract sees it as the list of its quads, in which each
-/// quad is once.
+/// A set of numbered quads that is quick to search. In contracts this type is the list of its quads, each
+/// once.
 pub struct Index {
     gspo: Vec<NumQuad>,
     gpos: Vec<NumQuad>,
@@ -51,7 +51,7 @@ impl Model for Index {
 }
 
 impl Index {
-    /// The index of these quads: a statement that is repeated counts once.
+    /// Builds the index of these quads. A repeated statement counts once.
     ///
     /// # Errors
     /// `AllocError` if an allocation fails. The list is dropped.
@@ -68,7 +68,7 @@ impl Index {
         Index::of_lists(alloc, gspo, gpos, gosp)
     }
 
-    /// The index of quads that are sorted already, in the three orders.
+    /// Builds the index of quads that are already sorted in the three orders.
     ///
     /// # Requires
     /// The lists hold the same quads, each once, and each list is sorted in its own order.
@@ -98,8 +98,8 @@ impl Index {
         })
     }
 
-    /// The quads of one graph, None for the default graph, that have the given numbers at the given
-    /// places: each once, in one of the orders of the index. The slice is borrowed, and nothing is copied.
+    /// Returns the quads of one graph, None for the default graph, that have the given numbers at the given
+    /// places. Each quad is in the result once. The slice is borrowed, and nothing is copied.
     pub fn scan(&self, g: Option<u64>, s: Option<u64>, p: Option<u64>, o: Option<u64>) -> &[NumQuad]
         ensures quads { IsPermutation (filter (agrees g s p o) self.now) result.now }
     {
@@ -116,7 +116,7 @@ impl Index {
         }
     }
 
-    /// The graph names, rising, each once.
+    /// Returns the graph names in ascending order, each once.
     pub fn graphs(&self) -> &[u64]
         ensures names { IsPermutation (without_repeats nat_eq (graph_names self.now)) result.now }
         ensures rising { IsStrictlyIncreasing result.now }
@@ -124,7 +124,7 @@ impl Index {
         self.graphs.as_slice()
     }
 
-    /// How many quads there are; repeats of the list that the index was made of do not count.
+    /// Returns the number of quads. Repeats in the list that the index was built from do not count.
     pub fn quads(&self) -> u64
         ensures count { result ≡ length self.now }
         ensures distinct { IsWithoutRepeats quad_eq self.now }
@@ -133,7 +133,7 @@ impl Index {
     }
 }
 
-/// The quad that a scan compares with; where no number is given, the place is not compared.
+/// Returns the quad that a scan compares with. A place without a number is 0, and is not compared.
 fn scan_key(g: Option<u64>, s: Option<u64>, p: Option<u64>, o: Option<u64>) -> NumQuad
     ensures quad { result ≡ scan_key g s p o }
 {
@@ -145,7 +145,7 @@ fn scan_key(g: Option<u64>, s: Option<u64>, p: Option<u64>, o: Option<u64>) -> N
     }
 }
 
-/// The graph names of sorted quads, each once.
+/// Returns the graph names of sorted quads, each once.
 pub(crate) fn names_of(alloc: Global, quads: &[NumQuad]) -> Result<Vec<u64>, AllocError>
     ensures names { IfOk result (λ names. names.items ≡ dedup nat_eq (graph_names quads.now)) }
 {

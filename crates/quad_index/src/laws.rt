@@ -1,5 +1,5 @@
-//! Laws of an index, each the contract of a function that does nothing: for the layer above, which
-//! reads numbers as terms.
+//! Laws of an index, each the contract of a function that does nothing. They are for callers that
+//! read the numbers as terms.
 ghost use Rattle.quad_index.specs.Laws.{IndexReadsTheQuads, IndexCountsTheQuads, IndexNamesTheGraphs};
 
 /// An index of numbered quads, read through their dictionary, is the set of the quads, and each of

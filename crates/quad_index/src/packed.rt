@@ -1,7 +1,7 @@
 //! Lists that are sorted by packed keys.
 //!
-//! Four numbers of 32 bits are one number of 128 bits, whose order is the order of the quads. Such keys are
-//! sorted several times faster than quads.
+//! Four numbers of 32 bits are packed into a key of 128 bits. The order of the keys is the order of the quads.
+//! Keys are sorted several times faster than quads.
 ghost use Rattle.std.specs.Prelude.{◌≡◌, true, map, All, IfOk, IfSome, IsPermutation, IsSorted};
 ghost use Rattle.algebra_model.specs.Bag.{IsWithoutRepeats, without_repeats};
 ghost use Rattle.dict_core.proofs.NumQuadLaws.{quad_eq};
@@ -19,7 +19,8 @@ const PLACE: u128 = 1 << 32;
 /// The least number that is not packed.
 const TOO_LARGE: u64 = 0xFFFF_FFFF;
 
-/// A sorted list of quads, each once, as packed keys: 16 bytes for each quad. A contract sees the list of the quads.
+/// A sorted list of quads, each once, as packed keys: 16 bytes for each quad. In contracts this type is the list of
+/// the quads.
 #[derive(Drop)]
 pub struct PackedList {
     keys: Vec<u128>,
@@ -72,7 +73,7 @@ impl PackedList {
     }
 }
 
-/// The keys of the quads, or `None` if a number is too large for its place.
+/// Packs the quads into keys. Returns `None` if a number is too large for its place.
 pub(crate) fn keys_of(
     alloc: Global,
     quads: &[NumQuad],
@@ -92,7 +93,7 @@ pub(crate) fn keys_of(
     Ok(Some(keys))
 }
 
-/// Whether each number has a place in a key.
+/// Returns whether each number fits into its place in a key.
 fn is_small(quad: &NumQuad) -> bool
     ensures small { result ≡ true → IsSmall quad.now }
 {
@@ -118,14 +119,14 @@ fn key_of(order: SortOrder, quad: &NumQuad) -> u128
     ((g * PLACE + a as u128) * PLACE + b as u128) * PLACE + c as u128
 }
 
-/// The place of the graph name in a key: 0 if there is none.
+/// Returns the part of a key for the graph name. It is 0 if there is no name.
 pub(crate) fn graph_key_of(key: u128) -> u64
     ensures graph { result ≡ graph_key_of key }
 {
     (key / PLACE / PLACE / PLACE) as u64
 }
 
-/// The quads that have these keys.
+/// Returns the quads that have these keys.
 fn quads_of(alloc: Global, keys: &[u128], order: SortOrder) -> Result<Vec<NumQuad>, AllocError>
     ensures quads { IfOk result (λ quads. quads.items ≡ map (quad_of order) keys.now) }
 {

@@ -7,7 +7,7 @@ use crate::prefix::Prefix;
 use dict_core::NumQuad;
 use std::cmp::Ordering;
 
-/// The quads that agree with this one on these places: two binary searches.
+/// Returns the quads that agree with this one on these places. Searches the list twice, by bisection.
 #[inline(always)]
 pub(crate) fn range<'a>(list: &'a [NumQuad], by: Prefix, key: NumQuad) -> &'a [NumQuad]
     requires sorted { IsSorted (prefix_cmp by) list.now }
@@ -19,7 +19,7 @@ pub(crate) fn range<'a>(list: &'a [NumQuad], by: Prefix, key: NumQuad) -> &'a [N
     &rest[..count]
 }
 
-/// The order of two quads by these places.
+/// Compares two quads by these places.
 #[inline(always)]
 fn compare(by: Prefix, a: &NumQuad, b: &NumQuad) -> Ordering
     ensures order { result ≡ prefix_cmp by a.now b.now }

@@ -8,8 +8,8 @@ use crate::packed::PackedList;
 use dict_core::NumQuad;
 use std::alloc::{AllocError, Global};
 
-/// An order of quads: by the graph, where no graph comes first, then by the places that the name
-/// lists.
+/// An order of quads: by the graph, with the default graph first, and then by the places that the
+/// name lists.
 #[derive(Debug, Clone, Copy, PartialEq, Eq)]
 pub enum SortOrder {
     /// Graph, subject, predicate, object.
@@ -20,10 +20,10 @@ pub enum SortOrder {
     Gosp,
 }
 
-/// The quads in this order, each once.
+/// Returns the quads in this order, each once.
 ///
-/// Lists of the same quads in the three orders make an index by `Index::of_lists`, so that they may
-/// be sorted in parallel.
+/// `Index::of_lists` builds an index from the lists of the same quads in the three orders. The lists
+/// may thus be sorted in parallel.
 ///
 /// # Errors
 /// `AllocError` if an allocation fails.
@@ -43,7 +43,7 @@ pub fn sorted_list(
     }
 }
 
-/// The quads in this order, each once, whatever their numbers.
+/// Returns the quads in this order, each once. Their numbers may have any size.
 fn plain_list(
     alloc: Global,
     quads: &[NumQuad],
