@@ -38,7 +38,7 @@ use std::thread::Threads;
 /// - `BadLine(n)` if line n of the document, counted from 1, is the first that is malformed.
 /// - `WorkerRefused` if a worker thread could not be started. Those that were started have been joined.
 ///   With one worker no thread is started, so this cannot occur.
-/// - `Memory` if an allocation fails, or if the runtime gives no random numbers.
+/// - `Memory` if an allocation fails, or if the runtime provides no random numbers.
 pub fn load<R: Threads + Wait + RandomSource, G: Gate + Sync>(
     rt: &R,
     alloc: Global,

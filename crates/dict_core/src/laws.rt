@@ -12,8 +12,8 @@ pub fn absorbing_keeps_the_numbering()
     ensures law { AbsorbingKeepsTheNumbering }
 {}
 
-/// Terms that were looked up in an earlier dictionary may be taken into a later one: it comes to
-/// the same as to look them up there.
+/// Terms that were looked up in an earlier dictionary may be added to a later one. The result is
+/// the same as if they were looked up in the later one.
 pub fn earlier_places_serve()
     ensures law { EarlierPlacesServe }
 {}

@@ -372,7 +372,7 @@ fn evaluate_member<R: Lookup>(
     Ok(found)
 }
 
-/// The truth table of `||`; None is an error.
+/// Returns the value of `||` by its truth table. None is an error.
 fn either(left: Option<bool>, right: Option<bool>) -> Option<bool>
     ensures value { result ≡ logical_or left right }
 {
@@ -386,7 +386,7 @@ fn either(left: Option<bool>, right: Option<bool>) -> Option<bool>
     }
 }
 
-/// The truth table of `&&`; None is an error.
+/// Returns the value of `&&` by its truth table. None is an error.
 fn both(left: Option<bool>, right: Option<bool>) -> Option<bool>
     ensures value { result ≡ logical_and left right }
 {

@@ -92,7 +92,7 @@ pub enum Reason {
     NoSubtag(Found),
     /// A single `^`
     OneCaret(Found),
-    /// The reason is not known. No test gives this reason.
+    /// The reason is not known. No test has this reason.
     Unexplained,
 }
 

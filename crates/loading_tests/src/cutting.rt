@@ -120,7 +120,7 @@ fn six_blocks(
     Ok(text)
 }
 
-/// Prints the results of six calls for the blocks of a document. The reader gives one byte per
+/// Prints the results of six calls for the blocks of a document. The reader returns one byte per
 /// call, until it fails.
 fn blocks(alloc: Global, doc: &str, size: usize, until: usize) -> Result<String, AllocError>
     requires some { 1 ≤ size }

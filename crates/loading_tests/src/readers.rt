@@ -165,7 +165,7 @@ fn a_reader_loads_as_the_document(rt: HostRuntime) {
     check_calls(&rt, rt.alloc(), 65536, 4);
 }
 
-/// A document that is read in three rounds: 144 comments of 64 KiB, and then a malformed line.
+/// Builds a document that is read in three rounds: 144 comments of 64 KiB, and then a malformed line.
 fn three_rounds(alloc: Global) -> Result<Vec<u8>, AllocError> {
     let mut doc = Vec::new(alloc);
     for lines in 1..145 {
@@ -196,7 +196,7 @@ fn rounds_count_lines_and_pieces_of_the_document(rt: HostRuntime) {
     check_gate(&rt, &gate);
 }
 
-/// A document that is read in three rounds: 144 statements with a subject of their own, and a comment after each.
+/// Builds a document that is read in three rounds: 144 statements with different subjects, and a comment after each.
 fn statements(alloc: Global) -> Result<Vec<u8>, AllocError> {
     let mut doc = Vec::new(alloc);
     for lines in 1..145 {
@@ -232,7 +232,7 @@ fn all_rounds_are_added(rt: HostRuntime) {
     }
 }
 
-/// The document of three rounds with a malformed first line.
+/// Builds the document of three rounds with a malformed first line.
 fn malformed_rounds(alloc: Global) -> Result<Vec<u8>, AllocError> {
     let mut doc = three_rounds(alloc)?;
     if let Some(first) = doc.first_mut() {

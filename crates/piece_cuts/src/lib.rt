@@ -5,8 +5,8 @@
 //!
 //! - The concatenated pieces of cuts that fit a document are the document, and each piece but the
 //!   last ends with a line feed.
-//! - The blocks that [`Blocks::next`] returns are the pieces of `Cuts::every` of what the reader
-//!   gives, in order.
+//! - The blocks that [`Blocks::next`] returns are the pieces of `Cuts::every` of the bytes of the
+//!   reader, in order.
 //!
 //! Standard: RDF 1.1 N-Quads, [8] `EOL`. A line feed ends a line wherever it occurs, so no line is
 //! split. At which line feeds a document is split is a choice of this project (not fixed by the

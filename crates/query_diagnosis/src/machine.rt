@@ -26,7 +26,7 @@ pub enum Cause {
     LongRow,
     /// A row of VALUES has fewer values than the list has variables
     ShortRow,
-    /// The cause is not known. No test gives this cause.
+    /// The cause is not known. No test has this cause.
     Unexplained,
 }
 
@@ -290,7 +290,7 @@ fn found_by(
 /// 19.8).
 ///
 /// Some query begins with the terminals before the place. If this could not be shown, the place is
-/// the first and its cause is `Unexplained`; no test gives this cause.
+/// the first and its cause is `Unexplained`. No test has this cause.
 ///
 /// # Errors
 /// `AllocError` if an allocation fails.

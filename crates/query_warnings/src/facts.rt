@@ -1,4 +1,4 @@
-//! What a loaded dataset shows.
+//! Facts about a query and a loaded dataset.
 ghost use Rattle.std.specs.Prelude.{◌≡◌, ◌<◌, ◌&&◌, [], IfOk, None, true, filter, length};
 ghost use Rattle.std.specs.List.{list_any};
 ghost use Rattle.std.specs.Str.{chars};
@@ -34,7 +34,7 @@ pub enum Datatype {
 }
 
 impl Datatype {
-    /// All of them.
+    /// All datatypes.
     pub const ALL: [Datatype; 4] = [
         Datatype::Double,
         Datatype::Float,
@@ -42,7 +42,7 @@ impl Datatype {
         Datatype::Date,
     ];
 
-    /// Its name, as SPARQL's prologues abbreviate its IRI.
+    /// Returns the prefixed name of the datatype, such as `xsd:double`.
     pub fn name(self) -> &'static str
         ensures value { result.now ≡ short_name (iri_of self) }
     {
@@ -77,7 +77,7 @@ impl Facts {
         is_named_only: false,
     };
 
-    /// Whether the query compares, and the dataset has a literal of this datatype.
+    /// Returns whether the query compares, and the dataset has a literal of this datatype.
     pub fn has(&self, datatype: Datatype) -> bool
         ensures double { datatype ≡ Double → result ≡ self.now.double }
         ensures float { datatype ≡ Float → result ≡ self.now.float }
@@ -102,7 +102,7 @@ fn is_literal_of(term: &Term, datatype: &str) -> bool
     }
 }
 
-/// Whether some term of a dictionary is a literal of this datatype.
+/// Returns whether some term of a dictionary is a literal of this datatype.
 fn has_literal_of(dict: &Dict, datatype: &str) -> bool
     ensures value { result ≡ list_any (is_literal_of datatype.now) dict.now }
 {
@@ -114,7 +114,7 @@ fn has_literal_of(dict: &Dict, datatype: &str) -> bool
     false
 }
 
-/// Whether no quad is in the default graph, and some quad is in a named graph.
+/// Returns whether no quad is in the default graph, and some quad is in a named graph.
 fn is_named_only(store: &Store) -> bool
     ensures empty { result ≡ true
         → filter (agrees None None None None) store.now.index ≡ [] }

@@ -1,7 +1,7 @@
-//! What of a query and a dataset makes rows disappear without a sign, for warnings.
+//! Finds reasons why rows may be missing from a result, for warnings.
 //!
-//! [`facts_of`] looks at a loaded dataset; [`text_compares`], [`has_graph`] and [`unused`] look at the terminals of
-//! the query's text. Each function only borrows, and changes no result.
+//! [`facts_of`] looks at a loaded dataset. [`text_compares`], [`has_graph`] and [`unused`] look at the terminals of
+//! the query's text. Each function only borrows its arguments, and changes no result.
 //!
 //! - Comparisons with literals of some datatypes ([`Datatype`]) are errors here, so FILTER drops their rows.
 //!   [`facts_of`] names a datatype exactly if the query compares (`is_comparing` of specs/QueryFeatures.antt) and some
@@ -11,10 +11,10 @@
 //!
 //! Standard: SPARQL 1.1 Query Language, sections 17.3 (comparisons), 13 (the default graph).
 //!
-//! To read in this order: specs/QueryFeatures.antt, `query_features` (the query), `facts` (the dataset).
+//! Reading order: specs/QueryFeatures.antt, `query_features` (the query), `facts` (the dataset).
 //! Tests: `messages` of the crate program_tests, which has each warning.
 //!
-//! Not promised: that a row was dropped.
+//! Not guaranteed: that a row was dropped.
 #![tactic(auto)]
 
 mod facts;

@@ -1,4 +1,4 @@
-//! What the terminals of a query say.
+//! Facts about the terminals of a query.
 ghost use Rattle.std.specs.Prelude.{◌≡◌};
 ghost use Rattle.std.specs.List.{list_any};
 ghost use Rattle.query_warnings.specs.QueryFeatures.{is_comparing, is_graph};
@@ -6,7 +6,7 @@ ghost use Rattle.query_warnings.specs.QueryFeatures.{is_comparing, is_graph};
 use sparql_lexer::{Keyword, Kind, Sign, Token};
 use std::alloc::{AllocError, Global};
 
-/// Whether this terminal compares values: a comparison operator, or IN.
+/// Returns whether a terminal of this kind compares values: it is a comparison operator, or IN.
 fn is_comparing(kind: Kind) -> bool
     ensures { result ≡ is_comparing kind }
 {
@@ -47,7 +47,7 @@ pub fn has_graph(tokens: &[Token<'_>]) -> bool
     tokens.iter().any(|token| is_graph(token.kind))
 }
 
-/// The number of terminals before the query's group.
+/// Returns the number of terminals before the query's group.
 fn group_start(tokens: &[Token<'_>]) -> usize {
     for at in 0..tokens.len() {
         if matches!(tokens[at].kind, Kind::Sign(Sign::OpenBrace)) {
@@ -57,7 +57,7 @@ fn group_start(tokens: &[Token<'_>]) -> usize {
     tokens.len()
 }
 
-/// The name of a variable without its sign; None of another terminal.
+/// Returns the name of a variable without its sign, or None for another terminal.
 fn name_of<'a>(token: &Token<'a>) -> Option<&'a [char]> {
     if token.kind == Kind::Variable {
         token.text.get(1..)

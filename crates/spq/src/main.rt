@@ -1,10 +1,10 @@
 //! spq: evaluates SPARQL SELECT over an N-Quads document, checks one, and lists its terms.
 //!
-//! The document comes on standard input, and the output goes to standard output, also the line of a
-//! fault. The exit status is 0, or that of the fault. All that is promised is promised by `run_words`
-//! and `finish` of `spq_core`; here they meet the arguments and the two devices.
-//! Then `report` of `spq_report` says on standard error why a run failed and where. At a terminal, a thread of
-//! its own shows how far a long run is.
+//! The document is read from standard input. The output, or the line of a fault, is written to standard output.
+//! The exit status is 0, or that of the fault. The contracts are those of `run_words` and `finish` of
+//! `spq_core`, which this crate calls with the arguments and the two devices.
+//! Then `report` of `spq_report` writes to standard error why a run failed and where. At a terminal, another
+//! thread shows the progress of a long run.
 //!
 //! Tests: `tests/tour.py`, `tests/hostile.py` and `tests/messages.py` run the executable; the crate
 //! program_tests tests `run_words`.
@@ -22,7 +22,7 @@ use std::thread::Threads;
 use std::time::Clock;
 use std::{env, thread};
 
-/// The words of the command line.
+/// Returns the words of the command line.
 fn words_of(rt: &HostRuntime) -> Result<Vec<String>, RunFault> {
     let args = match env::args(rt) {
         Ok(args) => args,
@@ -38,7 +38,7 @@ fn words_of(rt: &HostRuntime) -> Result<Vec<String>, RunFault> {
     Ok(words)
 }
 
-/// Which devices are terminals.
+/// Returns which devices are terminals.
 fn terminals_of(rt: &HostRuntime) -> Terminals {
     Terminals {
         input: rt.stdin().is_terminal(),
@@ -47,7 +47,7 @@ fn terminals_of(rt: &HostRuntime) -> Terminals {
     }
 }
 
-/// Ends a program whose words could not be taken.
+/// Ends a program whose words could not be read.
 fn end_without_words(rt: &HostRuntime, fault: RunFault, terminals: Terminals) -> u8 {
     let mut writer = Output::new(rt.stdout(), &NoMeter);
     let done = Err(fault);
@@ -83,7 +83,7 @@ fn end<M: Meter>(
     status
 }
 
-/// Runs words. At a terminal, a thread of its own shows how far the run is, if it can be started.
+/// Runs the words of a command line. At a terminal, another thread shows the progress, if it can be started.
 fn run_watched<
     'r,
     R: Threads + Wait + RandomSource + Clock + Sync,

@@ -202,7 +202,7 @@ fn joined(alloc: Global, blocks: &[Vec<u8>]) -> Result<Vec<u8>, AllocError>
 ///   malformed line.
 /// - `WorkerRefused` if the text is a query, and a worker thread could not be started. Those that were
 ///   started have been joined. With one worker no thread is started, so it cannot occur.
-/// - `Memory` if an allocation fails, or if the runtime gives no random numbers.
+/// - `Memory` if an allocation fails, or if the runtime provides no random numbers.
 pub fn answer<R: Threads + Wait + RandomSource, G: Gate + Sync>(
     rt: &R,
     alloc: Global,

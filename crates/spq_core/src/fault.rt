@@ -15,7 +15,7 @@ pub enum Fault {
     /// A worker thread could not be started. Those that were started have been joined. The text is a query.
     /// The document may be malformed.
     WorkerRefused,
-    /// Out of memory, or the runtime gives no random numbers.
+    /// Out of memory, or the runtime provides no random numbers.
     Memory,
 }
 

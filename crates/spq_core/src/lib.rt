@@ -14,7 +14,7 @@
 //! Standards: SPARQL 1.1 Query Language, sections 17 to 19; SPARQL 1.1 Query Results JSON Format;
 //! RDF 1.1 N-Quads.
 //!
-//! To read in this order: `fault`, `notes`, `answering` (the result of a query), `listing` (what `check` and `terms`
+//! Reading order: `fault`, `notes`, `answering` (the result of a query), `listing` (what `check` and `terms`
 //! print), `program` (`run`), `words` (a command line, and the thread of a query), `report` (lines and statuses of
 //! faults, and the end), `laws`.
 //!
@@ -23,7 +23,7 @@
 //! `{"head":{"vars":["o"]},"results":{"bindings":[{"o":{"type":"literal","value":"x"}}]}}`; the test
 //! `patterns_are_evaluated` of program_tests runs such examples.
 //!
-//! Not promised: that memory suffices, that a call returns (it joins its workers), speed, and what a
+//! Not guaranteed: that memory suffices, that a call returns (it joins its workers), speed, and what a
 //! file or a terminal holds.
 #![tactic(auto)]
 

@@ -1,4 +1,4 @@
-//! What `check` and `terms` print of a dataset.
+//! What `check` and `terms` print about a dataset.
 ghost use Rattle.std.specs.Prelude.{◌≡◌, ◌++◌, IfOk, OnOk, decimal, length};
 ghost use Rattle.spq_core.specs.Listing.{counts_line, term_lines};
 
@@ -15,7 +15,7 @@ fn push_number(text: &mut Vec<u8>, n: u64) -> Result<(), AllocError>
     text.extend_from_slice(buffer.format(n).as_bytes())
 }
 
-/// How many distinct quads, terms and graph names there are, as one line.
+/// Returns the numbers of distinct quads, terms and graph names, as one line.
 pub fn counts_text(alloc: Global, counted: &Counted) -> Result<Vec<u8>, AllocError>
     ensures text { IfOk result (λ text. text.items ≡ counts_line
         counted.now.quads (length counted.now.dict) counted.now.graphs) }
@@ -31,7 +31,7 @@ pub fn counts_text(alloc: Global, counted: &Counted) -> Result<Vec<u8>, AllocErr
     Ok(text)
 }
 
-/// The terms by number, each on a line of its own.
+/// Returns the terms by number, each on its own line.
 pub fn terms_text(alloc: Global, dict: &Dict) -> Result<Vec<u8>, AllocError>
     ensures text { IfOk result (λ text. text.items ≡ term_lines dict.now) }
 {

@@ -1,4 +1,4 @@
-//! What a run notes for messages to people, in addition to what it returns. No clause and no output depends on it.
+//! Notes that a run takes for messages to the user. No clause and no output depends on them.
 
 use dataset_load::{Line, LoadNotes, Store};
 use query_warnings::{Facts, facts_of, text_compares};
@@ -19,9 +19,9 @@ pub enum Stage {
     Printing,
 }
 
-/// What a run calls as it begins its stages.
+/// Callbacks of a run at the beginning of its stages.
 pub trait Progress {
-    /// This stage begins. (A run does not call this for `Sorting`: the end of the reader begins it.)
+    /// Runs when this stage begins. A run does not call this for `Sorting`, which begins at the end of the reader.
     fn begin(&self, stage: Stage);
 }
 
@@ -33,12 +33,12 @@ impl Progress for NoProgress {
     fn begin(&self, _stage: Stage) {}
 }
 
-/// What a run has noted.
+/// The notes of a run.
 #[derive(Drop)]
 pub struct Notes {
     /// The last stage that began.
     pub stage: Stage,
-    /// The malformed line that it returned the number of, if there was memory for it.
+    /// The malformed line whose number was returned, if there was memory for it.
     pub line: Option<Line>,
     /// What its query and its dataset show together.
     pub facts: Facts,
@@ -76,7 +76,7 @@ impl<'p, P> Drop for Log<'p, P> {
 }
 
 impl<'p, P: Progress> Log<'p, P> {
-    /// Returns a log with no notes.
+    /// Creates a log without notes.
     pub(crate) fn new(progress: &'p P) -> Log<'p, P> {
         Log {
             notes: Notes::new(),
@@ -96,7 +96,7 @@ impl<'p, P: Progress> Log<'p, P> {
         self.progress.begin(stage);
     }
 
-    /// Notes what loading the document noted.
+    /// Adds the notes of loading the document.
     pub(crate) fn loaded(&mut self, loading: LoadNotes) {
         let LoadNotes { line, is_read } = loading;
         if is_read {

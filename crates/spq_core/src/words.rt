@@ -1,5 +1,5 @@
-//! The words of a command line over a reader and a writer: the command that they are, run on a stack
-//! that is as large as its query may need.
+//! Runs the words of a command line over a reader and a writer. A query runs on a stack that is as
+//! large as the query may need.
 ghost use Rattle.std.specs.Prelude.{◌≡◌, ◌⊎◌, ◌+◌, ◌*◌, ◌-◌, ◌^◌, Err, length, map, min, string_bytes};
 ghost use Rattle.spq_core.specs.QueryStack.{least_stack, stack_per_byte};
 ghost use Rattle.spq_core.specs.Output.{request_of, select};
@@ -24,25 +24,25 @@ use std::thread::{Promise, Scope, Threads};
 /// The bytes of stack for an empty query.
 const LEAST_STACK: usize = 8 * 1024 * 1024;
 
-/// The bytes of stack for each byte of a query. A part of a chain that is as short as can be, `{}`,
-/// is walked in less than what its two bytes get.
+/// The bytes of stack for each byte of a query. The shortest part of a chain is `{}`. It needs less
+/// stack than its two bytes get.
 const STACK_PER_BYTE: usize = 4 * 1024;
 
 /// The result of the words of a command line, and the reader and the writer that were passed with them.
 #[derive(Drop)]
 pub struct Ran<S, K> {
-    /// Nothing, or why the words were not done.
+    /// Nothing, or why the command was not done.
     pub done: Result<(), RunFault>,
     /// The reader, as it was left.
     pub reader: S,
     /// The writer, as it was left.
     pub writer: K,
-    /// What was noted for messages to people.
+    /// The notes for messages to the user.
     pub notes: Notes,
 }
 
 impl<S, K> Ran<S, K> {
-    /// Nothing was run, for this reason.
+    /// Returns this fault and the unchanged reader and writer. No command was run.
     fn not_run(fault: RunFault, reader: S, writer: K) -> Ran<S, K>
         ensures done { result.done ≡ Err fault }
         ensures unread { result.reader ≡ reader }
@@ -57,7 +57,7 @@ impl<S, K> Ran<S, K> {
     }
 }
 
-/// That a thread runs this command over this reader and this writer.
+/// The claim that a thread runs this command over this reader and this writer.
 #[derive(Drop)]
 struct RunOver<S, K> {
     command: Snapshot<Command>,
@@ -72,7 +72,7 @@ impl<S: Source, K: Sink> Promise<Ran<S, K>> for RunOver<S, K> {
         → ran.done ≡ Err WorkerRefused → ran.reader ≡ p.reader.value) };
 }
 
-/// The bytes of stack that a query may need.
+/// Returns the number of bytes of stack that a query may need.
 fn stack_for(query: &str) -> usize
     ensures stack { result ≡ min (least_stack + stack_per_byte * length query.now) (2 ^ 64 - 1) }
 {
@@ -279,21 +279,21 @@ fn run_command<
     }
 }
 
-/// Does what the words of a command line say: reads the command that they are and runs it. A query
-/// is checked on the caller's thread, and then gets a thread of its own, whose stack grows with its
-/// text; `check` and `terms` run on the caller's thread.
+/// Reads the words of a command line and runs their command. A query is checked on the caller's
+/// thread, and then runs on a thread of its own, whose stack grows with its text. `check` and `terms`
+/// run on the caller's thread.
 ///
 /// # Errors
-/// - `Line` if the words are no command. Nothing is read or written.
+/// - `Line` if the words are not a valid command line. Nothing is read or written.
 /// - `Query` if the query of a `select` is rejected. No thread is started, and nothing is read or
 ///   written.
 /// - `WorkerRefused` if a worker thread, or the thread of a query, could not be started. The query of a
 ///   `select` is then valid. Nothing is read or written if it was the thread of a query. With one
 ///   worker no other thread is started, so it cannot occur in a `check` or a `terms`.
 /// - `Memory` if an allocation fails, or for one of the other reasons of `load_reader`.
-/// - All else as in [`run`](crate::run).
+/// - All other errors as in [`run`](crate::run).
 ///
-/// The reader and the writer are handed back after each of them.
+/// The reader and the writer are returned in every case.
 pub fn run_words<
     R: Threads + Wait + RandomSource + Sync,
     S: Source + Send + Drop,

@@ -1,4 +1,4 @@
-//! What is shown at a terminal of a run that takes more than a second.
+//! Shows the progress of a run at a terminal, if the run takes more than a second.
 
 use crate::devices::Meter;
 use spq_core::{Progress, Stage};
@@ -7,7 +7,7 @@ use std::io::Write;
 use std::sync::{Condvar, Mutex, Wait};
 use std::time::{Clock, Duration, Instant};
 
-/// The milliseconds that a run takes before anything is shown of it.
+/// The milliseconds after which the progress of a run is shown first.
 const BEFORE: u64 = 1000;
 
 /// The milliseconds after which the line is written again.
@@ -24,7 +24,7 @@ pub struct Terminals {
     pub error: bool,
 }
 
-/// How far a run is, and the terminal that shows it.
+/// The progress of a run, and the terminal that shows it.
 #[derive(Drop)]
 struct Screen<W> {
     out: W,
@@ -79,8 +79,8 @@ impl<W: Write> Screen<W> {
     }
 }
 
-/// A meter that says that a terminal is read, and that shows at a terminal how far a run is: one line, which is
-/// written again in its place and cleared at the end. Threads may share it.
+/// A meter that shows the progress of a run at a terminal, in one line that is rewritten in place and cleared at the
+/// end. It also writes a line if the document is read from a terminal. Threads may share a console.
 #[derive(Drop)]
 pub struct Console<R, C, W> {
     rt: R,
@@ -92,7 +92,7 @@ pub struct Console<R, C, W> {
 }
 
 impl<R: Wait, C: Clock, W: Write> Console<R, C, W> {
-    /// Returns a console that has shown nothing, of a run that begins now.
+    /// Creates the console of a run that begins now.
     pub fn new(rt: R, clock: C, out: W, terminals: Terminals) -> Console<R, C, W> {
         let start = Instant::now(&clock).ok();
         let screen = Screen {
@@ -115,18 +115,18 @@ impl<R: Wait, C: Clock, W: Write> Console<R, C, W> {
         }
     }
 
-    /// Returns whether anything may be shown: standard error is a terminal, and nobody types at standard input.
+    /// Returns whether progress may be shown: standard error is a terminal, and standard input is not.
     pub fn is_watched(&self) -> bool {
         self.terminals.error && !self.terminals.input
     }
 
-    /// The milliseconds since the start; None if the clock fails.
+    /// Returns the milliseconds since the start, or None if the clock fails.
     fn elapsed(&self) -> Option<u128> {
         let time = self.start?.elapsed(&self.clock).ok()?;
         Some(time.as_millis())
     }
 
-    /// Shows how far the run is, if it has taken more than a second and has not ended.
+    /// Shows the progress of the run, if it has taken a second or more and has not ended.
     pub fn show(&self) {
         let Some(millis) = self.elapsed() else {
             return;
@@ -137,7 +137,7 @@ impl<R: Wait, C: Clock, W: Write> Console<R, C, W> {
         }
     }
 
-    /// Shows how far the run is, again and again until it ends.
+    /// Shows the progress of the run repeatedly until it ends.
     pub fn watch<T: Wait + Clock>(&self, rt: &T) {
         let mut time = Duration::from_millis(BEFORE);
         for _ in self.rt.forever() {
@@ -161,7 +161,7 @@ impl<R: Wait, C: Clock, W: Write> Console<R, C, W> {
     }
 }
 
-/// How many lines end in these bytes.
+/// Counts the lines that end in these bytes.
 fn line_feeds(bytes: &[u8]) -> u64 {
     let mut count = 0u64;
     for byte in bytes {
@@ -218,7 +218,7 @@ impl<R: Wait, C: Clock, W: Write> Meter for Console<R, C, W> {
         screen.lines = screen.lines.saturating_add(lines);
     }
 
-    /// A line of progress must not be in the middle of the output.
+    /// Ends the progress line if the output is a terminal, so that the line is not in the middle of the output.
     fn writes(&self) {
         if self.terminals.output && self.is_watched() {
             self.end();

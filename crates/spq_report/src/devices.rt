@@ -4,15 +4,15 @@ ghost use Rattle.std.specs.Prelude.{◌≡◌, None, false};
 use nquads_core::{DeviceFailed, Sink, Source};
 use std::io::{Error, Read, Write};
 
-/// What an [`Input`] and an [`Output`] call as they read and write.
+/// Callbacks of an [`Input`] and an [`Output`].
 pub trait Meter {
-    /// A read is about to begin.
+    /// Runs before a read.
     fn begins(&self);
 
-    /// A read gave these bytes; none at the end.
+    /// Runs after a read that returned these bytes. At the end there are none.
     fn gave(&self, bytes: &[u8]);
 
-    /// A write is about to begin.
+    /// Runs before a write.
     fn writes(&self);
 }
 
@@ -29,7 +29,7 @@ impl Meter for NoMeter {
 }
 
 /// A reader of std as a source. It keeps the first error of the reader, and calls a meter. After the end was read it
-/// reads no more: at a terminal each further read would wait for another end.
+/// reads no more, because at a terminal each further read would wait for another end.
 #[derive(Drop)]
 pub struct Input<'m, T, M> {
     pub inner: T,
@@ -41,7 +41,7 @@ pub struct Input<'m, T, M> {
 }
 
 impl<'m, T, M> Input<'m, T, M> {
-    /// Returns a source that has had no error.
+    /// Creates a source that has had no error.
     pub fn new(inner: T, meter: &'m M) -> Input<'m, T, M>
         ensures inner { result.inner ≡ inner }
         ensures meter { result.meter.now ≡ meter.now }
@@ -94,7 +94,7 @@ pub struct Output<'m, T, M> {
 }
 
 impl<'m, T, M> Output<'m, T, M> {
-    /// Returns a sink that has had no error.
+    /// Creates a sink that has had no error.
     pub fn new(inner: T, meter: &'m M) -> Output<'m, T, M>
         ensures inner { result.inner ≡ inner }
         ensures meter { result.meter.now ≡ meter.now }

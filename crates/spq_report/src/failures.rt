@@ -16,9 +16,10 @@ pub fn repeat<W: Write>(out: &mut W, fault: &RunFault) {
     let _tried = write_fault(fault, &mut device);
 }
 
-/// Returns whether the place of a line is known: all its bytes are, or the place is in the first ones.
+/// Returns whether the place in a malformed line is known. It is known if all bytes of the line are, or if it is in
+/// the first bytes.
 ///
-/// A place in the first bytes is a place in the line, except at their end, where the line goes on.
+/// A place at the end of the first bytes does not count, because the line continues there.
 fn has_place(alloc: Global, line: &Line) -> Result<bool, AllocError> {
     if line.is_whole {
         return Ok(true);
@@ -29,7 +30,7 @@ fn has_place(alloc: Global, line: &Line) -> Result<bool, AllocError> {
     }
 }
 
-/// The message about a line of which all bytes are known, or the first ones.
+/// Returns the message about a malformed line, or None if the place in it is not known.
 fn line_text(alloc: Global, number: u128, line: &Line) -> Result<Option<String>, AllocError> {
     if !has_place(alloc, line)? {
         return Ok(None);
@@ -37,7 +38,7 @@ fn line_text(alloc: Global, number: u128, line: &Line) -> Result<Option<String>,
     line_diagnosis::report(alloc, number, &line.bytes, line.is_cut)
 }
 
-/// The message about a line that is known.
+/// Returns the message about a malformed line, if the line and the place in it are known.
 fn known_line_text(alloc: Global, number: u128, line: Option<&Line>) -> Option<String> {
     line_text(alloc, number, line?).ok().flatten()
 }
@@ -55,7 +56,7 @@ pub fn bad_line<W: Write>(
     }
 }
 
-/// The message about the query of a command.
+/// Returns the message about the query of a command, if the command has a query.
 fn text_of_query(alloc: Global, command: &Command) -> Option<String> {
     match command {
         Command::Select { query, .. } => {
@@ -67,7 +68,7 @@ fn text_of_query(alloc: Global, command: &Command) -> Option<String> {
     }
 }
 
-/// The message about a rejected query.
+/// Returns the message about a rejected query, if the command is known.
 fn query_text(alloc: Global, account: &Account<'_>) -> Option<String> {
     let command = account.command(alloc)?;
     text_of_query(alloc, &command)
@@ -81,7 +82,7 @@ pub fn rejected<W: Write>(out: &mut W, alloc: Global, account: &Account<'_>) -> 
     }
 }
 
-/// Writes the message about words that are no command, or the help that they request.
+/// Writes the message about words that are not a valid command line, or the help that they request.
 pub fn no_command<W: Write>(
     out: &mut W,
     alloc: Global,
@@ -96,7 +97,7 @@ pub fn no_command<W: Write>(
     }
 }
 
-/// Writes what a run was doing when memory ran out. This takes no memory.
+/// Writes what a run was doing when an allocation failed. Allocates nothing.
 pub fn no_memory<W: Write>(out: &mut W, stage: Stage) -> io::Result<()> {
     let doing = match stage {
         Stage::Checking => "reading the command line",
@@ -117,7 +118,7 @@ fn workers_of(command: &Command) -> usize {
     }
 }
 
-/// The number of workers of a run, if it is known.
+/// Returns the number of workers of a run, if it is known.
 fn workers(alloc: Global, account: &Account<'_>) -> Option<usize> {
     let command = account.command(alloc)?;
     Some(workers_of(&command))
@@ -137,7 +138,7 @@ pub fn no_worker<W: Write>(out: &mut W, alloc: Global, account: &Account<'_>) ->
     }
 }
 
-/// The text of an error, without the number that the system gives it.
+/// Returns the text of an error, without the error number of the system.
 fn error_text(alloc: Global, error: &Error) -> Result<String, AllocError> {
     let mut text = format!(in alloc; "{error}")?;
     if let Some(at) = text.as_str().find(" (os error ") {
@@ -146,7 +147,7 @@ fn error_text(alloc: Global, error: &Error) -> Result<String, AllocError> {
     Ok(text)
 }
 
-/// The text of an error that is known.
+/// Returns the text of an error, if the error is known.
 fn known_error_text(alloc: Global, error: Option<Error>) -> Option<String> {
     error_text(alloc, &error?).ok()
 }

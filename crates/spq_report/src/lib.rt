@@ -1,18 +1,18 @@
-//! What spq says on standard error: why a run failed and where, and warnings after one that did not.
+//! Writes messages to standard error: why a run failed and where, and warnings after a run without a failure.
 //!
 //! [`report`] writes one message for a failed run: a first line `spq: PLACE: REASON`, for text input the line
-//! with a caret, and at most one hint. It is a second step: the run has ended, its status is known, and its
-//! standard output is written. Without memory a message is shorter. For a run without a failure it writes
-//! the warnings, and otherwise nothing. docs/DIAGNOSTICS.md lists the messages.
+//! with a caret, and at most one hint. It is called after the run has ended. The status is then known, and standard
+//! output is written. If an allocation fails, a message is shorter. For a run without a failure, `report` writes
+//! only the warnings. docs/DIAGNOSTICS.md lists the messages.
 //!
 //! [`Input`] and [`Output`] are the devices of a run. They keep the first error of the system, whose text the
-//! message shows, and call a [`Meter`] as they read and write. [`Console`] is the meter of the program: at a
-//! terminal it shows how far a run is that takes more than a second.
+//! message shows, and call a [`Meter`] as they read and write. [`Console`] is the meter of the program. At a
+//! terminal it shows the progress of a run that takes more than a second.
 //!
-//! To read in this order: `devices`, `console` (what a terminal shows of a run), `account` (what a message is made of),
+//! Reading order: `devices`, `console` (progress at a terminal), `account` (what is known about a run),
 //! `failures` (a message for each fault), `warnings`, `reports`. The tests in program_tests run tables of messages.
 //!
-//! Not promised: that standard error takes the message.
+//! Not guaranteed: that standard error accepts the message.
 #![tactic(auto)]
 
 mod account;

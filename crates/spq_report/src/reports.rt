@@ -1,4 +1,4 @@
-//! The whole of what is said of a run.
+//! The message about a run.
 
 use crate::account::Account;
 use crate::failures::{bad_line, no_command, no_device, no_memory, no_worker, rejected, repeat};
@@ -41,10 +41,10 @@ fn failure<W: Write>(
     }
 }
 
-/// Writes what there is to say of a run that ended so: the message for its fault, or its warnings.
+/// Writes the message about a run with this result: the message for its fault, or its warnings.
 ///
 /// # Errors
-/// That of the writer. A part of the message may be written then.
+/// The error of the writer. A part of the message may have been written.
 pub fn report<W: Write>(
     out: &mut W,
     alloc: Global,

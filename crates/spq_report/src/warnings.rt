@@ -38,7 +38,7 @@ fn push_unused(out: &mut String, alloc: Global, tokens: &[Token<'_>]) -> Result<
     Ok(())
 }
 
-/// Appends a warning if the query has no rows since all quads are in named graphs.
+/// Appends a warning if the query has no rows and all quads are in named graphs that it does not use.
 fn push_graphs(out: &mut String, notes: &Notes, tokens: &[Token<'_>]) -> Result<(), AllocError> {
     if notes.is_empty && notes.facts.is_named_only && !has_graph(tokens) {
         out.push_str(
@@ -72,14 +72,15 @@ fn push_warnings(
     push_all(out, alloc, notes, &scan.tokens)
 }
 
-/// The warnings about a query that was evaluated.
+/// Returns the warnings about a query that was evaluated.
 fn warnings_of(alloc: Global, query: &str, notes: &Notes) -> Result<String, AllocError> {
     let mut out = String::new(alloc);
     push_warnings(&mut out, alloc, query, notes)?;
     Ok(out)
 }
 
-/// Returns the warnings after a run without a failure, a line each; none without memory.
+/// Returns the warnings after a run without a failure, each on its own line. Returns None if the command has no
+/// query, or if an allocation fails.
 pub fn warnings(alloc: Global, account: &Account<'_>) -> Option<String> {
     let command = account.command(alloc)?;
     match &command {

@@ -6,7 +6,7 @@ use nquads_core::{DeviceFailed, Source};
 /// A source of the bytes of a slice. It exposes the bytes that are left, and counts its calls and
 /// those that failed.
 ///
-/// Each call gives at most `chunk` bytes. A call fails if `until` bytes were read before, and so
+/// Each call returns at most `chunk` bytes. A call fails if `until` bytes were read before, and so
 /// does the call with the number `failing`, counted from 0.
 #[derive(Drop)]
 pub struct SliceSource<'a> {
@@ -16,7 +16,7 @@ pub struct SliceSource<'a> {
     pub calls: usize,
     /// The number of calls that failed.
     pub failed: u64,
-    /// The largest number of bytes that a call gives.
+    /// The largest number of bytes that a call returns.
     pub chunk: usize,
     /// The number of bytes that can still be read before every call fails.
     pub until: usize,
@@ -41,7 +41,7 @@ impl<'a> SliceSource<'a> {
         }
     }
 
-    /// Creates a source of these bytes that gives at most `chunk` bytes per call. No call fails.
+    /// Creates a source of these bytes that returns at most `chunk` bytes per call. No call fails.
     pub fn new(bytes: &'a [u8], chunk: usize) -> SliceSource<'a>
         requires some { 0 < chunk }
         ensures rest { result.rest.now ≡ bytes.now }
