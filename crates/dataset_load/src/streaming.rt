@@ -46,8 +46,8 @@ const MOST_ROUNDS: u64 = 1 << 40;
 ///   was read to its end.
 /// - `WorkerRefused` if a worker thread could not be started. Those that were started have been joined.
 ///   With one worker no thread is started, so this cannot occur.
-/// - `Memory` if an allocation fails, if the runtime provides no random numbers, if the document has more than
-///   2^40 rounds, or if the reader has not ended 2^64 - 1 reads after a malformed line.
+/// - `Memory` if an allocation fails, or if the runtime provides no random numbers. Also if the document has more
+///   than 2^40 rounds, or if the reader has not ended 2^64 - 1 reads after a malformed line.
 /// - `Read` if the reader fails in this call. It takes precedence over the other errors.
 ///
 /// On every error, the bytes that were taken are a beginning of what the reader had left.

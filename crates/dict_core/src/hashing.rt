@@ -1,6 +1,6 @@
 //! The hash function of the dictionaries: the kit's `FoldHasher` with secret keys.
 //!
-//! It takes two words of 64 bits at a time, combines one with the state and one with the key by xor, multiplies
+//! It takes two words of 64 bits at a time. It combines one with the state and one with the key by xor, multiplies
 //! them to 128 bits, and joins the halves by xor. With fixed keys, as in the kit's hasher, an attacker could choose
 //! terms that collide. Here the first state and the key come from the runtime, and no output shows a hash.
 ghost use Rattle.std.specs.Prelude.{◌≡◌, ◌+◌, ◌≤◌, length};

@@ -164,8 +164,11 @@ fn add_line<'a>(line: &'a str, statements: &mut Vec<RawStatement<'a>>) -> Result
 /// If each slice denotes a term that is allowed at its place, the lines of the piece hold the quads of
 /// these terms: [`read_piece`](crate::read_piece) would read the same quads.
 ///
-/// Returns `None` if the piece is not UTF-8, contains a CR, or has a line that is not a blank line, a comment,
-/// or a statement with one space after each term. The piece may still be valid: `read_piece` decides.
+/// Returns `None` in these cases. The piece may still be valid, and `read_piece` decides.
+///
+/// - The piece is not UTF-8.
+/// - The piece contains a CR.
+/// - A line is not a blank line, a comment, or a statement with one space after each term.
 ///
 /// # Errors
 /// `AllocError` if an allocation fails.

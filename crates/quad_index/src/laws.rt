@@ -2,8 +2,8 @@
 //! read the numbers as terms.
 ghost use Rattle.quad_index.specs.Laws.{IndexReadsTheQuads, IndexCountsTheQuads, IndexNamesTheGraphs};
 
-/// An index of numbered quads, read through their dictionary, is the set of the quads, and each of
-/// its numbers is the number of a term.
+/// An index of numbered quads, read through their dictionary, is the set of the quads. Each of its
+/// numbers is the number of a term.
 pub fn index_reads_the_quads()
     ensures law { IndexReadsTheQuads }
 {}

@@ -266,8 +266,8 @@ fn is_verified(
     is_beginning(alloc, front, &end)
 }
 
-/// Returns the place and the cause that a machine finds, or the first place if it could not be shown
-/// that some query begins with the terminals before the place.
+/// Returns the place and the cause that a machine finds. Returns the first place if it could not be
+/// shown that some query begins with the terminals before the place.
 fn found_by(
     machine: &mut Machine,
     alloc: Global,

@@ -2,14 +2,14 @@
 //!
 //! The input is a document and the text of a query. The result is the JSON of the solutions, or the reason why
 //! there is none. [`answer`] has the main contract: every result but `Memory` and `WorkerRefused` is the one that
-//! the standards prescribe (`IsQueryResult` of specs/Outcome.antt). The query is checked first, then the document, and
-//! the bytes are the JSON of the algebra's solutions over the dataset, with their repeats, in order. No cut, worker
+//! the standards prescribe (`IsQueryResult` of specs/Outcome.antt). The query is checked first, then the document.
+//! The bytes are the JSON of the algebra's solutions over the dataset, with their repeats, in order. No cut, worker
 //! or gate occurs in the definition, and document and query have at most one result (`one_outcome` of [`laws`]).
 //!
-//! [`run`] says the same of a command over a reader and a writer, and what is left on each error. A command has at
-//! most one output for a document (`one_output`). [`run_words`] says it of the words of a command line, and
-//! [`finish`] how the program ends. [`Notes`] and [`Progress`] are for messages to people, and no clause depends
-//! on them.
+//! [`run`] has the same contract for a command over a reader and a writer, which also says what is left on each
+//! error. A command has at most one output for a document (`one_output`). [`run_words`] has it for the words of a
+//! command line, and [`finish`] has the contract of the end of the program. [`Notes`] and [`Progress`] are for
+//! messages to the user, and no clause depends on them.
 //!
 //! Standards: SPARQL 1.1 Query Language, sections 17 to 19; SPARQL 1.1 Query Results JSON Format;
 //! RDF 1.1 N-Quads.
