@@ -7,7 +7,7 @@ use crate::prefix::Prefix;
 use dict_core::NumQuad;
 use std::cmp::Ordering;
 
-/// Returns the quads that agree with this one on these places. Searches the list twice, by bisection.
+/// Returns the quads that agree with this one on these places, found by two binary searches.
 #[inline(always)]
 pub(crate) fn range<'a>(list: &'a [NumQuad], by: Prefix, key: NumQuad) -> &'a [NumQuad]
     requires sorted { IsSorted (prefix_cmp by) list.now }

@@ -6,10 +6,10 @@
 //! The bytes are the JSON of the algebra's solutions over the dataset, with their repeats, in order. No cut, worker
 //! or gate occurs in the definition, and document and query have at most one result (`one_outcome` of [`laws`]).
 //!
-//! [`run`] has the same contract for a command over a reader and a writer, which also says what is left on each
-//! error. A command has at most one output for a document (`one_output`). [`run_words`] has it for the words of a
-//! command line, and [`finish`] has the contract of the end of the program. [`Notes`] and [`Progress`] are for
-//! messages to the user, and no clause depends on them.
+//! [`run`] states the same for a command over a reader and a writer, and what is left on each error. A command has
+//! at most one output for a document (`one_output`). [`run_words`] states it for the words of a command line, and
+//! [`finish`] states how the program ends. [`Notes`] and [`Progress`] are for messages to the user, and no clause
+//! depends on them.
 //!
 //! Standards: SPARQL 1.1 Query Language, sections 17 to 19; SPARQL 1.1 Query Results JSON Format;
 //! RDF 1.1 N-Quads.
