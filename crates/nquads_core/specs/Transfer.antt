@@ -33,9 +33,12 @@ pub record WroteBeginning (held held' : Option (List ℕ)) (text : List ℕ) : T
   pub appended : Appends held held' (take count text)
 
 -- The device is as a write left it that took none of what was left of the text, which was not empty.
+-- Exactly what precedes that was written: `held` is what the device held before any of the text was
+-- written, and `held'` is what it holds now.
 pub record TookNone {K : Type 0} (write_gives : K → List ℕ → Result ℕ DeviceFailed → K → Type 0)
-    (text : List ℕ) (device : K) : Type 0 where
+    (held held' : Option (List ℕ)) (text : List ℕ) (device : K) : Type 0 where
   pub before : K
   pub at : ℕ
   pub left : at < length text
+  pub written : Appends held held' (take at text)
   pub none : write_gives before (drop at text) (Ok 0) device

@@ -70,7 +70,7 @@ pub fn write_all<K: Sink>(writer: &mut K, text: &[u8]) -> Result<(), DeviceFaile
     ensures failed { OnErr result (WroteBeginning (K.held writer.old) (K.held writer.new) text.now) }
     ensures failed_count { OnErr result
         (Rises (K.failures writer.old) (K.failures writer.new)
-        ⊎ (TookNone K.write_gives text.now writer.new
+        ⊎ (TookNone K.write_gives (K.held writer.old) (K.held writer.new) text.now writer.new
         × Stays (K.failures writer.old) (K.failures writer.new))) }
 {
     let mut at = 0;

@@ -29,13 +29,13 @@ block_begun a b c blocks i block text low at is h w =
     (back_begun a b c (joined_blocks (take i blocks)) (block.items ++ back) h (front_begun b c block.items back begun))
 
 -- and the writer failed in this block
-pub block_failed : {K : Type 0} (gives : K → List ℕ → Result ℕ DeviceFailed → K → Type 0) (a b c : Option ℕ) (blocks : List (Vec ℕ Global)) (i : ℕ) (block : Vec ℕ Global) (text : List ℕ) (writer : K) → i < length blocks
-    → block ≡ get_or blocks i block → text ≡ block.items → Stays a b → WriterFailed gives b c text writer → WriterFailed gives a c (joined_blocks blocks) writer
-block_failed gives a b c blocks i block text writer low at is h w =
+pub block_failed : {K : Type 0} (gives : K → List ℕ → Result ℕ DeviceFailed → K → Type 0) (a b c : Option ℕ) (p q r : Option (List ℕ)) (blocks : List (Vec ℕ Global)) (i : ℕ) (block : Vec ℕ Global) (text : List ℕ) (writer : K) → i < length blocks
+    → block ≡ get_or blocks i block → text ≡ block.items → Stays a b → Appends p q (joined_blocks (take i blocks)) → WriterFailed gives b c q r text writer → WriterFailed gives a c p r (joined_blocks blocks) writer
+block_failed gives a b c p q r blocks i block text writer low at is s h w =
     let back = joined_blocks (drop (suc i) blocks) in
-    let failed : WriterFailed gives b c block.items writer = subst (λ (t : List ℕ). WriterFailed gives b c t writer) is w in
-    subst (λ (t : List ℕ). WriterFailed gives a c t writer) (sym (joined_split blocks i block low at))
-    (back_failed gives a b c (joined_blocks (take i blocks)) (block.items ++ back) writer h (front_failed gives b c block.items back writer failed))
+    let failed : WriterFailed gives b c q r block.items writer = subst (λ (t : List ℕ). WriterFailed gives b c q r t writer) is w in
+    subst (λ (t : List ℕ). WriterFailed gives a c p r t writer) (sym (joined_split blocks i block low at))
+    (back_failed gives a b c p q r (joined_blocks (take i blocks)) (block.items ++ back) writer s h (front_failed gives b c q r block.items back writer failed))
 
 -- one more block is joined
 pub block_joined : (blocks : List (Vec ℕ Global)) (i : ℕ) (block : Vec ℕ Global) (text bytes bytes' : List ℕ) → i < length blocks → block ≡ get_or blocks i block → text ≡ block.items

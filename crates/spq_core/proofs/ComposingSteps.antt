@@ -153,7 +153,7 @@ module _ {S K T : Type 0} (left : S → Option (List ℕ)) (failures : S → Opt
   }
 
   -- the writer failed
-  pub run_failed : WroteBeginning (held writer) (held writer') (joined_blocks borrowed) → WriterFailed gives (write_failures writer) (write_failures writer') (joined_blocks borrowed) writer'
+  pub run_failed : WroteBeginning (held writer) (held writer') (joined_blocks borrowed) → WriterFailed gives (write_failures writer) (write_failures writer') (held writer) (held writer') (joined_blocks borrowed) writer'
       → IsRun {T = T} left failures held write_failures gives request reader reader' writer writer' (Err Write)
   run_failed part failed =
       let c = composed_borrowed request (left reader) (left reader') blocks borrowed is h.composed in

@@ -40,10 +40,10 @@ stays_rises (Some n) (Some m) (Some l) h k = k ∙ ap (λ (x : ℕ). min (x + 1)
 
 -- ---- why a text was not written whole
 
-pub text_failed : {K : Type 0} (gives : K → List ℕ → Result ℕ DeviceFailed → K → Type 0) (a b : Option ℕ) (text : List ℕ) (writer : K)
-    → Rises a b ⊎ (TookNone gives text writer × Stays a b) → WriterFailed gives a b text writer
-text_failed gives a b text writer (inl h) = inl h
-text_failed gives a b text writer (inr h) =
+pub text_failed : {K : Type 0} (gives : K → List ℕ → Result ℕ DeviceFailed → K → Type 0) (a b : Option ℕ) (p q : Option (List ℕ)) (text : List ℕ) (writer : K)
+    → Rises a b ⊎ (TookNone gives p q text writer × Stays a b) → WriterFailed gives a b p q text writer
+text_failed gives a b p q text writer (inl h) = inl h
+text_failed gives a b p q text writer (inr h) =
     let at = h.0.at in
     let l = length-drop at text in
     let w = h.0.left in
@@ -55,15 +55,16 @@ text_failed gives a b text writer (inr h) =
         back = [];
         parts = sym (take-append-drop at text) ∙ ap (λ (x : List ℕ). take at text ++ x) (sym (append-nil (drop at text)));
         some = omega arith;
+        written = h.0.written;
         none = h.0.none;
       },
       h.1,
     )
 
-pub front_failed : {K : Type 0} (gives : K → List ℕ → Result ℕ DeviceFailed → K → Type 0) (a b : Option ℕ) (front back : List ℕ) (writer : K)
-    → WriterFailed gives a b front writer → WriterFailed gives a b (front ++ back) writer
-front_failed gives a b front back writer (inl h) = inl h
-front_failed gives a b front back writer (inr h) =
+pub front_failed : {K : Type 0} (gives : K → List ℕ → Result ℕ DeviceFailed → K → Type 0) (a b : Option ℕ) (p q : Option (List ℕ)) (front back : List ℕ) (writer : K)
+    → WriterFailed gives a b p q front writer → WriterFailed gives a b p q (front ++ back) writer
+front_failed gives a b p q front back writer (inl h) = inl h
+front_failed gives a b p q front back writer (inr h) =
     let t = h.0 in
     inr (
       record {
@@ -73,16 +74,17 @@ front_failed gives a b front back writer (inr h) =
         back = t.back ++ back;
         parts = ap (λ (x : List ℕ). x ++ back) t.parts ∙ append_assoc t.front (t.given ++ t.back) back ∙ ap (λ (x : List ℕ). t.front ++ x) (append_assoc t.given t.back back);
         some = t.some;
+        written = t.written;
         none = t.none;
       },
       h.1,
     )
 
-pub back_failed : {K : Type 0} (gives : K → List ℕ → Result ℕ DeviceFailed → K → Type 0) (a b c : Option ℕ) (front back : List ℕ) (writer : K)
-    → Stays a b → WriterFailed gives b c back writer → WriterFailed gives a c (front ++ back) writer
-back_failed gives a b c front back writer s (inl h) = inl (stays_rises a b c s h)
-back_failed gives a b c front back writer s (inr h) =
-    let t = h.0 in
+pub back_failed : {K : Type 0} (gives : K → List ℕ → Result ℕ DeviceFailed → K → Type 0) (a b c : Option ℕ) (p q r : Option (List ℕ)) (front back : List ℕ) (writer : K)
+    → Stays a b → Appends p q front → WriterFailed gives b c q r back writer → WriterFailed gives a c p r (front ++ back) writer
+back_failed gives a b c p q r front back writer s h (inl w) = inl (stays_rises a b c s w)
+back_failed gives a b c p q r front back writer s h (inr w) =
+    let t = w.0 in
     inr (
       record {
         before = t.before;
@@ -91,9 +93,10 @@ back_failed gives a b c front back writer s (inr h) =
         back = t.back;
         parts = ap (λ (x : List ℕ). front ++ x) t.parts ∙ sym (append_assoc front t.front (t.given ++ t.back));
         some = t.some;
+        written = Appends-more p q r front t.front h t.written;
         none = t.none;
       },
-      stays_stays a b c s h.1,
+      stays_stays a b c s w.1,
     )
 
 -- ---- a text that is the line of a fault
@@ -105,5 +108,5 @@ module _ {T K : Type 0} (gives : K → List ℕ → Result ℕ DeviceFailed → 
   pub line_begun : (a b : Option (List ℕ)) → OnErr result (WroteBeginning a b (fault_line g)) → OnErr result (WroteBeginning a b (fault_line f))
   line_begun a b h = subst (λ (x : RunFault). OnErr result (WroteBeginning a b (fault_line x))) (sym is) h
 
-  pub line_failed : (a b : Option ℕ) (writer : K) → OnErr result (WriterFailed gives a b (fault_line g) writer) → OnErr result (WriterFailed gives a b (fault_line f) writer)
-  line_failed a b writer h = subst (λ (x : RunFault). OnErr result (WriterFailed gives a b (fault_line x) writer)) (sym is) h
+  pub line_failed : (a b : Option ℕ) (p q : Option (List ℕ)) (writer : K) → OnErr result (WriterFailed gives a b p q (fault_line g) writer) → OnErr result (WriterFailed gives a b p q (fault_line f) writer)
+  line_failed a b p q writer h = subst (λ (x : RunFault). OnErr result (WriterFailed gives a b p q (fault_line x) writer)) (sym is) h

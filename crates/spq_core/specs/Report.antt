@@ -60,4 +60,4 @@ exit_status (Err fault) = status_of fault
 -- it.
 abbrev pub WroteOrFailed : {K : Type 0} → (K → List ℕ → Result ℕ DeviceFailed → K → Type 0) → Option ℕ → Option ℕ → K → Option (List ℕ) → Option (List ℕ) → List ℕ → Type 0
 WroteOrFailed gives fails fails' writer' held held' text =
-    (Appends held held' text × Stays fails fails') ⊎ (WroteBeginning held held' text × WriterFailed gives fails fails' text writer')
+    (Appends held held' text × Stays fails fails') ⊎ (WroteBeginning held held' text × WriterFailed gives fails fails' held held' text writer')

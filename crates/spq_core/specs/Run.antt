@@ -75,22 +75,24 @@ IsAnswerable (select text) = (q : QueryTree) × IsValidQuery (chars text) q
 IsAnswerable check = ⊤
 IsAnswerable terms = ⊤
 
--- The device is as a write left it that was given some bytes of the text and took none of them.
--- The bytes before them are `front`, and the bytes after them are `back`.
+-- The device is as a write left it that was given some bytes of the text and took none of them. They are
+-- the next bytes of the text: exactly `front`, which precedes them, was written. `held` is what the device
+-- held before any of the text was written, and `held'` is what it holds now. The bytes after them are `back`.
 pub record TookNoneOf {K : Type 0} (write_gives : K → List ℕ → Result ℕ DeviceFailed → K → Type 0)
-    (text : List ℕ) (device : K) : Type 0 where
+    (held held' : Option (List ℕ)) (text : List ℕ) (device : K) : Type 0 where
   pub before : K
   pub front : List ℕ
   pub given : List ℕ
   pub back : List ℕ
   pub parts : text ≡ front ++ (given ++ back)
   pub some : 0 < length given
+  pub written : Appends held held' front
   pub none : write_gives before given (Ok 0) device
 
--- The writer failed, or it is as a write left it that took none of its bytes of the text, and then
+-- The writer failed, or it is as a write left it that took none of the next bytes of the text, and then
 -- no call of it failed.
-abbrev pub WriterFailed : {K : Type 0} → (K → List ℕ → Result ℕ DeviceFailed → K → Type 0) → Option ℕ → Option ℕ → List ℕ → K → Type 0
-WriterFailed write_gives failures failures' text writer' = Rises failures failures' ⊎ (TookNoneOf write_gives text writer' × Stays failures failures')
+abbrev pub WriterFailed : {K : Type 0} → (K → List ℕ → Result ℕ DeviceFailed → K → Type 0) → Option ℕ → Option ℕ → Option (List ℕ) → Option (List ℕ) → List ℕ → K → Type 0
+WriterFailed write_gives failures failures' held held' text writer' = Rises failures failures' ⊎ (TookNoneOf write_gives held held' text writer' × Stays failures failures')
 
 -- A beginning of the output for what was read was written, and not all of it, since the writer failed.
 pub record IsWrittenInPart {K : Type 0} (request : Request) (left left' : Option (List ℕ))
@@ -99,7 +101,7 @@ pub record IsWrittenInPart {K : Type 0} (request : Request) (left left' : Option
   pub text : List ℕ
   pub composed : IsComposed request left left' text
   pub part : WroteBeginning (held writer) (held writer') text
-  pub failed : WriterFailed write_gives (write_failures writer) (write_failures writer') text writer'
+  pub failed : WriterFailed write_gives (write_failures writer) (write_failures writer') (held writer) (held writer') text writer'
 
 -- The fault of a load, under the same name.
 abbrev pub run_result_of : {T : Type 0} → Result T ReaderFault → Result T RunFault

@@ -338,8 +338,8 @@ pub fn write_text<K: Sink>(writer: &mut K, text: &[u8]) -> Result<(), DeviceFail
     ensures failed { OnErr result
         (WroteBeginning (K.held writer.old) (K.held writer.new) text.now) }
     ensures failed_count { OnErr result
-        (WriterFailed K.write_gives (K.failures writer.old) (K.failures writer.new) text.now
-        writer.new) }
+        (WriterFailed K.write_gives (K.failures writer.old) (K.failures writer.new)
+        (K.held writer.old) (K.held writer.new) text.now writer.new) }
 {
     write_all(writer, text)
 }
@@ -357,7 +357,7 @@ fn write_blocks<K: Sink>(writer: &mut K, blocks: &[Vec<u8>]) -> Result<(), Devic
         (WroteBeginning (K.held writer.old) (K.held writer.new) (joined_blocks blocks.now)) }
     ensures failed_count { OnErr result
         (WriterFailed K.write_gives (K.failures writer.old) (K.failures writer.new)
-        (joined_blocks blocks.now) writer.new) }
+        (K.held writer.old) (K.held writer.new) (joined_blocks blocks.now) writer.new) }
 {
     for block in blocks {
         write_text(writer, block)?;

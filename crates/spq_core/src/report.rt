@@ -58,7 +58,7 @@ fn write_both<K: Sink>(writer: &mut K, front: &[u8], back: &[u8]) -> Result<(), 
         (WroteBeginning (K.held writer.old) (K.held writer.new) (front.now ++ back.now)) }
     ensures failed_count { OnErr result
         (WriterFailed K.write_gives (K.failures writer.old) (K.failures writer.new)
-        (front.now ++ back.now) writer.new) }
+        (K.held writer.old) (K.held writer.new) (front.now ++ back.now) writer.new) }
 {
     write_text(writer, front)?;
     write_text(writer, back)
@@ -73,7 +73,7 @@ fn write_number<K: Sink>(writer: &mut K, line: u128) -> Result<(), DeviceFailed>
         (WroteBeginning (K.held writer.old) (K.held writer.new) (decimal line ++ codes "\n")) }
     ensures failed_count { OnErr result
         (WriterFailed K.write_gives (K.failures writer.old) (K.failures writer.new)
-        (decimal line ++ codes "\n") writer.new) }
+        (K.held writer.old) (K.held writer.new) (decimal line ++ codes "\n") writer.new) }
 {
     let mut buffer = Buffer::new();
     write_both(writer, buffer.format(line).as_bytes(), b"\n")
@@ -90,6 +90,7 @@ fn write_bad_line<K: Sink>(writer: &mut K, line: u128) -> Result<(), DeviceFaile
         (codes "error: line " ++ (decimal line ++ codes "\n"))) }
     ensures failed_count { OnErr result
         (WriterFailed K.write_gives (K.failures writer.old) (K.failures writer.new)
+        (K.held writer.old) (K.held writer.new)
         (codes "error: line " ++ (decimal line ++ codes "\n")) writer.new) }
 {
     match write_text(writer, b"error: line ") {
@@ -107,7 +108,7 @@ fn write_query_fault<K: Sink>(writer: &mut K, fault: &QueryFault) -> Result<(), 
         (WroteBeginning (K.held writer.old) (K.held writer.new) (query_line fault.now)) }
     ensures failed_count { OnErr result
         (WriterFailed K.write_gives (K.failures writer.old) (K.failures writer.new)
-        (query_line fault.now) writer.new) }
+        (K.held writer.old) (K.held writer.new) (query_line fault.now) writer.new) }
 {
     let line = line_of(fault);
     write_text(writer, line)
@@ -127,7 +128,7 @@ pub fn write_fault<K: Sink>(fault: &RunFault, writer: &mut K) -> Result<(), Devi
         (WroteBeginning (K.held writer.old) (K.held writer.new) (fault_line fault.now)) }
     ensures failed_count { OnErr result
         (WriterFailed K.write_gives (K.failures writer.old) (K.failures writer.new)
-        (fault_line fault.now) writer.new) }
+        (K.held writer.old) (K.held writer.new) (fault_line fault.now) writer.new) }
 {
     match fault {
         RunFault::BadLine(line) => write_bad_line(writer, *line),

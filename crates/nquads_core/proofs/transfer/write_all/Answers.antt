@@ -1,5 +1,6 @@
 use Rattle.std.proofs.Common.{◌-◌, length, drop, take, inl, inr, arith, rules}
 use Rattle.std.proofs.lemmas.List.{take_all, length-drop}
+use Rattle.std.specs.Io.KnownBytes.{Appends}
 use Rattle.nquads_core.specs.Transfer.{WroteBeginning}
 use Rattle.nquads_core.proofs.TransferSteps.{Appends-keeps, Appends-next, Appends-none, Appends-start, Stays-rises, Stays-start, Stays-stays, on_error}
 use Rattle.nquads_core.proofs.transfer.write_all.Goals as goal
@@ -32,15 +33,18 @@ pub returns-then-n-eq0 : goal.returns-then-n-eq0
 returns-then-n-eq0 g c =
     let was = c.loop-at.invariant in
     let text = c.args.text.now in
-    let at = c.loop-at.at in record {
+    let at = c.loop-at.at in
+    let written : Appends (g.K.Sink.held c.args.writer.now) (g.K.Sink.held c.write.new.self) (take at text) =
+    Appends-none _ _ _ (take at text) was.appended (rw c.if-n-eq0.true at c.in_ok-n.ensures.bytes) in record {
       ok = tt;
       ok_count = tt;
-      failed = record { count = at; short = c.loop-at-test.true; appended = Appends-none _ _ _ (take at text) was.appended (rw c.if-n-eq0.true at c.in_ok-n.ensures.bytes) };
+      failed = record { count = at; short = c.loop-at-test.true; appended = written };
       failed_count = inr (
         record {
           before = c.loop-at.writer;
           at = at;
           left = c.loop-at-test.true;
+          written = written;
           none = rw (take_all (length text - at) (drop at text) (omega (arith, length-drop at text)), c.if-n-eq0.true) at c.in_ok-n.ensures.gives;
         },
         Stays-stays _ _ _ was.count c.in_ok-n.ensures.count,

@@ -11,8 +11,8 @@ returns-in-Ok-clause-failed g c =
     on_err_weaker c.write_number.result (back_begun _ _ _ (codes "error: line ") (decimal c.args.line ++ codes "\n") c.in-Ok.ensures.written) c.write_number.ensures.failed
 
 pub returns-in-Err-clause-failed_count : goal.returns-in-Err-clause-failed_count
-returns-in-Err-clause-failed_count g c = front_failed g.K.Sink.write_gives _ _ (codes "error: line ") (decimal c.args.line ++ codes "\n") _ c.in-Err.ensures.failed_count
+returns-in-Err-clause-failed_count g c = front_failed g.K.Sink.write_gives _ _ _ _ (codes "error: line ") (decimal c.args.line ++ codes "\n") _ c.in-Err.ensures.failed_count
 
 pub returns-in-Ok-clause-failed_count : goal.returns-in-Ok-clause-failed_count
 returns-in-Ok-clause-failed_count g c =
-    on_err_weaker c.write_number.result (back_failed g.K.Sink.write_gives _ _ _ (codes "error: line ") (decimal c.args.line ++ codes "\n") _ c.in-Ok.ensures.written_count) c.write_number.ensures.failed_count
+    on_err_weaker c.write_number.result (back_failed g.K.Sink.write_gives _ _ _ _ _ _ (codes "error: line ") (decimal c.args.line ++ codes "\n") _ c.in-Ok.ensures.written_count c.in-Ok.ensures.written) c.write_number.ensures.failed_count

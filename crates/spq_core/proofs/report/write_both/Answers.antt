@@ -11,7 +11,7 @@ returns g c =
       written = on_ok_weaker then.result (Appends-more _ _ _ c.args.front.now c.args.back.now first.written) then.ensures.written;
       written_count = on_ok_weaker then.result (stays_stays _ _ _ first.written_count) then.ensures.written_count;
       failed = on_err_weaker then.result (back_begun _ _ _ c.args.front.now c.args.back.now first.written) then.ensures.failed;
-      failed_count = on_err_weaker then.result (back_failed g.K.Sink.write_gives _ _ _ c.args.front.now c.args.back.now _ first.written_count) then.ensures.failed_count;
+      failed_count = on_err_weaker then.result (back_failed g.K.Sink.write_gives _ _ _ _ _ _ c.args.front.now c.args.back.now _ first.written_count first.written) then.ensures.failed_count;
     }
 
 pub returns-in_err-write_text : goal.returns-in_err-write_text
@@ -21,5 +21,5 @@ returns-in_err-write_text g c =
       written = rw p.1 tt;
       written_count = rw p.1 tt;
       failed = rw p.1 (front_begun _ _ c.args.front.now c.args.back.now c.in_err-write_text.ensures.failed);
-      failed_count = rw p.1 (front_failed g.K.Sink.write_gives _ _ c.args.front.now c.args.back.now _ c.in_err-write_text.ensures.failed_count);
+      failed_count = rw p.1 (front_failed g.K.Sink.write_gives _ _ _ _ c.args.front.now c.args.back.now _ c.in_err-write_text.ensures.failed_count);
     }

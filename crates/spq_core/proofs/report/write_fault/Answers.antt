@@ -10,7 +10,7 @@ returns-in-Line g c =
       written = line_written gives _ _ is done.result _ _ done.ensures.written;
       written_count = done.ensures.written_count;
       failed = line_begun gives _ _ is done.result _ _ done.ensures.failed;
-      failed_count = line_failed gives _ _ is done.result _ _ _ done.ensures.failed_count;
+      failed_count = line_failed gives _ _ is done.result _ _ _ _ _ done.ensures.failed_count;
     }
 
 pub returns-in-WorkerRefused : goal.returns-in-WorkerRefused
@@ -22,7 +22,7 @@ returns-in-WorkerRefused g c =
       written = line_written gives _ _ is done.result _ _ done.ensures.written;
       written_count = done.ensures.written_count;
       failed = line_begun gives _ _ is done.result _ _ done.ensures.failed;
-      failed_count = line_failed gives _ _ is done.result _ _ _ done.ensures.failed_count;
+      failed_count = line_failed gives _ _ is done.result _ _ _ _ _ done.ensures.failed_count;
     }
 
 pub returns-in-Memory : goal.returns-in-Memory
@@ -34,7 +34,7 @@ returns-in-Memory g c =
       written = line_written gives _ _ is done.result _ _ done.ensures.written;
       written_count = done.ensures.written_count;
       failed = line_begun gives _ _ is done.result _ _ done.ensures.failed;
-      failed_count = line_failed gives _ _ is done.result _ _ _ done.ensures.failed_count;
+      failed_count = line_failed gives _ _ is done.result _ _ _ _ _ done.ensures.failed_count;
     }
 
 pub returns-in-Read : goal.returns-in-Read
@@ -46,7 +46,7 @@ returns-in-Read g c =
       written = line_written gives _ _ is done.result _ _ done.ensures.written;
       written_count = done.ensures.written_count;
       failed = line_begun gives _ _ is done.result _ _ done.ensures.failed;
-      failed_count = line_failed gives _ _ is done.result _ _ _ done.ensures.failed_count;
+      failed_count = line_failed gives _ _ is done.result _ _ _ _ _ done.ensures.failed_count;
     }
 
 pub returns-in-Write : goal.returns-in-Write
@@ -58,5 +58,5 @@ returns-in-Write g c =
       written = line_written gives _ _ is done.result _ _ done.ensures.written;
       written_count = done.ensures.written_count;
       failed = line_begun gives _ _ is done.result _ _ done.ensures.failed;
-      failed_count = line_failed gives _ _ is done.result _ _ _ done.ensures.failed_count;
+      failed_count = line_failed gives _ _ is done.result _ _ _ _ _ done.ensures.failed_count;
     }
