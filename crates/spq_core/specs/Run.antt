@@ -6,7 +6,6 @@ use Rattle.std.specs.Io.KnownBytes.{Appends, Consumes, IsAtEnd}
 use Rattle.nquads_core.specs.Device.{Rises, Stays}
 use Rattle.nquads_core.specs.Transfer.{IsReadInPart, WroteBeginning}
 use Rattle.nquads_core.specs.declared.device.DeviceFailed.{DeviceFailed}
-use Rattle.nquads_core.specs.Lines.{lines}
 use Rattle.dataset_load.specs.declared.reader_fault.ReaderFault.{ReaderFault}
 use Rattle.dataset_load.specs.declared.reader_fault.ReaderFault.TheVariants as reading
 pub use Rattle.dataset_load.specs.Streaming.{IsBadLineFrom, IsLoadedFrom}
