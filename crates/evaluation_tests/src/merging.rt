@@ -48,6 +48,13 @@ fn appended(alloc: Global) -> Result<Rows, AllocError> {
     Ok(rows)
 }
 
+/// Makes two rows, and keeps their second variable only.
+fn restricted(alloc: Global) -> Result<Rows, AllocError> {
+    let mut rows = two_rows(alloc)?;
+    rows.restrict(&[false, true]);
+    Ok(rows)
+}
+
 /// Makes two rows without variables.
 fn empty_rows(alloc: Global) -> Result<Rows, AllocError> {
     let mut rows = Rows::new(alloc, 0);
@@ -78,6 +85,12 @@ fn rows_are_as_they_were_pushed(rt: HostRuntime) {
         "2: 1-=1- -7=-7 34=34",
         rows,
     );
+}
+
+#[test]
+fn a_variable_that_is_not_kept_is_unbound(rt: HostRuntime) {
+    let rows = restricted(rt.alloc());
+    check(&rt, rt.alloc(), "restricted", "2: -7=-7 -4=-4", rows);
 }
 
 #[test]

@@ -1,2 +1,3 @@
 pub mod RowSteps
+mod RestrictSteps
 pub mod TurnLaws

@@ -6,10 +6,11 @@
 //! compute the model's definitions of the same names.
 //!
 //! Callers rely on these clauses: `push` adds exactly the given row, `append` adds exactly the
-//! other rows, and `row` returns exactly the row at a place. If an allocation fails, the rows are
-//! unchanged.
+//! other rows, `restrict` unbinds exactly the variables that are not kept, and `row` returns
+//! exactly the row at a place. If an allocation fails, the rows are unchanged.
 //!
-//! Standard: SPARQL 1.1 Query Language, section 18.3 (compatible mappings, merge).
+//! Standard: SPARQL 1.1 Query Language, section 18.3 (compatible mappings, merge) and section 18.5
+//! (Project).
 //!
 //! Reading order: `rows`, `merging`. Tests: `merging` of the crate evaluation_tests.
 //!

@@ -1,6 +1,7 @@
 //! Lists of rows of optional numbers. All rows of a list have the same width.
-ghost use Rattle.row_core.specs.RowList.{stride, padded};
-ghost use Rattle.std.specs.Prelude.{◌≡◌, ◌+◌, ◌<◌, ◌≤◌, take, drop, [], ◌∷◌, ◌++◌, length, Some, None, slice_get, get_or, All, OnOk, OnErr};
+ghost use Rattle.row_core.specs.RowList.{stride, padded, rows_in};
+ghost use Rattle.algebra_model.specs.Operators.{restrict};
+ghost use Rattle.std.specs.Prelude.{◌≡◌, ◌+◌, ◌*◌, ◌<◌, ◌≤◌, take, drop, [], ◌∷◌, ◌++◌, length, false, map, Some, None, slice_get, get_or, All, OnOk, OnErr};
 
 use std::alloc::{AllocError, Global};
 use std::marker::Model;
@@ -54,6 +55,33 @@ fn part(cells: &[Option<u64>], start: usize, width: usize) -> &[Option<u64>]
     ensures value { result.now ≡ take width (drop start cells.now) }
 {
     &cells[start..start + width]
+}
+
+/// Unbinds the variables of a row that are not kept.
+fn restrict_row(row: &mut [Option<u64>], kept: &[bool])
+    requires wide { length kept.now ≡ length row.old }
+    ensures restricted { row.new ≡ restrict (λ k. get_or kept.now k false) row.old }
+{
+    for i in 0..kept.len() {
+        if !kept[i] {
+            row[i] = None;
+        }
+    }
+}
+
+/// Unbinds, in the cells of consecutive rows, the variables that are not kept.
+fn restrict_cells(cells: &mut [Option<u64>], count: usize, kept: &[bool])
+    requires whole { length cells.old ≡ count * stride (length kept.now) }
+    ensures restricted { rows_in (length kept.now) (stride (length kept.now)) count cells.new
+        ≡ map (restrict (λ k. get_or kept.now k false))
+        (rows_in (length kept.now) (stride (length kept.now)) count cells.old) }
+    ensures length { length cells.new ≡ length cells.old }
+{
+    let step = stride(kept.len());
+    for i in 0..count {
+        let start = i * step;
+        restrict_row(&mut cells[start..start + kept.len()], kept);
+    }
 }
 
 impl Rows {
@@ -123,6 +151,21 @@ impl Rows {
         ensures value { result ≡ get_or (get_or self.now.rows row []) variable None }
     {
         self.row(row)[variable]
+    }
+
+    /// Unbinds the variables that are not kept, in every row (the restriction of a solution mapping
+    /// to the variables of a projection; SPARQL 1.1 Query Language, section 18.5, Project).
+    /// Allocates nothing.
+    ///
+    /// # Requires
+    /// `kept` is as long as `width`.
+    pub fn restrict(&mut self, kept: &[bool])
+        requires wide { length kept.now ≡ self.old.width }
+        ensures restricted { self.new.rows
+            ≡ map (restrict (λ k. get_or kept.now k false)) self.old.rows }
+        ensures width { self.new.width ≡ self.old.width }
+    {
+        restrict_cells(&mut self.cells, self.count, kept);
     }
 
     /// Appends the rows of another list.

@@ -1,5 +1,5 @@
 -- Project, with one more cell and one more row.
-use Rattle.std.proofs.Common.{◌≡◌, ℕ, zero, suc, ◌+◌, ◌<◌, ◌==◌, Bool, List, [], ◌∷◌, ◌++◌, length, get_or, take, map, slice_get, None, Some, refl, sym, ap, ◌∙◌, arith, add-one, subst, if◌then◌else◌}
+use Rattle.std.proofs.Common.{All, ◌≡◌, ℕ, zero, suc, ◌+◌, ◌<◌, ◌==◌, Bool, List, [], ◌∷◌, ◌++◌, length, get_or, take, map, slice_get, None, Some, refl, sym, ap, ◌∙◌, arith, add-one, subst, if◌then◌else◌}
 use Rattle.std.specs.List.{list_any}
 use Rattle.std.proofs.lemmas.List.{map-append}
 use Rattle.algebra_model.specs.Solution.{Solution}
@@ -36,6 +36,15 @@ pub project-take : (vs : List ℕ) (p : ℕ → Bool) (w : ℕ) → ((k : ℕ) �
 project-take vs p w e A i μ h wide =
     let listed = λ (v : ℕ). list_any (λ (u : ℕ). u == v) vs in
     map-take (restrict listed) A i μ h ∙ ap (λ r. project vs (take i A) ++ r ∷ []) (restrict-alike listed p μ (λ k low. sym (e k (omega arith))))
+
+-- all rows, if the test agrees with the list of variables below the width
+pub project-alike : (vs : List ℕ) (p : ℕ → Bool) (w : ℕ) → ((k : ℕ) → k < w → p k ≡ list_any (λ u. u == k) vs) → (A : List (Solution ℕ)) → All (λ μ. length μ ≡ w) A
+    → map (restrict p) A ≡ project vs A
+project-alike vs p w e [] wide = refl
+project-alike vs p w e (μ ∷ A) wide =
+    let listed = λ (v : ℕ). list_any (λ (u : ℕ). u == v) vs in
+    let long : length μ ≡ w = wide 0 [] (omega arith) in
+    λ i. restrict-alike p listed μ (λ k low. e k (omega arith)) i ∷ project-alike vs p w e A (λ k d low. wide (suc k) d (omega arith)) i
 
 pub project_evaluated : (terms : List Term) (vs : List ℕ) (rows made : RowList) → AreKnown terms rows → made.width ≡ rows.width → made.rows ≡ project vs rows.rows → IsEvaluated terms rows.width (project vs (map (read_by terms) rows.rows)) made terms
 project_evaluated terms vs rows made known wide e =

@@ -24,7 +24,7 @@ use crate::filters::filter;
 use crate::graphs::{add_graph, graph_number};
 use crate::joins::{join_of, left_join, minus};
 use crate::patterns::pattern;
-use crate::projections::project;
+use crate::projections::project_of;
 use crate::tables::table;
 use crate::unions::union_of;
 use dict_core::Dict;
@@ -295,7 +295,7 @@ impl<'a, R: Threads + Wait, G: Gate + Sync> Evaluator<'a, R, G> {
         ensures one_worker { HasOneWorker self.now.how.now → IfErr result (λ fault. fault ≡ Memory) }
     {
         let (rows, dict) = self.solve(dict, active, inner)?;
-        project(self.alloc, dict, &rows, variables)
+        project_of(self.alloc, dict, rows, variables)
     }
 
     /// Evaluates a Distinct and its input.

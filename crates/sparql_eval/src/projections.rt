@@ -35,6 +35,36 @@ pub fn project(
     with_dict(made, dict)
 }
 
+/// Projects rows that the evaluator no longer needs: in them, the variables that are not listed are
+/// unbound. The dictionary is returned unchanged.
+pub(crate) fn project_of(
+    alloc: Global,
+    dict: Dict,
+    rows: Rows,
+    variables: &[usize],
+) -> Result<(Rows, Dict), EvalFault>
+    requires known { AreKnown dict rows }
+    ensures evaluated { IfOk result (λ r. IsEvaluated dict rows.width
+        (project variables.now (solutions_of dict rows)) r.0 r.1) }
+    ensures same_dict { IfOk result (λ r. r.1 ≡ dict) }
+    ensures refused { IfErr result (λ fault. fault ≡ Memory) }
+{
+    let made = restricted(alloc, rows, variables);
+    with_dict(made, dict)
+}
+
+/// Unbinds, in every row, the variables that are not listed.
+fn restricted(alloc: Global, rows: Rows, variables: &[usize]) -> Result<Rows, EvalFault>
+    ensures made { IfOk result (λ made. (made.width ≡ rows.width)
+        × (made.rows ≡ project variables.now rows.rows)) }
+    ensures refused { IfErr result (λ fault. fault ≡ Memory) }
+{
+    let mut made = rows;
+    let kept = kept_variables(alloc, made.width(), variables)?;
+    made.restrict(kept.as_slice());
+    Ok(made)
+}
+
 /// Returns every row with only the listed variables bound.
 fn projected(alloc: Global, rows: &Rows, variables: &[usize]) -> Result<Rows, EvalFault>
     ensures made { IfOk result (λ made. (made.width ≡ rows.now.width)

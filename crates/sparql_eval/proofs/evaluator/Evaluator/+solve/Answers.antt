@@ -303,12 +303,12 @@ pub solve_project-returns-clause-evaluated : goal.solve_project-returns-clause-e
 solve_project-returns-clause-evaluated g t c =
     let s = c.args.self.now in
     let S : Operator → List (Solution Term) = λ tree. tree_solutions c.args.dict s.index.now s.width c.args.active tree in
-    after_one c.args.dict c.in_ok-rows.dict s.width c.project.result (project c.args.variables.now) (project_keeps c.args.variables.now) (S c.args.inner.now) c.in_ok-rows.rows c.in_ok-rows.ensures.evaluated c.project.ensures.evaluated
+    after_one c.args.dict c.in_ok-rows.dict s.width c.project_of.result (project c.args.variables.now) (project_keeps c.args.variables.now) (S c.args.inner.now) c.in_ok-rows.rows c.in_ok-rows.ensures.evaluated c.project_of.ensures.evaluated
 
 pub solve_project-returns-clause-needed : goal.solve_project-returns-clause-needed
 solve_project-returns-clause-needed g t c =
     let s = c.args.self.now in
-    takes_still (Needed c.args.dict s.index.now s.width c.args.active (algebra_of c.args.inner.now)) c.args.dict c.in_ok-rows.dict c.project.result c.in_ok-rows.ensures.needed c.project.ensures.same_dict
+    takes_still (Needed c.args.dict s.index.now s.width c.args.active (algebra_of c.args.inner.now)) c.args.dict c.in_ok-rows.dict c.project_of.result c.in_ok-rows.ensures.needed c.project_of.ensures.same_dict
 
 pub solve_distinct-returns-clause-evaluated : goal.solve_distinct-returns-clause-evaluated
 solve_distinct-returns-clause-evaluated g t c =
@@ -747,7 +747,7 @@ pub solve_union-returns-clause-one_worker : goal.solve_union-returns-clause-one_
 solve_union-returns-clause-one_worker g t c = λ _. c.union_of.ensures.refused
 
 pub solve_project-returns-clause-one_worker : goal.solve_project-returns-clause-one_worker
-solve_project-returns-clause-one_worker g t c = λ _. c.project.ensures.refused
+solve_project-returns-clause-one_worker g t c = λ _. c.project_of.ensures.refused
 
 pub solve_distinct-returns-clause-one_worker : goal.solve_distinct-returns-clause-one_worker
 solve_distinct-returns-clause-one_worker g t c = λ _. c.distinct.ensures.refused
