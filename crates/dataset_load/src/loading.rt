@@ -110,7 +110,7 @@ pub(crate) fn store_of<R: Threads + Wait>(
     requires workers { (1 ≤ workers) × (workers ≤ most_workers) }
     requires read { (lines : _) × HasRead so_far lines }
     ensures loaded { IfOk result (λ store. (lines : _) → HasRead so_far lines → IsLoaded lines store) }
-    ensures refused { IfErr result (IfBadLine (λ _. ⊥)) }
+    ensures no_bad_line { IfErr result (IfBadLine (λ _. ⊥)) }
     ensures one_worker { workers ≡ 1 → IfErr result IsOneWorkerLoadFault }
 {
     let Numbered { dict, quads, .. } = so_far;

@@ -95,7 +95,7 @@ pub(crate) fn sorted_index<R: Threads + Wait>(
     requires workers { (1 ≤ workers) × (workers ≤ most_workers) }
     ensures each_once { IfOk result
         (λ index. IsPermutation (without_repeats quad_eq quads.items) index) }
-    ensures refused { IfErr result (IfBadLine (λ _. ⊥)) }
+    ensures no_bad_line { IfErr result (IfBadLine (λ _. ⊥)) }
     ensures one_worker { workers ≡ 1 → IfErr result IsOneWorkerLoadFault }
 {
     match packed_lists(rt, alloc, quads.as_slice(), workers)? {
@@ -117,7 +117,7 @@ fn packed_lists<R: Threads + Wait>(
     requires workers { (1 ≤ workers) × (workers ≤ most_workers) }
     ensures lists { IfOk result
         (λ found. IfSome found (λ lists. AreSortedLists quads.now lists.items)) }
-    ensures refused { IfErr result (IfBadLine (λ _. ⊥)) }
+    ensures no_bad_line { IfErr result (IfBadLine (λ _. ⊥)) }
     ensures one_worker { workers ≡ 1 → IfErr result IsOneWorkerLoadFault }
 {
     let job = PackedLists { quads };
@@ -165,7 +165,7 @@ fn plain_index<R: Threads + Wait>(
     requires workers { (1 ≤ workers) × (workers ≤ most_workers) }
     ensures each_once { IfOk result
         (λ index. IsPermutation (without_repeats quad_eq quads.now) index) }
-    ensures refused { IfErr result (IfBadLine (λ _. ⊥)) }
+    ensures no_bad_line { IfErr result (IfBadLine (λ _. ⊥)) }
     ensures one_worker { workers ≡ 1 → IfErr result IsOneWorkerLoadFault }
 {
     let job = SortedLists { quads };

@@ -82,8 +82,8 @@ impl Dict {
         ensures known { OnOk result (Contains self.old term → self.new ≡ self.old) }
         ensures new { OnOk result (¬ (Contains self.old term) → self.new ≡ self.old ++ term ∷ []) }
         ensures back { IfErr result (λ t. t ≡ term) }
-        ensures refused { OnErr result (self.new ≡ self.old) }
-        ensures refused_new { OnErr result (¬ (Contains self.old term)) }
+        ensures unchanged { OnErr result (self.new ≡ self.old) }
+        ensures not_in_dict { OnErr result (¬ (Contains self.old term)) }
     {
         match self.terms.insert_full(term) {
             Ok((at, _)) => Ok(at as u64),
@@ -110,7 +110,7 @@ impl Dict {
     pub fn absorb(&mut self, other: Dict) -> Result<Vec<u64>, AllocError>
         ensures terms { OnOk result (self.new ≡ first_appearances (self.old ++ other)) }
         ensures numbers { IfOk result (λ v. AreNumbersOf self.new other v.items) }
-        ensures refused { OnErr result (self.new ≡ self.old) }
+        ensures unchanged { OnErr result (self.new ≡ self.old) }
     {
         let alloc = *self.terms.allocator();
         insert_terms(alloc, &mut self.terms, other)

@@ -21,7 +21,7 @@ pub(crate) fn insert_terms(
 ) -> Result<Vec<u64>, AllocError>
     ensures keys { OnOk result (set.new.keys ≡ insert_all term_eq set.old.keys terms) }
     ensures places { IfOk result (λ v. v.items ≡ places_in set.old.keys terms) }
-    ensures refused { OnErr result (set.new.keys ≡ set.old.keys) }
+    ensures unchanged { OnErr result (set.new.keys ≡ set.old.keys) }
     ensures unique { IsUnique term_eq set.new }
 {
     set.reserve(terms.len())?;
@@ -44,7 +44,7 @@ pub(crate) fn insert_new(
 ) -> Result<Vec<u64>, AllocError>
     ensures keys { OnOk result (set.new.keys ≡ insert_all term_eq set.old.keys (new_of seen.items)) }
     ensures places { IfOk result (λ v. v.items ≡ places_of set.old.keys seen.items) }
-    ensures refused { OnErr result (set.new.keys ≡ set.old.keys) }
+    ensures unchanged { OnErr result (set.new.keys ≡ set.old.keys) }
     ensures unique { IsUnique term_eq set.new }
 {
     set.reserve(seen.len())?;

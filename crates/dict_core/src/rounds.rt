@@ -71,8 +71,8 @@ pub fn add_piece(
         → IsGrown earlier dict.old → IsLookedUp earlier quads piece
         → IsNumbered done dict.old all.old.items
         → IsNumbered (done ++ quads) dict.new all.new.items) }
-    ensures refused { OnErr result (dict.new ≡ dict.old) }
-    ensures refused_quads { OnErr result (all.new.items ≡ all.old.items) }
+    ensures unchanged { OnErr result (dict.new ≡ dict.old) }
+    ensures unchanged_quads { OnErr result (all.new.items ≡ all.old.items) }
 {
     let SeenPiece { seen, quads } = piece;
     all.reserve(quads.len())?;

@@ -100,7 +100,7 @@ fn shown_operator<R: Threads + Wait>(
 }
 
 /// Prints the rows of an operator.
-fn told<R: Threads + Wait>(
+fn joined_text<R: Threads + Wait>(
     rt: &R,
     alloc: Global,
     state: RandomState,
@@ -128,7 +128,7 @@ fn check<R: Threads + Wait + Abort>(
     requires how { IsRunnable how.now }
 {
     let [name, left, right, expected] = *case;
-    let found = told(rt, alloc, state, operator, left, right, how).expect(rt, name);
+    let found = joined_text(rt, alloc, state, operator, left, right, how).expect(rt, name);
     assert!(rt;
         found.as_str() == expected,
         "{name}, {how:?}: {left} and {right}: expected {expected}, found {found}"

@@ -15,7 +15,7 @@ fn symbol(cell: Option<u64>) -> char {
 }
 
 /// Prints the width, and for each row its cells and after `=` the same cells one by one.
-pub(crate) fn told(alloc: Global, rows: &Rows) -> Result<String, AllocError> {
+pub(crate) fn rows_text(alloc: Global, rows: &Rows) -> Result<String, AllocError> {
     let mut text = format!(in alloc; "{}:", rows.width())?;
     for i in 0..rows.len() {
         text.push(' ')?;
@@ -72,7 +72,7 @@ fn check<R: Abort>(
     rows: Result<Rows, AllocError>,
 ) {
     let rows = rows.expect(rt, case);
-    gives(rt, case, expected, told(alloc, &rows));
+    gives(rt, case, expected, rows_text(alloc, &rows));
 }
 
 #[test]

@@ -50,7 +50,7 @@ fn a_fault_keeps_its_name(rt: HostRuntime) {
 /// Prints the result of `n` pieces; those below `sound` are not faulty. The result is the number of
 /// outputs at their indexes, or the least faulty piece with its fault. Also prints how many pieces
 /// entered and left the gate.
-fn told<R: Threads + Wait>(
+fn pieces_text<R: Threads + Wait>(
     rt: &R,
     alloc: Global,
     workers: usize,
@@ -99,7 +99,7 @@ fn check_runs<R: Threads + Wait + Abort>(rt: &R, alloc: Global, workers: usize)
     requires workers { (1 ≤ workers) × (workers ≤ most_workers) }
 {
     for (n, sound, expected) in &RUNS {
-        let found = told(rt, alloc, workers, *n, *sound);
+        let found = pieces_text(rt, alloc, workers, *n, *sound);
         gives(
             rt,
             if workers == 1 {

@@ -4,7 +4,7 @@ ghost use Rattle.algebra_model.specs.Solve.{AreBelow};
 ghost use Rattle.row_pattern.specs.Numbered.{pattern_of};
 
 use crate::cells::{gives, shown};
-use crate::merging::told;
+use crate::merging::rows_text;
 use dict_core::NumQuad;
 use piece_pool::OpenGate;
 use quad_index::Index;
@@ -61,7 +61,7 @@ fn solve<R: Threads + Wait>(
 }
 
 /// Prints the rows of a pattern.
-fn told_rows<R: Threads + Wait>(
+fn matches_text<R: Threads + Wait>(
     rt: &R,
     alloc: Global,
     quads: Quads,
@@ -72,7 +72,7 @@ fn told_rows<R: Threads + Wait>(
     requires below { AreBelow width (width + 2) (map pattern_of triples.now) }
 {
     let rows = solve(rt, alloc, quads, graph, width, triples)?;
-    Ok(told(alloc, &rows)?)
+    Ok(rows_text(alloc, &rows)?)
 }
 
 /// Prints the rows of a pattern of two variables, in ascending order.
@@ -101,7 +101,7 @@ fn check<R: Threads + Wait + Abort>(
 )
     requires below { AreBelow width (width + 2) (map pattern_of triples.now) }
 {
-    let found = told_rows(rt, alloc, quads, graph, width, triples);
+    let found = matches_text(rt, alloc, quads, graph, width, triples);
     gives(rt, case, expected, found);
 }
 

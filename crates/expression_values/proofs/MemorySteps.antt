@@ -5,7 +5,7 @@ use Rattle.std.proofs.lemmas.Bool.{and_parts}
 use Rattle.sparql_tree.specs.declared.expression.Comparison.{Comparison}
 use Rattle.sparql_tree.specs.declared.expression.Function.{Function}
 use Rattle.expression_values.specs.ExpressionOf.{function_of}
-use Rattle.expression_values.specs.NoAllocation.{Need, are_lent, is_lent, is_test, need, need_step, none_where, takes_none}
+use Rattle.expression_values.specs.NoAllocation.{Need, are_borrowed, is_borrowed, is_test, need, need_step, none_where, takes_none}
 use Rattle.expression_values.specs.declared.expression.Expr.{Expr}
 use Rattle.expression_values.specs.declared.expression.Expr.TheFolds.{fold-roll-Expr}
 use Rattle.expression_values.specs.declared.expression.Expr.TheOpen.{Expr-F}
@@ -27,34 +27,34 @@ and_need left right = ap need (sym (variants.rolls-And left right)) ∙ fold-rol
 pub and_sides : (left right : Box Expr Global) → takes_none (views.And left right) ≡ true → (takes_none left.value ≡ true) × (takes_none right.value ≡ true)
 and_sides left right h = both_none (views.And left right) (takes_none left.value) (takes_none right.value) (and_need left right) h
 
-compare_need : (op : Comparison) (left right : Box Expr Global) → need (views.Compare op left right) ≡ none_where (is_lent left.value && is_lent right.value)
+compare_need : (op : Comparison) (left right : Box Expr Global) → need (views.Compare op left right) ≡ none_where (is_borrowed left.value && is_borrowed right.value)
 compare_need op left right = ap need (sym (variants.rolls-Compare op left right)) ∙ fold-roll-Expr Need need_step (Expr-F.Compare op left right)
 
-pub compare_sides : (op : Comparison) (left right : Box Expr Global) → takes_none (views.Compare op left right) ≡ true → (is_lent left.value ≡ true) × (is_lent right.value ≡ true)
-compare_sides op left right h = both_none (views.Compare op left right) (is_lent left.value) (is_lent right.value) (compare_need op left right) h
+pub compare_sides : (op : Comparison) (left right : Box Expr Global) → takes_none (views.Compare op left right) ≡ true → (is_borrowed left.value ≡ true) × (is_borrowed right.value ≡ true)
+compare_sides op left right h = both_none (views.Compare op left right) (is_borrowed left.value) (is_borrowed right.value) (compare_need op left right) h
 
-in_need : (item : Box Expr Global) (list : Vec Expr Global) → need (views.In item list) ≡ none_where (is_lent item.value && are_lent list.items)
+in_need : (item : Box Expr Global) (list : Vec Expr Global) → need (views.In item list) ≡ none_where (is_borrowed item.value && are_borrowed list.items)
 in_need item list = ap need (sym (variants.rolls-In item list)) ∙ fold-roll-Expr Need need_step (Expr-F.In item list)
 
-pub in_sides : (item : Box Expr Global) (list : Vec Expr Global) → takes_none (views.In item list) ≡ true → (is_lent item.value ≡ true) × (are_lent list.items ≡ true)
-in_sides item list h = both_none (views.In item list) (is_lent item.value) (are_lent list.items) (in_need item list) h
+pub in_sides : (item : Box Expr Global) (list : Vec Expr Global) → takes_none (views.In item list) ≡ true → (is_borrowed item.value ≡ true) × (are_borrowed list.items ≡ true)
+in_sides item list h = both_none (views.In item list) (is_borrowed item.value) (are_borrowed list.items) (in_need item list) h
 
-call_need : (f : Function) (argument : Box Expr Global) → need (views.Call f argument) ≡ none_where (is_lent argument.value && is_test (function_of f))
+call_need : (f : Function) (argument : Box Expr Global) → need (views.Call f argument) ≡ none_where (is_borrowed argument.value && is_test (function_of f))
 call_need f argument = ap need (sym (variants.rolls-Call f argument)) ∙ fold-roll-Expr Need need_step (Expr-F.Call f argument)
 
-pub call_sides : (f : Function) (argument : Box Expr Global) → takes_none (views.Call f argument) ≡ true → (is_lent argument.value ≡ true) × (is_test (function_of f) ≡ true)
-call_sides f argument h = both_none (views.Call f argument) (is_lent argument.value) (is_test (function_of f)) (call_need f argument) h
+pub call_sides : (f : Function) (argument : Box Expr Global) → takes_none (views.Call f argument) ≡ true → (is_borrowed argument.value ≡ true) × (is_test (function_of f) ≡ true)
+call_sides f argument h = both_none (views.Call f argument) (is_borrowed argument.value) (is_test (function_of f)) (call_need f argument) h
 
-same_term_need : (left right : Box Expr Global) → need (views.SameTerm left right) ≡ none_where (is_lent left.value && is_lent right.value)
+same_term_need : (left right : Box Expr Global) → need (views.SameTerm left right) ≡ none_where (is_borrowed left.value && is_borrowed right.value)
 same_term_need left right = ap need (sym (variants.rolls-SameTerm left right)) ∙ fold-roll-Expr Need need_step (Expr-F.SameTerm left right)
 
-pub same_term_sides : (left right : Box Expr Global) → takes_none (views.SameTerm left right) ≡ true → (is_lent left.value ≡ true) × (is_lent right.value ≡ true)
-same_term_sides left right h = both_none (views.SameTerm left right) (is_lent left.value) (is_lent right.value) (same_term_need left right) h
+pub same_term_sides : (left right : Box Expr Global) → takes_none (views.SameTerm left right) ≡ true → (is_borrowed left.value ≡ true) × (is_borrowed right.value ≡ true)
+same_term_sides left right h = both_none (views.SameTerm left right) (is_borrowed left.value) (is_borrowed right.value) (same_term_need left right) h
 
 pub not_need : (inner : Box Expr Global) → need (views.Not inner) ≡ none_where (takes_none inner.value)
 not_need inner = ap need (sym (variants.rolls-Not inner)) ∙ fold-roll-Expr Need need_step (Expr-F.Not inner)
 
-pub member_lent : (xs : List Expr) (i : ℕ) (d : Expr) → i < length xs → are_lent xs ≡ true → is_lent (get_or xs i d) ≡ true
-member_lent [] i d lt h = absurd (omega arith)
-member_lent (y ∷ ys) zero d lt h = (and_parts (is_lent y) (are_lent ys) h).0
-member_lent (y ∷ ys) (suc i) d lt h = member_lent ys i d (omega arith) (and_parts (is_lent y) (are_lent ys) h).1
+pub member_borrowed : (xs : List Expr) (i : ℕ) (d : Expr) → i < length xs → are_borrowed xs ≡ true → is_borrowed (get_or xs i d) ≡ true
+member_borrowed [] i d lt h = absurd (omega arith)
+member_borrowed (y ∷ ys) zero d lt h = (and_parts (is_borrowed y) (are_borrowed ys) h).0
+member_borrowed (y ∷ ys) (suc i) d lt h = member_borrowed ys i d (omega arith) (and_parts (is_borrowed y) (are_borrowed ys) h).1

@@ -3,12 +3,12 @@ use Rattle.std.specs.Prelude.{Bool, true, false}
 use Rattle.rdf_core.specs.declared.term.Term.{Term}
 use Rattle.algebra_model.specs.Call.{boolean_term}
 use Rattle.expression_values.specs.declared.held.Held as held
-use Rattle.expression_values.specs.declared.held.Held.TheVariants.{Lent, Owned}
+use Rattle.expression_values.specs.declared.held.Held.TheVariants.{Borrowed, Owned}
 use Rattle.expression_values.specs.declared.held.Value as value
 use Rattle.expression_values.specs.declared.held.Value.TheVariants.{Held, Truth}
 
 abbrev pub held_term : held.Held → Term
-held_term (Lent term) = term.now
+held_term (Borrowed term) = term.now
 held_term (Owned term) = term
 
 abbrev pub value_term : value.Value → Term

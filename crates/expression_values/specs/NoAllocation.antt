@@ -19,40 +19,40 @@ is_test is_literal = true
 -- of an expression: whether it is a variable or a constant, and whether its evaluation allocates
 -- nothing
 pub record Need : Type 0 where
-  pub is_lent : Bool
+  pub is_borrowed : Bool
   pub takes_none : Bool
 
-abbrev pub lent : Need
-lent = record { is_lent = true; takes_none = true }
+abbrev pub borrowed : Need
+borrowed = record { is_borrowed = true; takes_none = true }
 
 abbrev pub none_where : Bool → Need
-none_where b = record { is_lent = false; takes_none = b }
+none_where b = record { is_borrowed = false; takes_none = b }
 
-abbrev pub all_lent : List Need → Bool
-all_lent [] = true
-all_lent (n ∷ ns) = n.is_lent && all_lent ns
+abbrev pub all_borrowed : List Need → Bool
+all_borrowed [] = true
+all_borrowed (n ∷ ns) = n.is_borrowed && all_borrowed ns
 
 -- one level of the tree, with each operand replaced by its needs
 abbrev pub need_step : Expr-F Need → Need
-need_step (Expr-F.Variable v) = lent
-need_step (Expr-F.Constant t) = lent
+need_step (Expr-F.Variable v) = borrowed
+need_step (Expr-F.Constant t) = borrowed
 need_step (Expr-F.Or a b) = none_where (a.value.takes_none && b.value.takes_none)
 need_step (Expr-F.And a b) = none_where (a.value.takes_none && b.value.takes_none)
 need_step (Expr-F.Not a) = none_where a.value.takes_none
-need_step (Expr-F.Compare op a b) = none_where (a.value.is_lent && b.value.is_lent)
-need_step (Expr-F.In x es) = none_where (x.value.is_lent && all_lent es.items)
-need_step (Expr-F.Call f a) = none_where (a.value.is_lent && is_test (function_of f))
+need_step (Expr-F.Compare op a b) = none_where (a.value.is_borrowed && b.value.is_borrowed)
+need_step (Expr-F.In x es) = none_where (x.value.is_borrowed && all_borrowed es.items)
+need_step (Expr-F.Call f a) = none_where (a.value.is_borrowed && is_test (function_of f))
 need_step (Expr-F.Bound v) = none_where true
-need_step (Expr-F.SameTerm a b) = none_where (a.value.is_lent && b.value.is_lent)
+need_step (Expr-F.SameTerm a b) = none_where (a.value.is_borrowed && b.value.is_borrowed)
 
 abbrev pub need : Expr → Need
 need = fold-Expr Need need_step
 
-abbrev pub is_lent : Expr → Bool
-is_lent e = (need e).is_lent
+abbrev pub is_borrowed : Expr → Bool
+is_borrowed e = (need e).is_borrowed
 
-abbrev pub are_lent : List Expr → Bool
-are_lent es = all_lent (map need es)
+abbrev pub are_borrowed : List Expr → Bool
+are_borrowed es = all_borrowed (map need es)
 
 abbrev pub takes_none : Expr → Bool
 takes_none e = (need e).takes_none

@@ -8,7 +8,7 @@ ghost use Rattle.algebra_model.specs.Expression.{boolean_result, holds, truth_of
 ghost use Rattle.expression_values.specs.ExpressionOf.{comparison_of, expression_of, function_of};
 ghost use Rattle.expression_values.specs.MemberTruth.{member_truth};
 ghost use Rattle.expression_values.specs.HeldTerm.{held_term, is_held, value_term};
-ghost use Rattle.expression_values.specs.NoAllocation.{are_lent, is_lent, is_test, takes_none};
+ghost use Rattle.expression_values.specs.NoAllocation.{are_borrowed, is_borrowed, is_test, takes_none};
 
 use crate::expression::Expr;
 use crate::held::{Held, Value, boolean_value, call};
@@ -95,11 +95,11 @@ fn evaluate<'a, R: Lookup>(
     ensures value { IfOk result (λ value.
         option_map value_term value ≡ val (expression_of expr.entry.now) (R.solution row.entry.now)) }
     ensures takes_none { takes_none expr.entry.now ≡ true → IsOk result }
-    ensures held { is_lent expr.entry.now ≡ true → IsOkAnd result (λ value. IfSome value (λ v. is_held v ≡ true)) }
+    ensures held { is_borrowed expr.entry.now ≡ true → IsOkAnd result (λ value. IfSome value (λ v. is_held v ≡ true)) }
 {
     match expr {
-        Expr::Variable(variable) => Ok(lent(row.get(*variable))),
-        Expr::Constant(term) => Ok(Some(Value::Held(Held::Lent(term)))),
+        Expr::Variable(variable) => Ok(borrowed(row.get(*variable))),
+        Expr::Constant(term) => Ok(Some(Value::Held(Held::Borrowed(term)))),
         Expr::Or { left, right } => {
             let right = evaluate_truth(alloc, right, row)?;
             evaluate_either(alloc, left, right, row)
@@ -186,17 +186,17 @@ fn evaluate_in<'a, R: Lookup>(
 ) -> Result<Option<Value<'a>>, AllocError>
     ensures value { IfOk result (λ value. option_map value_term value ≡ boolean_result
         (member_truth (option_map held_term item.entry) (map expression_of list.now) (R.solution row.now))) }
-    ensures are_lent { are_lent list.now ≡ true → IsOk result }
+    ensures are_borrowed { are_borrowed list.now ≡ true → IsOk result }
 {
     Ok(boolean_value(evaluate_member(alloc, &item, list, row)?))
 }
 
-fn lent(term: Option<&Term>) -> Option<Value<'_>>
+fn borrowed(term: Option<&Term>) -> Option<Value<'_>>
     ensures value { option_map value_term result ≡ option_map (λ t. t.now) term.entry }
     ensures held { IfSome result (λ v. is_held v ≡ true) }
 {
     match term {
-        Some(term) => Some(Value::Held(Held::Lent(term))),
+        Some(term) => Some(Value::Held(Held::Borrowed(term))),
         None => None,
     }
 }
@@ -220,7 +220,7 @@ fn evaluate_held<'a, R: Lookup>(
 ) -> Result<Option<Held<'a>>, AllocError>
     ensures value { IfOk result (λ value.
         option_map held_term value ≡ val (expression_of expr.entry.now) (R.solution row.entry.now)) }
-    ensures is_lent { is_lent expr.entry.now ≡ true → IsOk result }
+    ensures is_borrowed { is_borrowed expr.entry.now ≡ true → IsOk result }
 {
     match evaluate(alloc, expr, row)? {
         Some(value) => Ok(Some(value.into_held(alloc)?)),
@@ -309,7 +309,7 @@ fn evaluate_comparison<'a, R: Lookup>(
     ensures value { IfOk result (λ value. option_map value_term value ≡ boolean_result
         (with_values (option_map held_term left.entry) (val (expression_of right.now) (R.solution row.now))
         (compares (comparison_of operator)))) }
-    ensures is_lent { is_lent right.now ≡ true → IsOk result }
+    ensures is_borrowed { is_borrowed right.now ≡ true → IsOk result }
 {
     let right = evaluate_held(alloc, right, row)?;
     Ok(boolean_value(compare_values(operator, &left, &right)))
@@ -326,7 +326,7 @@ fn evaluate_same_term<'a, R: Lookup>(
     ensures value { IfOk result (λ value. option_map value_term value ≡ boolean_result
         (with_values (option_map held_term left.entry) (val (expression_of right.now) (R.solution row.now))
         (λ s t. Some (term_eq s t)))) }
-    ensures is_lent { is_lent right.now ≡ true → IsOk result }
+    ensures is_borrowed { is_borrowed right.now ≡ true → IsOk result }
 {
     let right = evaluate_held(alloc, right, row)?;
     Ok(boolean_value(same_values(&left, &right)))
@@ -342,7 +342,7 @@ fn evaluate_call<'a, R: Lookup>(
 ) -> Result<Option<Value<'a>>, AllocError>
     ensures value { IfOk result (λ value. option_map value_term value
         ≡ with_value (val (expression_of argument.now) (R.solution row.now)) (call_value (function_of function))) }
-    ensures takes_none { is_lent argument.now ≡ true → is_test (function_of function) ≡ true → IsOk result }
+    ensures takes_none { is_borrowed argument.now ≡ true → is_test (function_of function) ≡ true → IsOk result }
 {
     match evaluate_held(alloc, argument, row)? {
         Some(term) => call(alloc, function, term.as_term()),
@@ -361,7 +361,7 @@ fn evaluate_member<R: Lookup>(
 ) -> Result<Option<bool>, AllocError>
     ensures truth { IfOk result (λ truth. truth ≡ member_truth (option_map held_term item.now)
         (map expression_of list.now) (R.solution row.now)) }
-    ensures are_lent { are_lent list.now ≡ true → IsOk result }
+    ensures are_borrowed { are_borrowed list.now ≡ true → IsOk result }
 {
     let mut found = Some(false);
     for member in list {

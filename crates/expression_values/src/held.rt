@@ -16,7 +16,7 @@ use term_values::truth;
 
 /// A borrowed term, or an owned one.
 pub enum Held<'a> {
-    Lent(&'a Term),
+    Borrowed(&'a Term),
     Owned(Term),
 }
 
@@ -24,7 +24,7 @@ impl<'a> Drop for Held<'a> {
     /// Implemented by hand. A proof then meets one call at each exit that drops a value.
     fn drop(self) {
         match self {
-            Held::Lent(_) | Held::Owned(_) => {}
+            Held::Borrowed(_) | Held::Owned(_) => {}
         }
     }
 }
@@ -41,7 +41,7 @@ impl<'a> Held<'a> {
         ensures term { result.now ≡ held_term self.now }
     {
         match self {
-            Held::Lent(term) => term,
+            Held::Borrowed(term) => term,
             Held::Owned(term) => term,
         }
     }
@@ -52,7 +52,7 @@ impl<'a> Held<'a> {
         ensures owned { (term : Term) → self.entry ≡ Held.Owned term → result ≡ Ok term }
     {
         match self {
-            Held::Lent(term) => term.copy(alloc),
+            Held::Borrowed(term) => term.copy(alloc),
             Held::Owned(term) => Ok(term),
         }
     }

@@ -197,7 +197,7 @@ fn played(alloc: Global, n: u64, script: &str, text: &mut String) -> Result<Clos
 }
 
 /// Plays a script, and prints the numbers of its steps and the totals of the closed board.
-fn told(alloc: Global, n: u64, script: &str) -> Result<String, BoardFault>
+fn script_text(alloc: Global, n: u64, script: &str) -> Result<String, BoardFault>
     requires pieces { n ≤ most_pieces }
 {
     let mut text = String::new(alloc);
@@ -215,7 +215,7 @@ fn told(alloc: Global, n: u64, script: &str) -> Result<String, BoardFault>
 fn a_skip_is_above_a_seen_report(rt: HostRuntime) {
     let expected = "0 1 2 1 1 2 3 1 3 - - 1 1 drawn 4 skipped 2 least 1";
     let script = "dDdRlsDLSdDfF";
-    gives(&rt, script, expected, told(rt.alloc(), 4, script));
+    gives(&rt, script, expected, script_text(rt.alloc(), 4, script));
 }
 
 /// With one number and two passes, the second pass to draw gets no number, and sees the report of
@@ -223,7 +223,7 @@ fn a_skip_is_above_a_seen_report(rt: HostRuntime) {
 #[test]
 fn one_piece_and_two_passes(rt: HostRuntime) {
     let expected = "0 - 0 0 drawn 1 skipped 0 least 0";
-    gives(&rt, "dDrL", expected, told(rt.alloc(), 1, "dDrL"));
+    gives(&rt, "dDrL", expected, script_text(rt.alloc(), 1, "dDrL"));
 }
 
 /// Draws once with each pass that is not finished.

@@ -44,7 +44,7 @@ pub fn read_to_end<S: Source>(alloc: Global, reader: &mut S) -> Result<Vec<u8>, 
 pub fn read_more<S: Source>(reader: &mut S, bytes: &mut Vec<u8>) -> Result<usize, ReadFault>
     ensures more { IfOk result
         (ReadsMore (S.left reader.old) (S.left reader.new) bytes.old.items bytes.new.items) }
-    ensures refused { OnErr result (bytes.new.items ≡ bytes.old.items) }
+    ensures unchanged { OnErr result (bytes.new.items ≡ bytes.old.items) }
     ensures taken { OnErr result (IsReadInPart (S.left reader.old) (S.left reader.new)) }
     ensures count { CountsRead (S.failures reader.old) (S.failures reader.new) result }
 {

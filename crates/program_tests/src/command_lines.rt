@@ -5,7 +5,7 @@ use spq_command::{Command, read_command};
 use std::alloc::{AllocError, Global};
 
 /// Prints the command of these arguments, or why they are not a command line.
-fn told_words(alloc: Global, words: &[String]) -> Result<String, AllocError> {
+fn words_text(alloc: Global, words: &[String]) -> Result<String, AllocError> {
     match read_command(alloc, words) {
         Ok(command) => command_text(alloc, &command),
         Err(fault) => format!(in alloc; "{fault:?}"),
@@ -13,9 +13,9 @@ fn told_words(alloc: Global, words: &[String]) -> Result<String, AllocError> {
 }
 
 /// Prints the command of a command line, or the reason why it is none.
-fn told(alloc: Global, line: &str) -> Result<String, AllocError> {
+fn line_text(alloc: Global, line: &str) -> Result<String, AllocError> {
     let words = words_of(alloc, line)?;
-    told_words(alloc, &words)
+    words_text(alloc, &words)
 }
 
 /// Prints a command: its name, the number of workers and the bytes of a block. For a select it adds
@@ -82,7 +82,7 @@ spq|terms|more => Line
 /// Returns whether the arguments are this command. Prints the command that was read if they are
 /// not.
 fn is_read<R: Print>(rt: &R, alloc: Global, line: &str, expected: &str) -> bool {
-    let Ok(given) = told(alloc, line) else {
+    let Ok(given) = line_text(alloc, line) else {
         return false;
     };
     let is_read = given.trim() == expected;

@@ -21,7 +21,7 @@ use test_fixtures::Counter;
 
 /// Prints for the script that memory or a worker was missing, and returns None. Returns false for other
 /// faults than the expected one.
-fn refused<R: Print>(rt: &R, fault: Fault, wanted: Result<&[u8], Fault>) -> Option<bool> {
+fn is_expected<R: Print>(rt: &R, fault: Fault, wanted: Result<&[u8], Fault>) -> Option<bool> {
     let what = match fault {
         Fault::Memory => "memory",
         Fault::WorkerRefused => "a worker",
@@ -45,7 +45,7 @@ fn attempt<R: Threads + Wait + RandomSource + Print>(
 {
     match by_lines(rt, alloc, doc, query, workers, 1, gate) {
         Ok(bytes) => Some(wanted == Ok(bytes.as_slice())),
-        Err(fault) => refused(rt, fault, wanted),
+        Err(fault) => is_expected(rt, fault, wanted),
     }
 }
 
@@ -185,7 +185,7 @@ fn has_letters<R: Print>(rt: &R, term: &Term, out: &mut Vec<u8>) -> bool {
             return false;
         }
     }
-    holds(rt, "the spelling", out.as_slice() == WRITTEN)
+    holds(rt, "the N-Quads form", out.as_slice() == WRITTEN)
 }
 
 /// Returns whether the term is appended to two bytes. It is also true if there is no memory for these.

@@ -40,7 +40,7 @@ fn stride(width: usize) -> usize
 /// Appends the cells of a row, or one empty cell if the row has none.
 fn add_cells(cells: &mut Vec<Option<u64>>, row: &[Option<u64>]) -> Result<(), AllocError>
     ensures added { OnOk result (cells.new.items ≡ cells.old.items ++ padded row.now) }
-    ensures refused { OnErr result (cells.new.items ≡ cells.old.items) }
+    ensures unchanged { OnErr result (cells.new.items ≡ cells.old.items) }
 {
     if row.is_empty() {
         cells.push(None)?;
@@ -133,7 +133,7 @@ impl Rows {
     pub fn push(&mut self, row: &[Option<u64>]) -> Result<(), AllocError>
         requires wide { length row.now ≡ self.old.width }
         ensures added { OnOk result (self.new.rows ≡ self.old.rows ++ row.now ∷ []) }
-        ensures refused { OnErr result (self.new.rows ≡ self.old.rows) }
+        ensures unchanged { OnErr result (self.new.rows ≡ self.old.rows) }
         ensures width { self.new.width ≡ self.old.width }
     {
         add_cells(&mut self.cells, row)?;
@@ -178,7 +178,7 @@ impl Rows {
     pub fn append(&mut self, others: Rows) -> Result<(), AllocError>
         requires same_width { others.width ≡ self.old.width }
         ensures added { OnOk result (self.new.rows ≡ self.old.rows ++ others.rows) }
-        ensures refused { OnErr result (self.new.rows ≡ self.old.rows) }
+        ensures unchanged { OnErr result (self.new.rows ≡ self.old.rows) }
         ensures width { self.new.width ≡ self.old.width }
     {
         let Rows {

@@ -54,7 +54,7 @@ impl Names {
     /// `AllocError` if an allocation fails. The names are unchanged.
     pub fn note(&mut self, name: &Text) -> Result<(), AllocError>
         ensures noted { OnOk result (self.new ≡ insert_key bytes_eq self.old name.now) }
-        ensures refused { OnErr result (self.new ≡ self.old) }
+        ensures unchanged { OnErr result (self.new ≡ self.old) }
     {
         if !self.set.contains(name) {
             let alloc = *self.set.allocator();

@@ -47,7 +47,7 @@ pub fn scope(alloc: Global, group: &[Element]) -> Result<Names, AllocError>
 /// `AllocError` if an allocation fails. Some of the first names of the list have been added.
 pub fn note_list(names: &mut Names, list: &[Text]) -> Result<(), AllocError>
     ensures noted { OnOk result (names.new ≡ insert_all bytes_eq names.old list.now) }
-    ensures refused { OnErr result (IsNotedInPart names.old list.now names.new) }
+    ensures in_part { OnErr result (IsNotedInPart names.old list.now names.new) }
 {
     for name in list {
         names.note(name)?;
@@ -58,7 +58,7 @@ pub fn note_list(names: &mut Names, list: &[Text]) -> Result<(), AllocError>
 fn note_selection(names: &mut Names, selection: &Selection) -> Result<(), AllocError>
     ensures noted { OnOk result
         (names.new ≡ insert_all bytes_eq names.old (listed_names (selection_of selection.now))) }
-    ensures refused { OnErr result
+    ensures in_part { OnErr result
         (IsNotedInPart names.old (listed_names (selection_of selection.now)) names.new) }
 {
     match selection {
@@ -73,7 +73,7 @@ fn note_selection(names: &mut Names, selection: &Selection) -> Result<(), AllocE
 fn note_group(names: &mut Names, all: bool, group: &[Element]) -> Result<(), AllocError>
     ensures noted { OnOk result
         (names.new ≡ insert_all bytes_eq names.old (group_names all (group_of group.now))) }
-    ensures refused { OnErr result
+    ensures in_part { OnErr result
         (IsNotedInPart names.old (group_names all (group_of group.now)) names.new) }
 {
     for element in group {
@@ -86,7 +86,7 @@ fn note_group(names: &mut Names, all: bool, group: &[Element]) -> Result<(), All
 fn note_element(names: &mut Names, all: bool, element: &Element) -> Result<(), AllocError>
     ensures noted { OnOk result
         (names.new ≡ insert_all bytes_eq names.old (element_names all (element_of element.now))) }
-    ensures refused { OnErr result
+    ensures in_part { OnErr result
         (IsNotedInPart names.old (element_names all (element_of element.now)) names.new) }
 {
     match element {
@@ -116,7 +116,7 @@ fn note_element(names: &mut Names, all: bool, element: &Element) -> Result<(), A
 
 fn note_graph_name(names: &mut Names, name: &GraphName) -> Result<(), AllocError>
     ensures noted { OnOk result (names.new ≡ insert_all bytes_eq names.old (graph_names name.now)) }
-    ensures refused { OnErr result (IsNotedInPart names.old (graph_names name.now) names.new) }
+    ensures in_part { OnErr result (IsNotedInPart names.old (graph_names name.now) names.new) }
 {
     match name {
         GraphName::Variable(variable) => names.note(variable),
@@ -127,7 +127,7 @@ fn note_graph_name(names: &mut Names, name: &GraphName) -> Result<(), AllocError
 fn note_triples(names: &mut Names, triples: &[Triple]) -> Result<(), AllocError>
     ensures noted { OnOk result
         (names.new ≡ insert_all bytes_eq names.old (flat_map triple_names triples.now)) }
-    ensures refused { OnErr result
+    ensures in_part { OnErr result
         (IsNotedInPart names.old (flat_map triple_names triples.now) names.new) }
 {
     for triple in triples {
@@ -138,7 +138,7 @@ fn note_triples(names: &mut Names, triples: &[Triple]) -> Result<(), AllocError>
 
 fn note_triple(names: &mut Names, triple: &Triple) -> Result<(), AllocError>
     ensures noted { OnOk result (names.new ≡ insert_all bytes_eq names.old (triple_names triple.now)) }
-    ensures refused { OnErr result (IsNotedInPart names.old (triple_names triple.now) names.new) }
+    ensures in_part { OnErr result (IsNotedInPart names.old (triple_names triple.now) names.new) }
 {
     note_place(names, &triple.subject)?;
     note_place(names, &triple.predicate)?;
@@ -147,7 +147,7 @@ fn note_triple(names: &mut Names, triple: &Triple) -> Result<(), AllocError>
 
 fn note_place(names: &mut Names, place: &PatternTerm) -> Result<(), AllocError>
     ensures noted { OnOk result (names.new ≡ insert_all bytes_eq names.old (place_names place.now)) }
-    ensures refused { OnErr result (IsNotedInPart names.old (place_names place.now) names.new) }
+    ensures in_part { OnErr result (IsNotedInPart names.old (place_names place.now) names.new) }
 {
     match place {
         PatternTerm::Variable(variable) => names.note(variable),

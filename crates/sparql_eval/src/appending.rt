@@ -9,7 +9,7 @@ use std::alloc::AllocError;
 pub(crate) fn add_rows(made: &mut Rows, rows: &Rows) -> Result<(), AllocError>
     requires same_width { rows.now.width ≡ made.old.width }
     ensures added { OnOk result (made.new.rows ≡ made.old.rows ++ rows.now.rows) }
-    ensures refused { OnErr result ((k : ℕ)
+    ensures in_part { OnErr result ((k : ℕ)
         × (made.new.rows ≡ made.old.rows ++ take k rows.now.rows)) }
     ensures width { made.new.width ≡ made.old.width }
 {

@@ -33,7 +33,7 @@ pub fn distinct(
     ensures evaluated { IfOk result (λ r. IsEvaluated dict rows.now.width
         (distinct term_eq (solutions_of dict rows.now)) r.0 r.1) }
     ensures same_dict { IfOk result (λ r. r.1 ≡ dict) }
-    ensures refused { IfErr result (λ fault. fault ≡ Memory) }
+    ensures memory { IfErr result (λ fault. fault ≡ Memory) }
 {
     let _distinct = dict.len();
     let made = distinct_rows(alloc, state, rows);
@@ -44,7 +44,7 @@ pub fn distinct(
 fn distinct_rows(alloc: Global, state: RandomState, rows: &Rows) -> Result<Rows, EvalFault>
     ensures made { IfOk result (λ made. (made.width ≡ rows.now.width)
         × (made.rows ≡ distinct nat_eq rows.now.rows)) }
-    ensures refused { IfErr result (λ fault. fault ≡ Memory) }
+    ensures memory { IfErr result (λ fault. fault ≡ Memory) }
 {
     let mut seen = IndexSet::with_hasher(alloc, state);
     match first_rows(alloc, &mut seen, rows) {

@@ -57,7 +57,7 @@ fn add_named(
     requires same_width { rows.now.width ≡ made.old.width }
     requires wide { length name.now ≡ rows.now.width }
     ensures added { OnOk result (made.new.rows ≡ made.old.rows ++ join nat_eq rows.now.rows (name.now ∷ [])) }
-    ensures refused { OnErr result ((k : ℕ) × (made.new.rows
+    ensures in_part { OnErr result ((k : ℕ) × (made.new.rows
         ≡ made.old.rows ++ join nat_eq (take k rows.now.rows) (name.now ∷ []))) }
     ensures width { made.new.width ≡ made.old.width }
 {

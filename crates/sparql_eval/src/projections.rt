@@ -29,7 +29,7 @@ pub fn project(
     ensures evaluated { IfOk result (λ r. IsEvaluated dict rows.now.width
         (project variables.now (solutions_of dict rows.now)) r.0 r.1) }
     ensures same_dict { IfOk result (λ r. r.1 ≡ dict) }
-    ensures refused { IfErr result (λ fault. fault ≡ Memory) }
+    ensures memory { IfErr result (λ fault. fault ≡ Memory) }
 {
     let made = projected(alloc, rows, variables);
     with_dict(made, dict)
@@ -47,7 +47,7 @@ pub(crate) fn project_of(
     ensures evaluated { IfOk result (λ r. IsEvaluated dict rows.width
         (project variables.now (solutions_of dict rows)) r.0 r.1) }
     ensures same_dict { IfOk result (λ r. r.1 ≡ dict) }
-    ensures refused { IfErr result (λ fault. fault ≡ Memory) }
+    ensures memory { IfErr result (λ fault. fault ≡ Memory) }
 {
     let made = restricted(alloc, rows, variables);
     with_dict(made, dict)
@@ -57,7 +57,7 @@ pub(crate) fn project_of(
 fn restricted(alloc: Global, rows: Rows, variables: &[usize]) -> Result<Rows, EvalFault>
     ensures made { IfOk result (λ made. (made.width ≡ rows.width)
         × (made.rows ≡ project variables.now rows.rows)) }
-    ensures refused { IfErr result (λ fault. fault ≡ Memory) }
+    ensures memory { IfErr result (λ fault. fault ≡ Memory) }
 {
     let mut made = rows;
     let kept = kept_variables(alloc, made.width(), variables)?;
@@ -69,7 +69,7 @@ fn restricted(alloc: Global, rows: Rows, variables: &[usize]) -> Result<Rows, Ev
 fn projected(alloc: Global, rows: &Rows, variables: &[usize]) -> Result<Rows, EvalFault>
     ensures made { IfOk result (λ made. (made.width ≡ rows.now.width)
         × (made.rows ≡ project variables.now rows.now.rows)) }
-    ensures refused { IfErr result (λ fault. fault ≡ Memory) }
+    ensures memory { IfErr result (λ fault. fault ≡ Memory) }
 {
     let kept = kept_variables(alloc, rows.width(), variables)?;
     let mut made = Rows::new(alloc, rows.width());

@@ -39,7 +39,7 @@ pub fn table(
         (table width variables.now (map (λ row. row.items) rows.now)) r.0 r.1) }
     ensures needed { IfOk result (λ r.
         TakesOnly (IsCell variables.now (map (λ row. row.items) rows.now)) dict r.1) }
-    ensures refused { IfErr result (λ fault. fault ≡ Memory) }
+    ensures memory { IfErr result (λ fault. fault ≡ Memory) }
 {
     let mut dict = dict;
     let made = tabulated(alloc, &mut dict, width, variables, rows);
@@ -59,7 +59,7 @@ fn tabulated(
         (table width variables.now (map (λ row. row.items) rows.now)) made dict.new) }
     ensures needed { OnOk result
         (TakesOnly (IsCell variables.now (map (λ row. row.items) rows.now)) dict.old dict.new) }
-    ensures refused { IfErr result (λ fault. fault ≡ Memory) }
+    ensures memory { IfErr result (λ fault. fault ≡ Memory) }
 {
     let mut made = Rows::new(alloc, width);
     let mut row = Vec::with_capacity(alloc, width)?;

@@ -29,7 +29,7 @@ pub fn union(
     ensures evaluated { IfOk result (λ r. IsEvaluated dict left.now.width
         (solutions_of dict left.now ++ solutions_of dict right.now) r.0 r.1) }
     ensures same_dict { IfOk result (λ r. r.1 ≡ dict) }
-    ensures refused { IfErr result (λ fault. fault ≡ Memory) }
+    ensures memory { IfErr result (λ fault. fault ≡ Memory) }
 {
     let mut made = Rows::new(alloc, left.width());
     add_rows(&mut made, left)?;
@@ -46,7 +46,7 @@ pub(crate) fn union_of(dict: Dict, left: Rows, right: Rows) -> Result<(Rows, Dic
     ensures evaluated { IfOk result (λ r. IsEvaluated dict left.width
         (solutions_of dict left ++ solutions_of dict right) r.0 r.1) }
     ensures same_dict { IfOk result (λ r. r.1 ≡ dict) }
-    ensures refused { IfErr result (λ fault. fault ≡ Memory) }
+    ensures memory { IfErr result (λ fault. fault ≡ Memory) }
 {
     let mut made = left;
     made.append(right)?;

@@ -87,9 +87,9 @@ no_other found (Terms reading) s c t h = t h.0
 
 -- ---- the kinds of an error
 
-pub refused_kinds : (kinds : Kinds) (e : Error) → HasKind kinds e → (kind_of e ≡ OutOfMemory → ⊥) → kinds ≡ [] → ⊥
-refused_kinds [] e h other is = elim h [ inl memory ↦ other memory | inr among ↦ among ]
-refused_kinds (k ∷ ks) e h other is = absurd cc
+pub rejected_kinds : (kinds : Kinds) (e : Error) → HasKind kinds e → (kind_of e ≡ OutOfMemory → ⊥) → kinds ≡ [] → ⊥
+rejected_kinds [] e h other is = elim h [ inl memory ↦ other memory | inr among ↦ among ]
+rejected_kinds (k ∷ ks) e h other is = absurd cc
 
 -- ---- the library's result for a command line of the program
 
@@ -110,9 +110,9 @@ line_met a words m command is matches line =
     subst (λ (o : Option (Text × List Row)). IsCommandMet o command)
     (sym ((matches (ap is_simple is ∙ program_is_simple_alone)).1 ∙ ap (λ (b : App). subcommand_of b words) is)) line.matches
 
-pub line_refused : (a : App) (words : List Text) (e : Error) (command : Command) → a ≡ program
+pub line_rejected : (a : App) (words : List Text) (e : Error) (command : Command) → a ≡ program
     → (is_simple_and_free a ≡ true → HasKind (fault_of a words) e) → (kind_of e ≡ OutOfMemory → ⊥)
     → IsCommandLine words command → ⊥
-line_refused a words e command is kinds other line =
-    refused_kinds (fault_of program words) e
+line_rejected a words e command is kinds other line =
+    rejected_kinds (fault_of program words) e
     (subst (λ (b : App). HasKind (fault_of b words) e) is (kinds (ap is_simple_and_free is ∙ program_is_simple))) other line.taken

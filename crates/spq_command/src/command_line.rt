@@ -202,7 +202,7 @@ pub fn read_command(alloc: Global, words: &[String]) -> Result<Command, CommandF
     ensures ok { IfOk result (IsCommandLine (map string_bytes words.now)) }
     ensures line { IfErr result (λ fault. fault ≡ CommandFault.Line
         → (command : _) → IsCommandLine (map string_bytes words.now) command → ⊥) }
-    ensures refused { IfErr result (λ fault. fault ≡ CommandFault.Line
+    ensures rejected { IfErr result (λ fault. fault ≡ CommandFault.Line
         → fault_of program (map string_bytes words.now) ≢ []) }
 {
     let line = program_line(alloc)?;

@@ -57,7 +57,7 @@ fn written_of(output: &[u8], writer: &VecSink) -> Option<usize> {
 }
 
 /// Prints the exit status after a run, and the line that the program prints.
-fn told_of(alloc: Global, done: Result<(), RunFault>) -> Result<String, AllocError> {
+fn status_text(alloc: Global, done: Result<(), RunFault>) -> Result<String, AllocError> {
     let mut last = VecSink::new(alloc, 1000);
     let status = finish(&done, &mut last);
     let line = str::from_utf8(&last.bytes).unwrap_or("?");
@@ -76,10 +76,10 @@ fn run_select<R: Threads + Wait + RandomSource>(
 ) -> Result<String, AllocError> {
     let done = ran(rt, alloc, query, WHOLE, reader, writer);
     let written = written_of(OUTPUT, writer);
-    let told = told_of(alloc, done)?;
+    let status = status_text(alloc, done)?;
     let is_read = reader.calls > 0;
     format!(in alloc;
-        "{done:?}, {written:?}, {} and {}, {is_read}, {told}",
+        "{done:?}, {written:?}, {} and {}, {is_read}, {status}",
         reader.failed, writer.failed
     )
 }
@@ -246,8 +246,8 @@ fn reports_each_failed_read<R: Threads + Wait + RandomSource>(
         if end.failed_reads == 0 {
             return end.done == wanted && end.reads == k && read == doc.len();
         }
-        let is_told = end.done == Err(RunFault::Read) && end.reads == k + 1;
-        if !is_told || end.rest != doc.len() - read || end.writes > 0 {
+        let is_reported = end.done == Err(RunFault::Read) && end.reads == k + 1;
+        if !is_reported || end.rest != doc.len() - read || end.writes > 0 {
             return false;
         }
     }

@@ -45,7 +45,7 @@ const FAULTS: [(RunFault, &str); 14] = [
 ];
 
 /// Prints the status and the line of a fault, from `finish`, or from `status` and `write_fault`.
-fn told(alloc: Global, fault: RunFault, is_finished: bool) -> Result<String, AllocError> {
+fn fault_text(alloc: Global, fault: RunFault, is_finished: bool) -> Result<String, AllocError> {
     let mut sink = VecSink::new(alloc, 1000);
     let status = if is_finished {
         finish(&Err(fault), &mut sink)
@@ -75,10 +75,10 @@ fn is_text<R: Print>(
 }
 
 /// Returns whether each fault has its status and its line.
-fn are_told<R: Print>(rt: &R, alloc: Global) -> bool {
+fn are_reported<R: Print>(rt: &R, alloc: Global) -> bool {
     for (fault, expected) in &FAULTS {
-        if !is_text(rt, *fault, *expected, told(alloc, *fault, false))
-            || !is_text(rt, *fault, *expected, told(alloc, *fault, true))
+        if !is_text(rt, *fault, *expected, fault_text(alloc, *fault, false))
+            || !is_text(rt, *fault, *expected, fault_text(alloc, *fault, true))
         {
             return false;
         }
@@ -94,6 +94,6 @@ fn is_silent(alloc: Global) -> bool {
 
 #[test]
 fn faults_are_written(rt: HostRuntime) {
-    assert!(rt; are_told(&rt, rt.alloc()));
+    assert!(rt; are_reported(&rt, rt.alloc()));
     assert!(rt; is_silent(rt.alloc()), "a run without a fault");
 }

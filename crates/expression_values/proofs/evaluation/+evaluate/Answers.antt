@@ -7,11 +7,11 @@ use Rattle.algebra_model.specs.Expression.{boolean_result, val, with_values}
 use Rattle.expression_values.specs.ExpressionOf.{expression_of}
 use Rattle.expression_values.specs.HeldTerm.{held_term, value_term}
 use Rattle.expression_values.specs.MemberTruth.{member_truth}
-use Rattle.expression_values.specs.NoAllocation.{are_lent, is_lent, takes_none}
+use Rattle.expression_values.specs.NoAllocation.{are_borrowed, is_borrowed, takes_none}
 use Rattle.expression_values.specs.declared.expression.Expr.{size-Expr}
 use Rattle.expression_values.proofs.FoldSteps.{and_deeper, in_stands_for, or_deeper}
 use Rattle.expression_values.proofs.LogicSteps.{in_value, member_step}
-use Rattle.expression_values.proofs.MemorySteps.{and_sides, call_sides, compare_sides, in_sides, member_lent, not_need, or_sides, same_term_sides}
+use Rattle.expression_values.proofs.MemorySteps.{and_sides, call_sides, compare_sides, in_sides, member_borrowed, not_need, or_sides, same_term_sides}
 use Rattle.expression_values.proofs.OperandSteps.{and_moves, or_moves, truth}
 use Rattle.expression_values.proofs.evaluation.+evaluate.Goals as goal
 
@@ -82,11 +82,11 @@ evaluate_and-returns-in_err-evaluate_truth-2-clause-takes_none g t c = λ h.
     let right = ap takes_none c.deref.ensures ∙ (and_sides c.in-And.left c.in-And.right whole).1 in
     absurd (false≢true (c.in_err-evaluate_truth-2.ensures.takes_none right))
 
-pub evaluate_member-returns-in_err-value-clause-are_lent : goal.evaluate_member-returns-in_err-value-clause-are_lent
-evaluate_member-returns-in_err-value-clause-are_lent g t c = λ h.
-    let here = ap is_lent c.member-item.is
-    ∙ member_lent c.args.list.now c.loop-member.member-index c.member-item.result c.loop-member-test.true h in
-    absurd (false≢true (c.in_err-value.ensures.is_lent here))
+pub evaluate_member-returns-in_err-value-clause-are_borrowed : goal.evaluate_member-returns-in_err-value-clause-are_borrowed
+evaluate_member-returns-in_err-value-clause-are_borrowed g t c = λ h.
+    let here = ap is_borrowed c.member-item.is
+    ∙ member_borrowed c.args.list.now c.loop-member.member-index c.member-item.result c.loop-member-test.true h in
+    absurd (false≢true (c.in_err-value.ensures.is_borrowed here))
 
 -- the evaluation of an expression that allocates nothing does not fail
 pub evaluate-returns-in_err-right-in-Or-clause-takes_none : goal.evaluate-returns-in_err-right-in-Or-clause-takes_none
@@ -107,32 +107,32 @@ evaluate-returns-in_ok-right-in-And-clause-takes_none g t c = λ h.
 
 pub evaluate-returns-in_err-left-in-Compare-clause-takes_none : goal.evaluate-returns-in_err-left-in-Compare-clause-takes_none
 evaluate-returns-in_err-left-in-Compare-clause-takes_none g t c = λ h.
-    absurd (false≢true (c.in_err-left-in-Compare.ensures.is_lent (ap is_lent c.deref-in-Compare.ensures ∙ (compare_sides c.in-Compare.operator c.in-Compare.left c.in-Compare.right (ap takes_none (sym c.in-Compare.is) ∙ h)).0)))
+    absurd (false≢true (c.in_err-left-in-Compare.ensures.is_borrowed (ap is_borrowed c.deref-in-Compare.ensures ∙ (compare_sides c.in-Compare.operator c.in-Compare.left c.in-Compare.right (ap takes_none (sym c.in-Compare.is) ∙ h)).0)))
 
 pub evaluate-returns-in_ok-left-in-Compare-clause-takes_none : goal.evaluate-returns-in_ok-left-in-Compare-clause-takes_none
 evaluate-returns-in_ok-left-in-Compare-clause-takes_none g t c = λ h.
-    c.evaluate_comparison.ensures.is_lent (ap is_lent c.deref-in-Compare-2.ensures ∙ (compare_sides c.in-Compare.operator c.in-Compare.left c.in-Compare.right (ap takes_none (sym c.in-Compare.is) ∙ h)).1)
+    c.evaluate_comparison.ensures.is_borrowed (ap is_borrowed c.deref-in-Compare-2.ensures ∙ (compare_sides c.in-Compare.operator c.in-Compare.left c.in-Compare.right (ap takes_none (sym c.in-Compare.is) ∙ h)).1)
 
 pub evaluate-returns-in_err-item-in-In-clause-takes_none : goal.evaluate-returns-in_err-item-in-In-clause-takes_none
 evaluate-returns-in_err-item-in-In-clause-takes_none g t c = λ h.
-    absurd (false≢true (c.in_err-item-in-In.ensures.is_lent (ap is_lent c.deref-in-In.ensures ∙ (in_sides c.in-In.item c.in-In.list (ap takes_none (sym c.in-In.is) ∙ h)).0)))
+    absurd (false≢true (c.in_err-item-in-In.ensures.is_borrowed (ap is_borrowed c.deref-in-In.ensures ∙ (in_sides c.in-In.item c.in-In.list (ap takes_none (sym c.in-In.is) ∙ h)).0)))
 
 pub evaluate-returns-in_ok-item-in-In-clause-takes_none : goal.evaluate-returns-in_ok-item-in-In-clause-takes_none
 evaluate-returns-in_ok-item-in-In-clause-takes_none g t c = λ h.
-    c.evaluate_in.ensures.are_lent (ap are_lent c.deref-in-In-2.ensures.value ∙ (in_sides c.in-In.item c.in-In.list (ap takes_none (sym c.in-In.is) ∙ h)).1)
+    c.evaluate_in.ensures.are_borrowed (ap are_borrowed c.deref-in-In-2.ensures.value ∙ (in_sides c.in-In.item c.in-In.list (ap takes_none (sym c.in-In.is) ∙ h)).1)
 
 pub evaluate-returns-in-Call-clause-takes_none : goal.evaluate-returns-in-Call-clause-takes_none
 evaluate-returns-in-Call-clause-takes_none g t c = λ h.
     let sides = call_sides c.in-Call.function c.in-Call.argument (ap takes_none (sym c.in-Call.is) ∙ h) in
-    c.evaluate_call.ensures.takes_none (ap is_lent c.deref-in-Call.ensures ∙ sides.0) sides.1
+    c.evaluate_call.ensures.takes_none (ap is_borrowed c.deref-in-Call.ensures ∙ sides.0) sides.1
 
 pub evaluate-returns-in_err-left-in-SameTerm-clause-takes_none : goal.evaluate-returns-in_err-left-in-SameTerm-clause-takes_none
 evaluate-returns-in_err-left-in-SameTerm-clause-takes_none g t c = λ h.
-    absurd (false≢true (c.in_err-left-in-SameTerm.ensures.is_lent (ap is_lent c.deref-in-SameTerm.ensures ∙ (same_term_sides c.in-SameTerm.left c.in-SameTerm.right (ap takes_none (sym c.in-SameTerm.is) ∙ h)).0)))
+    absurd (false≢true (c.in_err-left-in-SameTerm.ensures.is_borrowed (ap is_borrowed c.deref-in-SameTerm.ensures ∙ (same_term_sides c.in-SameTerm.left c.in-SameTerm.right (ap takes_none (sym c.in-SameTerm.is) ∙ h)).0)))
 
 pub evaluate-returns-in_ok-left-in-SameTerm-clause-takes_none : goal.evaluate-returns-in_ok-left-in-SameTerm-clause-takes_none
 evaluate-returns-in_ok-left-in-SameTerm-clause-takes_none g t c = λ h.
-    c.evaluate_same_term.ensures.is_lent (ap is_lent c.deref-in-SameTerm-2.ensures ∙ (same_term_sides c.in-SameTerm.left c.in-SameTerm.right (ap takes_none (sym c.in-SameTerm.is) ∙ h)).1)
+    c.evaluate_same_term.ensures.is_borrowed (ap is_borrowed c.deref-in-SameTerm-2.ensures ∙ (same_term_sides c.in-SameTerm.left c.in-SameTerm.right (ap takes_none (sym c.in-SameTerm.is) ∙ h)).1)
 
 pub evaluate-returns-in-Not-clause-takes_none : goal.evaluate-returns-in-Not-clause-takes_none
 evaluate-returns-in-Not-clause-takes_none g t c = λ h.

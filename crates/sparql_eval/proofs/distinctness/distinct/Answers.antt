@@ -14,5 +14,5 @@ returns-clause-evaluated c =
     (λ m t. IsEvaluated c.args.dict c.args.rows.now.width (distinct term_eq (solutions_of c.args.dict c.args.rows.now)) m t) c.args.dict
     c.with_dict.ensures.rows c.with_dict.ensures.same_dict (IfOk-weaker c.distinct_rows-made.result _ (λ m. IsEvaluated c.args.dict c.args.rows.now.width (distinct term_eq (solutions_of c.args.dict c.args.rows.now)) m c.args.dict) (λ m h. distinct_evaluated c.args.dict c.len-distinct.ensures.distinct c.args.rows.now m c.requires.known h.0 h.1) c.distinct_rows-made.ensures.made)
 
-pub returns-clause-refused : goal.returns-clause-refused
-returns-clause-refused c = faulted c.distinct_rows-made.result c.with_dict.result (λ fault. fault ≡ Memory) c.with_dict.ensures.fault c.distinct_rows-made.ensures.refused
+pub returns-clause-memory : goal.returns-clause-memory
+returns-clause-memory c = faulted c.distinct_rows-made.result c.with_dict.result (λ fault. fault ≡ Memory) c.with_dict.ensures.fault c.distinct_rows-made.ensures.memory

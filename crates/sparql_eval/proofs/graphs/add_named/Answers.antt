@@ -34,14 +34,14 @@ on_error : {T E P : Type 0} (r : Result T E) → P → OnErr r P
 on_error (Ok x) p = tt
 on_error (Err e) p = p
 
-pub returns-in_err-merged-clause-refused : goal.returns-in_err-merged-clause-refused
-returns-in_err-merged-clause-refused c = on_error c.from_residual.result (0, sym (append-nil c.args.made.now.rows))
+pub returns-in_err-merged-clause-in_part : goal.returns-in_err-merged-clause-in_part
+returns-in_err-merged-clause-in_part c = on_error c.from_residual.result (0, sym (append-nil c.args.made.now.rows))
 
-pub returns-in_err-merge_into-clause-refused : goal.returns-in_err-merge_into-clause-refused
-returns-in_err-merge_into-clause-refused c = on_error c.from_residual-in_err-merge_into.result (c.loop-i.i, c.loop-i.invariant.added)
+pub returns-in_err-merge_into-clause-in_part : goal.returns-in_err-merge_into-clause-in_part
+returns-in_err-merge_into-clause-in_part c = on_error c.from_residual-in_err-merge_into.result (c.loop-i.i, c.loop-i.invariant.added)
 
-pub returns-in_err-push-clause-refused : goal.returns-in_err-push-clause-refused
-returns-in_err-push-clause-refused c = on_error c.from_residual-in_err-push.result (c.loop-i.i, c.in_err-push.ensures.refused ∙ c.loop-i.invariant.added)
+pub returns-in_err-push-clause-in_part : goal.returns-in_err-push-clause-in_part
+returns-in_err-push-clause-in_part c = on_error c.from_residual-in_err-push.result (c.loop-i.i, c.in_err-push.ensures.unchanged ∙ c.loop-i.invariant.added)
 
 pub returns-clause-added : goal.returns-clause-added
 returns-clause-added c =

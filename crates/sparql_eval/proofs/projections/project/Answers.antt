@@ -13,5 +13,5 @@ returns-clause-evaluated c =
     (λ m t. IsEvaluated c.args.dict c.args.rows.now.width (project c.args.variables.now (solutions_of c.args.dict c.args.rows.now)) m t) c.args.dict
     c.with_dict.ensures.rows c.with_dict.ensures.same_dict (IfOk-weaker c.projected-made.result _ (λ m. IsEvaluated c.args.dict c.args.rows.now.width (project c.args.variables.now (solutions_of c.args.dict c.args.rows.now)) m c.args.dict) (λ m h. project_evaluated c.args.dict c.args.variables.now c.args.rows.now m c.requires.known h.0 h.1) c.projected-made.ensures.made)
 
-pub returns-clause-refused : goal.returns-clause-refused
-returns-clause-refused c = faulted c.projected-made.result c.with_dict.result (λ fault. fault ≡ Memory) c.with_dict.ensures.fault c.projected-made.ensures.refused
+pub returns-clause-memory : goal.returns-clause-memory
+returns-clause-memory c = faulted c.projected-made.result c.with_dict.result (λ fault. fault ≡ Memory) c.with_dict.ensures.fault c.projected-made.ensures.memory

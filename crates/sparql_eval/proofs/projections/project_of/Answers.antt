@@ -14,5 +14,5 @@ returns-clause-evaluated c =
     c.with_dict.ensures.rows c.with_dict.ensures.same_dict
     (IfOk-weaker c.restricted-made.result _ (λ m. IsEvaluated c.args.dict c.args.rows.width A m c.args.dict) (λ m h. project_evaluated c.args.dict c.args.variables.now c.args.rows m c.requires.known h.0 h.1) c.restricted-made.ensures.made)
 
-pub returns-clause-refused : goal.returns-clause-refused
-returns-clause-refused c = faulted c.restricted-made.result c.with_dict.result (λ fault. fault ≡ Memory) c.with_dict.ensures.fault c.restricted-made.ensures.refused
+pub returns-clause-memory : goal.returns-clause-memory
+returns-clause-memory c = faulted c.restricted-made.result c.with_dict.result (λ fault. fault ≡ Memory) c.with_dict.ensures.fault c.restricted-made.ensures.memory

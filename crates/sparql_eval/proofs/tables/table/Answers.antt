@@ -19,5 +19,5 @@ returns-clause-needed c =
     returned c.tabulated-made.result c.with_dict.result (λ m t. TakesOnly (IsCell c.args.variables.now (map (λ row. row.items) c.args.rows.now)) c.args.dict t) c.tabulated-made.new.dict
     c.with_dict.ensures.rows c.with_dict.ensures.same_dict (on_ok_so _ c.tabulated-made.result c.tabulated-made.ensures.needed)
 
-pub returns-clause-refused : goal.returns-clause-refused
-returns-clause-refused c = faulted c.tabulated-made.result c.with_dict.result (λ fault. fault ≡ Memory) c.with_dict.ensures.fault c.tabulated-made.ensures.refused
+pub returns-clause-memory : goal.returns-clause-memory
+returns-clause-memory c = faulted c.tabulated-made.result c.with_dict.result (λ fault. fault ≡ Memory) c.with_dict.ensures.fault c.tabulated-made.ensures.memory

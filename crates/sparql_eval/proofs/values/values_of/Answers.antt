@@ -25,6 +25,6 @@ returns-in_err-outs-clause-alone g c within =
     let least = c.piece_size-size.ensures.least in
     let one = one_piece c.len-count.result c.piece_size-size.result c.div_ceil-pieces.result c.piece_size-size.ensures.some
     (omega arith) c.div_ceil-pieces.ensures in
-    let refused = c.in_err-outs.ensures.alone one in
+    let fault = c.in_err-outs.ensures.alone one in
     let converted = c.from_residual.ensures in
     search rules

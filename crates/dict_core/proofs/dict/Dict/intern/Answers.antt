@@ -14,5 +14,5 @@ returns-clause-known c = search (rules, insert_known)
 pub returns-clause-new : goal.returns-clause-new
 returns-clause-new c = elim c.match-insert_full.branch [ in-Ok w ↦ search (rules, goes_last) | in-Err w ↦ search rules ]
 
-pub returns-clause-refused_new : goal.returns-clause-refused_new
-returns-clause-refused_new c = elim c.match-insert_full.branch [ in-Ok w ↦ search rules | in-Err w ↦ search (rules, lacks) ]
+pub returns-clause-not_in_dict : goal.returns-clause-not_in_dict
+returns-clause-not_in_dict c = elim c.match-insert_full.branch [ in-Ok w ↦ search rules | in-Err w ↦ search (rules, lacks) ]

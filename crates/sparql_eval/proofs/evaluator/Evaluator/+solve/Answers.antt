@@ -744,13 +744,13 @@ pub solve_extend-extend-requires-clause-variable : goal.solve_extend-extend-requ
 solve_extend-extend-requires-clause-variable g t c κs within = subst (λ (w : ℕ). c.args.variable < w) (sym c.in_ok-rows.ensures.evaluated.wide) c.requires.variable
 
 pub solve_union-returns-clause-one_worker : goal.solve_union-returns-clause-one_worker
-solve_union-returns-clause-one_worker g t c = λ _. c.union_of.ensures.refused
+solve_union-returns-clause-one_worker g t c = λ _. c.union_of.ensures.memory
 
 pub solve_project-returns-clause-one_worker : goal.solve_project-returns-clause-one_worker
-solve_project-returns-clause-one_worker g t c = λ _. c.project_of.ensures.refused
+solve_project-returns-clause-one_worker g t c = λ _. c.project_of.ensures.memory
 
 pub solve_distinct-returns-clause-one_worker : goal.solve_distinct-returns-clause-one_worker
-solve_distinct-returns-clause-one_worker g t c = λ _. c.distinct.ensures.refused
+solve_distinct-returns-clause-one_worker g t c = λ _. c.distinct.ensures.memory
 
 pub solve-returns-in-Table-clause-one_worker : goal.solve-returns-in-Table-clause-one_worker
-solve-returns-in-Table-clause-one_worker g t c = λ _. c.table.ensures.refused
+solve-returns-in-Table-clause-one_worker g t c = λ _. c.table.ensures.memory
