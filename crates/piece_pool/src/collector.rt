@@ -92,7 +92,7 @@ where
     Ok(all)
 }
 
-/// Adds the pass, the outputs and the faults of one worker.
+/// Adds the pass, the outputs and the faults of a worker.
 fn add_work<J: Job>(
     board: &Board,
     worked: Worked<J::Out, J::Fault>,
