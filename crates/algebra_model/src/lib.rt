@@ -17,8 +17,8 @@
 //!
 //! Example: over the triples a p b and a p c, the pattern `?s p _:x` has the solution `?s = a`
 //! twice, once for each term of its blank node label. The prover checks the worked examples of
-//! `src/examples.rt`. The tests of the evaluators are in the crates query_tests (plain_eval) and
-//! evaluation_tests (sparql_eval).
+//! `src/examples.rt`. The tests of the evaluators plain_eval and sparql_eval are in the crate
+//! query_tests.
 //!
 //! Not part of this crate: the translation of a query to an algebra expression (`sparql_algebra`),
 //! evaluation (`sparql_eval`), and any guarantee of time or memory.

@@ -23,7 +23,7 @@
 //! Reading order: `printing`, `coding` (cells as numbers), `ranking` (numbers as ranks),
 //! `pair_order` (rows of two ranks), `ranked_row` and `row_order`, `values` (texts as JSON strings,
 //! and terms as objects), `term_texts`, `columns`, `prefetch` (texts of several rows at once),
-//! `row_texts`, `row_blocks` (rows in parallel), `results`. Tests: `json` of the crate evaluation_tests.
+//! `row_texts`, `row_blocks` (rows in parallel), `results`. Tests: `evaluation::json` of the crate query_tests.
 //!
 //! Example: one variable `o` and the rows `"x"` and `<http://e/a>` give
 //! `{"head":{"vars":["o"]},"results":{"bindings":[{"o":{"type":"uri","value":"http://e/a"}},{"o":{"type":"literal","value":"x"}}]}}`

@@ -28,7 +28,7 @@
 //! join((?s: 1), (?s: 2) ; (?s: 1, ?o: 7), (?o: 9))
 //!     = (?s: 1, ?o: 7), (?s: 1, ?o: 9), (?s: 2, ?o: 9)
 //! ```
-//! The tests are `joins` of the crate evaluation_tests; `unbound_meets_everything` runs a similar example.
+//! The tests are `evaluation::joins` of the crate query_tests; `unbound_meets_everything` runs a similar example.
 //!
 //! Not guaranteed: the order of the rows, which variables make the key, how much memory is taken.
 #![tactic(auto)]

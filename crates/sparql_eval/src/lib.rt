@@ -22,12 +22,12 @@
 //! Reading order: `appending`, `unions`, `projections`, `distinctness` (rows alone); `operator_result` (rows
 //! with a dictionary); `numbering`, `tables` (terms added to the dictionary); `read_row`, `filters`,
 //! `piece_values`, `values`, `extensions` (expressions); `patterns`, `graphs` (the index); `joins`
-//! (two lists of rows); `evaluator`, `evaluation` (a plan). Tests: the crate evaluation_tests.
+//! (two lists of rows); `evaluator`, `evaluation` (a plan). Tests: `evaluation` of the crate query_tests.
 //!
 //! ```text
 //! { ?s p ?o OPTIONAL { ?o p ?z } }  over  x p y, y p z  =  (?s: x, ?o: y, ?z: z), (?s: y, ?o: z)
 //! ```
-//! The test `a_filter_in_optional_sees_the_left_row` of evaluation_tests runs a similar query.
+//! The test `a_filter_in_optional_sees_the_left_row` of query_tests runs a similar query.
 //!
 //! Not guaranteed: the order of the rows, and which numbers computed terms get.
 #![tactic(auto)]

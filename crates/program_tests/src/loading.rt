@@ -1,0 +1,30 @@
+//! Everything from bytes to a dataset:
+//!
+//! - `terms` and `lexical` of rdf_core;
+//! - `lines`, `slices` and `transfers` of nquads_core;
+//! - `boards` of piece_board, `pools` of piece_pool, and `cutting` of piece_cuts;
+//! - `dictionary` of dict_core, and `index` of quad_index;
+//! - `documents` and `readers` of dataset_load;
+//! - `refusals`: what is left of each if an allocation fails or a worker thread cannot be started.
+//!
+//! `cases` prints cases that are wrong. The expected outputs of terms and lines are written from RDF 1.1 N-Quads, section 4, and
+//! SPARQL 1.1 Query Language, section 19.
+//!
+//! A table is a constant, and its test is one call of a loop. A test calls small functions, most of them named `check..`, that end
+//! the test at the first case that is wrong: a function with a long local table, with many owned values or with many
+//! exits is slow to prove. In `refusals` a test ends without an error if the failing allocation is one of its own.
+
+mod boards;
+mod cases;
+mod cutting;
+mod dictionary;
+mod documents;
+mod index;
+mod lexical;
+mod lines;
+mod pools;
+mod readers;
+mod refusals;
+mod slices;
+mod terms;
+mod transfers;

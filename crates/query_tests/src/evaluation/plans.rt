@@ -1,0 +1,362 @@
+//! Small queries over one document, with one worker and several, in one piece and row by row.
+ghost use Rattle.std.specs.Prelude.{◌≡◌, true, length, IfOk};
+ghost use Rattle.algebra_model.specs.Algebra.{is_name_below, is_within};
+ghost use Rattle.dict_core.specs.NumQuad.{AreBelow};
+ghost use Rattle.row_pieces.specs.How.{IsRunnable};
+ghost use Rattle.sparql_algebra.specs.AlgebraOf.{algebra_of, graph_name_of};
+
+use crate::evaluation::cases::{Reader, are_all_right};
+use crate::evaluation::drawn::parsed;
+use crate::evaluation::operators::{Call, called, state_of};
+use crate::evaluation::printing::{text_of_rows, text_of_solutions};
+use crate::evaluation::stores::{DOCUMENT, iri, store};
+use crate::evaluation::ways::{COUNT, in_one_piece, row_by_row, way};
+use dict_core::Dict;
+use nquads_core::read_piece;
+use piece_pool::OpenGate;
+use quad_index::Index;
+use rdf_core::Quad;
+use row_pieces::{EvalFault, How};
+use sparql_algebra::{GraphName, Operator, Plan, translate};
+use sparql_eval::{evaluate, graph};
+use sparql_tree::Query;
+use std::alloc::{AllocError, AllocGlobal, Global};
+use std::random::RandomSource;
+use std::sync::Wait;
+use std::thread::Threads;
+
+/// Prints the solutions of a plan over an index, or how many terms their evaluation adds to the
+/// dictionary.
+fn evaluated_over<R: RandomSource + Threads + Wait>(
+    rt: &R,
+    alloc: Global,
+    dict: Dict,
+    index: &Index,
+    plan: &Plan,
+    how: &How,
+    is_growth: bool,
+) -> Result<String, EvalFault>
+    requires index { AreBelow (length dict) index.now }
+    requires how { IsRunnable how.now }
+{
+    let before = dict.len();
+    let (rows, dict) = evaluate(rt, alloc, dict, index, plan, how, &OpenGate)?;
+    if is_growth {
+        return Ok(format!(in alloc; "{}", dict.len().saturating_sub(before))?);
+    }
+    Ok(text_of_rows(alloc, &dict, &rows)?)
+}
+
+/// Prints the solutions of a plan over a document, or how many terms their evaluation adds to those of
+/// the document.
+fn evaluated<R: RandomSource + Threads + Wait>(
+    rt: &R,
+    alloc: Global,
+    document: &str,
+    plan: &Plan,
+    how: &How,
+    is_growth: bool,
+) -> Result<String, EvalFault>
+    requires how { IsRunnable how.now }
+{
+    let (dict, index) = store(rt, alloc, document)?;
+    evaluated_over(rt, alloc, dict, &index, plan, how, is_growth)
+}
+
+/// Prints the solutions of a plan over quads according to plain_eval.
+fn plainly_over(alloc: Global, quads: &[Quad], plan: &Plan) -> Result<String, AllocError> {
+    let solutions = plain_eval::evaluate(alloc, plan.names.len(), quads, &None, &plan.tree)?;
+    text_of_solutions(alloc, &solutions)
+}
+
+/// Prints the solutions of a plan according to plain_eval.
+fn plainly(alloc: Global, document: &str, plan: &Plan) -> Result<String, AllocError> {
+    match read_piece(alloc, document.as_bytes()) {
+        Ok(piece) => plainly_over(alloc, &piece.quads, plan),
+        Err(_) => Err(AllocError),
+    }
+}
+
+/// Appends the solutions with one number of workers and size of pieces, if they differ from those
+/// of plain_eval.
+fn check_way<R: RandomSource + Threads + Wait>(
+    rt: &R,
+    alloc: Global,
+    document: &str,
+    plan: &Plan,
+    how: &How,
+    plain: &str,
+    differences: &mut String,
+) -> Result<(), EvalFault>
+    requires how { IsRunnable how.now }
+{
+    let found = evaluated(rt, alloc, document, plan, how, false)?;
+    if found.as_str() != plain {
+        write!(differences, ", {how:?}: {found}")?;
+    }
+    Ok(())
+}
+
+/// Appends the solutions that differ from those of plain_eval, for each number of workers and size of
+/// pieces.
+fn check_ways<R: RandomSource + Threads + Wait>(
+    rt: &R,
+    alloc: Global,
+    plan: &Plan,
+    plain: &str,
+    differences: &mut String,
+) -> Result<(), EvalFault> {
+    for number in 0..COUNT {
+        check_way(rt, alloc, DOCUMENT, plan, &way(number), plain, differences)?;
+    }
+    Ok(())
+}
+
+/// Prints the solutions of plain_eval, followed by those that differ, for each number of workers
+/// and size of pieces.
+fn everywhere<R: RandomSource + Threads + Wait>(
+    rt: &R,
+    alloc: Global,
+    plan: &Plan,
+) -> Result<String, EvalFault> {
+    let plain = plainly(alloc, DOCUMENT, plan)?;
+    let mut text = String::from_str(alloc, plain.as_str())?;
+    check_ways(rt, alloc, plan, plain.as_str(), &mut text)?;
+    Ok(text)
+}
+
+/// Prints `same` if the plan has the solutions of plain_eval over the document, row by row and in one
+/// piece, followed by the solutions that differ.
+fn agreement<R: RandomSource + Threads + Wait>(
+    rt: &R,
+    alloc: Global,
+    document: &str,
+    plan: &Plan,
+) -> Result<String, EvalFault> {
+    let plain = plainly(alloc, document, plan)?;
+    let mut text = String::from_str(alloc, "same")?;
+    check_way(
+        rt,
+        alloc,
+        document,
+        plan,
+        &row_by_row(),
+        plain.as_str(),
+        &mut text,
+    )?;
+    check_way(
+        rt,
+        alloc,
+        document,
+        plan,
+        &in_one_piece(),
+        plain.as_str(),
+        &mut text,
+    )?;
+    Ok(text)
+}
+
+/// What is printed for a query.
+#[derive(Clone, Copy)]
+pub(crate) enum Task<'a> {
+    /// Its solutions according to plain_eval over `DOCUMENT`, followed by those that differ, for each
+    /// number of workers and size of pieces.
+    Solutions,
+    /// How many terms its evaluation adds to those of `DOCUMENT`.
+    Growth,
+    /// Whether it has the solutions of plain_eval over a document, row by row and in one piece.
+    Agreement(&'a str),
+    /// The rows of an operator, with the filter of the query as its expression.
+    Operator(Call<'a>),
+}
+
+/// Prints the parts that the case names, for a plan.
+fn done<R: RandomSource + Threads + Wait>(
+    rt: &R,
+    alloc: Global,
+    plan: &Plan,
+    task: Task<'_>,
+) -> Result<String, EvalFault> {
+    match task {
+        Task::Solutions => everywhere(rt, alloc, plan),
+        Task::Growth => evaluated(rt, alloc, DOCUMENT, plan, &row_by_row(), true),
+        Task::Agreement(document) => agreement(rt, alloc, document, plan),
+        Task::Operator(call) => called(rt, alloc, call, plan),
+    }
+}
+
+/// Returns the plan of a query in a box, because a function that owns a tree by value is slow to
+/// prove.
+fn plan_of(alloc: Global, query: &Query) -> Result<Box<Plan>, AllocError> {
+    Ok(Box::new(alloc, translate(alloc, query)?)?)
+}
+
+/// Prints the parts that the case names, for a query.
+fn translated<R: RandomSource + Threads + Wait>(
+    rt: &R,
+    alloc: Global,
+    query: &Query,
+    task: Task<'_>,
+) -> Result<String, EvalFault> {
+    let plan = plan_of(alloc, query)?;
+    done(rt, alloc, &plan, task)
+}
+
+/// Prints the parts that the case names, for a query. The rules that follow the grammar are not applied to it.
+pub(crate) fn planned<R: RandomSource + Threads + Wait>(
+    rt: &R,
+    alloc: Global,
+    text: &str,
+    task: Task<'_>,
+) -> Result<String, EvalFault> {
+    match parsed(alloc, text) {
+        Ok(query) => translated(rt, alloc, &query, task),
+        Err(fault) => Ok(format!(in alloc; "{fault:?}")?),
+    }
+}
+
+/// OPTIONAL ([57] `OptionalGraphPattern`).
+const OPTIONALS: &str = r#"
+# The filter in OPTIONAL is the condition of the left join: it sees the left row, and if it fails that row is kept.
+SELECT * { ?s <a:p> ?o OPTIONAL { ?o <a:p> ?z FILTER(sameTerm(?s, <a:x>)) } } => 2: <a:x> <a:y> <a:z>; <a:y> <a:z> -
+SELECT * { ?s <a:p> ?o OPTIONAL { ?o <a:p> ?z FILTER(sameTerm(?s, <a:y>)) } } => 2: <a:x> <a:y> -; <a:y> <a:z> -
+"#;
+
+#[test]
+fn a_filter_in_optional_sees_the_left_row(rt: HostRuntime) {
+    assert!(rt; are_all_right(&rt, rt.alloc(), &[(Reader::Query, OPTIONALS)]));
+}
+
+/// VALUES ([61] `InlineData`), MINUS ([66] `MinusGraphPattern`), UNION ([67]
+/// `GroupOrUnionGraphPattern`), DISTINCT ([9] `SelectClause`) and BIND ([60] `Bind`).
+const OPERATORS: &str = r#"
+# UNDEF leaves a variable unbound, and a row that leaves it unbound is compatible with every value.
+SELECT * { VALUES (?a ?b) { (<a:x> UNDEF) (UNDEF <a:z>) (UNDEF <a:y>) } VALUES (?a ?b) { (<a:x> <a:z>) } } => 2: <a:x> <a:z>; <a:x> <a:z>
+# MINUS removes what shares a variable with the right side and agrees there, and nothing if none is shared.
+SELECT * { ?s <a:p> ?o MINUS { ?x <a:q> ?y } } => 2: <a:x> <a:y> - -; <a:y> <a:z> - -
+SELECT * { ?s <a:p> ?o MINUS { ?s <a:q> ?y } } => 1: <a:y> <a:z> -
+# A union has the solutions of both sides, with repeats. DISTINCT has one of each.
+SELECT * { { ?s <a:p> ?o } UNION { ?s <a:p> ?o } }          => 4: <a:x> <a:y>; <a:x> <a:y>; <a:y> <a:z>; <a:y> <a:z>
+SELECT DISTINCT * { { ?s <a:p> ?o } UNION { ?s <a:p> ?o } } => 2: <a:x> <a:y>; <a:y> <a:z>
+# A computed term is the same term as an equal one of the document.
+SELECT * { ?s <a:q> ?v BIND(STR(?v) AS ?w) }      => 1: <a:x> "5" "5"
+SELECT * { ?s <a:q> ?v BIND(DATATYPE(?v) AS ?w) } => 1: <a:x> "5" <http://www.w3.org/2001/XMLSchema#string>
+"#;
+
+/// GRAPH ([58] `GraphGraphPattern`).
+const NAMED_GRAPHS: &str = r#"
+# With a variable each named graph is tried, also one whose name is a blank node. The variable is bound after the
+# inner pattern: if that binds it, the two have to agree.
+SELECT * { GRAPH ?g { ?s <a:p> ?o } }                  => 2: <a:g> <a:x> <a:y>; _:h <a:y> <a:x>
+SELECT * { GRAPH ?g { ?s ?p ?g } }                     => 1: <a:g> <a:x> <a:r>
+SELECT * { GRAPH ?g { ?s <a:p> ?o FILTER(BOUND(?g)) } } => 0:
+SELECT * { GRAPH ?g { } }                              => 2: <a:g>; _:h
+# With a name the graph of that name is active. If no graph has it there is no solution, whatever the pattern.
+SELECT * { GRAPH <a:g> { ?s <a:p> ?o } }    => 1: <a:x> <a:y>
+SELECT * { GRAPH <a:none> { ?s <a:p> ?o } } => 0:
+SELECT * { GRAPH <a:x> { ?s <a:p> ?o } }    => 0:
+SELECT * { GRAPH <a:g> { } }                => 1:
+SELECT * { GRAPH <a:none> { } }             => 0:
+"#;
+
+/// A computed term that the document has gets the number of that term. Another computed term is
+/// added to the dictionary.
+const ADDED: &str = "
+SELECT * { ?s <a:q> ?v BIND(STR(?v) AS ?w) }      => 0
+SELECT * { ?s <a:q> ?v BIND(DATATYPE(?v) AS ?w) } => 1
+";
+
+/// Creates the empty pattern, in a box like a plan.
+fn empty_pattern(alloc: Global) -> Result<Box<Operator>, AllocError>
+    ensures within { IfOk result (λ made. is_within 1 (algebra_of made.value) ≡ true) }
+{
+    let tree = Operator::Pattern {
+        labels: 0,
+        triples: Vec::new(alloc),
+    };
+    Ok(Box::new(alloc, tree)?)
+}
+
+/// Returns the graph name of a text: `?g` is the first variable.
+fn graph_name(alloc: Global, text: &str) -> GraphName
+    ensures below { is_name_below 1 (graph_name_of result) ≡ true }
+{
+    if text == "?g" {
+        GraphName::Variable(0)
+    } else {
+        GraphName::Iri(iri(alloc, text))
+    }
+}
+
+/// Prints the solutions of a tree in a graph, or in each, over an index.
+fn graph_over<R: RandomSource + Threads + Wait>(
+    rt: &R,
+    alloc: Global,
+    dict: Dict,
+    index: &Index,
+    name: &GraphName,
+    inner: &Operator,
+) -> Result<String, EvalFault>
+    requires index { AreBelow (length dict) index.now }
+    requires name { is_name_below 1 (graph_name_of name.now) ≡ true }
+    requires within { is_within 1 (algebra_of inner.now) ≡ true }
+{
+    let state = state_of(rt)?;
+    let (rows, dict) = graph(
+        rt,
+        alloc,
+        state,
+        dict,
+        index,
+        1,
+        name,
+        inner,
+        &row_by_row(),
+        &OpenGate,
+    )?;
+    Ok(text_of_rows(alloc, &dict, &rows)?)
+}
+
+/// Does the same over the document.
+fn graph_of_document<R: RandomSource + Threads + Wait>(
+    rt: &R,
+    alloc: Global,
+    name: &GraphName,
+    inner: &Operator,
+) -> Result<String, EvalFault>
+    requires name { is_name_below 1 (graph_name_of name.now) ≡ true }
+    requires within { is_within 1 (algebra_of inner.now) ≡ true }
+{
+    let (dict, index) = store(rt, alloc, DOCUMENT)?;
+    graph_over(rt, alloc, dict, &index, name, inner)
+}
+
+/// Prints the solutions of the empty pattern in a graph of the document, or in each, by the operator alone.
+pub(crate) fn graph_alone<R: RandomSource + Threads + Wait>(
+    rt: &R,
+    alloc: Global,
+    case: &str,
+) -> Result<String, EvalFault> {
+    let inner = empty_pattern(alloc)?;
+    let name = graph_name(alloc, case);
+    graph_of_document(rt, alloc, &name, &inner)
+}
+
+/// The empty pattern has one solution in each named graph, and none for a name that no graph has.
+const ALONE: &str = "
+?g     => 2: <a:g>; _:h
+a:none => 0:
+";
+
+const TABLES: &[(Reader, &str)] = &[
+    (Reader::Query, OPERATORS),
+    (Reader::Query, NAMED_GRAPHS),
+    (Reader::Added, ADDED),
+    (Reader::Graph, ALONE),
+];
+
+/// Queries have their solutions and add their terms, and so has a graph of the empty pattern.
+#[test]
+fn plans_have_their_solutions(rt: HostRuntime) {
+    assert!(rt; are_all_right(&rt, rt.alloc(), TABLES));
+}
