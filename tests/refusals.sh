@@ -89,7 +89,7 @@ try_crate() {
     fi
     modules=$("$tests" --list | sed -n 's/^\(\(.*::\)\{0,1\}refusals\)::.*: test$/\1/p' | sort -u)
     if [ -z "$modules" ]; then
-        echo "$1: there is no test in a module refusals"
+        printf '%s: there is no test in a module `refusals`\n' "$1"
         return 1
     fi
     for module in $modules; do
