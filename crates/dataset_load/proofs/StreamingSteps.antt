@@ -1,5 +1,5 @@
 -- Rounds of blocks that are read one after the other.
-use Rattle.std.proofs.Common.{◌≡◌, ℕ, suc, List, [], ◌∷◌, ◌++◌, Bool, true, false, Option, Some, None, IsSomeAnd, MatchOption, Ok, Err, Vec, Global, refl, sym, ap, ◌∙◌, subst, append_assoc, append-nil, inl, inr, ◌⊎◌, arith}
+use Rattle.std.proofs.Common.{◌≡◌, ℕ, suc, List, [], ◌∷◌, ◌++◌, Bool, true, false, Option, Some, None, IfErr, IfOk, IsOk, IsSomeAnd, OnErr, OnOk, MatchOption, Result, Ok, Err, Vec, Global, refl, sym, ap, ◌∙◌, subst, true≢false, append_assoc, append-nil, inl, inr, ◌⊎◌, arith}
 use Rattle.std.specs.Io.KnownBytes.{Consumes, IsAtEnd}
 use Rattle.nquads_core.specs.Lines.{lines, EndsLine}
 use Rattle.nquads_core.specs.Device.{Stays}
@@ -15,6 +15,8 @@ use Rattle.nquads_core.specs.declared.transfer.ReadFault.TheVariants.{Read as Re
 use Rattle.nquads_core.specs.Pieces.{IsBadLine}
 use Rattle.dataset_load.specs.declared.fault.LoadFault.{LoadFault}
 use Rattle.dataset_load.specs.declared.fault.LoadFault.TheVariants.{BadLine, WorkerRefused, Memory}
+use Rattle.dataset_load.specs.declared.reader_fault.ReaderFault.{ReaderFault}
+use Rattle.dataset_load.specs.declared.reader_fault.ReaderFault.TheVariants.{BadLine as ReadBadLine, WorkerRefused as ReadRefused, Memory as ReadOutOfMemory, Read as ReadFailed}
 use Rattle.dataset_load.specs.Fault.{IfBadLine}
 use Rattle.dataset_load.specs.Lines.{AreWholeLines, EachEnds, all_lines, joined}
 use Rattle.dataset_load.specs.Loaded.{IsLoaded}
@@ -138,6 +140,14 @@ kept_in (Some xs) (Some ys) (Some zs) done kept part h = h ∙ ap (λ bs. done +
 abbrev pub TakesPart : Option (List ℕ) → Option (List ℕ) → List ℕ → Type 0
 TakesPart b c kept = (start : Option (List ℕ)) (done : List ℕ) → IsReadIn start b done kept → IsReadInPart start c
 
+-- what the next round takes
+pub part_of_next : (b c : Option (List ℕ)) (kept kept' : List ℕ) (round : FilledRound) → IsNextRound b c kept kept' round → TakesPart b c kept
+part_of_next b c kept kept' round filled = by round.is_last refl
+  where
+    by : (is_last : Bool) → round.is_last ≡ is_last → TakesPart b c kept
+    by false is = part_of_round b c kept kept' (joined (texts_of round)) (filled.more is).1
+    by true is = part_of_rest b c kept (joined (texts_of round)) (filled.last is).0
+
 -- the lines of a round are added
 abbrev pub AddsLines : Numbered → Numbered → FilledRound → Type 0
 AddsLines so_far now round = (before : List (List ℕ)) → HasRead so_far before → HasRead now (before ++ all_lines (texts_of round))
@@ -211,12 +221,56 @@ module _ (a b c : Option (List ℕ)) (kept : List ℕ) (so_far : Numbered) (roun
 pub part_so_far : (a b : Option (List ℕ)) (kept : List ℕ) (so_far : Numbered) (round : FilledRound) → IsReadAhead a b kept so_far round → IsReadInPart a b
 part_so_far a b kept so_far round was = part_ahead a b b kept so_far round was (λ _. refl) (λ is start done h. record { taken = done ++ kept; consumed = read_front start b done kept h })
 
-pub bad_round : (b c : Option (List ℕ)) (kept : List ℕ) (so_far : Numbered) (round : FilledRound) (fault : LoadFault)
-    → (round.is_last ≡ true → c ≡ b) → (round.is_last ≡ false → TakesPart b c kept) → IfBadLine (HasBadLine so_far round) fault
-    → IfBadLineRead (λ n. (start : Option (List ℕ)) → IsReadAhead start b kept so_far round → IsBadSoFar start c n) (fault_of_load fault)
-bad_round b c kept so_far round (BadLine n) ended taken bad = λ start was. bad_ahead start b c kept so_far round was n ended taken bad
-bad_round b c kept so_far round WorkerRefused ended taken bad = tt
-bad_round b c kept so_far round Memory ended taken bad = tt
+-- the number of the line that a round was refused for
+pub bad_round : {T : Type 0} (b c : Option (List ℕ)) (kept : List ℕ) (so_far : Numbered) (round : FilledRound) (added : Result T LoadFault) (fault : ReaderFault)
+    → (round.is_last ≡ true → c ≡ b) → (round.is_last ≡ false → TakesPart b c kept) → IfErr added (IfBadLine (HasBadLine so_far round))
+    → IfBadLineRead (λ n. added ≡ Err (BadLine n)) fault
+    → IfBadLineRead (λ n. (start : Option (List ℕ)) → IsReadAhead start b kept so_far round → IsBadSoFar start c n) fault
+bad_round {T = T} b c kept so_far round added (ReadBadLine n) ended taken bad is = λ start was.
+    bad_ahead start b c kept so_far round was n ended taken (subst (λ (r : Result T LoadFault). IfErr r (IfBadLine (HasBadLine so_far round))) is bad)
+bad_round b c kept so_far round added ReadRefused ended taken bad is = tt
+bad_round b c kept so_far round added ReadOutOfMemory ended taken bad is = tt
+bad_round b c kept so_far round added ReadFailed ended taken bad is = tt
+
+-- P of the result of one fallible step, if another one succeeds with it
+pub taken_ok : {T E F : Type 0} (r : Result T F) (next : Result T E) (P : T → Type 0) → IfOk r (λ x. next ≡ Ok x) → IfOk next P → IfOk r P
+taken_ok (Ok x) next P is h = subst (λ n. IfOk n P) is h
+taken_ok (Err e) next P is h = tt
+
+pub both_ok : {T U E F : Type 0} (r : Result T F) (added : Result U E) (P : Type 0) → OnOk r (IsOk added) → OnOk added P → OnOk r P
+both_ok (Ok x) (Ok y) P is h = h
+both_ok (Ok x) (Err e) P is h = absurd (true≢false (sym is))
+both_ok (Err e) added P is h = tt
+
+-- a round was added while the next one was read
+pub round_done : {T : Type 0} (b c : Option (List ℕ)) (kept kept' : List ℕ) (so_far now : Numbered) (round : FilledRound) (added : Result T LoadFault)
+    (next : Result (Option FilledRound) ReadFault) (r : Result (Option FilledRound) ReaderFault)
+    → (round.is_last ≡ true → (next ≡ Ok None) × (c ≡ b)) → (round.is_last ≡ false → IfOk next (λ n. IsSomeAnd n (IsNextRound b c kept kept')))
+    → OnOk added (AddsLines so_far now round) → IfOk r (λ n. next ≡ Ok n) → OnOk r (IsOk added)
+    → IfOk r (λ n. (start : Option (List ℕ)) → IsReadAhead start b kept so_far round → MatchOption n (IsReadFrom start c now) (IsReadAhead start c kept' now))
+round_done b c kept kept' so_far now round added next (Err fault) ended filled read is both = tt
+round_done b c kept kept' so_far now round (Err fault) next (Ok n) ended filled read is both = absurd (true≢false (sym both))
+round_done b c kept kept' so_far now round (Ok x) next (Ok n) ended filled read is both = λ start was.
+    read_round start b c kept so_far round was kept' now n
+    (λ last. let e = ended last in (same_Ok n None next next is e.0, e.1))
+    (λ more. subst (λ (r : Result (Option FilledRound) ReadFault). IfOk r (λ n. IsSomeAnd n (IsNextRound b c kept kept'))) is (filled more))
+    read
+  where
+    same_Ok : (x y : Option FilledRound) → (a b : Result (Option FilledRound) ReadFault) → a ≡ Ok x → a ≡ Ok y → x ≡ y
+    same_Ok x y a b e f = cc
+
+pub part_done : (b c : Option (List ℕ)) (kept : List ℕ) (so_far : Numbered) (round : FilledRound) (r : Result (Option FilledRound) ReaderFault)
+    → (round.is_last ≡ true → c ≡ b) → (round.is_last ≡ false → TakesPart b c kept)
+    → OnErr r ((start : Option (List ℕ)) → IsReadAhead start b kept so_far round → IsReadInPart start c)
+part_done b c kept so_far round (Ok n) ended taken = tt
+part_done b c kept so_far round (Err fault) ended taken = λ start was. part_ahead start b c kept so_far round was ended taken
+
+pub bad_done : {T : Type 0} (b c : Option (List ℕ)) (kept : List ℕ) (so_far : Numbered) (round : FilledRound) (added : Result T LoadFault) (r : Result (Option FilledRound) ReaderFault)
+    → (round.is_last ≡ true → c ≡ b) → (round.is_last ≡ false → TakesPart b c kept) → IfErr added (IfBadLine (HasBadLine so_far round))
+    → IfErr r (IfBadLineRead (λ n. added ≡ Err (BadLine n)))
+    → IfErr r (IfBadLineRead (λ n. (start : Option (List ℕ)) → IsReadAhead start b kept so_far round → IsBadSoFar start c n))
+bad_done b c kept so_far round added (Ok n) ended taken bad is = tt
+bad_done b c kept so_far round added (Err fault) ended taken bad is = bad_round b c kept so_far round added fault ended taken bad is
 
 -- ---- the start and the end of the reader
 

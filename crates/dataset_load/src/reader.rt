@@ -163,17 +163,19 @@ fn fill_round<S: Source>(
     requires empty { round.old.items ≡ [] }
     requires workers { (1 ≤ workers) × (workers ≤ most_workers) }
     requires reading { blocks.old.state ≡ BlockState.Reading }
-    ensures few { length round.new.items ≤ most_pieces_of_a_round }
+    ensures few { OnOk result (length round.new.items ≤ most_pieces_of_a_round) }
     ensures whole_lines { OnOk result (AreWholeLines (block_texts round.new.items)) }
-    ensures each_ends { result ≡ Ok false → EachEnds (block_texts round.new.items) }
-    ensures reading { result ≡ Ok false → blocks.new.state ≡ BlockState.Reading }
-    ensures bytes { result ≡ Ok false → TakesRound (S.left reader.old) (S.left reader.new)
-        blocks.old.kept blocks.new.kept (joined (block_texts round.new.items)) }
-    ensures at_end { result ≡ Ok true → IsAtEnd (S.left reader.new) }
-    ensures rest { result ≡ Ok true → TakesRest (S.left reader.old) (S.left reader.new)
-        blocks.old.kept (joined (block_texts round.new.items)) }
-    ensures taken { (start : _) (done : _) → IsReadIn start (S.left reader.old) done blocks.old.kept
-        → IsReadInPart start (S.left reader.new) }
+    ensures reading { IfOk result
+        (λ is_last. is_last ≡ false → blocks.new.state ≡ BlockState.Reading) }
+    ensures more { IfOk result (λ is_last. is_last ≡ false → EachEnds (block_texts round.new.items)
+        × TakesRound (S.left reader.old) (S.left reader.new) blocks.old.kept blocks.new.kept
+        (joined (block_texts round.new.items))) }
+    ensures last { IfOk result (λ is_last. is_last ≡ true → TakesRest (S.left reader.old)
+        (S.left reader.new) blocks.old.kept (joined (block_texts round.new.items))
+        × IsAtEnd (S.left reader.new)) }
+    ensures taken { OnErr result ((start : _) (done : _)
+        → IsReadIn start (S.left reader.old) done blocks.old.kept
+        → IsReadInPart start (S.left reader.new)) }
     ensures count { CountsRead (S.failures reader.old) (S.failures reader.new) result }
 {
     let mut bytes = 0usize;

@@ -1,10 +1,11 @@
 //! Loading the rest of a reader, round by round, so that the document is never held as a whole.
-ghost use Rattle.std.specs.Prelude.{◌≡◌, ◌+◌, ◌≤◌, ◌^◌, ◌++◌, false, length, IfErr, IfOk, IfSome, MatchOption, OnErr, OnOk};
+ghost use Rattle.std.specs.Prelude.{◌≡◌, ◌+◌, ◌≤◌, ◌^◌, ◌++◌, false, length, Err, IfErr, IfOk, IfSome, IsOk, MatchOption, Ok, OnErr, OnOk};
 ghost use Rattle.std.specs.Io.KnownBytes.{IsAtEnd};
 ghost use Rattle.nquads_core.specs.Transfer.{CountsRead, IsReadInPart};
 ghost use Rattle.nquads_core.specs.Pieces.{IsBadLine};
 ghost use Rattle.piece_pool.specs.Limits.{most_workers};
 ghost use Rattle.dataset_load.specs.Counted.{AreTermsFrom, IsCountedFrom};
+ghost use Rattle.dataset_load.specs.declared.fault.LoadFault.TheVariants.{BadLine};
 ghost use Rattle.dataset_load.specs.Fault.{IfBadLine, IsOneWorkerLoadFault};
 ghost use Rattle.dataset_load.specs.Limits.{most_pieces_of_a_round};
 ghost use Rattle.dataset_load.specs.Lines.{all_lines, block_texts};
@@ -282,10 +283,25 @@ fn number_round<R: Threads + Wait, S: Source, G: Gate + Sync>(
         rounds,
         &mut || round_after(alloc, is_last, blocks, reader, workers),
     );
+    blocks.reuse(round.blocks);
+    outcome_of(added, next)
+}
+
+/// Returns the round that was read while another was added, or the fault of one of the two. That of the read takes
+/// precedence, except over a worker that could not be started, where the read ran out of memory.
+fn outcome_of(
+    added: Result<(), LoadFault>,
+    next: Result<Option<FilledRound>, ReadFault>,
+) -> Result<Option<FilledRound>, ReaderFault>
+    ensures next { IfOk result (λ round. next ≡ Ok round) }
+    ensures added { OnOk result (IsOk added) }
+    ensures bad_line { IfErr result (IfBadLineRead (λ n. added ≡ Err (BadLine n))) }
+    ensures count { (old : _) (new : _) → CountsRead old new next → CountsLoading old new result }
+    ensures one_worker { IfErr added IsOneWorkerLoadFault → IfErr result IsOneWorkerReaderFault }
+{
     match next {
         Ok(next) => {
             added?;
-            blocks.reuse(round.blocks);
             Ok(next)
         }
         Err(ReadFault::Read) => Err(ReaderFault::Read),

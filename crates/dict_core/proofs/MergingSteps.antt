@@ -1,5 +1,5 @@
 -- The steps of the functions that number and merge.
-use Rattle.std.proofs.Common.{◌≡◌, ℕ, suc, ◌<◌, Bool, true, false, List, [], ◌∷◌, ◌++◌, length, Option, None, Some, Result, Ok, Err, Vec, Global, map, slice_get, Contains, refl, sym, ap, ◌∙◌, subst, append_assoc, append-nil, arith}
+use Rattle.std.proofs.Common.{◌≡◌, ℕ, suc, ◌<◌, Bool, true, false, List, [], ◌∷◌, ◌++◌, length, MatchOption, Option, None, Some, option_to_list, Result, Ok, Err, Vec, Global, map, slice_get, Contains, refl, sym, ap, ◌∙◌, subst, append_assoc, append-nil, arith}
 use Rattle.std.specs.List.{AllZip, list_any}
 use Rattle.std.proofs.lemmas.Map.Views.{list_any-from_Contains}
 use Rattle.indexmap.specs.IndexSet.{insert_key, insert_all}
@@ -57,6 +57,25 @@ module _ (d1 d2 d3 : List Term) (s p o : Term) (m n k : ℕ) (at_s : slice_get d
         (a.0, b.0, c.0, λ x is. let same : j ≡ x = cc in subst (λ y. y < length d4) same e.0),
         λ i. record { s = a.1 i; p = b.1 i; o = c.1 i; g = (ap Some e.1 ∙ sym named) i },
       )
+
+  -- a quad of any graph
+  pub quad_numbered : (d4 : List Term) (g : Option Term) (j : Option ℕ) → d4 ≡ insert_all term_eq d3 (option_to_list g)
+      → MatchOption g (j ≡ None) (λ t. (i : ℕ) × (j ≡ Some i) × (slice_get d4 i ≡ Some t))
+      → let q : NumQuad = record { g = j; s = m; p = n; o = k } in
+      IsBelow (length d4) q × (quad_at d4 q ≡ record { s = s; p = p; o = o; g = g })
+  quad_numbered d4 None j four none =
+      subst (λ (x : Option ℕ). let q : NumQuad = record { g = x; s = m; p = n; o = k } in IsBelow (length d4) q × (quad_at d4 q ≡ record { s = s; p = p; o = o; g = None })) (sym none)
+      (subst (λ (d : List Term). let q : NumQuad = record { g = None; s = m; p = n; o = k } in IsBelow (length d) q × (quad_at d q ≡ record { s = s; p = p; o = o; g = None })) (sym four)
+      (quad_unnamed None refl))
+  quad_numbered d4 (Some t) j four some =
+      subst (λ (x : Option ℕ). let q : NumQuad = record { g = x; s = m; p = n; o = k } in IsBelow (length d4) q × (quad_at d4 q ≡ record { s = s; p = p; o = o; g = Some t })) (sym some.1)
+      (quad_named d4 t some.0 four some.2 (Some t) refl)
+
+-- the terms of a quad, interned in turn
+pub terms_in_turn : (d0 d1 d2 d3 d4 : List Term) (s p o : Term) (g : List Term) → d1 ≡ insert_key term_eq d0 s → d2 ≡ insert_key term_eq d1 p → d3 ≡ insert_key term_eq d2 o
+    → d4 ≡ insert_all term_eq d3 g → d4 ≡ insert_all term_eq d0 (s ∷ p ∷ o ∷ g)
+terms_in_turn d0 d1 d2 d3 d4 s p o g one two three four =
+    four ∙ ap (λ d. insert_all term_eq d g) (three ∙ ap (λ d. insert_key term_eq d o) (two ∙ ap (λ d. insert_key term_eq d p) one))
 
 pub length_zipped : {A B : Type 0} (R : A → B → Type 0) (xs : List A) (ys : List B) → AllZip R xs ys → length xs ≡ length ys
 length_zipped R [] [] h = refl

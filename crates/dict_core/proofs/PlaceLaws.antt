@@ -80,3 +80,25 @@ pub placed_one : (ks new : List Term) (t : Term) (left rest : List Term) (done m
 placed_one ks new t left rest done more n whole new_is n_is left_is pushed was =
     ap (λ l. l ++ places_in new rest) pushed ∙ append_assoc done (n ∷ []) (places_in new rest) ∙ (λ i. done ++ n_is i ∷ places_in (new_is i) rest)
     ∙ ap (λ l. done ++ places_in ks l) (sym left_is) ∙ was
+
+module _ (ks now : List Term) (n m : ℕ) (one : Seen) (left rest : List Seen) (done more : List ℕ) (terms : List Term) (places : List ℕ)
+    (m_is : m ≡ n) (left_is : left ≡ one ∷ rest) (pushed : more ≡ done ++ m ∷ [])
+    (keys_were : insert_all term_eq ks (new_of left) ≡ terms) (places_were : done ++ places_of ks left ≡ places) where
+  -- one more term, which was known
+  pub known_one : now ≡ ks → one ≡ Known n → (insert_all term_eq now (new_of rest) ≡ terms) × (more ++ places_of now rest ≡ places)
+  known_one now_is one_is =
+      let all : left ≡ Known n ∷ rest = left_is ∙ ap (λ s. s ∷ rest) one_is in (
+        ap (λ l. insert_all term_eq l (new_of rest)) now_is ∙ ap (λ s. insert_all term_eq ks (new_of s)) (sym all) ∙ keys_were,
+        ap (λ l. l ++ places_of now rest) pushed ∙ append_assoc done (m ∷ []) (places_of now rest) ∙ (λ i. done ++ m_is i ∷ places_of (now_is i) rest)
+            ∙ ap (λ s. done ++ places_of ks s) (sym all) ∙ places_were,
+      )
+
+  -- one more term, which was not known
+  pub new_one : (t : Term) → now ≡ insert_key term_eq ks t → n ≡ position_or_len (term_eq t) ks → one ≡ New t
+      → (insert_all term_eq now (new_of rest) ≡ terms) × (more ++ places_of now rest ≡ places)
+  new_one t now_is n_is one_is =
+      let all : left ≡ New t ∷ rest = left_is ∙ ap (λ s. s ∷ rest) one_is in (
+        ap (λ l. insert_all term_eq l (new_of rest)) now_is ∙ ap (λ s. insert_all term_eq ks (new_of s)) (sym all) ∙ keys_were,
+        ap (λ l. l ++ places_of now rest) pushed ∙ append_assoc done (m ∷ []) (places_of now rest) ∙ (λ i. done ++ (m_is ∙ n_is) i ∷ places_of (now_is i) rest)
+            ∙ ap (λ s. done ++ places_of ks s) (sym all) ∙ places_were,
+      )

@@ -1,6 +1,7 @@
 //! Insertions into the set of terms, one after the other.
-ghost use Rattle.std.specs.Prelude.{◌≡◌, OnOk, OnErr, IfOk, slice_get, Some};
-ghost use Rattle.indexmap.specs.IndexSet.{insert_all, IsUnchanged, IsUnique};
+ghost use Rattle.std.specs.Prelude.{◌≡◌, ◌+◌, ◌<◌, ◌≤◌, OnOk, OnErr, IfOk, slice_get, Some};
+ghost use Rattle.std.specs.List.{position_or_len};
+ghost use Rattle.indexmap.specs.IndexSet.{insert_all, insert_key, spare, IsUnchanged, IsUnique};
 ghost use Rattle.rdf_core.specs.Equality.{term_eq};
 ghost use Rattle.dict_core.specs.Inserting.{places_in, places_of};
 ghost use Rattle.dict_core.specs.Seen.{new_of};
@@ -27,9 +28,7 @@ pub(crate) fn insert_terms(
     set.reserve(terms.len())?;
     let mut places = Vec::with_capacity(alloc, terms.len())?;
     for term in terms.into_terms() {
-        let Ok((place, _)) = set.insert_full(term) else {
-            unreachable!();
-        };
+        let place = insert_reserved(set, term);
         places.push_reserved(place as u64);
     }
     Ok(places)
@@ -52,14 +51,23 @@ pub(crate) fn insert_new(
     for one in seen {
         let place = match one {
             Seen::Known(place) => place,
-            Seen::New(term) => {
-                let Ok((place, _)) = set.insert_full(term) else {
-                    unreachable!();
-                };
-                place as u64
-            }
+            Seen::New(term) => insert_reserved(set, term) as u64,
         };
         places.push_reserved(place);
     }
     Ok(places)
+}
+
+/// Inserts a term into a set that has room for it, and returns its place.
+fn insert_reserved(set: &mut IndexSet<Term, HashState>, term: Term) -> usize
+    requires room { 0 < spare set.old }
+    ensures keys { set.new.keys ≡ insert_key term_eq set.old.keys term }
+    ensures index { result ≡ position_or_len (term_eq term) set.old.keys }
+    ensures spare { spare set.old ≤ spare set.new + 1 }
+    ensures unique { IsUnique term_eq set.new }
+{
+    let Ok((place, _)) = set.insert_full(term) else {
+        unreachable!();
+    };
+    place
 }

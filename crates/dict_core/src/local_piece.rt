@@ -1,5 +1,5 @@
 //! Quads of a piece, numbered by a dictionary of their own.
-ghost use Rattle.std.specs.Prelude.{◌≡◌, map, length, IfOk, OnOk, slice_get, Some};
+ghost use Rattle.std.specs.Prelude.{◌≡◌, ◌≤◌, [], map, length, vec_len, vec_capacity, option_to_list, IfOk, MatchOption, None, OnOk, slice_get, Some};
 ghost use Rattle.indexmap.specs.IndexSet.{insert_key, insert_all};
 ghost use Rattle.rdf_core.specs.Equality.{term_eq};
 ghost use Rattle.rdf_core.specs.QuadParts.{parts_of};
@@ -70,15 +70,31 @@ pub fn number_piece(
     let Piece { quads, .. } = piece;
     let mut dict = Dict::new(alloc, state)?;
     let mut numbered = Vec::with_capacity(alloc, quads.len())?;
-    for quad in quads {
-        numbered.push_reserved(number_quad(&mut dict, quad)?);
-    }
+    number_all(&mut dict, &mut numbered, quads)?;
     Ok(LocalPiece {
         dict,
         quads: numbered,
     })
 }
 
+/// Numbers the quads, one after the other.
+fn number_all(
+    dict: &mut Dict,
+    numbered: &mut Vec<NumQuad>,
+    quads: Vec<Quad>,
+) -> Result<(), AllocError>
+    requires no_terms { dict.old ≡ [] }
+    requires no_quads { numbered.old.items ≡ [] }
+    requires room { vec_len quads ≤ vec_capacity numbered.old }
+    ensures numbered { OnOk result (IsNumbered (map parts_of quads.items) dict.new numbered.new.items) }
+{
+    for quad in quads {
+        numbered.push_reserved(number_quad(dict, quad)?);
+    }
+    Ok(())
+}
+
+/// Numbers the terms of a quad. A failure does not stop it, so that no term is left to drop.
 fn number_quad(dict: &mut Dict, quad: Quad) -> Result<NumQuad, AllocError>
     ensures terms { OnOk result
         (dict.new ≡ insert_all term_eq dict.old (terms_of_quad (parts_of quad))) }
@@ -86,14 +102,28 @@ fn number_quad(dict: &mut Dict, quad: Quad) -> Result<NumQuad, AllocError>
     ensures quad { IfOk result (λ n. quad_at dict.new n ≡ parts_of quad) }
 {
     let Quad { s, p, o, g } = quad;
-    let s = number_term(dict, s)?;
-    let p = number_term(dict, p)?;
-    let o = number_term(dict, o)?;
-    let g = match g {
-        Some(g) => Some(number_term(dict, g)?),
-        None => None,
-    };
-    Ok(NumQuad { g, s, p, o })
+    let s = number_term(dict, s);
+    let p = number_term(dict, p);
+    let o = number_term(dict, o);
+    let g = number_name(dict, g);
+    Ok(NumQuad {
+        g: g?,
+        s: s?,
+        p: p?,
+        o: o?,
+    })
+}
+
+/// Returns the number of a graph name, or None for the default graph.
+fn number_name(dict: &mut Dict, name: Option<Term>) -> Result<Option<u64>, AllocError>
+    ensures terms { OnOk result (dict.new ≡ insert_all term_eq dict.old (option_to_list name)) }
+    ensures number { IfOk result (λ g. MatchOption name (g ≡ None)
+        (λ t. (n : _) × (g ≡ Some n) × (slice_get dict.new n ≡ Some t))) }
+{
+    match name {
+        Some(name) => Ok(Some(number_term(dict, name)?)),
+        None => Ok(None),
+    }
 }
 
 pub(crate) fn number_term(dict: &mut Dict, term: Term) -> Result<u64, AllocError>

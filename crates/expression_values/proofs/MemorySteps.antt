@@ -15,37 +15,37 @@ use Rattle.expression_values.specs.declared.expression.Expr.TheViews as views
 both_none : (e : Expr) (a b : Bool) → need e ≡ none_where (a && b) → takes_none e ≡ true → (a ≡ true) × (b ≡ true)
 both_none e a b is h = and_parts a b (sym (ap (λ n. n.takes_none) is) ∙ h)
 
-or_need : (left right : Box Expr Global) → need (views.Or left right) ≡ none_where (takes_none left.value && takes_none right.value)
+pub or_need : (left right : Box Expr Global) → need (views.Or left right) ≡ none_where (takes_none left.value && takes_none right.value)
 or_need left right = ap need (sym (variants.rolls-Or left right)) ∙ fold-roll-Expr Need need_step (Expr-F.Or left right)
 
 pub or_sides : (left right : Box Expr Global) → takes_none (views.Or left right) ≡ true → (takes_none left.value ≡ true) × (takes_none right.value ≡ true)
 or_sides left right h = both_none (views.Or left right) (takes_none left.value) (takes_none right.value) (or_need left right) h
 
-and_need : (left right : Box Expr Global) → need (views.And left right) ≡ none_where (takes_none left.value && takes_none right.value)
+pub and_need : (left right : Box Expr Global) → need (views.And left right) ≡ none_where (takes_none left.value && takes_none right.value)
 and_need left right = ap need (sym (variants.rolls-And left right)) ∙ fold-roll-Expr Need need_step (Expr-F.And left right)
 
 pub and_sides : (left right : Box Expr Global) → takes_none (views.And left right) ≡ true → (takes_none left.value ≡ true) × (takes_none right.value ≡ true)
 and_sides left right h = both_none (views.And left right) (takes_none left.value) (takes_none right.value) (and_need left right) h
 
-compare_need : (op : Comparison) (left right : Box Expr Global) → need (views.Compare op left right) ≡ none_where (is_borrowed left.value && is_borrowed right.value)
+pub compare_need : (op : Comparison) (left right : Box Expr Global) → need (views.Compare op left right) ≡ none_where (is_borrowed left.value && is_borrowed right.value)
 compare_need op left right = ap need (sym (variants.rolls-Compare op left right)) ∙ fold-roll-Expr Need need_step (Expr-F.Compare op left right)
 
 pub compare_sides : (op : Comparison) (left right : Box Expr Global) → takes_none (views.Compare op left right) ≡ true → (is_borrowed left.value ≡ true) × (is_borrowed right.value ≡ true)
 compare_sides op left right h = both_none (views.Compare op left right) (is_borrowed left.value) (is_borrowed right.value) (compare_need op left right) h
 
-in_need : (item : Box Expr Global) (list : Vec Expr Global) → need (views.In item list) ≡ none_where (is_borrowed item.value && are_borrowed list.items)
+pub in_need : (item : Box Expr Global) (list : Vec Expr Global) → need (views.In item list) ≡ none_where (is_borrowed item.value && are_borrowed list.items)
 in_need item list = ap need (sym (variants.rolls-In item list)) ∙ fold-roll-Expr Need need_step (Expr-F.In item list)
 
 pub in_sides : (item : Box Expr Global) (list : Vec Expr Global) → takes_none (views.In item list) ≡ true → (is_borrowed item.value ≡ true) × (are_borrowed list.items ≡ true)
 in_sides item list h = both_none (views.In item list) (is_borrowed item.value) (are_borrowed list.items) (in_need item list) h
 
-call_need : (f : Function) (argument : Box Expr Global) → need (views.Call f argument) ≡ none_where (is_borrowed argument.value && is_test (function_of f))
+pub call_need : (f : Function) (argument : Box Expr Global) → need (views.Call f argument) ≡ none_where (is_borrowed argument.value && is_test (function_of f))
 call_need f argument = ap need (sym (variants.rolls-Call f argument)) ∙ fold-roll-Expr Need need_step (Expr-F.Call f argument)
 
 pub call_sides : (f : Function) (argument : Box Expr Global) → takes_none (views.Call f argument) ≡ true → (is_borrowed argument.value ≡ true) × (is_test (function_of f) ≡ true)
 call_sides f argument h = both_none (views.Call f argument) (is_borrowed argument.value) (is_test (function_of f)) (call_need f argument) h
 
-same_term_need : (left right : Box Expr Global) → need (views.SameTerm left right) ≡ none_where (is_borrowed left.value && is_borrowed right.value)
+pub same_term_need : (left right : Box Expr Global) → need (views.SameTerm left right) ≡ none_where (is_borrowed left.value && is_borrowed right.value)
 same_term_need left right = ap need (sym (variants.rolls-SameTerm left right)) ∙ fold-roll-Expr Need need_step (Expr-F.SameTerm left right)
 
 pub same_term_sides : (left right : Box Expr Global) → takes_none (views.SameTerm left right) ≡ true → (is_borrowed left.value ≡ true) × (is_borrowed right.value ≡ true)

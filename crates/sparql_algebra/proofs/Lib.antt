@@ -1,3 +1,4 @@
+pub mod ListSteps
 pub mod NameSteps
 pub mod PartSteps
 pub mod PatternSteps

@@ -3,22 +3,8 @@ use Rattle.nquads_core.proofs.TransferSteps.{Stays-stays}
 use Rattle.piece_cuts.specs.Laws.{EndsWithLineFeed}
 use Rattle.dataset_load.specs.Lines.{AreWholeLines, EachEnds, block_texts, joined}
 use Rattle.dataset_load.proofs.ReaderSteps.{at_the_end, ends_more, fault_counts, joined_more, none_at_end, pushed_length, texts_more, whole_all, whole_but_last}
-use Rattle.dataset_load.proofs.StreamingSteps.{part_of_rest, part_of_round, part_then, rest_last, rest_none, round_step}
+use Rattle.dataset_load.proofs.StreamingSteps.{part_of_round, part_then, rest_last, rest_none, round_step}
 use Rattle.dataset_load.proofs.reader.fill_round.Goals as goal
-
-pub returns-then-is_full-clause-taken : goal.returns-then-is_full-clause-taken
-returns-then-is_full-clause-taken g c = part_of_round _ _ _ _ _ c.loop-len.invariant.bytes
-
-pub returns-clause-taken : goal.returns-clause-taken
-returns-clause-taken g c = part_of_round _ _ _ _ _ c.loop-len.invariant.bytes
-
-pub returns-in-Ok-None-clause-taken : goal.returns-in-Ok-None-clause-taken
-returns-in-Ok-None-clause-taken g c =
-    let was = c.loop-len.invariant in
-    let given = rw c.in-Ok-None.field-0-is at (c.in-Ok-None.ensures.block was.state) in
-    let last = rw c.in-Ok-None.field-0-is at (c.in-Ok-None.ensures.last was.state) in
-    part_of_rest _ _ c.args.blocks.now.kept (joined (block_texts c.loop-len.round.items))
-    (rest_none _ _ _ c.args.blocks.now.kept c.loop-len.blocks.kept c.next.new.self.kept (joined (block_texts c.loop-len.round.items)) c.loop-len.blocks.size was.bytes given (none_at_end _ last))
 
 pub returns-in-Err-clause-taken : goal.returns-in-Err-clause-taken
 returns-in-Err-clause-taken g c =
@@ -37,26 +23,6 @@ pub returns-then-not-is_whole-clause-whole_lines : goal.returns-then-not-is_whol
 returns-then-not-is_whole-clause-whole_lines g c =
     let t = texts_more c.loop-len.round.items c.push.new.self.items c.in-Ok-Some.block c.in-Ok.ensures.items in
     subst (λ (ps : List (List ℕ)). AreWholeLines ps) (sym t) (whole_but_last (block_texts c.loop-len.round.items) c.in-Ok-Some.block.items c.loop-len.invariant.ends)
-
-pub returns-then-not-is_whole-clause-rest : goal.returns-then-not-is_whole-clause-rest
-returns-then-not-is_whole-clause-rest g c = λ _.
-    let was = c.loop-len.invariant in
-    let t = texts_more c.loop-len.round.items c.push.new.self.items c.in-Ok-Some.block c.in-Ok.ensures.items in
-    let e = ap joined t ∙ joined_more (block_texts c.loop-len.round.items) c.in-Ok-Some.block.items in
-    let given = rw c.in-Ok-Some.field-0-is at (c.in-Ok-Some.ensures.block was.state) in
-    let last = rw c.in-Ok-Some.field-0-is at (c.in-Ok-Some.ensures.last was.state) in
-    let unended = λ (h : EndsWithLineFeed c.in-Ok-Some.block.items).
-    true≢false (sym (c.ends_with_line_feed-is_whole.ensures.no (subst (λ (bs : List ℕ). EndsWithLineFeed bs) (sym c.as_slice.ensures.value) h)) ∙ c.if-not-is_whole.true) in
-    rest_last _ _ _ c.args.blocks.now.kept c.loop-len.blocks.kept c.next.new.self.kept (joined (block_texts c.loop-len.round.items)) _ c.loop-len.blocks.size c.in-Ok-Some.block was.bytes given e
-    (at_the_end _ c.in-Ok-Some.block last unended) unended
-
-pub returns-then-not-is_whole-clause-taken : goal.returns-then-not-is_whole-clause-taken
-returns-then-not-is_whole-clause-taken g c =
-    let was = c.loop-len.invariant in
-    let done = joined (block_texts c.loop-len.round.items) in
-    let given = rw c.in-Ok-Some.field-0-is at (c.in-Ok-Some.ensures.block was.state) in
-    part_of_round _ _ c.args.blocks.now.kept c.next.new.self.kept (done ++ c.in-Ok-Some.block.items)
-    (round_step _ _ _ c.args.blocks.now.kept c.loop-len.blocks.kept c.next.new.self.kept done (done ++ c.in-Ok-Some.block.items) c.loop-len.blocks.size c.in-Ok-Some.block was.bytes given refl)
 
 pub loop-len-preserved : goal.loop-len-preserved
 loop-len-preserved g c =
@@ -83,16 +49,6 @@ returns-clause-whole_lines g c = whole_all _ c.loop-len.invariant.ends
 pub returns-in-Ok-None-clause-whole_lines : goal.returns-in-Ok-None-clause-whole_lines
 returns-in-Ok-None-clause-whole_lines g c = whole_all _ c.loop-len.invariant.ends
 
-pub returns-in-Ok-None-clause-at_end : goal.returns-in-Ok-None-clause-at_end
-returns-in-Ok-None-clause-at_end g c = λ _. none_at_end _ (rw c.in-Ok-None.field-0-is at (c.in-Ok-None.ensures.last c.loop-len.invariant.state))
-
-pub returns-in-Ok-None-clause-rest : goal.returns-in-Ok-None-clause-rest
-returns-in-Ok-None-clause-rest g c = λ _.
-    let was = c.loop-len.invariant in
-    let given = rw c.in-Ok-None.field-0-is at (c.in-Ok-None.ensures.block was.state) in
-    let last = rw c.in-Ok-None.field-0-is at (c.in-Ok-None.ensures.last was.state) in
-    rest_none _ _ _ c.args.blocks.now.kept c.loop-len.blocks.kept c.next.new.self.kept (joined (block_texts c.loop-len.round.items)) c.loop-len.blocks.size was.bytes given (none_at_end _ last)
-
 pub returns-then-is_full-clause-count : goal.returns-then-is_full-clause-count
 returns-then-is_full-clause-count g c = c.loop-len.invariant.failures
 
@@ -110,3 +66,54 @@ returns-in_default-clause-count g c = Stays-stays _ _ _ c.loop-len.invariant.fai
 
 pub returns-then-not-is_whole-clause-count : goal.returns-then-not-is_whole-clause-count
 returns-then-not-is_whole-clause-count g c = Stays-stays _ _ _ c.loop-len.invariant.failures (c.in-Ok-Some.ensures.count c.loop-len.invariant.state)
+
+pub returns-then-is_full-clause-reading : goal.returns-then-is_full-clause-reading
+returns-then-is_full-clause-reading g c = λ _. c.loop-len.invariant.state
+
+pub returns-then-is_full-clause-more : goal.returns-then-is_full-clause-more
+returns-then-is_full-clause-more g c = λ _. (c.loop-len.invariant.ends, c.loop-len.invariant.bytes)
+
+pub returns-then-is_full-clause-last : goal.returns-then-is_full-clause-last
+returns-then-is_full-clause-last g c = λ is. absurd (true≢false (sym is))
+
+pub returns-clause-reading : goal.returns-clause-reading
+returns-clause-reading g c = λ _. c.loop-len.invariant.state
+
+pub returns-clause-more : goal.returns-clause-more
+returns-clause-more g c = λ _. (c.loop-len.invariant.ends, c.loop-len.invariant.bytes)
+
+pub returns-clause-last : goal.returns-clause-last
+returns-clause-last g c = λ is. absurd (true≢false (sym is))
+
+pub returns-in-Ok-None-clause-reading : goal.returns-in-Ok-None-clause-reading
+returns-in-Ok-None-clause-reading g c = λ is. absurd (true≢false is)
+
+pub returns-in-Ok-None-clause-more : goal.returns-in-Ok-None-clause-more
+returns-in-Ok-None-clause-more g c = λ is. absurd (true≢false is)
+
+pub returns-then-not-is_whole-clause-reading : goal.returns-then-not-is_whole-clause-reading
+returns-then-not-is_whole-clause-reading g c = λ is. absurd (true≢false is)
+
+pub returns-then-not-is_whole-clause-more : goal.returns-then-not-is_whole-clause-more
+returns-then-not-is_whole-clause-more g c = λ is. absurd (true≢false is)
+
+pub returns-in-Ok-None-clause-last : goal.returns-in-Ok-None-clause-last
+returns-in-Ok-None-clause-last g c = λ _.
+    let was = c.loop-len.invariant in
+    let given = rw c.in-Ok-None.field-0-is at (c.in-Ok-None.ensures.block was.state) in
+    let end = none_at_end _ (rw c.in-Ok-None.field-0-is at (c.in-Ok-None.ensures.last was.state)) in
+    (rest_none _ _ _ c.args.blocks.now.kept c.loop-len.blocks.kept c.next.new.self.kept (joined (block_texts c.loop-len.round.items)) c.loop-len.blocks.size was.bytes given end, end)
+
+pub returns-then-not-is_whole-clause-last : goal.returns-then-not-is_whole-clause-last
+returns-then-not-is_whole-clause-last g c = λ _.
+    let was = c.loop-len.invariant in
+    let t = texts_more c.loop-len.round.items c.push.new.self.items c.in-Ok-Some.block c.in-Ok.ensures.items in
+    let e = ap joined t ∙ joined_more (block_texts c.loop-len.round.items) c.in-Ok-Some.block.items in
+    let given = rw c.in-Ok-Some.field-0-is at (c.in-Ok-Some.ensures.block was.state) in
+    let last = rw c.in-Ok-Some.field-0-is at (c.in-Ok-Some.ensures.last was.state) in
+    let unended = λ (h : EndsWithLineFeed c.in-Ok-Some.block.items).
+    true≢false (sym (c.ends_with_line_feed-is_whole.ensures.no (subst (λ (bs : List ℕ). EndsWithLineFeed bs) (sym c.as_slice.ensures.value) h)) ∙ c.if-not-is_whole.true) in
+    let end = at_the_end _ c.in-Ok-Some.block last unended in (
+      rest_last _ _ _ c.args.blocks.now.kept c.loop-len.blocks.kept c.next.new.self.kept (joined (block_texts c.loop-len.round.items)) _ c.loop-len.blocks.size c.in-Ok-Some.block was.bytes given e end unended,
+      end,
+    )

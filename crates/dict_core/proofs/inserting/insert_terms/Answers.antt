@@ -7,8 +7,8 @@ loop-term-preserved c =
     let was = c.loop-term.invariant in
     let steps = c.in-Some.ensures.steps in record {
       room = search rules;
-      spare_is = omega (arith, was.spare_is, ap length steps, c.insert_full.ensures.spare);
-      keys = inserted_one _ _ c.in-Some.term _ _ _ c.in-Ok.ensures.keys steps was.keys;
-      places = placed_one c.loop-term.set.keys _ c.in-Some.term _ _ _ _ c.in-Ok.place _ c.in-Ok.ensures.keys c.in-Ok.ensures.index steps c.push_reserved.ensures.items was.places;
-      unique = c.insert_full.ensures.unique;
+      spare_is = omega (arith, was.spare_is, ap length steps, c.insert_reserved-place.ensures.spare);
+      keys = inserted_one _ _ c.in-Some.term _ _ _ c.insert_reserved-place.ensures.keys steps was.keys;
+      places = placed_one c.loop-term.set.keys _ c.in-Some.term _ _ _ _ c.insert_reserved-place.result _ c.insert_reserved-place.ensures.keys c.insert_reserved-place.ensures.index steps c.push_reserved.ensures.items was.places;
+      unique = c.insert_reserved-place.ensures.unique;
     }

@@ -1,22 +1,19 @@
-use Rattle.dict_core.proofs.MergingSteps.{quad_named, quad_unnamed}
+use Rattle.std.proofs.Common.{option_to_list}
+use Rattle.dict_core.proofs.MergingSteps.{quad_numbered, terms_in_turn}
 use Rattle.dict_core.proofs.local_piece.number_quad.Goals as goal
 
-pub returns-in_ok-number_term-in-Some-clause-below :
-    goal.returns-in_ok-number_term-in-Some-clause-below
-returns-in_ok-number_term-in-Some-clause-below c =
-    (quad_named _ _ _ _ _ _ _ _ _ c.in_ok-s.ensures.number c.in_ok-p.ensures.terms c.in_ok-p.ensures.number c.in_ok-o.ensures.terms c.in_ok-o.ensures.number
-    _ _ _ c.in_ok-number_term-in-Some.ensures.terms c.in_ok-number_term-in-Some.ensures.number _ c.in-Some.is).0
+pub returns-clause-terms : goal.returns-clause-terms
+returns-clause-terms c =
+    terms_in_turn c.args.dict.now c.number_term-s.new.dict c.number_term-p.new.dict c.number_term-o.new.dict c.number_name-g.new.dict c.args.quad.s c.args.quad.p c.args.quad.o
+    (option_to_list c.args.quad.g) (rw c.in_ok-s.was at c.number_term-s.ensures.terms) (rw c.in_ok-p.was at c.number_term-p.ensures.terms) (rw c.in_ok-o.was at c.number_term-o.ensures.terms)
+    (rw c.in_ok-g.was at c.number_name-g.ensures.terms)
 
-pub returns-in_ok-number_term-in-Some-clause-quad :
-    goal.returns-in_ok-number_term-in-Some-clause-quad
-returns-in_ok-number_term-in-Some-clause-quad c =
-    (quad_named _ _ _ _ _ _ _ _ _ c.in_ok-s.ensures.number c.in_ok-p.ensures.terms c.in_ok-p.ensures.number c.in_ok-o.ensures.terms c.in_ok-o.ensures.number
-    _ _ _ c.in_ok-number_term-in-Some.ensures.terms c.in_ok-number_term-in-Some.ensures.number _ c.in-Some.is).1
+pub returns-clause-below : goal.returns-clause-below
+returns-clause-below c =
+    (quad_numbered _ _ _ _ _ _ _ _ _ (rw c.in_ok-s.was at c.number_term-s.ensures.number) (rw c.in_ok-p.was at c.number_term-p.ensures.terms) (rw c.in_ok-p.was at c.number_term-p.ensures.number)
+    (rw c.in_ok-o.was at c.number_term-o.ensures.terms) (rw c.in_ok-o.was at c.number_term-o.ensures.number) _ _ _ (rw c.in_ok-g.was at c.number_name-g.ensures.terms) (rw c.in_ok-g.was at c.number_name-g.ensures.number)).0
 
-pub returns-in-None-clause-below : goal.returns-in-None-clause-below
-returns-in-None-clause-below c =
-    (quad_unnamed _ _ _ _ _ _ _ _ _ c.in_ok-s.ensures.number c.in_ok-p.ensures.terms c.in_ok-p.ensures.number c.in_ok-o.ensures.terms c.in_ok-o.ensures.number _ c.in-None.is).0
-
-pub returns-in-None-clause-quad : goal.returns-in-None-clause-quad
-returns-in-None-clause-quad c =
-    (quad_unnamed _ _ _ _ _ _ _ _ _ c.in_ok-s.ensures.number c.in_ok-p.ensures.terms c.in_ok-p.ensures.number c.in_ok-o.ensures.terms c.in_ok-o.ensures.number _ c.in-None.is).1
+pub returns-clause-quad : goal.returns-clause-quad
+returns-clause-quad c =
+    (quad_numbered _ _ _ _ _ _ _ _ _ (rw c.in_ok-s.was at c.number_term-s.ensures.number) (rw c.in_ok-p.was at c.number_term-p.ensures.terms) (rw c.in_ok-p.was at c.number_term-p.ensures.number)
+    (rw c.in_ok-o.was at c.number_term-o.ensures.terms) (rw c.in_ok-o.was at c.number_term-o.ensures.number) _ _ _ (rw c.in_ok-g.was at c.number_name-g.ensures.terms) (rw c.in_ok-g.was at c.number_name-g.ensures.number)).1

@@ -1,18 +1,20 @@
-use Rattle.std.proofs.Common.{◌≡◌, ◌∙◌, ap, arith, sym, map, option_map}
+use Rattle.std.proofs.Common.{◌≡◌, ◌∙◌, Some, ap, arith, sym, map, option_map}
 use Rattle.std.proofs.lemmas.Bool.{false≢true}
 use Rattle.std.proofs.lemmas.Result.{IfOk-weaker}
-use Rattle.algebra_model.specs.BooleanValue.{logical_and, logical_or}
+use Rattle.rdf_core.specs.Equality.{term_eq}
+use Rattle.algebra_model.specs.BooleanValue.{logical_and, logical_not, logical_or}
 use Rattle.algebra_model.specs.Comparison.{compares, equal}
 use Rattle.algebra_model.specs.Expression.{boolean_result, val, with_values}
-use Rattle.expression_values.specs.ExpressionOf.{expression_of}
+use Rattle.expression_values.specs.ExpressionOf.{comparison_of, expression_of}
 use Rattle.expression_values.specs.HeldTerm.{held_term, value_term}
 use Rattle.expression_values.specs.MemberTruth.{member_truth}
 use Rattle.expression_values.specs.NoAllocation.{are_borrowed, is_borrowed, takes_none}
 use Rattle.expression_values.specs.declared.expression.Expr.{size-Expr}
 use Rattle.expression_values.proofs.FoldSteps.{and_deeper, in_stands_for, or_deeper}
 use Rattle.expression_values.proofs.LogicSteps.{in_value, member_step}
-use Rattle.expression_values.proofs.MemorySteps.{and_sides, call_sides, compare_sides, in_sides, member_borrowed, not_need, or_sides, same_term_sides}
+use Rattle.expression_values.proofs.MemorySteps.{and_need, and_sides, call_need, call_sides, compare_need, compare_sides, in_need, in_sides, member_borrowed, not_need, or_need, or_sides, same_term_need, same_term_sides}
 use Rattle.expression_values.proofs.OperandSteps.{and_moves, or_moves, truth}
+use Rattle.expression_values.proofs.ValueSteps.{and_value, call_of_value, compare_value, not_borrowed, not_value, or_value, same_term_value, valued_as}
 use Rattle.expression_values.proofs.evaluation.+evaluate.Goals as goal
 
 pub evaluate-returns-in_ok-item-in-In-clause-value : goal.evaluate-returns-in_ok-item-in-In-clause-value
@@ -137,3 +139,103 @@ evaluate-returns-in_ok-left-in-SameTerm-clause-takes_none g t c = λ h.
 pub evaluate-returns-in-Not-clause-takes_none : goal.evaluate-returns-in-Not-clause-takes_none
 evaluate-returns-in-Not-clause-takes_none g t c = λ h.
     c.evaluate_not.ensures.takes_none (ap takes_none c.deref-in-Not.ensures ∙ sym (ap (λ n. n.takes_none) (not_need c.in-Not.inner)) ∙ ap takes_none (sym c.in-Not.is) ∙ h)
+
+pub evaluate-returns-in_ok-right-in-Or-clause-value : goal.evaluate-returns-in_ok-right-in-Or-clause-value
+evaluate-returns-in_ok-right-in-Or-clause-value g t c =
+    let μ = g.R.Lookup.solution c.args.row.now in
+    valued_as c.evaluate_either.result _ _
+    (or_value c.in-Or.left c.in-Or.right c.args.expr.now _ _ μ c.in-Or.is c.deref-in-Or.ensures (c.in_ok-right-in-Or.ensures.truth ∙ ap (λ e. truth e μ) c.deref.ensures))
+    c.evaluate_either.ensures.value
+
+pub evaluate-returns-in_ok-right-in-And-clause-value : goal.evaluate-returns-in_ok-right-in-And-clause-value
+evaluate-returns-in_ok-right-in-And-clause-value g t c =
+    let μ = g.R.Lookup.solution c.args.row.now in
+    valued_as c.evaluate_both.result _ _
+    (and_value c.in-And.left c.in-And.right c.args.expr.now _ _ μ c.in-And.is c.deref-in-And-2.ensures (c.in_ok-right-in-And.ensures.truth ∙ ap (λ e. truth e μ) c.deref-in-And.ensures))
+    c.evaluate_both.ensures.value
+
+pub evaluate-returns-in-Not-clause-value : goal.evaluate-returns-in-Not-clause-value
+evaluate-returns-in-Not-clause-value g t c =
+    valued_as c.evaluate_not.result _ _
+    (not_value c.in-Not.inner c.args.expr.now _ (g.R.Lookup.solution c.args.row.now) c.in-Not.is c.deref-in-Not.ensures)
+    c.evaluate_not.ensures.value
+
+pub evaluate-returns-in_ok-left-in-Compare-clause-value : goal.evaluate-returns-in_ok-left-in-Compare-clause-value
+evaluate-returns-in_ok-left-in-Compare-clause-value g t c =
+    let μ = g.R.Lookup.solution c.args.row.now in
+    valued_as c.evaluate_comparison.result _ _
+    (compare_value c.in-Compare.operator c.in-Compare.left c.in-Compare.right c.args.expr.now _ _ μ c.in-Compare.is
+    (c.in_ok-left-in-Compare.ensures.value ∙ ap (λ e. val (expression_of e) μ) c.deref-in-Compare.ensures) c.deref-in-Compare-2.ensures)
+    c.evaluate_comparison.ensures.value
+
+pub evaluate-returns-in_ok-left-in-SameTerm-clause-value : goal.evaluate-returns-in_ok-left-in-SameTerm-clause-value
+evaluate-returns-in_ok-left-in-SameTerm-clause-value g t c =
+    let μ = g.R.Lookup.solution c.args.row.now in
+    valued_as c.evaluate_same_term.result _ _
+    (same_term_value c.in-SameTerm.left c.in-SameTerm.right c.args.expr.now _ _ μ c.in-SameTerm.is
+    (c.in_ok-left-in-SameTerm.ensures.value ∙ ap (λ e. val (expression_of e) μ) c.deref-in-SameTerm.ensures) c.deref-in-SameTerm-2.ensures)
+    c.evaluate_same_term.ensures.value
+
+pub evaluate-returns-in-Call-clause-value : goal.evaluate-returns-in-Call-clause-value
+evaluate-returns-in-Call-clause-value g t c =
+    valued_as c.evaluate_call.result _ _
+    (call_of_value c.in-Call.function c.in-Call.argument c.args.expr.now _ (g.R.Lookup.solution c.args.row.now) c.in-Call.is c.deref-in-Call.ensures)
+    c.evaluate_call.ensures.value
+
+pub evaluate-returns-in_err-right-in-Or-clause-held : goal.evaluate-returns-in_err-right-in-Or-clause-held
+evaluate-returns-in_err-right-in-Or-clause-held g t c = λ h. absurd (not_borrowed c.args.expr.now _ _ c.in-Or.is (or_need c.in-Or.left c.in-Or.right) h)
+
+pub evaluate-returns-in_ok-right-in-Or-clause-held : goal.evaluate-returns-in_ok-right-in-Or-clause-held
+evaluate-returns-in_ok-right-in-Or-clause-held g t c = λ h. absurd (not_borrowed c.args.expr.now _ _ c.in-Or.is (or_need c.in-Or.left c.in-Or.right) h)
+
+pub evaluate-returns-in_err-right-in-And-clause-held : goal.evaluate-returns-in_err-right-in-And-clause-held
+evaluate-returns-in_err-right-in-And-clause-held g t c = λ h. absurd (not_borrowed c.args.expr.now _ _ c.in-And.is (and_need c.in-And.left c.in-And.right) h)
+
+pub evaluate-returns-in_ok-right-in-And-clause-held : goal.evaluate-returns-in_ok-right-in-And-clause-held
+evaluate-returns-in_ok-right-in-And-clause-held g t c = λ h. absurd (not_borrowed c.args.expr.now _ _ c.in-And.is (and_need c.in-And.left c.in-And.right) h)
+
+pub evaluate-returns-in_err-left-in-Compare-clause-held : goal.evaluate-returns-in_err-left-in-Compare-clause-held
+evaluate-returns-in_err-left-in-Compare-clause-held g t c = λ h. absurd (not_borrowed c.args.expr.now _ _ c.in-Compare.is (compare_need c.in-Compare.operator c.in-Compare.left c.in-Compare.right) h)
+
+pub evaluate-returns-in_ok-left-in-Compare-clause-held : goal.evaluate-returns-in_ok-left-in-Compare-clause-held
+evaluate-returns-in_ok-left-in-Compare-clause-held g t c = λ h. absurd (not_borrowed c.args.expr.now _ _ c.in-Compare.is (compare_need c.in-Compare.operator c.in-Compare.left c.in-Compare.right) h)
+
+pub evaluate-returns-in_err-item-in-In-clause-held : goal.evaluate-returns-in_err-item-in-In-clause-held
+evaluate-returns-in_err-item-in-In-clause-held g t c = λ h. absurd (not_borrowed c.args.expr.now _ _ c.in-In.is (in_need c.in-In.item c.in-In.list) h)
+
+pub evaluate-returns-in_ok-item-in-In-clause-held : goal.evaluate-returns-in_ok-item-in-In-clause-held
+evaluate-returns-in_ok-item-in-In-clause-held g t c = λ h. absurd (not_borrowed c.args.expr.now _ _ c.in-In.is (in_need c.in-In.item c.in-In.list) h)
+
+pub evaluate-returns-in_err-left-in-SameTerm-clause-held : goal.evaluate-returns-in_err-left-in-SameTerm-clause-held
+evaluate-returns-in_err-left-in-SameTerm-clause-held g t c = λ h. absurd (not_borrowed c.args.expr.now _ _ c.in-SameTerm.is (same_term_need c.in-SameTerm.left c.in-SameTerm.right) h)
+
+pub evaluate-returns-in_ok-left-in-SameTerm-clause-held : goal.evaluate-returns-in_ok-left-in-SameTerm-clause-held
+evaluate-returns-in_ok-left-in-SameTerm-clause-held g t c = λ h. absurd (not_borrowed c.args.expr.now _ _ c.in-SameTerm.is (same_term_need c.in-SameTerm.left c.in-SameTerm.right) h)
+
+pub evaluate-returns-in-Not-clause-held : goal.evaluate-returns-in-Not-clause-held
+evaluate-returns-in-Not-clause-held g t c = λ h. absurd (not_borrowed c.args.expr.now _ _ c.in-Not.is (not_need c.in-Not.inner) h)
+
+pub evaluate-returns-in-Call-clause-held : goal.evaluate-returns-in-Call-clause-held
+evaluate-returns-in-Call-clause-held g t c = λ h. absurd (not_borrowed c.args.expr.now _ _ c.in-Call.is (call_need c.in-Call.function c.in-Call.argument) h)
+
+pub evaluate_either-returns-clause-value : goal.evaluate_either-returns-clause-value
+evaluate_either-returns-clause-value g t c = c.boolean_value.ensures.value ∙ ap boolean_result c.in_ok-evaluate_or.ensures.truth
+
+pub evaluate_both-returns-clause-value : goal.evaluate_both-returns-clause-value
+evaluate_both-returns-clause-value g t c = c.boolean_value.ensures.value ∙ ap boolean_result c.in_ok-evaluate_and.ensures.truth
+
+pub evaluate_not-returns-clause-value : goal.evaluate_not-returns-clause-value
+evaluate_not-returns-clause-value g t c = c.boolean_value.ensures.value ∙ ap boolean_result (c.negated.ensures.value ∙ ap logical_not c.in_ok-evaluate_truth.ensures.truth)
+
+pub evaluate_in-returns-clause-value : goal.evaluate_in-returns-clause-value
+evaluate_in-returns-clause-value g t c = c.boolean_value.ensures.value ∙ ap boolean_result c.in_ok-evaluate_member.ensures.truth
+
+pub evaluate_comparison-returns-clause-value : goal.evaluate_comparison-returns-clause-value
+evaluate_comparison-returns-clause-value g t c = c.boolean_value.ensures.value
+    ∙ ap boolean_result (c.compare_values.ensures.compared
+    ∙ ap (λ v. with_values (option_map held_term c.args.left) v (compares (comparison_of c.args.operator))) c.in_ok-right.ensures.value)
+
+pub evaluate_same_term-returns-clause-value : goal.evaluate_same_term-returns-clause-value
+evaluate_same_term-returns-clause-value g t c = c.boolean_value.ensures.value
+    ∙ ap boolean_result (c.same_values.ensures.same
+    ∙ ap (λ v. with_values (option_map held_term c.args.left) v (λ s t. Some (term_eq s t))) c.in_ok-right.ensures.value)

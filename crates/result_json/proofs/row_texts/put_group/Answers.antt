@@ -3,7 +3,8 @@ use Rattle.std.proofs.Math.Seq.{drop-cons}
 use Rattle.std.proofs.lemmas.List.{drop_all}
 use Rattle.result_json.specs.declared.ranked_row.RankedRow.{RankedRow}
 use Rattle.result_json.specs.RankedRows.{ranks_of}
-use Rattle.result_json.specs.Texts.{begun_column, begun_row, comma_texts}
+use Rattle.result_json.specs.Texts.{begun_column, begun_row, comma_texts, places_of}
+use Rattle.result_json.proofs.AheadSteps.{row_ahead}
 use Rattle.result_json.proofs.SeparatedLaws.{comma_texts-cons}
 use Rattle.result_json.proofs.row_texts.put_group.Goals as goal
 use Rattle.result_json.proofs.row_texts.put_group.Goals.{then-later+in_ok-push, else-later}
@@ -43,3 +44,9 @@ loop-i-preserved c =
     ∙ append_assoc out (comma_texts later ([] ∷ [])) (text row.ranks.now ++ comma_texts true (map text following))
     ∙ ap (λ t. out ++ t) (sym (comma_texts-cons later (text row.ranks.now) (map text following)) ∙ ap (λ (rs : List (List ℕ)). comma_texts later (map text rs)) (sym cut))
     ∙ c.loop-i.invariant
+
+pub put_row-requires : goal.put_row-requires
+put_row-requires c = record {
+  ahead = row_ahead c.args.texts.now (places_of c.args.columns.now) c.args.rows.now c.loop-i.i c.index-rows-i.result _ _ (omega arith) c.index-rows-i.is c.deref.ensures.value
+      c.in_ok-ahead.ensures.ahead;
+}

@@ -6,6 +6,7 @@ use Rattle.indexmap.specs.IndexSet.{insert_all}
 use Rattle.sparql_tree.specs.GroupTree.{element_of, group_of}
 use Rattle.sparql_tree.specs.Scope.{element_names, group_names, graph_names}
 use Rattle.sparql_algebra.specs.Names.{IsNotedInPart}
+use Rattle.sparql_algebra.proofs.ListSteps.{next_names}
 use Rattle.sparql_algebra.proofs.NameSteps.{at_refusal, names_of_group, noted_after, noted_first, noted_within, values_stands_for}
 use Rattle.sparql_algebra.proofs.RepeatSteps.{insert_all-append}
 use Rattle.sparql_algebra.proofs.TreeSteps.{union_stands_for, graph_stands_for}
@@ -71,3 +72,8 @@ note_element-returns-in_ok-note_graph_name-in-Graph-clause-in_part t c =
 pub note_element-returns-in-Values-clause-in_part : goal.note_element-returns-in-Values-clause-in_part
 note_element-returns-in-Values-clause-in_part t c =
     rw (c.in-Values.is, values_stands_for c.in-Values.variables c.in-Values.field-1) (rw c.deref-in-Values.ensures.value at c.note_list.ensures.in_part)
+
+pub note_group-loop-element-preserved : goal.note_group-loop-element-preserved
+note_group-loop-element-preserved t c =
+    next_names (λ e. element_names c.args.all (element_of e)) c.args.group.now c.loop-element.element-index c.element-item.result c.args.names.now c.loop-element.names c.note_element.new.names
+    c.loop-element-test.true c.element-item.is c.loop-element.invariant c.in_ok-note_element.ensures.noted

@@ -3,7 +3,7 @@ use Rattle.rdf_core.specs.QuadParts.{parts_of}
 use Rattle.dict_core.specs.Numbered.{IsNumbered}
 use Rattle.dict_core.proofs.NumberingLaws.{numbered-more}
 use Rattle.dict_core.proofs.MergingSteps.{moved_one}
-use Rattle.dict_core.proofs.local_piece.number_piece.Goals as goal
+use Rattle.dict_core.proofs.local_piece.number_all.Goals as goal
 
 pub loop-quad-preserved : goal.loop-quad-preserved
 loop-quad-preserved c =
