@@ -4,7 +4,6 @@ ghost use Rattle.rdf_core.specs.QuadParts.{parts_of};
 ghost use Rattle.algebra_model.specs.Dataset.{graph, names, triple_of};
 
 use crate::lists::with_first;
-use crate::solution::same_cell;
 use crate::terms::{each_once, with_copy};
 use rdf_core::{Quad, Term};
 use std::alloc::{AllocError, Global};
@@ -21,7 +20,7 @@ pub fn graph(alloc: Global, quads: &[Quad], name: &Option<Term>) -> Result<Vec<Q
         None => Ok(Vec::new(alloc)),
         Some((quad, rest)) => {
             let found = graph(alloc, rest, name)?;
-            if same_cell(&quad.g, name) {
+            if &quad.g == name {
                 with_quad(alloc, quad, found)
             } else {
                 Ok(found)

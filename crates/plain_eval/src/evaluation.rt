@@ -11,9 +11,10 @@ ghost use Rattle.expression_values.specs.ExpressionOf.{expression_of};
 ghost use Rattle.sparql_algebra.specs.AlgebraOf.{algebra_of, graph_name_of, triple_pattern_of};
 
 use crate::dataset::{graph, names};
+use crate::lists::with_first;
 use crate::operators::{distinct, extend, filter, join, left_join, minus, project, table, union};
 use crate::patterns::pattern;
-use crate::solution::{Solution, open_cells};
+use crate::solution::{Solution, open_cells, with_cell_at};
 use crate::terms::is_among;
 use rdf_core::{Quad, Term};
 use sparql_algebra::{Expr, GraphName, Operator, TriplePattern};
@@ -349,11 +350,7 @@ fn named(
 ) -> Result<Vec<Solution>, AllocError>
     ensures value { IfOk result (λ solutions. solutions.items ≡ named width variable name.now) }
 {
-    let mut cells = open_cells(alloc, width)?;
-    if variable < cells.len() {
-        cells[variable] = Some(name.copy(alloc)?);
-    }
-    let mut solutions = Vec::new(alloc);
-    solutions.push(Solution::of(cells))?;
-    Ok(solutions)
+    let open = open_cells(alloc, width)?;
+    let cells = with_cell_at(alloc, open, variable, &Some(name.copy(alloc)?))?;
+    with_first(Solution::of(cells), Vec::new(alloc))
 }

@@ -11,17 +11,10 @@ use crate::lists::with_first;
 use crate::places::listed_places;
 use crate::solution::{
     Solution, bound_cells, cells_agree, cells_share, copy_cells, merged_cells, restricted_cells,
-    same_cells, table_cells,
+    table_cells,
 };
 use rdf_core::Term;
 use std::alloc::{AllocError, Global};
-
-/// Copies a solution.
-fn copy(alloc: Global, solution: &Solution) -> Result<Solution, AllocError>
-    ensures value { IfOk result (λ copy. copy ≡ solution.now) }
-{
-    Ok(Solution::of(copy_cells(alloc, solution.terms())?))
-}
 
 /// Prepends a copy of a solution to the solutions.
 fn with_copy(
@@ -31,7 +24,7 @@ fn with_copy(
 ) -> Result<Vec<Solution>, AllocError>
     ensures value { IfOk result (λ list. list.items ≡ solution.now ∷ rest.items) }
 {
-    with_first(copy(alloc, solution)?, rest)
+    with_first(Solution::of(copy_cells(alloc, solution.terms())?), rest)
 }
 
 /// Returns the merges of one solution with those that are compatible with it.
@@ -230,7 +223,7 @@ pub fn extend<V: Value>(
         Some((solution, rest)) => {
             let extended = extend(alloc, variable, value, rest)?;
             let term = value.value(alloc, solution)?;
-            let bound = bound_cells(alloc, variable, term, solution.terms())?;
+            let bound = bound_cells(alloc, variable, &term, solution.terms())?;
             with_first(Solution::of(bound), extended)
         }
     }
@@ -306,7 +299,7 @@ fn others(
         None => Ok(Vec::new(alloc)),
         Some((other, rest)) => {
             let kept = others(alloc, solution, rest)?;
-            if same_cells(solution.terms(), other.terms()) {
+            if solution.terms() == other.terms() {
                 Ok(kept)
             } else {
                 with_copy(alloc, other, kept)

@@ -10,7 +10,7 @@ ghost use Rattle.sparql_algebra.specs.AlgebraOf.{pattern_term_of, triple_pattern
 
 use crate::lists::with_first;
 use crate::places::used_places;
-use crate::solution::{Solution, copy_cell, copy_cells};
+use crate::solution::{Solution, copy_cells, with_copy};
 use crate::terms::{each_once, occurring};
 use rdf_core::{Quad, Term};
 use sparql_algebra::{PatternTerm, TriplePattern};
@@ -53,11 +53,7 @@ fn every_map(alloc: Global, used: &[bool], terms: &[Term]) -> Result<Vec<Solutio
         ≡ every_map (λ k. get_or used.now k false) terms.now (length used.now)) }
 {
     match used.split_first() {
-        None => {
-            let mut maps = Vec::new(alloc);
-            maps.push(Solution::of(Vec::new(alloc)))?;
-            Ok(maps)
-        }
+        None => with_first(Solution::of(Vec::new(alloc)), Vec::new(alloc)),
         Some((&is_used, rest)) => {
             let maps = every_map(alloc, rest, terms)?;
             if is_used {
@@ -102,11 +98,17 @@ fn with_cell(
 {
     let mut made = Vec::new(alloc);
     for tried in maps {
-        let rest = copy_cells(alloc, tried.terms())?;
-        let cells = with_first(copy_cell(alloc, cell)?, rest)?;
-        made.push(Solution::of(cells))?;
+        made.push(longer(alloc, cell, tried)?)?;
     }
     Ok(made)
+}
+
+/// Prepends the cell to the map.
+fn longer(alloc: Global, cell: &Option<Term>, tried: &Solution) -> Result<Solution, AllocError>
+    ensures value { IfOk result (λ made. made ≡ cell.now ∷ tried.now) }
+{
+    let rest = copy_cells(alloc, tried.terms())?;
+    Ok(Solution::of(with_copy(alloc, cell, rest)?))
 }
 
 /// Returns the maps that take each triple pattern to a triple of the quads, without their labels.

@@ -1,8 +1,7 @@
 //! One solution of terms.
-ghost use Rattle.std.specs.Prelude.{◌≡◌, ◌∷◌, IfOk, Some, None, false, get_or, replicate};
-ghost use Rattle.std.specs.Option.{option_eq};
+ghost use Rattle.std.specs.Prelude.{◌≡◌, ◌∷◌, IfOk, Some, None, false, get_or, length, replicate, set};
 ghost use Rattle.rdf_core.specs.Equality.{term_eq};
-ghost use Rattle.algebra_model.specs.Solution.{agree, bound_or, is_compatible, merge, same_solution};
+ghost use Rattle.algebra_model.specs.Solution.{agree, bound_or, is_compatible, merge};
 ghost use Rattle.algebra_model.specs.Operators.{share, bind, restrict, table_row};
 
 use crate::lists::with_first;
@@ -42,7 +41,7 @@ impl Solution {
 }
 
 /// Copies a cell.
-pub(crate) fn copy_cell(alloc: Global, cell: &Option<Term>) -> Result<Option<Term>, AllocError>
+fn copy_cell(alloc: Global, cell: &Option<Term>) -> Result<Option<Term>, AllocError>
     ensures value { IfOk result (λ copy. copy ≡ cell.now) }
 {
     match cell {
@@ -52,7 +51,7 @@ pub(crate) fn copy_cell(alloc: Global, cell: &Option<Term>) -> Result<Option<Ter
 }
 
 /// Prepends a copy of a cell to the cells.
-fn with_copy(
+pub(crate) fn with_copy(
     alloc: Global,
     cell: &Option<Term>,
     rest: Vec<Option<Term>>,
@@ -123,43 +122,13 @@ pub(crate) fn cells_share(a: &[Option<Term>], b: &[Option<Term>]) -> bool
     }
 }
 
-/// Returns whether two cells are equal.
-pub(crate) fn same_cell(x: &Option<Term>, y: &Option<Term>) -> bool
-    ensures value { result ≡ option_eq term_eq x.now y.now }
-{
-    match x {
-        None => y.is_none(),
-        Some(x) => match y {
-            None => false,
-            Some(y) => x == y,
-        },
-    }
-}
-
-/// Returns whether the solutions are equal.
-pub(crate) fn same_cells(a: &[Option<Term>], b: &[Option<Term>]) -> bool
-    ensures value { result ≡ same_solution term_eq a.now b.now }
-{
-    match a.split_first() {
-        None => b.is_empty(),
-        Some((x, a)) => match b.split_first() {
-            None => false,
-            Some((y, b)) => same_cell(x, y) && same_cells(a, b),
-        },
-    }
-}
-
 /// Returns the first cell if it is bound, and the second one otherwise.
-fn first_bound(
-    alloc: Global,
-    x: &Option<Term>,
-    y: &Option<Term>,
-) -> Result<Option<Term>, AllocError>
-    ensures value { IfOk result (λ cell. cell ≡ bound_or x.now y.now) }
+fn first_bound<'a>(x: &'a Option<Term>, y: &'a Option<Term>) -> &'a Option<Term>
+    ensures value { result.now ≡ bound_or x.now y.now }
 {
     match x {
-        None => copy_cell(alloc, y),
-        Some(x) => Ok(Some(x.copy(alloc)?)),
+        None => y,
+        Some(_) => x,
     }
 }
 
@@ -177,7 +146,7 @@ pub(crate) fn merged_cells(
             None => copy_cells(alloc, a),
             Some((y, others)) => {
                 let merged = merged_cells(alloc, more, others)?;
-                with_first(first_bound(alloc, x, y)?, merged)
+                with_copy(alloc, first_bound(x, y), merged)
             }
         },
     }
@@ -198,22 +167,20 @@ pub(crate) fn open_cells(alloc: Global, width: usize) -> Result<Vec<Option<Term>
 pub(crate) fn bound_cells(
     alloc: Global,
     variable: usize,
-    term: Option<Term>,
+    term: &Option<Term>,
     cells: &[Option<Term>],
 ) -> Result<Vec<Option<Term>>, AllocError>
-    ensures value { IfOk result (λ bound. bound.items ≡ bind variable term cells.now) }
+    ensures value { IfOk result (λ bound. bound.items ≡ bind variable term.now cells.now) }
 {
     match cells.split_first() {
         None => Ok(Vec::new(alloc)),
         Some((x, rest)) => {
             if variable > 0 {
                 let bound = bound_cells(alloc, variable - 1, term, rest)?;
-                return with_copy(alloc, x, bound);
-            }
-            let rest = copy_cells(alloc, rest)?;
-            match x {
-                None => with_first(term, rest),
-                Some(x) => with_first(Some(x.copy(alloc)?), rest),
+                with_copy(alloc, x, bound)
+            } else {
+                let copied = copy_cells(alloc, rest)?;
+                with_copy(alloc, first_bound(x, term), copied)
             }
         }
     }
@@ -234,14 +201,27 @@ pub(crate) fn table_cells(
         Some((&variable, variables)) => match cells.split_first() {
             None => open_cells(alloc, width),
             Some((x, cells)) => {
-                let mut row = table_cells(alloc, width, variables, cells)?;
-                if variable < row.len() {
-                    row[variable] = copy_cell(alloc, x)?;
-                }
-                Ok(row)
+                let row = table_cells(alloc, width, variables, cells)?;
+                with_cell_at(alloc, row, variable, x)
             }
         },
     }
+}
+
+/// Replaces the cell at this place, if there is one, with a copy of the given cell.
+pub(crate) fn with_cell_at(
+    alloc: Global,
+    cells: Vec<Option<Term>>,
+    place: usize,
+    cell: &Option<Term>,
+) -> Result<Vec<Option<Term>>, AllocError>
+    ensures value { IfOk result (λ made. made.items ≡ set cells.items place cell.now) }
+{
+    let mut cells = cells;
+    if place < cells.len() {
+        cells[place] = copy_cell(alloc, cell)?;
+    }
+    Ok(cells)
 }
 
 /// Returns the cells with only the kept variables bound.
@@ -250,17 +230,15 @@ pub(crate) fn restricted_cells(
     kept: &[bool],
     cells: &[Option<Term>],
 ) -> Result<Vec<Option<Term>>, AllocError>
+    requires long { length kept.now ≡ length cells.now }
     ensures value { IfOk result
         (λ restricted. restricted.items ≡ restrict (λ k. get_or kept.now k false) cells.now) }
 {
-    match cells.split_first() {
+    match kept.split_first() {
         None => Ok(Vec::new(alloc)),
-        Some((x, cells)) => match kept.split_first() {
-            None => {
-                let restricted = restricted_cells(alloc, kept, cells)?;
-                with_first(None, restricted)
-            }
-            Some((&is_kept, kept)) => {
+        Some((&is_kept, kept)) => match cells.split_first() {
+            None => Ok(Vec::new(alloc)),
+            Some((x, cells)) => {
                 let restricted = restricted_cells(alloc, kept, cells)?;
                 if is_kept {
                     with_copy(alloc, x, restricted)
