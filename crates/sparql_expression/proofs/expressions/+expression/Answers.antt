@@ -6,7 +6,7 @@ use Rattle.sparql_lexer.specs.Terminal.{terminals}
 use Rattle.sparql_tree.specs.ExpressionTree.{expression_of, expressions_of, negation, none, then}
 use Rattle.sparql_grammar.specs.Symbol as the
 use Rattle.sparql_expression.specs.ParseResult.{seen}
-use Rattle.sparql_expression.proofs.Steps.{begin, took, took_branch, branch, left, right, here, skipped, passed_by, taken_heads, untaken_heads, take_fails, then_read, part_fails, enter, last_reads, last_same, last_fails, done, mapped_same}
+use Rattle.sparql_expression.proofs.Steps.{begin, took, took_branch, branch, left, right, here, skipped, passed_by, taken_heads, untaken_heads, take_fails, then_read, part_fails, enter, last_reads, last_same, last_fails, done, mapped_same, out_of_memory}
 use Rattle.sparql_expression.proofs.MemberLaws.{pushed, members_at}
 use Rattle.sparql_expression.proofs.NodeSteps.{or_seen, and_seen, same_term_seen, comparison_seen, not_seen, in_seen, call_seen, variable_seen, constant_seen, disjunction_at, conjunction_at}
 use Rattle.sparql_expression.proofs.expressions.+expression.Goals as goal
@@ -480,3 +480,71 @@ read_members-returns-in_default-accept-3-clause-shorter t c = tt
 
 pub read_members-returns-in_default-accept-2-clause-shorter : goal.read_members-returns-in_default-accept-2-clause-shorter
 read_members-returns-in_default-accept-2-clause-shorter t c = then_shorter c.in-Some-accept-3.ensures.shorter (then_shorter c.in_ok-member.ensures.shorter c.members.invariant.shorter)
+
+-- ---- the exits at which an allocation fails
+
+pub read_disjunction-returns-in_err-one-clause-reads : goal.read_disjunction-returns-in_err-one-clause-reads
+read_disjunction-returns-in_err-one-clause-reads t c = let p = err_from_is_err_and c.from_residual-in_err-one.result c.from_residual-in_err-one.ensures.1 in rw (p.1, p.2) out_of_memory
+
+pub read_disjunction-returns-in_err-one-clause-shorter : goal.read_disjunction-returns-in_err-one-clause-shorter
+read_disjunction-returns-in_err-one-clause-shorter t c = rw (err_from_is_err_and c.from_residual-in_err-one.result c.from_residual-in_err-one.ensures.1).1 tt
+
+pub read_conjunction-returns-in_err-one-clause-reads : goal.read_conjunction-returns-in_err-one-clause-reads
+read_conjunction-returns-in_err-one-clause-reads t c = let p = err_from_is_err_and c.from_residual-in_err-one.result c.from_residual-in_err-one.ensures.1 in rw (p.1, p.2) out_of_memory
+
+pub read_conjunction-returns-in_err-one-clause-shorter : goal.read_conjunction-returns-in_err-one-clause-shorter
+read_conjunction-returns-in_err-one-clause-shorter t c = rw (err_from_is_err_and c.from_residual-in_err-one.result c.from_residual-in_err-one.ensures.1).1 tt
+
+pub read_relation-returns-in_err-one-clause-reads : goal.read_relation-returns-in_err-one-clause-reads
+read_relation-returns-in_err-one-clause-reads t c = let p = err_from_is_err_and c.from_residual-in_err-one.result c.from_residual-in_err-one.ensures.1 in rw (p.1, p.2) out_of_memory
+
+pub read_relation-returns-in_err-one-clause-shorter : goal.read_relation-returns-in_err-one-clause-shorter
+read_relation-returns-in_err-one-clause-shorter t c = rw (err_from_is_err_and c.from_residual-in_err-one.result c.from_residual-in_err-one.ensures.1).1 tt
+
+pub read_relation-returns-in_err-new-clause-reads : goal.read_relation-returns-in_err-new-clause-reads
+read_relation-returns-in_err-new-clause-reads t c = let p = err_from_is_err_and c.from_residual-in_err-new.result c.from_residual-in_err-new.ensures.1 in rw (p.1, p.2) out_of_memory
+
+pub read_relation-returns-in_err-new-clause-shorter : goal.read_relation-returns-in_err-new-clause-shorter
+read_relation-returns-in_err-new-clause-shorter t c = rw (err_from_is_err_and c.from_residual-in_err-new.result c.from_residual-in_err-new.ensures.1).1 tt
+
+pub read_relation-returns-in_err-new-2-clause-reads : goal.read_relation-returns-in_err-new-2-clause-reads
+read_relation-returns-in_err-new-2-clause-reads t c = let p = err_from_is_err_and c.from_residual-in_err-new-2.result c.from_residual-in_err-new-2.ensures.1 in rw (p.1, p.2) out_of_memory
+
+pub read_relation-returns-in_err-new-2-clause-shorter : goal.read_relation-returns-in_err-new-2-clause-shorter
+read_relation-returns-in_err-new-2-clause-shorter t c = rw (err_from_is_err_and c.from_residual-in_err-new-2.result c.from_residual-in_err-new-2.ensures.1).1 tt
+
+pub read_relation-returns-in_err-new-3-clause-reads : goal.read_relation-returns-in_err-new-3-clause-reads
+read_relation-returns-in_err-new-3-clause-reads t c = let p = err_from_is_err_and c.from_residual-in_err-new-3.result c.from_residual-in_err-new-3.ensures.1 in rw (p.1, p.2) out_of_memory
+
+pub read_relation-returns-in_err-new-3-clause-shorter : goal.read_relation-returns-in_err-new-3-clause-shorter
+read_relation-returns-in_err-new-3-clause-shorter t c = rw (err_from_is_err_and c.from_residual-in_err-new-3.result c.from_residual-in_err-new-3.ensures.1).1 tt
+
+pub read_unary-returns-in_err-new-clause-reads : goal.read_unary-returns-in_err-new-clause-reads
+read_unary-returns-in_err-new-clause-reads t c = let p = err_from_is_err_and c.from_residual-in_err-new.result c.from_residual-in_err-new.ensures.1 in rw (p.1, p.2) out_of_memory
+
+pub read_unary-returns-in_err-new-clause-shorter : goal.read_unary-returns-in_err-new-clause-shorter
+read_unary-returns-in_err-new-clause-shorter t c = rw (err_from_is_err_and c.from_residual-in_err-new.result c.from_residual-in_err-new.ensures.1).1 tt
+
+pub read_primary-returns-in_err-name-clause-reads : goal.read_primary-returns-in_err-name-clause-reads
+read_primary-returns-in_err-name-clause-reads t c = let p = err_from_is_err_and c.from_residual.result c.from_residual.ensures.1 in rw (p.1, p.2) out_of_memory
+
+pub read_primary-returns-in_err-name-clause-shorter : goal.read_primary-returns-in_err-name-clause-shorter
+read_primary-returns-in_err-name-clause-shorter t c = rw (err_from_is_err_and c.from_residual.result c.from_residual.ensures.1).1 tt
+
+pub read_call-returns-in_err-argument-2-clause-reads : goal.read_call-returns-in_err-argument-2-clause-reads
+read_call-returns-in_err-argument-2-clause-reads t c = let p = err_from_is_err_and c.from_residual-in_err-argument-2.result c.from_residual-in_err-argument-2.ensures.1 in rw (p.1, p.2) out_of_memory
+
+pub read_call-returns-in_err-argument-2-clause-shorter : goal.read_call-returns-in_err-argument-2-clause-shorter
+read_call-returns-in_err-argument-2-clause-shorter t c = rw (err_from_is_err_and c.from_residual-in_err-argument-2.result c.from_residual-in_err-argument-2.ensures.1).1 tt
+
+pub read_same_term-returns-in_err-one-clause-reads : goal.read_same_term-returns-in_err-one-clause-reads
+read_same_term-returns-in_err-one-clause-reads t c = let p = err_from_is_err_and c.from_residual-in_err-one.result c.from_residual-in_err-one.ensures.1 in rw (p.1, p.2) out_of_memory
+
+pub read_same_term-returns-in_err-one-clause-shorter : goal.read_same_term-returns-in_err-one-clause-shorter
+read_same_term-returns-in_err-one-clause-shorter t c = rw (err_from_is_err_and c.from_residual-in_err-one.result c.from_residual-in_err-one.ensures.1).1 tt
+
+pub read_members-returns-in_err-push-clause-reads : goal.read_members-returns-in_err-push-clause-reads
+read_members-returns-in_err-push-clause-reads t c = let p = err_from_is_err_and c.from_residual-in_err-push.result c.from_residual-in_err-push.ensures.1 in rw (p.1, p.2) out_of_memory
+
+pub read_members-returns-in_err-push-clause-shorter : goal.read_members-returns-in_err-push-clause-shorter
+read_members-returns-in_err-push-clause-shorter t c = rw (err_from_is_err_and c.from_residual-in_err-push.result c.from_residual-in_err-push.ensures.1).1 tt

@@ -20,3 +20,8 @@ pub returns-clause-reads : goal.returns-clause-reads
 returns-clause-reads c =
     let l = begin c.args.names.now the.cell (terminals c.args.tokens.now) in
     last_reads (skipped l (c.in_default.ensures.accepts c.args.names.now)) c.in_ok-term.ensures.reads refl
+
+-- ---- the exits with an error
+
+pub returns-in_err-term-clause-shorter : goal.returns-in_err-term-clause-shorter
+returns-in_err-term-clause-shorter c = rw (err_from_is_err_and c.from_residual.result c.from_residual.ensures.1).1 tt

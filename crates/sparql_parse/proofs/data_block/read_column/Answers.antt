@@ -4,7 +4,7 @@ use Rattle.sparql_lexer.specs.Terminal.{terminals}
 use Rattle.sparql_tree.specs.GroupTree.{element_of, group_of}
 use Rattle.sparql_tree.specs.GroupTree as g
 use Rattle.sparql_grammar.specs.Symbol as the
-use Rattle.sparql_expression.proofs.Steps.{begin, took, then_read, part_fails, enter, done, take_fails, here, left, took_branch, skipped}
+use Rattle.sparql_expression.proofs.Steps.{begin, took, then_read, part_fails, enter, done, take_fails, here, left, took_branch, skipped, out_of_memory}
 use Rattle.sparql_parse.proofs.TripleSteps.{shorter_twice}
 use Rattle.sparql_parse.proofs.ValueSteps.{rows_of, one_row, column_at}
 use Rattle.sparql_parse.proofs.ElementSteps.{values_seen}
@@ -32,3 +32,26 @@ cells-preserved c = record {
   same = c.cells.invariant.same;
   shorter = shorter_twice c.in_ok-cell.ensures.shorter c.cells.invariant.shorter;
 }
+
+-- ---- the exits with an error
+
+pub returns-in_err-cell-clause-shorter : goal.returns-in_err-cell-clause-shorter
+returns-in_err-cell-clause-shorter c = rw (err_from_is_err_and c.from_residual-in_err-cell.result c.from_residual-in_err-cell.ensures.1).1 tt
+
+pub returns-in_err-push-clause-reads : goal.returns-in_err-push-clause-reads
+returns-in_err-push-clause-reads c = let p = err_from_is_err_and c.from_residual-in_err-push.result c.from_residual-in_err-push.ensures.1 in rw (p.1, p.2) out_of_memory
+
+pub returns-in_err-push-clause-shorter : goal.returns-in_err-push-clause-shorter
+returns-in_err-push-clause-shorter c = rw (err_from_is_err_and c.from_residual-in_err-push.result c.from_residual-in_err-push.ensures.1).1 tt
+
+pub returns-in_err-variables-clause-reads : goal.returns-in_err-variables-clause-reads
+returns-in_err-variables-clause-reads c = let p = err_from_is_err_and c.from_residual.result c.from_residual.ensures.1 in rw (p.1, p.2) out_of_memory
+
+pub returns-in_err-variables-clause-shorter : goal.returns-in_err-variables-clause-shorter
+returns-in_err-variables-clause-shorter c = rw (err_from_is_err_and c.from_residual.result c.from_residual.ensures.1).1 tt
+
+pub returns-in_err-vec-clause-reads : goal.returns-in_err-vec-clause-reads
+returns-in_err-vec-clause-reads c = let p = err_from_is_err_and c.from_residual-in_err-vec.result c.from_residual-in_err-vec.ensures.1 in rw (p.1, p.2) out_of_memory
+
+pub returns-in_err-vec-clause-shorter : goal.returns-in_err-vec-clause-shorter
+returns-in_err-vec-clause-shorter c = rw (err_from_is_err_and c.from_residual-in_err-vec.result c.from_residual-in_err-vec.ensures.1).1 tt

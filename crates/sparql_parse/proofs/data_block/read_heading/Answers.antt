@@ -1,8 +1,9 @@
 use Rattle.std.proofs.Common.{refl, sym}
+use Rattle.std.proofs.lemmas.Result.{err_from_is_err_and}
 use Rattle.sparql_lexer.specs.Terminal.{terminals}
 use Rattle.sparql_grammar.specs.Class.{variable}
 use Rattle.sparql_grammar.specs.Symbol as the
-use Rattle.sparql_expression.proofs.Steps.{begin, took, enter, done, take_fails, here, left, right, took_branch, skipped}
+use Rattle.sparql_expression.proofs.Steps.{begin, took, enter, done, take_fails, here, left, right, took_branch, skipped, out_of_memory}
 use Rattle.sparql_parse.proofs.FrontSteps.{some_taken, none_untaken, some_shorter}
 use Rattle.sparql_parse.proofs.TripleSteps.{shorter_twice}
 use Rattle.sparql_parse.proofs.ValueSteps.{heading_at}
@@ -28,3 +29,17 @@ returns-in_default-accept-clause-reads c = λ names. take_fails (skipped (c.vari
 
 pub returns-clause-reads : goal.returns-clause-reads
 returns-clause-reads c = λ names. done (took_branch (c.variables.invariant.left names) (left here) (c.in-Some-accept.ensures.accepts names)) refl
+
+-- ---- the exits with an error
+
+pub returns-in_err-push-clause-reads : goal.returns-in_err-push-clause-reads
+returns-in_err-push-clause-reads c = λ names. let p = err_from_is_err_and c.from_residual-in_err-push.result c.from_residual-in_err-push.ensures.1 in rw (p.1, p.2) out_of_memory
+
+pub returns-in_err-push-clause-shorter : goal.returns-in_err-push-clause-shorter
+returns-in_err-push-clause-shorter c = rw (err_from_is_err_and c.from_residual-in_err-push.result c.from_residual-in_err-push.ensures.1).1 tt
+
+pub returns-in_err-variable-clause-reads : goal.returns-in_err-variable-clause-reads
+returns-in_err-variable-clause-reads c = λ names. let p = err_from_is_err_and c.from_residual.result c.from_residual.ensures.1 in rw (p.1, p.2) out_of_memory
+
+pub returns-in_err-variable-clause-shorter : goal.returns-in_err-variable-clause-shorter
+returns-in_err-variable-clause-shorter c = rw (err_from_is_err_and c.from_residual.result c.from_residual.ensures.1).1 tt

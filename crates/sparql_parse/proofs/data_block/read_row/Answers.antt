@@ -2,7 +2,7 @@ use Rattle.std.proofs.Common.{refl, sym}
 use Rattle.std.proofs.lemmas.Result.{err_from_is_err_and}
 use Rattle.sparql_lexer.specs.Terminal.{terminals}
 use Rattle.sparql_grammar.specs.Symbol as the
-use Rattle.sparql_expression.proofs.Steps.{begin, took, then_read, part_fails, enter, done, take_fails, here, left, took_branch, skipped}
+use Rattle.sparql_expression.proofs.Steps.{begin, took, then_read, part_fails, enter, done, take_fails, here, left, took_branch, skipped, out_of_memory}
 use Rattle.sparql_parse.proofs.TripleSteps.{shorter_twice}
 use Rattle.sparql_parse.proofs.ValueSteps.{cells_at}
 use Rattle.sparql_parse.proofs.data_block.read_row.Goals as goal
@@ -27,3 +27,14 @@ cells-preserved c = record {
   left = cells_at (sym c.in_ok-push.ensures.items) (enter (then_read (skipped c.cells.invariant.left (c.in_default-accept.ensures.accepts c.args.names.now)) c.in_ok-cell.ensures.reads));
   shorter = shorter_twice c.in_ok-cell.ensures.shorter c.cells.invariant.shorter;
 }
+
+-- ---- the exits with an error
+
+pub returns-in_err-cell-clause-shorter : goal.returns-in_err-cell-clause-shorter
+returns-in_err-cell-clause-shorter c = rw (err_from_is_err_and c.from_residual.result c.from_residual.ensures.1).1 tt
+
+pub returns-in_err-push-clause-reads : goal.returns-in_err-push-clause-reads
+returns-in_err-push-clause-reads c = let p = err_from_is_err_and c.from_residual-in_err-push.result c.from_residual-in_err-push.ensures.1 in rw (p.1, p.2) out_of_memory
+
+pub returns-in_err-push-clause-shorter : goal.returns-in_err-push-clause-shorter
+returns-in_err-push-clause-shorter c = rw (err_from_is_err_and c.from_residual-in_err-push.result c.from_residual-in_err-push.ensures.1).1 tt

@@ -2,7 +2,7 @@ use Rattle.std.proofs.Common.{refl, sym, ap, ◌∙◌}
 use Rattle.std.proofs.lemmas.Result.{err_from_is_err_and}
 use Rattle.sparql_lexer.specs.Terminal.{terminals}
 use Rattle.sparql_grammar.specs.Symbol as the
-use Rattle.sparql_expression.proofs.Steps.{begin, took, then_read, part_fails, enter, done, take_fails, where_true, where_false, here, left, took_branch, skipped}
+use Rattle.sparql_expression.proofs.Steps.{begin, took, then_read, part_fails, enter, done, take_fails, where_true, where_false, here, left, took_branch, skipped, out_of_memory}
 use Rattle.sparql_parse.proofs.TripleSteps.{shorter_twice}
 use Rattle.sparql_parse.proofs.ValueSteps.{rows_of, one_row, other_length, same_length, rows_at}
 use Rattle.sparql_parse.proofs.ElementSteps.{values_seen}
@@ -31,3 +31,14 @@ rows-preserved c = record {
 
 pub returns-in_err-row-clause-reads : goal.returns-in_err-row-clause-reads
 returns-in_err-row-clause-reads c = (let p = err_from_is_err_and c.from_residual.result c.from_residual.ensures.1 in rw (p.1, p.2) (part_fails (skipped c.rows.invariant.left (c.in_default-accept.ensures.accepts c.args.names.now)) c.in_err-row.ensures.reads))
+
+-- ---- the exits with an error
+
+pub returns-in_err-push-clause-reads : goal.returns-in_err-push-clause-reads
+returns-in_err-push-clause-reads c = let p = err_from_is_err_and c.from_residual-in_err-push.result c.from_residual-in_err-push.ensures.1 in rw (p.1, p.2) out_of_memory
+
+pub returns-in_err-push-clause-shorter : goal.returns-in_err-push-clause-shorter
+returns-in_err-push-clause-shorter c = rw (err_from_is_err_and c.from_residual-in_err-push.result c.from_residual-in_err-push.ensures.1).1 tt
+
+pub returns-in_err-row-clause-shorter : goal.returns-in_err-row-clause-shorter
+returns-in_err-row-clause-shorter c = rw (err_from_is_err_and c.from_residual.result c.from_residual.ensures.1).1 tt

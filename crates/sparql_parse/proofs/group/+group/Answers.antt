@@ -5,7 +5,7 @@ use Rattle.sparql_tree.specs.GroupTree.{element_of, group_of}
 use Rattle.sparql_tree.specs.GroupTree as g
 use Rattle.sparql_grammar.specs.Symbol as the
 use Rattle.sparql_expression.specs.ParseResult.{seen}
-use Rattle.sparql_expression.proofs.Steps.{begin, took, then_read, part_fails, enter, last_reads, last_fails, done, take_fails, here, left, right, branch, took_branch, skipped, passed_by, untaken_heads, taken_heads}
+use Rattle.sparql_expression.proofs.Steps.{begin, took, then_read, part_fails, enter, last_reads, last_fails, done, take_fails, here, left, right, branch, took_branch, skipped, passed_by, untaken_heads, taken_heads, out_of_memory}
 use Rattle.sparql_parse.proofs.TripleSteps.{tail, whole, shorter_twice, shorter_thrice, up_to, up_twice}
 use Rattle.sparql_parse.proofs.ValueSteps.{body_at, union_at}
 use Rattle.sparql_parse.proofs.ElementSteps.{group_seen, union_seen, optional_seen, minus_seen, graph_seen}
@@ -145,3 +145,17 @@ read_named_graph-returns-in_err-inner-clause-shorter t c = rw (err_from_is_err_a
 
 pub read_named_graph-returns-clause-shorter : goal.read_named_graph-returns-clause-shorter
 read_named_graph-returns-clause-shorter t c = shorter_twice c.in_ok-inner.ensures.shorter c.in_ok-name.ensures.shorter
+
+-- ---- the exits with an error
+
+pub read_group-returns-in_err-push-clause-reads : goal.read_group-returns-in_err-push-clause-reads
+read_group-returns-in_err-push-clause-reads t c = let p = err_from_is_err_and c.from_residual-in_err-push.result c.from_residual-in_err-push.ensures.1 in rw (p.1, p.2) out_of_memory
+
+pub read_group-returns-in_err-push-clause-shorter : goal.read_group-returns-in_err-push-clause-shorter
+read_group-returns-in_err-push-clause-shorter t c = rw (err_from_is_err_and c.from_residual-in_err-push.result c.from_residual-in_err-push.ensures.1).1 tt
+
+pub read_unions-returns-in_err-new-clause-reads : goal.read_unions-returns-in_err-new-clause-reads
+read_unions-returns-in_err-new-clause-reads t c = let p = err_from_is_err_and c.from_residual-in_err-new.result c.from_residual-in_err-new.ensures.1 in rw (p.1, p.2) out_of_memory
+
+pub read_unions-returns-in_err-new-clause-shorter : goal.read_unions-returns-in_err-new-clause-shorter
+read_unions-returns-in_err-new-clause-shorter t c = rw (err_from_is_err_and c.from_residual-in_err-new.result c.from_residual-in_err-new.ensures.1).1 tt

@@ -23,3 +23,8 @@ returns-in_default-accept_word-2-clause-reads c = take_fails (skipped (skipped (
 
 pub returns-clause-reads : goal.returns-clause-reads
 returns-clause-reads c = tail (took (skipped (skipped (begin c.args.names.now (the.simple) (terminals c.args.tokens.now)) (c.in_default.ensures.accepts c.args.names.now)) (c.in_default-accept_word.ensures.accepts c.args.names.now)) (c.in-Some-accept_word-2.ensures.accepts c.args.names.now)) (λ a. a) (λ v rest. refl) (λ e. refl) (seen element_of c.read_data_block.result) c.read_data_block.ensures.reads
+
+-- ---- the exits with an error
+
+pub returns-in_err-condition-clause-shorter : goal.returns-in_err-condition-clause-shorter
+returns-in_err-condition-clause-shorter c = rw (err_from_is_err_and c.from_residual.result c.from_residual.ensures.1).1 tt

@@ -6,7 +6,7 @@ use Rattle.sparql_tree.specs.declared.group.PatternTerm.TheVariants as place
 use Rattle.sparql_grammar.specs.Values.{anonymous_label}
 use Rattle.sparql_grammar.specs.Class.{variable, blank}
 use Rattle.sparql_grammar.specs.Symbol as the
-use Rattle.sparql_expression.proofs.Steps.{begin, last_reads, last_fails, done, done_counted, here, left, took_branch, skipped}
+use Rattle.sparql_expression.proofs.Steps.{begin, last_reads, last_fails, done, done_counted, here, left, took_branch, skipped, out_of_memory}
 use Rattle.sparql_parse.proofs.FrontSteps.{some_taken, none_untaken}
 use Rattle.sparql_parse.proofs.triples.read_pattern_term.Goals as goal
 
@@ -43,3 +43,26 @@ returns-clause-reads c =
     let m = skipped l (none_untaken {c = variable} (c.in_ok-name.ensures.accepts c.args.names.now) c.in_default.is) in
     let n = skipped m (none_untaken {c = blank} (c.in_ok-label.ensures.accepts c.args.names.now) c.in_default-2.is) in
     last_reads (skipped n (c.in_default-accept_anonymous.ensures.accepts c.args.names.now)) c.in_ok-term.ensures.reads refl
+
+-- ---- the exits with an error
+
+pub returns-in_err-label-clause-reads : goal.returns-in_err-label-clause-reads
+returns-in_err-label-clause-reads c = let p = err_from_is_err_and c.from_residual-in_err-label.result c.from_residual-in_err-label.ensures.1 in rw (p.1, p.2) out_of_memory
+
+pub returns-in_err-label-clause-shorter : goal.returns-in_err-label-clause-shorter
+returns-in_err-label-clause-shorter c = rw (err_from_is_err_and c.from_residual-in_err-label.result c.from_residual-in_err-label.ensures.1).1 tt
+
+pub returns-in_err-made-clause-reads : goal.returns-in_err-made-clause-reads
+returns-in_err-made-clause-reads c = let p = err_from_is_err_and c.from_residual-in_err-made.result c.from_residual-in_err-made.ensures.1 in rw (p.1, p.2) out_of_memory
+
+pub returns-in_err-made-clause-shorter : goal.returns-in_err-made-clause-shorter
+returns-in_err-made-clause-shorter c = rw (err_from_is_err_and c.from_residual-in_err-made.result c.from_residual-in_err-made.ensures.1).1 tt
+
+pub returns-in_err-name-clause-reads : goal.returns-in_err-name-clause-reads
+returns-in_err-name-clause-reads c = let p = err_from_is_err_and c.from_residual.result c.from_residual.ensures.1 in rw (p.1, p.2) out_of_memory
+
+pub returns-in_err-name-clause-shorter : goal.returns-in_err-name-clause-shorter
+returns-in_err-name-clause-shorter c = rw (err_from_is_err_and c.from_residual.result c.from_residual.ensures.1).1 tt
+
+pub returns-in_err-term-clause-shorter : goal.returns-in_err-term-clause-shorter
+returns-in_err-term-clause-shorter c = rw (err_from_is_err_and c.from_residual-in_err-term.result c.from_residual-in_err-term.ensures.1).1 tt

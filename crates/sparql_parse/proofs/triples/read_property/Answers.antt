@@ -16,3 +16,8 @@ pub returns-clause-reads : goal.returns-clause-reads
 returns-clause-reads c =
     let l = then_read (begin c.args.names.now (the.property c.args.subject.now c.args.triples.now.items) (terminals c.args.tokens.now)) c.in_ok-verb.ensures.reads in
     tail l (λ a. a) (λ v rest. refl) (λ e. refl) (seen_out c.read_objects.new.triples.items c.read_objects.result) c.read_objects.ensures.reads
+
+-- ---- the exits with an error
+
+pub returns-in_err-verb-clause-shorter : goal.returns-in_err-verb-clause-shorter
+returns-in_err-verb-clause-shorter c = rw (err_from_is_err_and c.from_residual.result c.from_residual.ensures.1).1 tt

@@ -40,3 +40,14 @@ pub returns-clause-reads : goal.returns-clause-reads
 returns-clause-reads c =
     let l = c.properties.invariant.left in
     done (skipped l (c.in_default.ensures.accepts c.args.names.now)) refl
+
+-- ---- the exits with an error
+
+pub returns-in_err-rest-2-clause-shorter : goal.returns-in_err-rest-2-clause-shorter
+returns-in_err-rest-2-clause-shorter c = rw (err_from_is_err_and c.from_residual-in_err-rest-2.result c.from_residual-in_err-rest-2.ensures.1).1 tt
+
+pub returns-in_err-rest-clause-shorter : goal.returns-in_err-rest-clause-shorter
+returns-in_err-rest-clause-shorter c = rw (err_from_is_err_and c.from_residual-in_err-rest.result c.from_residual-in_err-rest.ensures.1).1 tt
+
+pub returns-in_err-subject-clause-shorter : goal.returns-in_err-subject-clause-shorter
+returns-in_err-subject-clause-shorter c = rw (err_from_is_err_and c.from_residual.result c.from_residual.ensures.1).1 tt

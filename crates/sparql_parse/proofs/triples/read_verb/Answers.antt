@@ -1,8 +1,9 @@
 use Rattle.std.proofs.Common.{refl, ap, ◌∙◌}
+use Rattle.std.proofs.lemmas.Result.{err_from_is_err_and}
 use Rattle.sparql_lexer.specs.Terminal.{terminals}
 use Rattle.sparql_grammar.specs.Class.{variable, name}
 use Rattle.sparql_grammar.specs.Symbol as the
-use Rattle.sparql_expression.proofs.Steps.{begin, took, done, take_fails, here, left, took_branch, skipped}
+use Rattle.sparql_expression.proofs.Steps.{begin, took, done, take_fails, here, left, took_branch, skipped, out_of_memory}
 use Rattle.sparql_parse.proofs.FrontSteps.{some_taken, none_untaken}
 use Rattle.sparql_tree.specs.declared.group.PatternTerm.TheVariants as place
 use Rattle.rdf_core.specs.declared.term.Term.TheVariants as rdf
@@ -32,3 +33,23 @@ returns-clause-reads c =
     let m = skipped l (none_untaken {c = variable} (c.in_ok-name.ensures.accepts c.args.names.now) c.in_default.is) in
     let n = skipped m (none_untaken {c = name} c.in_ok-iri.ensures.accepts c.in_default-2.is) in
     done (took n (c.in-Some-accept_word.ensures.accepts c.args.names.now)) (ap (λ x. place.Term (rdf.Iri x)) (c.from_string-iri.ensures.value ∙ c.in_ok-from_str.ensures.ok))
+
+-- ---- the exits with an error
+
+pub returns-in_err-from_str-clause-reads : goal.returns-in_err-from_str-clause-reads
+returns-in_err-from_str-clause-reads c = let p = err_from_is_err_and c.from_residual-in_err-from_str.result c.from_residual-in_err-from_str.ensures.1 in rw (p.1, p.2) out_of_memory
+
+pub returns-in_err-from_str-clause-shorter : goal.returns-in_err-from_str-clause-shorter
+returns-in_err-from_str-clause-shorter c = rw (err_from_is_err_and c.from_residual-in_err-from_str.result c.from_residual-in_err-from_str.ensures.1).1 tt
+
+pub returns-in_err-iri-clause-reads : goal.returns-in_err-iri-clause-reads
+returns-in_err-iri-clause-reads c = let p = err_from_is_err_and c.from_residual-in_err-iri.result c.from_residual-in_err-iri.ensures.1 in rw (p.1, p.2) out_of_memory
+
+pub returns-in_err-iri-clause-shorter : goal.returns-in_err-iri-clause-shorter
+returns-in_err-iri-clause-shorter c = rw (err_from_is_err_and c.from_residual-in_err-iri.result c.from_residual-in_err-iri.ensures.1).1 tt
+
+pub returns-in_err-name-clause-reads : goal.returns-in_err-name-clause-reads
+returns-in_err-name-clause-reads c = let p = err_from_is_err_and c.from_residual.result c.from_residual.ensures.1 in rw (p.1, p.2) out_of_memory
+
+pub returns-in_err-name-clause-shorter : goal.returns-in_err-name-clause-shorter
+returns-in_err-name-clause-shorter c = rw (err_from_is_err_and c.from_residual.result c.from_residual.ensures.1).1 tt
