@@ -1,8 +1,9 @@
 //! Tables of cases. A case is a block of lines, and an empty line separates two cases. The first
 //! line is the input, and the others are the expected message.
 use crate::texts::decoded_text;
-use crate::{commands, lines, messages, queries};
+use crate::{command_lines, commands, lines, messages, queries};
 use std::alloc::{AllocError, Global};
+use std::process::Abort;
 use std::random::RandomSource;
 use std::sync::Wait;
 use std::thread::Threads;
@@ -19,6 +20,8 @@ pub(crate) enum Reader {
     Command,
     /// Arguments and a document: what a run writes to standard error.
     Run,
+    /// Arguments: the command that they are.
+    Arguments,
 }
 
 /// The kind of the inputs, and the cases.
@@ -36,6 +39,7 @@ fn printed<R: Threads + Wait + RandomSource + Sync>(
         Reader::Query => queries::message(alloc, case),
         Reader::Command => commands::message_of(alloc, case),
         Reader::Run => messages::message_of(rt, alloc, case),
+        Reader::Arguments => command_lines::line_text(alloc, case),
     }
 }
 
@@ -102,15 +106,15 @@ fn is_table_right<R: Threads + Wait + RandomSource + Sync + Print>(
     are_right
 }
 
-/// Returns whether each case of the tables is right. Prints those that are not.
-pub(crate) fn are_right<R: Threads + Wait + RandomSource + Sync + Print>(
+/// Checks that each case of the tables is right. Prints those that are not, and then ends the test.
+pub(crate) fn check_tables<R: Threads + Wait + RandomSource + Sync + Print + Abort>(
     rt: &R,
     alloc: Global,
     tables: &[Table],
-) -> bool {
+) {
     let mut are_right = true;
     for (reader, table) in tables {
         are_right &= is_table_right(rt, alloc, *reader, *table);
     }
-    are_right
+    assert!(rt; are_right);
 }

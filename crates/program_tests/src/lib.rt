@@ -6,8 +6,9 @@
 //! Tests of the messages for people: `lines` of line_diagnosis, `queries` of query_diagnosis, and
 //! `commands` of command_help. The first two also test excerpt. Each of their cases has the whole
 //! message, which is written from the grammars (RDF 1.1 N-Quads, section 4; SPARQL 1.1 Query
-//! Language, section 19.8) and docs/DIAGNOSTICS.md. `cases` runs their tables, and `texts` decodes
-//! the bytes in them. A module has one test, which runs all its tables.
+//! Language, section 19.8) and docs/DIAGNOSTICS.md. `cases` runs their tables and that of
+//! `command_lines`, and `texts` decodes the bytes in them. A module has one test, which runs all its
+//! tables.
 //!
 //! Tests of spq_report, over devices in memory: `messages` tests what a run with given arguments and
 //! a given document writes to standard error. `console` tests what a terminal shows while a document

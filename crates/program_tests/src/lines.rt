@@ -7,7 +7,7 @@ mod iris;
 mod literals;
 mod places;
 
-use crate::cases::{Reader, Table, are_right};
+use crate::cases::{Reader, Table, check_tables};
 use crate::texts::decoded;
 use line_diagnosis::report;
 use std::alloc::{AllocError, AllocGlobal, Global};
@@ -56,5 +56,5 @@ const TABLES: &[Table] = &[
 
 #[test]
 fn malformed_lines_are_explained(rt: HostRuntime) {
-    assert!(rt; are_right(&rt, rt.alloc(), TABLES));
+    check_tables(&rt, rt.alloc(), TABLES);
 }

@@ -1,6 +1,6 @@
 //! Messages on standard error for arguments and a document.
 
-use crate::cases::{Reader, Table, are_right};
+use crate::cases::{Reader, Table, check_tables};
 use crate::commands::words_of;
 use crate::texts::decoded_text;
 use spq_core::{NoProgress, run_words};
@@ -116,5 +116,5 @@ const TABLES: &[Table] = &[(Reader::Run, FAILURES), (Reader::Run, WARNINGS)];
 
 #[test]
 fn runs_are_explained(rt: HostRuntime) {
-    assert!(rt; are_right(&rt, rt.alloc(), TABLES));
+    check_tables(&rt, rt.alloc(), TABLES);
 }

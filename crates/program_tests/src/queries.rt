@@ -8,7 +8,7 @@ mod heads;
 mod hints;
 mod rules;
 
-use crate::cases::{Reader, Table, are_right};
+use crate::cases::{Reader, Table, check_tables};
 use crate::texts::decoded_text;
 use query_diagnosis::report;
 use std::alloc::{AllocError, AllocGlobal, Global};
@@ -33,5 +33,5 @@ const TABLES: &[Table] = &[
 
 #[test]
 fn rejected_queries_are_explained(rt: HostRuntime) {
-    assert!(rt; are_right(&rt, rt.alloc(), TABLES));
+    check_tables(&rt, rt.alloc(), TABLES);
 }

@@ -14,6 +14,7 @@ use rdf_core::{Term, Text, write_term};
 use sparql_read::QueryFault;
 use spq_core::Fault;
 use std::alloc::{AllocError, Global};
+use std::process::Abort;
 use std::random::RandomSource;
 use std::sync::Wait;
 use std::thread::Threads;
@@ -69,30 +70,29 @@ fn comes_to<R: Threads + Wait + RandomSource + Print>(
     is_right == Some(true) && gate.is_balanced()
 }
 
-/// Returns whether a query has this result with one worker and with two.
-fn has_outcome<R: Threads + Wait + RandomSource + Print>(
+/// Checks that a query has this result with one worker and with two.
+fn check_outcome<R: Threads + Wait + RandomSource + Print + Abort>(
     rt: &R,
     alloc: Global,
     doc: &str,
     query: &str,
     wanted: Result<&[u8], Fault>,
-) -> bool {
-    comes_to(rt, alloc, doc.as_bytes(), query, 1, wanted)
-        && comes_to(rt, alloc, doc.as_bytes(), query, 2, wanted)
+) {
+    assert!(rt; comes_to(rt, alloc, doc.as_bytes(), query, 1, wanted));
+    assert!(rt; comes_to(rt, alloc, doc.as_bytes(), query, 2, wanted));
 }
 
-/// Returns whether a query has these variables and bindings. It is also true if there is no memory
-/// for the expected document.
-fn has_rows<R: Threads + Wait + RandomSource + Print>(
+/// Checks that a query has these variables and bindings. Checks nothing if there is no memory for the
+/// expected document.
+fn check_rows<R: Threads + Wait + RandomSource + Print + Abort>(
     rt: &R,
     alloc: Global,
     doc: &str,
     query: &str,
     rows: (&str, &str),
-) -> bool {
-    match json(alloc, rows.0, rows.1) {
-        Ok(wanted) => has_outcome(rt, alloc, doc, query, Ok(&wanted)),
-        Err(_) => true,
+) {
+    if let Ok(wanted) = json(alloc, rows.0, rows.1) {
+        check_outcome(rt, alloc, doc, query, Ok(&wanted));
     }
 }
 
@@ -103,7 +103,7 @@ fn a_pattern_is_evaluated_or_memory_runs_out(rt: HostRuntime) {
         "'x','v'",
         "{'v':{'type':'literal','value':'é\\n','xml:lang':'en'},'x':{'type':'bnode','value':'b'}}",
     );
-    assert!(rt; has_rows(&rt, rt.alloc(), TWO_LINES, query, rows));
+    check_rows(&rt, rt.alloc(), TWO_LINES, query, rows);
 }
 
 #[test]
@@ -114,7 +114,7 @@ fn an_optional_part_is_evaluated_or_memory_runs_out(rt: HostRuntime) {
         "'n'",
         "{},{},{'n':{'datatype':'http://www.w3.org/2001/XMLSchema#integer','type':'literal','value':'2'}}",
     );
-    assert!(rt; has_rows(&rt, rt.alloc(), TYPED, query, rows));
+    check_rows(&rt, rt.alloc(), TYPED, query, rows);
 }
 
 #[test]
@@ -125,7 +125,7 @@ fn a_join_is_evaluated_or_memory_runs_out(rt: HostRuntime) {
         "'y'",
         "{'y':{'type':'literal','value':'1'}},{'y':{'type':'literal','value':'1'}},{'y':{'type':'literal','value':'2'}}",
     );
-    assert!(rt; has_rows(&rt, rt.alloc(), NUMBERED, query, rows));
+    check_rows(&rt, rt.alloc(), NUMBERED, query, rows);
 }
 
 #[test]
@@ -135,20 +135,20 @@ fn a_computed_term_is_returned_or_memory_runs_out(rt: HostRuntime) {
         "'d'",
         "{'d':{'type':'uri','value':'http://www.w3.org/1999/02/22-rdf-syntax-ns#langString'}}",
     );
-    assert!(rt; has_rows(&rt, rt.alloc(), TAGGED, query, rows));
+    check_rows(&rt, rt.alloc(), TAGGED, query, rows);
 }
 
 #[test]
 fn a_bad_line_is_named_or_memory_runs_out(rt: HostRuntime) {
     let doc = "<http://e/a> <http://e/p> <http://e/b> .\nx\n";
     let wanted = Err(Fault::BadLine(2));
-    assert!(rt; has_outcome(&rt, rt.alloc(), doc, "SELECT * {}", wanted));
+    check_outcome(&rt, rt.alloc(), doc, "SELECT * {}", wanted);
 }
 
 #[test]
 fn a_query_is_rejected_by_its_rule_or_memory_runs_out(rt: HostRuntime) {
     let wanted = Err(Fault::Query(QueryFault::Syntax));
-    assert!(rt; has_outcome(&rt, rt.alloc(), "x\n", "SELECT", wanted));
+    check_outcome(&rt, rt.alloc(), "x\n", "SELECT", wanted);
 }
 
 /// Creates a literal whose N-Quads form is longer than the first capacity of a buffer.

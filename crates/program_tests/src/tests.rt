@@ -12,5 +12,5 @@ mod patterns;
 mod refusals;
 pub(crate) mod samples;
 mod tables;
-pub(crate) mod words;
+mod words;
 pub(crate) mod workers;

@@ -2,12 +2,18 @@
 //!
 //! A part of a text between `‹` and `›` is repeated. It begins with the number of its copies and `×`,
 //! and each `№` in it is the number of the copy: `a‹3×b№›` is `ab0b1b2`.
+use crate::evaluation::cases::{RowReader, printed_rows};
 use crate::{
     comparisons, declarations, expressions, operators, plans, productions, solutions, terminals,
     texts,
 };
+use row_pieces::EvalFault;
 use sparql_lexer::{Scan, characters_of, scan_text};
 use std::alloc::{AllocError, Global};
+use std::process::Abort;
+use std::random::RandomSource;
+use std::sync::Wait;
+use std::thread::Threads;
 
 /// A text, and the expected output of its reader. Either may have repeated parts.
 pub(crate) type Case = (&'static str, &'static str);
@@ -62,6 +68,8 @@ pub(crate) enum Reader {
     Table,
     /// A query: its solutions after its second variable is bound to the first one.
     BoundAgain,
+    /// A case of the evaluation over rows of numbers.
+    Rows(RowReader),
 }
 
 /// Prints what the reader reads from the terminals of a text.
@@ -92,8 +100,8 @@ fn scanned(alloc: Global, reader: Reader, text: &str) -> Result<String, AllocErr
     printed_scan(alloc, reader, &scan, text)
 }
 
-/// Prints what the reader reads from the text.
-fn printed(alloc: Global, reader: Reader, text: &str) -> Result<String, AllocError> {
+/// Prints what the reader reads from the text, in this thread.
+fn printed_alone(alloc: Global, reader: Reader, text: &str) -> Result<String, AllocError> {
     match reader {
         Reader::Added => declarations::added(alloc, text),
         Reader::Letters => terminals::letters(alloc, text),
@@ -114,6 +122,19 @@ fn printed(alloc: Global, reader: Reader, text: &str) -> Result<String, AllocErr
             plans::planned(alloc, reader, text, "")
         }
         _ => scanned(alloc, reader, text),
+    }
+}
+
+/// Prints what the reader reads from the text.
+fn printed<R: RandomSource + Threads + Wait>(
+    rt: &R,
+    alloc: Global,
+    reader: Reader,
+    text: &str,
+) -> Result<String, EvalFault> {
+    match reader {
+        Reader::Rows(reader) => printed_rows(rt, alloc, reader, text),
+        _ => Ok(printed_alone(alloc, reader, text)?),
     }
 }
 
@@ -148,7 +169,7 @@ fn expanded(alloc: Global, text: &str) -> String {
 
 /// Returns whether the output of the reader for the text is the expected one. Prints the text and
 /// both if it is not.
-pub(crate) fn holds<R: Print>(
+pub(crate) fn holds<R: RandomSource + Threads + Wait + Print>(
     rt: &R,
     alloc: Global,
     reader: Reader,
@@ -156,14 +177,14 @@ pub(crate) fn holds<R: Print>(
     expected: &str,
 ) -> bool {
     let (text, expected) = (expanded(alloc, case), expanded(alloc, expected));
-    match printed(alloc, reader, text.as_str()) {
+    match printed(rt, alloc, reader, text.as_str()) {
         Ok(found) => is_same(rt, case, expected.as_str(), found.as_str()),
         Err(_) => false,
     }
 }
 
 /// Returns whether the two are equal. Prints the case and both if they are not.
-fn is_same<R: Print>(rt: &R, case: &str, expected: &str, found: &str) -> bool {
+pub(crate) fn is_same<R: Print>(rt: &R, case: &str, expected: &str, found: &str) -> bool {
     if found != expected {
         let _ = println!(rt; "{case}: expected {expected}, found {found}");
     }
@@ -171,7 +192,12 @@ fn is_same<R: Print>(rt: &R, case: &str, expected: &str, found: &str) -> bool {
 }
 
 /// Returns whether each case of a table is right. Prints those that are not.
-fn are_right<R: Print>(rt: &R, alloc: Global, reader: Reader, cases: &[Case]) -> bool {
+fn are_right<R: RandomSource + Threads + Wait + Print>(
+    rt: &R,
+    alloc: Global,
+    reader: Reader,
+    cases: &[Case],
+) -> bool {
     let mut are_right = true;
     for (text, expected) in cases {
         are_right &= holds(rt, alloc, reader, *text, *expected);
@@ -179,18 +205,27 @@ fn are_right<R: Print>(rt: &R, alloc: Global, reader: Reader, cases: &[Case]) ->
     are_right
 }
 
-/// Returns whether each case of the tables is right. Prints those that are not.
-pub(crate) fn are_all_right<R: Print>(rt: &R, alloc: Global, tables: &[(Reader, &[Case])]) -> bool {
+/// Checks that each case of the tables is right. Prints those that are not, and then ends the test.
+pub(crate) fn check_tables<R: RandomSource + Threads + Wait + Print + Abort>(
+    rt: &R,
+    alloc: Global,
+    tables: &[(Reader, &[Case])],
+) {
     let mut are_all_right = true;
     for (reader, cases) in tables {
         are_all_right &= are_right(rt, alloc, *reader, *cases);
     }
-    are_all_right
+    assert!(rt; are_all_right);
 }
 
 /// Returns whether each case of a text is right. Prints those that are not. A case is a line with
 /// `=>` before the expected output. Empty lines and lines that begin with `#` are skipped.
-fn are_lines_right<R: Print>(rt: &R, alloc: Global, reader: Reader, text: &str) -> bool {
+fn are_lines_right<R: RandomSource + Threads + Wait + Print>(
+    rt: &R,
+    alloc: Global,
+    reader: Reader,
+    text: &str,
+) -> bool {
     let mut are_right = true;
     for line in text.lines() {
         if !line.is_empty() && !line.starts_with("#") {
@@ -201,15 +236,15 @@ fn are_lines_right<R: Print>(rt: &R, alloc: Global, reader: Reader, text: &str) 
     are_right
 }
 
-/// Returns whether each case of the texts is right. Prints those that are not.
-pub(crate) fn are_all_lines_right<R: Print>(
+/// Checks that each case of the texts is right. Prints those that are not, and then ends the test.
+pub(crate) fn check_lines<R: RandomSource + Threads + Wait + Print + Abort>(
     rt: &R,
     alloc: Global,
     tables: &[(Reader, &str)],
-) -> bool {
+) {
     let mut are_all_right = true;
     for (reader, text) in tables {
         are_all_right &= are_lines_right(rt, alloc, *reader, *text);
     }
-    are_all_right
+    assert!(rt; are_all_right);
 }

@@ -1,5 +1,5 @@
 //! Comparisons and effective boolean values of terms.
-use crate::cases::{Reader, are_all_lines_right};
+use crate::cases::{Reader, check_lines};
 use crate::terms::read;
 use rdf_core::Term;
 use sparql_algebra::{Comparison, compare, truth};
@@ -217,5 +217,5 @@ const TABLES: &[(Reader, &str)] = &[
 
 #[test]
 fn terms_are_compared_and_have_truth_values(rt: HostRuntime) {
-    assert!(rt; are_all_lines_right(&rt, rt.alloc(), TABLES));
+    check_lines(&rt, rt.alloc(), TABLES);
 }

@@ -1,5 +1,5 @@
 //! Prefix declarations, and which one counts.
-use crate::cases::{Case, Reader, are_all_right};
+use crate::cases::{Case, Reader, check_tables};
 use rdf_core::Text;
 use sparql_grammar::{Declaration, Declarations};
 use sparql_lexer::Token;
@@ -90,5 +90,5 @@ const TABLES: &[(Reader, &[Case])] = &[(Reader::Added, ADDED), (Reader::Declared
 
 #[test]
 fn the_last_declaration_of_a_prefix_holds(rt: HostRuntime) {
-    assert!(rt; are_all_right(&rt, rt.alloc(), TABLES));
+    check_tables(&rt, rt.alloc(), TABLES);
 }

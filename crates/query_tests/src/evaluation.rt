@@ -6,8 +6,8 @@
 //! `joins` of row_join, and `json` of result_json. `cells` prints rows as text, and cases that are
 //! wrong.
 //!
-//! `cases` runs tables, `stores` loads documents, `rows` reads rows and `printing` prints them, and
-//! `ways` has numbers of workers and sizes of pieces.
+//! `cases` prints what the cases of the tables give, `stores` loads documents, `rows` reads rows and
+//! `printing` prints them, and `ways` has numbers of workers and sizes of pieces.
 //!
 //! Standards: SPARQL 1.1 Query Language, sections 18.3, 18.5 and 18.6; SPARQL 1.1 Query Results JSON
 //! Format, section 3.
@@ -15,7 +15,7 @@
 //! A table is one constant text, and its test is one call. A function that owns trees or has a long
 //! local table would be slow to prove.
 
-mod cases;
+pub(crate) mod cases;
 mod cells;
 mod drawn;
 mod drawn_patterns;
@@ -28,6 +28,6 @@ mod pieces;
 mod plans;
 mod printing;
 mod row_patterns;
-mod rows;
+pub(crate) mod rows;
 mod stores;
 mod ways;

@@ -1,5 +1,5 @@
 //! Texts and their expressions and terms, by example.
-use crate::cases::{Case, Reader, are_all_right};
+use crate::cases::{Case, Reader, check_tables};
 use crate::declarations::declarations;
 use rdf_core::{Term, write_term};
 use sparql_expression::{read_disjunction, read_term};
@@ -52,7 +52,7 @@ const JOINS: &[Case] = &[
 
 #[test]
 fn joins_from_the_left(rt: HostRuntime) {
-    assert!(rt; are_all_right(&rt, rt.alloc(), &[(Reader::Expression, JOINS)]));
+    check_tables(&rt, rt.alloc(), &[(Reader::Expression, JOINS)]);
 }
 
 /// Comparisons do not chain, `!` applies to the primary expression after it, and NOT IN negates IN.
@@ -128,5 +128,5 @@ const TABLES: &[(Reader, &[Case])] = &[
 
 #[test]
 fn expressions_and_terms_are_read(rt: HostRuntime) {
-    assert!(rt; are_all_right(&rt, rt.alloc(), TABLES));
+    check_tables(&rt, rt.alloc(), TABLES);
 }

@@ -18,7 +18,8 @@
 //! `cases` runs the tables of all of them, and `terms` reads terms. The expected outputs are written
 //! from SPARQL 1.1 Query Language, sections 4, 5, 10 and 17 to 19.
 //!
-//! The evaluation of plans over rows of numbers, and the JSON of rows: the modules in `evaluation`.
+//! The evaluation of plans over rows of numbers, and the JSON of rows: the modules in `evaluation`. `cases` runs their
+//! tables too.
 //!
 //! The tests are in a crate of their own, so that a check of the tests does not prove a library
 //! again. A table is a constant, and its test is one call of a loop, because a function that owns

@@ -1,15 +1,15 @@
-//! One call of each operator of plain_eval. A given solution of two variables is a word of two
-//! characters: a letter is the blank node with that label, and `.` is an unbound variable.
-use crate::cases::{Reader, are_all_lines_right};
+//! One call of each operator of plain_eval. The given solutions are texts as in `evaluation::rows`.
+use crate::cases::{Reader, check_lines};
+use crate::evaluation::rows::solutions_of;
 use crate::solutions::listed;
 use plain_eval::condition::{Condition, Value};
 use plain_eval::operators::{distinct, extend, filter, join, left_join, minus, project, union};
 use plain_eval::solution::Solution;
-use rdf_core::{Term, Text};
+use rdf_core::Term;
 use std::alloc::{AllocError, AllocGlobal, Global};
 
 /// The condition that the second variable is bound.
-struct SecondIsBound {}
+pub(crate) struct SecondIsBound {}
 
 impl Condition for SecondIsBound {
     ghost use Rattle.std.specs.Prelude.{get_or, is_some, None};
@@ -35,33 +35,6 @@ impl Value for NoValue {
     fn value(&self, _alloc: Global, _solution: &Solution) -> Result<Option<Term>, AllocError> {
         Ok(None)
     }
-}
-
-/// Returns the cell of a character: a blank node, whose label is empty without memory.
-fn cell(alloc: Global, letter: &str) -> Option<Term> {
-    if letter == "." {
-        return None;
-    }
-    let label = String::from_str(alloc, letter).unwrap_or(String::new(alloc));
-    Some(Term::Blank(Text::from_string(label)))
-}
-
-/// Returns the solution of a word.
-fn solution(alloc: Global, word: &str) -> Result<Solution, AllocError> {
-    let (first, second) = word.split_at_checked(1).unwrap_or((word, "."));
-    let mut terms = Vec::new(alloc);
-    terms.push(cell(alloc, first))?;
-    terms.push(cell(alloc, second))?;
-    Ok(Solution::of(terms))
-}
-
-/// Returns the solutions of a text.
-fn solutions(alloc: Global, text: &str) -> Result<Vec<Solution>, AllocError> {
-    let mut all = Vec::new(alloc);
-    for word in text.split_whitespace() {
-        all.push(solution(alloc, word)?)?;
-    }
-    Ok(all)
 }
 
 /// Applies an operator to two lists of solutions, or to the first one.
@@ -95,29 +68,29 @@ fn shown_operator(
     listed(alloc, &made)
 }
 
-/// Prints the solutions of the operator of a case: `join: ab a. and ad`.
+/// Prints the solutions of the operator of a case: `join: 01 0- and 03`.
 pub(crate) fn operated(alloc: Global, case: &str) -> Result<String, AllocError> {
     let (operator, texts) = case.split_once(": ").unwrap_or(("", case));
     let (left, right) = texts.split_once(" and ").unwrap_or((texts, ""));
-    let left = solutions(alloc, left)?;
-    let right = solutions(alloc, right)?;
+    let left = solutions_of(alloc, left)?;
+    let right = solutions_of(alloc, right)?;
     shown_operator(alloc, operator, &left, &right)
 }
 
 /// The condition of the left join and of the filter is that the second variable is bound. The value
 /// of the extension of the second variable is an error. The projection keeps the first variable.
 const OPERATORS: &str = "
-join: ab a. c. and ab ad      => 3: _:a _:b; _:a _:b; _:a _:d;
-left join: ab a. c. and ab ad => 4: _:a _:b; _:a _:b; _:a _:d; _:c -;
-minus: ab a. c. and ab ad     => 1: _:c -;
-filter: ab a. ab              => 2: _:a _:b; _:a _:b;
-distinct: ab a. ab            => 2: _:a _:b; _:a -;
-extend: ab a.                 => 2: _:a _:b; _:a -;
-union: ab c. and ab c.        => 4: _:a _:b; _:c -; _:a _:b; _:c -;
-project: ab c.                => 2: _:a -; _:c -;
+join: 01 0- 2- and 01 03      => 3: <a:x> <a:y>; <a:x> <a:y>; <a:x> <a:w>;
+left join: 01 0- 2- and 01 03 => 4: <a:x> <a:y>; <a:x> <a:y>; <a:x> <a:w>; <a:z> -;
+minus: 01 0- 2- and 01 03     => 1: <a:z> -;
+filter: 01 0- 01              => 2: <a:x> <a:y>; <a:x> <a:y>;
+distinct: 01 0- 01            => 2: <a:x> <a:y>; <a:x> -;
+extend: 01 0-                 => 2: <a:x> <a:y>; <a:x> -;
+union: 01 2- and 01 2-        => 4: <a:x> <a:y>; <a:z> -; <a:x> <a:y>; <a:z> -;
+project: 01 2-                => 2: <a:x> -; <a:z> -;
 ";
 
 #[test]
 fn operators_make_solutions(rt: HostRuntime) {
-    assert!(rt; are_all_lines_right(&rt, rt.alloc(), &[(Reader::Operator, OPERATORS)]));
+    check_lines(&rt, rt.alloc(), &[(Reader::Operator, OPERATORS)]);
 }

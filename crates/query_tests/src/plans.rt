@@ -1,5 +1,5 @@
 //! Queries and their plans (SPARQL 1.1 Query Language, section 18.2).
-use crate::cases::{Reader, are_all_lines_right};
+use crate::cases::{Reader, check_lines};
 use crate::solutions::{bound_again, solved, tabulated};
 use crate::values::answer;
 use sparql_algebra::{Plan, translate};
@@ -106,5 +106,5 @@ const PLANS: &str = "\
 
 #[test]
 fn queries_have_their_plans(rt: HostRuntime) {
-    assert!(rt; are_all_lines_right(&rt, rt.alloc(), &[(Reader::Plan, PLANS)]));
+    check_lines(&rt, rt.alloc(), &[(Reader::Plan, PLANS)]);
 }

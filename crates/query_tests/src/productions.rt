@@ -1,5 +1,5 @@
 //! Texts and their queries, by example.
-use crate::cases::{Case, Reader, are_all_right};
+use crate::cases::{Case, Reader, check_tables};
 use sparql_grammar::Declarations;
 use sparql_lexer::Token;
 use sparql_parse::{Select, parse};
@@ -104,5 +104,5 @@ const TABLES: &[(Reader, &[Case])] = &[
 
 #[test]
 fn queries_have_their_trees(rt: HostRuntime) {
-    assert!(rt; are_all_right(&rt, rt.alloc(), TABLES));
+    check_tables(&rt, rt.alloc(), TABLES);
 }

@@ -1,6 +1,6 @@
 //! Queries and their solutions over a document, according to plain_eval. Examples from the SPARQL
 //! 1.1 Query Language name its section.
-use crate::cases::{Reader, are_all_lines_right};
+use crate::cases::{Reader, check_lines};
 use crate::plans::plan_of;
 use nquads_core::read_piece;
 use plain_eval::dataset::{graph, names};
@@ -14,22 +14,23 @@ use sparql_tree::Query;
 use std::alloc::{AllocError, AllocGlobal, Global};
 
 /// Appends the N-Quads forms of the terms of a solution, with `-` for an unbound variable.
-fn push_line(lines: &mut Vec<u8>, solution: &Solution) -> Result<(), AllocError> {
+pub(crate) fn push_terms(line: &mut Vec<u8>, solution: &Solution) -> Result<(), AllocError> {
     for cell in solution.terms() {
-        lines.push(b' ')?;
+        line.push(b' ')?;
         match cell {
-            Some(term) => write_term(term, lines)?,
-            None => lines.push(b'-')?,
+            Some(term) => write_term(term, line)?,
+            None => line.push(b'-')?,
         }
     }
-    lines.extend_from_slice(b";")
+    Ok(())
 }
 
 /// Prints the number of solutions, and the solutions in their order.
 pub(crate) fn listed(alloc: Global, solutions: &[Solution]) -> Result<String, AllocError> {
     let mut lines = Vec::new(alloc);
     for solution in solutions {
-        push_line(&mut lines, solution)?;
+        push_terms(&mut lines, solution)?;
+        lines.push(b';')?;
     }
     format!(in alloc;
         "{}:{}",
@@ -266,5 +267,5 @@ const TABLES: &[(Reader, &str)] = &[
 
 #[test]
 fn queries_have_their_solutions(rt: HostRuntime) {
-    assert!(rt; are_all_lines_right(&rt, rt.alloc(), TABLES));
+    check_lines(&rt, rt.alloc(), TABLES);
 }

@@ -1,5 +1,5 @@
 //! Texts and their terminals, by example.
-use crate::cases::{Case, Reader, are_all_right};
+use crate::cases::{Case, Reader, check_tables};
 use rdf_core::lexical::is_pn_chars_base;
 use sparql_lexer::{Kind, Scan, Token, iri_value, one_kind, one_scan, string_value, text_of};
 use std::alloc::{AllocError, AllocGlobal, Global};
@@ -38,19 +38,30 @@ fn push_all(
     Ok(separator)
 }
 
-/// Prints the terminals of a text as `Kind text`, or their values, and the unread rest as `rest
+/// Appends the terminals of a text as `Kind text`, or their values, and the unread rest as `rest
 /// text`.
+fn push_scan(
+    alloc: Global,
+    list: &mut String,
+    reader: Reader,
+    scan: &Scan<'_>,
+) -> Result<(), AllocError> {
+    let separator = push_all(alloc, list, reader, &scan.tokens)?;
+    if scan.rest.is_empty() {
+        return Ok(());
+    }
+    let rest = text_of(alloc, scan.rest)?;
+    write!(list, "{separator}rest {rest}")
+}
+
+/// Prints the terminals of a text, or their values, and the unread rest.
 pub(crate) fn terminals(
     alloc: Global,
     reader: Reader,
     scan: &Scan<'_>,
 ) -> Result<String, AllocError> {
     let mut list = String::new(alloc);
-    let separator = push_all(alloc, &mut list, reader, &scan.tokens)?;
-    if !scan.rest.is_empty() {
-        let rest = text_of(alloc, scan.rest)?;
-        write!(list, "{separator}rest {rest}")?;
-    }
+    push_scan(alloc, &mut list, reader, scan)?;
     Ok(list)
 }
 
@@ -307,7 +318,7 @@ const ANGLES_AND_NUMBERS: &[(Reader, &[Case])] = &[
 
 #[test]
 fn angles_and_numbers(rt: HostRuntime) {
-    assert!(rt; are_all_right(&rt, rt.alloc(), ANGLES_AND_NUMBERS));
+    check_tables(&rt, rt.alloc(), ANGLES_AND_NUMBERS);
 }
 
 const WORDS_AND_STRINGS: &[(Reader, &[Case])] = &[
@@ -317,12 +328,12 @@ const WORDS_AND_STRINGS: &[(Reader, &[Case])] = &[
 
 #[test]
 fn words_and_strings(rt: HostRuntime) {
-    assert!(rt; are_all_right(&rt, rt.alloc(), WORDS_AND_STRINGS));
+    check_tables(&rt, rt.alloc(), WORDS_AND_STRINGS);
 }
 
 #[test]
 fn names(rt: HostRuntime) {
-    assert!(rt; are_all_right(&rt, rt.alloc(), &[(Reader::Terminals, NAMES)]));
+    check_tables(&rt, rt.alloc(), &[(Reader::Terminals, NAMES)]);
 }
 
 const BLANKS_SIGNS_AND_LETTERS: &[(Reader, &[Case])] = &[
@@ -332,7 +343,7 @@ const BLANKS_SIGNS_AND_LETTERS: &[(Reader, &[Case])] = &[
 
 #[test]
 fn blanks_signs_and_letters(rt: HostRuntime) {
-    assert!(rt; are_all_right(&rt, rt.alloc(), BLANKS_SIGNS_AND_LETTERS));
+    check_tables(&rt, rt.alloc(), BLANKS_SIGNS_AND_LETTERS);
 }
 
 const RUNS_AND_VALUES: &[(Reader, &[Case])] = &[
@@ -342,7 +353,7 @@ const RUNS_AND_VALUES: &[(Reader, &[Case])] = &[
 
 #[test]
 fn runs_and_values(rt: HostRuntime) {
-    assert!(rt; are_all_right(&rt, rt.alloc(), RUNS_AND_VALUES));
     one_kind();
     one_scan();
+    check_tables(&rt, rt.alloc(), RUNS_AND_VALUES);
 }

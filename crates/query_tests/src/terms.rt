@@ -3,7 +3,8 @@ use nquads_core::read_piece;
 use rdf_core::{Quad, Term, Text};
 use std::alloc::{AllocError, Global};
 
-pub(crate) const XSD: &str = "http://www.w3.org/2001/XMLSchema#";
+/// What begins a datatype that has the prefix `xsd:`.
+const OPEN: &str = "^^<http://www.w3.org/2001/XMLSchema#";
 
 /// Returns the object of the first quad.
 fn first_object(alloc: Global, quads: &[Quad]) -> Result<Option<Term>, AllocError> {
@@ -15,10 +16,11 @@ fn first_object(alloc: Global, quads: &[Quad]) -> Result<Option<Term>, AllocErro
 
 /// Returns the line of a statement whose object is a term.
 fn line_of(alloc: Global, term: &str) -> Result<String, AllocError> {
-    match term.split_once("^^xsd:") {
-        Some((literal, name)) => format!(in alloc; "<a:s> <a:p> {literal}^^<{XSD}{name}> ."),
-        None => format!(in alloc; "<a:s> <a:p> {term} ."),
-    }
+    let (form, open, name, close) = match term.split_once("^^xsd:") {
+        Some((form, name)) => (form, OPEN, name, ">"),
+        None => (term, "", "", ""),
+    };
+    format!(in alloc; "<a:s> <a:p> {form}{open}{name}{close} .")
 }
 
 /// Reads a blank node or a literal.

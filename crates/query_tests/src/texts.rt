@@ -1,5 +1,5 @@
 //! The rules for a query, by example.
-use crate::cases::{Case, Reader, are_all_right};
+use crate::cases::{Case, Reader, check_tables};
 use sparql_lexer::Token;
 use sparql_read::{
     declarations_of, has_relative_iri, has_undefined_prefix, is_too_deep, mentioned, read_query,
@@ -195,7 +195,7 @@ const TERMINALS: &[(Reader, &[Case])] = &[(Reader::Rules, DEPTHS), (Reader::Rule
 
 #[test]
 fn rules_of_terminals(rt: HostRuntime) {
-    assert!(rt; are_all_right(&rt, rt.alloc(), TERMINALS));
+    check_tables(&rt, rt.alloc(), TERMINALS);
 }
 
 const SCOPES: &[(Reader, &[Case])] = &[
@@ -207,5 +207,5 @@ const SCOPES: &[(Reader, &[Case])] = &[
 
 #[test]
 fn rules_of_scope(rt: HostRuntime) {
-    assert!(rt; are_all_right(&rt, rt.alloc(), SCOPES));
+    check_tables(&rt, rt.alloc(), SCOPES);
 }

@@ -1,5 +1,5 @@
 //! Values of expressions over a row of one variable.
-use crate::cases::{Reader, are_all_lines_right};
+use crate::cases::{Reader, check_lines};
 use crate::expressions::serialized;
 use crate::terms::read;
 use rdf_core::Term;
@@ -42,7 +42,7 @@ fn evaluated(alloc: Global, reader: Reader, expr: &Expr, row: &Row) -> Result<St
 }
 
 /// Returns the condition of a filter directly below the projection.
-fn condition_of(tree: &Operator) -> Option<&Expr> {
+pub(crate) fn condition_of(tree: &Operator) -> Option<&Expr> {
     match tree {
         Operator::Project { inner, .. } => match &**inner {
             Operator::Filter { condition, .. } => Some(condition),
@@ -215,5 +215,5 @@ const TABLES: &[(Reader, &str)] = &[
 
 #[test]
 fn expressions_have_their_values(rt: HostRuntime) {
-    assert!(rt; are_all_lines_right(&rt, rt.alloc(), TABLES));
+    check_lines(&rt, rt.alloc(), TABLES);
 }

@@ -3,6 +3,7 @@
 //! A check ends its test at the first case that is wrong. It returns nothing, so it has one exit, and the prover has
 //! less to do than with a function that returns whether all is right.
 use crate::loading::{lexical, lines, slices};
+use dict_core::NumQuad;
 use rdf_core::lexical::{
     has_scheme, lower_tag, read_iri_ref, read_quoted, unescape_iri, unescape_string,
 };
@@ -91,6 +92,22 @@ pub(crate) fn equal<R: Abort>(rt: &R, case: &str, expected: u64, found: u64) {
     assert!(rt;
         found == expected,
         "{case}: expected {expected}, found {found}"
+    );
+}
+
+/// Checks that the two lists of numbers are equal. Prints the case and both if they are not.
+pub(crate) fn same_numbers<R: Abort>(rt: &R, case: &str, expected: &[u64], found: &[u64]) {
+    assert!(rt;
+        found == expected,
+        "{case}: expected {expected:?}, found {found:?}"
+    );
+}
+
+/// Checks that the two lists of quads are equal. Prints the case and both if they are not.
+pub(crate) fn same_quads<R: Abort>(rt: &R, case: &str, expected: &[NumQuad], found: &[NumQuad]) {
+    assert!(rt;
+        found == expected,
+        "{case}: expected {expected:?}, found {found:?}"
     );
 }
 

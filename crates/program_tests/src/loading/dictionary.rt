@@ -1,7 +1,7 @@
 //! Dictionaries by example. Numbers follow the first appearance of the terms, and in a quad the order is subject,
 //! predicate, object, graph name.
 
-use crate::loading::cases::{equal, gives};
+use crate::loading::cases::{equal, gives, same_numbers};
 use crate::loading::terms::text;
 use dict_core::{
     Dict, LocalPiece, NumQuad, Seen, SeenPiece, absorbing_keeps_the_numbering, add_piece,
@@ -263,10 +263,7 @@ fn a_piece_keeps_its_repeats(rt: HostRuntime) {
 fn check_numbers<R: Abort>(rt: &R, alloc: Global, state: RandomState, dict: &mut Dict) {
     let other = dict_of(alloc, state, &[B, C]).expect(rt, "a dictionary");
     let numbers = dict.absorb(other).expect(rt, "numbers");
-    assert!(rt;
-        numbers.as_slice() == [1, 2].as_slice(),
-        "found {numbers:?}"
-    );
+    same_numbers(rt, "numbers of b, c", &[1, 2], &numbers);
 }
 
 /// Absorbing b, c into a, b returns 1, 2 and leaves a, b, c.

@@ -1,6 +1,6 @@
 //! Indexes by example.
 
-use crate::loading::cases::equal;
+use crate::loading::cases::{equal, same_numbers, same_quads};
 use dict_core::NumQuad;
 use quad_index::{
     Index, IndexCounts, PackedList, SortOrder, count_quads, index_counts_the_quads,
@@ -56,11 +56,7 @@ pub(crate) fn built(alloc: Global) -> Result<Index, AllocError> {
 
 /// Checks that the only graph name of the index is 5.
 pub(crate) fn check_graphs<R: Abort>(rt: &R, name: &str, index: &Index) {
-    let found = index.graphs();
-    assert!(rt;
-        found == [5].as_slice(),
-        "{name}, graphs: expected [5], found {found:?}"
-    );
+    same_numbers(rt, name, &[5], index.graphs());
 }
 
 /// Checks that the index has three quads, one graph name, and one quad with predicate 1 and object 3.
@@ -121,23 +117,16 @@ fn quads_are_counted_once(rt: HostRuntime) {
 fn check_packed<R: Abort>(
     rt: &R,
     alloc: Global,
+    name: &str,
     quads: &[NumQuad],
     order: SortOrder,
     expected: &[NumQuad],
 ) {
-    match PackedList::of(alloc, quads, order).expect(rt, "a packed list") {
-        Some(list) => {
-            let found = list.into_quads(alloc).expect(rt, "quads");
-            assert!(rt;
-                found.as_slice() == expected,
-                "{quads:?} in {order:?}: expected {expected:?}, found {found:?}"
-            );
-        }
-        None => assert!(rt;
-            expected.is_empty(),
-            "{quads:?} in {order:?}: expected {expected:?}, found no packed list"
-        ),
-    }
+    let found = match PackedList::of(alloc, quads, order).expect(rt, name) {
+        Some(list) => list.into_quads(alloc).expect(rt, name),
+        None => Vec::new(alloc),
+    };
+    same_quads(rt, name, expected, &found);
 }
 
 /// A packed list has each quad once, in its order, and there is none with a number that is too large.
@@ -145,9 +134,10 @@ fn check_packed<R: Abort>(
 fn a_packed_list_gives_its_quads_back(rt: HostRuntime) {
     let alloc = rt.alloc();
     let [_, a, b, c] = QUADS;
-    check_packed(&rt, alloc, &QUADS, SortOrder::Gpos, &[a, b, c]);
+    let expected = [a, b, c];
+    check_packed(&rt, alloc, "four quads", &QUADS, SortOrder::Gpos, &expected);
     let large = [quad(None, 0, 1, 0xFFFF_FFFF)];
-    check_packed(&rt, alloc, &large, SortOrder::Gspo, &[]);
+    check_packed(&rt, alloc, "a large number", &large, SortOrder::Gspo, &[]);
 }
 
 /// A name, the given graph, subject, predicate and object, and the number of quads.
@@ -187,13 +177,8 @@ pub(crate) type QuadScan = ([Option<u64>; 4], NumQuad);
 
 /// Checks that a scan returns its quad.
 pub(crate) fn check_scan<R: Abort>(rt: &R, name: &str, index: &Index, scan: QuadScan) {
-    let (given, expected) = scan;
-    let [g, s, p, o] = given;
-    let found = index.scan(g, s, p, o);
-    assert!(rt;
-        found == [expected].as_slice(),
-        "{name}, scan of {given:?}: expected {expected:?}, found {found:?}"
-    );
+    let ([g, s, p, o], expected) = scan;
+    same_quads(rt, name, &[expected], index.scan(g, s, p, o));
 }
 
 #[test]
@@ -210,15 +195,13 @@ fn scans_give_what_agrees(rt: HostRuntime) {
 fn check_sorted<R: Abort>(
     rt: &R,
     alloc: Global,
+    name: &str,
     quads: &[NumQuad],
     order: SortOrder,
     expected: &[NumQuad],
 ) {
-    let list = sorted_list(alloc, quads, order).expect(rt, "a list");
-    assert!(rt;
-        list.as_slice() == expected,
-        "{order:?}: expected {expected:?}, found {list:?}"
-    );
+    let list = sorted_list(alloc, quads, order).expect(rt, name);
+    same_quads(rt, name, expected, &list);
 }
 
 /// Each order alone: no graph comes first, then the positions of the name.
@@ -230,7 +213,8 @@ fn lists_are_in_their_orders(rt: HostRuntime) {
     let b = quad(None, 2, 1, 3);
     let c = quad(None, 3, 2, 1);
     let quads = [named, a, b, c, a];
-    check_sorted(&rt, alloc, &quads, SortOrder::Gspo, &[a, b, c, named]);
-    check_sorted(&rt, alloc, &quads, SortOrder::Gpos, &[b, c, a, named]);
-    check_sorted(&rt, alloc, &quads, SortOrder::Gosp, &[c, a, b, named]);
+    let (gspo, gpos, gosp) = ([a, b, c, named], [b, c, a, named], [c, a, b, named]);
+    check_sorted(&rt, alloc, "Gspo", &quads, SortOrder::Gspo, &gspo);
+    check_sorted(&rt, alloc, "Gpos", &quads, SortOrder::Gpos, &gpos);
+    check_sorted(&rt, alloc, "Gosp", &quads, SortOrder::Gosp, &gosp);
 }

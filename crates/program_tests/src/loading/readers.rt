@@ -196,14 +196,23 @@ fn rounds_count_lines_and_pieces_of_the_document(rt: HostRuntime) {
     check_gate(&rt, &gate);
 }
 
+/// Appends a statement with this number in its subject, and a comment up to this number of 66000 bytes.
+fn append_statement(alloc: Global, doc: &mut Vec<u8>, lines: usize) -> Result<(), AllocError>
+    requires some { 1 ≤ lines }
+    requires few { lines ≤ 144 }
+{
+    let statement = format!(in alloc; "<http://e/{lines}> <http://e/p> <http://e/o> .\n")?;
+    doc.extend_from_slice(statement.as_bytes())?;
+    doc.resize(lines * 66000 - 1, b'#')?;
+    doc.push(b'\n')?;
+    Ok(())
+}
+
 /// Builds a document that is read in three rounds: 144 statements with different subjects, and a comment after each.
 fn statements(alloc: Global) -> Result<Vec<u8>, AllocError> {
     let mut doc = Vec::new(alloc);
     for lines in 1..145 {
-        let statement = format!(in alloc; "<http://e/{lines}> <http://e/p> <http://e/o> .\n")?;
-        doc.extend_from_slice(statement.as_bytes())?;
-        doc.resize(lines * 66000 - 1, b'#')?;
-        doc.push(b'\n')?;
+        append_statement(alloc, &mut doc, lines)?;
     }
     Ok(doc)
 }

@@ -8,7 +8,7 @@ use std::cmp::Ordering;
 use std::process::Abort;
 
 /// The parts of a term.
-#[derive(Clone, Copy, Debug)]
+#[derive(Clone, Copy)]
 enum Parts {
     Blank(&'static str),
     Iri(&'static str),
@@ -125,22 +125,19 @@ const LITERALS: &[Parts] = &[
     Parts::Literal("x\u{10000}", RDF_LANG_STRING, None),
 ];
 
-/// Compares two terms.
-fn order(alloc: Global, first: Parts, second: Parts) -> Ordering {
-    let first = term(alloc, first);
-    let second = term(alloc, second);
-    first.cmp(&second)
+/// Checks that the first term is less than the second one. Prints both and their order if it is not.
+fn check_lower<R: Abort>(rt: &R, first: &Term, second: &Term) {
+    let found = first.cmp(second);
+    assert!(rt;
+        found == Ordering::Less,
+        "{first:?} and {second:?}: expected Less, found {found:?}"
+    );
 }
 
 /// Checks that each of these terms is less than the next one.
 fn check_order<R: Abort>(rt: &R, alloc: Global, terms: &[Parts]) {
     for i in 1..terms.len() {
-        let (first, second) = (terms[i - 1], terms[i]);
-        let found = order(alloc, first, second);
-        assert!(rt;
-            found == Ordering::Less,
-            "{first:?} and {second:?}: expected Less, found {found:?}"
-        );
+        check_lower(rt, &term(alloc, terms[i - 1]), &term(alloc, terms[i]));
     }
 }
 
@@ -184,18 +181,12 @@ fn check_quad_copy<R: Abort>(rt: &R, alloc: Global, quad: &Quad) {
     );
 }
 
-/// Returns whether a term is a node, and whether it is an IRI.
-fn kinds(alloc: Global, parts: Parts) -> (bool, bool) {
-    let term = term(alloc, parts);
-    (is_node(&term), is_iri(&term))
-}
-
 /// Checks whether a term is a node, and whether it is an IRI.
-fn check_kinds<R: Abort>(rt: &R, alloc: Global, parts: Parts, expected: (bool, bool)) {
-    let found = kinds(alloc, parts);
+fn check_kinds<R: Abort>(rt: &R, term: &Term, expected: (bool, bool)) {
+    let found = (is_node(term), is_iri(term));
     assert!(rt;
         found == expected,
-        "{parts:?} as a node and as an IRI: expected {expected:?}, found {found:?}"
+        "{term:?} as a node and as an IRI: expected {expected:?}, found {found:?}"
     );
 }
 
@@ -212,7 +203,7 @@ fn check_quads<R: Abort>(rt: &R, alloc: Global) {
 
 #[test]
 fn quads_have_terms_that_may_be_there(rt: HostRuntime) {
-    check_kinds(&rt, rt.alloc(), A, (true, true));
-    check_kinds(&rt, rt.alloc(), X, (false, false));
+    check_kinds(&rt, &term(rt.alloc(), A), (true, true));
+    check_kinds(&rt, &term(rt.alloc(), X), (false, false));
     check_quads(&rt, rt.alloc());
 }

@@ -4,6 +4,7 @@ use rdf_core::Text;
 use spq_command::{Command, ReadOptions};
 use spq_core::{RunFault, run, write_fault};
 use std::alloc::{AllocError, Global};
+use std::process::Abort;
 use std::random::RandomSource;
 use std::sync::Wait;
 use std::thread::Threads;
@@ -103,24 +104,21 @@ pub(crate) fn gives<R: Threads + Wait + RandomSource + Print>(
     is_same(rt, case, way, expected, &writer.bytes)
 }
 
-/// Returns whether a command has the output of each case, in each of these ways. A case is a name, a
+/// Checks that a command has the output of each case, in each of these ways. A case is a name, a
 /// document and the output.
-pub(crate) fn all_give<R: Threads + Wait + RandomSource + Print>(
+pub(crate) fn check_all<R: Threads + Wait + RandomSource + Print + Abort>(
     rt: &R,
     alloc: Global,
     asked: &str,
     ways: &[Way],
     cases: &[(&str, &str, &str)],
-) -> bool {
+) {
     for way in ways {
         for (name, doc, expected) in cases {
             let (doc, expected) = (doc.as_bytes(), expected.as_bytes());
-            if !gives(rt, alloc, *name, asked, *way, doc, expected) {
-                return false;
-            }
+            assert!(rt; gives(rt, alloc, *name, asked, *way, doc, expected));
         }
     }
-    true
 }
 
 /// Returns whether the two outputs are the same. Prints the case, the way and both if they differ.
@@ -160,47 +158,26 @@ pub(crate) fn json(alloc: Global, vars: &str, bindings: &str) -> Result<Vec<u8>,
     Ok(made)
 }
 
-/// Returns whether an example has its output for each number of workers, size of blocks and size of
-/// pieces.
-fn is_result<R: Threads + Wait + RandomSource + Print>(
+/// Checks that an example has its output for each number of workers, size of blocks and size of pieces.
+fn check_answer<R: Threads + Wait + RandomSource + Print + Abort>(
     rt: &R,
     alloc: Global,
     example: &Example,
-) -> bool {
+) {
     let (name, doc, query, vars, bindings) = *example;
-    match json(alloc, vars, bindings) {
-        Ok(expected) => is_given_in_every_way(rt, alloc, name, query, doc.as_bytes(), &expected),
-        Err(_) => false,
-    }
-}
-
-/// Returns whether a select has this output in each way.
-fn is_given_in_every_way<R: Threads + Wait + RandomSource + Print>(
-    rt: &R,
-    alloc: Global,
-    case: &str,
-    query: &str,
-    doc: &[u8],
-    expected: &[u8],
-) -> bool {
+    let expected = json(alloc, vars, bindings).expect(rt, name);
     for way in &WAYS {
-        if !gives(rt, alloc, case, query, *way, doc, expected) {
-            return false;
-        }
+        assert!(rt; gives(rt, alloc, name, query, *way, doc.as_bytes(), &expected));
     }
-    true
 }
 
-/// Returns whether each example has its output. Prints the first that has another one.
-pub(crate) fn are_answered<R: Threads + Wait + RandomSource + Print>(
+/// Checks that each example has its output. Prints the first that has another one.
+pub(crate) fn check_answers<R: Threads + Wait + RandomSource + Print + Abort>(
     rt: &R,
     alloc: Global,
     examples: &[Example],
-) -> bool {
+) {
     for example in examples {
-        if !is_result(rt, alloc, example) {
-            return false;
-        }
+        check_answer(rt, alloc, example);
     }
-    true
 }

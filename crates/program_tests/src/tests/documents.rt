@@ -1,8 +1,9 @@
 //! Documents that are checked, and documents whose terms are listed.
 
-use super::asking::{WHOLE, Way, all_give, gives};
+use super::asking::{WHOLE, Way, check_all, gives};
 use super::samples::{ESCAPED, GRAPHS, REPEATED, TWO_LINES};
 use std::alloc::{AllocError, Global};
+use std::process::Abort;
 use std::random::RandomSource;
 use std::sync::Wait;
 use std::thread::Threads;
@@ -74,7 +75,6 @@ const NO_TEXT: &[u8] = b"# \xFF\n";
 #[test]
 fn documents_are_checked(rt: HostRuntime) {
     let (whole, lines) = ((1, 65536, 1), (8, 1, 1));
-    assert!(rt; all_give(&rt, rt.alloc(), "check", &[whole, lines], &CHECKED));
     let expected = b"error: line 1\n";
     assert!(rt;
         gives(
@@ -98,6 +98,7 @@ fn documents_are_checked(rt: HostRuntime) {
             expected
         )
     );
+    check_all(&rt, rt.alloc(), "check", &[whole, lines], &CHECKED);
 }
 
 /// Creates a document of `count` lines, of which the lines with these two numbers are malformed.
@@ -188,7 +189,7 @@ const LISTED: [(&str, &str, &str); 5] = [
 #[test]
 fn terms_are_listed(rt: HostRuntime) {
     let ways = [(4, 65536, 1), (2, 1, 1)];
-    assert!(rt; all_give(&rt, rt.alloc(), "terms", &ways, &LISTED));
+    check_all(&rt, rt.alloc(), "terms", &ways, &LISTED);
 }
 
 /// A name, a document whose last line is malformed, and the output of a select.
@@ -246,11 +247,11 @@ fn is_each_named<R: Threads + Wait + RandomSource + Print>(
     true
 }
 
-/// Returns whether a select over a document with a malformed line names the line.
-fn is_select_rejected<R: Threads + Wait + RandomSource + Print>(rt: &R, alloc: Global) -> bool {
+/// Checks that a select over a document with a malformed line names the line.
+fn check_selects<R: Threads + Wait + RandomSource + Print + Abort>(rt: &R, alloc: Global) {
     let query = "SELECT ?o { <http://e/a> <http://e/p> ?o }";
-    all_give(rt, alloc, query, &[WHOLE], &NOT_SELECTED)
-        && all_give(rt, alloc, "SELECT ?o { ?s ?p ?o }", &[WHOLE], &NOT_SCANNED)
+    check_all(rt, alloc, query, &[WHOLE], &NOT_SELECTED);
+    check_all(rt, alloc, "SELECT ?o { ?s ?p ?o }", &[WHOLE], &NOT_SCANNED);
 }
 
 /// A malformed line is found wherever it is, with every number of workers, also by a select, and if
@@ -260,6 +261,6 @@ fn each_bad_line_is_named(rt: HostRuntime) {
     assert!(rt; is_each_named(&rt, rt.alloc(), 1));
     assert!(rt; is_each_named(&rt, rt.alloc(), 2));
     assert!(rt; is_each_named(&rt, rt.alloc(), 8));
-    assert!(rt; is_select_rejected(&rt, rt.alloc()));
+    check_selects(&rt, rt.alloc());
     assert!(rt; are_prefixes_checked(&rt, rt.alloc()));
 }

@@ -1,6 +1,6 @@
 //! FILTER ([68] `Filter`), BIND ([60] `Bind`) and the values of expressions ([110] `Expression`).
 
-use super::asking::{Example, WHOLE, are_answered, gives};
+use super::asking::{Example, WHOLE, check_answers, gives};
 use super::samples::{BLANK, NUMBERS, TAGGED};
 use std::alloc::Global;
 use std::random::RandomSource;
@@ -153,6 +153,6 @@ fn have_values<R: Threads + Wait + RandomSource + Print>(rt: &R, alloc: Global) 
 
 #[test]
 fn filters_and_values(rt: HostRuntime) {
-    assert!(rt; are_answered(&rt, rt.alloc(), &FILTERS));
     assert!(rt; have_values(&rt, rt.alloc()));
+    check_answers(&rt, rt.alloc(), &FILTERS);
 }

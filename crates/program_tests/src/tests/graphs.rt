@@ -1,6 +1,6 @@
 //! Named graphs: GRAPH ([58] `GraphGraphPattern`).
 
-use super::asking::{Example, are_answered};
+use super::asking::{Example, check_answers};
 use super::samples::GRAPHS;
 
 const EXAMPLES: [Example; 6] = [
@@ -50,5 +50,5 @@ const EXAMPLES: [Example; 6] = [
 
 #[test]
 fn graphs_are_gone_over(rt: HostRuntime) {
-    assert!(rt; are_answered(&rt, rt.alloc(), &EXAMPLES));
+    check_answers(&rt, rt.alloc(), &EXAMPLES);
 }

@@ -1,7 +1,7 @@
 //! OPTIONAL ([57] `OptionalGraphPattern`), UNION ([67] `GroupOrUnionGraphPattern`), MINUS ([66]
 //! `MinusGraphPattern`), nested groups ([53] `GroupGraphPattern`) and the tables of `tables`.
 
-use super::asking::{Example, are_answered};
+use super::asking::{Example, check_answers};
 use super::samples::{NUMBERED, PAIRS, TWO_OBJECTS, TYPED};
 use super::tables::TABLES;
 
@@ -52,6 +52,6 @@ const GROUPS: [Example; 6] = [
 
 #[test]
 fn groups_are_joined(rt: HostRuntime) {
-    assert!(rt; are_answered(&rt, rt.alloc(), &GROUPS));
-    assert!(rt; are_answered(&rt, rt.alloc(), &TABLES));
+    check_answers(&rt, rt.alloc(), &GROUPS);
+    check_answers(&rt, rt.alloc(), &TABLES);
 }

@@ -1,6 +1,6 @@
 //! DISTINCT ([9] `SelectClause`), OFFSET ([27] `OffsetClause`) and LIMIT ([26] `LimitClause`).
 
-use super::asking::{Example, are_answered};
+use super::asking::{Example, check_answers};
 use super::samples::{REPEATED, TWO_OBJECTS};
 
 const MODIFIERS: [Example; 9] = [
@@ -71,5 +71,5 @@ const MODIFIERS: [Example; 9] = [
 
 #[test]
 fn modifiers_are_applied(rt: HostRuntime) {
-    assert!(rt; are_answered(&rt, rt.alloc(), &MODIFIERS));
+    check_answers(&rt, rt.alloc(), &MODIFIERS);
 }

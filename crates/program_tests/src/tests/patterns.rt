@@ -1,6 +1,6 @@
 //! Basic graph patterns ([55] `TriplesBlock`).
 
-use super::asking::{Example, are_answered};
+use super::asking::{Example, check_answers};
 use super::samples::{ESCAPED, ITSELF, LABELLED, ONES, REPEATED, SHARED, TWO_LINES, TWO_OBJECTS};
 
 const PATTERNS: [Example; 14] = [
@@ -106,5 +106,5 @@ const PATTERNS: [Example; 14] = [
 
 #[test]
 fn patterns_are_evaluated(rt: HostRuntime) {
-    assert!(rt; are_answered(&rt, rt.alloc(), &PATTERNS));
+    check_answers(&rt, rt.alloc(), &PATTERNS);
 }

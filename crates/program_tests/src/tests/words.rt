@@ -1,27 +1,16 @@
 //! Command lines that are run over devices in memory.
 
 use super::asking::{CHUNK, WHOLE, is_same};
+use crate::commands::words_of;
 use sparql_read::QueryFault;
 use spq_core::{NoProgress, RunFault, run_words};
-use std::alloc::{AllocError, Global};
+use std::alloc::Global;
 use std::random::RandomSource;
 use std::sync::Wait;
 use std::thread::Threads;
 use test_fixtures::{SliceSource, VecSink};
 
 const STATEMENT: &[u8] = b"<http://e/s> <http://e/p> <http://e/o> .\n";
-
-/// Returns the arguments of a command line, which have bars between them.
-pub(crate) fn words_of(alloc: Global, line: &str) -> Result<Vec<String>, AllocError> {
-    let mut words = Vec::new(alloc);
-    if line.is_empty() {
-        return Ok(words);
-    }
-    for word in line.split('|') {
-        words.push(String::from_str(alloc, word)?)?;
-    }
-    Ok(words)
-}
 
 /// Returns whether the results and the outputs are the same. Prints the case and both if they
 /// differ.
@@ -63,7 +52,7 @@ fn end_so<R: Threads + Wait + RandomSource + Sync + Print>(
     done: Result<(), RunFault>,
     expected: &[u8],
 ) -> bool {
-    match words_of(alloc, line) {
+    match words_of(alloc, line, '|') {
         Ok(words) => words_end_so(rt, alloc, line, &words, done, expected),
         Err(_) => false,
     }

@@ -1,5 +1,5 @@
-//! Tables of cases. A line of a table is a case, `=>`, and the text that its reader prints for it.
-//! Empty lines and lines that begin with `#` are skipped.
+//! What is printed for the cases over rows of numbers, and pseudorandom cases.
+use crate::cases::{Reader, holds};
 use crate::evaluation::drawn::drawn;
 use crate::evaluation::operators::Purpose;
 use crate::evaluation::plans::Task;
@@ -12,7 +12,7 @@ use std::thread::Threads;
 
 /// What a reader prints for a case.
 #[derive(Clone, Copy)]
-pub(crate) enum Reader {
+pub(crate) enum RowReader {
     /// An operator: its rows.
     Operator(Purpose),
     /// The cells of a table: its rows.
@@ -31,77 +31,26 @@ pub(crate) enum Reader {
     Printing,
 }
 
-fn printed<R: RandomSource + Threads + Wait>(
+/// Prints what the reader reads from the case.
+pub(crate) fn printed_rows<R: RandomSource + Threads + Wait>(
     rt: &R,
     alloc: Global,
-    reader: Reader,
+    reader: RowReader,
     case: &str,
 ) -> Result<String, EvalFault> {
     match reader {
-        Reader::Operator(purpose) => operators::operated(rt, alloc, case, purpose),
-        Reader::Table => operators::tabulated(rt, alloc),
-        Reader::Pattern => patterns::solved(rt, alloc, case),
-        Reader::Graph => plans::graph_alone(rt, alloc, case),
-        Reader::Query => plans::planned(rt, alloc, case, Task::Solutions),
-        Reader::Added => plans::planned(rt, alloc, case, Task::Growth),
-        Reader::Agreement => {
+        RowReader::Operator(purpose) => operators::operated(rt, alloc, case, purpose),
+        RowReader::Table => operators::tabulated(rt, alloc),
+        RowReader::Pattern => patterns::solved(rt, alloc, case),
+        RowReader::Graph => plans::graph_alone(rt, alloc, case),
+        RowReader::Query => plans::planned(rt, alloc, case, Task::Solutions),
+        RowReader::Added => plans::planned(rt, alloc, case, Task::Growth),
+        RowReader::Agreement => {
             let (document, query) = case.split_once("--").unwrap_or(("", case));
             plans::planned(rt, alloc, query, Task::Agreement(document))
         }
-        Reader::Printing => operators::met_in_printing(rt, alloc),
+        RowReader::Printing => operators::met_in_printing(rt, alloc),
     }
-}
-
-/// Returns whether the two texts are equal. Prints the case and both if they are not.
-pub(crate) fn is_same<R: Print>(rt: &R, case: &str, expected: &str, found: &str) -> bool {
-    if found != expected {
-        let _ = println!(rt; "{case}\n  expected {expected}\n  got      {found}");
-    }
-    found == expected
-}
-
-/// Returns whether the reader prints the expected text. Prints the case and both texts if not.
-fn holds<R: RandomSource + Threads + Wait + Print>(
-    rt: &R,
-    alloc: Global,
-    reader: Reader,
-    case: &str,
-    expected: &str,
-) -> bool {
-    match printed(rt, alloc, reader, case) {
-        Ok(found) => is_same(rt, case, expected, found.as_str()),
-        Err(_) => false,
-    }
-}
-
-/// Returns whether no case of the table fails. Prints those that fail.
-fn are_right<R: RandomSource + Threads + Wait + Print>(
-    rt: &R,
-    alloc: Global,
-    reader: Reader,
-    table: &str,
-) -> bool {
-    let mut are_right = true;
-    for line in table.lines() {
-        if !line.is_empty() && !line.starts_with("#") {
-            let (case, expected) = line.split_once("=>").unwrap_or((line, "a line with `=>`"));
-            are_right &= holds(rt, alloc, reader, case.trim(), expected.trim());
-        }
-    }
-    are_right
-}
-
-/// Returns whether no case of the tables fails. Prints those that fail.
-pub(crate) fn are_all_right<R: RandomSource + Threads + Wait + Print>(
-    rt: &R,
-    alloc: Global,
-    tables: &[(Reader, &str)],
-) -> bool {
-    let mut are_all_right = true;
-    for (reader, table) in tables {
-        are_all_right &= are_right(rt, alloc, *reader, *table);
-    }
-    are_all_right
 }
 
 /// A generator of pseudorandom numbers.

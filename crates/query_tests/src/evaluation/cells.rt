@@ -8,7 +8,7 @@ use std::fmt::Debug;
 use std::process::Abort;
 
 /// A row of two cells.
-pub(crate) type Pair = (Option<u64>, Option<u64>);
+pub(crate) type Pair = [Option<u64>; 2];
 
 fn cell(character: char) -> Option<u64> {
     character.to_digit(10).map(u64::from)
@@ -22,7 +22,7 @@ pub(crate) fn pairs(alloc: Global, text: &str) -> Result<Vec<Pair>, AllocError> 
         match (first, character) {
             (_, ' ') => first = None,
             (None, _) => first = Some(cell(character)),
-            (Some(a), _) => pairs.push((a, cell(character)))?,
+            (Some(a), _) => pairs.push([a, cell(character)])?,
         }
     }
     Ok(pairs)
@@ -41,18 +41,22 @@ fn count(rows: &Rows, row: [Option<u64>; 2]) -> usize {
 
 const CELLS: &str = "-0123456789";
 
-/// Prints the number of rows, and the rows in ascending order.
-pub(crate) fn shown(alloc: Global, rows: &Rows) -> Result<String, AllocError> {
-    let mut text = format!(in alloc; "{}:", rows.len())?;
+/// Appends the rows in ascending order.
+fn append_sorted(text: &mut String, rows: &Rows) -> Result<(), AllocError> {
     for a in CELLS.chars() {
         for b in CELLS.chars() {
             for _ in 0..count(rows, [cell(a), cell(b)]) {
-                text.push(' ')?;
-                text.push(a)?;
-                text.push(b)?;
+                write!(text, " {a}{b}")?;
             }
         }
     }
+    Ok(())
+}
+
+/// Prints the number of rows, and the rows in ascending order.
+pub(crate) fn shown(alloc: Global, rows: &Rows) -> Result<String, AllocError> {
+    let mut text = format!(in alloc; "{}:", rows.len())?;
+    append_sorted(&mut text, rows)?;
     Ok(text)
 }
 

@@ -2,7 +2,8 @@
 //!
 //! The queries are derived from `RULES`, and the rules on BIND and on blank node labels are not
 //! applied to them. A BIND may thus be to a bound variable, and a label may be in two patterns.
-use crate::evaluation::cases::{Draws, Reader, are_same};
+use crate::cases::Reader;
+use crate::evaluation::cases::{Draws, RowReader, are_same};
 use rdf_core::Text;
 use sparql_expression::ParseFault;
 use sparql_grammar::Declarations;
@@ -154,5 +155,14 @@ pub(crate) fn parsed(alloc: Global, text: &str) -> Result<Query, ParseFault> {
 #[test]
 fn queries_agree_with_the_plain_evaluation(rt: HostRuntime) {
     let parts = ["", "δ", "--", "θ"];
-    assert!(rt; are_same(&rt, rt.alloc(), Reader::Agreement, &parts, 7, 100));
+    assert!(rt;
+        are_same(
+            &rt,
+            rt.alloc(),
+            Reader::Rows(RowReader::Agreement),
+            &parts,
+            7,
+            100
+        )
+    );
 }

@@ -5,7 +5,8 @@ ghost use Rattle.std.specs.List.{list_all};
 ghost use Rattle.algebra_model.specs.Algebra.{is_below, is_triple_below};
 ghost use Rattle.sparql_algebra.specs.AlgebraOf.{pattern_term_of, triple_pattern_of};
 
-use crate::evaluation::cases::{Draws, is_same};
+use crate::cases::is_same;
+use crate::evaluation::cases::Draws;
 use crate::evaluation::drawn::drawn;
 use crate::evaluation::patterns::{name_of, rows_in};
 use crate::evaluation::printing::text_of_solutions;

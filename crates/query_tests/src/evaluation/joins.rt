@@ -15,11 +15,11 @@ use std::sync::Wait;
 use std::thread::Threads;
 
 /// Reads the rows of a text.
-fn rows_of(alloc: Global, text: &str) -> Result<Rows, AllocError>
+pub(crate) fn rows_of(alloc: Global, text: &str) -> Result<Rows, AllocError>
     ensures width { IfOk result (λ rows. rows.width ≡ 2) }
 {
     let mut rows = Rows::new(alloc, 2);
-    for (a, b) in pairs(alloc, text)? {
+    for [a, b] in pairs(alloc, text)? {
         rows.push(&[a, b])?;
     }
     Ok(rows)
@@ -214,33 +214,16 @@ fn minus_keeps_what_shares_nothing(rt: HostRuntime) {
     check_all(&rt, rt.alloc(), Operator::Minus, &DIFFERENCES);
 }
 
-/// Appends places, each after a space, and a bar.
-fn append(text: &mut String, places: &[usize]) -> Result<(), AllocError> {
-    for place in places {
-        text.push(' ')?;
-        text.push(char::from_digit((*place % 10) as u32, 10).unwrap_or('?'))?;
-    }
-    text.push_str(" |")
-}
-
-/// Appends the places under a key of one number.
-fn append_places(
-    alloc: Global,
-    text: &mut String,
-    keyed: &Keyed,
-    number: u64,
-) -> Result<(), AllocError> {
-    let key = vec![in alloc; number]?;
-    append(text, keyed.places(&key))
-}
-
 /// Prints the places under the keys 0 and 1, and the places without a key.
 fn shown_places(alloc: Global, keyed: &Keyed) -> Result<String, AllocError> {
-    let mut text = String::new(alloc);
-    append_places(alloc, &mut text, keyed, 0)?;
-    append_places(alloc, &mut text, keyed, 1)?;
-    append(&mut text, keyed.apart())?;
-    Ok(text)
+    let zero = vec![in alloc; 0u64]?;
+    let one = vec![in alloc; 1u64]?;
+    format!(in alloc;
+        "{:?} {:?} {:?}",
+        keyed.places(&zero),
+        keyed.places(&one),
+        keyed.apart()
+    )
 }
 
 /// Prints the places under the keys 0 and 1 of the first variable, and the places without a key.
@@ -261,5 +244,5 @@ fn places(alloc: Global, state: RandomState, text: &str) -> Result<String, Alloc
 fn rows_are_under_their_key_or_apart(rt: HostRuntime) {
     let state = RandomState::new(&rt).expect(&rt, "a hash state");
     let found = places(rt.alloc(), state, "05 -5 0-");
-    gives(&rt, "05 -5 0-", " 0 2 | | 1 |", found);
+    gives(&rt, "05 -5 0-", "[0, 2] [] [1]", found);
 }

@@ -1,11 +1,12 @@
 //! Worked examples of the results. The expected documents are written by hand from the format, with
 //! `'` for `"`.
-ghost use Rattle.std.specs.Prelude.{◌≡◌, ◌∷◌, ◌<◌, ◌≤◌, [], length, IfOk};
+ghost use Rattle.std.specs.Prelude.{◌<◌, ◌≤◌, length};
 ghost use Rattle.piece_pool.specs.Limits.{most_workers};
 ghost use Rattle.row_pieces.specs.How.{IsRunnable};
 ghost use Rattle.algebra_model.specs.Renaming.{Each, EachBound};
 
-use crate::evaluation::cells::{Pair, pairs};
+use crate::evaluation::rows::rows_of;
+use crate::evaluation::stores::text;
 use dict_core::Dict;
 use piece_pool::OpenGate;
 use rdf_core::vocabulary::{RDF_LANG_STRING, XSD_INTEGER, XSD_STRING};
@@ -43,12 +44,6 @@ const TERMS: [Sample; 8] = [
     Sample::Typed("x", XSD_INTEGER),
 ];
 
-/// Returns a text, or the empty one without memory. The tests have enough memory, and a function
-/// that owns a term is slow to prove if it has several exits.
-fn text(alloc: Global, text: &str) -> Text {
-    Text::from_string(String::from_str(alloc, text).unwrap_or(String::new(alloc)))
-}
-
 fn literal(alloc: Global, lexical: &str, datatype: &str, tag: Option<Text>) -> Term {
     Term::Literal {
         lexical: text(alloc, lexical),
@@ -68,37 +63,19 @@ fn term(alloc: Global, sample: Sample) -> Term {
     }
 }
 
+/// Adds the terms to the dictionary.
+fn add_terms<R: Abort>(rt: &R, alloc: Global, dict: &mut Dict) {
+    for sample in TERMS {
+        dict.intern(term(alloc, sample)).expect(rt, "a number");
+    }
+}
+
 /// Builds the dictionary of the terms.
 fn dict_of<R: RandomSource + Abort>(rt: &R, alloc: Global) -> Dict {
     let state = RandomState::new(rt).expect(rt, "a hash state");
     let mut dict = Dict::new(alloc, state).expect(rt, "a dictionary");
-    for sample in TERMS {
-        dict.intern(term(alloc, sample)).expect(rt, "a number");
-    }
+    add_terms(rt, alloc, &mut dict);
     dict
-}
-
-/// Returns the cell, or None if no term has its number.
-fn known(cell: Option<u64>, count: u64) -> Option<u64>
-    ensures known { EachBound (λ n. n < count) (result ∷ []) }
-{
-    match cell {
-        Some(n) => { if n < count { Some(n) } else { None } }
-        None => None,
-    }
-}
-
-/// Makes rows of two variables.
-fn rows_of(alloc: Global, dict: &Dict, cells: &[Pair]) -> Result<Rows, AllocError>
-    ensures known { IfOk result
-        (λ rows. Each (EachBound (λ n. n < length dict.now)) rows.rows) }
-{
-    let count = dict.len() as u64;
-    let mut rows = Rows::new(alloc, 2);
-    for (a, b) in cells {
-        rows.push(&[known(*a, count), known(*b, count)])?;
-    }
-    Ok(rows)
 }
 
 /// Joins blocks of bytes to a text, with `'` for `"`.
@@ -122,7 +99,7 @@ struct Selection {
 }
 
 /// Returns the names of the variables: `b`, `a` and one that no row has.
-fn variables(alloc: Global) -> Result<Vec<Text>, AllocError> {
+pub(crate) fn variables(alloc: Global) -> Result<Vec<Text>, AllocError> {
     Ok(vec![in alloc; text(alloc, "b"), text(alloc, "a"), text(alloc, "é\"")]?)
 }
 
@@ -163,8 +140,7 @@ fn printed<R: Threads + Wait>(
     requires how { (1 ≤ workers) × (workers ≤ most_workers) × (1 ≤ rows) }
 {
     let how = How { workers, rows };
-    let cells = pairs(alloc, selection.rows)?;
-    let rows = rows_of(alloc, dict, &cells)?;
+    let rows = rows_of(alloc, dict, selection.rows)?;
     document(rt, alloc, dict, &rows, selection, &how)
 }
 
@@ -315,15 +291,22 @@ const OF_SEVENTY: Selection = Selection {
     limit: Some(65),
 };
 
+/// Numbers of workers, and of rows in a piece.
+const WAYS: [(usize, usize); 7] = [
+    (1, 1),
+    (2, 1),
+    (3, 7),
+    (4, 64),
+    (64, 33),
+    (2, 65),
+    (5, usize::MAX),
+];
+
 /// Checks that the document has these bytes with other numbers of workers and pieces of other sizes.
 fn check_whole<R: Threads + Wait + Abort>(rt: &R, alloc: Global, dict: &Dict, whole: &str) {
-    check(rt, alloc, dict, &OF_SEVENTY, 1, 1, whole);
-    check(rt, alloc, dict, &OF_SEVENTY, 2, 1, whole);
-    check(rt, alloc, dict, &OF_SEVENTY, 3, 7, whole);
-    check(rt, alloc, dict, &OF_SEVENTY, 4, 64, whole);
-    check(rt, alloc, dict, &OF_SEVENTY, 64, 33, whole);
-    check(rt, alloc, dict, &OF_SEVENTY, 2, 65, whole);
-    check(rt, alloc, dict, &OF_SEVENTY, 5, usize::MAX, whole);
+    for (workers, rows) in &WAYS {
+        check(rt, alloc, dict, &OF_SEVENTY, *workers, *rows, whole);
+    }
 }
 
 /// Seventy rows, which are more than one group of a piece, have the same bytes with every number of workers and

@@ -1,7 +1,8 @@
 //! One call of each public function.
-ghost use Rattle.std.specs.Prelude.{◌≡◌, IfOk, length};
+ghost use Rattle.std.specs.Prelude.{◌≡◌, length};
 
 use crate::evaluation::cells::gives;
+use crate::evaluation::joins::rows_of;
 use row_core::{Rows, is_compatible, merge_into, shares};
 use std::alloc::{AllocError, AllocGlobal, Global};
 use std::process::Abort;
@@ -14,9 +15,8 @@ fn symbol(cell: Option<u64>) -> char {
     }
 }
 
-/// Prints the width, and for each row its cells and after `=` the same cells one by one.
-pub(crate) fn rows_text(alloc: Global, rows: &Rows) -> Result<String, AllocError> {
-    let mut text = format!(in alloc; "{}:", rows.width())?;
+/// Appends for each row its cells, and after `=` the same cells one by one.
+fn append_rows(text: &mut String, rows: &Rows) -> Result<(), AllocError> {
     for i in 0..rows.len() {
         text.push(' ')?;
         for cell in rows.row(i) {
@@ -27,30 +27,26 @@ pub(crate) fn rows_text(alloc: Global, rows: &Rows) -> Result<String, AllocError
             text.push(symbol(rows.get(i, variable)))?;
         }
     }
-    Ok(text)
+    Ok(())
 }
 
-/// Makes two rows of two variables.
-fn two_rows(alloc: Global) -> Result<Rows, AllocError>
-    ensures width { IfOk result (λ rows. rows.width ≡ 2) }
-{
-    let mut rows = Rows::new(alloc, 2);
-    rows.push(&[None, Some(7)])?;
-    rows.push(&[Some(3), Some(4)])?;
-    Ok(rows)
+/// Prints the width, and for each row its cells and after `=` the same cells one by one.
+pub(crate) fn rows_text(alloc: Global, rows: &Rows) -> Result<String, AllocError> {
+    let mut text = format!(in alloc; "{}:", rows.width())?;
+    append_rows(&mut text, rows)?;
+    Ok(text)
 }
 
 /// Makes a row, and appends two more.
 fn appended(alloc: Global) -> Result<Rows, AllocError> {
-    let mut rows = Rows::new(alloc, 2);
-    rows.push(&[Some(1), None])?;
-    rows.append(two_rows(alloc)?)?;
+    let mut rows = rows_of(alloc, "1-")?;
+    rows.append(rows_of(alloc, "-7 34")?)?;
     Ok(rows)
 }
 
 /// Makes two rows, and keeps their second variable only.
 fn restricted(alloc: Global) -> Result<Rows, AllocError> {
-    let mut rows = two_rows(alloc)?;
+    let mut rows = rows_of(alloc, "-7 34")?;
     rows.restrict(&[false, true]);
     Ok(rows)
 }
@@ -104,66 +100,28 @@ fn rows_of_no_width_are_counted(rt: HostRuntime) {
     );
 }
 
-/// Returns the merge of two rows, in place of a row with other cells.
-fn merged(
-    alloc: Global,
-    a: &[Option<u64>],
-    b: &[Option<u64>],
-) -> Result<Vec<Option<u64>>, AllocError>
+/// Prints whether two rows are compatible, whether they share a variable, and their merge, which is made in place of a row
+/// with other cells.
+fn pair_text(alloc: Global, a: &[Option<u64>], b: &[Option<u64>]) -> Result<String, AllocError>
     requires same_width { length a.now ≡ length b.now }
 {
     let mut row = vec![in alloc; Some(9)]?;
     merge_into(&mut row, a, b)?;
-    Ok(row)
-}
-
-/// Checks whether two rows are compatible. Prints the rows and both results if they differ.
-fn check_compatible<R: Abort>(rt: &R, a: &[Option<u64>], b: &[Option<u64>], expected: bool)
-    requires same_width { length a.now ≡ length b.now }
-{
-    let found = is_compatible(a, b);
-    assert!(rt;
-        found == expected,
-        "are {a:?} and {b:?} compatible: expected {expected}, found {found}"
-    );
-}
-
-/// Checks whether two rows share a variable. Prints the rows and both results if they differ.
-fn check_shares<R: Abort>(rt: &R, a: &[Option<u64>], b: &[Option<u64>], expected: bool)
-    requires same_width { length a.now ≡ length b.now }
-{
-    let found = shares(a, b);
-    assert!(rt;
-        found == expected,
-        "do {a:?} and {b:?} share: expected {expected}, found {found}"
-    );
-}
-
-/// Checks the merge of two rows. Prints the rows, and both merges if they differ.
-fn check_merged<R: Abort>(
-    rt: &R,
-    alloc: Global,
-    a: &[Option<u64>],
-    b: &[Option<u64>],
-    expected: &[Option<u64>],
-)
-    requires same_width { length a.now ≡ length b.now }
-{
-    let found = merged(alloc, a, b).expect(rt, "a merge");
-    assert!(rt;
-        found.as_slice() == expected,
-        "{a:?} and {b:?}: expected {expected:?}, found {found:?}"
-    );
+    let (is_compatible, shares) = (is_compatible(a, b), shares(a, b));
+    format!(in alloc; "compatible {is_compatible}, shares {shares}, {row:?}")
 }
 
 #[test]
 fn two_rows_agree_share_and_merge(rt: HostRuntime) {
     let a = [Some(1), None, Some(3)];
     let b = [Some(1), Some(2), None];
-    let c = [Some(2), None, None];
-    check_compatible(&rt, &a, &b, true);
-    check_compatible(&rt, &a, &c, false);
-    check_shares(&rt, &a, &b, true);
-    check_shares(&rt, &[None, Some(1)], &[Some(1), None], false);
-    check_merged(&rt, rt.alloc(), &a, &b, &[Some(1), Some(2), Some(3)]);
+    let found = pair_text(rt.alloc(), &a, &b);
+    let expected = "compatible true, shares true, [Some(1), Some(2), Some(3)]";
+    gives(&rt, "1-3 and 12-", expected, found);
+    let found = pair_text(rt.alloc(), &a, &[Some(2), None, None]);
+    let expected = "compatible false, shares true, [Some(1), None, Some(3)]";
+    gives(&rt, "1-3 and 2--", expected, found);
+    let found = pair_text(rt.alloc(), &[None, Some(1)], &[Some(1), None]);
+    let expected = "compatible true, shares false, [Some(1), Some(1)]";
+    gives(&rt, "-1 and 1-", expected, found);
 }

@@ -4,16 +4,20 @@ ghost use Rattle.std.specs.Prelude.{◌≡◌, IfOk};
 ghost use Rattle.row_pieces.specs.How.{IsRunnable};
 ghost use Rattle.sparql_eval.specs.Evaluated.{AreKnown};
 
-use crate::evaluation::cases::{Reader, are_all_right, are_same};
+use crate::cases::{Reader, check_lines};
+use crate::evaluation::cases::{RowReader, are_same};
+use crate::evaluation::json::variables;
 use crate::evaluation::plans::{Task, planned};
-use crate::evaluation::printing::{text_of_rows, text_of_solutions};
+use crate::evaluation::printing::{append_difference, text_of_rows, text_of_solutions};
 use crate::evaluation::rows::{dict_of, rows_of, solutions_of};
 use crate::evaluation::stores::iri;
 use crate::evaluation::ways::{in_one_piece, row_by_row};
+use crate::operators::SecondIsBound;
+use crate::values::condition_of;
 use dict_core::Dict;
 use piece_pool::{Gate, OpenGate};
-use plain_eval::{Condition, Solution, Value};
-use rdf_core::{Term, Text};
+use plain_eval::{Solution, Value};
+use rdf_core::Term;
 use result_json::{Table, print_rows};
 use row_core::Rows;
 use row_pieces::{EvalFault, How};
@@ -198,22 +202,6 @@ fn met<R: RandomSource + Threads + Wait>(
     Ok(format!(in alloc; "{word}, {text}")?)
 }
 
-/// The condition that the second variable is bound.
-struct SecondIsBound {}
-
-impl Condition for SecondIsBound {
-    ghost use Rattle.std.specs.Prelude.{get_or, is_some, None};
-
-    ghost holds = { λ _ μ. is_some (get_or μ 1 None) };
-
-    fn is_true(&self, _alloc: Global, solution: &Solution) -> Result<bool, AllocError> {
-        match solution.terms().get(1) {
-            Some(cell) => Ok(cell.is_some()),
-            None => Ok(false),
-        }
-    }
-}
-
 /// The value of the first variable.
 struct First {}
 
@@ -299,10 +287,7 @@ fn compare<R: RandomSource + Threads + Wait>(
     requires how { IsRunnable how.now }
 {
     let found = printed_rows(rt, alloc, call, expression, how, &OpenGate)?;
-    if found.as_str() != plain {
-        write!(differences, ", {how:?}: {found}, expected {plain}")?;
-    }
-    Ok(())
+    Ok(append_difference(differences, how, plain, found.as_str())?)
 }
 
 /// Prints `same`, followed by the rows of the operator that differ from those of plain_eval, row by row
@@ -336,17 +321,6 @@ fn compared<R: RandomSource + Threads + Wait>(
     Ok(text)
 }
 
-/// Returns the condition of a filter directly below the projection.
-fn condition_of(plan: &Plan) -> Option<&Expr> {
-    match &plan.tree {
-        sparql_algebra::Operator::Project { inner, .. } => match &**inner {
-            sparql_algebra::Operator::Filter { condition, .. } => Some(condition),
-            _ => None,
-        },
-        _ => None,
-    }
-}
-
 /// Calls an operator with the filter of a query as its expression.
 pub(crate) fn called<R: RandomSource + Threads + Wait>(
     rt: &R,
@@ -354,7 +328,7 @@ pub(crate) fn called<R: RandomSource + Threads + Wait>(
     call: Call<'_>,
     plan: &Plan,
 ) -> Result<String, EvalFault> {
-    match (condition_of(plan), call.purpose) {
+    match (condition_of(&plan.tree), call.purpose) {
         (Some(it), Purpose::Answer) => {
             printed_rows(rt, alloc, call, it, &row_by_row(), &OpenGate)
         }
@@ -462,7 +436,7 @@ const COMPARED: [&str; 9] = [
 
 /// Returns whether each operator has the rows of plain_eval on 20 pairs of lists of rows.
 fn are_compared<R: RandomSource + Threads + Wait + Print>(rt: &R, alloc: Global) -> bool {
-    let reader = Reader::Operator(Purpose::Compare);
+    let reader = Reader::Rows(RowReader::Operator(Purpose::Compare));
     let mut is_right = true;
     for operator in COMPARED {
         is_right &= are_same(rt, alloc, reader, &[operator, "ψ", " and ", "ψ"], 1, 20);
@@ -476,19 +450,12 @@ fn operators_agree_with_the_plain_ones(rt: HostRuntime) {
     assert!(rt; are_compared(&rt, rt.alloc()));
 }
 
-/// Returns the name of one variable.
-fn one_name(alloc: Global) -> Result<Vec<Text>, AllocError> {
-    let mut names = Vec::new(alloc);
-    names.push(Text::from_string(String::from_str(alloc, "x")?))?;
-    Ok(names)
-}
-
 /// Prints whether two workers meet while two rows are printed, with one row in a piece, and the
 /// number of blocks. There is one block for each row, one before them and one after them.
 fn met_over<R: Threads + Wait>(rt: &R, alloc: Global, dict: &Dict) -> Result<String, EvalFault> {
     let gate = Meeting::new();
     let rows = rows_of(alloc, dict, "0- 1-")?;
-    let names = one_name(alloc)?;
+    let names = variables(alloc)?;
     let table = Table {
         names: &names,
         listed: &[0],
@@ -512,14 +479,14 @@ pub(crate) fn met_in_printing<R: RandomSource + Threads + Wait>(
 }
 
 const TABLES: &[(Reader, &str)] = &[
-    (Reader::Operator(Purpose::Answer), ROWS),
-    (Reader::Operator(Purpose::Meet), MEETINGS),
-    (Reader::Table, VALUES),
-    (Reader::Printing, "0- 1- => met, 4 blocks"),
+    (Reader::Rows(RowReader::Operator(Purpose::Answer)), ROWS),
+    (Reader::Rows(RowReader::Operator(Purpose::Meet)), MEETINGS),
+    (Reader::Rows(RowReader::Table), VALUES),
+    (Reader::Rows(RowReader::Printing), "0- 1- => met, 4 blocks"),
 ];
 
 /// Operators go over rows and tables, and two workers meet in those that run over pieces.
 #[test]
 fn operators_go_over_rows(rt: HostRuntime) {
-    assert!(rt; are_all_right(&rt, rt.alloc(), TABLES));
+    check_lines(&rt, rt.alloc(), TABLES);
 }

@@ -6,7 +6,8 @@ ghost use Rattle.algebra_model.specs.Algebra.{is_triple_below};
 ghost use Rattle.dict_core.specs.NumQuad.{AreBelow};
 ghost use Rattle.sparql_algebra.specs.AlgebraOf.{triple_pattern_of};
 
-use crate::evaluation::cases::{Reader, are_all_right};
+use crate::cases::{Reader, check_lines};
+use crate::evaluation::cases::RowReader;
 use crate::evaluation::printing::text_of_rows;
 use crate::evaluation::stores::{DOCUMENT, iri, store};
 use crate::evaluation::ways::row_by_row;
@@ -130,5 +131,9 @@ _:1 in default    => 3: <a:x>; <a:x>; <a:y>
 
 #[test]
 fn patterns_are_solved_in_a_graph(rt: HostRuntime) {
-    assert!(rt; are_all_right(&rt, rt.alloc(), &[(Reader::Pattern, PATTERNS)]));
+    check_lines(
+        &rt,
+        rt.alloc(),
+        &[(Reader::Rows(RowReader::Pattern), PATTERNS)],
+    );
 }

@@ -47,8 +47,27 @@ fn a_fault_keeps_its_name(rt: HostRuntime) {
     assert!(rt; memory == EvalFault::Memory, "{memory:?}");
 }
 
-/// Prints the result of `n` pieces; those below `sound` are not faulty. The result is the number of
-/// outputs at their indexes, or the least faulty piece with its fault. Also prints how many pieces
+/// Runs `n` pieces of a job, and returns the number of outputs and of those at their indexes, or the
+/// least faulty piece and its fault.
+fn result_of<R: Threads + Wait>(
+    rt: &R,
+    alloc: Global,
+    workers: usize,
+    n: u64,
+    job: &Numbers,
+    gate: &Counter,
+) -> Result<(&'static str, u64, u64), AllocError>
+    requires workers { (1 ≤ workers) × (workers ≤ most_workers) }
+    requires pieces { n ≤ most_pieces }
+{
+    match run_all(rt, alloc, workers, n, job, gate) {
+        Ok(Outcome::All(outs)) => Ok(("results", outs.len() as u64, in_place(&outs))),
+        Ok(Outcome::First { piece, fault }) => Ok(("faulty", piece, fault)),
+        Err(_) => Err(AllocError),
+    }
+}
+
+/// Prints the result of `n` pieces; those below `sound` are not faulty. Also prints how many pieces
 /// entered and left the gate.
 fn pieces_text<R: Threads + Wait>(
     rt: &R,
@@ -62,11 +81,7 @@ fn pieces_text<R: Threads + Wait>(
 {
     let gate = Counter::new();
     let job = Numbers::sound_below(sound);
-    let (what, number, other) = match run_all(rt, alloc, workers, n, &job, &gate) {
-        Ok(Outcome::All(outs)) => ("results", outs.len() as u64, in_place(&outs)),
-        Ok(Outcome::First { piece, fault }) => ("faulty", piece, fault),
-        Err(_) => return Err(AllocError),
-    };
+    let (what, number, other) = result_of(rt, alloc, workers, n, &job, &gate)?;
     format!(in alloc;
         "{what} {number} {other} entered {} left {}",
         gate.entered(),

@@ -5,25 +5,42 @@ ghost use Rattle.dict_core.specs.NumQuad.{AreBelow};
 ghost use Rattle.row_pieces.specs.How.{IsRunnable};
 ghost use Rattle.sparql_algebra.specs.AlgebraOf.{algebra_of, graph_name_of};
 
-use crate::evaluation::cases::{Reader, are_all_right};
+use crate::cases::{Reader, check_lines};
+use crate::evaluation::cases::RowReader;
 use crate::evaluation::drawn::parsed;
 use crate::evaluation::operators::{Call, called, state_of};
-use crate::evaluation::printing::{text_of_rows, text_of_solutions};
+use crate::evaluation::printing::{append_difference, text_of_rows, text_of_solutions};
 use crate::evaluation::stores::{DOCUMENT, iri, store};
 use crate::evaluation::ways::{COUNT, in_one_piece, row_by_row, way};
+use crate::plans::plan_of;
 use dict_core::Dict;
 use nquads_core::read_piece;
 use piece_pool::OpenGate;
 use quad_index::Index;
 use rdf_core::Quad;
+use row_core::Rows;
 use row_pieces::{EvalFault, How};
-use sparql_algebra::{GraphName, Operator, Plan, translate};
+use sparql_algebra::{GraphName, Operator, Plan};
 use sparql_eval::{evaluate, graph};
 use sparql_tree::Query;
 use std::alloc::{AllocError, AllocGlobal, Global};
 use std::random::RandomSource;
 use std::sync::Wait;
 use std::thread::Threads;
+
+/// Prints rows, or by how many terms the dictionary has grown.
+fn text_of(
+    alloc: Global,
+    dict: &Dict,
+    rows: &Rows,
+    before: usize,
+    is_growth: bool,
+) -> Result<String, AllocError> {
+    if is_growth {
+        return format!(in alloc; "{}", dict.len().saturating_sub(before));
+    }
+    text_of_rows(alloc, dict, rows)
+}
 
 /// Prints the solutions of a plan over an index, or how many terms their evaluation adds to the
 /// dictionary.
@@ -41,10 +58,7 @@ fn evaluated_over<R: RandomSource + Threads + Wait>(
 {
     let before = dict.len();
     let (rows, dict) = evaluate(rt, alloc, dict, index, plan, how, &OpenGate)?;
-    if is_growth {
-        return Ok(format!(in alloc; "{}", dict.len().saturating_sub(before))?);
-    }
-    Ok(text_of_rows(alloc, &dict, &rows)?)
+    Ok(text_of(alloc, &dict, &rows, before, is_growth)?)
 }
 
 /// Prints the solutions of a plan over a document, or how many terms their evaluation adds to those of
@@ -91,10 +105,7 @@ fn check_way<R: RandomSource + Threads + Wait>(
     requires how { IsRunnable how.now }
 {
     let found = evaluated(rt, alloc, document, plan, how, false)?;
-    if found.as_str() != plain {
-        write!(differences, ", {how:?}: {found}")?;
-    }
-    Ok(())
+    Ok(append_difference(differences, how, plain, found.as_str())?)
 }
 
 /// Appends the solutions that differ from those of plain_eval, for each number of workers and size of
@@ -185,12 +196,6 @@ fn done<R: RandomSource + Threads + Wait>(
     }
 }
 
-/// Returns the plan of a query in a box, because a function that owns a tree by value is slow to
-/// prove.
-fn plan_of(alloc: Global, query: &Query) -> Result<Box<Plan>, AllocError> {
-    Ok(Box::new(alloc, translate(alloc, query)?)?)
-}
-
 /// Prints the parts that the case names, for a query.
 fn translated<R: RandomSource + Threads + Wait>(
     rt: &R,
@@ -224,7 +229,11 @@ SELECT * { ?s <a:p> ?o OPTIONAL { ?o <a:p> ?z FILTER(sameTerm(?s, <a:y>)) } } =>
 
 #[test]
 fn a_filter_in_optional_sees_the_left_row(rt: HostRuntime) {
-    assert!(rt; are_all_right(&rt, rt.alloc(), &[(Reader::Query, OPTIONALS)]));
+    check_lines(
+        &rt,
+        rt.alloc(),
+        &[(Reader::Rows(RowReader::Query), OPTIONALS)],
+    );
 }
 
 /// VALUES ([61] `InlineData`), MINUS ([66] `MinusGraphPattern`), UNION ([67]
@@ -349,14 +358,14 @@ a:none => 0:
 ";
 
 const TABLES: &[(Reader, &str)] = &[
-    (Reader::Query, OPERATORS),
-    (Reader::Query, NAMED_GRAPHS),
-    (Reader::Added, ADDED),
-    (Reader::Graph, ALONE),
+    (Reader::Rows(RowReader::Query), OPERATORS),
+    (Reader::Rows(RowReader::Query), NAMED_GRAPHS),
+    (Reader::Rows(RowReader::Added), ADDED),
+    (Reader::Rows(RowReader::Graph), ALONE),
 ];
 
 /// Queries have their solutions and add their terms, and so has a graph of the empty pattern.
 #[test]
 fn plans_have_their_solutions(rt: HostRuntime) {
-    assert!(rt; are_all_right(&rt, rt.alloc(), TABLES));
+    check_lines(&rt, rt.alloc(), TABLES);
 }

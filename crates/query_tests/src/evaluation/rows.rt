@@ -1,9 +1,11 @@
 //! Rows of two variables as text, such as `01 2-`: each digit is the number of a term, and `-` is
-//! an unbound cell. The terms 0, 1 and 2 are the IRIs `a:x`, `a:y` and `a:z`.
+//! an unbound cell. The terms 0 to 3 are the IRIs `a:x`, `a:y`, `a:z` and `a:w`. The dictionary has
+//! the first three.
 ghost use Rattle.std.specs.Prelude.{◌≡◌, IfOk, OnOk};
 ghost use Rattle.sparql_eval.specs.Evaluated.{AreKnown};
 ghost use Rattle.sparql_eval.specs.Numbered.{IsKnownCell};
 
+use crate::evaluation::cells::{Pair, pairs};
 use crate::evaluation::stores::iri;
 use dict_core::Dict;
 use plain_eval::Solution;
@@ -13,7 +15,7 @@ use row_pieces::EvalFault;
 use std::alloc::{AllocError, Global};
 use std::hash::RandomState;
 
-/// The IRIs of the terms.
+/// The IRIs of the terms in the dictionary.
 const NAMES: [&str; 3] = ["a:x", "a:y", "a:z"];
 
 /// Adds the three terms.
@@ -31,26 +33,6 @@ pub(crate) fn dict_of(alloc: Global, state: RandomState) -> Result<Dict, EvalFau
     let mut dict = Dict::new(alloc, state)?;
     add_names(alloc, &mut dict)?;
     Ok(dict)
-}
-
-type Pair = [Option<u64>; 2];
-
-fn cell(character: char) -> Option<u64> {
-    character.to_digit(10).map(u64::from)
-}
-
-/// Returns the rows of a text.
-fn pairs(alloc: Global, text: &str) -> Result<Vec<Pair>, AllocError> {
-    let mut pairs = Vec::new(alloc);
-    let mut first = None;
-    for character in text.chars() {
-        match (first, character) {
-            (_, ' ') => first = None,
-            (None, _) => first = Some(cell(character)),
-            (Some(a), _) => pairs.push([a, cell(character)])?,
-        }
-    }
-    Ok(pairs)
 }
 
 /// Returns the cell, or an unbound one if the dictionary has no term with its number.
@@ -102,7 +84,8 @@ fn term_of(alloc: Global, cell: Option<u64>) -> Option<Term> {
     let name = match cell? {
         0 => "a:x",
         1 => "a:y",
-        _ => "a:z",
+        2 => "a:z",
+        _ => "a:w",
     };
     Some(iri(alloc, name))
 }

@@ -2,7 +2,7 @@
 ghost use Rattle.std.specs.Prelude.{length, IfOk};
 ghost use Rattle.dict_core.specs.NumQuad.{AreBelow};
 
-use dict_core::{Dict, merge, number_piece};
+use dict_core::{Dict, LocalPiece, merge, number_piece};
 use nquads_core::read_piece;
 use quad_index::{Index, index_reads_the_quads};
 use rdf_core::{Term, Text};
@@ -20,6 +20,20 @@ pub(crate) const DOCUMENT: &str = r#"<a:x> <a:p> <a:y> .
 <a:y> <a:p> <a:x> _:h .
 "#;
 
+/// Returns the numbered piece of a document, in a list.
+fn pieces(
+    alloc: Global,
+    state: RandomState,
+    document: &str,
+) -> Result<Vec<LocalPiece>, AllocError> {
+    let Ok(piece) = read_piece(alloc, document.as_bytes()) else {
+        return Err(AllocError);
+    };
+    let mut pieces = Vec::new(alloc);
+    pieces.push(number_piece(alloc, state, piece)?)?;
+    Ok(pieces)
+}
+
 /// Returns the dictionary and the index of a document.
 pub(crate) fn store<R: RandomSource>(
     rt: &R,
@@ -32,18 +46,19 @@ pub(crate) fn store<R: RandomSource>(
     let Ok(state) = RandomState::new(rt) else {
         return Err(AllocError);
     };
-    let Ok(piece) = read_piece(alloc, document.as_bytes()) else {
-        return Err(AllocError);
-    };
-    let mut pieces = Vec::new(alloc);
-    pieces.push(number_piece(alloc, state, piece)?)?;
+    let pieces = pieces(alloc, state, document)?;
     let (dict, quads) = merge(alloc, state, pieces)?;
     let index = Index::build(alloc, quads)?;
     Ok((dict, index))
 }
 
-/// Returns the IRI of a text, or the empty one without memory. The tests have enough memory, and a
-/// function that owns a term is slow to prove if it has several exits.
+/// Returns a text, or the empty one without memory. The tests have enough memory, and a function
+/// that owns a term is slow to prove if it has several exits.
+pub(crate) fn text(alloc: Global, text: &str) -> Text {
+    Text::from_string(String::from_str(alloc, text).unwrap_or(String::new(alloc)))
+}
+
+/// Returns the IRI of a text.
 pub(crate) fn iri(alloc: Global, name: &str) -> Term {
-    Term::Iri(Text::from_string(String::from_str(alloc, name).unwrap_or(String::new(alloc))))
+    Term::Iri(text(alloc, name))
 }

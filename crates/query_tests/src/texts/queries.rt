@@ -1,6 +1,9 @@
 //! Texts and the rule that rejects each, by example.
-use crate::cases::{Case, Reader, are_all_right, holds};
+use crate::cases::{Case, Reader, check_tables, holds};
 use std::alloc::Global;
+use std::random::RandomSource;
+use std::sync::Wait;
+use std::thread::Threads;
 
 /// Each rule alone.
 const RULES: &[Case] = &[
@@ -119,7 +122,7 @@ const CHAINS: &[Case] = &[
 
 #[test]
 fn long_chains_are_read(rt: HostRuntime) {
-    assert!(rt; are_all_right(&rt, rt.alloc(), &[(Reader::Verdict, CHAINS)]));
+    check_tables(&rt, rt.alloc(), &[(Reader::Verdict, CHAINS)]);
 }
 
 /// The longest terminal is read. An IRI ends at the next `>`. A word is a longest run of letters. A
@@ -314,7 +317,10 @@ const WHOLE: &str =
 
 /// Returns whether each proper beginning of the query is rejected, and the query is read. Prints those
 /// that are not.
-fn are_beginnings_rejected<R: Print>(rt: &R, alloc: Global) -> bool {
+fn are_beginnings_rejected<R: RandomSource + Threads + Wait + Print>(
+    rt: &R,
+    alloc: Global,
+) -> bool {
     let mut are_rejected = true;
     for count in 0..WHOLE.len() {
         let beginning = str::from_utf8(&WHOLE.as_bytes()[..count]).unwrap_or("?");
@@ -327,7 +333,7 @@ const ALL_RULES: &[(Reader, &[Case])] = &[(Reader::Verdict, RULES), (Reader::Ver
 
 #[test]
 fn each_rule_is_reported(rt: HostRuntime) {
-    assert!(rt; are_all_right(&rt, rt.alloc(), ALL_RULES));
+    check_tables(&rt, rt.alloc(), ALL_RULES);
 }
 
 const DEPTHS: &[(Reader, &[Case])] = &[
@@ -337,7 +343,7 @@ const DEPTHS: &[(Reader, &[Case])] = &[
 
 #[test]
 fn depth_comes_before_all_other_rules(rt: HostRuntime) {
-    assert!(rt; are_all_right(&rt, rt.alloc(), DEPTHS));
+    check_tables(&rt, rt.alloc(), DEPTHS);
 }
 
 const SCOPES: &[(Reader, &[Case])] = &[
@@ -348,7 +354,7 @@ const SCOPES: &[(Reader, &[Case])] = &[
 
 #[test]
 fn scopes_names_and_escapes(rt: HostRuntime) {
-    assert!(rt; are_all_right(&rt, rt.alloc(), SCOPES));
+    check_tables(&rt, rt.alloc(), SCOPES);
 }
 
 const ALL_PRODUCTIONS: &[(Reader, &[Case])] = &[
@@ -358,11 +364,11 @@ const ALL_PRODUCTIONS: &[(Reader, &[Case])] = &[
 
 #[test]
 fn what_the_productions_derive(rt: HostRuntime) {
-    assert!(rt; are_all_right(&rt, rt.alloc(), ALL_PRODUCTIONS));
+    check_tables(&rt, rt.alloc(), ALL_PRODUCTIONS);
 }
 
 #[test]
 fn the_longest_terminal_is_read(rt: HostRuntime) {
     assert!(rt; are_beginnings_rejected(&rt, rt.alloc()));
-    assert!(rt; are_all_right(&rt, rt.alloc(), &[(Reader::Verdict, LONGEST)]));
+    check_tables(&rt, rt.alloc(), &[(Reader::Verdict, LONGEST)]);
 }

@@ -4,7 +4,7 @@
 //! failing, then with the second, and so on, until a run in which none fails. At most one allocation fails in a run,
 //! so a second try must succeed. A test ends early if the failing allocation is one of the test itself.
 
-use crate::loading::cases::equal;
+use crate::loading::cases::{equal, same_numbers, same_quads};
 use crate::loading::dictionary::{
     A, B, C, FIRST, G, P, Q, SECOND, THIRD, dict_of, first_round, iri, looked_up, pieces,
 };
@@ -108,10 +108,7 @@ fn check_absorbed<R: Abort>(
         Ok(numbers) => numbers,
         Err(_) => absorb_again(rt, alloc, state, dict),
     };
-    assert!(rt;
-        numbers.as_slice() == [1, 2, 3, 4, 5].as_slice(),
-        "numbers: expected [1, 2, 3, 4, 5], found {numbers:?}"
-    );
+    same_numbers(rt, "numbers", &[1, 2, 3, 4, 5], &numbers);
     check_terms(rt, "terms", dict, &[A, B, C, G, P, Q]);
 }
 
@@ -132,10 +129,7 @@ fn a_failed_absorption_changes_nothing(rt: HostRuntime) {
 
 /// Checks that the quads are these, and that the dictionary has six terms.
 fn check_quads<R: Abort>(rt: &R, dict: &Dict, quads: &[NumQuad], expected: &[NumQuad]) {
-    assert!(rt;
-        quads == expected,
-        "quads: expected {expected:?}, found {quads:?}"
-    );
+    same_quads(rt, "quads", expected, quads);
     equal(rt, "terms", 6, dict.len() as u64);
 }
 
@@ -180,10 +174,7 @@ fn add_again<R: Abort>(
 ) {
     check_terms(rt, "terms after an error", dict, &[A, P, B]);
     let before = [quad(None, 0, 1, 2)];
-    assert!(rt;
-        quads.as_slice() == before.as_slice(),
-        "quads after an error: expected {before:?}, found {quads:?}"
-    );
+    same_quads(rt, "quads after an error", &before, quads.as_slice());
     let again = looked_up(alloc, state, dict, THIRD).expect(rt, "a second try");
     add_piece(alloc, dict, quads, again).expect(rt, "a second try");
 }
