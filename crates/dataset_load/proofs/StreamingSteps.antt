@@ -221,7 +221,7 @@ module _ (a b c : Option (List ℕ)) (kept : List ℕ) (so_far : Numbered) (roun
 pub part_so_far : (a b : Option (List ℕ)) (kept : List ℕ) (so_far : Numbered) (round : FilledRound) → IsReadAhead a b kept so_far round → IsReadInPart a b
 part_so_far a b kept so_far round was = part_ahead a b b kept so_far round was (λ _. refl) (λ is start done h. record { taken = done ++ kept; consumed = read_front start b done kept h })
 
--- the number of the line that a round was refused for
+-- the number of the malformed line, if a round has one
 pub bad_round : {T : Type 0} (b c : Option (List ℕ)) (kept : List ℕ) (so_far : Numbered) (round : FilledRound) (added : Result T LoadFault) (fault : ReaderFault)
     → (round.is_last ≡ true → c ≡ b) → (round.is_last ≡ false → TakesPart b c kept) → IfErr added (IfBadLine (HasBadLine so_far round))
     → IfBadLineRead (λ n. added ≡ Err (BadLine n)) fault

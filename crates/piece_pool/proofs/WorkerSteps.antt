@@ -86,7 +86,7 @@ IsWorked-stopped answers faults board w stopped pass work = record {
   covers = λ e. absurd (true≢false (sym stopped ∙ e));
 }
 
--- After a draw and a look, the pass has one more draw, of at most so many, and all draws up to what it has seen are done.
+-- The pass has one more draw, and at most `pieces` in all. Each draw up to what the pass has seen is done.
 abbrev pub IsOneMore : PassView → PassView → ℕ → List ℕ → Type 0
 IsOneMore old new pieces done =
     (new.history.finished ≡ 0) × (length new.history.draws ≡ length old.history.draws + 1) × (length new.history.draws ≤ pieces)
