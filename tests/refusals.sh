@@ -3,12 +3,12 @@
 # second, and so on, until a run in which none fails; and the same with the starts of worker threads. The
 # tests check what an error leaves unchanged, and that a second try succeeds.
 #
-# A test fails if no allocation fails in it. A module fails in two cases, in which the runs would show nothing:
+# A test fails if no allocation fails in it. A crate fails in two cases, in which the runs would show nothing:
 # - no start of a worker thread fails in its tests;
 # - no failed allocation is reported as a worker that could not be started, as one inside a start is.
 #
 #   tests/refusals.sh                  # every crate that has such tests
-#   tests/refusals.sh program_tests .. # these crates
+#   tests/refusals.sh loading_tests .. # these crates
 #   tests/refusals.sh --built ..       # the test programs as `rt ci` built them
 #
 # Without --built the tests are proved and built first (rt test). Each run takes some milliseconds, all of them one to
@@ -59,42 +59,30 @@ refuse_each() {
     return 1
 }
 
-# Runs the tests of one module of a test program.
-try_module() {
-    local name
-    starts=0
-    inside=0
-    for name in $("$1" --list | sed -n "s/^\\($2::.*\\): test\$/\\1/p"); do
-        refuse_each "$1" "$name" GROWTH || return 1
-        refuse_each "$1" "$name" START || return 1
-    done
-    if [ "$starts" = 0 ]; then
-        echo "$2: no start of a worker thread failed"
-        return 1
-    fi
-    if [ "$inside" = 0 ]; then
-        echo "$2: no failed allocation inside a start is reported as a failed start"
-        return 1
-    fi
-    printf '%s: %s failed allocations are inside a start, and are reported as a failed start\n' "$2" "$inside"
-}
-
 try_crate() {
-    local tests=$root/crates/$1/out/$1_tests modules module
+    local tests=$root/crates/$1/out/$1_tests name names
     if [ "$built" = no ]; then
         (cd "$root/crates/$1" && rt test > "$room/log" 2>&1) || { tail "$room/log"; return 1; }
     elif [ ! -x "$tests" ]; then
         echo "$1: there is no test program $tests; run rt ci first"
         return 1
     fi
-    modules=$("$tests" --list | sed -n 's/^\(\(.*::\)\{0,1\}refusals\)::.*: test$/\1/p' | sort -u)
-    if [ -z "$modules" ]; then
-        printf '%s: there is no test in a module `refusals`\n' "$1"
+    names=$("$tests" --list | sed -n 's/^\(refusals::.*\): test$/\1/p')
+    starts=0
+    inside=0
+    for name in $names; do
+        refuse_each "$tests" "$name" GROWTH || return 1
+        refuse_each "$tests" "$name" START || return 1
+    done
+    if [ "$starts" = 0 ]; then
+        echo "$1: no start of a worker thread failed"
         return 1
     fi
-    for module in $modules; do
-        try_module "$tests" "$module" || return 1
-    done
+    if [ "$inside" = 0 ]; then
+        echo "$1: no failed allocation inside a start is reported as a failed start"
+        return 1
+    fi
+    printf '%s: %s failed allocations are inside a start, and are reported as a failed start\n' "$1" "$inside"
 }
 
 built=no
@@ -103,7 +91,7 @@ if [ "${1-}" = --built ]; then
     shift
 fi
 if [ $# = 0 ]; then
-    set -- $(cd "$root/crates" && ls -d */src/refusals.rt */src/*/refusals.rt | cut -d / -f 1 | sort -u)
+    set -- $(cd "$root/crates" && ls -d */src/refusals.rt | cut -d / -f 1)
 fi
 for crate in "$@"; do
     echo "$crate"

@@ -21,7 +21,7 @@
 //! (all pieces), `sorting` (the lists of the index), `loading`, `reader` (blocks of a reader),
 //! `reader_fault`, `counted`, `finding` and `load_notes` (the malformed line, for messages), `streaming`.
 //!
-//! Tests: `documents`, `readers` and `refusals` of `loading` in the crate program_tests.
+//! Tests: `documents`, `readers` and `refusals` of the crate loading_tests.
 //!
 //! ```text
 //! let cuts = Cuts::every(alloc, doc, 65536)?;

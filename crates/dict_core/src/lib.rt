@@ -9,7 +9,7 @@
 //! For loading in parallel, [`look_up`] looks up the terms of a piece in a borrowed dictionary, and
 //! [`add_piece`] adds what is new, in order. The laws `absorbing_keeps_the_numbering` and
 //! `earlier_places_serve`, and the clause `numbered` of `add_piece`, say that the result is the same. The
-//! crate `program_tests` tests both.
+//! crate `loading_tests` tests both.
 //!
 //! Standard: RDF 1.1 Concepts and Abstract Syntax, section 3 (when two terms are the same). The numbers are a
 //! choice of this project.

@@ -13,7 +13,7 @@
 //! standard).
 //!
 //! Reading order: `places` (the search for a cut), `cuts`, `blocks`, `laws`. Tests: `cutting`,
-//! `documents` and `readers` of `loading` in the crate program_tests.
+//! `documents` and `readers` of the crate loading_tests.
 //!
 //! Not guaranteed: that a piece is small. A line longer than the size is one piece.
 #![tactic(auto)]

@@ -14,8 +14,6 @@
 //! a given document writes to standard error. `console` tests what a terminal shows while a document
 //! is read.
 //!
-//! The crates from bytes to a dataset: the modules in `loading`.
-//!
 //! The tests have a crate of their own, so a proof of the tests proves no library again.
 #![tactic(auto)]
 
@@ -29,8 +27,6 @@ mod commands;
 mod console;
 #[cfg(test)]
 mod lines;
-#[cfg(test)]
-mod loading;
 #[cfg(test)]
 mod messages;
 #[cfg(test)]

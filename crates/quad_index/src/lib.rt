@@ -14,7 +14,7 @@
 //! project.
 //!
 //! Reading order: `sort_order`, `packed`, `prefix`, `range`, `index`, `counting`, `laws`.
-//! Tests: `index` and `refusals` of `loading` in the crate program_tests.
+//! Tests: `index` and `refusals` of the crate loading_tests.
 //!
 //! Not guaranteed: in which order a scan returns its quads.
 #![tactic(auto)]

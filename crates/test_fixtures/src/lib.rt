@@ -8,14 +8,14 @@
 //!   call. They fail after a number of bytes, or at a given call.
 //!
 //! No program depends on this crate. Its tests are those of the crates that use it, such as
-//! program_tests.
+//! loading_tests.
 //!
 //! ```text
 //! let gate = Meeting::new();
 //! let outcome = run_pieces(&rt, alloc, 2, 2, &job, &gate)?;
 //! assert!(rt; gate.is_met());
 //! ```
-//! The test `two_pool_workers_meet` of program_tests runs this.
+//! The test `two_pool_workers_meet` of loading_tests runs this.
 #![tactic(auto)]
 
 mod gates;

@@ -1,0 +1,351 @@
+//! Dictionaries by example. Numbers follow the first appearance of the terms, and in a quad the order is subject,
+//! predicate, object, graph name.
+
+use crate::cases::{equal, gives, same_numbers};
+use crate::terms::text;
+use dict_core::{
+    Dict, LocalPiece, NumQuad, Seen, SeenPiece, absorbing_keeps_the_numbering, add_piece,
+    earlier_places_serve, look_up, merge, number_lines, number_piece,
+};
+use nquads_core::{PieceFault, read_piece};
+use rdf_core::{Term, Text};
+use std::alloc::{AllocError, AllocGlobal, Global};
+use std::hash::RandomState;
+use std::process::Abort;
+
+/// The IRIs of the examples.
+pub(crate) const A: &str = "http://e/a";
+
+pub(crate) const B: &str = "http://e/b";
+
+pub(crate) const C: &str = "http://e/c";
+
+pub(crate) const G: &str = "http://e/g";
+
+pub(crate) const P: &str = "http://e/p";
+
+pub(crate) const Q: &str = "http://e/q";
+
+pub(crate) const FIRST: &str = "<http://e/a> <http://e/p> <http://e/b> .\n";
+
+pub(crate) const SECOND: &str = "<http://e/b> <http://e/p> <http://e/a> .\n";
+
+pub(crate) const THIRD: &str = "<http://e/a> <http://e/q> _:x <http://e/g> .\n";
+
+pub(crate) fn iri(alloc: Global, text: &str) -> Result<Term, AllocError> {
+    Ok(Term::Iri(Text::from_string(String::from_str(alloc, text)?)))
+}
+
+/// Returns the numbered piece of a text, or `None` if the text is malformed or an allocation fails.
+pub(crate) fn numbered(alloc: Global, state: RandomState, text: &str) -> Option<LocalPiece> {
+    let Ok(piece) = read_piece(alloc, text.as_bytes()) else {
+        return None;
+    };
+    number_piece(alloc, state, piece).ok()
+}
+
+/// Returns the numbered pieces of the texts.
+pub(crate) fn pieces(alloc: Global, state: RandomState, texts: &[&str]) -> Option<Vec<LocalPiece>> {
+    let mut pieces = Vec::new(alloc);
+    for text in texts {
+        let Ok(()) = pieces.push(numbered(alloc, state, *text)?) else {
+            return None;
+        };
+    }
+    Some(pieces)
+}
+
+/// Adds the IRI to the dictionary, and returns its number.
+fn add(alloc: Global, dict: &mut Dict, name: &str) -> Result<u64, AllocError> {
+    match dict.intern(iri(alloc, name)?) {
+        Ok(number) => Ok(number),
+        Err(_) => Err(AllocError),
+    }
+}
+
+/// Returns a dictionary of these IRIs.
+pub(crate) fn dict_of(
+    alloc: Global,
+    state: RandomState,
+    names: &[&str],
+) -> Result<Dict, AllocError> {
+    let mut dict = Dict::new(alloc, state)?;
+    for name in names {
+        add(alloc, &mut dict, *name)?;
+    }
+    Ok(dict)
+}
+
+/// Appends the term, after the number by which a copy of it is found.
+fn append_term(
+    alloc: Global,
+    out: &mut String,
+    dict: &Dict,
+    term: &Term,
+) -> Result<(), AllocError> {
+    let copy = term.copy(alloc)?;
+    let number = dict.number_of(&copy);
+    write!(out, "{number:?} {copy:?}; ")
+}
+
+/// Appends each term of the dictionary.
+fn append_terms(alloc: Global, out: &mut String, dict: &Dict) -> Result<(), AllocError> {
+    for n in 0..dict.len() as u64 {
+        append_term(alloc, out, dict, dict.term(n))?;
+    }
+    Ok(())
+}
+
+/// Appends subject, predicate, object and graph name of each quad.
+fn append_quads(out: &mut String, quads: &[NumQuad]) -> Result<(), AllocError> {
+    for NumQuad { g, s, p, o } in quads {
+        write!(out, "Some({s}) Some({p}) Some({o}) {g:?} ")?;
+    }
+    Ok(())
+}
+
+/// Prints a dictionary and quads.
+fn printed(alloc: Global, dict: &Dict, quads: &[NumQuad]) -> Result<String, AllocError> {
+    let mut out = String::new(alloc);
+    append_terms(alloc, &mut out, dict)?;
+    append_quads(&mut out, quads)?;
+    Ok(out)
+}
+
+/// Checks that a dictionary and quads are printed like this.
+fn check<R: Abort>(
+    rt: &R,
+    alloc: Global,
+    case: &str,
+    expected: &str,
+    dict: &Dict,
+    quads: &[NumQuad],
+) {
+    gives(rt, case, expected, printed(alloc, dict, quads));
+}
+
+/// Prints the number of lines of a text, and its dictionary and quads, or the number of the malformed line.
+fn printed_lines(alloc: Global, state: RandomState, text: &str) -> Result<String, AllocError> {
+    match number_lines(alloc, state, text.as_bytes()) {
+        Ok(read) => {
+            let found = printed(alloc, read.piece.dict(), read.piece.quads())?;
+            format!(in alloc; "{} lines: {found}", read.lines)
+        }
+        Err(PieceFault::BadLine(k)) => format!(in alloc; "malformed {k}"),
+        Err(PieceFault::Memory) => Err(AllocError),
+    }
+}
+
+/// Pieces, and what is numbered. Malformed lines are numbered from 0. The first three pieces are split into slices; two
+/// slices of the third one denote the same term. `read_piece` reads the others.
+const NUMBERED: &[(&str, &str)] = &[
+    ("\n# c\n", "2 lines: "),
+    (
+        "_:a <a:p> _:b .\n_:b <a:p> _:a <a:g> .\n",
+        "2 lines: Some(0) Blank(a); Some(1) Iri(a:p); Some(2) Blank(b); Some(3) Iri(a:g); Some(0) Some(1) Some(2) None Some(2) Some(1) Some(0) Some(3) ",
+    ),
+    (
+        "_:a <a:p> <a:b> .\n_:a <a:p> <a:\\u0062> .\n",
+        "2 lines: Some(0) Blank(a); Some(1) Iri(a:p); Some(2) Iri(a:b); Some(0) Some(1) Some(2) None Some(0) Some(1) Some(2) None ",
+    ),
+    (
+        "_:a<a:p>_:b.\r\n\r\n_:a <a:p> _:a .",
+        "3 lines: Some(0) Blank(a); Some(1) Iri(a:p); Some(2) Blank(b); Some(0) Some(1) Some(2) None Some(0) Some(1) Some(0) None ",
+    ),
+    ("_:a <a:p> _:b .\n\"a\" <a:p> _:b .\n", "malformed 1"),
+    ("_:a <a:p> _:b .\n_:a _:p _:b .\nx", "malformed 1"),
+    ("_:a <a:p> <b> .\n", "malformed 0"),
+];
+
+#[test]
+fn the_lines_of_a_piece_are_numbered(rt: HostRuntime) {
+    let state = RandomState::new(&rt).expect(&rt, "a hash state");
+    for (text, expected) in NUMBERED {
+        gives(
+            &rt,
+            *text,
+            *expected,
+            printed_lines(rt.alloc(), state, *text),
+        );
+    }
+}
+
+/// IRIs that are added in turn, and their numbers.
+const ADDED: &[(&str, u64)] = &[(A, 0), (B, 1), (A, 0), (C, 2), (B, 1)];
+
+/// The dictionary of a, b, c.
+const ABC: &str = "Some(0) Iri(http://e/a); Some(1) Iri(http://e/b); Some(2) Iri(http://e/c); ";
+
+/// Adds the IRIs, and checks their numbers.
+fn check_added<R: Abort>(rt: &R, alloc: Global, dict: &mut Dict) {
+    for (name, expected) in ADDED {
+        let found = add(alloc, dict, *name).expect(rt, "a number");
+        equal(rt, *name, *expected, found);
+    }
+}
+
+/// Returns whether the dictionary has no number for the term.
+fn is_absent(dict: &Dict, term: Term) -> bool {
+    dict.number_of(&term).is_none()
+}
+
+/// A known term keeps its number, a new one is last, and an unknown one has no number.
+#[test]
+fn terms_keep_their_numbers(rt: HostRuntime) {
+    let alloc = rt.alloc();
+    let state = RandomState::new(&rt).expect(&rt, "a hash state");
+    let mut dict = Dict::new(alloc, state).expect(&rt, "a dictionary");
+    check(&rt, alloc, "no term", "", &dict, &[]);
+    check_added(&rt, alloc, &mut dict);
+    check(&rt, alloc, "a b a c b", ABC, &dict, &[]);
+    assert!(rt; is_absent(&dict, Term::Iri(text(alloc, G))), "another IRI");
+    assert!(rt;
+        is_absent(&dict, Term::Blank(text(alloc, A))),
+        "a blank node"
+    );
+}
+
+/// Checks the merge of the pieces of the texts.
+fn check_merged<R: Abort>(
+    rt: &R,
+    alloc: Global,
+    state: RandomState,
+    texts: &[&str],
+    expected: &str,
+) {
+    let pieces = pieces(alloc, state, texts).expect(rt, "pieces");
+    let (dict, quads) = merge(alloc, state, pieces).expect(rt, "a merge");
+    check(rt, alloc, "a merge", expected, &dict, quads.as_slice());
+}
+
+/// The merge of the first, the second and the third piece.
+const MERGED: &str = "Some(0) Iri(http://e/a); Some(1) Iri(http://e/p); Some(2) Iri(http://e/b); \
+                      Some(3) Iri(http://e/q); Some(4) Blank(x); Some(5) Iri(http://e/g); \
+                      Some(0) Some(1) Some(2) None Some(2) Some(1) Some(0) None Some(0) Some(3) Some(4) Some(5) ";
+
+/// The same with the first two pieces exchanged.
+const EXCHANGED: &str =
+    "Some(0) Iri(http://e/b); Some(1) Iri(http://e/p); Some(2) Iri(http://e/a); \
+                         Some(3) Iri(http://e/q); Some(4) Blank(x); Some(5) Iri(http://e/g); \
+                         Some(0) Some(1) Some(2) None Some(2) Some(1) Some(0) None Some(2) Some(3) Some(4) Some(5) ";
+
+#[test]
+fn pieces_merge_in_order(rt: HostRuntime) {
+    let state = RandomState::new(&rt).expect(&rt, "a hash state");
+    check_merged(&rt, rt.alloc(), state, &[FIRST, SECOND, THIRD], MERGED);
+    check_merged(&rt, rt.alloc(), state, &[SECOND, FIRST, THIRD], EXCHANGED);
+}
+
+/// The text of a repeated statement.
+const REPEATS: &str =
+    "<http://e/a> <http://e/p> _:x .\n# nothing\n<http://e/a> <http://e/p> _:x .\n";
+
+/// Its piece.
+const REPEATED: &str = "Some(0) Iri(http://e/a); Some(1) Iri(http://e/p); Some(2) Blank(x); \
+                        Some(0) Some(1) Some(2) None Some(0) Some(1) Some(2) None ";
+
+/// A repeated statement is in the piece twice, with the same numbers.
+#[test]
+fn a_piece_keeps_its_repeats(rt: HostRuntime) {
+    let state = RandomState::new(&rt).expect(&rt, "a hash state");
+    let piece = numbered(rt.alloc(), state, REPEATS).expect(&rt, "a piece");
+    check(
+        &rt,
+        rt.alloc(),
+        REPEATS,
+        REPEATED,
+        piece.dict(),
+        piece.quads(),
+    );
+}
+
+/// Checks the numbers of b, c as a, b absorb them.
+fn check_numbers<R: Abort>(rt: &R, alloc: Global, state: RandomState, dict: &mut Dict) {
+    let other = dict_of(alloc, state, &[B, C]).expect(rt, "a dictionary");
+    let numbers = dict.absorb(other).expect(rt, "numbers");
+    same_numbers(rt, "numbers of b, c", &[1, 2], &numbers);
+}
+
+/// Absorbing b, c into a, b returns 1, 2 and leaves a, b, c.
+#[test]
+fn absorbed_terms_go_last(rt: HostRuntime) {
+    let state = RandomState::new(&rt).expect(&rt, "a hash state");
+    let mut dict = dict_of(rt.alloc(), state, &[A, B]).expect(&rt, "a dictionary");
+    check_numbers(&rt, rt.alloc(), state, &mut dict);
+    check(&rt, rt.alloc(), "a b, b c", ABC, &dict, &[]);
+}
+
+/// Returns the dictionary and the quads of the first piece.
+pub(crate) fn first_round(alloc: Global, state: RandomState) -> Option<(Dict, Vec<NumQuad>)> {
+    merge(alloc, state, pieces(alloc, state, &[FIRST])?).ok()
+}
+
+/// Looks the piece of a text up in the dictionary.
+pub(crate) fn looked_up(
+    alloc: Global,
+    state: RandomState,
+    dict: &Dict,
+    text: &str,
+) -> Option<SeenPiece> {
+    look_up(alloc, dict, numbered(alloc, state, text)?).ok()
+}
+
+/// Appends the numbers that the look-ups of a piece return, and `None` for new terms.
+fn append_seen(out: &mut String, piece: &SeenPiece) -> Result<(), AllocError> {
+    for seen in &piece.seen {
+        match seen {
+            Seen::Known(number) => write!(out, "Some({number}) ")?,
+            Seen::New(_) => out.push_str("None ")?,
+        }
+    }
+    Ok(())
+}
+
+/// Prints what the look-ups of two pieces return.
+fn seen_of(alloc: Global, second: &SeenPiece, third: &SeenPiece) -> Result<String, AllocError> {
+    let mut out = String::new(alloc);
+    append_seen(&mut out, second)?;
+    append_seen(&mut out, third)?;
+    Ok(out)
+}
+
+/// The numbers of the terms of the second and of the third piece in the dictionary of the first.
+const SEEN: &str = "Some(2) Some(1) Some(0) Some(0) None None None ";
+
+/// Looks two pieces up in the dictionary, checks what is found, and then adds them in order.
+fn add_two<R: Abort>(
+    rt: &R,
+    alloc: Global,
+    state: RandomState,
+    dict: &mut Dict,
+    quads: &mut Vec<NumQuad>,
+) {
+    let second = looked_up(alloc, state, dict, SECOND).expect(rt, "the second piece");
+    let third = looked_up(alloc, state, dict, THIRD).expect(rt, "the third piece");
+    gives(
+        rt,
+        "second and third",
+        SEEN,
+        seen_of(alloc, &second, &third),
+    );
+    add_piece(alloc, dict, quads, second).expect(rt, "the second piece");
+    add_piece(alloc, dict, quads, third).expect(rt, "the third piece");
+}
+
+/// Two pieces are looked up in the dictionary of the first, and then added in order: the result is that of `merge`.
+#[test]
+fn rounds_come_to_the_same(rt: HostRuntime) {
+    let state = RandomState::new(&rt).expect(&rt, "a hash state");
+    let (mut dict, mut quads) = first_round(rt.alloc(), state).expect(&rt, "the first piece");
+    add_two(&rt, rt.alloc(), state, &mut dict, &mut quads);
+    check(
+        &rt,
+        rt.alloc(),
+        "all three",
+        MERGED,
+        &dict,
+        quads.as_slice(),
+    );
+    absorbing_keeps_the_numbering();
+    earlier_places_serve();
+}
