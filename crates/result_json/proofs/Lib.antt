@@ -2,6 +2,7 @@ pub mod AheadSteps
 pub mod ChunkLaws
 pub mod ColumnLaws
 pub mod JsonLaws
+pub mod KeyedLaws
 pub mod PairLaws
 pub mod PieceLaws
 pub mod PrintedLaws

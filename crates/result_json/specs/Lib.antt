@@ -1,3 +1,4 @@
+pub mod Keyed
 pub mod Pairs
 pub mod Results
 pub mod Ranks

@@ -84,7 +84,7 @@ pub fn print_rows<R: Threads + Wait, G: Gate + Sync>(
 {
     let (listed, rows) = (table.listed, table.rows);
     let mut ranks = listed_codes(alloc, listed, rows, table.dict)?;
-    let terms = rank(alloc, &mut ranks, table.dict)?;
+    let terms = rank(rt, alloc, &mut ranks, table.dict, how)?;
     order_pairs(alloc, &mut ranks, listed.len(), rows.len())?;
     let sorted = sorted_rows(alloc, &ranks, listed.len(), rows.len())?;
     let kept = kept(&sorted, table.offset, table.limit);

@@ -50,7 +50,7 @@ impl<'a, 't> Job for RowBlocks<'a, 't> {
 }
 
 /// Returns the elements of a piece of `size` elements.
-fn piece<T>(elements: &[T], size: usize, number: u64) -> &[T]
+pub(crate) fn piece<T>(elements: &[T], size: usize, number: u64) -> &[T]
     ensures value { result.now ≡ piece_of size number elements.now }
 {
     let count = elements.len();
