@@ -3,6 +3,7 @@ pub mod ChunkLaws
 pub mod ColumnLaws
 pub mod JsonLaws
 pub mod KeyedLaws
+pub mod OrderSteps
 pub mod PairLaws
 pub mod PieceLaws
 pub mod PrintedLaws

@@ -1,8 +1,10 @@
 -- Cells of rows as numbers: first the numbers of their terms, then the ranks of the terms. Only
 -- private clauses use these definitions.
-use Rattle.std.specs.Prelude.{◌≡◌, ℕ, zero, suc, Bool, true, ◌<◌, ◌≤◌, List, length, map, get_or, slice_get, Option, None, Some, Contains}
+use Rattle.std.specs.Prelude.{◌≡◌, ℕ, zero, suc, Bool, true, false, ◌+◌, ◌*◌, ◌<◌, ◌≤◌, List, length, map, get_or, slice_get, Option, None, Some, Contains}
+use Rattle.std.specs.Ordering.{is_lt}
 use Rattle.std.specs.Borrow.{Bor}
 use Rattle.rdf_core.specs.declared.term.Term.{Term}
+use Rattle.rdf_core.specs.Order.{term_cmp}
 use Rattle.algebra_model.specs.RowOrder.{cells}
 use Rattle.algebra_model.specs.Solution.{Solution}
 
@@ -65,3 +67,18 @@ HasRank n numbers table j = (i : ℕ)
 -- the table has the rank of each of the numbers
 abbrev pub IsRankTable : List ℕ → List ℕ → Type 0
 IsRankTable numbers table = (j : ℕ) → j < length numbers → HasRank (length numbers) numbers table j
+
+-- no term from one place up to another is after the next term
+abbrev pub IsRisingPart : List Term → ℕ → ℕ → Type 0
+IsRisingPart terms from to = (k : ℕ) (d : Term)
+    → from ≤ k
+    → k < to
+    → is_lt (term_cmp (get_or terms (k + 1) d) (get_or terms k d)) ≡ false
+
+-- no term of piece i is after the next term of the list, with `size` terms in a piece
+abbrev pub IsPieceInOrder : ℕ → ℕ → List Term → Type 0
+IsPieceInOrder size i terms = (k : ℕ) (d : Term)
+    → i * size ≤ k
+    → k < i * size + size
+    → k + 1 < length terms
+    → is_lt (term_cmp (get_or terms (k + 1) d) (get_or terms k d)) ≡ false

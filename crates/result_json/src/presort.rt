@@ -5,8 +5,7 @@
 //! of keys reads no text. Terms with equal keys are compared as terms.
 //!
 //! Workers sort pieces of the list, and the sorted pieces are merged. So the result is in the order
-//! of terms. No contract says so: `rank` sorts the result again, which takes one comparison for each
-//! term.
+//! of terms. No contract says so: the caller checks the order.
 ghost use Rattle.std.specs.Prelude.{◌≡◌, ◌<◌, IfErr, IfOk, IsPermutation};
 ghost use Rattle.row_pieces.specs.How.{HasOneWorker, IsRunnable};
 ghost use Rattle.row_pieces.specs.declared.fault.EvalFault.TheVariants.{Memory};

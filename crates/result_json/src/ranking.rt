@@ -1,11 +1,12 @@
 //! Terms by rank: the distinct terms of a result are sorted, and rows are then compared by numbers.
-ghost use Rattle.std.specs.Prelude.{◌≡◌, ◌<◌, true, get_or, length, map, slice_get, slice_set, All, IfErr, IfOk, IsSorted};
+ghost use Rattle.std.specs.Prelude.{◌≡◌, ◌<◌, true, get_or, length, map, slice_get, slice_set, All, IfErr, IfOk, IsPermutation, IsSorted};
 ghost use Rattle.rdf_core.specs.Order.{term_cmp};
 ghost use Rattle.algebra_model.specs.Renaming.{Each};
 ghost use Rattle.row_pieces.specs.How.{HasOneWorker, IsRunnable};
 ghost use Rattle.row_pieces.specs.declared.fault.EvalFault.TheVariants.{Memory};
 ghost use Rattle.result_json.specs.Ranks.{ranked_cell, terms_of, numbers_of, IsCovered, IsEntry, IsMarked, IsRank, IsRankTable};
 
+use crate::order_check::is_in_order;
 use crate::presort::presorted;
 use dict_core::Dict;
 use rdf_core::Term;
@@ -89,6 +90,34 @@ fn put_ranks(codes: &mut [u64], table: &[u64])
     }
 }
 
+/// Returns the terms in ascending order, each with its number.
+///
+/// # Requires
+/// `how` is within its limits.
+///
+/// # Errors
+/// - `WorkerRefused` if a worker thread could not be started. It cannot occur with one worker.
+/// - `Memory` if an allocation fails.
+fn sorted_terms<'a, R: Threads + Wait>(
+    rt: &R,
+    alloc: Global,
+    entries: &[(&'a Term, u64)],
+    how: &How,
+) -> Result<Vec<(&'a Term, u64)>, EvalFault>
+    requires how { IsRunnable how.now }
+    ensures permutation { IfOk result (λ order. IsPermutation entries.now order.items) }
+    ensures rising { IfOk result (λ order. IsSorted term_cmp (terms_of order.items)) }
+    ensures one_worker { HasOneWorker how.now → IfErr result (λ fault. fault ≡ Memory) }
+{
+    // `presorted` returns the terms in order, but its contract does not say so.
+    let mut order = presorted(rt, alloc, entries, how)?;
+    if is_in_order(rt, alloc, &order, how)? {
+        return Ok(order);
+    }
+    order.sort()?;
+    Ok(order)
+}
+
 /// Replaces each code by the rank of its term, or by 0 if it has no term. Returns the terms in
 /// ascending order, each with its number. A rank is the place of the term plus one.
 ///
@@ -116,10 +145,7 @@ pub(crate) fn rank<'a, R: Threads + Wait>(
     ensures one_worker { HasOneWorker how.now → IfErr result (λ fault. fault ≡ Memory) }
 {
     let terms = distinct_terms(alloc, codes, dict)?;
-    // Workers sort the terms first. The sort that follows determines the order. It compares each
-    // term with the next, and finds them in order.
-    let mut order = presorted(rt, alloc, &terms, how)?;
-    order.sort()?;
+    let order = sorted_terms(rt, alloc, &terms, how)?;
     let table = rank_table(alloc, &order, dict.len())?;
     put_ranks(codes, &table);
     Ok(order)
