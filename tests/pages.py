@@ -37,11 +37,12 @@ PART = re.compile(r"(<!-- generated: (\w+), by tests/pages\.py -->\n).*?(<!-- en
 # Methods whose names standard types have too: a call counts only on a receiver with one of these names.
 RECEIVERS = {
     "Term": "term", "Pass": "pass|a|b", "Dict": "dict|dictionary", "Rows": "rows|left|right", "Source": "source|reader|device",
-    "Sink": "sink|writer|device", "Job": "job", "Lookup": "row", "Blocks": "blocks", "Cuts": "cuts",
+    "Sink": "sink|writer|device", "Job": "job", "Lookup": "row", "Blocks": "blocks", "Cuts": "cuts", "Index": "index",
+    "Store": "store", "LocalPiece": "piece|local", "QuadList": "list|gspo|gpos|gosp", "Quads": "quads|found",
 }
 # Types that a call returns, so that a file may use their methods without naming them.
 INFERRED = {"Index", "Store"}
-COMMON = {"copy", "get", "last", "len", "next", "read", "run", "term", "write", "piece", "index"}
+COMMON = {"copy", "get", "last", "len", "next", "quads", "read", "run", "term", "write", "piece", "index"}
 
 # The public calls and types, by the crate that offers them and by topic.
 SECTIONS = [

@@ -1,7 +1,6 @@
 -- Pieces that are read in parallel, and then added. Only private clauses use these definitions.
-use Rattle.std.specs.Prelude.{◌≡◌, ℕ, Vec, zero, suc, ◌+◌, ◌<◌, ◌==◌, List, [], ◌∷◌, length, slice_index_or, IsSorted, IsPermutation, if◌then◌else◌}
+use Rattle.std.specs.Prelude.{◌≡◌, ℕ, zero, suc, ◌+◌, ◌<◌, ◌==◌, List, [], ◌∷◌, length, slice_index_or, IsSorted, IsPermutation, if◌then◌else◌}
 use Rattle.std.specs.List.{AllZip}
-use Rattle.std.specs.Global.{Global}
 use Rattle.rdf_core.specs.declared.term.Term.{Term}
 use Rattle.rdf_core.specs.QuadParts.{QuadParts}
 use Rattle.nquads_core.specs.Lines.{lines}
@@ -59,11 +58,6 @@ pub record IsSortedList (order : SortOrder) (quads list : List NumQuad) : Type 0
 pub record AreSortedLists (quads : List NumQuad) (lists : List (List NumQuad)) : Type 0 where
   pub three : length lists ≡ 3
   pub each : (i : ℕ) → i < 3 → IsSortedList (order_at i) quads (slice_index_or lists i [])
-
--- the same of lists that own their quads; there may be more than three
-abbrev pub AreOwnedSortedLists : List NumQuad → List (Vec NumQuad Global) → Type 0
-AreOwnedSortedLists quads lists =
-    (i : ℕ) (d : Vec NumQuad Global) → i < 3 → IsSortedList (order_at i) quads (slice_index_or lists i d).items
 
 -- No lines are all valid and have a first malformed line.
 pub not_both : (ls : List (List ℕ)) (quads : List QuadParts) (k : ℕ) → HaveStatements ls quads → IsFirstMalformed ls k → ⊥

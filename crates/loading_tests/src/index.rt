@@ -3,7 +3,7 @@
 use crate::cases::{equal, same_numbers, same_quads};
 use dict_core::NumQuad;
 use quad_index::{
-    Index, IndexCounts, PackedList, SortOrder, count_quads, index_counts_the_quads,
+    Index, IndexCounts, QuadList, Quads, SortOrder, count_quads, index_counts_the_quads,
     index_names_the_graphs, index_reads_the_quads, sorted_list,
 };
 use std::alloc::{AllocError, AllocGlobal, Global};
@@ -113,31 +113,36 @@ fn quads_are_counted_once(rt: HostRuntime) {
     check_counted(&rt, rt.alloc(), "not packed", &quads, expected);
 }
 
-/// Checks that the packed list of the quads returns `expected`. If there is no packed list, `expected` must be empty.
-fn check_packed<R: Abort>(
-    rt: &R,
-    alloc: Global,
-    name: &str,
-    quads: &[NumQuad],
-    order: SortOrder,
-    expected: &[NumQuad],
-) {
-    let found = match PackedList::of(alloc, quads, order).expect(rt, name) {
-        Some(list) => list.into_quads(alloc).expect(rt, name),
-        None => Vec::new(alloc),
-    };
-    same_quads(rt, name, expected, &found);
+/// Checks that these are the quads, in this order.
+pub(crate) fn check_quads<R: Abort>(rt: &R, name: &str, expected: &[NumQuad], found: &Quads<'_>) {
+    equal(rt, name, expected.len() as u64, found.len() as u64);
+    for place in 0..expected.len().min(found.len()) {
+        same_quads(rt, name, &[expected[place]], &[found.get(place)]);
+    }
 }
 
-/// A packed list has each quad once, in its order, and there is none with a number that is too large.
+/// Checks that the list has two quads, and that each is a part of it.
+fn check_parts<R: Abort>(rt: &R, name: &str, list: &QuadList, first: NumQuad, second: NumQuad) {
+    equal(rt, name, 2, list.len() as u64);
+    let quads = list.quads();
+    if quads.len() == 2 {
+        check_quads(rt, name, &[first], &quads.part(0, 1));
+        check_quads(rt, name, &[second], &quads.part(1, 2));
+        equal(rt, name, 1, quads.part(2, 2).is_empty() as u64);
+        equal(rt, name, 0, quads.part(1, 2).is_empty() as u64);
+    }
+}
+
+/// A list gives its quads back, in parts, whether their numbers are packed or not.
 #[test]
-fn a_packed_list_gives_its_quads_back(rt: HostRuntime) {
+fn a_list_has_its_quads_in_parts(rt: HostRuntime) {
     let alloc = rt.alloc();
-    let [_, a, b, c] = QUADS;
-    let expected = [a, b, c];
-    check_packed(&rt, alloc, "four quads", &QUADS, SortOrder::Gpos, &expected);
-    let large = [quad(None, 0, 1, 0xFFFF_FFFF)];
-    check_packed(&rt, alloc, "a large number", &large, SortOrder::Gspo, &[]);
+    let [_, a, b, _] = QUADS;
+    let list = sorted_list(alloc, &[b, a, b], SortOrder::Gpos).expect(&rt, "packed");
+    check_parts(&rt, "packed", &list, a, b);
+    let large = quad(Some(0xFFFF_FFFF), 0, 1, 1 << 40);
+    let list = sorted_list(alloc, &[large, a, large], SortOrder::Gpos).expect(&rt, "not packed");
+    check_parts(&rt, "not packed", &list, a, large);
 }
 
 /// A name, the given graph, subject, predicate and object, and the number of quads.
@@ -178,7 +183,7 @@ pub(crate) type QuadScan = ([Option<u64>; 4], NumQuad);
 /// Checks that a scan returns its quad.
 pub(crate) fn check_scan<R: Abort>(rt: &R, name: &str, index: &Index, scan: QuadScan) {
     let ([g, s, p, o], expected) = scan;
-    same_quads(rt, name, &[expected], index.scan(g, s, p, o));
+    check_quads(rt, name, &[expected], &index.scan(g, s, p, o));
 }
 
 #[test]
@@ -191,6 +196,22 @@ fn scans_give_what_agrees(rt: HostRuntime) {
     check_scan(&rt, "built", &index, by_subject);
 }
 
+/// The quads of an index need not fit into keys.
+#[test]
+fn scans_find_large_numbers(rt: HostRuntime) {
+    let [_, a, b, c] = QUADS;
+    let large = quad(None, 0, 1, 1 << 40);
+    let index = side_by_side(rt.alloc(), &[a, large, b, c]).expect(&rt, "an index");
+    equal(&rt, "large", 4, index.quads());
+    check_graphs(&rt, "large", &index);
+    let by_object = ([None, None, None, Some(1 << 40)], large);
+    check_scan(&rt, "by object", &index, by_object);
+    let by_all = ([None, Some(0), Some(1), Some(1 << 40)], large);
+    check_scan(&rt, "by all", &index, by_all);
+    let by_graph = ([Some(5), None, None, None], c);
+    check_scan(&rt, "by graph", &index, by_graph);
+}
+
 /// Checks that the sorted list of the quads is this one.
 fn check_sorted<R: Abort>(
     rt: &R,
@@ -201,7 +222,7 @@ fn check_sorted<R: Abort>(
     expected: &[NumQuad],
 ) {
     let list = sorted_list(alloc, quads, order).expect(rt, name);
-    same_quads(rt, name, expected, &list);
+    check_quads(rt, name, expected, &list.quads());
 }
 
 /// Each order alone: no graph comes first, then the positions of the name.

@@ -1,12 +1,14 @@
 -- The steps of the functions of the index.
-use Rattle.std.proofs.Common.{◌≡◌, ℕ, zero, suc, ◌+◌, ◌<◌, false, Option, None, Some, List, [], ◌∷◌, length, get_or, filter, nat_eq, IsPermutation, IsSorted, refl, sym, ap, ◌∙◌, subst, arith}
+use Rattle.std.proofs.Common.{◌≡◌, ℕ, zero, suc, ◌+◌, ◌<◌, false, Option, None, Some, List, [], ◌∷◌, length, get_or, slice_get, take, ◌++◌, filter, nat_eq, IsPermutation, IsSorted, refl, sym, ap, ◌∙◌, subst, arith}
 use Rattle.std.specs.List.{All, cons_option, dedup}
 use Rattle.std.proofs.lemmas.Bool.Decides.{Decides-eqb}
 use Rattle.std.specs.Ordering.{is_eq, is_lt, nat_cmp}
 use Rattle.std.specs.Option.{option_cmp}
 use Rattle.std.specs.declared.cmp.Ordering.{Ordering}
 use Rattle.std.proofs.lemmas.Cmp.{nat_cmp_total}
-use Rattle.std.proofs.lemmas.List.Elements.{filter_agree, All-head, All-tail}
+use Rattle.std.proofs.lemmas.List.{take_more}
+use Rattle.std.proofs.lemmas.Option.{slice_get_within, get_or_from_slice_get}
+use Rattle.std.proofs.lemmas.List.Elements.{filter_agree, filter_map-append, All-head, All-tail}
 use Rattle.std.proofs.lemmas.List.Sorted.{sorted_far, ranks_by}
 use Rattle.algebra_model.proofs.BagLaws.{IsPermutation-filter}
 use Rattle.dict_core.specs.declared.num_quad.NumQuad.{NumQuad}
@@ -72,6 +74,12 @@ names_sorted (q ∷ qs) h = by q.g refl (names_sorted qs (tail_sorted by_g q qs 
     by : (o : Option ℕ) → q.g ≡ o → IsSorted nat_cmp (graph_names qs) → IsSorted nat_cmp (cons_option o (graph_names qs))
     by None e rest = rest
     by (Some n) e rest = push_front n (graph_names qs) rest (first_name q n e qs not_below)
+
+-- the graph names of one quad more
+pub names_more : (qs : List NumQuad) (i : ℕ) (q : NumQuad) → slice_get qs i ≡ Some q → graph_names (take (i + 1) qs) ≡ graph_names (take i qs) ++ cons_option q.g []
+names_more qs i q at =
+    ap graph_names (take_more qs i q (slice_get_within qs i q at) ∙ ap (λ x. take i qs ++ x ∷ []) (get_or_from_slice_get qs i q q at))
+    ∙ filter_map-append (λ x. x.g) (take i qs) (q ∷ [])
 
 -- the graph names of an index
 pub names_once : (now gspo : List NumQuad) (names slice : List ℕ) → gspo ≡ now → IsSorted by_gspo gspo → names ≡ dedup nat_eq (graph_names gspo) → slice ≡ names

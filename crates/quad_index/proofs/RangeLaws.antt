@@ -1,13 +1,13 @@
 -- Two binary searches in a sorted list give the elements that an order does not distinguish from a given
 -- one.
-use Rattle.std.proofs.Common.{◌≡◌, ℕ, suc, ◌+◌, ◌-◌, ◌<◌, ◌≤◌, Bool, true, false, cond, List, [], ◌∷◌, ◌++◌, length, get_or, take, drop, filter, IsSorted, refl, sym, ap, ◌∙◌, subst, true≢false, length-take, length-drop, arith}
+use Rattle.std.proofs.Common.{◌≡◌, ℕ, zero, suc, ◌+◌, ◌-◌, ◌<◌, ◌≤◌, Bool, true, false, cond, List, [], ◌∷◌, ◌++◌, length, get_or, take, drop, filter, map, IsSorted, refl, sym, ap, ◌∙◌, subst, true≢false, length-take, length-drop, arith}
 use Rattle.std.specs.List.{AllWithin}
 use Rattle.std.specs.List.Sorted.{IsNonDecreasingBy, IsPartitionedBy, IsPartitionPoint}
 use Rattle.std.specs.Ordering.{is_eq, is_lt, is_le, ordering_index}
 use Rattle.std.specs.Cmp.{IsTotalOrder}
 use Rattle.std.specs.declared.cmp.Ordering.{Ordering}
 use Rattle.std.specs.declared.cmp.Ordering.TheVariants.{Less, Equal, Greater}
-use Rattle.std.proofs.lemmas.List.{get_or-take, get_or-drop, take-append-drop, append-nil}
+use Rattle.std.proofs.lemmas.List.{get_or-take, get_or-drop, take-append-drop, append-nil, length-map}
 use Rattle.std.proofs.Math.Seq.{take-length}
 use Rattle.std.proofs.lemmas.List.Elements.{filter-append}
 use Rattle.std.proofs.lemmas.List.Sorted.{searchable_from_sorted, IsNonDecreasingBy-drop}
@@ -125,3 +125,47 @@ found_is R xs w start count low high =
     ap (take count) (rest_is xs start)
     ∙ range_is (λ y. R y w) xs start count low
     (subst (λ l. IsPartitionPoint (λ y. is_le (R y w) ≡ true) (λ y. is_le (R y w) ≡ false) l count) (rest_is xs start) high)
+
+-- the same in a list of keys, each of which has an element
+module _ {K X : Type 0} (f : K → X) where
+  get_of : (ks : List K) (i : ℕ) (d : K) → get_or (map f ks) i (f d) ≡ f (get_or ks i d)
+  get_of [] i d = refl
+  get_of (k ∷ ks) zero d = refl
+  get_of (k ∷ ks) (suc i) d = get_of ks i d
+
+  map-filter : (p : X → Bool) (ks : List K) → map f (filter (λ k. p (f k)) ks) ≡ filter p (map f ks)
+  map-filter p [] = refl
+  map-filter p (k ∷ ks) = by (p (f k)) (map-filter p ks)
+    where
+      by : (b : Bool) → map f (filter (λ j. p (f j)) ks) ≡ filter p (map f ks)
+          → map f (cond b (k ∷ filter (λ j. p (f j)) ks) (filter (λ j. p (f j)) ks)) ≡ cond b (f k ∷ filter p (map f ks)) (filter p (map f ks))
+      by true e = ap (λ l. f k ∷ l) e
+      by false e = e
+
+  module _ (R : X → X → Ordering) (o : IsTotalOrder R) (ks : List K) (sorted : IsSorted R (map f ks)) (w : X) where
+    keys_sorted : IsSorted (λ a b. R (f a) (f b)) ks
+    keys_sorted i d low high =
+        let n = length-map ks f in
+        ap is_lt (λ j. R (sym (get_of ks (i + 1) d) j) (sym (get_of ks i d) j)) ∙ sorted i (f d) (omega (arith, n, low)) (omega (arith, n, high))
+
+    keys_rise : IsNonDecreasingBy (λ k. ordering_index (R (f k) w)) ks
+    keys_rise = searchable_from_sorted o f ks w keys_sorted
+
+    pub parted_keys : IsPartitionedBy (λ k. is_lt (R (f k) w)) ks
+    parted_keys = parted_lt (λ k. R (f k) w) ks keys_rise
+
+    pub parted_rest_keys : (n : ℕ) → IsPartitionedBy (λ k. is_le (R (f k) w)) (take (length ks - n) (drop n ks))
+    parted_rest_keys n =
+        let rest : IsNonDecreasingBy (λ k. ordering_index (R (f k) w)) (take (length ks - n) (drop n ks)) =
+        subst (IsNonDecreasingBy (λ k. ordering_index (R (f k) w))) (sym (rest_is ks n)) (IsNonDecreasingBy-drop (λ k. ordering_index (R (f k) w)) n ks keys_rise) in
+        parted_le (λ k. R (f k) w) (take (length ks - n) (drop n ks)) rest
+
+  pub found_keys : (R : X → X → Ordering) (ks : List K) (w : X) (start count : ℕ)
+      → IsPartitionPoint (λ k. is_lt (R (f k) w) ≡ true) (λ k. is_lt (R (f k) w) ≡ false) ks start
+      → IsPartitionPoint (λ k. is_le (R (f k) w) ≡ true) (λ k. is_le (R (f k) w) ≡ false) (take (length ks - start) (drop start ks)) count
+      → map f (take count (take (length ks - start) (drop start ks))) ≡ filter (λ y. is_eq (R y w)) (map f ks)
+  found_keys R ks w start count low high =
+      ap (map f) (ap (take count) (rest_is ks start)
+      ∙ range_is (λ k. R (f k) w) ks start count low
+      (subst (λ l. IsPartitionPoint (λ k. is_le (R (f k) w) ≡ true) (λ k. is_le (R (f k) w) ≡ false) l count) (rest_is ks start) high))
+      ∙ map-filter (λ y. is_eq (R y w)) ks

@@ -3,4 +3,5 @@ pub mod Matching
 pub mod Indexed
 pub mod Laws
 pub mod Packed
+pub mod Lists
 pub mod Counting

@@ -4,6 +4,7 @@ ghost use Rattle.quad_index.specs.Counting.{IsCountOf, IsCountOfKeys, names_afte
 
 use crate::index::names_of;
 use crate::packed::{graph_key_of, keys_of};
+use crate::quads::Quads;
 use crate::sort_order::{SortOrder, sort_once};
 use dict_core::NumQuad;
 use std::alloc::{AllocError, Global};
@@ -72,7 +73,7 @@ fn count_plain(alloc: Global, quads: Vec<NumQuad>) -> Result<IndexCounts, AllocE
 {
     let mut list = quads;
     sort_once(&mut list, SortOrder::Gspo);
-    let names = names_of(alloc, list.as_slice())?;
+    let names = names_of(alloc, &Quads::plain(list.as_slice()))?;
     Ok(IndexCounts {
         quads: list.len() as u64,
         graphs: names.len() as u64,

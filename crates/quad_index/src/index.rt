@@ -9,8 +9,10 @@ ghost use Rattle.quad_index.specs.Indexed.{scan_key};
 ghost use Rattle.quad_index.specs.Matching.{agrees, graph_names};
 
 use crate::prefix::Prefix;
+use crate::quad_list::{QuadList, sorted_list};
+use crate::quads::Quads;
 use crate::range::range;
-use crate::sort_order::{SortOrder, sort_once, sort_quads};
+use crate::sort_order::SortOrder;
 use dict_core::NumQuad;
 use std::alloc::{AllocError, Global};
 use std::marker::Model;
@@ -18,9 +20,9 @@ use std::marker::Model;
 /// A set of numbered quads that is quick to search. In contracts this type is the list of its quads, each
 /// once.
 pub struct Index {
-    gspo: Vec<NumQuad>,
-    gpos: Vec<NumQuad>,
-    gosp: Vec<NumQuad>,
+    gspo: QuadList,
+    gpos: QuadList,
+    gosp: QuadList,
     graphs: Vec<u64>,
 }
 
@@ -44,10 +46,10 @@ impl Model for Index {
 
     ghost Value = { List NumQuad };
 
-    ghost view = { λ index. index.gspo.items };
+    ghost view = { λ index. index.gspo };
 
     ghost invariant = { λ index.
-        IsIndexed index.gspo.items index.gpos.items index.gosp.items index.graphs.items };
+        IsIndexed index.gspo index.gpos index.gosp index.graphs.items };
 }
 
 impl Index {
@@ -59,12 +61,10 @@ impl Index {
         ensures each_once { IfOk result
             (λ index. IsPermutation (without_repeats quad_eq quads.items) index) }
     {
-        let mut gspo = quads;
-        sort_once(&mut gspo, SortOrder::Gspo);
-        let mut gpos = Vec::from_slice(alloc, gspo.as_slice())?;
-        sort_quads(&mut gpos, SortOrder::Gpos);
-        let mut gosp = Vec::from_slice(alloc, gspo.as_slice())?;
-        sort_quads(&mut gosp, SortOrder::Gosp);
+        let quads = quads.as_slice();
+        let gspo = sorted_list(alloc, quads, SortOrder::Gspo)?;
+        let gpos = sorted_list(alloc, quads, SortOrder::Gpos)?;
+        let gosp = sorted_list(alloc, quads, SortOrder::Gosp)?;
         Index::of_lists(alloc, gspo, gpos, gosp)
     }
 
@@ -77,19 +77,19 @@ impl Index {
     /// `AllocError` if an allocation fails. The lists are dropped.
     pub fn of_lists(
         alloc: Global,
-        gspo: Vec<NumQuad>,
-        gpos: Vec<NumQuad>,
-        gosp: Vec<NumQuad>,
+        gspo: QuadList,
+        gpos: QuadList,
+        gosp: QuadList,
     ) -> Result<Index, AllocError>
-        requires distinct { IsWithoutRepeats quad_eq gspo.items }
-        requires sorted_gspo { IsSorted by_gspo gspo.items }
-        requires sorted_gpos { IsSorted by_gpos gpos.items }
-        requires sorted_gosp { IsSorted by_gosp gosp.items }
-        requires same_gpos { IsPermutation gspo.items gpos.items }
-        requires same_gosp { IsPermutation gspo.items gosp.items }
-        ensures quads { IfOk result (λ index. index ≡ gspo.items) }
+        requires distinct { IsWithoutRepeats quad_eq gspo }
+        requires sorted_gspo { IsSorted by_gspo gspo }
+        requires sorted_gpos { IsSorted by_gpos gpos }
+        requires sorted_gosp { IsSorted by_gosp gosp }
+        requires same_gpos { IsPermutation gspo gpos }
+        requires same_gosp { IsPermutation gspo gosp }
+        ensures quads { IfOk result (λ index. index ≡ gspo) }
     {
-        let graphs = names_of(alloc, gspo.as_slice())?;
+        let graphs = names_of(alloc, &gspo.quads())?;
         Ok(Index {
             gspo,
             gpos,
@@ -99,20 +99,20 @@ impl Index {
     }
 
     /// Returns the quads of one graph, None for the default graph, that have the given numbers at the given
-    /// places. Each quad is in the result once. The slice is borrowed, and nothing is copied.
-    pub fn scan(&self, g: Option<u64>, s: Option<u64>, p: Option<u64>, o: Option<u64>) -> &[NumQuad]
-        ensures quads { IsPermutation (filter (agrees g s p o) self.now) result.now }
+    /// places. Each quad is in the result once. The quads are borrowed, and nothing is copied.
+    pub fn scan(&self, g: Option<u64>, s: Option<u64>, p: Option<u64>, o: Option<u64>) -> Quads<'_>
+        ensures quads { IsPermutation (filter (agrees g s p o) self.now) result }
     {
         let key = scan_key(g, s, p, o);
         match (s, p, o) {
-            (None, None, None) => range(self.gspo.as_slice(), Prefix::G, key),
-            (Some(_), None, None) => range(self.gspo.as_slice(), Prefix::Gs, key),
-            (Some(_), Some(_), None) => range(self.gspo.as_slice(), Prefix::Gsp, key),
-            (Some(_), Some(_), Some(_)) => range(self.gspo.as_slice(), Prefix::Gspo, key),
-            (None, Some(_), None) => range(self.gpos.as_slice(), Prefix::Gp, key),
-            (None, Some(_), Some(_)) => range(self.gpos.as_slice(), Prefix::Gpo, key),
-            (None, None, Some(_)) => range(self.gosp.as_slice(), Prefix::Go, key),
-            (Some(_), None, Some(_)) => range(self.gosp.as_slice(), Prefix::Gos, key),
+            (None, None, None) => range(&self.gspo.quads(), Prefix::G, key),
+            (Some(_), None, None) => range(&self.gspo.quads(), Prefix::Gs, key),
+            (Some(_), Some(_), None) => range(&self.gspo.quads(), Prefix::Gsp, key),
+            (Some(_), Some(_), Some(_)) => range(&self.gspo.quads(), Prefix::Gspo, key),
+            (None, Some(_), None) => range(&self.gpos.quads(), Prefix::Gp, key),
+            (None, Some(_), Some(_)) => range(&self.gpos.quads(), Prefix::Gpo, key),
+            (None, None, Some(_)) => range(&self.gosp.quads(), Prefix::Go, key),
+            (Some(_), None, Some(_)) => range(&self.gosp.quads(), Prefix::Gos, key),
         }
     }
 
@@ -146,7 +146,7 @@ fn scan_key(g: Option<u64>, s: Option<u64>, p: Option<u64>, o: Option<u64>) -> N
 }
 
 /// Returns the graph names of sorted quads, each once.
-pub(crate) fn names_of(alloc: Global, quads: &[NumQuad]) -> Result<Vec<u64>, AllocError>
+pub(crate) fn names_of(alloc: Global, quads: &Quads<'_>) -> Result<Vec<u64>, AllocError>
     ensures names { IfOk result (λ names. names.items ≡ dedup nat_eq (graph_names quads.now)) }
 {
     let mut names = repeated_names(alloc, quads)?;
@@ -155,8 +155,15 @@ pub(crate) fn names_of(alloc: Global, quads: &[NumQuad]) -> Result<Vec<u64>, All
     Ok(names)
 }
 
-fn repeated_names(alloc: Global, quads: &[NumQuad]) -> Result<Vec<u64>, AllocError>
+fn repeated_names(alloc: Global, quads: &Quads<'_>) -> Result<Vec<u64>, AllocError>
     ensures names { IfOk result (λ names. names.items ≡ graph_names quads.now) }
 {
-    quads.iter().filter_map(|q| q.g).collect(alloc)
+    let mut names = Vec::new(alloc);
+    for place in 0..quads.len() {
+        match quads.get(place).g {
+            Some(name) => names.push(name)?,
+            None => {}
+        }
+    }
+    Ok(names)
 }

@@ -1,7 +1,7 @@
-//! Lists that are sorted by packed keys.
+//! Quads as packed keys.
 //!
 //! Four numbers of 32 bits are packed into a key of 128 bits. The order of the keys is the order of the quads.
-//! Keys are sorted several times faster than quads.
+//! Keys take less memory than quads, and are sorted several times faster.
 ghost use Rattle.std.specs.Prelude.{◌≡◌, true, map, All, IfOk, IfSome, IsPermutation, IsSorted};
 ghost use Rattle.algebra_model.specs.Bag.{IsWithoutRepeats, without_repeats};
 ghost use Rattle.dict_core.proofs.NumQuadLaws.{quad_eq};
@@ -11,7 +11,6 @@ ghost use Rattle.quad_index.specs.SortOrder.{order_cmp};
 use crate::sort_order::SortOrder;
 use dict_core::NumQuad;
 use std::alloc::{AllocError, Global};
-use std::marker::Model;
 
 /// One more than the largest number of a place.
 const PLACE: u128 = 1 << 32;
@@ -19,58 +18,29 @@ const PLACE: u128 = 1 << 32;
 /// The least number that is not packed.
 const TOO_LARGE: u64 = 0xFFFF_FFFF;
 
-/// A sorted list of quads, each once, as packed keys: 16 bytes for each quad. In contracts this type is the list of
-/// the quads.
-#[derive(Drop)]
-pub struct PackedList {
-    keys: Vec<u128>,
+/// Packs the quads into keys in this order, each once. Returns `None` if a number of a quad is 2^32 - 1 or more.
+///
+/// # Errors
+/// `AllocError` if an allocation fails.
+pub(crate) fn sorted_keys(
+    alloc: Global,
+    quads: &[NumQuad],
     order: SortOrder,
-}
-
-impl Model for PackedList {
-    ghost use Rattle.std.specs.Prelude.{List, map};
-    ghost use Rattle.dict_core.specs.declared.num_quad.NumQuad.{NumQuad};
-    ghost use Rattle.quad_index.specs.Packed.{quad_of};
-
-    ghost Value = { List NumQuad };
-
-    ghost view = { λ list. map (quad_of list.order) list.keys.items };
-}
-
-impl PackedList {
-    /// Packs the quads in this order, each once. Returns `None` if a number of a quad is 2^32 - 1 or more.
-    ///
-    /// # Errors
-    /// `AllocError` if an allocation fails.
-    pub fn of(
-        alloc: Global,
-        quads: &[NumQuad],
-        order: SortOrder,
-    ) -> Result<Option<PackedList>, AllocError>
-        ensures sorted { IfOk result
-            (λ found. IfSome found (λ list. IsSorted (order_cmp order) list)) }
-        ensures each_once { IfOk result (λ found. IfSome found
-            (λ list. IsPermutation (without_repeats quad_eq quads.now) list)) }
-        ensures distinct { IfOk result
-            (λ found. IfSome found (λ list. IsWithoutRepeats quad_eq list)) }
-    {
-        let Some(mut keys) = keys_of(alloc, quads, order)? else {
-            return Ok(None);
-        };
-        keys.sort()?;
-        keys.dedup();
-        Ok(Some(PackedList { keys, order }))
-    }
-
-    /// Returns the quads. The keys are freed.
-    ///
-    /// # Errors
-    /// `AllocError` if an allocation fails.
-    pub fn into_quads(self, alloc: Global) -> Result<Vec<NumQuad>, AllocError>
-        ensures quads { IfOk result (λ quads. quads.items ≡ self) }
-    {
-        quads_of(alloc, self.keys.as_slice(), self.order)
-    }
+) -> Result<Option<Vec<u128>>, AllocError>
+    ensures sorted { IfOk result (λ found. IfSome found
+        (λ keys. IsSorted (order_cmp order) (map (quad_of order) keys.items))) }
+    ensures each_once { IfOk result (λ found. IfSome found
+        (λ keys. IsPermutation (without_repeats quad_eq quads.now) (map (quad_of order) keys.items))) }
+    ensures distinct { IfOk result (λ found. IfSome found
+        (λ keys. IsWithoutRepeats quad_eq (map (quad_of order) keys.items))) }
+{
+    let Some(mut keys) = keys_of(alloc, quads, order)? else {
+        return Ok(None);
+    };
+    keys.sort()?;
+    keys.dedup();
+    keys.shrink_to_fit();
+    Ok(Some(keys))
 }
 
 /// Packs the quads into keys. Returns `None` if a number is too large for its place.
@@ -120,24 +90,16 @@ fn key_of(order: SortOrder, quad: &NumQuad) -> u128
 }
 
 /// Returns the part of a key for the graph name. It is 0 if there is no name.
+#[inline(always)]
 pub(crate) fn graph_key_of(key: u128) -> u64
     ensures graph { result ≡ graph_key_of key }
 {
     (key / PLACE / PLACE / PLACE) as u64
 }
 
-/// Returns the quads that have these keys.
-fn quads_of(alloc: Global, keys: &[u128], order: SortOrder) -> Result<Vec<NumQuad>, AllocError>
-    ensures quads { IfOk result (λ quads. quads.items ≡ map (quad_of order) keys.now) }
-{
-    let mut quads = Vec::with_capacity(alloc, keys.len())?;
-    for key in keys {
-        quads.push_reserved(quad_of(order, *key));
-    }
-    Ok(quads)
-}
-
-fn quad_of(order: SortOrder, key: u128) -> NumQuad
+/// Returns the quad that has this key.
+#[inline(always)]
+pub(crate) fn quad_of(order: SortOrder, key: u128) -> NumQuad
     ensures quad { result ≡ quad_of order key }
 {
     let a = (key / PLACE / PLACE % PLACE) as u64;

@@ -1,10 +1,9 @@
-//! The three orders, and lists sorted by them.
+//! The three orders, and quads sorted by them.
 ghost use Rattle.std.specs.Prelude.{IfOk, IsPermutation, IsSorted};
 ghost use Rattle.algebra_model.specs.Bag.{IsWithoutRepeats, without_repeats};
 ghost use Rattle.dict_core.specs.Equality.{quad_eq};
 ghost use Rattle.quad_index.specs.SortOrder.{order_cmp};
 
-use crate::packed::PackedList;
 use dict_core::NumQuad;
 use std::alloc::{AllocError, Global};
 
@@ -20,31 +19,8 @@ pub enum SortOrder {
     Gosp,
 }
 
-/// Returns the quads in this order, each once.
-///
-/// `Index::of_lists` builds an index from the lists of the same quads in the three orders. The lists
-/// may thus be sorted in parallel.
-///
-/// # Errors
-/// `AllocError` if an allocation fails.
-pub fn sorted_list(
-    alloc: Global,
-    quads: &[NumQuad],
-    order: SortOrder,
-) -> Result<Vec<NumQuad>, AllocError>
-    ensures sorted { IfOk result (λ list. IsSorted (order_cmp order) list.items) }
-    ensures each_once { IfOk result
-        (λ list. IsPermutation (without_repeats quad_eq quads.now) list.items) }
-    ensures distinct { IfOk result (λ list. IsWithoutRepeats quad_eq list.items) }
-{
-    match PackedList::of(alloc, quads, order)? {
-        Some(list) => list.into_quads(alloc),
-        None => plain_list(alloc, quads, order),
-    }
-}
-
 /// Returns the quads in this order, each once. Their numbers may have any size.
-fn plain_list(
+pub(crate) fn sorted_quads(
     alloc: Global,
     quads: &[NumQuad],
     order: SortOrder,

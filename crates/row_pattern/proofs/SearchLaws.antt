@@ -1,8 +1,9 @@
 -- The sum of the iterations of a search.
-use Rattle.std.proofs.Common.{◌≡◌, ℕ, zero, suc, ◌+◌, ◌<◌, List, [], ◌∷◌, ◌++◌, length, get_or, set, take, drop, map, flat_map, filter_map, replicate, Option, None, Some, nat_eq, IsPermutation, Contains, refl, sym, ap, ◌∙◌, subst, append-nil, append_assoc}
+use Rattle.std.proofs.Common.{◌≡◌, ℕ, zero, suc, ◌+◌, List, [], ◌∷◌, ◌++◌, get_or, set, slice_get, take, drop, map, flat_map, filter_map, replicate, Option, None, Some, nat_eq, IsPermutation, Contains, refl, sym, ap, ◌∙◌, subst, append-nil, append_assoc}
 use Rattle.std.proofs.lemmas.Bool.Decides.{Decides-eqb}
 use Rattle.std.proofs.lemmas.List.{map-append, map_more, take-map, drop-map, set-get_or}
 use Rattle.std.proofs.lemmas.List.Elements.{filter_map-append}
+use Rattle.std.proofs.lemmas.Option.{slice_get_within, get_or_from_slice_get}
 use Rattle.std.proofs.lemmas.List.Folds.{flat_map-map}
 use Rattle.std.proofs.lemmas.List.Sorted.{IsPermutation-refl, IsPermutation-sym, IsPermutation-trans, IsPermutation-map, IsPermutation-append_left, IsPermutation-append_right}
 use Rattle.std.proofs.lemmas.Grind.{flat_map-append}
@@ -93,13 +94,14 @@ pub added-is : {X : Type 0} (first more A : List X) → more ≡ first ++ A → 
 added-is first more A e = subst (λ l. IsPermutation more l) e (IsPermutation-refl more)
 
 -- with one more quad
-pub quad-turn : (w : ℕ) (G : List (Triple ℕ)) (t : Step) (rest : List Step) (m n : Solution ℕ) (quads : List NumQuad) (i : ℕ) (d : NumQuad) (first found more : List (Solution ℕ)) → i < length quads → n ≡ m
-    → IsSameBag found (first ++ solutions_over w G t rest m (map triple_of (take i quads))) → IsSameBag more (found ++ solutions_over w G t rest n (triple_of (get_or quads i d) ∷ []))
+pub quad-turn : (w : ℕ) (G : List (Triple ℕ)) (t : Step) (rest : List Step) (m n : Solution ℕ) (quads : List NumQuad) (i : ℕ) (q : NumQuad) (first found more : List (Solution ℕ)) → slice_get quads i ≡ Some q → n ≡ m
+    → IsSameBag found (first ++ solutions_over w G t rest m (map triple_of (take i quads))) → IsSameBag more (found ++ solutions_over w G t rest n (triple_of q ∷ []))
     → IsSameBag more (first ++ solutions_over w G t rest m (map triple_of (take (i + 1) quads)))
-quad-turn w G t rest m n quads i d first found more low e h k =
-    added first found more (solutions_over w G t rest m (map triple_of (take i quads))) (solutions_over w G t rest m (triple_of (get_or quads i d) ∷ [])) (solutions_over w G t rest m (map triple_of (take (i + 1) quads))) h
-    (subst (λ (r : Solution ℕ). IsSameBag more (found ++ solutions_over w G t rest r (triple_of (get_or quads i d) ∷ []))) e k)
-    (ap (solutions_over w G t rest m) (map_more triple_of quads i d low) ∙ over-append w G t rest m (map triple_of (take i quads)) (triple_of (get_or quads i d) ∷ []))
+quad-turn w G t rest m n quads i q first found more at e h k =
+    added first found more (solutions_over w G t rest m (map triple_of (take i quads))) (solutions_over w G t rest m (triple_of q ∷ [])) (solutions_over w G t rest m (map triple_of (take (i + 1) quads))) h
+    (subst (λ (r : Solution ℕ). IsSameBag more (found ++ solutions_over w G t rest r (triple_of q ∷ []))) e k)
+    (ap (solutions_over w G t rest m) (map_more triple_of quads i q (slice_get_within quads i q at) ∙ ap (λ (x : NumQuad). map triple_of (take i quads) ++ triple_of x ∷ []) (get_or_from_slice_get quads i q q at))
+    ∙ over-append w G t rest m (map triple_of (take i quads)) (triple_of q ∷ []))
 
 -- what a step adds
 pub step-added : (w : ℕ) (G : List (Triple ℕ)) (t : Step) (rest steps : List Step) (m : Solution ℕ) (S : List (Triple ℕ)) (first more : List (Solution ℕ)) → steps ≡ t ∷ rest

@@ -13,9 +13,8 @@ ghost use Rattle.row_pattern.specs.Steps.{solutions_from, solutions_over};
 use crate::numbered::NumberedTriple;
 use crate::search::Search;
 use crate::steps::{Step, ordered_steps, unbound};
-use dict_core::NumQuad;
 use piece_pool::Gate;
-use quad_index::Index;
+use quad_index::{Index, Quads};
 use row_core::Rows;
 use row_pieces::{EvalFault, How, RowWork, over_pieces};
 use std::alloc::{AllocError, Global};
@@ -29,7 +28,7 @@ struct Matches<'a> {
     search: Search<'a>,
     first: &'a Step,
     rest: &'a [Step],
-    quads: &'a [NumQuad],
+    quads: Quads<'a>,
     cells: usize,
     ghost wide: { search.width ≤ cells },
 }
@@ -45,7 +44,7 @@ impl<'a> RowWork for Matches<'a> {
         (λ quad. solutions_over work.search.width
         (triples_of work.search.graph work.search.index.now)
         work.first.now work.rest.now (replicate work.cells None) (triple_of quad ∷ []))
-        work.quads.now };
+        work.quads };
 
     fn row_width(&self) -> usize {
         self.search.width
@@ -58,9 +57,9 @@ impl<'a> RowWork for Matches<'a> {
     fn run(&self, alloc: Global, from: usize, to: usize) -> Result<Rows, AllocError> {
         let mut found = Rows::new(alloc, self.search.width);
         let mut row = unbound(alloc, self.cells)?;
-        let quads = &self.quads[from..to];
+        let quads = self.quads.part(from, to);
         self.search
-            .add_matches(&mut row, self.first, self.rest, quads, &mut found)?;
+            .add_matches(&mut row, self.first, self.rest, &quads, &mut found)?;
         Ok(found)
     }
 }

@@ -11,7 +11,7 @@ ghost use Rattle.row_pattern.specs.Search.{put_back};
 use crate::cells::{Binding, bind, given, put};
 use crate::steps::Step;
 use dict_core::NumQuad;
-use quad_index::Index;
+use quad_index::{Index, Quads};
 use row_core::Rows;
 use std::alloc::AllocError;
 
@@ -63,9 +63,9 @@ pub(crate) struct Search<'a> {
 
 impl<'a> Search<'a> {
     /// Returns the quads that may extend a row by a step: those that agree with what the row binds.
-    pub fn matches(&self, row: &[Option<u64>], step: &Step) -> &'a [NumQuad]
+    pub fn matches(&self, row: &[Option<u64>], step: &Step) -> Quads<'a>
         ensures same { IsSameBag
-            (filter_map (extend_by nat_eq 0 (step_pattern step.now) row.now) (map triple_of result.now))
+            (filter_map (extend_by nat_eq 0 (step_pattern step.now) row.now) (map triple_of result))
             (filter_map (extend_by nat_eq 0 (step_pattern step.now) row.now)
             (triples_of self.now.graph self.now.index.now)) }
     {
@@ -101,7 +101,7 @@ impl<'a> Search<'a> {
             None => found.push(&row[..self.width]),
             Some((step, rest)) => {
                 let quads = self.matches(row, step);
-                self.add_matches(row, step, rest, quads, found)
+                self.add_matches(row, step, rest, &quads, found)
             }
         }
     }
@@ -114,7 +114,7 @@ impl<'a> Search<'a> {
         row: &mut [Option<u64>],
         step: &Step,
         rest: &[Step],
-        quads: &[NumQuad],
+        quads: &Quads<'_>,
         found: &mut Rows,
     ) -> Result<(), AllocError>
         requires wide { self.now.width ≤ length row.old }
@@ -125,8 +125,8 @@ impl<'a> Search<'a> {
         ensures width { found.new.width ≡ found.old.width }
         ensures row { OnOk result (row.new ≡ row.old) }
     {
-        for quad in quads {
-            self.add_match(row, step, rest, quad, found)?;
+        for place in 0..quads.len() {
+            self.add_match(row, step, rest, &quads.get(place), found)?;
         }
         Ok(())
     }

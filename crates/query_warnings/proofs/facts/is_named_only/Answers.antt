@@ -11,4 +11,4 @@ returns-then-is_empty-clause-empty c some =
     let none = λ (quads : List NumQuad). filter (agrees None None None None) quads ≡ [] in
     subst none c.index.ensures.quads
     (nil_from_length (filter (agrees None None None None) c.index.result.now)
-    (sym (length_permutation (filter (agrees None None None None) c.index.result.now) c.scan.result.now c.scan.ensures.quads) ∙ eqb-true _ _ (sym c.if-is_empty.ensures)))
+    (sym (length_permutation (filter (agrees None None None None) c.index.result.now) c.scan.result c.scan.ensures.quads) ∙ eqb-true _ _ (sym c.if-is_empty.ensures.value)))

@@ -40,7 +40,7 @@ returns-clause-rows g c =
     IfOk-weaker c.over_pieces.result _ _
     (λ found h. rows-solve c.args.width c.args.labels cells (map pattern_of c.args.patterns.now) c.args.graph c.args.index.now c.in_ok-steps.steps.items wide c.quads_occur_once.ensures.distinct c.requires.below c.in_ok-steps.ensures.same
     (first ∷ rest) found.rows (sym c.as_slice.ensures.value ∙ c.in-Some.ensures.cases.0)
-    (all-rows c.args.width G first rest cells c.matches.result.now c.deref.result.now found.rows (c.deref.ensures.value ∙ c.in_ok-row.ensures.row) c.matches.ensures.same h.1))
+    (all-rows c.args.width G first rest cells c.matches.result c.deref.result.now found.rows (c.deref.ensures.value ∙ c.in_ok-row.ensures.row) c.matches.ensures.same h.1))
     c.over_pieces.ensures.rows
 
 pub returns-clause-known : goal.returns-clause-known

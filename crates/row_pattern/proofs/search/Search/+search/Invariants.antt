@@ -13,9 +13,9 @@ decreases-add_matches l = 3 * length l.rest.now + 2
 abbrev pub decreases-add_solutions : goal.decreases-add_solutions
 decreases-add_solutions l = 3 * length l.steps.now
 
-abbrev pub invariant-add_matches-loop-quad : goal.invariant-add_matches-loop-quad
-invariant-add_matches-loop-quad l = record {
+abbrev pub invariant-add_matches-loop-place : goal.invariant-add_matches-loop-place
+invariant-add_matches-loop-place l = record {
   row : l.row ≡ l.initial.row;
   width : l.found.width ≡ l.initial.found.width;
-  found : IsSameBag l.found.rows (l.initial.found.rows ++ solutions_over l.self.width (triples_of l.self.graph l.self.index.now) l.step l.rest l.initial.row (map triple_of (take l.quad-index l.quads)));
+  found : IsSameBag l.found.rows (l.initial.found.rows ++ solutions_over l.self.width (triples_of l.self.graph l.self.index.now) l.step l.rest l.initial.row (map triple_of (take l.place l.quads)));
 }
