@@ -531,10 +531,20 @@ def each_call_refused(program):
         refuse_in_turn(program, library, words, (0, line), "START", [worker])
 
 
+def blocks_left(program, library, words, document):
+    """Runs the program, and returns how many blocks of memory it has not freed at its end."""
+    with open(program.file(document), "rb") as source:
+        preloaded = {**os.environ, "LD_PRELOAD": library}
+        ran = subprocess.run([program.path, *words], stdin=source, capture_output=True, env=preloaded, timeout=SECONDS)
+    # (the count comes last, after the messages of the program)
+    return int(ran.stderr.splitlines()[-1].split()[0])
+
+
 def nothing_left_behind(program):
     """Checks that every block of memory is freed, also of long chains. The C library keeps one block of a thread.
 
-    `check` and `terms` leave the memory of the terms of a valid document to the end of the process.
+    The memory of the terms of a valid document is left to the end of the process: at most two blocks for each term, and
+    the same number by each command. A query here adds at most four terms.
     """
     library = stand_in(program, "blocks")
     filters = [b"||1", b"&&1", b"&&!(1)", b"||?a=1", b"||?a IN(1,?b)", b"||STR(?a)", b"||BOUND(?a)", b"||sameTerm(?a,1)"]
@@ -542,17 +552,18 @@ def nothing_left_behind(program):
     groups += [b"FILTER(?a)", b"VALUES?k{1}"]
     queries = [b"SELECT * { FILTER(1%s) }" % (part * 100) for part in filters]
     queries += [b"SELECT * { {}%s }" % (part * 100) for part in groups]
-    queries += [b"SELECT", b"SELECT DISTINCT ?e { GRAPH ?g { ?s ?p ?o } BIND(STR(?o) AS ?e) VALUES (?k ?l) { (1 UNDEF) } } LIMIT 3"]
-    commands = [["check"], ["check", "--workers", "1"], ["terms"], ["none"]] + [["select", "--query", it] for it in queries]
+    queries += [b"SELECT DISTINCT ?e { GRAPH ?g { ?s ?p ?o } BIND(STR(?o) AS ?e) VALUES (?k ?l) { (1 UNDEF) } } LIMIT 3"]
+    commands = [["check"], ["check", "--workers", "1"], ["terms"]] + [["select", "--query", it] for it in queries]
     lines = [b"<http://e/s%d> <http://e/p> \"x\"@en <http://e/g> .\n" % n for n in range(1000)]
-    for words, document in itertools.product(commands, (lines, lines + [b"x\n"])):
-        with open(program.file(document), "rb") as source:
-            preloaded = {**os.environ, "LD_PRELOAD": library}
-            ran = subprocess.run([program.path, *words], stdin=source, capture_output=True, env=preloaded, timeout=SECONDS)
-        # (the count comes last, after the messages of the program)
-        left = int(ran.stderr.splitlines()[-1].split()[0])
-        keeps_terms = words[0] in ("check", "terms") and document is lines
-        expect(keeps_terms or left <= (words[0] == "select"), f"{words[0]} {words[-1][:60]!r}: {left} blocks are left")
+    kept = blocks_left(program, library, ["terms"], lines)
+    expect(kept <= 2 * 1003 + 2, f"{kept} blocks are left of 1003 terms")
+    for words in commands:
+        left = blocks_left(program, library, words, lines)
+        expect(left <= kept + 8, f"{words[0]} {words[-1][:60]!r}: {left} blocks are left, and {kept} of the terms")
+    faulty = [["none"], ["select", "--query", b"SELECT"]]
+    for words, last in [*itertools.product(commands, [b"x\n"]), *itertools.product(faulty, [b"", b"x\n"])]:
+        left = blocks_left(program, library, words, [*lines, last])
+        expect(left <= (words[0] == "select"), f"{words[0]} {words[-1][:60]!r}: {left} blocks are left")
 
 
 # ---- command lines

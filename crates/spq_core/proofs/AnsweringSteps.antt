@@ -1,5 +1,5 @@
 -- What the steps of an answer say together.
-use Rattle.std.proofs.Common.{◌≡◌, ℕ, ◌<◌, ◌&&◌, Bool, true, false, nat_lt, List, [], ◌∷◌, length, get_or, map, true≢false, None, Result, Ok, Err, IfOk, Vec, Global, refl, sym, ap, ◌∙◌, subst, arith}
+use Rattle.std.proofs.Common.{◌≡◌, ℕ, ◌<◌, ◌&&◌, Bool, true, false, nat_lt, List, [], ◌∷◌, length, get_or, map, true≢false, None, Vec, Global, refl, sym, ap, ◌∙◌, subst, arith}
 use Rattle.std.specs.List.{list_all}
 use Rattle.std.specs.Option.{unwrap_or}
 use Rattle.std.specs.Str.{bytes_eq}
@@ -89,13 +89,12 @@ printed one q D E names given A S vs offset bytes n g a h bag d v o e =
     let listed : listed_names given vs ≡ selected_names q = (λ i. listed_names (g i) (v i)) ∙ names_are q names A n a h in
     e ∙ (λ i. json (listed i) (rows_are one q D names A S vs offset n a bag v o i)) ∙ ap (λ (F : List QuadParts). json (selected_names q) (rows q F)) d
 
--- the same of blocks, if they were printed
-pub printed_blocks : {F : Type 0} → BagHasOneList → (q : QueryTree) (D E : List QuadParts) (names : List Name) (A : Algebra) (S : List (Solution Term)) → names ≡ names_of q → A ≡ (translate q).algebra
-    → is_within (length names) A ≡ true → IsSameBag S (eval (length names) D None A) → D ≡ E → (result : Result (Vec (Vec ℕ Global) Global) F)
-    → IfOk result (λ blocks. joined_blocks blocks.items ≡ json (listed_names names (projected A)) (slice (unwrap_or q.offset 0) q.limit (sorted_rows (projected A) S)))
-    → IfOk result (λ blocks. joined_blocks blocks.items ≡ json (selected_names q) (rows q E))
-printed_blocks one q D E names A S n a h bag d (Ok blocks) e = printed one q D E names names A S (projected A) (unwrap_or q.offset 0) (joined_blocks blocks.items) n refl a h bag d refl refl e
-printed_blocks one q D E names A S n a h bag d (Err f) e = tt
+-- the same of blocks
+pub printed_blocks : BagHasOneList → (q : QueryTree) (D E : List QuadParts) (names : List Name) (A : Algebra) (S : List (Solution Term)) → names ≡ names_of q → A ≡ (translate q).algebra
+    → is_within (length names) A ≡ true → IsSameBag S (eval (length names) D None A) → D ≡ E → (blocks : List (Vec ℕ Global))
+    → joined_blocks blocks ≡ json (listed_names names (projected A)) (slice (unwrap_or q.offset 0) q.limit (sorted_rows (projected A) S))
+    → joined_blocks blocks ≡ json (selected_names q) (rows q E)
+printed_blocks one q D E names A S n a h bag d blocks e = printed one q D E names names A S (projected A) (unwrap_or q.offset 0) (joined_blocks blocks) n refl a h bag d refl refl e
 
 -- ---- the answer over a document that was loaded
 

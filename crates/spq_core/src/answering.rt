@@ -67,7 +67,8 @@ pub fn check_query(alloc: Global, text: &str) -> Result<(), Fault>
     }
 }
 
-/// Returns the JSON of a query's rows over a loaded dataset, in blocks that follow each other.
+/// Returns the JSON of a query's rows over a loaded dataset, in blocks that follow each other. Returns the dictionary,
+/// too, since its terms are freed one by one: the caller may leave them to the end of the process.
 pub fn answer_query<R: Threads + Wait + RandomSource, G: Gate + Sync, P: Progress>(
     rt: &R,
     alloc: Global,
@@ -76,9 +77,9 @@ pub fn answer_query<R: Threads + Wait + RandomSource, G: Gate + Sync, P: Progres
     how: &How,
     gate: &G,
     log: &mut Log<'_, P>,
-) -> Result<Vec<Vec<u8>>, EvalFault>
+) -> Result<(Vec<Vec<u8>>, Dict), EvalFault>
     requires how { IsRunnable how.now }
-    ensures answer { IfOk result (λ blocks. joined_blocks blocks.items
+    ensures answer { IfOk result (λ made. joined_blocks made.0.items
         ≡ json (selected_names (query_of query.now))
         (rows (query_of query.now) (quads_at store.dict store.index))) }
     ensures one_worker { HasOneWorker how.now → IfErr result (λ fault. fault ≡ Memory) }
@@ -86,9 +87,9 @@ pub fn answer_query<R: Threads + Wait + RandomSource, G: Gate + Sync, P: Progres
     log.begin(Stage::Joining);
     match translate(alloc, query) {
         Ok(plan) => {
-            let blocks = answer_plan(rt, alloc, store, query, &plan, how, gate, log);
+            let made = answer_plan(rt, alloc, store, query, &plan, how, gate, log);
             drop(plan);
-            blocks
+            made
         }
         Err(_failed) => {
             drop(store);
@@ -97,7 +98,7 @@ pub fn answer_query<R: Threads + Wait + RandomSource, G: Gate + Sync, P: Progres
     }
 }
 
-/// Evaluates the plan of a query over a loaded dataset, and prints its rows.
+/// Evaluates the plan of a query over a loaded dataset, and prints its rows. Returns the dictionary, too.
 ///
 /// The plan is only borrowed here, and each value that is owned here is dropped by a call: a function that owns a
 /// tree pays for its drop at each of its exits.
@@ -110,11 +111,11 @@ fn answer_plan<R: Threads + Wait + RandomSource, G: Gate + Sync, P: Progress>(
     how: &How,
     gate: &G,
     log: &mut Log<'_, P>,
-) -> Result<Vec<Vec<u8>>, EvalFault>
+) -> Result<(Vec<Vec<u8>>, Dict), EvalFault>
     requires names { plan.now.names.items ≡ names_of (query_of query.now) }
     requires tree { algebra_of plan.now.tree ≡ (translate (query_of query.now)).algebra }
     requires how { IsRunnable how.now }
-    ensures answer { IfOk result (λ blocks. joined_blocks blocks.items
+    ensures answer { IfOk result (λ made. joined_blocks made.0.items
         ≡ json (selected_names (query_of query.now))
         (rows (query_of query.now) (quads_at store.dict store.index))) }
     ensures one_worker { HasOneWorker how.now → IfErr result (λ fault. fault ≡ Memory) }
@@ -125,10 +126,15 @@ fn answer_plan<R: Threads + Wait + RandomSource, G: Gate + Sync, P: Progress>(
     drop(index);
     match evaluated {
         Ok((rows, dict)) => {
-            let blocks = print_solutions(rt, alloc, query, plan, &rows, &dict, how, gate, log);
+            let printed = print_solutions(rt, alloc, query, plan, &rows, &dict, how, gate, log);
             drop(rows);
-            drop(dict);
-            blocks
+            match printed {
+                Ok(blocks) => Ok((blocks, dict)),
+                Err(fault) => {
+                    drop(dict);
+                    Err(fault)
+                }
+            }
         }
         Err(fault) => Err(fault),
     }
@@ -247,7 +253,9 @@ fn answer_valid<R: Threads + Wait + RandomSource, G: Gate + Sync>(
     a_bag_has_one_sorted_list();
     let store = load(rt, alloc, doc, cuts, how.workers, gate)?;
     let mut log = Log::new(&NoProgress);
-    let blocks = answer_query(rt, alloc, store, query, how, gate, &mut log)?;
+    let made = answer_query(rt, alloc, store, query, how, gate, &mut log)?;
+    let (blocks, dict) = made;
+    drop(dict);
     let bytes = joined(alloc, &blocks)?;
     Ok(bytes)
 }

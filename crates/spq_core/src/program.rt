@@ -208,6 +208,8 @@ fn selected<R: Threads + Wait + RandomSource, S: Source, P: Progress>(
 
 /// Evaluates a query, which is the one of this text, over the rest of the reader. The query is only borrowed here: a
 /// function that owns a tree pays for its drop at each of its exits.
+///
+/// The memory of the terms is left to the end of the process, as in `checked`.
 fn selected_by<R: Threads + Wait + RandomSource, S: Source, P: Progress>(
     rt: &R,
     alloc: Global,
@@ -231,7 +233,10 @@ fn selected_by<R: Threads + Wait + RandomSource, S: Source, P: Progress>(
         rows: rows.max(1),
     };
     match answer_query(rt, alloc, store, query, &how, &OpenGate, log) {
-        Ok(blocks) => Ok(blocks),
+        Ok((blocks, dict)) => {
+            mem::forget(dict);
+            Ok(blocks)
+        }
         Err(EvalFault::WorkerRefused) => Err(RunFault::WorkerRefused),
         Err(EvalFault::Memory) => Err(RunFault::Memory),
     }

@@ -11,7 +11,7 @@ returns-clause-answer g c =
       query = query;
       read = c.requires.valid;
       results = json_of_blocks c.a_dataset_is_a_set.ensures.same_results c.a_bag_has_one_sorted_list.ensures.same query c.args.doc.now c.in_ok-store.store c.in_ok-bytes.bytes.items c.deref.result.now _ c.in_ok-store.ensures.loaded
-          c.in_ok-bytes.ensures.joined c.deref.ensures.value c.in_ok-blocks.ensures.answer;
+          c.in_ok-bytes.ensures.joined c.deref.ensures.value c.in_ok-made.ensures.answer;
     }
 
 pub returns-in_err-store : goal.returns-in_err-store
@@ -23,7 +23,7 @@ returns-in_err-store g c =
       one_worker = λ one. rw p.1 (loading_alone_is _ _ p.2 (c.in_err-store.ensures.one_worker one));
     }
 
-pub returns-in_err-blocks-clause-err : goal.returns-in_err-blocks-clause-err
-returns-in_err-blocks-clause-err g c =
-    let p = err_from_is_err_and c.from_residual-in_err-blocks.result c.from_residual-in_err-blocks.ensures.1 in
+pub returns-in_err-made-clause-err : goal.returns-in_err-made-clause-err
+returns-in_err-made-clause-err g c =
+    let p = err_from_is_err_and c.from_residual-in_err-made.result c.from_residual-in_err-made.ensures.1 in
     rw p.1 (evaluation_fault_is c.args.doc.now c.args.text.now (query_of c.args.query.now) c.requires.valid _ _ p.2)
