@@ -1,7 +1,7 @@
 //! Facts about a query and a loaded dataset.
-ghost use Rattle.std.specs.Prelude.{◌≡◌, ◌<◌, ◌&&◌, [], IfOk, None, true, filter, length};
+ghost use Rattle.std.specs.Prelude.{◌≡◌, ◌<◌, ◌&&◌, ◌||◌, [], IfOk, None, true, filter, length};
 ghost use Rattle.std.specs.List.{list_any};
-ghost use Rattle.std.specs.Str.{chars};
+ghost use Rattle.std.specs.Str.{bytes_eq, chars};
 ghost use Rattle.quad_index.specs.Matching.{agrees};
 ghost use Rattle.dataset_load.specs.Store.{names_in};
 ghost use Rattle.query_warnings.specs.declared.facts.Datatype.TheVariants.{Date, DateTime, Double, Float};
@@ -93,25 +93,66 @@ impl Facts {
     }
 }
 
-fn is_literal_of(term: &Term, datatype: &str) -> bool
-    ensures { result ≡ is_literal_of datatype.now term.now }
-{
-    match term {
-        Term::Literal { datatype: own, .. } => own.as_str() == datatype,
-        Term::Iri(_) | Term::Blank(_) => false,
+/// The datatypes of which there is a literal.
+#[derive(Clone, Copy)]
+struct Present {
+    double: bool,
+    float: bool,
+    date_time: bool,
+    date: bool,
+}
+
+impl Present {
+    /// No literal of any of the datatypes.
+    const NONE: Present = Present {
+        double: false,
+        float: false,
+        date_time: false,
+        date: false,
+    };
+
+    /// Adds the datatype of a term, if the term is a literal of one of them.
+    fn with_term(self, term: &Term) -> Present
+        ensures double { result.double ≡ (self.double || is_literal_of double term.now) }
+        ensures float { result.float ≡ (self.float || is_literal_of float term.now) }
+        ensures date_time { result.date_time ≡ (self.date_time || is_literal_of date_time term.now) }
+        ensures date { result.date ≡ (self.date || is_literal_of date term.now) }
+    {
+        match term {
+            Term::Literal { datatype, .. } => self.with_datatype(datatype.as_str()),
+            Term::Iri(_) | Term::Blank(_) => self,
+        }
+    }
+
+    /// Adds a datatype, if it is one of them. Their IRIs differ in length, so at most one is compared
+    /// byte by byte.
+    fn with_datatype(self, datatype: &str) -> Present
+        ensures double { result.double ≡ (self.double || bytes_eq datatype.now double) }
+        ensures float { result.float ≡ (self.float || bytes_eq datatype.now float) }
+        ensures date_time { result.date_time ≡ (self.date_time || bytes_eq datatype.now date_time) }
+        ensures date { result.date ≡ (self.date || bytes_eq datatype.now date) }
+    {
+        Present {
+            double: self.double || datatype == XSD_DOUBLE,
+            float: self.float || datatype == XSD_FLOAT,
+            date_time: self.date_time || datatype == XSD_DATE_TIME,
+            date: self.date || datatype == XSD_DATE,
+        }
     }
 }
 
-/// Returns whether some term of a dictionary is a literal of this datatype.
-fn has_literal_of(dict: &Dict, datatype: &str) -> bool
-    ensures value { result ≡ list_any (is_literal_of datatype.now) dict.now }
+/// Returns the datatypes of which some term of a dictionary is a literal.
+fn present_in(dict: &Dict) -> Present
+    ensures double { result.double ≡ list_any (is_literal_of double) dict.now }
+    ensures float { result.float ≡ list_any (is_literal_of float) dict.now }
+    ensures date_time { result.date_time ≡ list_any (is_literal_of date_time) dict.now }
+    ensures date { result.date ≡ list_any (is_literal_of date) dict.now }
 {
+    let mut present = Present::NONE;
     for n in 0..dict.len() as u64 {
-        if is_literal_of(dict.term(n), datatype) {
-            return true;
-        }
+        present = present.with_term(dict.term(n));
     }
-    false
+    present
 }
 
 /// Returns whether no quad is in the default graph, and some quad is in a named graph.
@@ -147,12 +188,16 @@ pub fn facts_of(compares: bool, store: &Store) -> Facts
         → filter (agrees None None None None) store.now.index ≡ [] }
     ensures named { result.is_named_only ≡ true → 0 < length (names_in store.now.index) }
 {
-    let dict = store.dict();
+    let present = if compares {
+        present_in(store.dict())
+    } else {
+        Present::NONE
+    };
     Facts {
-        double: compares && has_literal_of(dict, XSD_DOUBLE),
-        float: compares && has_literal_of(dict, XSD_FLOAT),
-        date_time: compares && has_literal_of(dict, XSD_DATE_TIME),
-        date: compares && has_literal_of(dict, XSD_DATE),
+        double: present.double,
+        float: present.float,
+        date_time: present.date_time,
+        date: present.date,
         is_named_only: is_named_only(store),
     }
 }
