@@ -1,6 +1,7 @@
 -- The term that an intermediate value represents, and whether it is held as a term.
 use Rattle.std.specs.Prelude.{Bool, true, false}
 use Rattle.rdf_core.specs.declared.term.Term.{Term}
+use Rattle.term_values.specs.declared.valued.Valued.{Valued}
 use Rattle.algebra_model.specs.Call.{boolean_term}
 use Rattle.expression_values.specs.declared.held.Held as held
 use Rattle.expression_values.specs.declared.held.Held.TheVariants.{Borrowed, Owned}
@@ -18,3 +19,7 @@ value_term (Truth b) = boolean_term b
 abbrev pub is_held : value.Value → Bool
 is_held (Held held) = true
 is_held (Truth b) = false
+
+-- a term whose value is known
+abbrev pub valued_term : Valued → Term
+valued_term v = v.term.now

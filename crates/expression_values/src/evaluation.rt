@@ -3,11 +3,11 @@ ghost use Rattle.std.specs.Prelude.{◌≡◌, ℕ, IfOk, IfSome, IsOk, IsOkAnd,
 ghost use Rattle.rdf_core.specs.Equality.{term_eq};
 ghost use Rattle.algebra_model.specs.BooleanValue.{logical_and, logical_not, logical_or};
 ghost use Rattle.algebra_model.specs.Call.{call_value};
-ghost use Rattle.algebra_model.specs.Comparison.{compares};
+ghost use Rattle.algebra_model.specs.Comparison.{compares, equal};
 ghost use Rattle.algebra_model.specs.Expression.{boolean_result, holds, truth_of, val, with_value, with_values};
 ghost use Rattle.expression_values.specs.ExpressionOf.{comparison_of, expression_of, function_of};
 ghost use Rattle.expression_values.specs.MemberTruth.{member_truth};
-ghost use Rattle.expression_values.specs.HeldTerm.{held_term, is_held, value_term};
+ghost use Rattle.expression_values.specs.HeldTerm.{held_term, is_held, value_term, valued_term};
 ghost use Rattle.expression_values.specs.NoAllocation.{are_borrowed, is_borrowed, is_test, takes_none};
 
 use crate::expression::Expr;
@@ -16,7 +16,7 @@ use crate::lookup::Lookup;
 use rdf_core::Term;
 use sparql_tree::{Comparison, Function};
 use std::alloc::{AllocError, Global};
-use term_values::compare;
+use term_values::{Valued, compare, compare_valued};
 
 /// Why an expression has no value.
 #[derive(Clone, Copy, Debug, PartialEq, Eq)]
@@ -188,7 +188,8 @@ fn evaluate_in<'a, R: Lookup>(
         (member_truth (option_map held_term item.entry) (map expression_of list.now) (R.solution row.now))) }
     ensures are_borrowed { are_borrowed list.now ≡ true → IsOk result }
 {
-    Ok(boolean_value(evaluate_member(alloc, &item, list, row)?))
+    let item_value = valued(&item);
+    Ok(boolean_value(evaluate_member(alloc, &item_value, list, row)?))
 }
 
 fn borrowed(term: Option<&Term>) -> Option<Value<'_>>
@@ -351,22 +352,23 @@ fn evaluate_call<'a, R: Lookup>(
 }
 
 /// Evaluates `item IN (list)`: returns whether the item is equal to a member, or None for an error.
-/// It is an error if no comparison is true and at least one is an error.
+/// It is an error if no comparison is true and at least one is an error. The item's value is known,
+/// so it is not computed again for each member.
 #[cycle(evaluate)]
 fn evaluate_member<R: Lookup>(
     alloc: Global,
-    item: &Option<Held>,
+    item: &Option<Valued>,
     list: &[Expr],
     row: &R,
 ) -> Result<Option<bool>, AllocError>
-    ensures truth { IfOk result (λ truth. truth ≡ member_truth (option_map held_term item.now)
+    ensures truth { IfOk result (λ truth. truth ≡ member_truth (option_map valued_term item.now)
         (map expression_of list.now) (R.solution row.now)) }
     ensures are_borrowed { are_borrowed list.now ≡ true → IsOk result }
 {
     let mut found = Some(false);
     for member in list {
         let value = evaluate_held(alloc, member, row)?;
-        let equal = compare_values(Comparison::Equal, item, &value);
+        let equal = equal_member(item, &value);
         found = either(found, equal);
     }
     Ok(found)
@@ -411,6 +413,30 @@ fn compare_values(operator: Comparison, left: &Option<Held>, right: &Option<Held
         return None;
     };
     compare(operator, left.as_term(), right.as_term())
+}
+
+/// Finds the value of an operand that is compared several times.
+fn valued<'a>(operand: &'a Option<Held>) -> Option<Valued<'a>>
+    ensures value { option_map valued_term result ≡ option_map held_term operand.entry.now }
+{
+    match operand {
+        Some(held) => Some(Valued::new(held.as_term())),
+        None => None,
+    }
+}
+
+/// Returns whether an item is equal to a member, or None for an error.
+fn equal_member(item: &Option<Valued>, member: &Option<Held>) -> Option<bool>
+    ensures compared { result ≡ with_values (option_map valued_term item.now) (option_map held_term member.now)
+        (compares equal) }
+{
+    let Some(item) = item else {
+        return None;
+    };
+    let Some(member) = member else {
+        return None;
+    };
+    compare_valued(Comparison::Equal, item, &Valued::new(member.as_term()))
 }
 
 fn same_values(left: &Option<Held>, right: &Option<Held>) -> Option<bool>

@@ -6,8 +6,9 @@ ghost use Rattle.algebra_model.specs.Comparison.{compares, equal_by, is_literal,
 ghost use Rattle.term_values.specs.ComparisonOf.{comparison_of};
 ghost use Rattle.term_values.specs.ValueShown.{value_shown};
 
-use crate::literal::{LiteralValue, is_number_type, literal_value, value_of};
+use crate::literal::{LiteralValue, is_number_type, literal_value};
 use crate::number::{compare_numbers, is_zero};
+use crate::valued::Valued;
 use rdf_core::Term;
 use rdf_core::vocabulary::XSD_BOOLEAN;
 use sparql_tree::Comparison;
@@ -23,10 +24,18 @@ use std::cmp::Ordering;
 pub fn compare(operator: Comparison, left: &Term, right: &Term) -> Option<bool>
     ensures compared { result ≡ compares (comparison_of operator) left.now right.now }
 {
-    let order = value_order(&value_of(left), &value_of(right));
+    compare_valued(operator, &Valued::new(left), &Valued::new(right))
+}
+
+/// Compares two terms whose values are known. Returns what [`compare`] returns for them, None for an error (SPARQL
+/// 1.1 Query Language, sections 17.3 and 17.4.1.7).
+pub fn compare_valued(operator: Comparison, left: &Valued, right: &Valued) -> Option<bool>
+    ensures compared { result ≡ compares (comparison_of operator) left.now.term.now right.now.term.now }
+{
+    let order = term_order(left, right);
     match operator {
-        Comparison::Equal => equal_by(order, left, right),
-        Comparison::NotEqual => Some(!equal_by(order, left, right)?),
+        Comparison::Equal => equal_by(order, left.term, right.term),
+        Comparison::NotEqual => Some(!equal_by(order, left.term, right.term)?),
         Comparison::Less => Some(order?.is_lt()),
         Comparison::Greater => Some(order?.is_gt()),
         Comparison::LessOrEqual => Some(order?.is_le()),
@@ -81,6 +90,13 @@ fn has_characters(form: &str) -> bool
     ensures value { result ≡ has_characters form.now }
 {
     !form.is_empty()
+}
+
+/// Returns the order of two terms by value, if both are numbers, strings or booleans.
+fn term_order(left: &Valued, right: &Valued) -> Option<Ordering>
+    ensures order { result ≡ value_cmp (value_of left.now.term.now) (value_of right.now.term.now) }
+{
+    value_order(&left.value, &right.value)
 }
 
 /// Returns the order by value, if both are numbers, strings or booleans.

@@ -5,13 +5,17 @@
 //! Both return what the tables of the crate algebra_model define (`compares`, `ebv`), with None for
 //! an error. Neither of them allocates.
 //!
-//! The crate expression_values evaluates expressions with these two functions, and reexports both.
+//! A [`Valued`] is a term together with its value, and [`compare_valued`] compares two of them. They
+//! save work if one term is compared with many others, as in IN.
+//!
+//! The crate expression_values evaluates expressions with these functions, and reexports [`compare`]
+//! and [`truth`].
 //!
 //! Standards: SPARQL 1.1 Query Language, sections 17.2 and 17.3; XML Schema 1.1 Part 2, sections
 //! 3.3 and 3.4 (lexical forms of numbers and booleans).
 //!
-//! Reading order: `digits`, `number`, `literal`, `comparison`. Tests: `comparisons` of the crate
-//! query_tests.
+//! Reading order: `digits`, `number`, `literal`, `valued`, `comparison`. Tests: `comparisons` of
+//! the crate query_tests.
 //!
 //! ```text
 //! compare(Comparison::Equal, &one, &one_point_zero)   // "01"^^xsd:integer and 1.0: Some(true)
@@ -26,5 +30,7 @@ mod comparison;
 mod digits;
 mod literal;
 mod number;
+mod valued;
 
-pub use comparison::{compare, truth};
+pub use comparison::{compare, compare_valued, truth};
+pub use valued::Valued;

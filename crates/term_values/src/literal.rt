@@ -1,6 +1,6 @@
 //! The value of a literal, by its datatype and lexical form (SPARQL 1.1 Query Language, sections
 //! 17.1 and 17.2; XML Schema 1.1 Part 2, sections 3.3 and 3.4).
-ghost use Rattle.std.specs.Prelude.{◌≡◌, option_map};
+ghost use Rattle.std.specs.Prelude.{◌≡◌, option_map, true};
 ghost use Rattle.std.specs.List.{list_any};
 ghost use Rattle.std.specs.Str.{bytes_eq};
 ghost use Rattle.algebra_model.specs.Comparison.{value_of};
@@ -42,11 +42,11 @@ pub fn value_of(term: &Term) -> LiteralValue<'_>
 pub fn literal_value<'a>(form: &'a str, datatype: &str) -> LiteralValue<'a>
     ensures value { value_shown result ≡ literal_value form.entry.now datatype.entry.now }
 {
-    if datatype == XSD_STRING {
+    if is_same(datatype, XSD_STRING) {
         LiteralValue::String(form)
-    } else if datatype == XSD_BOOLEAN {
+    } else if is_same(datatype, XSD_BOOLEAN) {
         boolean_value(form)
-    } else if datatype == XSD_DECIMAL {
+    } else if is_same(datatype, XSD_DECIMAL) {
         number_or_other(decimal_digits(form.as_bytes()))
     } else if is_integer_type(datatype) {
         number_or_other(integer_digits(form.as_bytes()))
@@ -59,7 +59,7 @@ pub fn literal_value<'a>(form: &'a str, datatype: &str) -> LiteralValue<'a>
 pub fn is_number_type(datatype: &str) -> bool
     ensures value { result ≡ is_number_type datatype.now }
 {
-    datatype == XSD_DECIMAL || is_integer_type(datatype)
+    is_same(datatype, XSD_DECIMAL) || is_integer_type(datatype)
 }
 
 fn number_or_other(digits: Option<Digits<'_>>) -> LiteralValue<'_>
@@ -92,11 +92,34 @@ fn is_one_of(name: &str, names: &[&str]) -> bool
     ensures value { result ≡ list_any (λ other. bytes_eq name.now other.now) names.now }
 {
     for other in names {
-        if name == *other {
+        if is_same(name, other) {
             return true;
         }
     }
     false
+}
+
+/// Returns whether two IRIs are equal.
+///
+/// The IRIs of XML Schema's datatypes have the same beginning. So the lengths and the last bytes are
+/// compared first: these differ for most pairs.
+fn is_same(iri: &str, other: &str) -> bool
+    ensures value { result ≡ bytes_eq iri.now other.now }
+{
+    iri.len() == other.len() && ends_alike(iri.as_bytes(), other.as_bytes()) && iri == other
+}
+
+/// Returns whether two texts have the same last byte, or are both empty.
+fn ends_alike(text: &[u8], other: &[u8]) -> bool
+    ensures same { bytes_eq text.now other.now ≡ true → result ≡ true }
+{
+    match text {
+        [.., last] => match other {
+            [.., other_last] => *last == *other_last,
+            [] => false,
+        },
+        [] => other.is_empty(),
+    }
 }
 
 /// The IRIs of xsd:integer and of the types derived from it.

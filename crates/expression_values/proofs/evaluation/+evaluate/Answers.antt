@@ -6,7 +6,7 @@ use Rattle.algebra_model.specs.BooleanValue.{logical_and, logical_not, logical_o
 use Rattle.algebra_model.specs.Comparison.{compares, equal}
 use Rattle.algebra_model.specs.Expression.{boolean_result, val, with_values}
 use Rattle.expression_values.specs.ExpressionOf.{comparison_of, expression_of}
-use Rattle.expression_values.specs.HeldTerm.{held_term, value_term}
+use Rattle.expression_values.specs.HeldTerm.{held_term, value_term, valued_term}
 use Rattle.expression_values.specs.MemberTruth.{member_truth}
 use Rattle.expression_values.specs.NoAllocation.{are_borrowed, is_borrowed, takes_none}
 use Rattle.expression_values.specs.declared.expression.Expr.{size-Expr}
@@ -32,12 +32,12 @@ evaluate-returns-in_ok-item-in-In-clause-value g t c =
 
 pub evaluate_member-loop-member-preserved : goal.evaluate_member-loop-member-preserved
 evaluate_member-loop-member-preserved g t c =
-    let e = c.compare_values-equal.ensures.compared
-    ∙ ap (λ v. with_values (option_map held_term c.args.item.now) v (compares equal))
+    let e = c.equal_member-equal.ensures.compared
+    ∙ ap (λ v. with_values (option_map valued_term c.args.item.now) v (compares equal))
     (c.in_ok-value.ensures.value ∙ ap (λ y. val (expression_of y) (g.R.Lookup.solution c.args.row.now)) c.member-item.is) in
     rw c.either-found.ensures.value (member_step expression_of c.args.list.now c.loop-member.member-index c.member-item.result
-    (option_map held_term c.args.item.now) (g.R.Lookup.solution c.args.row.now) c.loop-member.found c.compare_values-equal.result
-    (member_truth (option_map held_term c.args.item.now) (map expression_of c.args.list.now) (g.R.Lookup.solution c.args.row.now))
+    (option_map valued_term c.args.item.now) (g.R.Lookup.solution c.args.row.now) c.loop-member.found c.equal_member-equal.result
+    (member_truth (option_map valued_term c.args.item.now) (map expression_of c.args.list.now) (g.R.Lookup.solution c.args.row.now))
     c.loop-member-test.true e c.loop-member.invariant)
 
 pub evaluate_or-operands-preserved : goal.evaluate_or-operands-preserved
@@ -228,7 +228,9 @@ pub evaluate_not-returns-clause-value : goal.evaluate_not-returns-clause-value
 evaluate_not-returns-clause-value g t c = c.boolean_value.ensures.value ∙ ap boolean_result (c.negated.ensures.value ∙ ap logical_not c.in_ok-evaluate_truth.ensures.truth)
 
 pub evaluate_in-returns-clause-value : goal.evaluate_in-returns-clause-value
-evaluate_in-returns-clause-value g t c = c.boolean_value.ensures.value ∙ ap boolean_result c.in_ok-evaluate_member.ensures.truth
+evaluate_in-returns-clause-value g t c = c.boolean_value.ensures.value
+    ∙ ap boolean_result (c.in_ok-evaluate_member.ensures.truth
+    ∙ ap (λ x. member_truth x (map expression_of c.args.list.now) (g.R.Lookup.solution c.args.row.now)) c.valued-item_value.ensures.value)
 
 pub evaluate_comparison-returns-clause-value : goal.evaluate_comparison-returns-clause-value
 evaluate_comparison-returns-clause-value g t c = c.boolean_value.ensures.value

@@ -1,7 +1,7 @@
 use Rattle.std.proofs.Common.{◌≡◌, ◌≤◌, drop, map, option_map, true}
 use Rattle.algebra_model.specs.BooleanValue.{logical_and, logical_or}
 use Rattle.expression_values.specs.ExpressionOf.{expression_of}
-use Rattle.expression_values.specs.HeldTerm.{held_term}
+use Rattle.expression_values.specs.HeldTerm.{valued_term}
 use Rattle.expression_values.specs.MemberTruth.{member_truth}
 use Rattle.expression_values.specs.NoAllocation.{takes_none}
 use Rattle.expression_values.specs.declared.expression.Expr.{size-Expr}
@@ -10,8 +10,8 @@ use Rattle.expression_values.proofs.evaluation.+evaluate.Given as goal
 
 abbrev pub invariant-evaluate_member-loop-member : goal.invariant-evaluate_member-loop-member
 invariant-evaluate_member-loop-member g l =
-    logical_or l.found (member_truth (option_map held_term l.item) (map expression_of (drop l.member-index l.list)) (g.R.Lookup.solution l.row))
-    ≡ member_truth (option_map held_term l.item) (map expression_of l.list) (g.R.Lookup.solution l.row)
+    logical_or l.found (member_truth (option_map valued_term l.item) (map expression_of (drop l.member-index l.list)) (g.R.Lookup.solution l.row))
+    ≡ member_truth (option_map valued_term l.item) (map expression_of l.list) (g.R.Lookup.solution l.row)
 
 abbrev pub invariant-evaluate_or-operands : goal.invariant-evaluate_or-operands
 invariant-evaluate_or-operands g l =
