@@ -1,6 +1,6 @@
 -- Texts of terms, each printed once, and the texts of rows that consist of them. Only private
 -- clauses use these definitions.
-use Rattle.std.specs.Prelude.{◌≡◌, ◌⊎◌, ℕ, ◌<◌, ◌≤◌, ◌==◌, nat_le, Bool, true, false, not, ◌&&◌, List, [], ◌∷◌, ◌++◌, length, flat_map, slice_range, get_or, map, Option, None, Some, Vec, codes}
+use Rattle.std.specs.Prelude.{◌≡◌, ◌⊎◌, ℕ, ◌*◌, ◌<◌, ◌≤◌, ◌==◌, nat_le, Bool, true, false, not, ◌&&◌, List, [], ◌∷◌, ◌++◌, length, flat_map, slice_range, get_or, map, Option, None, Some, Vec, codes}
 use Rattle.std.specs.Borrow.{Bor}
 use Rattle.std.specs.declared.alloc.Global.{Global}
 use Rattle.rdf_core.specs.declared.term.Term.{Term}
@@ -29,6 +29,12 @@ IsSpanOf printed term span = (span.1 ≤ span.0)
 abbrev pub ArePrinted : List Term → List ℕ → List Span → Type 0
 ArePrinted terms printed spans = (length spans ≡ length terms)
     × ((i : ℕ) → i < length terms → IsSpanOf printed (term_at terms i) (get_or spans i (0, 0)))
+
+-- pieces of `size` terms that hold all terms; the last piece may have fewer
+abbrev pub ArePieces : ℕ → List Term → List (List Term) → Type 0
+ArePieces size terms pieces = (0 < size)
+    × (length terms ≤ length pieces * size)
+    × ((i : ℕ) (d : List Term) → i < length pieces → get_or pieces i d ≡ piece_of size i terms)
 
 -- a column of the code: a borrowed name, and a place
 abbrev pub column_of : Bor (List ℕ) × ℕ → Column

@@ -16,16 +16,17 @@
 //! - Their distinct terms are sorted, and the rank of its term replaces each number. Workers sort
 //!   pieces of the terms by keys. The pieces are merged, and workers check the order.
 //! - The rows are sorted by ranks. Rows of two cells are first sorted as one number each.
-//! - Each term of the result is printed once. A text that needs no escape is copied; the JSON
-//!   library prints the others.
+//! - Each term of the result is printed once. Workers print pieces of the terms, each piece into a
+//!   buffer of its own. A text that needs no escape is copied; the JSON library prints the others.
 //! - Workers append rows in pieces, each piece into one block whose size is computed before. The
 //!   texts of several rows are looked up before the first of them is copied.
 //!
 //! Reading order: `printing`, `coding` (cells as numbers), `ranking` (numbers as ranks), `presort`
 //! (terms sorted by keys, in parallel), `order_check` (whether they are in order), `pair_order` (rows
 //! of two ranks), `ranked_row` and `row_order`, `values` (texts as JSON strings, and terms as
-//! objects), `term_texts`, `columns`, `prefetch` (texts of several rows at once), `row_texts`,
-//! `row_blocks` (rows in parallel), `results`. Tests: `evaluation::json` of the crate query_tests.
+//! objects), `term_texts`, `text_pieces` (terms printed in parallel), `columns`, `prefetch` (texts of
+//! several rows at once), `row_texts`, `row_blocks` (rows in parallel), `results`. Tests:
+//! `evaluation::json` of the crate query_tests.
 //!
 //! Example: one variable `o` and the rows `"x"` and `<http://e/a>` give
 //! `{"head":{"vars":["o"]},"results":{"bindings":[{"o":{"type":"uri","value":"http://e/a"}},{"o":{"type":"literal","value":"x"}}]}}`
@@ -48,6 +49,7 @@ mod row_blocks;
 mod row_order;
 mod row_texts;
 mod term_texts;
+mod text_pieces;
 mod values;
 
 pub use printing::{Table, print_rows};

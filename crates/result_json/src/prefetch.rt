@@ -5,12 +5,12 @@ ghost use Rattle.result_json.specs.RankedRows.{ranks_of};
 ghost use Rattle.result_json.specs.Texts.{all_texts, borrowed_texts, places_of, AreAhead, IsAhead, IsColumnAhead};
 
 use crate::ranked_row::RankedRow;
-use crate::term_texts::TermTexts;
+use crate::text_pieces::TextPieces;
 use std::alloc::{AllocError, Global};
 
 /// Returns the text of a rank's term. It is empty if the rank has no term or the term is not
 /// printed yet.
-fn text_ahead<'a>(texts: &'a TermTexts<'_>, rank: u64) -> &'a [u8]
+fn text_ahead<'a>(texts: &'a TextPieces<'_>, rank: u64) -> &'a [u8]
     ensures ahead { IsAhead texts.now rank result.now }
 {
     match texts.place(rank) {
@@ -29,7 +29,7 @@ fn is_object(text: &[u8]) -> bool {
 fn look_up<'a>(
     alloc: Global,
     place: usize,
-    texts: &'a TermTexts<'_>,
+    texts: &'a TextPieces<'_>,
     rows: &[RankedRow<'_>],
 ) -> Result<Vec<&'a [u8]>, AllocError>
     ensures ahead { IfOk result
@@ -55,7 +55,7 @@ fn look_up<'a>(
 pub(crate) fn looked_up<'a>(
     alloc: Global,
     columns: &[(Vec<u8>, usize)],
-    texts: &'a TermTexts<'_>,
+    texts: &'a TextPieces<'_>,
     rows: &[RankedRow<'_>],
 ) -> Result<Vec<Vec<&'a [u8]>>, AllocError>
     ensures ahead { IfOk result (λ made.

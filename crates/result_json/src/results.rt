@@ -11,7 +11,7 @@ ghost use Rattle.result_json.specs.Texts.{head_text};
 use crate::columns::{begun_columns, name_of};
 use crate::ranked_row::RankedRow;
 use crate::row_blocks::row_blocks;
-use crate::term_texts::TermTexts;
+use crate::text_pieces::{TextPieces, place_of};
 use crate::values::put_string;
 use piece_pool::Gate;
 use rdf_core::{Term, Text};
@@ -23,14 +23,14 @@ use std::thread::Threads;
 /// Marks the terms of a row, each at its place.
 fn mark_cells(
     columns: &[(Vec<u8>, usize)],
-    texts: &TermTexts<'_>,
+    terms: &[(&Term, u64)],
     row: &RankedRow<'_>,
     shown: &mut [bool],
 )
-    requires wide { length shown.old ≡ length texts.now }
+    requires wide { length shown.old ≡ length (terms_of terms.now) }
 {
     for (_prefix, place) in columns {
-        if let Some(place) = texts.place(row.rank(*place)) {
+        if let Some(place) = place_of(terms, row.rank(*place)) {
             shown[place] = true;
         }
     }
@@ -39,47 +39,40 @@ fn mark_cells(
 /// Marks the terms of the rows, each at its place.
 fn mark_rows(
     columns: &[(Vec<u8>, usize)],
-    texts: &TermTexts<'_>,
+    terms: &[(&Term, u64)],
     rows: &[RankedRow<'_>],
     shown: &mut [bool],
 )
-    requires wide { length shown.old ≡ length texts.now }
+    requires wide { length shown.old ≡ length (terms_of terms.now) }
 {
     for row in rows {
-        mark_cells(columns, texts, row, shown);
+        mark_cells(columns, terms, row, shown);
     }
-}
-
-/// Prints the terms of the rows, in the order of the dictionary.
-fn print_texts(
-    alloc: Global,
-    columns: &[(Vec<u8>, usize)],
-    texts: &mut TermTexts<'_>,
-    rows: &[RankedRow<'_>],
-) -> Result<(), AllocError>
-    ensures same { texts.new ≡ texts.old }
-{
-    let mut shown = vec![in alloc; false; texts.len()]?;
-    mark_rows(columns, texts, rows, &mut shown);
-    let places = texts.shown_places(alloc, &shown)?;
-    for (_number, place) in &places {
-        texts.print(alloc, *place)?;
-    }
-    Ok(())
 }
 
 /// Returns the table of the terms, in which those of the rows are printed.
-fn printed_texts<'a>(
+///
+/// # Requires
+/// `how` is within its limits.
+///
+/// # Errors
+/// - `WorkerRefused` if a worker thread could not be started. It cannot occur with one worker.
+/// - `Memory` if an allocation fails.
+fn printed_texts<'a, R: Threads + Wait>(
+    rt: &R,
     alloc: Global,
     columns: &[(Vec<u8>, usize)],
     terms: &'a [(&'a Term, u64)],
     rows: &[RankedRow<'_>],
-) -> Result<TermTexts<'a>, AllocError>
+    how: &How,
+) -> Result<TextPieces<'a>, EvalFault>
+    requires how { IsRunnable how.now }
     ensures terms { IfOk result (λ texts. texts ≡ terms_of terms.now) }
+    ensures one_worker { HasOneWorker how.now → IfErr result (λ fault. fault ≡ Memory) }
 {
-    let mut texts = TermTexts::new(alloc, terms)?;
-    print_texts(alloc, columns, &mut texts, rows)?;
-    Ok(texts)
+    let mut shown = vec![in alloc; false; terms.len()]?;
+    mark_rows(columns, terms, rows, &mut shown);
+    TextPieces::print(rt, alloc, terms, &shown, how)
 }
 
 /// Appends the names of the projected variables, with commas between them.
@@ -166,7 +159,7 @@ pub(crate) fn to_json<R: Threads + Wait, G: Gate + Sync>(
     ensures one_worker { HasOneWorker how.now → IfErr result (λ fault. fault ≡ Memory) }
 {
     let columns = begun_columns(alloc, names, listed)?;
-    let texts = printed_texts(alloc, &columns, terms, rows)?;
+    let texts = printed_texts(rt, alloc, &columns, terms, rows, how)?;
     let mut blocks = row_blocks(rt, alloc, &columns, &texts, rows, how, gate)?;
     Ok(enclosed(alloc, names, listed, &mut blocks)?)
 }

@@ -10,7 +10,7 @@ ghost use Rattle.result_json.specs.Texts.{comma_texts, row_texts};
 
 use crate::ranked_row::RankedRow;
 use crate::row_texts::put_rows;
-use crate::term_texts::TermTexts;
+use crate::text_pieces::TextPieces;
 use piece_pool::{Gate, Job, JobFault, Outcome, run_all};
 use row_pieces::{EvalFault, How, piece_size};
 use std::alloc::{AllocError, Global};
@@ -21,7 +21,7 @@ use std::thread::Threads;
 #[derive(Drop)]
 struct RowBlocks<'a, 't> {
     columns: &'a [(Vec<u8>, usize)],
-    texts: &'a TermTexts<'t>,
+    texts: &'a TextPieces<'t>,
     rows: &'a [RankedRow<'t>],
     size: usize,
 }
@@ -61,7 +61,7 @@ pub(crate) fn piece<T>(elements: &[T], size: usize, number: u64) -> &[T]
 
 /// Returns the largest number of bytes that a row takes, with a comma before the row and after each
 /// member.
-fn row_room(columns: &[(Vec<u8>, usize)], texts: &TermTexts<'_>, row: &RankedRow<'_>) -> usize {
+fn row_room(columns: &[(Vec<u8>, usize)], texts: &TextPieces<'_>, row: &RankedRow<'_>) -> usize {
     let mut room = 3usize;
     for (prefix, place) in columns {
         if let Some(place) = texts.place(row.rank(*place)) {
@@ -74,7 +74,7 @@ fn row_room(columns: &[(Vec<u8>, usize)], texts: &TermTexts<'_>, row: &RankedRow
 
 /// Returns the largest number of bytes that rows take, if their terms are printed. A block of this
 /// capacity is never reallocated.
-fn room_of(columns: &[(Vec<u8>, usize)], texts: &TermTexts<'_>, rows: &[RankedRow<'_>]) -> usize {
+fn room_of(columns: &[(Vec<u8>, usize)], texts: &TextPieces<'_>, rows: &[RankedRow<'_>]) -> usize {
     let mut room = 0usize;
     for row in rows {
         room = room.saturating_add(row_room(columns, texts, row));
@@ -86,7 +86,7 @@ fn room_of(columns: &[(Vec<u8>, usize)], texts: &TermTexts<'_>, rows: &[RankedRo
 fn block(
     alloc: Global,
     columns: &[(Vec<u8>, usize)],
-    texts: &TermTexts<'_>,
+    texts: &TextPieces<'_>,
     rows: &[RankedRow<'_>],
     later: bool,
 ) -> Result<Vec<u8>, AllocError>
@@ -112,7 +112,7 @@ pub(crate) fn row_blocks<R: Threads + Wait, G: Gate + Sync>(
     rt: &R,
     alloc: Global,
     columns: &[(Vec<u8>, usize)],
-    texts: &TermTexts<'_>,
+    texts: &TextPieces<'_>,
     rows: &[RankedRow<'_>],
     how: &How,
     gate: &G,

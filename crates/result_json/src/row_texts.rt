@@ -9,7 +9,7 @@ ghost use Rattle.result_json.specs.Texts.{all_texts, begun_column, begun_member,
 
 use crate::prefetch::{looked_up, text_at};
 use crate::ranked_row::RankedRow;
-use crate::term_texts::TermTexts;
+use crate::text_pieces::TextPieces;
 use std::alloc::{AllocError, Global};
 
 /// The number of rows whose texts are looked up at once. It is large enough for the loads to
@@ -22,7 +22,7 @@ fn put_cell(
     alloc: Global,
     out: &mut Vec<u8>,
     prefix: &[u8],
-    texts: &TermTexts<'_>,
+    texts: &TextPieces<'_>,
     rank: u64,
     later: bool,
 ) -> Result<bool, AllocError>
@@ -49,7 +49,7 @@ fn put_member(
     alloc: Global,
     out: &mut Vec<u8>,
     prefix: &[u8],
-    texts: &TermTexts<'_>,
+    texts: &TextPieces<'_>,
     rank: u64,
     text: &[u8],
     later: bool,
@@ -76,7 +76,7 @@ fn put_row(
     alloc: Global,
     out: &mut Vec<u8>,
     columns: &[(Vec<u8>, usize)],
-    texts: &TermTexts<'_>,
+    texts: &TextPieces<'_>,
     row: &RankedRow<'_>,
     ahead: &[Vec<&[u8]>],
     number: usize,
@@ -109,7 +109,7 @@ fn put_group(
     alloc: Global,
     out: &mut Vec<u8>,
     columns: &[(Vec<u8>, usize)],
-    texts: &TermTexts<'_>,
+    texts: &TextPieces<'_>,
     rows: &[RankedRow<'_>],
     mut later: bool,
 ) -> Result<(), AllocError>
@@ -136,7 +136,7 @@ pub(crate) fn put_rows(
     alloc: Global,
     out: &mut Vec<u8>,
     columns: &[(Vec<u8>, usize)],
-    texts: &TermTexts<'_>,
+    texts: &TextPieces<'_>,
     rows: &[RankedRow<'_>],
     mut later: bool,
 ) -> Result<(), AllocError>

@@ -1,7 +1,7 @@
 //! Terms as JSON, each printed once.
-ghost use Rattle.std.specs.Prelude.{◌≡◌, ◌⊎◌, ◌++◌, ◌<◌, [], length, All, IfOk, MatchOption, None, OnOk, Some};
+ghost use Rattle.std.specs.Prelude.{◌≡◌, ◌⊎◌, ◌++◌, ◌<◌, [], length, IfOk, OnOk};
 ghost use Rattle.dict_core.specs.Dict.{term_at};
-ghost use Rattle.result_json.specs.Ranks.{ranked_cell, terms_of};
+ghost use Rattle.result_json.specs.Ranks.{terms_of};
 ghost use Rattle.result_json.specs.Results.{term_text};
 
 use crate::values::put_term;
@@ -69,48 +69,6 @@ impl<'a> TermTexts<'a> {
             latest,
             spans,
         })
-    }
-
-    /// Returns the number of terms.
-    pub(crate) fn len(&self) -> usize
-        ensures value { result ≡ length self.now }
-    {
-        self.terms.len()
-    }
-
-    /// Returns the places of the shown terms, each after the number of its term, in ascending order
-    /// of these numbers. In this order the terms are read sequentially from memory.
-    ///
-    /// # Errors
-    /// `AllocError` if an allocation fails.
-    pub(crate) fn shown_places(
-        &self,
-        alloc: Global,
-        shown: &[bool],
-    ) -> Result<Vec<(u64, usize)>, AllocError>
-        requires wide { length shown.now ≡ length self.now }
-        ensures inside { IfOk result (λ places. All (λ e. e.1 < length self.now) places.items) }
-    {
-        let mut places = Vec::new(alloc);
-        for place in 0..self.terms.len() {
-            if shown[place] {
-                places.push((self.terms[place].1, place))?;
-            }
-        }
-        places.sort_unstable();
-        Ok(places)
-    }
-
-    /// Returns the place of a rank's term, or None if the rank has no term.
-    pub(crate) fn place(&self, rank: u64) -> Option<usize>
-        ensures place { MatchOption result (ranked_cell self.now rank ≡ None)
-            (λ i. (i < length self.now) × (ranked_cell self.now rank ≡ Some (term_at self.now i))) }
-    {
-        if rank == 0 || rank > self.terms.len() as u64 {
-            None
-        } else {
-            Some((rank - 1) as usize)
-        }
     }
 
     /// Prints the term at a place, if it is not printed yet.
