@@ -9,11 +9,12 @@ use Rattle.rdf_core.specs.QuadParts.{QuadParts}
 use Rattle.rdf_core.proofs.TermLaws.{term_eq, term_decides, term_eq_laws}
 use Rattle.dict_core.specs.declared.num_quad.NumQuad.{NumQuad}
 use Rattle.dict_core.specs.declared.seen.Seen.{Seen}
+use Rattle.dict_core.specs.declared.seen.Seen.TheVariants.{Known, New}
 use Rattle.dict_core.specs.Dict.{AreDistinct, AreNumbersOf, IsGrown}
 use Rattle.dict_core.specs.NumQuad.{quad_at, quads_at, IsBelow, AreBelow}
 use Rattle.dict_core.specs.Appearances.{terms_of, first_appearances}
 use Rattle.dict_core.specs.Numbered.{IsNumbered, joined, renamed}
-use Rattle.dict_core.specs.Seen.{IsSeen, IsNumberFor, new_of}
+use Rattle.dict_core.specs.Seen.{hashed_of, new_of, IsSeen, IsNumberFor}
 use Rattle.std.specs.declared.alloc.AllocError.{AllocError}
 use Rattle.std.specs.Result.{OnOk, IfOk}
 use Rattle.dict_core.specs.Inserting.{places_in, places_of}
@@ -139,6 +140,11 @@ pub absorbed_numbers : (inside old more other new : List Term) (r : Result (Vec 
 absorbed_numbers inside old more other new (Ok v) old_is other_is keys places =
     subst (λ l. AreNumbersOf new l v.items) other_is (subst (λ d. AreNumbersOf d more v.items) (sym keys) (subst (λ l. AreNumbersOf (insert_all term_eq inside more) more l) (sym places) (places_are inside more)))
 absorbed_numbers inside old more other new (Err e) old_is other_is keys places = tt
+
+pub hashed_of-append : (xs ys : List Seen) → hashed_of (xs ++ ys) ≡ hashed_of xs ++ hashed_of ys
+hashed_of-append [] ys = refl
+hashed_of-append (Known n ∷ xs) ys = hashed_of-append xs ys
+hashed_of-append (New t ∷ xs) ys = ap (λ l. t ∷ l) (hashed_of-append xs ys)
 
 pub zipped-push : {A B : Type 0} (R : A → B → Type 0) (xs : List A) (ys : List B) (x : A) (y : B) → AllZip R xs ys → R x y → AllZip R (xs ++ x ∷ []) (ys ++ y ∷ [])
 zipped-push R [] [] x y h one = (one, tt)

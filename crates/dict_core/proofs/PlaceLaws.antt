@@ -4,6 +4,7 @@ use Rattle.std.specs.List.{AllZip, position_or_len}
 use Rattle.indexmap.specs.IndexSet.{insert_key, insert_all}
 use Rattle.rdf_core.specs.declared.term.Term.{Term}
 use Rattle.rdf_core.proofs.TermLaws.{term_eq}
+use Rattle.dict_core.specs.declared.hashed_term.HashedTerm.{HashedTerm}
 use Rattle.dict_core.specs.declared.seen.Seen.{Seen}
 use Rattle.dict_core.specs.declared.seen.Seen.TheVariants.{Known, New}
 use Rattle.dict_core.specs.Dict.{AreDistinct, AreNumbersOf, IsGrown}
@@ -24,8 +25,8 @@ pub places_are_for : (dict : List Term) (seen : List Seen) → AllZip (IsNumberF
 places_are_for dict [] = tt
 places_are_for dict (Known n ∷ seen) = (refl, places_are_for dict seen)
 places_are_for dict (New t ∷ seen) = (
-  get-insert_all (insert_key term_eq dict t) (new_of seen) (position_or_len (term_eq t) dict) t (get-inserted dict t),
-  places_are_for (insert_key term_eq dict t) seen,
+  get-insert_all (insert_key term_eq dict t.term) (new_of seen) (position_or_len (term_eq t.term) dict) t.term (get-inserted dict t.term),
+  places_are_for (insert_key term_eq dict t.term) seen,
 )
 
 -- what was known need not be inserted again
@@ -38,7 +39,7 @@ same_terms earlier (t ∷ ts) (Known n ∷ seen) later keeps h =
     same_terms earlier ts seen later keeps h.1
     ∙ ap (λ l. insert_all term_eq l ts) (sym (insert_key-present later t (any-from_get later n t (keeps n t h.0))))
 same_terms earlier (t ∷ ts) (New u ∷ seen) later keeps h =
-    same_terms earlier ts seen (insert_key term_eq later u) (λ n x e. get-insert_key later u n x (keeps n x e)) h.1
+    same_terms earlier ts seen (insert_key term_eq later u.term) (λ n x e. get-insert_key later u.term n x (keeps n x e)) h.1
     ∙ ap (λ x. insert_all term_eq (insert_key term_eq later x) ts) h.0.0
 
 same_numbers : (earlier merged : List Term) → Keeps earlier merged → (terms : List Term) (seen : List Seen) (numbers : List ℕ) → AllZip (IsSeen earlier) terms seen
@@ -94,7 +95,7 @@ module _ (ks now : List Term) (n m : ℕ) (one : Seen) (left rest : List Seen) (
       )
 
   -- one more term, which was not known
-  pub new_one : (t : Term) → now ≡ insert_key term_eq ks t → n ≡ position_or_len (term_eq t) ks → one ≡ New t
+  pub new_one : (t : HashedTerm) → now ≡ insert_key term_eq ks t.term → n ≡ position_or_len (term_eq t.term) ks → one ≡ New t
       → (insert_all term_eq now (new_of rest) ≡ terms) × (more ++ places_of now rest ≡ places)
   new_one t now_is n_is one_is =
       let all : left ≡ New t ∷ rest = left_is ∙ ap (λ s. s ∷ rest) one_is in (

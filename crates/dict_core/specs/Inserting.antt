@@ -17,4 +17,4 @@ abbrev pub places_of : List Term → List Seen → List ℕ
 places_of dict [] = []
 places_of dict (Known n ∷ seen) = n ∷ places_of dict seen
 places_of dict (New t ∷ seen) =
-    position_or_len (term_eq t) dict ∷ places_of (insert_key term_eq dict t) seen
+    position_or_len (term_eq t.term) dict ∷ places_of (insert_key term_eq dict t.term) seen

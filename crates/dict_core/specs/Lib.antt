@@ -9,3 +9,5 @@ pub mod Laws
 pub mod Inserting
 pub mod SliceNumbers
 pub mod Hashing
+pub mod HashedTerms
+pub mod TermSet

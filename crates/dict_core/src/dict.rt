@@ -3,9 +3,10 @@ ghost use Rattle.std.specs.Prelude.{◌≡◌, ◌<◌, ◌^◌, [], ◌∷◌, 
 ghost use Rattle.dict_core.specs.Dict.{AreDistinct, AreNumbersOf};
 ghost use Rattle.dict_core.specs.Appearances.{first_appearances};
 
+use crate::hashed_term::HashedTerm;
 use crate::hashing::HashState;
 use crate::inserting::insert_terms;
-use indexmap::IndexSet;
+use crate::term_set::TermSet;
 use rdf_core::Term;
 use std::alloc::{AllocError, Global};
 use std::hash::RandomState;
@@ -13,7 +14,7 @@ use std::marker::Model;
 
 /// Distinct terms, numbered from 0 in the order in which they were added. In contracts this type is their list.
 pub struct Dict {
-    pub(crate) terms: IndexSet<Term, HashState>,
+    pub(crate) terms: TermSet,
 }
 
 impl Drop for Dict {
@@ -44,7 +45,7 @@ impl Dict {
         ensures empty { result ≡ Ok [] }
     {
         Ok(Dict {
-            terms: IndexSet::with_hasher(alloc, HashState::new(state)),
+            terms: TermSet::new(alloc, HashState::new(state)),
         })
     }
 
@@ -60,7 +61,7 @@ impl Dict {
         ensures empty { IfOk result (λ dict. dict ≡ []) }
     {
         Ok(Dict {
-            terms: IndexSet::with_capacity_and_hasher(alloc, n, state)?,
+            terms: TermSet::with_capacity(alloc, n, state)?,
         })
     }
 
@@ -85,9 +86,10 @@ impl Dict {
         ensures unchanged { OnErr result (self.new ≡ self.old) }
         ensures not_in_dict { OnErr result (¬ (Contains self.old term)) }
     {
-        match self.terms.insert_full(term) {
-            Ok((at, _)) => Ok(at as u64),
-            Err(failed) => Err(failed.value),
+        let hash = self.terms.state().hash_of(&term);
+        match self.terms.insert(HashedTerm { hash, term }) {
+            Ok(at) => Ok(at as u64),
+            Err(term) => Err(term),
         }
     }
 
@@ -96,7 +98,8 @@ impl Dict {
         ensures value { MatchOption result (¬ (Contains self.now term.now))
             (λ n. slice_get self.now n ≡ Some term.now) }
     {
-        match self.terms.get_index_of(term) {
+        let hash = self.terms.state().hash_of(term);
+        match self.terms.place(hash, term) {
             Some(at) => Some(at as u64),
             None => None,
         }
@@ -112,12 +115,12 @@ impl Dict {
         ensures numbers { IfOk result (λ v. AreNumbersOf self.new other v.items) }
         ensures unchanged { OnErr result (self.new ≡ self.old) }
     {
-        let alloc = *self.terms.allocator();
-        insert_terms(alloc, &mut self.terms, other)
+        let alloc = self.terms.allocator();
+        insert_terms(alloc, &mut self.terms, other.into_terms())
     }
 
     /// Returns the terms by number.
-    pub(crate) fn into_terms(self) -> IndexSet<Term, HashState>
+    pub(crate) fn into_terms(self) -> TermSet
         ensures terms { result.keys ≡ self }
     {
         let Dict { terms } = self;
@@ -132,6 +135,6 @@ impl Dict {
         requires known { n < length self.now }
         ensures value { slice_get self.now n ≡ Some result.now }
     {
-        &self.terms[n as usize]
+        self.terms.term(n as usize)
     }
 }

@@ -10,14 +10,14 @@ ghost use Rattle.dict_core.specs.Hashing.{write, finish};
 use std::hash::{BuildHasher, Hasher, RandomState};
 
 /// The state of the hash function, and the key that each multiplication uses.
-#[derive(Clone, Copy)]
+#[derive(Clone, Copy, PartialEq, Eq)]
 pub struct KeyedHasher {
     state: u64,
     key: u64,
 }
 
 /// Makes a hasher for each value, with the same two secret keys.
-#[derive(Clone, Copy)]
+#[derive(Clone, Copy, PartialEq, Eq)]
 pub struct HashState {
     initial: KeyedHasher,
 }

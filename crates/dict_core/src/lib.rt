@@ -14,13 +14,17 @@
 //! Standard: RDF 1.1 Concepts and Abstract Syntax, section 3 (when two terms are the same). The numbers are a
 //! choice of this project.
 //!
+//! Each term keeps its hash, so it is hashed once, in the dictionary of its piece.
+//!
 //! Reading order: `dict`, `num_quad`, `local_piece`, `numbering`, `slice_numbers`, `merging`, `seen`,
-//! `seen_piece`, `rounds`, `laws`. `inserting` and `hashing` are private.
+//! `seen_piece`, `rounds`, `laws`. `term_set`, `inserting` and `hashing` are private, and so is all of `hashed_term`
+//! except `HashedTerm`.
 //!
 //! Not guaranteed: which hash a term has. No result depends on it.
 #![tactic(auto)]
 
 mod dict;
+mod hashed_term;
 mod hashing;
 mod inserting;
 mod laws;
@@ -32,8 +36,10 @@ mod rounds;
 mod seen;
 mod seen_piece;
 mod slice_numbers;
+mod term_set;
 
 pub use dict::Dict;
+pub use hashed_term::HashedTerm;
 pub use laws::{absorbing_keeps_the_numbering, earlier_places_serve, equality_is_identity};
 pub use local_piece::{LocalPiece, number_piece};
 pub use merging::merge;

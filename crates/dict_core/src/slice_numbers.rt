@@ -243,7 +243,7 @@ fn number_new(numbers: &mut Vec<u64>, dict: &mut Dict, raw: &str) -> Result<u64,
     ensures pushed { IfOk result (λ n. numbers.new.items ≡ numbers.old.items ++ n ∷ []) }
     ensures number { IfOk result (IsTermNumber dict.old dict.new raw.now) }
 {
-    let alloc = *dict.terms.allocator();
+    let alloc = dict.terms.allocator();
     let Some(term) = read_term(alloc, raw)? else {
         return Err(NamingFault::Doubt);
     };

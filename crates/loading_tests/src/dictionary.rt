@@ -266,13 +266,16 @@ fn check_numbers<R: Abort>(rt: &R, alloc: Global, state: RandomState, dict: &mut
     same_numbers(rt, "numbers of b, c", &[1, 2], &numbers);
 }
 
-/// Absorbing b, c into a, b returns 1, 2 and leaves a, b, c.
+/// Absorbing b, c into a, b returns 1, 2 and leaves a, b, c, with the same hash state or another.
 #[test]
 fn absorbed_terms_go_last(rt: HostRuntime) {
     let state = RandomState::new(&rt).expect(&rt, "a hash state");
-    let mut dict = dict_of(rt.alloc(), state, &[A, B]).expect(&rt, "a dictionary");
-    check_numbers(&rt, rt.alloc(), state, &mut dict);
-    check(&rt, rt.alloc(), "a b, b c", ABC, &dict, &[]);
+    let other = RandomState::new(&rt).expect(&rt, "another hash state");
+    for absorbed in [state, other] {
+        let mut dict = dict_of(rt.alloc(), state, &[A, B]).expect(&rt, "a dictionary");
+        check_numbers(&rt, rt.alloc(), absorbed, &mut dict);
+        check(&rt, rt.alloc(), "a b, b c", ABC, &dict, &[]);
+    }
 }
 
 /// Returns the dictionary and the quads of the first piece.
@@ -290,12 +293,12 @@ pub(crate) fn looked_up(
     look_up(alloc, dict, numbered(alloc, state, text)?).ok()
 }
 
-/// Appends the numbers that the look-ups of a piece return, and `None` for new terms.
+/// Appends the numbers that the look-ups of a piece return, and the new terms.
 fn append_seen(out: &mut String, piece: &SeenPiece) -> Result<(), AllocError> {
     for seen in &piece.seen {
         match seen {
             Seen::Known(number) => write!(out, "Some({number}) ")?,
-            Seen::New(_) => out.push_str("None ")?,
+            Seen::New(hashed) => write!(out, "{:?} ", hashed.term())?,
         }
     }
     Ok(())
@@ -309,8 +312,8 @@ fn seen_of(alloc: Global, second: &SeenPiece, third: &SeenPiece) -> Result<Strin
     Ok(out)
 }
 
-/// The numbers of the terms of the second and of the third piece in the dictionary of the first.
-const SEEN: &str = "Some(2) Some(1) Some(0) Some(0) None None None ";
+/// The numbers of the terms of the second and of the third piece in the dictionary of the first, and their new terms.
+const SEEN: &str = "Some(2) Some(1) Some(0) Some(0) Iri(http://e/q) Blank(x) Iri(http://e/g) ";
 
 /// Looks two pieces up in the dictionary, checks what is found, and then adds them in order.
 fn add_two<R: Abort>(
@@ -332,20 +335,26 @@ fn add_two<R: Abort>(
     add_piece(alloc, dict, quads, third).expect(rt, "the third piece");
 }
 
+/// Checks that rounds give the result of `merge`, where the later pieces are numbered under the second hash state.
+fn check_rounds<R: Abort>(rt: &R, alloc: Global, first: RandomState, later: RandomState) {
+    let (mut dict, mut quads) = first_round(alloc, first).expect(rt, "the first piece");
+    add_two(rt, alloc, later, &mut dict, &mut quads);
+    check(rt, alloc, "all three", MERGED, &dict, quads.as_slice());
+}
+
 /// Two pieces are looked up in the dictionary of the first, and then added in order: the result is that of `merge`.
 #[test]
 fn rounds_come_to_the_same(rt: HostRuntime) {
     let state = RandomState::new(&rt).expect(&rt, "a hash state");
-    let (mut dict, mut quads) = first_round(rt.alloc(), state).expect(&rt, "the first piece");
-    add_two(&rt, rt.alloc(), state, &mut dict, &mut quads);
-    check(
-        &rt,
-        rt.alloc(),
-        "all three",
-        MERGED,
-        &dict,
-        quads.as_slice(),
-    );
+    check_rounds(&rt, rt.alloc(), state, state);
     absorbing_keeps_the_numbering();
     earlier_places_serve();
+}
+
+/// Hashes that were computed under the hash state of a piece are computed again under that of the dictionary.
+#[test]
+fn rounds_of_another_hash_state_come_to_the_same(rt: HostRuntime) {
+    let first = RandomState::new(&rt).expect(&rt, "a hash state");
+    let later = RandomState::new(&rt).expect(&rt, "another hash state");
+    check_rounds(&rt, rt.alloc(), first, later);
 }

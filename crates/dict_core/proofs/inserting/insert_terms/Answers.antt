@@ -1,14 +1,21 @@
-use Rattle.std.proofs.Common.{length, ap, rules, arith}
+use Rattle.std.proofs.Common.{length, ap, subst, rules, arith}
+use Rattle.std.proofs.lemmas.List.Elements.{All-head, All-tail}
+use Rattle.dict_core.specs.HashedTerms.{terms_in, AreHashed, IsHashed}
 use Rattle.dict_core.proofs.PlaceLaws.{inserted_one, placed_one}
 use Rattle.dict_core.proofs.inserting.insert_terms.Goals as goal
 
-pub loop-term-preserved : goal.loop-term-preserved
-loop-term-preserved c =
-    let was = c.loop-term.invariant in
+pub insert_reserved-place-requires-clause-hashed : goal.insert_reserved-place-requires-clause-hashed
+insert_reserved-place-requires-clause-hashed c =
+    All-head (IsHashed c.state-from.result) _ _ (subst (AreHashed c.state-from.result) c.in-Some.ensures.steps c.loop-hashed.invariant.hashed)
+
+pub loop-hashed-preserved : goal.loop-hashed-preserved
+loop-hashed-preserved c =
+    let was = c.loop-hashed.invariant in
     let steps = c.in-Some.ensures.steps in record {
       room = search rules;
       spare_is = omega (arith, was.spare_is, ap length steps, c.insert_reserved-place.ensures.spare);
-      keys = inserted_one _ _ c.in-Some.term _ _ _ c.insert_reserved-place.ensures.keys steps was.keys;
-      places = placed_one c.loop-term.set.keys _ c.in-Some.term _ _ _ _ c.insert_reserved-place.result _ c.insert_reserved-place.ensures.keys c.insert_reserved-place.ensures.index steps c.push_reserved.ensures.items was.places;
-      unique = c.insert_reserved-place.ensures.unique;
+      hashed = All-tail (IsHashed _) _ _ (subst (AreHashed _) steps was.hashed);
+      keys = inserted_one _ _ c.in-Some.hashed.term _ _ _ c.insert_reserved-place.ensures.keys (ap terms_in steps) was.keys;
+      places = placed_one c.loop-hashed.set.keys _ c.in-Some.hashed.term _ _ _ _ c.insert_reserved-place.result _ c.insert_reserved-place.ensures.keys c.insert_reserved-place.ensures.index (ap terms_in steps) c.push_reserved.ensures.items was.places;
+      distinct = c.insert_reserved-place.ensures.distinct;
     }

@@ -1,6 +1,4 @@
 use Rattle.std.proofs.Common.{◌++◌, length, sym, ap, ◌∙◌, subst}
-use Rattle.std.proofs.lemmas.Map.Made.{AllPairs-from_IsDistinct}
-use Rattle.rdf_core.proofs.TermLaws.{term_decides}
 use Rattle.dict_core.specs.Dict.{IsGrown}
 use Rattle.dict_core.specs.NumQuad.{AreBelow}
 use Rattle.dict_core.specs.Appearances.{first_appearances}
@@ -19,7 +17,7 @@ append_renamed-requires-clause-below c =
     c.args.piece.below
 
 pub invariant_of-dict-2 : goal.invariant_of-dict-2
-invariant_of-dict-2 c = AllPairs-from_IsDistinct term_decides _ c.insert_new.ensures.unique
+invariant_of-dict-2 c = c.insert_new.ensures.distinct
 
 pub returns-clause-terms : goal.returns-clause-terms
 returns-clause-terms c =

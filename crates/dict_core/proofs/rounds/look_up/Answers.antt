@@ -3,7 +3,7 @@ use Rattle.dict_core.specs.NumQuad.{AreBelow}
 use Rattle.dict_core.proofs.MergingSteps.{length_zipped}
 use Rattle.dict_core.proofs.rounds.look_up.Goals as goal
 
-pub invariant_of-result : goal.invariant_of-result
-invariant_of-result c = record {
-  below = subst (λ n. AreBelow n c.piece.inside.quads.items) (length_zipped _ _ _ c.in_ok-seen.ensures.seen) c.piece.invariant.1;
-}
+pub invariant_of-result-clause-below : goal.invariant_of-result-clause-below
+invariant_of-result-clause-below c =
+    subst (λ n. AreBelow n c.piece.inside.quads.items)
+    (ap length (sym (c.into_terms.ensures.terms)) ∙ length_zipped _ _ _ c.in_ok-seen.ensures.seen) c.piece.invariant.1

@@ -1,0 +1,113 @@
+//! Terms with their hashes. The hash of a term is computed once, where the term gets its first number. A dictionary
+//! that gets the term later takes the hash over.
+ghost use Rattle.std.specs.Prelude.{◌≡◌, ◌==◌, ◌&&◌};
+ghost use Rattle.std.specs.Hash as fed;
+ghost use Rattle.std.specs.Cmp.Rules.{comparing, hashing};
+ghost use borrow.Author.Rules.{rules};
+ghost use Rattle.rdf_core.specs.Equality.{term_eq};
+ghost use Rattle.dict_core.specs.HashedTerms.{hash_of, IsHashed};
+
+use crate::hashing::HashState;
+use indexmap::Equivalent;
+use rdf_core::Term;
+use std::hash::{BuildHasher, Hash, Hasher};
+
+/// A term with a hash. This crate makes it, and knows under which state of the hash function it has its hash.
+#[derive(PartialEq, Eq)]
+pub struct HashedTerm {
+    pub(crate) hash: u64,
+    pub(crate) term: Term,
+}
+
+impl Drop for HashedTerm {
+    /// Drops the term. It is written out and not derived, so that a proof meets one call at each exit that
+    /// drops a term.
+    fn drop(self) {
+        let HashedTerm { hash: _, term: _ } = self;
+    }
+}
+
+impl HashedTerm {
+    /// Returns the term.
+    pub fn term(&self) -> &Term
+        ensures value { result.now ≡ self.now.term }
+    {
+        &self.term
+    }
+
+    /// Returns the term without its hash.
+    pub(crate) fn into_term(self) -> Term
+        ensures value { result ≡ self.term }
+    {
+        let HashedTerm { hash: _, term } = self;
+        term
+    }
+}
+
+impl Hash for HashedTerm {
+    ghost hash_input = { λ t. fed.u64 t.hash };
+
+    ghost respects_eq = { Prim.search (hashing, rules) };
+
+    #[inline(always)]
+    fn hash<H: Hasher>(&self, state: &mut H) {
+        state.write_u64(self.hash);
+    }
+}
+
+/// A borrowed term with a hash: what a [`HashedTerm`] is looked up by.
+#[derive(Clone, Copy, PartialEq, Eq)]
+pub struct HashedRef<'a> {
+    pub(crate) hash: u64,
+    pub(crate) term: &'a Term,
+}
+
+impl<'a> Hash for HashedRef<'a> {
+    ghost hash_input = { λ t. fed.u64 t.hash };
+
+    ghost respects_eq = { Prim.search (hashing, rules) };
+
+    #[inline(always)]
+    fn hash<H: Hasher>(&self, state: &mut H) {
+        state.write_u64(self.hash);
+    }
+}
+
+impl<'a> Equivalent<HashedTerm> for HashedRef<'a> {
+    ghost equivalent = { λ q k. (q.hash == k.hash) && term_eq q.term.now k.term };
+
+    ghost respects_hash = { Prim.search (hashing, rules) };
+
+    ghost respects_eq = { Prim.search (comparing, rules) };
+
+    #[inline(always)]
+    fn equivalent(&self, key: &HashedTerm) -> bool {
+        self.hash == key.hash && *self.term == key.term
+    }
+}
+
+impl HashState {
+    /// Returns the hash of a term.
+    pub(crate) fn hash_of(&self, term: &Term) -> u64
+        ensures { result ≡ hash_of self.now term.now }
+    {
+        self.hash_one(term)
+    }
+
+    /// Returns the term with its hash under this state. The hash is computed only if it was computed under
+    /// another state.
+    pub(crate) fn rehashed(&self, from: HashState, hashed: HashedTerm) -> HashedTerm
+        requires hashed { IsHashed from hashed }
+        ensures hashed { IsHashed self.now result }
+        ensures term { result.term ≡ hashed.term }
+    {
+        if *self == from {
+            return hashed;
+        }
+        let term = hashed.into_term();
+        HashedTerm {
+            hash: self.hash_of(&term),
+            term,
+        }
+    }
+}
