@@ -56,6 +56,10 @@ class Source:
         signature = unindented(self.text[found.start() : signature_end])
         return Function(found[2], (found[1] or "") == "pub ", start, body[1], owner, signature, clauses, body)
 
+    def has_type(self, name):
+        """Returns whether the file declares this struct or enum."""
+        return any(it.kind in ("struct", "enum") and it.name == name for it in self.items)
+
     def body_of(self, function):
         return self.code[slice(*function.body)]
 
@@ -250,7 +254,7 @@ class Mutant:
             self.changed.append((name, is_function))
         # (an edit outside any item is one of the imports)
         if found:
-            self.prover_paths.append(prover_path(path, found) if is_function else None)
+            self.prover_paths.append(prover_path(sources_of(self.crate), path, found) if is_function else None)
             self.places.append((path, found.path if is_function else found.name))
 
     def names(self):
@@ -259,10 +263,15 @@ class Mutant:
         return functions or [name for name, _ in self.changed]
 
 
-def prover_path(path, function):
-    """Returns the path below the crate under which the prover knows a function. A method of a trait is named by its module."""
-    module = path.removeprefix("src/").removesuffix(".rt").replace("/", "::")
+def prover_path(sources, path, function):
+    """Returns the path below the crate under which the prover knows a function.
+
+    A method of a trait is named by its module, and another method by its type and the module of the type.
+    """
     in_trait = function.owner and (function.owner.kind == "trait" or function.owner.trait)
+    if function.owner and not in_trait:
+        path = next((it for it, source in sources.items() if source.has_type(function.owner.name)), path)
+    module = path.removeprefix("src/").removesuffix(".rt").replace("/", "::")
     names = [module] * (module not in ("lib", "main")) + [function.path] * (not in_trait)
     return "::".join(names) or None
 
