@@ -20,11 +20,12 @@ use Rattle.rdf_core.specs.Characters.{is_iri_char, is_label_start, is_label_char
 use Rattle.rdf_core.specs.Characters.{begins}
 use Rattle.rdf_core.specs.Escapes.{IsIriPart, IsStringPart, Writes}
 use Rattle.rdf_core.specs.Lexical.{is_tag, is_tag_tail, is_subtags, has_scheme}
-use Rattle.nquads_core.specs.Terminal.{Terminal, iri_ref, blank_label, quoted, lang_tag, carets, dot, is_label, is_label_tail}
+use Rattle.nquads_core.specs.Terminal.{Terminal, iri_ref, blank_label, quoted, lang_tag, carets, dot, IsTerminal, is_label, is_label_tail}
 use Rattle.nquads_core.specs.LineParser.{iri_at, string_at, terminal_at, skip_blanks, next, node_of, literal_of, object_of, graph_of, whole, is_end, statement_at, line_at}
-use Rattle.nquads_core.specs.Grammar.{HasStatement, Subject, iri_subject, blank_subject, Predicate, iri_predicate, GraphLabel, no_graph, iri_graph, blank_graph}
+use Rattle.nquads_core.specs.Grammar.{HasStatement, Subject, iri_subject, blank_subject, Predicate, iri_predicate, Object, iri_object, blank_object, plain_object, typed_object, tagged_object, GraphLabel, no_graph, iri_graph, blank_graph}
+use Rattle.nquads_core.specs.Slices.{Joins, Denotes}
 use Rattle.rdf_core.specs.Vocabulary.{xsd_string, rdf_lang_string}
-use Rattle.nquads_core.specs.Laws.{IsNQuadsTerm, LinesRoundTrip, QuadsRoundTrip, TermsRoundTrip, line_end, quad_line}
+use Rattle.nquads_core.specs.Laws.{IsNQuadsTerm, LinesRoundTrip, QuadsRoundTrip, TermsRoundTrip, line_end, object_line, quad_line, with_object}
 use Rattle.std.specs.Str.{bytes_eq}
 use Rattle.std.proofs.lemmas.Slice.Eq.{bytes_eq-Decides}
 use lib.Utf8.{scalar}
@@ -276,12 +277,15 @@ next_carets rest = refl
 enc_cons : (c : ℕ) (cs : List ℕ) → c < 128 → encode_utf8_all (c ∷ cs) ≡ c ∷ encode_utf8_all cs
 enc_cons c cs h = rw (encode_ascii c h) refl
 
--- a term as its serialization has it: the characters, which hold no line end
+-- a term as its serialization has it: the characters, which hold no line end, and its terminals
 record Written (t : Term) : Type 0 where
   S : List ℕ
   scalars : all_scalars S ≡ true
   utf8 : serialization t ≡ encode_utf8_all S
   plain : NonePass is_line_end S
+  terminals : List Terminal
+  joins : Joins S terminals []
+  object : Object terminals t
 
 -- what follows a term in a line: a blank, and then a terminal that continues no literal
 record Follows (R : List ℕ) (w : Terminal × List ℕ) : Type 0 where
@@ -315,6 +319,14 @@ node_written t n = record {
   read = λ R w f. record { k = n.k; r = 32 ∷ R; v = w; first = n.read R; second = f.reads; object = n.one w };
 }
 
+-- a text that is one terminal
+one_joins : (word : List ℕ) (k : Terminal) → IsTerminal word k → Joins word (k ∷ []) []
+one_joins word k t = (word, [], sym (append-nil word), t, refl)
+
+iri_joins : (text : List ℕ) (g : GoodIri text) → Joins (60 ∷ (g.chars ++ 62 ∷ [])) (iri_ref text ∷ []) []
+iri_joins text g =
+    one_joins (60 ∷ (g.chars ++ 62 ∷ [])) (iri_ref text) (record { body = g.chars; chars = g.chars; parts = refl; writes = raw_iri g.chars g.right; utf8 = g.utf8; scheme = g.scheme })
+
 label_node : (label : List ℕ) → GoodLabel label → IsNode (Blank label)
 label_node label g = record {
   form = record {
@@ -322,6 +334,9 @@ label_node label g = record {
     scalars = g.scalars;
     utf8 = sym (enc_cons 95 (58 ∷ g.chars) (lit< tt) ∙ ap (λ (y : List ℕ). 95 ∷ y) (enc_cons 58 g.chars (lit< tt) ∙ ap (λ (y : List ℕ). 58 ∷ y) (sym g.utf8)));
     plain = (refl, (refl, label_none g.chars g.right));
+    terminals = blank_label label ∷ [];
+    joins = one_joins (95 ∷ 58 ∷ g.chars) (blank_label label) (record { label = g.chars; parts = refl; right = g.right; utf8 = g.utf8 });
+    object = blank_object;
   };
   k = blank_label label;
   node = refl;
@@ -340,6 +355,9 @@ iri_node text g = record {
     scalars = sc_join g.chars (62 ∷ []) g.scalars refl;
     utf8 = iri_utf8 g.chars text g.utf8;
     plain = (refl, none_join g.chars (62 ∷ []) (iri_none g.chars g.right) (refl, tt));
+    terminals = iri_ref text ∷ [];
+    joins = iri_joins text g;
+    object = iri_object;
   };
   k = iri_ref text;
   node = refl;
@@ -380,13 +398,23 @@ record IsSuffix (lex dt : List ℕ) (tag : Option (List ℕ)) (suf R : List ℕ)
   literal : literal_of lex v ≡ Some (Literal lex dt tag, w)
 
 written_literal : (lex dt : List ℕ) (tag : Option (List ℕ)) → GoodText lex → (suf : List ℕ) → suffix dt tag ≡ encode_utf8_all suf → all_scalars suf ≡ true → NonePass is_line_end suf
+    → (ks : List Terminal) → Joins suf ks [] → Object (quoted lex ∷ ks) (Literal lex dt tag)
     → ((R : List ℕ) (w : Terminal × List ℕ) → Follows R w → IsSuffix lex dt tag suf R w) → IsWritten (Literal lex dt tag)
-written_literal lex dt tag g suf u sc np e = record {
+written_literal lex dt tag g suf u sc np ks j o e = record {
   form = record {
     S = 34 ∷ (flat_map escaped g.chars ++ 34 ∷ suf);
     scalars = sc_join (flat_map escaped g.chars) (34 ∷ suf) (lexical_scalars g.chars g.scalars) sc;
     utf8 = lit_utf8 lex g.chars (suffix dt tag) suf g.utf8 u;
     plain = (refl, none_join (flat_map escaped g.chars) (34 ∷ suf) (lexical_none g.chars) (refl, np));
+    terminals = quoted lex ∷ ks;
+    joins = (
+      34 ∷ (flat_map escaped g.chars ++ 34 ∷ []),
+      suf,
+      ap (λ (y : List ℕ). 34 ∷ y) (sym (append_assoc (flat_map escaped g.chars) (34 ∷ []) suf)),
+      record { body = flat_map escaped g.chars; chars = g.chars; parts = refl; writes = escaped_writes g.chars; utf8 = g.utf8 },
+      j,
+    );
+    object = o;
   };
   read = λ R w f. let x = e R w f in record {
     k = quoted lex;
@@ -399,7 +427,7 @@ written_literal lex dt tag g suf u sc np e = record {
 }
 
 plain_literal : (lex : List ℕ) → GoodText lex → IsWritten (Literal lex xsd_string None)
-plain_literal lex g = written_literal lex xsd_string None g [] refl refl tt (λ R w f. record { v = w; reads = f.reads; literal = f.ends lex })
+plain_literal lex g = written_literal lex xsd_string None g [] refl refl tt [] refl plain_object (λ R w f. record { v = w; reads = f.reads; literal = f.ends lex })
 
 typed_suffix : (lex dt : List ℕ) (i : GoodIri dt) (R : List ℕ) (w : Terminal × List ℕ) → Follows R w → IsSuffix lex dt None (94 ∷ 94 ∷ 60 ∷ (i.chars ++ 62 ∷ [])) R w
 typed_suffix lex dt i R w f =
@@ -418,6 +446,7 @@ typed_literal lex dt g i =
           let enc = enc_cons 94 (94 ∷ 60 ∷ (i.chars ++ 62 ∷ [])) (lit< tt) ∙ ap (λ (y : List ℕ). 94 ∷ y) (enc_cons 94 (60 ∷ (i.chars ++ 62 ∷ [])) (lit< tt) ∙ ap (λ (y : List ℕ). 94 ∷ y) (sym (iri_utf8 i.chars dt i.utf8))) in
           written_literal lex dt None g (94 ∷ 94 ∷ 60 ∷ (i.chars ++ 62 ∷ [])) (rw h (sym enc)) (sc_join i.chars (62 ∷ []) i.scalars refl)
           (refl, (refl, (refl, none_join i.chars (62 ∷ []) (iri_none i.chars i.right) (refl, tt))))
+          (carets ∷ iri_ref dt ∷ []) (94 ∷ 94 ∷ [], 60 ∷ (i.chars ++ 62 ∷ []), refl, refl, iri_joins dt i) typed_object
           (typed_suffix lex dt i)
     ]
 
@@ -450,6 +479,7 @@ tagged_literal lex tag g t =
     let right : is_tag (map to_ascii_lowercase t.tag) ≡ true = lower_tag t.tag t.right in
     let p = and_parts (begins is_ascii_alphabetic T) (is_tag_tail T) right in
     written_literal lex rdf_lang_string (Some tag) g (64 ∷ T) (sym (enc_cons 64 T (lit< tt) ∙ ap (λ (y : List ℕ). 64 ∷ y) (tag_ascii T p.1 ∙ sym t.lower))) (tag_scalars T p.1) (refl, primary_none T p.1)
+    (lang_tag tag ∷ []) (one_joins (64 ∷ T) (lang_tag tag) (record { tag = T; parts = refl; right = right; lower = t.lower ∙ sym (lower_twice t.tag) })) tagged_object
     (λ R w f. record {
       v = (lang_tag tag, 32 ∷ R);
       reads = next_tag T R right ∙ ap (λ (y : List ℕ). Some (lang_tag y, 32 ∷ R)) (lower_twice t.tag ∙ sym t.lower);
@@ -467,6 +497,17 @@ good_node : (t : Term) → is_node t ≡ true → GoodTerm t → IsNode t
 good_node (Blank label) h g = label_node label g
 good_node (Iri text) h g = iri_node text g
 good_node (Literal lex dt tag) h g = absurd cc
+
+-- the serialization denotes the term
+pub good_denotes : (t : Term) → GoodTerm t → Denotes (serialization t) t
+good_denotes t g =
+    let w = (written t g).form in
+    record {
+      utf8 = (w.S, (w.scalars, sym w.utf8));
+      terminals = w.terminals;
+      joins = subst (λ (y : List ℕ). Joins y w.terminals []) (sym (ap chars w.utf8 ∙ chars-encodes w.S w.scalars)) w.joins;
+      object = w.object;
+    }
 
 -- ---- the line
 
@@ -588,7 +629,7 @@ line_statement s text o g a good c d =
     }
 
 -- a term that occurs in the quad of some line
-good_of : (t : Term) → IsNQuadsTerm t → GoodTerm t
+pub good_of : (t : Term) → IsNQuadsTerm t → GoodTerm t
 good_of t h = term_good h.0 h.1 t h.2 h.3
 
 node_statement : (s p o : Term) (g : Option Term) → IsNode s → is_iri p ≡ true → GoodTerm p → IsWritten o → IsLineEnd g
@@ -628,6 +669,8 @@ lines_round_trip line q h = quads_round_trip q (record {
 a_iri : GoodIri (97 ∷ 58 ∷ [])
 a_iri = record { chars = 97 ∷ 58 ∷ []; scalars = refl; utf8 = sym (enc_cons 97 (58 ∷ []) (lit< tt) ∙ ap (λ (y : List ℕ). 97 ∷ y) (enc_cons 58 [] (lit< tt))); right = refl; scheme = refl }
 
+pub good_round_trip : (t : Term) → GoodTerm t → HasStatement (object_line t) (Some (with_object t))
+good_round_trip t g = line_statement (Iri (97 ∷ 58 ∷ [])) (97 ∷ 58 ∷ []) t None (iri_node (97 ∷ 58 ∷ []) a_iri) a_iri (written t g) dot_end
+
 pub terms_round_trip : TermsRoundTrip
-terms_round_trip line q t s o =
-    line_statement (Iri (97 ∷ 58 ∷ [])) (97 ∷ 58 ∷ []) t None (iri_node (97 ∷ 58 ∷ []) a_iri) a_iri (written t (term_good line q t s o)) dot_end
+terms_round_trip line q t s o = good_round_trip t (term_good line q t s o)

@@ -1,5 +1,5 @@
 -- What is known of the terms of a line.
-use Rattle.std.proofs.Common.{◌≡◌, ℕ, Bool, true, false, cond, eqb, List, [], ◌∷◌, ◌++◌, map, Option, Some, None, refl, sym, ap, subst, ◌∙◌, inl, inr, ◌⊎◌}
+use Rattle.std.proofs.Common.{◌≡◌, ℕ, Bool, true, false, cond, eqb, List, [], ◌∷◌, ◌++◌, map, Option, Some, None, refl, sym, ap, subst, ◌∙◌, append-nil, inl, inr, ◌⊎◌}
 use Rattle.std.specs.Char.{to_ascii_lowercase}
 use Rattle.std.specs.Str.{chars, encode_utf8_all, all_scalars}
 use Rattle.std.proofs.lemmas.Str.{scalars-chars}
@@ -13,6 +13,7 @@ use Rattle.nquads_core.specs.Terminal.{Terminal, iri_ref, blank_label, quoted, l
 use Rattle.rdf_core.specs.Vocabulary.{xsd_string, rdf_lang_string}
 use Rattle.nquads_core.specs.Grammar.{Splits, Subject, iri_subject, blank_subject, Predicate, iri_predicate, Object, iri_object, blank_object, plain_object, typed_object, tagged_object, GraphLabel, no_graph, iri_graph, blank_graph, HasStatement}
 use Rattle.nquads_core.specs.Laws.{Occurs}
+use Rattle.nquads_core.specs.Slices.{Joins, Denotes}
 use Rattle.rdf_core.proofs.EscapeLaws.{and_is, and_parts, none_some}
 use Rattle.std.proofs.lemmas.Option.{same_Some}
 use lib.Utf8.{scalar}
@@ -161,3 +162,14 @@ term_good line q t s o =
         ]
       ]
     ]
+
+-- the terminals of a slice
+joins_good : (cs : List ℕ) (ks : List Terminal) → all_scalars cs ≡ true → Joins cs ks [] → AllGood ks
+joins_good cs [] s h = tt
+joins_good cs (k ∷ ks) s h =
+    let p = sc_parts h.0 h.1 (ap all_scalars (sym h.2) ∙ s) in
+    (good_terminal h.0 k p.0 h.3, joins_good h.1 ks p.1 h.4)
+
+pub slice_good : (raw : List ℕ) (t : Term) → Denotes raw t → GoodTerm t
+slice_good raw t d =
+    object_good d.object [] (subst AllGood (sym (append-nil d.terminals)) (joins_good (chars raw) d.terminals (scalars-chars raw d.utf8) d.joins))

@@ -13,4 +13,5 @@ pub mod SplitLaws
 pub mod TermReads
 pub mod GoodTerms
 pub mod Again
+pub mod Forms
 pub mod TransferSteps

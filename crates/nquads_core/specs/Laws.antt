@@ -7,6 +7,7 @@ use Rattle.rdf_core.specs.declared.term.Term.TheVariants.{Iri}
 use Rattle.rdf_core.specs.Serialization.{serialization}
 use Rattle.nquads_core.specs.Grammar.{HasStatement}
 use Rattle.nquads_core.specs.Lines.{lines, EndsLine}
+use Rattle.nquads_core.specs.Slices.{Denotes}
 
 -- a line has at most one meaning
 abbrev pub OneMeaning : Type 0
@@ -35,6 +36,18 @@ TermsRoundTrip = (line : List ℕ) (q : QuadParts) (t : Term) → HasStatement l
 -- the term occurs in the quad of some line
 abbrev pub IsNQuadsTerm : Term → Type 0
 IsNQuadsTerm t = (line : List ℕ) × (q : QuadParts) × HasStatement line (Some q) × Occurs t q
+
+-- two terms of lines with the same N-Quads form are the same term
+abbrev pub FormsAreDistinct : Type 0
+FormsAreDistinct = (t u : Term) → IsNQuadsTerm t → IsNQuadsTerm u → serialization t ≡ serialization u → t ≡ u
+
+-- the N-Quads form of a term of some line denotes this term
+abbrev pub FormsDenote : Type 0
+FormsDenote = (t : Term) → IsNQuadsTerm t → Denotes (serialization t) t
+
+-- a term that a slice denotes occurs in some line
+abbrev pub SlicesDenoteTerms : Type 0
+SlicesDenoteTerms = (raw : List ℕ) (t : Term) → Denotes raw t → IsNQuadsTerm t
 
 -- each of the four terms occurs in the quad of some line, and each may be in its place
 pub record IsNQuadsQuad (q : QuadParts) : Type 0 where

@@ -1,7 +1,8 @@
 //! Laws on lines and documents: statements about the definitions alone, each the contract of a
 //! function that does nothing.
 
-ghost use Rattle.nquads_core.specs.Laws.{LinesJoin, LinesRoundTrip, OneMeaning, QuadsRoundTrip, TermsRoundTrip};
+ghost use Rattle.nquads_core.specs.Laws.{FormsAreDistinct, FormsDenote, LinesJoin, LinesRoundTrip, OneMeaning};
+ghost use Rattle.nquads_core.specs.Laws.{QuadsRoundTrip, SlicesDenoteTerms, TermsRoundTrip};
 
 /// A line has at most one meaning: one quad, or no statement.
 pub fn one_meaning()
@@ -25,4 +26,14 @@ pub fn terms_round_trip()
 pub fn quads_round_trip()
     ensures quads { QuadsRoundTrip }
     ensures lines { LinesRoundTrip }
+{}
+
+/// The N-Quads form of a term of some line, as `write_term` writes it, identifies the term. It is itself a slice
+/// that denotes the term. Each term that a slice denotes occurs in some line.
+///
+/// So a set of terms that were read can be kept as a set of their N-Quads forms.
+pub fn forms_identify_terms()
+    ensures distinct { FormsAreDistinct }
+    ensures denote { FormsDenote }
+    ensures slices { SlicesDenoteTerms }
 {}
