@@ -30,7 +30,7 @@ read_statement view line text (Err e') e u o g = tt
 same_fault : {X : Type 0} (r : Result X LineFault) (e f : LineFault) → r ≡ Err e → r ≡ Err f → e ≡ f
 same_fault r e f h k = cc
 
-fails_bad : {Y : Type 0} (e : LineFault) (read : Option Y) → e ≡ Bad → Fails e read → read ≡ None
+pub fails_bad : {Y : Type 0} (e : LineFault) (read : Option Y) → e ≡ Bad → Fails e read → read ≡ None
 fails_bad Bad read h f = f
 fails_bad Memory read h f = absurd cc
 

@@ -1,6 +1,6 @@
 //! The term that a slice denotes.
 
-ghost use Rattle.std.specs.Prelude.{◌≡◌, IfOk, IfSome};
+ghost use Rattle.std.specs.Prelude.{◌≡◌, Some, IfOk, IfSome};
 ghost use Rattle.std.specs.Str.{chars};
 ghost use Rattle.nquads_core.specs.LineParser.{Gives, alone, is_over, suffix_alone, literal_alone, object_alone, term_at};
 ghost use Rattle.nquads_core.specs.Slices.{Denotes};
@@ -89,12 +89,13 @@ fn whole_term(alloc: Global, raw: &str) -> Result<Term, LineFault>
 /// Reads the term that a slice of a line denotes: an IRI, a blank node label, or a literal with its
 /// language tag or datatype, with no blank before, inside or after it (RDF 1.1 N-Quads, [5] `object`).
 ///
-/// Returns `None` if the slice is not exactly one such term.
+/// Returns `None` if the slice is not exactly one such term. A slice denotes at most one term.
 ///
 /// # Errors
 /// `AllocError` if an allocation fails.
 pub fn read_term(alloc: Global, raw: &str) -> Result<Option<Term>, AllocError>
     ensures denotes { IfOk result (λ term. IfSome term (Denotes raw.now)) }
+    ensures complete { IfOk result (λ term. (t : Term) → Denotes raw.now t → term ≡ Some t) }
 {
     match whole_term(alloc, raw) {
         Ok(term) => Ok(Some(term)),
