@@ -1,0 +1,10 @@
+pub mod EndLaws
+pub mod ByteLaws
+pub mod RunSteps
+pub mod NoEnds
+pub mod LayoutSteps
+pub mod BlankSteps
+pub mod LineSteps
+pub mod PieceSteps
+pub mod FormSteps
+pub mod PlainLaws

@@ -1,0 +1,120 @@
+-- A slice without an escape is its own canonical text.
+use Rattle.std.proofs.Common.{◌≡◌, ℕ, zero, suc, ◌+◌, ◌-◌, ◌≤◌, ◌<◌, Bool, true, false, eqb, List, [], ◌∷◌, ◌++◌, length, take, drop, get_or, slice_range, Option, Some, None, refl, sym, ap, subst, ◌∙◌, arith, inl, inr}
+use Rattle.std.specs.Prelude.{◌&&◌, ◌||◌}
+use Rattle.std.specs.List.{flat_map, list_all}
+use Rattle.std.specs.Str.{IsUtf8, bytes_eq, chars, encode_utf8_all}
+use Rattle.std.proofs.Math.Seq.{take-suc, take-length}
+use Rattle.std.proofs.lemmas.Bool.Decides.{nat_tests}
+use Rattle.std.proofs.lemmas.List.{drop_more, get_or-drop, take-append-drop, take_rest}
+use Rattle.std.proofs.lemmas.Bool.{eqb-true}
+use Rattle.memchr.specs.Find.{is_byte, IsFirstByte}
+use Rattle.std.proofs.lemmas.Str.{encodes-chars, scalars-chars}
+use Rattle.rdf_core.specs.declared.term.Term.{Term}
+use Rattle.rdf_core.specs.declared.term.Term.TheVariants.{Iri, Literal}
+use Rattle.rdf_core.specs.declared.lexical.escapes.Inside.TheVariants as inside
+use Rattle.rdf_core.specs.Characters.{all_pass, is_iri_char, is_string_char}
+use Rattle.rdf_core.specs.Escapes.{IsIriPart, Writes}
+use Rattle.rdf_core.specs.Lexical.{has_scheme}
+use Rattle.rdf_core.specs.Serialization.{escaped, serialization, suffix}
+use Rattle.rdf_core.specs.Vocabulary.{xsd_string}
+use Rattle.rdf_core.proofs.EscapeLaws.{and_is, and_parts}
+use Rattle.rdf_core.proofs.PlainSteps.{raw_writes}
+use Rattle.nquads_core.specs.Slices.{Denotes}
+use Rattle.nquads_core.proofs.Again.{good_denotes}
+use Rattle.nquads_core.proofs.GoodTerms.{GoodIri, GoodTerm, GoodText}
+use Rattle.nquads_scan.specs.Canonical.{HasForm}
+use Rattle.nquads_scan.specs.Plain.{is_plain_iri, IsBracketed, IsDatatype, IsPlainString, IsPlainSuffix}
+
+-- the canonical text of a term of some line
+form_of : (raw : List ℕ) (t : Term) → GoodTerm t → raw ≡ serialization t → HasForm raw raw
+form_of raw t g e = record { term = t; denotes = subst (λ (y : List ℕ). Denotes y t) (sym e) (good_denotes t g); form = e }
+
+-- ---- IRIs
+
+writes_pass : (text cs : List ℕ) → Writes IsIriPart text cs → all_pass is_iri_char cs ≡ true
+writes_pass text [] w = refl
+writes_pass text (c ∷ cs) w = and_is (is_iri_char c) (all_pass is_iri_char cs) w.3.0 (writes_pass w.1 cs w.4)
+
+good_iri : (iri : List ℕ) → IsUtf8 iri → is_plain_iri iri ≡ true → GoodIri iri
+good_iri iri u h =
+    let p = and_parts (list_all is_iri_char iri) (has_scheme iri) h in
+    let bytes = encodes-chars iri u in
+    record {
+      chars = chars iri;
+      scalars = scalars-chars iri u;
+      utf8 = sym bytes;
+      right = writes_pass (chars iri) (chars iri) (raw_writes inside.Iri (chars iri) (subst (λ (y : List ℕ). list_all is_iri_char y ≡ true) (sym bytes) p.0));
+      scheme = p.1;
+    }
+
+pub iri_form : (raw iri : List ℕ) → IsBracketed raw iri → is_plain_iri iri ≡ true → HasForm raw raw
+iri_form raw iri b h = form_of raw (Iri iri) (good_iri iri b.utf8 h) b.parts
+
+-- ---- literals
+
+plain_byte : (b : ℕ) → is_string_char b ≡ true → escaped b ≡ b ∷ []
+plain_byte b h = grind (arith, nat_tests)
+
+plain_string : (bytes : List ℕ) → list_all is_string_char bytes ≡ true → flat_map escaped bytes ≡ bytes
+plain_string [] h = refl
+plain_string (b ∷ bytes) h =
+    let p = and_parts (is_string_char b) (list_all is_string_char bytes) h in
+    ap (λ (y : List ℕ). y ++ flat_map escaped bytes) (plain_byte b p.0) ∙ ap (λ (y : List ℕ). b ∷ y) (plain_string bytes p.1)
+
+good_text : (bytes : List ℕ) → IsUtf8 bytes → GoodText bytes
+good_text bytes u = record { chars = chars bytes; scalars = scalars-chars bytes u; utf8 = sym (encodes-chars bytes u) }
+
+literal_parts : (string more more' : List ℕ) → list_all is_string_char string ≡ true → more ≡ more' → 34 ∷ (string ++ 34 ∷ more) ≡ 34 ∷ (flat_map escaped string ++ 34 ∷ more')
+literal_parts string more more' h e = ap (λ (y : List ℕ). 34 ∷ (string ++ 34 ∷ y)) e ∙ ap (λ (y : List ℕ). 34 ∷ (y ++ 34 ∷ more')) (sym (plain_string string h))
+
+datatype_suffix : (datatype : List ℕ) → bytes_eq datatype xsd_string ≡ false → suffix datatype None ≡ 94 ∷ 94 ∷ 60 ∷ (datatype ++ 62 ∷ [])
+datatype_suffix datatype h = rw h refl
+
+pub literal_form : (raw string more : List ℕ) → IsPlainString raw string more → IsPlainSuffix more → HasForm raw raw
+literal_form raw string more s (inl e) =
+    form_of raw (Literal string xsd_string None) (good_text string s.utf8, inl refl) (s.parts ∙ literal_parts string more [] s.raw e)
+literal_form raw string more s (inr d) =
+    form_of raw (Literal string d.datatype None) (good_text string s.utf8, inr (good_iri d.datatype d.utf8 d.plain))
+    (s.parts ∙ literal_parts string more (suffix d.datatype None) s.raw (d.is ∙ sym (datatype_suffix d.datatype d.other)))
+
+-- ---- the ends of a text
+
+last_split : (text : List ℕ) → 0 < length text → text ≡ take (length text - 1) text ++ get_or text (length text - 1) 0 ∷ []
+last_split text l =
+    let n : length text ≡ suc (length text - 1) = omega (arith, l) in
+    sym (take-length text) ∙ ap (λ (k : ℕ). take k text) n ∙ take-suc text (length text - 1) 0 (omega (arith, l))
+
+brackets : (text : List ℕ) → 2 ≤ length text → get_or text 0 0 ≡ 60 → get_or text (length text - 1) 0 ≡ 62 → text ≡ 60 ∷ (slice_range text 1 (length text - 1) ++ 62 ∷ [])
+brackets [] l e f = absurd (omega (arith, l))
+brackets (b ∷ text) l e f =
+    let n : length (b ∷ text) - 1 ≡ suc (length text - 1) = omega (arith, l) in
+    let last : get_or text (length text - 1) 0 ≡ 62 = sym (ap (λ (k : ℕ). get_or (b ∷ text) k 0) n) ∙ f in
+    let middle : slice_range (b ∷ text) 1 (length (b ∷ text) - 1) ≡ take (length text - 1) text = ap (λ (k : ℕ). take k text) (omega (arith, l)) in
+    ap (λ (y : ℕ). y ∷ text) e ∙ ap (λ (y : List ℕ). 60 ∷ y) (last_split text (omega (arith, l)) ∙ ap (λ (y : ℕ). take (length text - 1) text ++ y ∷ []) last ∙ ap (λ (y : List ℕ). y ++ 62 ∷ []) (sym middle))
+
+pub bracketed : (text bytes inside : List ℕ) (len : ℕ) → bytes ≡ text → len ≡ length bytes → 2 ≤ len → get_or bytes 0 0 ≡ 60 → get_or bytes (len - 1) 0 ≡ 62 → inside ≡ slice_range text 1 (len - 1) → IsUtf8 inside → IsBracketed text inside
+bracketed text bytes inside len same n l e f s u =
+    let m : len ≡ length text = n ∙ ap length same in
+    let first : get_or text 0 0 ≡ 60 = sym (ap (λ (y : List ℕ). get_or y 0 0) same) ∙ e in
+    let last : get_or text (length text - 1) 0 ≡ 62 = sym (ap (λ (y : List ℕ). get_or y (len - 1) 0) same ∙ ap (λ (k : ℕ). get_or text (k - 1) 0) m) ∙ f in
+    record { parts = brackets text (omega (arith, l, m)) first last ∙ ap (λ (y : List ℕ). 60 ∷ (y ++ 62 ∷ [])) (sym (s ∙ ap (λ (k : ℕ). slice_range text 1 (k - 1)) m)); utf8 = u }
+
+-- ---- a string at the front of a text
+
+suc_one : (n : ℕ) → suc n + 1 ≡ suc (n + 1)
+suc_one n = omega arith
+
+string_at : (text : List ℕ) (end : ℕ) → 0 < end → end < length text → get_or text 0 0 ≡ 34 → get_or text end 0 ≡ 34 → text ≡ 34 ∷ (slice_range text 1 end ++ 34 ∷ drop (end + 1) text)
+string_at [] end p l e f = absurd (omega (arith, l))
+string_at (b ∷ text) zero p l e f = absurd (omega (arith, p))
+string_at (b ∷ text) (suc end) p l e f =
+    let middle : slice_range (b ∷ text) 1 (suc end) ≡ take end text = ap (λ (k : ℕ). take k text) (omega arith) in
+    let after : drop (suc end + 1) (b ∷ text) ≡ drop (end + 1) text = ap (λ (k : ℕ). drop k (b ∷ text)) (suc_one end) in
+    let split : text ≡ take end text ++ 34 ∷ drop (end + 1) text =
+    sym (take-append-drop end text) ∙ ap (λ (y : List ℕ). take end text ++ y) (drop_more text end 0 (omega (arith, l)) ∙ ap (λ (y : ℕ). y ∷ drop (end + 1) text) f) in
+    ap (λ (y : ℕ). y ∷ text) e ∙ ap (λ (y : List ℕ). 34 ∷ y) (split ∙ ap (λ (y : List ℕ). y ++ 34 ∷ drop (end + 1) text) (sym middle) ∙ ap (λ (y : List ℕ). slice_range (b ∷ text) 1 (suc end) ++ 34 ∷ y) (sym after))
+
+-- a byte at k, counted from the place from
+pub byte_at : (b : ℕ) (text bytes : List ℕ) (from k : ℕ) → bytes ≡ text → IsFirstByte (is_byte b) (take (length bytes - from) (drop from bytes)) (Some k) → get_or text (from + k) 0 ≡ b
+byte_at b text bytes from k same h =
+    sym (ap (λ (y : List ℕ). get_or y (from + k) 0) same) ∙ sym (get_or-drop from bytes k 0) ∙ sym (ap (λ (y : List ℕ). get_or y k 0) (take_rest bytes from)) ∙ eqb-true _ b h.1

@@ -1,0 +1,132 @@
+//! Where the slice of a term ends. A byte closes it, or it goes on up to a byte that cannot be in it.
+//!
+//! What is in a slice is not checked here: it may denote no term.
+
+ghost use Rattle.std.specs.Prelude.{◌≡◌, ◌≤◌, ◌<◌, true, length, drop, get_or, IfSome};
+ghost use Rattle.nquads_scan.specs.Ends.{is_label_byte, is_tag_byte, ends_label, ends_tag, EndsAt, IsClosedAt, IsPlaceAfter};
+
+use memchr::{memchr, memchr2};
+
+/// Returns whether a byte is a dot, or belongs to a character that a blank node label may have. Each byte above 127
+/// is taken for one of these.
+#[inline(always)]
+fn is_label_byte(b: u8) -> bool
+    ensures { result ≡ is_label_byte b }
+{
+    b >= 128 || b.is_ascii_alphanumeric() || b == b'_' || b == b':' || b == b'-' || b == b'.'
+}
+
+/// Returns whether a language tag may have this byte. Each byte above 127 is taken for one that it may have.
+#[inline(always)]
+fn is_tag_byte(b: u8) -> bool
+    ensures { result ≡ is_tag_byte b }
+{
+    b >= 128 || b.is_ascii_alphanumeric() || b == b'-'
+}
+
+/// Returns where the bytes of a label and the dots after it end, from this place on.
+#[inline(always)]
+fn label_run(bytes: &[u8], from: usize) -> usize
+    requires { from ≤ length bytes.now }
+    ensures place { IsPlaceAfter bytes.now from result }
+    ensures ends { ends_label (drop result bytes.now) ≡ true }
+{
+    let mut at = from;
+    while at < bytes.len() && is_label_byte(bytes[at]) {
+        at += 1;
+    }
+    at
+}
+
+/// Returns where a blank node label ends, from this place on. A dot is in it only if more of the label follows.
+#[inline(always)]
+fn label_end(bytes: &[u8], from: usize) -> usize
+    requires { from ≤ length bytes.now }
+    ensures place { IsPlaceAfter bytes.now from result }
+    ensures ends { ends_label (drop result bytes.now) ≡ true }
+{
+    let mut at = label_run(bytes, from);
+    while from < at && bytes[at - 1] == b'.' {
+        at -= 1;
+    }
+    at
+}
+
+/// Returns where the letters, digits and hyphens of a language tag end, from this place on.
+#[inline(always)]
+fn tag_end(bytes: &[u8], from: usize) -> usize
+    requires { from ≤ length bytes.now }
+    ensures place { IsPlaceAfter bytes.now from result }
+    ensures ends { ends_tag (drop result bytes.now) ≡ true }
+{
+    let mut at = from;
+    while at < bytes.len() && is_tag_byte(bytes[at]) {
+        at += 1;
+    }
+    at
+}
+
+/// Returns the place after the first `>`, from this place on.
+#[inline(always)]
+fn iri_end(bytes: &[u8], from: usize) -> Option<usize>
+    requires { from ≤ length bytes.now }
+    ensures { IfSome result (IsClosedAt bytes.now) }
+{
+    let at = from + memchr(b'>', &bytes[from..])?;
+    Some(at + 1)
+}
+
+/// Returns the place after the closing quote of a string, whose opening quote is at the front. A quote or a backslash
+/// after a backslash is part of an escape.
+#[inline(always)]
+fn string_end(bytes: &[u8]) -> Option<usize>
+    ensures { IfSome result (IsClosedAt bytes.now) }
+{
+    let mut at = 1;
+    while at < bytes.len() {
+        let found = at + memchr2(b'"', b'\\', &bytes[at..])?;
+        if bytes[found] == b'"' {
+            return Some(found + 1);
+        }
+        at = found + 2;
+    }
+    None
+}
+
+/// Returns where a literal ends, with its language tag or datatype.
+#[inline(always)]
+fn literal_end(bytes: &[u8]) -> Option<usize>
+    requires { get_or bytes.now 0 0 ≡ 34 }
+    ensures { IfSome result (EndsAt bytes.now) }
+{
+    let end = string_end(bytes)?;
+    if end < bytes.len() {
+        if bytes[end] == b'@' {
+            return Some(tag_end(bytes, end + 1));
+        }
+        if bytes[end] == b'^' {
+            return iri_end(bytes, end);
+        }
+    }
+    Some(end)
+}
+
+/// Returns where the term at the front ends, or None if no term is there.
+#[inline(always)]
+pub fn term_end(bytes: &[u8]) -> Option<usize>
+    ensures { IfSome result (EndsAt bytes.now) }
+{
+    if bytes.is_empty() {
+        return None;
+    }
+    if bytes[0] == b'<' {
+        return iri_end(bytes, 0);
+    }
+    if bytes[0] == b'"' {
+        return literal_end(bytes);
+    }
+    if bytes[0] == b'_' {
+        return Some(label_end(bytes, 1));
+    }
+    None
+}

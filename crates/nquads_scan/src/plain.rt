@@ -1,0 +1,101 @@
+//! Slices that are their own canonical text, found without decoding the term.
+//!
+//! Only slices without an escape are found: an IRI, and a literal without a tag. Of other slices `false` says nothing.
+
+ghost use Rattle.std.specs.Prelude.{◌≡◌, ◌∷◌, ◌++◌, [], true, IfSome};
+ghost use Rattle.std.specs.List.{list_all};
+ghost use Rattle.std.specs.Str.{IsUtf8};
+ghost use Rattle.rdf_core.specs.Characters.{is_iri_char, is_string_char};
+ghost use Rattle.nquads_scan.specs.Canonical.{HasForm};
+ghost use Rattle.nquads_scan.specs.Plain.{is_plain_iri, IsBracketed, IsPlainString, IsPlainSuffix};
+
+use memchr::memchr;
+use rdf_core::lexical::{has_scheme, is_iri_char, is_string_char};
+use rdf_core::vocabulary::XSD_STRING;
+
+/// Returns whether all these bytes may occur unescaped in an IRI.
+fn are_iri_bytes(bytes: &[u8]) -> bool
+    ensures { result ≡ list_all is_iri_char bytes.now }
+{
+    let mut all = true;
+    for b in bytes {
+        all = all & is_iri_char(*b as char);
+    }
+    all
+}
+
+/// Returns whether all these bytes may occur unescaped in a string.
+fn are_string_bytes(bytes: &[u8]) -> bool
+    ensures { result ≡ list_all is_string_char bytes.now }
+{
+    let mut all = true;
+    for b in bytes {
+        all = all & is_string_char(*b as char);
+    }
+    all
+}
+
+/// Returns whether this is an IRI with a scheme, written without an escape.
+fn is_plain_iri(inside: &str) -> bool
+    ensures { result ≡ is_plain_iri inside.now }
+{
+    are_iri_bytes(inside.as_bytes()) && has_scheme(inside)
+}
+
+/// Returns what is between `<` and `>`, if these are at the ends of the text.
+fn between_brackets(text: &str) -> Option<&str>
+    ensures { IfSome result (λ inside. IsBracketed text.now inside.now) }
+{
+    let bytes = text.as_bytes();
+    let len = bytes.len();
+    if len < 2 || bytes[0] != b'<' || bytes[len - 1] != b'>' {
+        return None;
+    }
+    Some(&text[1..len - 1])
+}
+
+/// Splits a literal into its string, if this has no escape, and what follows the closing quote.
+fn cut_string(text: &str) -> Option<(&str, &str)>
+    ensures { IfSome result (λ x. IsPlainString text.now x.0.now x.1.now) }
+{
+    let bytes = text.as_bytes();
+    if bytes.is_empty() || bytes[0] != b'"' {
+        return None;
+    }
+    let end = 1 + memchr(b'"', &bytes[1..])?;
+    if !are_string_bytes(&bytes[1..end]) {
+        return None;
+    }
+    Some((&text[1..end], &text[end + 1..]))
+}
+
+/// Returns whether the text after a closing quote is as in the canonical text: nothing, or a datatype other than
+/// xsd:string.
+fn is_plain_suffix(suffix: &str) -> bool
+    ensures { result ≡ true → IsPlainSuffix suffix.now }
+{
+    let bytes = suffix.as_bytes();
+    if bytes.is_empty() {
+        return true;
+    }
+    if bytes.len() < 2 || bytes[0] != b'^' || bytes[1] != b'^' {
+        return false;
+    }
+    match between_brackets(&suffix[2..]) {
+        Some(datatype) => datatype != XSD_STRING && is_plain_iri(datatype),
+        None => false,
+    }
+}
+
+/// Returns whether a slice is an IRI or a literal in its canonical text, of those that can be told without decoding.
+pub fn is_plain_form(raw: &str) -> bool
+    ensures { result ≡ true → HasForm raw.now raw.now }
+{
+    if let Some(iri) = between_brackets(raw) {
+        return is_plain_iri(iri);
+    }
+    match cut_string(raw) {
+        Some((_, suffix)) => is_plain_suffix(suffix),
+        None => false,
+    }
+}
