@@ -7,4 +7,5 @@ pub mod BlankSteps
 pub mod LineSteps
 pub mod PieceSteps
 pub mod FormSteps
+pub mod FormLaws
 pub mod PlainLaws

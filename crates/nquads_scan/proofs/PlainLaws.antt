@@ -10,20 +10,22 @@ use Rattle.std.proofs.lemmas.Bool.{eqb-true}
 use Rattle.memchr.specs.Find.{is_byte, IsFirstByte}
 use Rattle.std.proofs.lemmas.Str.{encodes-chars, scalars-chars}
 use Rattle.rdf_core.specs.declared.term.Term.{Term}
-use Rattle.rdf_core.specs.declared.term.Term.TheVariants.{Iri, Literal}
+use Rattle.rdf_core.specs.declared.term.Term.TheVariants.{Blank, Iri, Literal}
 use Rattle.rdf_core.specs.declared.lexical.escapes.Inside.TheVariants as inside
 use Rattle.rdf_core.specs.Characters.{all_pass, is_iri_char, is_string_char}
 use Rattle.rdf_core.specs.Escapes.{IsIriPart, Writes}
 use Rattle.rdf_core.specs.Lexical.{has_scheme}
 use Rattle.rdf_core.specs.Serialization.{escaped, serialization, suffix}
-use Rattle.rdf_core.specs.Vocabulary.{xsd_string}
+use Rattle.rdf_core.specs.Vocabulary.{rdf_lang_string, xsd_string}
+use Rattle.nquads_core.specs.Terminal.{is_label}
 use Rattle.rdf_core.proofs.EscapeLaws.{and_is, and_parts}
 use Rattle.rdf_core.proofs.PlainSteps.{raw_writes}
 use Rattle.nquads_core.specs.Slices.{Denotes}
 use Rattle.nquads_core.proofs.Again.{good_denotes}
 use Rattle.nquads_core.proofs.GoodTerms.{GoodIri, GoodTerm, GoodText}
 use Rattle.nquads_scan.specs.Canonical.{HasForm}
-use Rattle.nquads_scan.specs.Plain.{is_plain_iri, IsBracketed, IsDatatype, IsPlainString, IsPlainSuffix}
+use Rattle.nquads_scan.specs.Plain.{is_plain_iri, tag_left, IsBracketed, IsDatatype, IsLabelled, IsLowerTag, IsPlainString, IsPlainSuffix}
+use Rattle.nquads_scan.proofs.FormLaws.{good_tag}
 
 -- the canonical text of a term of some line
 form_of : (raw : List ℕ) (t : Term) → GoodTerm t → raw ≡ serialization t → HasForm raw raw
@@ -73,11 +75,38 @@ datatype_suffix datatype h = rw h refl
 pub literal_form : (raw string more : List ℕ) → IsPlainString raw string more → IsPlainSuffix more → HasForm raw raw
 literal_form raw string more s (inl e) =
     form_of raw (Literal string xsd_string None) (good_text string s.utf8, inl refl) (s.parts ∙ literal_parts string more [] s.raw e)
-literal_form raw string more s (inr d) =
+literal_form raw string more s (inr (inr t)) =
+    form_of raw (Literal string rdf_lang_string (Some t.tag)) (good_text string s.utf8, refl, good_tag t.tag t.lower) (s.parts ∙ literal_parts string more (64 ∷ t.tag) s.raw t.is)
+literal_form raw string more s (inr (inl d)) =
     form_of raw (Literal string d.datatype None) (good_text string s.utf8, inr (good_iri d.datatype d.utf8 d.plain))
     (s.parts ∙ literal_parts string more (suffix d.datatype None) s.raw (d.is ∙ sym (datatype_suffix d.datatype d.other)))
 
+-- ---- labels
+
+pub label_form : (raw label : List ℕ) → IsLabelled raw label → is_label (chars label) ≡ true → HasForm raw raw
+label_form raw label b h =
+    form_of raw (Blank label) (record { chars = chars label; scalars = scalars-chars label b.utf8; utf8 = sym (encodes-chars label b.utf8); right = h }) b.parts
+
 -- ---- the ends of a text
+
+labelled : (text : List ℕ) → 2 ≤ length text → get_or text 0 0 ≡ 95 → get_or text 1 0 ≡ 58 → text ≡ 95 ∷ 58 ∷ drop 2 text
+labelled [] l e f = absurd (omega (arith, l))
+labelled (b ∷ []) l e f = absurd (omega (arith, l))
+labelled (b ∷ d ∷ text) l e f = rw (e, f) refl
+
+pub label_after : (text bytes label : List ℕ) → bytes ≡ text → 2 ≤ length bytes → get_or bytes 0 0 ≡ 95 → get_or bytes 1 0 ≡ 58 → label ≡ drop 2 text → IsUtf8 label → IsLabelled text label
+label_after text bytes label same l e f d u = record {
+  parts = labelled text (omega (arith, l, ap length same)) (sym (ap (λ (y : List ℕ). get_or y 0 0) same) ∙ e) (sym (ap (λ (y : List ℕ). get_or y 1 0) same) ∙ f) ∙ ap (λ (y : List ℕ). 95 ∷ 58 ∷ y) (sym d);
+  utf8 = u;
+}
+
+first_then : (text : List ℕ) (b : ℕ) → 0 < b → get_or text 0 0 ≡ b → text ≡ b ∷ drop 1 text
+first_then [] b p e = absurd (omega (arith, p, e))
+first_then (x ∷ text) b p e = ap (λ (y : ℕ). y ∷ text) e
+
+pub tag_after : (text bytes : List ℕ) → bytes ≡ text → get_or bytes 0 0 ≡ 64 → tag_left true true (take (length bytes - 1) (drop 1 bytes)) ≡ true → IsPlainSuffix text
+tag_after text bytes same e h =
+    inr (inr (record { tag = drop 1 bytes; is = sym same ∙ first_then bytes 64 (omega arith) e; lower = sym (ap (tag_left true true) (take_rest bytes 1)) ∙ h }))
 
 last_split : (text : List ℕ) → 0 < length text → text ≡ take (length text - 1) text ++ get_or text (length text - 1) 0 ∷ []
 last_split text l =

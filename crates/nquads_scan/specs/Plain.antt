@@ -1,5 +1,6 @@
 -- Slices without an escape. Only private clauses use these definitions; what is promised is in Canonical.
-use Rattle.std.specs.Prelude.{◌≡◌, ℕ, ◌⊎◌, Bool, true, false, ◌&&◌, List, [], ◌∷◌, ◌++◌}
+use Rattle.std.specs.Prelude.{◌≡◌, ℕ, ◌⊎◌, Bool, true, false, not, ◌&&◌, ◌||◌, ◌==◌, if◌then◌else◌, List, [], ◌∷◌, ◌++◌}
+use Rattle.std.specs.Char.{is_ascii_digit, is_ascii_lowercase}
 use Rattle.std.specs.List.{list_all}
 use Rattle.std.specs.Str.{IsUtf8, bytes_eq}
 use Rattle.rdf_core.specs.Characters.{is_iri_char, is_string_char}
@@ -29,6 +30,25 @@ pub record IsDatatype (text : List ℕ) : Type 0 where
   pub plain : is_plain_iri datatype ≡ true
   pub other : bytes_eq datatype xsd_string ≡ false
 
--- nothing, or such a datatype
+-- The bytes go on with a tag in lower case. The arguments say whether no hyphen is before them, and whether a hyphen or
+-- the beginning is directly before them.
+abbrev pub tag_left : Bool → Bool → List ℕ → Bool
+tag_left primary fresh [] = not fresh
+tag_left primary fresh (c ∷ cs) =
+    if c == 45 then not fresh && tag_left false true cs
+    else (is_ascii_lowercase c || (is_ascii_digit c && not primary)) && tag_left primary false cs
+
+-- the text is @ and a language tag in lower case
+pub record IsLowerTag (text : List ℕ) : Type 0 where
+  pub tag : List ℕ
+  pub is : text ≡ 64 ∷ tag
+  pub lower : tag_left true true tag ≡ true
+
+-- nothing, such a datatype, or such a tag
 abbrev pub IsPlainSuffix : List ℕ → Type 0
-IsPlainSuffix text = (text ≡ []) ⊎ IsDatatype text
+IsPlainSuffix text = (text ≡ []) ⊎ (IsDatatype text ⊎ IsLowerTag text)
+
+-- the text is a blank node label after _:
+pub record IsLabelled (text label : List ℕ) : Type 0 where
+  pub parts : text ≡ 95 ∷ 58 ∷ label
+  pub utf8 : IsUtf8 label

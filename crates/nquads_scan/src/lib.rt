@@ -9,11 +9,12 @@
 //! of this project: the one that `write_term` of rdf_core writes.
 //!
 //! Reading order: `ends` (where a slice ends), `blanks` (what is between slices), `statement` (a line), `pieces`,
-//! `canonical_text`.
+//! `checks`, `plain`, `canonical_text`.
 #![tactic(auto)]
 
 mod blanks;
 mod canonical_text;
+mod checks;
 mod ends;
 mod pieces;
 mod plain;

@@ -1,14 +1,15 @@
 //! Slices that are their own canonical text, found without decoding the term.
 //!
-//! Only slices without an escape are found: an IRI, and a literal without a tag. Of other slices `false` says nothing.
+//! Only slices without an escape are found. Of other slices `false` says nothing.
 
 ghost use Rattle.std.specs.Prelude.{◌≡◌, ◌∷◌, ◌++◌, [], true, IfSome};
 ghost use Rattle.std.specs.List.{list_all};
 ghost use Rattle.std.specs.Str.{IsUtf8};
 ghost use Rattle.rdf_core.specs.Characters.{is_iri_char, is_string_char};
 ghost use Rattle.nquads_scan.specs.Canonical.{HasForm};
-ghost use Rattle.nquads_scan.specs.Plain.{is_plain_iri, IsBracketed, IsPlainString, IsPlainSuffix};
+ghost use Rattle.nquads_scan.specs.Plain.{is_plain_iri, IsBracketed, IsLabelled, IsPlainString, IsPlainSuffix};
 
+use crate::checks::{is_label, is_lower_tag};
 use memchr::memchr;
 use rdf_core::lexical::{has_scheme, is_iri_char, is_string_char};
 use rdf_core::vocabulary::XSD_STRING;
@@ -69,14 +70,17 @@ fn cut_string(text: &str) -> Option<(&str, &str)>
     Some((&text[1..end], &text[end + 1..]))
 }
 
-/// Returns whether the text after a closing quote is as in the canonical text: nothing, or a datatype other than
-/// xsd:string.
+/// Returns whether the text after a closing quote is as in the canonical text: nothing, a language tag in lower case,
+/// or a datatype other than xsd:string.
 fn is_plain_suffix(suffix: &str) -> bool
     ensures { result ≡ true → IsPlainSuffix suffix.now }
 {
     let bytes = suffix.as_bytes();
     if bytes.is_empty() {
         return true;
+    }
+    if bytes[0] == b'@' {
+        return is_lower_tag(&bytes[1..]);
     }
     if bytes.len() < 2 || bytes[0] != b'^' || bytes[1] != b'^' {
         return false;
@@ -87,12 +91,26 @@ fn is_plain_suffix(suffix: &str) -> bool
     }
 }
 
-/// Returns whether a slice is an IRI or a literal in its canonical text, of those that can be told without decoding.
+/// Returns the label of a blank node after `_:`, if the text begins with that.
+fn after_label_sign(text: &str) -> Option<&str>
+    ensures { IfSome result (λ label. IsLabelled text.now label.now) }
+{
+    let bytes = text.as_bytes();
+    if bytes.len() < 2 || bytes[0] != b'_' || bytes[1] != b':' {
+        return None;
+    }
+    Some(&text[2..])
+}
+
+/// Returns whether a slice is its own canonical text, for slices without an escape.
 pub fn is_plain_form(raw: &str) -> bool
     ensures { result ≡ true → HasForm raw.now raw.now }
 {
     if let Some(iri) = between_brackets(raw) {
         return is_plain_iri(iri);
+    }
+    if let Some(label) = after_label_sign(raw) {
+        return is_label(label);
     }
     match cut_string(raw) {
         Some((_, suffix)) => is_plain_suffix(suffix),
