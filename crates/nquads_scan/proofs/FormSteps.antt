@@ -1,9 +1,10 @@
 -- A slice that is the text that was written for it.
-use Rattle.std.proofs.Common.{◌≡◌, ℕ, ◌-◌, true, List, ◌++◌, length, take, drop, Option, Some, IfSome, sym, ap, subst, ◌∙◌, refl}
+use Rattle.std.proofs.Common.{◌≡◌, ℕ, ◌-◌, true, List, ◌++◌, length, take, drop, Option, Some, None, IfSome, sym, ap, subst, ◌∙◌, refl}
 use Rattle.std.specs.Str.{bytes_eq}
 use Rattle.std.proofs.Math.Seq.{take-append_seam}
 use Rattle.std.proofs.lemmas.List.{drop_at, take_rest}
 use Rattle.std.proofs.lemmas.Slice.Eq.{bytes_eq-Decides}
+use Rattle.rdf_core.proofs.EscapeLaws.{none_some}
 use Rattle.rdf_core.specs.declared.term.Term.{Term}
 use Rattle.rdf_core.specs.Serialization.{serialization}
 use Rattle.nquads_core.specs.Slices.{Denotes}
@@ -16,3 +17,6 @@ found_same raw old whole items bytes cut start found t d s n w i e b k =
     let same : drop start items ≡ bytes = sym (take_rest items start) ∙ (bytes_eq-Decides (take (length items - start) (drop start items)) bytes).0 e in
     let front : take start whole ≡ old = ap (take start) w ∙ ap (λ (m : ℕ). take m (old ++ serialization t)) n ∙ take-append_seam old (serialization t) in
     (record { term = t; denotes = subst (λ (y : Option Term). IfSome y (Denotes raw)) s d; form = sym b ∙ sym same ∙ tail }, k ∙ front)
+
+pub none_found : (raw : List ℕ) (found : Option Term) → ((t : Term) → Denotes raw t → found ≡ Some t) → found ≡ None → (t : Term) → Denotes raw t → ⊥
+none_found raw found complete is t d = none_some t (sym is ∙ complete t d)

@@ -14,8 +14,13 @@ pub record HasForm (raw text : List ℕ) : Type 0 where
   pub form : text ≡ serialization term
 
 -- What was found of a slice, given the bytes before and after: it is its own canonical text, or this text was
--- appended. Of a slice that may denote no term nothing is said.
+-- appended, or nothing was found.
 abbrev pub IsFound : List ℕ → List ℕ → List ℕ → Option Form → Type 0
 IsFound raw old new (Some Same) = HasForm raw raw × (new ≡ old)
 IsFound raw old new (Some Other) = (text : List ℕ) × HasForm raw text × (new ≡ old ++ text)
 IsFound raw old new None = new ≡ old
+
+-- Nothing is found only of a slice that denotes no term.
+abbrev pub IsComplete : List ℕ → Option Form → Type 0
+IsComplete raw (Some form) = Unit {0}
+IsComplete raw None = (t : Term) → Denotes raw t → ⊥

@@ -41,7 +41,9 @@ is_line_end b = b == 10 || b == 13
 
 -- a comment, which is # and all up to the line end, or nothing
 abbrev pub IsComment : List ℕ → Type 0
-IsComment comment = (comment ≡ []) ⊎ ((words : List ℕ) × (comment ≡ 35 ∷ words) × (list_all (λ b. not (is_line_end b)) words ≡ true))
+IsComment comment =
+    (comment ≡ [])
+    ⊎ ((words : List ℕ) × (comment ≡ 35 ∷ words) × (list_all (λ b. not (is_line_end b)) words ≡ true))
 
 -- the text is a comment, or none, and then the rest
 pub record IsCommentThen (text rest : List ℕ) : Type 0 where

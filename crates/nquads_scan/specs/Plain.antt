@@ -44,7 +44,7 @@ pub record IsLowerTag (text : List ℕ) : Type 0 where
   pub is : text ≡ 64 ∷ tag
   pub lower : tag_left true true tag ≡ true
 
--- nothing, such a datatype, or such a tag
+-- nothing, a datatype other than xsd:string, or a language tag in lower case
 abbrev pub IsPlainSuffix : List ℕ → Type 0
 IsPlainSuffix text = (text ≡ []) ⊎ (IsDatatype text ⊎ IsLowerTag text)
 

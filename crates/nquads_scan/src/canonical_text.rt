@@ -1,7 +1,7 @@
 //! The canonical text of a term: its N-Quads form.
 
 ghost use Rattle.std.specs.Prelude.{◌≡◌, IfOk, OnErr};
-ghost use Rattle.nquads_scan.specs.Canonical.{IsFound};
+ghost use Rattle.nquads_scan.specs.Canonical.{IsComplete, IsFound};
 
 use crate::plain::is_plain_form;
 use nquads_core::read_term;
@@ -30,6 +30,7 @@ pub fn canonical(
     out: &mut Vec<u8>,
 ) -> Result<Option<Form>, AllocError>
     ensures found { IfOk result (IsFound raw.now out.old.items out.new.items) }
+    ensures complete { IfOk result (IsComplete raw.now) }
     ensures err { OnErr result (out.new.items ≡ out.old.items) }
 {
     if is_plain_form(raw) {

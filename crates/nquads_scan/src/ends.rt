@@ -3,7 +3,8 @@
 //! What is in a slice is not checked here: it may denote no term.
 
 ghost use Rattle.std.specs.Prelude.{◌≡◌, ◌≤◌, ◌<◌, true, length, drop, get_or, IfSome};
-ghost use Rattle.nquads_scan.specs.Ends.{is_label_byte, is_tag_byte, ends_label, ends_tag, EndsAt, IsClosedAt, IsPlaceAfter};
+ghost use Rattle.nquads_scan.specs.Ends.{is_label_byte, is_tag_byte, ends_label, ends_tag};
+ghost use Rattle.nquads_scan.specs.Ends.{EndsAt, IsClosedAt, IsPlaceAfter};
 
 use memchr::{memchr, memchr2};
 
