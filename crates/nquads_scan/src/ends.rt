@@ -6,7 +6,7 @@ ghost use Rattle.std.specs.Prelude.{◌≡◌, ◌≤◌, ◌<◌, true, length,
 ghost use Rattle.nquads_scan.specs.Ends.{is_label_byte, is_tag_byte, ends_label, ends_tag};
 ghost use Rattle.nquads_scan.specs.Ends.{EndsAt, IsClosedAt, IsPlaceAfter};
 
-use memchr::{memchr, memchr2};
+use crate::search::search;
 
 /// Returns whether a byte is a dot, or belongs to a character that a blank node label may have. Each byte above 127
 /// is taken for one of these.
@@ -73,8 +73,12 @@ fn iri_end(bytes: &[u8], from: usize) -> Option<usize>
     requires { from ≤ length bytes.now }
     ensures { IfSome result (IsClosedAt bytes.now) }
 {
-    let at = from + memchr(b'>', &bytes[from..])?;
-    Some(at + 1)
+    let at = search(bytes, from, b'>', b'>');
+    if at < bytes.len() && bytes[at] == b'>' {
+        Some(at + 1)
+    } else {
+        None
+    }
 }
 
 /// Returns the place after the closing quote of a string, whose opening quote is at the front. A quote or a backslash
@@ -85,7 +89,10 @@ fn string_end(bytes: &[u8]) -> Option<usize>
 {
     let mut at = 1;
     while at < bytes.len() {
-        let found = at + memchr2(b'"', b'\\', &bytes[at..])?;
+        let found = search(bytes, at, b'"', b'\\');
+        if found >= bytes.len() {
+            return None;
+        }
         if bytes[found] == b'"' {
             return Some(found + 1);
         }

@@ -8,7 +8,7 @@
 //! Standard: RDF 1.1 N-Quads (Recommendation of 2014), grammar. Which form of a term is the canonical one is a choice
 //! of this project: the one that `write_term` of rdf_core writes.
 //!
-//! Reading order: `ends` (where a slice ends), `blanks` (what is between slices), `statement` (a line), `pieces`,
+//! Reading order: `search`, `ends` (where a slice ends), `blanks` (what is between slices), `statement` (a line), `pieces`,
 //! `checks`, `plain`, `canonical_text`.
 #![tactic(auto)]
 
@@ -18,6 +18,7 @@ mod checks;
 mod ends;
 mod pieces;
 mod plain;
+mod search;
 mod statement;
 
 pub use canonical_text::{Form, canonical};

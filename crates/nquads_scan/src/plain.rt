@@ -2,38 +2,65 @@
 //!
 //! Only slices without an escape are found. Of other slices `false` says nothing.
 
-ghost use Rattle.std.specs.Prelude.{◌≡◌, ◌∷◌, ◌++◌, [], true, IfSome};
+ghost use Rattle.std.specs.Prelude.{◌≡◌, true, not, IfSome};
 ghost use Rattle.std.specs.List.{list_all};
-ghost use Rattle.std.specs.Str.{IsUtf8};
 ghost use Rattle.rdf_core.specs.Characters.{is_iri_char, is_string_char};
 ghost use Rattle.nquads_scan.specs.Canonical.{HasForm};
 ghost use Rattle.nquads_scan.specs.Plain.{is_plain_iri, IsBracketed, IsLabelled, IsPlainString, IsPlainSuffix};
 
 use crate::checks::{is_label, is_lower_tag};
 use memchr::memchr;
-use rdf_core::lexical::{has_scheme, is_iri_char, is_string_char};
+use rdf_core::lexical::has_scheme;
 use rdf_core::vocabulary::XSD_STRING;
 
-/// Returns whether all these bytes may occur unescaped in an IRI.
+/// Returns whether this byte may not occur unescaped in an IRI.
+#[inline(always)]
+fn ends_iri(b: u8) -> bool
+    ensures { is_iri_char b ≡ not result }
+{
+    (b <= b' ')
+        | (b == b'<')
+        | (b == b'>')
+        | (b == b'"')
+        | (b == b'{')
+        | (b == b'}')
+        | (b == b'|')
+        | (b == b'^')
+        | (b == b'`')
+        | (b == b'\\')
+}
+
+/// Returns whether all these bytes may occur unescaped in an IRI. It has no early exit, so that the compiler compares
+/// many bytes at once.
+#[inline(always)]
 fn are_iri_bytes(bytes: &[u8]) -> bool
     ensures { result ≡ list_all is_iri_char bytes.now }
 {
-    let mut all = true;
+    let mut ends = false;
     for b in bytes {
-        all = all & is_iri_char(*b as char);
+        ends = ends | ends_iri(*b);
     }
-    all
+    !ends
 }
 
-/// Returns whether all these bytes may occur unescaped in a string.
+/// Returns whether this byte may not occur unescaped in a string.
+#[inline(always)]
+fn ends_string(b: u8) -> bool
+    ensures { is_string_char b ≡ not result }
+{
+    (b == b'"') | (b == b'\\') | (b == b'\n') | (b == b'\r')
+}
+
+/// Returns whether all these bytes may occur unescaped in a string, without an early exit either.
+#[inline(always)]
 fn are_string_bytes(bytes: &[u8]) -> bool
     ensures { result ≡ list_all is_string_char bytes.now }
 {
-    let mut all = true;
+    let mut ends = false;
     for b in bytes {
-        all = all & is_string_char(*b as char);
+        ends = ends | ends_string(*b);
     }
-    all
+    !ends
 }
 
 /// Returns whether this is an IRI with a scheme, written without an escape.
