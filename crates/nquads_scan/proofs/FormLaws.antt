@@ -1,20 +1,16 @@
 -- Labels, and tags in lower case, checked from left to right.
-use Rattle.std.proofs.Common.{◌≡◌, ℕ, Bool, true, false, cond, eqb, List, [], ◌∷◌, ◌++◌, map, Some, refl, sym, ap, subst, ◌∙◌, arith, lit<, inl, inr}
+use Rattle.std.proofs.Common.{◌≡◌, ℕ, Bool, true, false, cond, eqb, List, [], ◌∷◌, map, refl, sym, ap, subst, ◌∙◌, arith, inl, inr}
 use Rattle.std.specs.Prelude.{◌&&◌, ◌||◌, not}
 use Rattle.std.specs.Char.{is_ascii_alphabetic, is_ascii_alphanumeric, is_ascii_digit, is_ascii_lowercase, to_ascii_lowercase}
-use Rattle.std.specs.Str.{IsUtf8, chars}
 use Rattle.std.proofs.lemmas.Bool.{eqb-true}
 use Rattle.std.proofs.lemmas.Bool.Decides.{nat_tests}
-use Rattle.std.proofs.lemmas.Str.{encodes-chars, scalars-chars}
-use Rattle.rdf_core.specs.declared.term.Term.TheVariants.{Blank, Literal}
 use Rattle.rdf_core.specs.Characters.{begins, is_label_char, is_label_start}
 use Rattle.rdf_core.specs.Lexical.{is_subtags, is_tag, is_tag_tail}
-use Rattle.rdf_core.specs.Vocabulary.{rdf_lang_string}
 use Rattle.rdf_core.proofs.EscapeSteps.{which}
 use Rattle.rdf_core.proofs.EscapeLaws.{and_is, and_parts}
 use Rattle.nquads_core.specs.Terminal.{is_label, is_label_tail}
 use Rattle.nquads_scan.specs.Plain.{tag_left}
-use Rattle.nquads_core.proofs.GoodTerms.{GoodLabel, GoodTag}
+use Rattle.nquads_core.proofs.GoodTerms.{GoodTag}
 use Rattle.nquads_core.proofs.RunLaws.{or_no}
 
 false_true : false ≡ true → ⊥

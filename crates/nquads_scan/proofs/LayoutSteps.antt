@@ -1,18 +1,17 @@
 -- How a text is cut: the places where its slices end.
-use Rattle.std.proofs.Common.{◌≡◌, ℕ, zero, suc, ◌+◌, ◌-◌, ◌≤◌, ◌<◌, Bool, true, false, eqb, List, [], ◌∷◌, ◌++◌, length, take, drop, get_or, slice_range, Option, Some, None, refl, sym, ap, subst, ◌∙◌, lit<, length-append, length-drop, arith, eq-eqb, inl, inr}
-use Rattle.std.specs.Prelude.{◌&&◌, ◌||◌, not, option_copied}
+use Rattle.std.proofs.Common.{◌≡◌, ℕ, zero, suc, ◌+◌, ◌-◌, ◌≤◌, ◌<◌, Bool, true, false, eqb, List, [], ◌∷◌, ◌++◌, length, take, drop, get_or, Option, Some, None, refl, sym, ap, subst, ◌∙◌, lit<, length-append, arith, eq-eqb, inl, inr}
+use Rattle.std.specs.Prelude.{◌&&◌, ◌||◌, option_copied}
 use Rattle.std.specs.Str.{IsCharBoundary, IsUtf8}
 use Rattle.std.proofs.Math.Seq.{take-suc}
 use Rattle.std.proofs.lemmas.Bool.{cases_lt, eqb-true}
-use Rattle.std.proofs.lemmas.Bool.Decides.{nat_tests}
-use Rattle.std.proofs.lemmas.List.{drop_all, drop_more, take-append-drop, take_all}
-use Rattle.std.proofs.lemmas.Str.{IsCharBoundary-after_ascii, IsCharBoundary-before_ascii, IsCharBoundary-end, IsUtf8-take}
+use Rattle.std.proofs.lemmas.List.{drop_all, drop_more}
+use Rattle.std.proofs.lemmas.Str.{IsCharBoundary-after_ascii, IsCharBoundary-before_ascii, IsUtf8-take}
 use Rattle.rdf_core.specs.Characters.{begins}
 use Rattle.rdf_core.proofs.EscapeSteps.{which}
 use Rattle.nquads_core.proofs.RunLaws.{or_parts}
 use Rattle.nquads_core.specs.declared.slices.RawStatement.{RawStatement}
-use Rattle.nquads_scan.specs.Ends.{ends_label, ends_tag, is_close, is_label_byte, is_tag_byte, IsClosedAt, IsRunTo, EndsAt, IsApart}
-use Rattle.nquads_scan.specs.Layout.{IsBlanksThen, IsCommentThen, IsCut, IsGraphCut, IsLaidOut, IsLineEndThen, at_text_end, lf, cr, crlf, IsLineThen, IsTail}
+use Rattle.nquads_scan.specs.Ends.{ends_label, ends_tag, is_close, is_label_byte, is_tag_byte, EndsAt, IsApart}
+use Rattle.nquads_scan.specs.Layout.{IsBlanksThen, IsCut, IsGraphCut, IsLineEndThen, at_text_end, lf, cr, crlf, IsLineThen, IsTail}
 use Rattle.nquads_scan.proofs.ByteLaws.{label_byte, low_byte, low_tag}
 
 -- ---- runs of bytes
@@ -128,5 +127,12 @@ pub line_less : (text : List ℕ) (statement : Option RawStatement) (rest : List
 line_less text None rest t l = tail_less text rest t l
 line_less text (Some raw) rest h l =
     let b = h.layout in
-    omega (arith, blanks_short text h.start h.lead, cut_short h.start raw.subject.now b.predicate b.s, cut_short b.predicate raw.predicate.now b.object b.p, cut_short b.object raw.object.now b.graph b.o,
-    graph_less (option_copied raw.graph) b.graph h.tail b.g, tail_short h.tail rest h.end)
+    omega (
+      arith,
+      blanks_short text h.start h.lead,
+      cut_short h.start raw.subject.now b.predicate b.s,
+      cut_short b.predicate raw.predicate.now b.object b.p,
+      cut_short b.object raw.object.now b.graph b.o,
+      graph_less (option_copied raw.graph) b.graph h.tail b.g,
+      tail_short h.tail rest h.end,
+    )

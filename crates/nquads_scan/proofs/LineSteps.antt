@@ -1,6 +1,6 @@
 -- A text that begins with a line as laid out has the statement of its slices in its first line.
-use Rattle.std.proofs.Common.{◌≡◌, ℕ, zero, suc, ◌<◌, ◌+◌, Bool, true, false, eqb, List, [], ◌∷◌, ◌++◌, length, take, get_or, slice_index, Option, Some, None, refl, sym, ap, subst, ◌∙◌, append_assoc, append-nil, length-append, arith, lit<, inl, inr, ◌⊎◌}
-use Rattle.std.specs.Prelude.{◌&&◌, ◌||◌, not, option_copied}
+use Rattle.std.proofs.Common.{◌≡◌, ℕ, zero, suc, ◌<◌, true, false, eqb, List, [], ◌∷◌, ◌++◌, length, get_or, Option, Some, None, refl, sym, ap, subst, ◌∙◌, append_assoc, append-nil, length-append, arith, lit<, inl, inr, ◌⊎◌}
+use Rattle.std.specs.Prelude.{option_copied}
 use Rattle.std.specs.List.{list_all}
 use Rattle.std.specs.Str.{IsUtf8, chars}
 use Rattle.std.proofs.Math.Seq.{take-append_seam}
@@ -10,11 +10,11 @@ use Rattle.rdf_core.specs.declared.term.Term.{Term}
 use Rattle.rdf_core.specs.QuadParts.{QuadParts}
 use Rattle.rdf_core.specs.QuadFacts.{is_node, is_iri, is_graph_name}
 use Rattle.rdf_core.specs.Characters.{all_pass}
-use Rattle.rdf_core.proofs.EscapeSteps.{eqb_no, which}
+use Rattle.rdf_core.proofs.EscapeSteps.{eqb_no}
 use Rattle.rdf_core.proofs.EscapeLaws.{and_is, and_parts}
 use Rattle.nquads_core.specs.declared.slices.RawStatement.{RawStatement}
 use Rattle.nquads_core.specs.Terminal.{Terminal, dot, is_blank}
-use Rattle.nquads_core.specs.Grammar.{IsEnd, Begins, Splits, Subject, iri_subject, blank_subject, Predicate, iri_predicate, Object, iri_object, blank_object, plain_object, typed_object, tagged_object, GraphLabel, no_graph, iri_graph, blank_graph, HasStatement}
+use Rattle.nquads_core.specs.Grammar.{IsEnd, Splits, Subject, iri_subject, blank_subject, Predicate, iri_predicate, Object, iri_object, blank_object, plain_object, typed_object, tagged_object, GraphLabel, no_graph, iri_graph, blank_graph, HasStatement}
 use Rattle.nquads_core.specs.Lines.{lines}
 use Rattle.nquads_core.specs.Slices.{Denotes}
 use Rattle.nquads_core.specs.Splitting.{DenotesGraph, DenotesQuad}
@@ -24,7 +24,7 @@ use Rattle.nquads_core.proofs.PieceLaws.{NoEnds, last_line, line_lf, line_cr, li
 use Rattle.nquads_core.proofs.RunLaws.{or_parts}
 use Rattle.nquads_core.proofs.TerminalLaws.{at_dot}
 use Rattle.nquads_scan.specs.Ends.{IsApart}
-use Rattle.nquads_scan.specs.Layout.{IsBlanksThen, IsCommentThen, IsComment, IsCut, IsGraphCut, IsLaidOut, IsLineEndThen, at_text_end, lf, cr, crlf, IsTail, IsStatementThen, is_line_end}
+use Rattle.nquads_scan.specs.Layout.{IsBlanksThen, IsComment, IsCut, IsGraphCut, IsLaidOut, IsLineEndThen, at_text_end, lf, cr, crlf, IsTail, IsStatementThen}
 use Rattle.nquads_scan.proofs.ByteLaws.{apart_front, apart_here, blank_ascii, chars_blanks, chars_cons, one_utf8, utf8_after}
 use Rattle.nquads_scan.proofs.NoEnds.{HasNoEnd, no_end, no_end_join, slice_kept}
 use Rattle.nquads_scan.proofs.RunSteps.{begins_with, object_runs}

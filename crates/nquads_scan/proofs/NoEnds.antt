@@ -1,15 +1,14 @@
 -- A slice that denotes a term has no line end.
-use Rattle.std.proofs.Common.{◌≡◌, ℕ, zero, suc, ◌≤◌, ◌<◌, Bool, true, false, eqb, List, [], ◌∷◌, ◌++◌, length, get_or, Some, refl, sym, ap, subst, ◌∙◌, append-nil, arith, inl, inr}
-use Rattle.std.specs.Prelude.{◌&&◌, ◌||◌, not}
+use Rattle.std.proofs.Common.{◌≡◌, ℕ, suc, ◌≤◌, ◌<◌, Bool, true, false, eqb, List, [], ◌∷◌, ◌++◌, length, get_or, Some, refl, sym, ap, subst, ◌∙◌, append-nil, arith, inl, inr}
+use Rattle.std.specs.Prelude.{not}
 use Rattle.std.specs.List.{list_all}
 use Rattle.std.specs.Char.{encode_utf8}
 use Rattle.std.specs.Str.{chars, encode_utf8_all}
 use Rattle.std.proofs.lemmas.Bool.{cases_lt, eqb-true}
-use Rattle.std.proofs.lemmas.List.Folds.{list_all-append}
 use Rattle.std.proofs.lemmas.Str.{encode_ascii, encodes-chars, inside_one}
 use Rattle.rdf_core.specs.declared.term.Term.{Term}
 use Rattle.rdf_core.specs.Characters.{all_pass, echar, is_hex, is_iri_char, is_label_char, is_label_start, is_name_start, is_pn_chars_base, is_string_char}
-use Rattle.rdf_core.specs.Escapes.{IsEchar, IsIriPart, IsStringPart, IsUchar, Writes}
+use Rattle.rdf_core.specs.Escapes.{IsIriPart, IsStringPart, IsUchar, Writes}
 use Rattle.rdf_core.specs.Lexical.{is_tag_tail}
 use Rattle.rdf_core.proofs.EscapeSteps.{eqb_no, which}
 use Rattle.rdf_core.proofs.EscapeLaws.{and_is, and_parts, none_some}

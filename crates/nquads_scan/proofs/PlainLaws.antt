@@ -1,8 +1,7 @@
 -- A slice without an escape is its own canonical text.
-use Rattle.std.proofs.Common.{◌≡◌, ℕ, zero, suc, ◌+◌, ◌-◌, ◌≤◌, ◌<◌, Bool, true, false, eqb, List, [], ◌∷◌, ◌++◌, length, take, drop, get_or, slice_range, Option, Some, None, refl, sym, ap, subst, ◌∙◌, arith, inl, inr}
-use Rattle.std.specs.Prelude.{◌&&◌, ◌||◌}
+use Rattle.std.proofs.Common.{◌≡◌, ℕ, zero, suc, ◌+◌, ◌-◌, ◌≤◌, ◌<◌, true, false, List, [], ◌∷◌, ◌++◌, length, take, drop, get_or, slice_range, Some, None, refl, sym, ap, subst, ◌∙◌, arith, inl, inr}
 use Rattle.std.specs.List.{flat_map, list_all}
-use Rattle.std.specs.Str.{IsUtf8, bytes_eq, chars, encode_utf8_all}
+use Rattle.std.specs.Str.{IsUtf8, bytes_eq, chars}
 use Rattle.std.proofs.Math.Seq.{take-suc, take-length}
 use Rattle.std.proofs.lemmas.Bool.Decides.{nat_tests}
 use Rattle.std.proofs.lemmas.List.{drop_more, get_or-drop, take-append-drop, take_rest}
@@ -24,7 +23,7 @@ use Rattle.nquads_core.specs.Slices.{Denotes}
 use Rattle.nquads_core.proofs.Again.{good_denotes}
 use Rattle.nquads_core.proofs.GoodTerms.{GoodIri, GoodTerm, GoodText}
 use Rattle.nquads_scan.specs.Canonical.{HasForm}
-use Rattle.nquads_scan.specs.Plain.{is_plain_iri, tag_left, IsBracketed, IsDatatype, IsLabelled, IsLowerTag, IsPlainString, IsPlainSuffix}
+use Rattle.nquads_scan.specs.Plain.{is_plain_iri, tag_left, IsBracketed, IsLabelled, IsPlainString, IsPlainSuffix}
 use Rattle.nquads_scan.proofs.FormLaws.{good_tag}
 
 -- the canonical text of a term of some line

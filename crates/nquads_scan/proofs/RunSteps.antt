@@ -1,7 +1,7 @@
 -- The terminals of a slice that is apart from what follows it.
 use Rattle.std.proofs.Common.{◌≡◌, ℕ, Bool, true, false, eqb, List, [], ◌∷◌, ◌++◌, Some, refl, sym, ap, subst, ◌∙◌, append_assoc, append-nil, eq-eqb, inl, inr}
 use Rattle.std.specs.Prelude.{◌||◌}
-use Rattle.std.specs.Char.{is_ascii_alphabetic, is_ascii_alphanumeric}
+use Rattle.std.specs.Char.{is_ascii_alphabetic}
 use Rattle.std.proofs.lemmas.Bool.{eqb-true}
 use Rattle.rdf_core.specs.declared.term.Term.{Term}
 use Rattle.rdf_core.specs.Characters.{all_pass, begins, is_label_char, is_label_start, is_name_start, is_pn_chars_base}

@@ -24,11 +24,7 @@ pub enum Form {
 ///
 /// # Errors
 /// `AllocError` if an allocation fails. `out` is unchanged.
-pub fn canonical(
-    alloc: Global,
-    raw: &str,
-    out: &mut Vec<u8>,
-) -> Result<Option<Form>, AllocError>
+pub fn canonical(alloc: Global, raw: &str, out: &mut Vec<u8>) -> Result<Option<Form>, AllocError>
     ensures found { IfOk result (IsFound raw.now out.old.items out.new.items) }
     ensures complete { IfOk result (IsComplete raw.now) }
     ensures err { OnErr result (out.new.items ≡ out.old.items) }

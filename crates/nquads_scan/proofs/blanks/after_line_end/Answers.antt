@@ -1,4 +1,4 @@
-use Rattle.std.proofs.Common.{◌≡◌, ◌≤◌, ◌∙◌, List, ℕ, length, get_or, sym, ap, arith}
+use Rattle.std.proofs.Common.{◌∙◌, List, ℕ, length, get_or, sym, ap, arith}
 use Rattle.std.proofs.lemmas.Bool.{eqb-true}
 use Rattle.std.proofs.lemmas.List.{nil_from_length}
 use Rattle.nquads_core.proofs.CutLaws.{after_byte}

@@ -1,4 +1,4 @@
-use Rattle.std.proofs.Common.{sym, ◌∙◌}
+use Rattle.std.proofs.Common.{sym}
 use Rattle.std.specs.Str.{chars}
 use Rattle.nquads_scan.proofs.FormLaws.{left_end, left_step, left_tail}
 use Rattle.nquads_scan.proofs.checks.is_label_tail.Goals as goal
