@@ -81,6 +81,7 @@ impl TextDict {
     pub fn text(&self, n: u64) -> &[u8]
         requires known { n < length self.now.texts }
         ensures value { slice_get self.now.texts n ≡ Some result.now }
+        ensures form { IsForm result.now }
     {
         self.texts.text(n as usize)
     }
