@@ -1,9 +1,8 @@
 -- Pieces that are added.
 use Rattle.std.proofs.Common.{◌≡◌, ◌⊎◌, inl, inr, ℕ, zero, suc, ◌+◌, ◌-◌, ◌<◌, ◌≤◌, Bool, true, false, cond, if◌then◌else◌, List, [], ◌∷◌, ◌++◌, length, map, take, drop, get_or, filter, Option, None, Some, option_to_list, slice_get, refl, sym, ap, ◌∙◌, subst, arith, append_assoc}
 use borrow.Author.Tests.{lt-ltb, le-ltb}
-use Rattle.std.specs.List.{All, AllZip, list_any, slice_range}
-use Rattle.std.proofs.lemmas.Bool.{cases_lt}
-use Rattle.std.proofs.lemmas.List.{append-nil, length-append, take_more}
+use Rattle.std.specs.List.{All, list_any, slice_range}
+use Rattle.std.proofs.lemmas.List.{append-nil, take_more}
 use Rattle.std.proofs.lemmas.List.Edits.{between_more}
 use Rattle.std.proofs.lemmas.List.Concat.{flat_map-append}
 use Rattle.std.proofs.lemmas.List.Elements.{All-nil, All-cons, All-head, All-tail, All-append}
@@ -28,7 +27,7 @@ use Rattle.dict_core.specs.Dict.{term_at, AreNumbersOf}
 use Rattle.dict_core.specs.NumQuad.{quads_at, AreBelow}
 use Rattle.dict_core.specs.Appearances.{differs_from, terms_of, terms_of_quad, first_appearances}
 use Rattle.dict_core.specs.Numbered.{IsNumbered}
-use Rattle.dict_core.proofs.InsertLaws.{Keeps, any-from_get, any-insert_key, get-insert_all, get-insert_key, grown, insert_all-append, insert_all-insert_all, insert_key-present}
+use Rattle.dict_core.proofs.InsertLaws.{Keeps, any-from_get, get-insert_all, get-insert_key, grown, insert_all-append, insert_all-insert_all, insert_key-present}
 use Rattle.dict_core.proofs.AppearanceLaws.{appearances, insert_all-appearances}
 use Rattle.dict_core.proofs.MergingSteps.{zipped-push}
 use Rattle.dict_core.proofs.NumberingLaws.{get-below, numbered-append, quads-mapped}
@@ -36,7 +35,7 @@ use Rattle.text_pieces.specs.declared.text_piece.TextPiece.{TextPiece}
 use Rattle.text_pieces.specs.Forms.{AreFormsOf, AreNumberedBy}
 use Rattle.text_pieces.specs.Pieces.{AreAdded, AreGrown, IsNumberedFrom, IsPieceOf, IsRead, renumbered, renumbered_quad}
 use Rattle.text_pieces.specs.Slices.{AreNumbersOfAll, AreQuadsOf, AreTermNumbers, IsPlaced}
-use Rattle.text_pieces.proofs.FormLaws.{forms-one, inserted_form, length_forms, number_of_term, terms_of_forms}
+use Rattle.text_pieces.proofs.FormLaws.{inserted_form, length_forms, number_of_term, terms_of_forms}
 
 -- ---- lists of texts that grow
 
@@ -58,7 +57,9 @@ pub record AreParts (us vs : List (List ℕ)) (terms : List Term) : Type 0 where
 
 split_forms : (us vs : List (List ℕ)) (terms : List Term) → AreFormsOf terms (us ++ vs) → AreParts us vs terms
 split_forms [] vs terms h = record {
-  front = []; back = terms; parts = refl;
+  front = [];
+  back = terms;
+  parts = refl;
   front_forms = record { forms = refl; occur = All-nil IsNQuadsTerm };
   back_forms = h;
 }
@@ -159,6 +160,7 @@ renumbered_keeps E W all base numbers base_is keeps named_by n low = by (get-spl
   where
     t : Term
     t = term_at (E ++ W) n
+
     by : ((n < length E) × (slice_get E n ≡ Some t)) ⊎ ((length E ≤ n) × (slice_get W (n - length E) ≡ Some t)) → slice_get all (renumbered base numbers n) ≡ Some t
     by (inl x) =
         let e : renumbered base numbers n ≡ n = ap (λ b. if b then n else get_or numbers (n - base) 0) (lt-ltb n base (omega (arith, x.0, base_is))) in

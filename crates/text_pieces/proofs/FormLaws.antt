@@ -1,8 +1,8 @@
 -- Terms and their N-Quads forms.
-use Rattle.std.proofs.Common.{◌≡◌, ◌≢◌, ◌⊎◌, inl, inr, ℕ, zero, suc, ◌<◌, Bool, true, false, true≢false, List, [], ◌∷◌, ◌++◌, length, map, take, Option, None, Some, slice_get, refl, sym, ap, ◌∙◌, subst, arith}
+use Rattle.std.proofs.Common.{◌≡◌, inl, inr, ℕ, zero, suc, Bool, true, false, List, [], ◌∷◌, ◌++◌, length, map, Some, slice_get, refl, sym, ap, ◌∙◌, subst, arith}
 use Rattle.std.specs.List.{All, list_any, position_or_len}
 use Rattle.std.specs.Option.{option_map}
-use Rattle.std.proofs.lemmas.List.{append-nil, map-append, length-map, take-map, take_at}
+use Rattle.std.proofs.lemmas.List.{map-append, length-map}
 use Rattle.std.proofs.lemmas.List.Elements.{All-nil, All-cons, All-head, All-tail, All-append}
 use Rattle.std.proofs.lemmas.Option.{slice_get_within, slice_get-map}
 use Rattle.indexmap.specs.IndexSet.{insert_key}
@@ -11,8 +11,8 @@ use Rattle.rdf_core.specs.Serialization.{serialization}
 use Rattle.rdf_core.proofs.TermLaws.{term_eq}
 use Rattle.nquads_core.specs.Laws.{IsNQuadsTerm}
 use Rattle.nquads_core.proofs.Forms.{forms_are_distinct}
-use Rattle.text_dict.specs.Forms.{AreForms, IsForm}
-use Rattle.text_dict.specs.TextDict.{Has, IsAdded}
+use Rattle.text_dict.specs.Forms.{AreForms}
+use Rattle.text_dict.specs.TextDict.{IsAdded}
 use Rattle.dict_core.proofs.InsertLaws.{any-from_get, at-position, insert_key-absent, insert_key-present}
 use Rattle.text_pieces.specs.Forms.{AreFormsOf}
 

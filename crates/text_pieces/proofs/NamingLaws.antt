@@ -1,7 +1,6 @@
 -- The numbers of slices.
-use Rattle.std.proofs.Common.{◌≡◌, ◌≢◌, ◌⊎◌, inl, inr, ℕ, zero, suc, ◌+◌, ◌<◌, Bool, true, false, List, [], ◌∷◌, ◌++◌, length, get_or, Option, None, Some, slice_get, refl, sym, ap, ◌∙◌, subst, arith, append_assoc}
+use Rattle.std.proofs.Common.{◌≡◌, ◌≢◌, ◌⊎◌, inl, inr, ℕ, zero, suc, ◌+◌, true, List, [], ◌∷◌, ◌++◌, length, get_or, Some, slice_get, refl, sym, ap, ◌∙◌, subst, arith, append_assoc}
 use Rattle.std.specs.Prelude.{⊤}
-use Rattle.std.proofs.lemmas.List.{length-append}
 use Rattle.std.proofs.lemmas.Option.{slice_get_within}
 use Rattle.indexmap.specs.IndexSet.{insert_key}
 use Rattle.rdf_core.specs.declared.term.Term.{Term}
@@ -12,10 +11,10 @@ use Rattle.rdf_core.proofs.TermLaws.{term_eq}
 use Rattle.nquads_core.specs.Slices.{Denotes}
 use Rattle.nquads_core.proofs.Forms.{forms_denote, slices_denote_terms}
 use Rattle.nquads_scan.specs.Canonical.{HasForm}
-use Rattle.text_dict.specs.Forms.{AreForms, IsForm}
+use Rattle.text_dict.specs.Forms.{IsForm}
 use Rattle.text_dict.specs.TextDict.{Has, IsAdded}
 use Rattle.text_pieces.specs.Forms.{AreFormsOf}
-use Rattle.text_pieces.specs.Slices.{IsNumberOf, IsPlaced, IsTermNumber}
+use Rattle.text_pieces.specs.Slices.{IsNumberOf, IsPlaced}
 use Rattle.text_pieces.proofs.FormLaws.{inserted_form, number_of_term, text_of_term}
 
 -- ---- two lists of texts, one after the other
@@ -37,6 +36,7 @@ has-append (t ∷ dict) new text h = by h.0 h.1 (λ n at. has-append dict new te
     on : Has dict text ⊎ Has new text → Has (t ∷ dict) text ⊎ Has new text
     on (inl x) = inl (suc x.0, x.1)
     on (inr x) = inr x
+
     by : (n : ℕ) → slice_get (t ∷ (dict ++ new)) n ≡ Some text → ((k : ℕ) → slice_get (dict ++ new) k ≡ Some text → Has dict text ⊎ Has new text)
         → Has (t ∷ dict) text ⊎ Has new text
     by zero at rest = inl (zero, at)

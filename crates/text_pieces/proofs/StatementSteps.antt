@@ -13,7 +13,7 @@ use Rattle.rdf_core.proofs.TermLaws.{term_eq}
 use Rattle.nquads_core.specs.Splitting.{DenoteAll, DenotesGraph, DenotesQuad}
 use Rattle.nquads_core.specs.declared.slices.RawStatement.{RawStatement}
 use Rattle.dict_core.specs.declared.num_quad.NumQuad.{NumQuad}
-use Rattle.dict_core.specs.NumQuad.{quad_at, quads_at, IsBelow}
+use Rattle.dict_core.specs.NumQuad.{quad_at, IsBelow}
 use Rattle.dict_core.specs.Appearances.{terms_of, terms_of_quad}
 use Rattle.dict_core.proofs.InsertLaws.{Keeps, get-insert_all, insert_all-append}
 use Rattle.dict_core.proofs.MergingSteps.{quad_named, quad_unnamed}

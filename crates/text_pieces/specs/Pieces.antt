@@ -1,5 +1,5 @@
 -- A piece of a document, whose quads are numbered against a dictionary.
-use Rattle.std.specs.Prelude.{◌≡◌, ℕ, ◌+◌, ◌-◌, List, ◌++◌, length, get_or, if◌then◌else◌, nat_lt}
+use Rattle.std.specs.Prelude.{◌≡◌, ℕ, ◌-◌, List, ◌++◌, length, get_or, if◌then◌else◌, nat_lt}
 use Rattle.std.specs.Option.{option_map}
 use Rattle.indexmap.specs.IndexSet.{insert_all}
 use Rattle.rdf_core.specs.declared.term.Term.{Term}

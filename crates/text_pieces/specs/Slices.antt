@@ -1,6 +1,6 @@
 -- Slices of a piece, and the numbers of the terms that they denote. The numbers are places in the list of the texts of
 -- the dictionary and, after them, the texts that are new in the piece. Only private clauses use these definitions.
-use Rattle.std.specs.Prelude.{◌≡◌, ℕ, ◌<◌, List, [], ◌++◌, length, slice_get, Some}
+use Rattle.std.specs.Prelude.{◌≡◌, ℕ, ◌<◌, List, ◌++◌, length, slice_get, Some}
 use Rattle.indexmap.specs.IndexSet.{insert_key, insert_all}
 use Rattle.rdf_core.specs.declared.term.Term.{Term}
 use Rattle.rdf_core.specs.QuadParts.{QuadParts}

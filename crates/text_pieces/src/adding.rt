@@ -33,7 +33,12 @@ pub fn add_piece(
 {
     all.reserve(piece.quads.len())?;
     let numbers = add_texts(alloc, dict, &piece.new)?;
-    append_renumbered(all, piece.base as u64, numbers.as_slice(), piece.quads.as_slice());
+    append_renumbered(
+        all,
+        piece.base as u64,
+        numbers.as_slice(),
+        piece.quads.as_slice(),
+    );
     Ok(())
 }
 

@@ -135,7 +135,11 @@ fn text_at<'a>(dict: &'a TextDict, new: &'a TextDict, n: u64) -> &'a [u8]
     ensures value { slice_get (dict.now.texts ++ new.now.texts) n ≡ Some result.now }
 {
     let base = dict.len() as u64;
-    if n < base { dict.text(n) } else { new.text(n - base) }
+    if n < base {
+        dict.text(n)
+    } else {
+        new.text(n - base)
+    }
 }
 
 /// Returns the first byte of a text, or 0 if it is empty.

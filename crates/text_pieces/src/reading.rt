@@ -11,9 +11,9 @@ ghost use Rattle.text_pieces.specs.Pieces.{IsRead};
 ghost use Rattle.text_pieces.specs.Slices.{AreQuadsOf, AreTermNumbers};
 
 use crate::naming::{NamingFault, number_text};
+use crate::renumbering::renumbered_quads;
 use crate::statements::number_statements;
 use crate::text_piece::TextPiece;
-use crate::renumbering::renumbered_quads;
 use dict_core::{Dict, NumQuad, number_piece};
 use nquads_core::{Piece, PieceFault, read_piece};
 use nquads_scan::split_piece;

@@ -10,7 +10,11 @@ use std::alloc::{AllocError, Global};
 fn number_at(numbers: &[u64], place: u64) -> u64
     ensures value { result ≡ get_or numbers.now place 0 }
 {
-    if place < numbers.len() as u64 { numbers[place as usize] } else { 0 }
+    if place < numbers.len() as u64 {
+        numbers[place as usize]
+    } else {
+        0
+    }
 }
 
 /// Returns the number itself if it is below `base`. Otherwise returns the number at its place after `base`.
@@ -18,7 +22,11 @@ fn number_at(numbers: &[u64], place: u64) -> u64
 fn renumbered(base: u64, numbers: &[u64], n: u64) -> u64
     ensures value { result ≡ renumbered base numbers.now n }
 {
-    if n < base { n } else { number_at(numbers, n - base) }
+    if n < base {
+        n
+    } else {
+        number_at(numbers, n - base)
+    }
 }
 
 /// Returns the quad with such numbers.

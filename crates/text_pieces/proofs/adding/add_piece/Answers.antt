@@ -1,4 +1,4 @@
-use Rattle.std.proofs.Common.{◌≡◌, ◌++◌, map, ◌∙◌}
+use Rattle.std.proofs.Common.{◌++◌, map, ◌∙◌}
 use Rattle.text_pieces.specs.Pieces.{renumbered_quad}
 use Rattle.text_pieces.proofs.AddingLaws.{piece_added}
 use Rattle.text_pieces.proofs.adding.add_piece.Goals as goal

@@ -1,4 +1,4 @@
-use Rattle.std.proofs.Common.{◌≡◌, take, sym, subst, ◌∙◌, arith}
+use Rattle.std.proofs.Common.{take, sym, subst, arith}
 use Rattle.text_pieces.specs.Pieces.{AreAdded}
 use Rattle.text_pieces.proofs.AddingLaws.{added_more, added_none, grown_more, grown_same}
 use Rattle.text_pieces.proofs.adding.add_texts.Goals as goal

@@ -1,5 +1,5 @@
-use Rattle.std.proofs.Common.{◌≡◌, ◌++◌, List, Option, Some, ap, sym, subst, ◌∙◌}
-use Rattle.nquads_scan.specs.Canonical.{HasForm, IsFound}
+use Rattle.std.proofs.Common.{◌≡◌, ◌++◌, Some, ap, sym, subst, ◌∙◌}
+use Rattle.nquads_scan.specs.Canonical.{IsFound}
 use Rattle.nquads_scan.specs.declared.canonical_text.Form.TheVariants.{Same, Other}
 use Rattle.text_dict.specs.Forms.{IsForm}
 use Rattle.text_pieces.specs.Slices.{IsPlaced}

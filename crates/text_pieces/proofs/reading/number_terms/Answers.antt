@@ -1,7 +1,6 @@
-use Rattle.std.proofs.Common.{◌++◌, ap, ◌∙◌, sym, subst, take, arith}
+use Rattle.std.proofs.Common.{◌++◌, ap, ◌∙◌, arith}
 use Rattle.rdf_core.specs.Serialization.{serialization}
-use Rattle.text_pieces.specs.Slices.{AreTermNumbers}
-use Rattle.text_pieces.proofs.AddingLaws.{occur_at, term_numbers_more, term_numbers_none}
+use Rattle.text_pieces.proofs.AddingLaws.{occur_at, term_numbers_more}
 use Rattle.text_pieces.proofs.reading.number_terms.Goals as goal
 
 pub number_text-requires-clause-form : goal.number_text-requires-clause-form

@@ -1,5 +1,4 @@
-use Rattle.std.proofs.Common.{take, sym, subst, ◌∙◌, arith}
-use Rattle.text_pieces.specs.Slices.{AreNumbersOfAll}
+use Rattle.std.proofs.Common.{arith}
 use Rattle.text_pieces.proofs.StatementSteps.{statements_more}
 use Rattle.text_pieces.proofs.statements.number_statements.Goals as goal
 

@@ -1,7 +1,5 @@
-use Rattle.std.proofs.Common.{◌≡◌, ℕ, List, None, Some, sym, subst, ◌∙◌}
-use Rattle.std.specs.Str.{IsUtf8}
+use Rattle.std.proofs.Common.{◌≡◌, ℕ, List, sym, subst, ◌∙◌}
 use Rattle.std.proofs.lemmas.Option.{none-some, same_Some}
-use Rattle.rdf_core.specs.declared.term.Term.{Term}
 use Rattle.nquads_core.specs.Slices.{Denotes}
 use Rattle.nquads_core.proofs.Forms.{forms_denote}
 use Rattle.text_dict.specs.Forms.{IsForm}
