@@ -1,0 +1,4 @@
+pub mod FormLaws
+pub mod NamingLaws
+pub mod StatementSteps
+pub mod AddingLaws

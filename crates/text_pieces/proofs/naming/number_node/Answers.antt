@@ -1,0 +1,9 @@
+use Rattle.std.proofs.Common.{◌≡◌, true, get_or, ap, ◌∙◌}
+use Rattle.rdf_core.specs.QuadFacts.{is_node}
+use Rattle.text_pieces.proofs.NamingLaws.{node_by_first, number_of_kind}
+use Rattle.text_pieces.proofs.naming.number_node.Goals as goal
+
+pub returns-clause-number : goal.returns-clause-number
+returns-clause-number c =
+    number_of_kind (λ t. is_node t ≡ true) c.args.dict.now.texts c.args.new.now.texts c.number_slice.new.new.texts c.args.raw.now c.text_at.result.now c.in_ok-n.n
+    c.in_ok-n.ensures.number c.text_at.ensures.value (λ t form. node_by_first t (λ z. c.if-first_byte-eq34.false (c.first_byte.ensures.value ∙ ap (λ l. get_or l 0 0) form ∙ z)))

@@ -1,0 +1,13 @@
+use Rattle.std.proofs.Common.{arith}
+use Rattle.text_pieces.proofs.StatementSteps.{statements_more}
+use Rattle.text_pieces.proofs.statements.number_statements.Goals as goal
+
+pub loop-raw-preserved : goal.loop-raw-preserved
+loop-raw-preserved c =
+    let was = c.loop-raw.invariant in record {
+      room = omega (arith, was.room, c.push_reserved.ensures.capacity);
+      count = omega (arith, was.count, c.push_reserved.ensures.len);
+      state = c.number_statement.ensures.state;
+      numbered = statements_more c.args.dict.now.texts c.loop-raw.new.texts c.number_statement.new.new.texts c.args.raws.now c.loop-raw.raw-index c.loop-raw.quads.items c.push_reserved.new.self.items _
+          c.in_ok-number_statement.field-0 (omega arith) was.numbered c.in_ok-number_statement.ensures.number c.push_reserved.ensures.items;
+    }

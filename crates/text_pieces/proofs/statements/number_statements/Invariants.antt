@@ -1,0 +1,11 @@
+use Rattle.std.proofs.Common.{◌≡◌, ◌≤◌, length, take, vec_len, vec_capacity}
+use Rattle.text_pieces.specs.Slices.{AreNumbersOfAll}
+use Rattle.text_pieces.proofs.statements.number_statements.Given as goal
+
+abbrev pub invariant-loop-raw : goal.invariant-loop-raw
+invariant-loop-raw l = record {
+  room : length l.raws ≤ vec_capacity l.quads;
+  count : vec_len l.quads ≡ l.raw-index;
+  state : l.new.state ≡ l.dict.state;
+  numbered : AreNumbersOfAll l.dict.texts l.new.texts (take l.raw-index l.raws) l.quads.items;
+}

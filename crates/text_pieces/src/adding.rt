@@ -1,0 +1,56 @@
+//! Pieces that were read against a dictionary, added in order.
+ghost use Rattle.std.specs.Prelude.{◌≡◌, ◌++◌, ℕ, List, OnOk, OnErr, IfOk};
+ghost use Rattle.rdf_core.specs.QuadParts.{QuadParts};
+ghost use Rattle.text_pieces.specs.Forms.{AreNumberedBy};
+ghost use Rattle.text_pieces.specs.Pieces.{AreAdded, AreGrown, IsPieceOf};
+
+use crate::renumbering::append_renumbered;
+use crate::text_piece::TextPiece;
+use dict_core::NumQuad;
+use std::alloc::{AllocError, Global};
+use text_dict::TextDict;
+
+/// Adds a piece after those that were added before. Appends its new texts to the dictionary, and its quads, with the
+/// numbers of the dictionary, to the list.
+///
+/// The piece may have been read against an earlier state of the dictionary.
+///
+/// # Errors
+/// `AllocError` if an allocation fails. The list is unchanged. The dictionary has the texts that it had, with their
+/// numbers, and perhaps some of the new ones.
+pub fn add_piece(
+    alloc: Global,
+    dict: &mut TextDict,
+    all: &mut Vec<NumQuad>,
+    piece: TextPiece,
+) -> Result<(), AllocError>
+    ensures grown { AreGrown dict.old.texts dict.new.texts }
+    ensures numbered { OnOk result ((earlier : List (List ℕ)) (done quads : List QuadParts)
+        → AreGrown earlier dict.old.texts → IsPieceOf earlier quads piece
+        → AreNumberedBy done dict.old.texts all.old.items
+        → AreNumberedBy (done ++ quads) dict.new.texts all.new.items) }
+    ensures unchanged { OnErr result (all.new.items ≡ all.old.items) }
+{
+    all.reserve(piece.quads.len())?;
+    let numbers = add_texts(alloc, dict, &piece.new)?;
+    append_renumbered(
+        all,
+        piece.base as u64,
+        numbers.as_slice(),
+        piece.quads.as_slice(),
+    );
+    Ok(())
+}
+
+/// Adds texts, in order. Returns their numbers.
+fn add_texts(alloc: Global, dict: &mut TextDict, new: &TextDict) -> Result<Vec<u64>, AllocError>
+    ensures grown { AreGrown dict.old.texts dict.new.texts }
+    ensures added { IfOk result
+        (λ v. AreAdded dict.old.texts new.now.texts dict.new.texts v.items) }
+{
+    let mut numbers = Vec::with_capacity(alloc, new.len())?;
+    for n in 0..new.len() as u64 {
+        numbers.push_reserved(dict.intern(new.text(n))?);
+    }
+    Ok(numbers)
+}

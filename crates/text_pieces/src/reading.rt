@@ -1,0 +1,134 @@
+//! A piece of a document, read against a dictionary.
+ghost use Rattle.std.specs.Prelude.{◌≡◌, ◌≤◌, ℕ, [], length, map, IfOk, IfErr, OnOk};
+ghost use Rattle.std.specs.List.{All};
+ghost use Rattle.rdf_core.specs.QuadParts.{parts_of};
+ghost use Rattle.nquads_core.specs.Laws.{IsNQuadsTerm};
+ghost use Rattle.nquads_core.specs.Lines.{lines};
+ghost use Rattle.nquads_core.specs.Pieces.{IsFirstMalformed};
+ghost use Rattle.nquads_core.specs.declared.fault.PieceFault.TheVariants.{BadLine};
+ghost use Rattle.dict_core.specs.Appearances.{terms_of};
+ghost use Rattle.text_pieces.specs.Pieces.{IsRead};
+ghost use Rattle.text_pieces.specs.Slices.{AreQuadsOf, AreTermNumbers};
+
+use crate::naming::{NamingFault, number_text};
+use crate::renumbering::renumbered_quads;
+use crate::statements::number_statements;
+use crate::text_piece::TextPiece;
+use dict_core::{Dict, NumQuad, number_piece};
+use nquads_core::{Piece, PieceFault, read_piece};
+use nquads_scan::split_piece;
+use rdf_core::write_term;
+use std::alloc::{AllocError, Global};
+use std::hash::RandomState;
+use text_dict::TextDict;
+
+/// Reads a piece of an N-Quads document (RDF 1.1 N-Quads, grammar) against a dictionary. Numbers its quads, and counts
+/// its lines. The dictionary is only borrowed, so pieces may be read in parallel.
+///
+/// For speed the piece is split into slices, and a slice that is a text of the dictionary is not read. A piece
+/// that cannot be read like this is read by `read_piece`.
+///
+/// # Errors
+/// - `BadLine(k)` if line k of the piece, counted from 0, is the first that is malformed.
+/// - `Memory` if an allocation fails.
+pub fn read_lines(
+    alloc: Global,
+    state: RandomState,
+    dict: &TextDict,
+    bytes: &[u8],
+) -> Result<TextPiece, PieceFault>
+    ensures read { IfOk result (IsRead dict.now.texts bytes.now) }
+    ensures bad_line { IfErr result
+        (λ fault. (k : ℕ) → fault ≡ BadLine k → IsFirstMalformed (lines bytes.now) k) }
+{
+    match read_split(alloc, dict, bytes) {
+        Ok(piece) => Ok(piece),
+        Err(NamingFault::Doubt) => read_quads(alloc, state, dict, bytes),
+        Err(NamingFault::Memory) => Err(PieceFault::Memory),
+    }
+}
+
+/// Reads a piece by its slices.
+fn read_split(alloc: Global, dict: &TextDict, bytes: &[u8]) -> Result<TextPiece, NamingFault>
+    ensures read { IfOk result (IsRead dict.now.texts bytes.now) }
+{
+    let Some(split) = split_piece(alloc, bytes)? else {
+        return Err(NamingFault::Doubt);
+    };
+    let mut new = TextDict::with_state(alloc, dict.state());
+    let quads = number_statements(alloc, dict, &mut new, split.statements.as_slice())?;
+    Ok(TextPiece {
+        base: dict.len(),
+        new,
+        quads,
+        lines: split.lines,
+    })
+}
+
+/// Reads a piece quad by quad.
+fn read_quads(
+    alloc: Global,
+    state: RandomState,
+    dict: &TextDict,
+    bytes: &[u8],
+) -> Result<TextPiece, PieceFault>
+    ensures read { IfOk result (IsRead dict.now.texts bytes.now) }
+    ensures bad_line { IfErr result
+        (λ fault. (k : ℕ) → fault ≡ BadLine k → IsFirstMalformed (lines bytes.now) k) }
+{
+    let piece = match read_piece(alloc, bytes) {
+        Ok(piece) => piece,
+        Err(fault) => return Err(fault),
+    };
+    let lines = piece.lines;
+    match number_quads(alloc, state, dict, piece) {
+        Ok((new, quads)) => Ok(TextPiece {
+            base: dict.len(),
+            new,
+            quads,
+            lines,
+        }),
+        Err(_) => Err(PieceFault::Memory),
+    }
+}
+
+/// Numbers the quads of a piece.
+fn number_quads(
+    alloc: Global,
+    state: RandomState,
+    dict: &TextDict,
+    piece: Piece,
+) -> Result<(TextDict, Vec<NumQuad>), AllocError>
+    requires occur { All IsNQuadsTerm (terms_of (map parts_of piece.quads.items)) }
+    ensures numbered { IfOk result (λ x. AreQuadsOf dict.now.texts x.0.texts
+        (map parts_of piece.quads.items) x.1.items) }
+{
+    let local = number_piece(alloc, state, piece)?;
+    let mut new = TextDict::with_state(alloc, dict.state());
+    let numbers = number_terms(alloc, dict, &mut new, local.dict())?;
+    let quads = renumbered_quads(alloc, numbers.as_slice(), local.quads())?;
+    Ok((new, quads))
+}
+
+/// Returns the number of each of these terms. Texts that the dictionary lacks are appended to the new texts.
+fn number_terms(
+    alloc: Global,
+    dict: &TextDict,
+    new: &mut TextDict,
+    terms: &Dict,
+) -> Result<Vec<u64>, AllocError>
+    requires state { new.old.state ≡ dict.now.state }
+    requires no_texts { new.old.texts ≡ [] }
+    requires occur { All IsNQuadsTerm terms.now }
+    ensures numbers { IfOk result
+        (λ v. AreTermNumbers dict.now.texts new.new.texts terms.now v.items) }
+{
+    let mut numbers = Vec::with_capacity(alloc, terms.len())?;
+    let mut form = Vec::new(alloc);
+    for n in 0..terms.len() as u64 {
+        form.clear();
+        write_term(terms.term(n), &mut form)?;
+        numbers.push_reserved(number_text(dict, new, form.as_slice())?);
+    }
+    Ok(numbers)
+}

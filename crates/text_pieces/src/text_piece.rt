@@ -1,0 +1,18 @@
+//! A piece of a document, numbered against a dictionary.
+
+use dict_core::NumQuad;
+use text_dict::TextDict;
+
+/// The quads of a piece, numbered against a dictionary. A number below the length of the dictionary is that of one of
+/// its texts. A larger one is that of a text of the piece that the dictionary lacks.
+#[derive(Drop)]
+pub struct TextPiece {
+    /// The number of texts of the dictionary.
+    pub(crate) base: usize,
+    /// The texts that the dictionary lacks, by first appearance.
+    pub(crate) new: TextDict,
+    /// The quads, in order, with repeats.
+    pub(crate) quads: Vec<NumQuad>,
+    /// The number of lines, including those without a statement.
+    pub lines: u64,
+}
