@@ -10,7 +10,7 @@ use Rattle.sparql_algebra.specs.AlgebraOf.{triple_pattern_of}
 use Rattle.row_pieces.specs.declared.fault.EvalFault.TheVariants.{Memory}
 use Rattle.sparql_eval.specs.Evaluated.{IsEvaluated}
 use Rattle.sparql_eval.proofs.ReturnSteps.{returned, faulted}
-use Rattle.sparql_eval.proofs.patterns.pattern.Goals as goal
+use Rattle.sparql_eval.proofs.patterns.pattern_with.Goals as goal
 
 pub returns-clause-evaluated : goal.returns-clause-evaluated
 returns-clause-evaluated g c =

@@ -8,7 +8,7 @@ use Rattle.sparql_eval.specs.Evaluated.{IsEvaluated, solutions_of}
 use Rattle.sparql_eval.proofs.ReturnSteps.{IfOk-both}
 use Rattle.expression_values.specs.ExpressionOf.{expression_of}
 use Rattle.sparql_eval.proofs.JoinSteps.{left_joined, rows_pass}
-use Rattle.sparql_eval.proofs.joins.left_joined.Goals as goal
+use Rattle.sparql_eval.proofs.joins.left_joined_by_rows.Goals as goal
 
 pub left_join-requires-clause-left_known : goal.left_join-requires-clause-left_known
 left_join-requires-clause-left_known g c κs within = rows_pass c.args.dict.now c.args.left.now.rows c.requires.known_left

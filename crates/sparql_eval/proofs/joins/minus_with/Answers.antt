@@ -6,7 +6,7 @@ use Rattle.row_pieces.specs.declared.fault.EvalFault.TheVariants.{Memory}
 use Rattle.sparql_eval.specs.Evaluated.{IsEvaluated, solutions_of}
 use Rattle.sparql_eval.proofs.JoinSteps.{subtracted}
 use Rattle.sparql_eval.proofs.ReturnSteps.{IfOk-both, returned, faulted}
-use Rattle.sparql_eval.proofs.joins.minus.Goals as goal
+use Rattle.sparql_eval.proofs.joins.minus_with.Goals as goal
 
 pub returns-clause-evaluated : goal.returns-clause-evaluated
 returns-clause-evaluated g c =
