@@ -7,6 +7,7 @@ pub mod SetLaws
 pub mod PatternLaws
 pub mod CongruenceLaws
 pub mod EvalLaws
+pub mod ClosedLaws
 pub mod RangeLaws
 pub mod ReadingLaws
 pub mod OperatorReadingLaws

@@ -9,8 +9,9 @@ use Rattle.algebra_model.specs.Bag.{IsSameBag, IsSameSet, IsWithoutRepeats}
 use Rattle.algebra_model.specs.Solution.{Solution, same_solution, is_compatible}
 use Rattle.algebra_model.specs.Bgp.{Triple, TriplePattern, bgp, same_triple_by}
 use Rattle.algebra_model.specs.Operators.{merges, join, left_join, minus, extend, project, distinct, table}
-use Rattle.algebra_model.specs.Algebra.{Algebra}
-use Rattle.algebra_model.specs.Eval.{eval}
+use Rattle.algebra_model.specs.Algebra.{Algebra, Join, each_graph}
+use Rattle.algebra_model.specs.Closed.{is_closed}
+use Rattle.algebra_model.specs.Eval.{eval, in_graphs}
 use Rattle.algebra_model.specs.Sorted.{IsRising}
 use Rattle.algebra_model.specs.RowOrder.{cells, cells_cmp, row_cmp, sorted_rows}
 use Rattle.algebra_model.specs.Renaming.{Each, EachBound, EachOfTriple, EachOfPattern, read_row, read_triple, read_pattern}
@@ -54,6 +55,18 @@ abbrev pub DatasetIsSet : Type 0
 DatasetIsSet = (w : ℕ) (D E : List QuadParts)
     → IsSameSet D E
     → (g : Option Term) (A : Algebra) → IsSameBag (eval w D g A) (eval w E g A)
+
+-- The solutions of a closed tree are the same for every active graph.
+abbrev pub ClosedIsEverywhere : Type 0
+ClosedIsEverywhere = (w : ℕ) (D : List QuadParts) (g h : Option Term) (A : Algebra)
+    → is_closed A ≡ true → eval w D g A ≡ eval w D h A
+
+-- Under GRAPH with a variable, a join with a closed tree is a join after the names of the graphs.
+abbrev pub ClosedIsJoinedOnce : Type 0
+ClosedIsJoinedOnce = (w : ℕ) (D : List QuadParts) (v : ℕ) (A C : Algebra)
+    → is_closed C ≡ true
+    → in_graphs w D (each_graph v) (λ h. eval w D h (Join A C))
+    ≡ join term_eq (in_graphs w D (each_graph v) (λ h. eval w D h A)) (eval w D None C)
 
 -- Every operator makes equal multisets of equal multisets.
 abbrev pub KeepsBags : (List Row → List Row) → Type 0

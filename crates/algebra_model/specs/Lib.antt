@@ -11,6 +11,7 @@ pub mod Expression
 pub mod Dataset
 pub mod Algebra
 pub mod Eval
+pub mod Closed
 pub mod Sorted
 pub mod RowOrder
 pub mod Renaming

@@ -1,5 +1,5 @@
 //! Laws of the algebra. A law is the contract of a function without effect.
-ghost use Rattle.algebra_model.specs.Laws.{BagIsItsCounts, BuiltIsTried, PatternHasNoOrder, ScanIsEnough, DatasetIsSet, JoinKeepsBags, LeftJoinKeepsBags, MinusKeepsBags, UnionKeepsBags, FilterKeepsBags, ExtendKeepsBags, ProjectKeepsBags, DistinctKeepsBags, TableKeepsBags, JoinIsRead, LeftJoinIsRead, MinusIsRead, UnionIsRead, FilterIsRead, ExtendIsRead, ProjectIsRead, DistinctIsRead, TableIsRead, PatternIsRead, LeftJoinByRow, KeysApart, CandidatesSuffice, PiecesJoin, TiesAreEqual, SortedIsBag, SortedIsRising, SortedIsUnique, BagHasOneList};
+ghost use Rattle.algebra_model.specs.Laws.{BagIsItsCounts, BuiltIsTried, PatternHasNoOrder, ScanIsEnough, DatasetIsSet, ClosedIsEverywhere, ClosedIsJoinedOnce, JoinKeepsBags, LeftJoinKeepsBags, MinusKeepsBags, UnionKeepsBags, FilterKeepsBags, ExtendKeepsBags, ProjectKeepsBags, DistinctKeepsBags, TableKeepsBags, JoinIsRead, LeftJoinIsRead, MinusIsRead, UnionIsRead, FilterIsRead, ExtendIsRead, ProjectIsRead, DistinctIsRead, TableIsRead, PatternIsRead, LeftJoinByRow, KeysApart, CandidatesSuffice, PiecesJoin, TiesAreEqual, SortedIsBag, SortedIsRising, SortedIsUnique, BagHasOneList};
 
 /// Proves that two lists are the same multiset exactly if each solution is counted equally in both.
 pub fn a_bag_is_its_counts()
@@ -32,6 +32,13 @@ pub fn a_pattern_is_solved_by_scans()
 /// on their order or repeats.
 pub fn a_dataset_is_a_set()
     ensures same_results { DatasetIsSet }
+{}
+
+/// Proves that a tree without a triple pattern outside of a GRAPH has the same solutions for every
+/// active graph. Under GRAPH with a variable it may be evaluated once and joined afterwards.
+pub fn closed_trees_are_evaluated_once()
+    ensures everywhere { ClosedIsEverywhere }
+    ensures joined_once { ClosedIsJoinedOnce }
 {}
 
 /// Proves that operators commute with a reading of numbers as terms, if distinct numbers represent

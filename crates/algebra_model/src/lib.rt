@@ -12,8 +12,8 @@
 //!
 //! Reading order: `Solution`, `Bag`, `Bgp` (basic graph patterns by trying every map), `Operators`,
 //! `Dataset`; `Number`, `LiteralValue`, `BooleanValue`, `Comparison`, `Call`, `Expression`;
-//! `Algebra`, `Eval`; `Sorted`, `RowOrder`. Only laws and proofs use `Solve`, `Keys`, `Pieces` and
-//! `Renaming`. No definition of the algebra depends on them.
+//! `Algebra`, `Eval`; `Sorted`, `RowOrder`. Only laws and proofs use `Closed`, `Solve`, `Keys`,
+//! `Pieces` and `Renaming`. No definition of the algebra depends on them.
 //!
 //! Example: over the triples a p b and a p c, the pattern `?s p _:x` has the solution `?s = a`
 //! twice, once for each term of its blank node label. The prover checks the worked examples of

@@ -11,7 +11,7 @@ use crate::left_rows::{Buffers, Pairing, pair_rows};
 use crate::right_side::RightSide;
 use piece_pool::Gate;
 use row_core::{Rows, is_compatible, merge_into};
-use row_pieces::{EvalFault, How};
+use row_pieces::{Context, EvalFault, How};
 use std::alloc::{AllocError, Global};
 use std::hash::RandomState;
 use std::sync::Wait;
@@ -45,7 +45,13 @@ pub fn join<R: Threads + Wait, G: Gate + Sync>(
     ensures alone { length left.now.rows ≤ how.now.rows → IfErr result (λ fault. fault ≡ Memory) }
     ensures one_worker { HasOneWorker how.now → IfErr result (λ fault. fault ≡ Memory) }
 {
-    pair_rows(rt, alloc, state, left, right, &Merges {}, how, gate)
+    let context = Context {
+        rt,
+        alloc,
+        how,
+        gate,
+    };
+    pair_rows(&context, state, left, right, &Merges {})
 }
 
 /// Pairs a left row with the right side: its merges.

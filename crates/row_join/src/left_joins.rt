@@ -12,7 +12,7 @@ use crate::left_rows::{Buffers, Pairing, pair_rows};
 use crate::right_side::RightSide;
 use piece_pool::Gate;
 use row_core::{Rows, is_compatible, merge_into};
-use row_pieces::{EvalFault, How};
+use row_pieces::{Context, EvalFault, How};
 use std::alloc::{AllocError, Global};
 use std::hash::RandomState;
 use std::sync::Wait;
@@ -74,7 +74,13 @@ pub fn left_join<R: Threads + Wait, T: RowTest + Sync, G: Gate + Sync>(
     ensures one_worker { HasOneWorker how.now → IfErr result (λ fault. fault ≡ Memory) }
 {
     let pairing = MergesOrItself { test };
-    pair_rows(rt, alloc, state, left, right, &pairing, how, gate)
+    let context = Context {
+        rt,
+        alloc,
+        how,
+        gate,
+    };
+    pair_rows(&context, state, left, right, &pairing)
 }
 
 /// Pairs a left row with the right side: its merges for which the condition is true, or the row

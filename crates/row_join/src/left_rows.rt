@@ -3,13 +3,13 @@ ghost use Rattle.std.specs.Prelude.{◌≡◌, ◌≤◌, ◌++◌, ℕ, Bool, t
 ghost use Rattle.algebra_model.specs.Bag.{IsSameBag};
 ghost use Rattle.algebra_model.specs.Solution.{Solution};
 ghost use Rattle.row_join.specs.Numbers.{passes, all_pass};
-ghost use Rattle.row_pieces.specs.How.{IsRunnable, HasOneWorker};
+ghost use Rattle.row_pieces.specs.How.{HasOneWorker};
 ghost use Rattle.row_pieces.specs.declared.fault.EvalFault.TheVariants.{Memory};
 
 use crate::right_side::RightSide;
 use piece_pool::Gate;
 use row_core::Rows;
-use row_pieces::{EvalFault, How, RowWork, over_pieces};
+use row_pieces::{Context, EvalFault, RowWork, over_pieces};
 use std::alloc::{AllocError, Global};
 use std::hash::RandomState;
 use std::sync::Wait;
@@ -88,37 +88,33 @@ impl<'w, 'r, P: Pairing> RowWork for LeftRows<'w, 'r, P> {
 }
 
 /// Returns what all left rows give with the right rows. The right rows are hashed once, by variables
-/// that both sides bind. The left rows are cut into pieces as `how` says.
+/// that both sides bind. The left rows are cut into pieces as the context says.
 ///
 /// # Errors
 /// - `WorkerRefused` if a worker thread could not be started. It cannot occur with one worker, or
 ///   if one piece holds all left rows.
 /// - `Memory` if an allocation fails.
 pub(crate) fn pair_rows<R: Threads + Wait, P: Pairing + Sync, G: Gate + Sync>(
-    rt: &R,
-    alloc: Global,
+    context: &Context<R, G>,
     state: RandomState,
     left: &Rows,
     right: &Rows,
     pairing: &P,
-    how: &How,
-    gate: &G,
 ) -> Result<Rows, EvalFault>
     requires same_width { left.now.width ≡ right.now.width }
     requires left_known { all_pass (P.knows pairing.now) left.now.rows ≡ true }
     requires right_known { all_pass (P.knows pairing.now) right.now.rows ≡ true }
-    requires how { IsRunnable how.now }
     ensures width { IfOk result (λ rows. rows.width ≡ left.now.width) }
     ensures rows { IfOk result (λ rows. IsSameBag rows.rows
         (flat_map (P.gives pairing.now right.now.rows) left.now.rows)) }
-    ensures alone { length left.now.rows ≤ how.now.rows → IfErr result (λ fault. fault ≡ Memory) }
-    ensures one_worker { HasOneWorker how.now → IfErr result (λ fault. fault ≡ Memory) }
+    ensures alone { length left.now.rows ≤ context.now.how.now.rows → IfErr result (λ fault. fault ≡ Memory) }
+    ensures one_worker { HasOneWorker context.now.how.now → IfErr result (λ fault. fault ≡ Memory) }
 {
-    let side = RightSide::build(alloc, state, left, right)?;
+    let side = RightSide::build(context.alloc, state, left, right)?;
     let work = LeftRows {
         left,
         right: &side,
         pairing,
     };
-    over_pieces(rt, alloc, &work, how, gate)
+    over_pieces(context.rt, context.alloc, &work, context.how, context.gate)
 }

@@ -12,7 +12,7 @@ use crate::left_rows::{Buffers, Pairing, pair_rows};
 use crate::right_side::RightSide;
 use piece_pool::Gate;
 use row_core::{Rows, is_compatible, shares};
-use row_pieces::{EvalFault, How};
+use row_pieces::{Context, EvalFault, How};
 use std::alloc::{AllocError, Global};
 use std::hash::RandomState;
 use std::sync::Wait;
@@ -48,7 +48,13 @@ pub fn minus<R: Threads + Wait, G: Gate + Sync>(
     ensures alone { length left.now.rows ≤ how.now.rows → IfErr result (λ fault. fault ≡ Memory) }
     ensures one_worker { HasOneWorker how.now → IfErr result (λ fault. fault ≡ Memory) }
 {
-    pair_rows(rt, alloc, state, left, right, &Remainder {}, how, gate)
+    let context = Context {
+        rt,
+        alloc,
+        how,
+        gate,
+    };
+    pair_rows(&context, state, left, right, &Remainder {})
 }
 
 /// Keeps a left row unless a right row removes it.

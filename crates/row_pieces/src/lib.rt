@@ -7,7 +7,7 @@
 //!
 //! The split is a choice of this project (not fixed by the standard).
 //!
-//! Reading order: `how`, `pieces`. Tests: `evaluation::pieces` of the crate query_tests; the tests
+//! Reading order: `how`, `context`, `pieces`. Tests: `evaluation::pieces` of the crate query_tests; the tests
 //! of the operators there run [`over_pieces`].
 //!
 //! ```text
@@ -17,13 +17,16 @@
 //! Not guaranteed: the order of the rows, and which worker runs which piece.
 //!
 //! [`How`] is how an evaluation is run: the number of workers, and how many rows a task has at most.
-//! [`EvalFault`] is why it has no result. The crate sparql_eval re-exports both.
+//! [`EvalFault`] is why it has no result. The crate sparql_eval re-exports both. [`Context`] is what
+//! the operators of one evaluation are run with.
 #![tactic(auto)]
 
+mod context;
 mod fault;
 mod how;
 mod pieces;
 
+pub use context::Context;
 pub use fault::EvalFault;
 pub use how::How;
 pub use pieces::{RowWork, over_pieces, piece_size};

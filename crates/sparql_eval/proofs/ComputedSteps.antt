@@ -17,9 +17,10 @@ use Rattle.quad_index.specs.Matching.{graph_names}
 use Rattle.row_core.specs.RowList.{RowList}
 use Rattle.sparql_eval.specs.Computed.{InSomeGraph, IsComputed, IsValue, TakesOnly}
 use Rattle.sparql_eval.specs.Evaluated.{IsEvaluated, solutions_of}
-use Rattle.sparql_eval.specs.TreeSolutions.{Needed}
+use Rattle.sparql_eval.specs.TreeSolutions.{AreGraphs, Needed, NeededIn}
 use Rattle.sparql_eval.proofs.EvaluateSteps.{active_kept, index_kept}
-use Rattle.sparql_eval.proofs.GraphSteps.{names_read}
+use Rattle.sparql_eval.proofs.GraphSteps.{graph_below, names_read}
+use Rattle.sparql_eval.proofs.ReadingLaws.{Each-at}
 use Rattle.sparql_eval.proofs.TakingLaws.{takes_more, takes_none, takes_twice}
 
 -- ---- the result of an operator that leaves the dictionary unchanged
@@ -31,7 +32,7 @@ pub takes_nothing : {E : Type 0} (W : Term → Type 0) (terms : List Term) (r : 
 takes_nothing W terms r k = takes_still W terms terms r (takes_none W terms) k
 
 -- the terms of one step and those of the next one, one after another
-takes_two : (V V' W : Term → Type 0) (a b c : List Term) → ((t : Term) → V t ⊎ V' t → W t) → TakesOnly V a b → TakesOnly V' b c → TakesOnly W a c
+pub takes_two : (V V' W : Term → Type 0) (a b c : List Term) → ((t : Term) → V t ⊎ V' t → W t) → TakesOnly V a b → TakesOnly V' b c → TakesOnly W a c
 takes_two V V' W a b c f h k = takes_twice W a b c (takes_more V W a b (λ t v. f t (inl v)) h) (takes_more V' W b c (λ t v. f t (inr v)) k)
 
 -- ---- the terms that a tree computes, if the dictionary of the index grows
@@ -74,30 +75,25 @@ takes_values {E} terms D w g r v e A now rows h before k =
 
 -- ---- Graph
 
+-- in one of some graphs, after the graphs before it
+pub takes_in_each : (terms : List Term) (index : List NumQuad) (w : ℕ) (A : Algebra) (below : AreBelow (length terms) index) (v n : ℕ) → (n < length terms) × Contains (names (quads_at terms index)) (term_at terms n)
+    → (now later : List Term) → IsGrown terms now
+    → TakesOnly (NeededIn terms index w (each_graph v) A) terms now → TakesOnly (Needed now index w (Some n) A) now later → TakesOnly (NeededIn terms index w (each_graph v) A) terms later
+takes_in_each terms index w A below v n is now later grown h e =
+    takes_twice (NeededIn terms index w (each_graph v) A) terms now later h
+    (takes_more (Needed terms index w (Some n) A) (NeededIn terms index w (each_graph v) A) now later (λ t m. (term_at terms n, (is.1, m)))
+    (needed_kept terms now grown index below w (Some n) (λ m e. let p : n ≡ m = cc in subst (λ (x : ℕ). x < length terms) p is.0) A later e))
+
+-- all graphs are graphs
 contains_mapped : {X Y : Type 0} (f : X → Y) (xs : List X) (k : ℕ) (x : X) → slice_get xs k ≡ Some x → Contains (map f xs) (f x)
 contains_mapped f [] k x e = cc
 contains_mapped f (y ∷ xs) zero x e = let p : y ≡ x = cc in (0, omega arith, ap f p)
 contains_mapped f (y ∷ xs) (suc k) x e = let r = contains_mapped f xs k x e in (suc r.0, omega (arith, r.1), r.2)
 
-module _ (terms : List Term) (index : List NumQuad) (w : ℕ) (A : Algebra) where
-  -- the terms that the expression computes in the graphs of GRAPH
-  abbrev pub NeededIn : GraphName → Term → Type 0
-  NeededIn i t = InSomeGraph (quads_at terms index) i (λ h. IsComputed w (quads_at terms index) h A t)
-
-  -- in one of the named graphs, after the graphs before it
-  module _ (once : AreDistinct terms) (below : AreBelow (length terms) index) (graphs : List ℕ) (are : IsPermutation (without_repeats nat_eq (graph_names index)) graphs) where
-    needed_in_each : (v k n : ℕ) → slice_get graphs k ≡ Some n → (t : Term) → Needed terms index w (Some n) A t → NeededIn (each_graph v) t
-    needed_in_each v k n at t m =
-        let named = map (term_at terms) graphs in
-        let D = names (quads_at terms index) in
-        let it = contains_mapped (term_at terms) graphs k n at in (
-          term_at terms n,
-          (Contains-permutation named D (term_at terms n) (IsPermutation-sym D named (names_read terms once index below graphs are)) it, m),
-        )
-
-    pub takes_in_each : (v k n : ℕ) → slice_get graphs k ≡ Some n → n < length terms → (now later : List Term) → IsGrown terms now
-        → TakesOnly (NeededIn (each_graph v)) terms now → TakesOnly (Needed now index w (Some n) A) now later → TakesOnly (NeededIn (each_graph v)) terms later
-    takes_in_each v k n at low now later grown h e =
-        takes_twice (NeededIn (each_graph v)) terms now later h
-        (takes_more (Needed terms index w (Some n) A) (NeededIn (each_graph v)) now later (needed_in_each v k n at)
-        (needed_kept terms now grown index below w (Some n) (λ m e. let p : n ≡ m = cc in subst (λ (x : ℕ). x < length terms) p low) A later e))
+pub all_graphs : (terms : List Term) → AreDistinct terms → (index : List NumQuad) → AreBelow (length terms) index → (graphs : List ℕ) → IsPermutation (without_repeats nat_eq (graph_names index)) graphs → AreGraphs terms index graphs
+all_graphs terms once index below graphs are k n at =
+    let named = map (term_at terms) graphs in
+    let D = names (quads_at terms index) in (
+      Each-at (λ g. g < length terms) graphs k n (graph_below terms once index below graphs are) at,
+      Contains-permutation named D (term_at terms n) (IsPermutation-sym D named (names_read terms once index below graphs are)) (contains_mapped (term_at terms) graphs k n at),
+    )

@@ -17,3 +17,6 @@ mod ComputedSteps
 mod UnitSteps
 mod UnionSteps
 mod WithinSteps
+mod ClosedSteps
+mod RequiredSteps
+mod KeySteps

@@ -30,9 +30,9 @@ use Rattle.sparql_algebra.specs.declared.operator.Operator.{Operator}
 use Rattle.sparql_eval.specs.Evaluated.{IsEvaluated}
 use Rattle.sparql_eval.specs.TreeSolutions.{graph_solutions, tree_solutions}
 use Rattle.sparql_eval.specs.GraphNumbers.{IsGraphNumber}
-use Rattle.sparql_eval.proofs.ReadingLaws.{Known, read_by, equal_by_number, rows_kept, number_kept, set_known, set_read, evaluated, Each-at}
+use Rattle.sparql_eval.proofs.ReadingLaws.{Known, read_by, equal_by_number, rows_kept, number_kept, set_known, set_read, evaluated}
 use Rattle.sparql_eval.proofs.TableSteps.{row_begins}
-use Rattle.sparql_eval.proofs.GraphSteps.{graph_below, names_read}
+use Rattle.sparql_eval.proofs.GraphSteps.{names_read}
 
 -- ---- one more graph
 
@@ -91,16 +91,8 @@ module _ (terms : List Term) (D : List NumQuad) (w : ℕ) (t : Term) (tree : Ope
 -- ---- each graph
 
 module _ (terms : List Term) (once : AreDistinct terms) (index : List NumQuad) (below : AreBelow (length terms) index) (graphs : List ℕ) (are : IsPermutation (without_repeats nat_eq (graph_names index)) graphs) where
-  pub graph_known : (k n : ℕ) → slice_get graphs k ≡ Some n → n < length terms
-  graph_known k n at = Each-at (λ g. g < length terms) graphs k n (graph_below terms once index below graphs are) at
-
-  pub each_done : (F : Term → List (Solution Term)) (w : ℕ) (now : List Term) → IsGrown terms now → (made : RowList) → made.width ≡ w → Each (Known now) made.rows
-      → IsSameBag (map (read_by now) made.rows) (flat_map F (map (term_at terms) graphs)) → IsEvaluated terms w (flat_map F (names (quads_at terms index))) made now
-  each_done F w now grown made wide known bag = record {
-    grown = grown;
-    wide = wide;
-    known = known;
-    bag = IsPermutation-trans (map (read_by now) made.rows) (flat_map F (map (term_at terms) graphs)) (flat_map F (names (quads_at terms index))) bag
-        (IsPermutation-flat_map (same_solution term_eq) (solution_decides term_eq term_decides) F (map (term_at terms) graphs) (names (quads_at terms index))
-        (IsPermutation-sym (names (quads_at terms index)) (map (term_at terms) graphs) (names_read terms once index below graphs are)));
-  }
+  -- the names of all graphs are the names of the dataset
+  pub all_named : (F : Term → List (Solution Term)) → IsSameBag (flat_map F (map (term_at terms) graphs)) (flat_map F (names (quads_at terms index)))
+  all_named F =
+      IsPermutation-flat_map (same_solution term_eq) (solution_decides term_eq term_decides) F (map (term_at terms) graphs) (names (quads_at terms index))
+      (IsPermutation-sym (names (quads_at terms index)) (map (term_at terms) graphs) (names_read terms once index below graphs are))

@@ -6,3 +6,5 @@ pub mod Constants
 pub mod GraphNumbers
 pub mod TreeSolutions
 pub mod Computed
+pub mod Required
+pub mod KeyedRows

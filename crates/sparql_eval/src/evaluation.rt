@@ -14,7 +14,7 @@ use dict_core::Dict;
 use piece_pool::Gate;
 use quad_index::Index;
 use row_core::Rows;
-use row_pieces::{EvalFault, How};
+use row_pieces::{Context, EvalFault, How};
 use sparql_algebra::{GraphName, Operator, Plan};
 use std::alloc::Global;
 use std::hash::RandomState;
@@ -29,7 +29,8 @@ use std::thread::Threads;
 /// that occur in VALUES somewhere in the plan, and the values that Extend computes somewhere in it.
 ///
 /// Each operator is evaluated once, after its inputs. Within GRAPH with a variable it is evaluated
-/// once for each named graph. An operator that reads rows splits them into pieces of `how.rows`
+/// once for each named graph, except that a join evaluates an input without a triple pattern outside
+/// of an inner GRAPH only once. An operator that reads rows splits them into pieces of `how.rows`
 /// rows for `how.workers` workers.
 ///
 /// # Requires
@@ -62,14 +63,17 @@ pub fn evaluate<R: RandomSource + Threads + Wait, G: Gate + Sync>(
     let Ok(state) = RandomState::new(rt) else {
         return Err(EvalFault::Memory);
     };
-    let evaluator = Evaluator {
+    let context = Context {
         rt,
         alloc,
+        how,
+        gate,
+    };
+    let evaluator = Evaluator {
+        context,
         state,
         index,
         width: plan.names.len(),
-        how,
-        gate,
     };
     evaluator.solve(dict, None, &plan.tree)
 }
@@ -119,14 +123,17 @@ pub fn graph<R: Threads + Wait, G: Gate + Sync>(
         (algebra_of inner.now) t)) dict r.1) }
     ensures one_worker { HasOneWorker how.now → IfErr result (λ fault. fault ≡ Memory) }
 {
-    let evaluator = Evaluator {
+    let context = Context {
         rt,
         alloc,
+        how,
+        gate,
+    };
+    let evaluator = Evaluator {
+        context,
         state,
         index,
         width,
-        how,
-        gate,
     };
     evaluator.solve_graph(dict, name, inner)
 }

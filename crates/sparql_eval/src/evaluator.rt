@@ -1,29 +1,31 @@
 //! The recursion over the tree of a plan: each operator is applied to the rows of its inputs.
-ghost use Rattle.std.specs.Prelude.{◌≡◌, ◌<◌, ◌++◌, true, filter, length, map, option_map, IfErr, IfOk};
+ghost use Rattle.std.specs.Prelude.{◌≡◌, ◌<◌, ◌++◌, None, true, filter, length, map, option_map, IfErr, IfOk};
 ghost use Rattle.std.specs.List.{list_all};
 ghost use Rattle.std.specs.Option.{ForSome};
 ghost use Rattle.rdf_core.specs.Equality.{term_eq};
 ghost use Rattle.algebra_model.specs.Algebra.{Distinct, Extend, Filter, Project, each_graph, is_name_below, is_triple_below, is_within};
 ghost use Rattle.algebra_model.specs.Bgp.{bgp};
+ghost use Rattle.algebra_model.specs.Closed.{is_closed};
 ghost use Rattle.algebra_model.specs.Dataset.{graph};
 ghost use Rattle.algebra_model.specs.Expression.{holds, val};
 ghost use Rattle.algebra_model.specs.Operators.{distinct, extend, join, left_join, minus, project};
 ghost use Rattle.dict_core.specs.Dict.{term_at};
 ghost use Rattle.dict_core.specs.NumQuad.{AreBelow, quads_at};
-ghost use Rattle.row_pieces.specs.How.{IsRunnable, HasOneWorker};
+ghost use Rattle.row_pieces.specs.How.{HasOneWorker};
 ghost use Rattle.row_pieces.specs.declared.fault.EvalFault.TheVariants.{Memory};
 ghost use Rattle.expression_values.specs.ExpressionOf.{expression_of};
 ghost use Rattle.sparql_algebra.specs.AlgebraOf.{algebra_of, graph_name_of, triple_pattern_of};
 ghost use Rattle.sparql_eval.specs.Computed.{InSomeGraph, IsComputed, TakesOnly};
 ghost use Rattle.sparql_eval.specs.Evaluated.{AreKnown, IsEvaluated, solutions_of};
-ghost use Rattle.sparql_eval.specs.TreeSolutions.{Needed, graph_solutions, tree_solutions};
+ghost use Rattle.sparql_eval.specs.TreeSolutions.{AreGraphs, Needed, NeededIn, graph_solutions, solutions_in, tree_solutions};
 
+use crate::closed::is_closed;
 use crate::distinctness::distinct;
-use crate::extensions::extend;
-use crate::filters::filter;
-use crate::graphs::{add_graph, graph_number};
-use crate::joins::{join_of, left_join, minus};
-use crate::patterns::pattern;
+use crate::extensions::extend_with;
+use crate::filters::filter_with;
+use crate::graphs::{add_graph, graph_number, name_rows};
+use crate::joins::{join_of, left_join_with, minus_with};
+use crate::patterns::pattern_with;
 use crate::projections::project_of;
 use crate::tables::table;
 use crate::unions::union_of;
@@ -31,28 +33,23 @@ use dict_core::Dict;
 use piece_pool::Gate;
 use quad_index::Index;
 use row_core::Rows;
-use row_pieces::{EvalFault, How};
+use row_pieces::{Context, EvalFault};
 use sparql_algebra::{Expr, GraphName, Operator, TriplePattern};
-use std::alloc::Global;
 use std::hash::RandomState;
 use std::sync::Wait;
 use std::thread::Threads;
 
-/// The context of an evaluation: the index, the number of variables, the state that rows are hashed
-/// with, and the workers.
+/// An evaluation: what its operators are run with, the state that rows are hashed with, the index,
+/// and the number of variables.
 #[derive(Drop)]
-pub(crate) struct Evaluator<'a, R, G> {
-    pub(crate) rt: &'a R,
-    pub(crate) alloc: Global,
+pub(crate) struct Evaluator<'c, 'i, R, G> {
+    pub(crate) context: Context<'c, R, G>,
     pub(crate) state: RandomState,
-    pub(crate) index: &'a Index,
+    pub(crate) index: &'i Index,
     pub(crate) width: usize,
-    pub(crate) how: &'a How,
-    pub(crate) gate: &'a G,
-    pub(crate) ghost runnable: { IsRunnable how.now },
 }
 
-impl<'a, R: Threads + Wait, G: Gate + Sync> Evaluator<'a, R, G> {
+impl<'c, 'i, R: Threads + Wait, G: Gate + Sync> Evaluator<'c, 'i, R, G> {
     /// Evaluates a tree with the graph of this number active, or the default graph if it is None.
     /// Only the terms of VALUES and the values of Extend are added to the dictionary.
     #[cycle(solve)]
@@ -70,7 +67,7 @@ impl<'a, R: Threads + Wait, G: Gate + Sync> Evaluator<'a, R, G> {
         ensures needed { IfOk result (λ r. TakesOnly (IsComputed self.now.width
             (quads_at dict self.now.index.now) (option_map (term_at dict) active)
             (algebra_of tree.now)) dict r.1) }
-        ensures one_worker { HasOneWorker self.now.how.now → IfErr result (λ fault. fault ≡ Memory) }
+        ensures one_worker { HasOneWorker self.now.context.how.now → IfErr result (λ fault. fault ≡ Memory) }
     {
         match tree {
             Operator::Pattern { labels, triples } => {
@@ -111,7 +108,7 @@ impl<'a, R: Threads + Wait, G: Gate + Sync> Evaluator<'a, R, G> {
             Operator::Distinct { inner } => self.solve_distinct(dict, active, inner),
             Operator::Table { variables, rows } => {
                 let variables = variables.as_slice();
-                table(self.alloc, dict, self.width, variables, rows.as_slice())
+                table(self.context.alloc, dict, self.width, variables, rows.as_slice())
             }
         }
     }
@@ -135,12 +132,10 @@ impl<'a, R: Threads + Wait, G: Gate + Sync> Evaluator<'a, R, G> {
             (tree_solutions dict self.now.index.now self.now.width active right.now)) r.0 r.1) }
         ensures needed { IfOk result (λ r. TakesOnly (Needed dict self.now.index.now self.now.width active
             (algebra_of right.now)) dict r.1) }
-        ensures one_worker { HasOneWorker self.now.how.now → IfErr result (λ fault. fault ≡ Memory) }
+        ensures one_worker { HasOneWorker self.now.context.how.now → IfErr result (λ fault. fault ≡ Memory) }
     {
         let (right, dict) = self.solve(dict, active, right)?;
-        join_of(
-            self.rt, self.alloc, self.state, dict, left, right, self.how, self.gate,
-        )
+        join_of(&self.context, self.state, dict, left, right)
     }
 
     /// Applies LeftJoin to rows and the solutions of a tree.
@@ -163,12 +158,10 @@ impl<'a, R: Threads + Wait, G: Gate + Sync> Evaluator<'a, R, G> {
             (tree_solutions dict self.now.index.now self.now.width active right.now)) r.0 r.1) }
         ensures needed { IfOk result (λ r. TakesOnly (Needed dict self.now.index.now self.now.width active
             (algebra_of right.now)) dict r.1) }
-        ensures one_worker { HasOneWorker self.now.how.now → IfErr result (λ fault. fault ≡ Memory) }
+        ensures one_worker { HasOneWorker self.now.context.how.now → IfErr result (λ fault. fault ≡ Memory) }
     {
         let (right, dict) = self.solve(dict, active, right)?;
-        left_join(
-            self.rt, self.alloc, self.state, dict, &left, &right, condition, self.how, self.gate,
-        )
+        left_join_with(&self.context, self.state, dict, &left, &right, condition)
     }
 
     /// Unites rows with the solutions of a tree.
@@ -190,7 +183,7 @@ impl<'a, R: Threads + Wait, G: Gate + Sync> Evaluator<'a, R, G> {
             ++ tree_solutions dict self.now.index.now self.now.width active right.now) r.0 r.1) }
         ensures needed { IfOk result (λ r. TakesOnly (Needed dict self.now.index.now self.now.width active
             (algebra_of right.now)) dict r.1) }
-        ensures one_worker { HasOneWorker self.now.how.now → IfErr result (λ fault. fault ≡ Memory) }
+        ensures one_worker { HasOneWorker self.now.context.how.now → IfErr result (λ fault. fault ≡ Memory) }
     {
         let (right, dict) = self.solve(dict, active, right)?;
         union_of(dict, left, right)
@@ -215,12 +208,10 @@ impl<'a, R: Threads + Wait, G: Gate + Sync> Evaluator<'a, R, G> {
             (tree_solutions dict self.now.index.now self.now.width active right.now)) r.0 r.1) }
         ensures needed { IfOk result (λ r. TakesOnly (Needed dict self.now.index.now self.now.width active
             (algebra_of right.now)) dict r.1) }
-        ensures one_worker { HasOneWorker self.now.how.now → IfErr result (λ fault. fault ≡ Memory) }
+        ensures one_worker { HasOneWorker self.now.context.how.now → IfErr result (λ fault. fault ≡ Memory) }
     {
         let (right, dict) = self.solve(dict, active, right)?;
-        minus(
-            self.rt, self.alloc, self.state, dict, &left, &right, self.how, self.gate,
-        )
+        minus_with(&self.context, self.state, dict, &left, &right)
     }
 
     /// Evaluates a Filter and its input.
@@ -240,12 +231,10 @@ impl<'a, R: Threads + Wait, G: Gate + Sync> Evaluator<'a, R, G> {
             (tree_solutions dict self.now.index.now self.now.width active inner.now)) r.0 r.1) }
         ensures needed { IfOk result (λ r. TakesOnly (Needed dict self.now.index.now self.now.width active
             (Filter (expression_of condition.now) (algebra_of inner.now))) dict r.1) }
-        ensures one_worker { HasOneWorker self.now.how.now → IfErr result (λ fault. fault ≡ Memory) }
+        ensures one_worker { HasOneWorker self.now.context.how.now → IfErr result (λ fault. fault ≡ Memory) }
     {
         let (rows, dict) = self.solve(dict, active, inner)?;
-        filter(
-            self.rt, self.alloc, dict, &rows, condition, self.how, self.gate,
-        )
+        filter_with(&self.context, dict, &rows, condition)
     }
 
     /// Evaluates an Extend and its input.
@@ -267,12 +256,10 @@ impl<'a, R: Threads + Wait, G: Gate + Sync> Evaluator<'a, R, G> {
             (tree_solutions dict self.now.index.now self.now.width active inner.now)) r.0 r.1) }
         ensures needed { IfOk result (λ r. TakesOnly (Needed dict self.now.index.now self.now.width active
             (Extend variable (expression_of expression.now) (algebra_of inner.now))) dict r.1) }
-        ensures one_worker { HasOneWorker self.now.how.now → IfErr result (λ fault. fault ≡ Memory) }
+        ensures one_worker { HasOneWorker self.now.context.how.now → IfErr result (λ fault. fault ≡ Memory) }
     {
         let (rows, dict) = self.solve(dict, active, inner)?;
-        extend(
-            self.rt, self.alloc, self.state, dict, &rows, variable, expression, self.how, self.gate,
-        )
+        extend_with(&self.context, self.state, dict, &rows, variable, expression)
     }
 
     /// Evaluates a Project and its input.
@@ -292,10 +279,10 @@ impl<'a, R: Threads + Wait, G: Gate + Sync> Evaluator<'a, R, G> {
             (tree_solutions dict self.now.index.now self.now.width active inner.now)) r.0 r.1) }
         ensures needed { IfOk result (λ r. TakesOnly (Needed dict self.now.index.now self.now.width active
             (Project variables.now (algebra_of inner.now))) dict r.1) }
-        ensures one_worker { HasOneWorker self.now.how.now → IfErr result (λ fault. fault ≡ Memory) }
+        ensures one_worker { HasOneWorker self.now.context.how.now → IfErr result (λ fault. fault ≡ Memory) }
     {
         let (rows, dict) = self.solve(dict, active, inner)?;
-        project_of(self.alloc, dict, rows, variables)
+        project_of(self.context.alloc, dict, rows, variables)
     }
 
     /// Evaluates a Distinct and its input.
@@ -314,10 +301,10 @@ impl<'a, R: Threads + Wait, G: Gate + Sync> Evaluator<'a, R, G> {
             (tree_solutions dict self.now.index.now self.now.width active inner.now)) r.0 r.1) }
         ensures needed { IfOk result (λ r. TakesOnly (Needed dict self.now.index.now self.now.width active
             (Distinct (algebra_of inner.now))) dict r.1) }
-        ensures one_worker { HasOneWorker self.now.how.now → IfErr result (λ fault. fault ≡ Memory) }
+        ensures one_worker { HasOneWorker self.now.context.how.now → IfErr result (λ fault. fault ≡ Memory) }
     {
         let (rows, dict) = self.solve(dict, active, inner)?;
-        distinct(self.alloc, self.state, dict, &rows)
+        distinct(self.context.alloc, self.state, dict, &rows)
     }
 
     /// Evaluates a tree in one named graph, or in each of them in turn. Only the terms that the
@@ -339,13 +326,13 @@ impl<'a, R: Threads + Wait, G: Gate + Sync> Evaluator<'a, R, G> {
             InSomeGraph (quads_at dict self.now.index.now) (graph_name_of name.now)
             (λ g. IsComputed self.now.width (quads_at dict self.now.index.now) g
             (algebra_of inner.now) t)) dict r.1) }
-        ensures one_worker { HasOneWorker self.now.how.now → IfErr result (λ fault. fault ≡ Memory) }
+        ensures one_worker { HasOneWorker self.now.context.how.now → IfErr result (λ fault. fault ≡ Memory) }
     {
         match name {
-            GraphName::Variable(variable) => self.solve_each(dict, *variable, inner),
+            GraphName::Variable(variable) => self.solve_all(dict, *variable, inner),
             GraphName::Iri(term) => match graph_number(&dict, self.index, term) {
                 Some(number) => self.solve(dict, Some(number), inner),
-                None => Ok((Rows::new(self.alloc, self.width), dict)),
+                None => Ok((Rows::new(self.context.alloc, self.width), dict)),
             },
         }
     }
@@ -354,7 +341,7 @@ impl<'a, R: Threads + Wait, G: Gate + Sync> Evaluator<'a, R, G> {
     /// to its name. Only the terms that the tree computes in these graphs are added to the
     /// dictionary.
     #[cycle(solve)]
-    fn solve_each(
+    fn solve_all(
         &self,
         dict: Dict,
         variable: usize,
@@ -366,21 +353,115 @@ impl<'a, R: Threads + Wait, G: Gate + Sync> Evaluator<'a, R, G> {
         ensures evaluated { IfOk result (λ r. IsEvaluated dict self.now.width
             (graph_solutions dict self.now.index.now self.now.width (each_graph variable)
             inner.now) r.0 r.1) }
-        ensures needed { IfOk result (λ r. TakesOnly (λ t.
-            InSomeGraph (quads_at dict self.now.index.now) (each_graph variable)
-            (λ g. IsComputed self.now.width (quads_at dict self.now.index.now) g
-            (algebra_of inner.now) t)) dict r.1) }
-        ensures one_worker { HasOneWorker self.now.how.now → IfErr result (λ fault. fault ≡ Memory) }
+        ensures needed { IfOk result (λ r. TakesOnly
+            (NeededIn dict self.now.index.now self.now.width (each_graph variable)
+            (algebra_of inner.now)) dict r.1) }
+        ensures one_worker { HasOneWorker self.now.context.how.now → IfErr result (λ fault. fault ≡ Memory) }
+    {
+        let _distinct = dict.len();
+        self.solve_each(dict, variable, self.index.graphs(), inner)
+    }
+
+    /// Evaluates a tree in each of some graphs, and joins the rows of a graph with the variable
+    /// bound to its name. A tree that does not depend on the active graph is evaluated once, and so
+    /// is one side of a join.
+    #[cycle(solve)]
+    fn solve_each(
+        &self,
+        dict: Dict,
+        variable: usize,
+        graphs: &[u64],
+        inner: &Operator,
+    ) -> Result<(Rows, Dict), EvalFault>
+        requires index { AreBelow (length dict) self.now.index.now }
+        requires variable { variable < self.now.width }
+        requires graphs { AreGraphs dict self.now.index.now graphs.now }
+        requires within { is_within self.now.width (algebra_of inner.now) ≡ true }
+        ensures evaluated { IfOk result (λ r. IsEvaluated dict self.now.width
+            (solutions_in dict self.now.index.now self.now.width variable graphs.now
+            (algebra_of inner.now)) r.0 r.1) }
+        ensures needed { IfOk result (λ r. TakesOnly
+            (NeededIn dict self.now.index.now self.now.width (each_graph variable)
+            (algebra_of inner.now)) dict r.1) }
+        ensures one_worker { HasOneWorker self.now.context.how.now → IfErr result (λ fault. fault ≡ Memory) }
+    {
+        if graphs.is_empty() {
+            return Ok((Rows::new(self.context.alloc, self.width), dict));
+        }
+        if is_closed(inner) {
+            return self.solve_once(dict, variable, graphs, inner);
+        }
+        if let Operator::Join { left, right } = inner {
+            if is_closed(right) {
+                let (rows, dict) = self.solve_each(dict, variable, graphs, left)?;
+                return self.solve_join(dict, None, rows, right);
+            }
+            if is_closed(left) {
+                let (others, dict) = self.solve_each(dict, variable, graphs, right)?;
+                return self.solve_join(dict, None, others, left);
+            }
+        }
+        self.solve_in_turn(dict, variable, graphs, inner)
+    }
+
+    /// Evaluates a tree that does not depend on the active graph, and joins its rows with the
+    /// variable bound to the name of each of the graphs.
+    #[cycle(solve)]
+    fn solve_once(
+        &self,
+        dict: Dict,
+        variable: usize,
+        graphs: &[u64],
+        inner: &Operator,
+    ) -> Result<(Rows, Dict), EvalFault>
+        requires index { AreBelow (length dict) self.now.index.now }
+        requires variable { variable < self.now.width }
+        requires graphs { AreGraphs dict self.now.index.now graphs.now }
+        requires some { 0 < length graphs.now }
+        requires closed { is_closed (algebra_of inner.now) ≡ true }
+        requires within { is_within self.now.width (algebra_of inner.now) ≡ true }
+        ensures evaluated { IfOk result (λ r. IsEvaluated dict self.now.width
+            (solutions_in dict self.now.index.now self.now.width variable graphs.now
+            (algebra_of inner.now)) r.0 r.1) }
+        ensures needed { IfOk result (λ r. TakesOnly
+            (NeededIn dict self.now.index.now self.now.width (each_graph variable)
+            (algebra_of inner.now)) dict r.1) }
+        ensures one_worker { HasOneWorker self.now.context.how.now → IfErr result (λ fault. fault ≡ Memory) }
+    {
+        let names = name_rows(self.context.alloc, self.width, variable, graphs)?;
+        self.solve_join(dict, None, names, inner)
+    }
+
+    /// Evaluates a tree in one graph after another, and joins the rows of a graph with the variable
+    /// bound to its name.
+    #[cycle(solve)]
+    fn solve_in_turn(
+        &self,
+        dict: Dict,
+        variable: usize,
+        graphs: &[u64],
+        inner: &Operator,
+    ) -> Result<(Rows, Dict), EvalFault>
+        requires index { AreBelow (length dict) self.now.index.now }
+        requires variable { variable < self.now.width }
+        requires graphs { AreGraphs dict self.now.index.now graphs.now }
+        requires within { is_within self.now.width (algebra_of inner.now) ≡ true }
+        ensures evaluated { IfOk result (λ r. IsEvaluated dict self.now.width
+            (solutions_in dict self.now.index.now self.now.width variable graphs.now
+            (algebra_of inner.now)) r.0 r.1) }
+        ensures needed { IfOk result (λ r. TakesOnly
+            (NeededIn dict self.now.index.now self.now.width (each_graph variable)
+            (algebra_of inner.now)) dict r.1) }
+        ensures one_worker { HasOneWorker self.now.context.how.now → IfErr result (λ fault. fault ≡ Memory) }
     {
         let _distinct = dict.len();
         let mut dict = dict;
-        let mut made = Rows::new(self.alloc, self.width);
-        let names = self.index.graphs();
-        for i in 0..names.len() {
-            let (rows, grown) = self.solve(dict, Some(names[i]), inner)?;
+        let mut made = Rows::new(self.context.alloc, self.width);
+        for i in 0..graphs.len() {
+            let (rows, grown) = self.solve(dict, Some(graphs[i]), inner)?;
             let _still_distinct = grown.len();
             dict = grown;
-            add_graph(self.alloc, &mut made, &rows, variable, names[i])?;
+            add_graph(self.context.alloc, &mut made, &rows, variable, graphs[i])?;
         }
         Ok((made, dict))
     }
@@ -401,11 +482,10 @@ impl<'a, R: Threads + Wait, G: Gate + Sync> Evaluator<'a, R, G> {
             (graph (quads_at dict self.now.index.now) (option_map (term_at dict) active)))
             r.0 r.1) }
         ensures same_dict { IfOk result (λ r. r.1 ≡ dict) }
-        ensures one_worker { HasOneWorker self.now.how.now → IfErr result (λ fault. fault ≡ Memory) }
+        ensures one_worker { HasOneWorker self.now.context.how.now → IfErr result (λ fault. fault ≡ Memory) }
     {
-        pattern(
-            self.rt, self.alloc, dict, self.index, active, self.width, labels, triples, self.how,
-            self.gate,
+        pattern_with(
+            &self.context, dict, self.index, active, self.width, labels, triples,
         )
     }
 }

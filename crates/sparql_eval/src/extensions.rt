@@ -15,7 +15,7 @@ use crate::values::values_of;
 use dict_core::Dict;
 use piece_pool::Gate;
 use row_core::Rows;
-use row_pieces::{EvalFault, How};
+use row_pieces::{Context, EvalFault, How};
 use sparql_algebra::Expr;
 use std::alloc::{AllocError, Global};
 use std::hash::RandomState;
@@ -62,38 +62,59 @@ pub fn extend<R: Threads + Wait, G: Gate + Sync>(
     ensures alone { length rows.now.rows ≤ how.now.rows → IfErr result (λ fault. fault ≡ Memory) }
     ensures one_worker { HasOneWorker how.now → IfErr result (λ fault. fault ≡ Memory) }
 {
+    let context = Context {
+        rt,
+        alloc,
+        how,
+        gate,
+    };
+    extend_with(&context, state, dict, rows, variable, expression)
+}
+
+/// Evaluates Extend, as [`extend`] does, with a context.
+pub(crate) fn extend_with<R: Threads + Wait, G: Gate + Sync>(
+    context: &Context<R, G>,
+    state: RandomState,
+    dict: Dict,
+    rows: &Rows,
+    variable: usize,
+    expression: &Expr,
+) -> Result<(Rows, Dict), EvalFault>
+    requires known { AreKnown dict rows.now }
+    requires variable { variable < rows.now.width }
+    ensures evaluated { IfOk result (λ r. IsEvaluated dict rows.now.width
+        (extend variable (val (expression_of expression.now)) (solutions_of dict rows.now)) r.0 r.1) }
+    ensures needed { IfOk result (λ r. TakesOnly
+        (IsValue (val (expression_of expression.now)) (solutions_of dict rows.now)) dict r.1) }
+    ensures alone { length rows.now.rows ≤ context.now.how.now.rows → IfErr result (λ fault. fault ≡ Memory) }
+    ensures one_worker { HasOneWorker context.now.how.now → IfErr result (λ fault. fault ≡ Memory) }
+{
     let mut dict = dict;
-    let made = extended(
-        rt, alloc, state, &mut dict, rows, variable, expression, how, gate,
-    );
+    let made = extended(context, state, &mut dict, rows, variable, expression);
     with_dict(made, dict)
 }
 
 /// Returns the rows of an Extend.
 fn extended<R: Threads + Wait, G: Gate + Sync>(
-    rt: &R,
-    alloc: Global,
+    context: &Context<R, G>,
     state: RandomState,
     dict: &mut Dict,
     rows: &Rows,
     variable: usize,
     expression: &Expr,
-    how: &How,
-    gate: &G,
 ) -> Result<Rows, EvalFault>
     requires known { AreKnown dict.old rows.now }
     requires variable { variable < rows.now.width }
-    requires how { IsRunnable how.now }
     ensures evaluated { IfOk result (λ made. IsEvaluated dict.old rows.now.width
         (extend variable (val (expression_of expression.now)) (solutions_of dict.old rows.now)) made dict.new) }
     ensures needed { OnOk result (TakesOnly
         (IsValue (val (expression_of expression.now)) (solutions_of dict.old rows.now)) dict.old dict.new) }
-    ensures alone { length rows.now.rows ≤ how.now.rows → IfErr result (λ fault. fault ≡ Memory) }
-    ensures one_worker { HasOneWorker how.now → IfErr result (λ fault. fault ≡ Memory) }
+    ensures alone { length rows.now.rows ≤ context.now.how.now.rows → IfErr result (λ fault. fault ≡ Memory) }
+    ensures one_worker { HasOneWorker context.now.how.now → IfErr result (λ fault. fault ≡ Memory) }
 {
-    let pieces = values_of(rt, alloc, state, dict, rows, expression, how, gate)?;
-    let numbers = number_values(alloc, dict, pieces)?;
-    let made = extend_rows(alloc, rows, variable, numbers.as_slice())?;
+    let pieces = values_of(context, state, dict, rows, expression)?;
+    let numbers = number_values(context.alloc, dict, pieces)?;
+    let made = extend_rows(context.alloc, rows, variable, numbers.as_slice())?;
     Ok(made)
 }
 

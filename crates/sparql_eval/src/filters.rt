@@ -12,7 +12,7 @@ use crate::read_row::ReadRow;
 use dict_core::Dict;
 use piece_pool::Gate;
 use row_core::Rows;
-use row_pieces::{EvalFault, How, RowWork, over_pieces};
+use row_pieces::{Context, EvalFault, How, RowWork, over_pieces};
 use sparql_algebra::{Expr, test};
 use std::alloc::{AllocError, Global};
 use std::sync::Wait;
@@ -48,33 +48,52 @@ pub fn filter<R: Threads + Wait, G: Gate + Sync>(
     ensures alone { length rows.now.rows ≤ how.now.rows → IfErr result (λ fault. fault ≡ Memory) }
     ensures one_worker { HasOneWorker how.now → IfErr result (λ fault. fault ≡ Memory) }
 {
-    let made = filtered(rt, alloc, &dict, rows, condition, how, gate);
+    let context = Context {
+        rt,
+        alloc,
+        how,
+        gate,
+    };
+    filter_with(&context, dict, rows, condition)
+}
+
+/// Evaluates Filter, as [`filter`] does, with a context.
+pub(crate) fn filter_with<R: Threads + Wait, G: Gate + Sync>(
+    context: &Context<R, G>,
+    dict: Dict,
+    rows: &Rows,
+    condition: &Expr,
+) -> Result<(Rows, Dict), EvalFault>
+    requires known { AreKnown dict rows.now }
+    ensures evaluated { IfOk result (λ r. IsEvaluated dict rows.now.width
+        (filter (holds (expression_of condition.now)) (solutions_of dict rows.now)) r.0 r.1) }
+    ensures same_dict { IfOk result (λ r. r.1 ≡ dict) }
+    ensures alone { length rows.now.rows ≤ context.now.how.now.rows → IfErr result (λ fault. fault ≡ Memory) }
+    ensures one_worker { HasOneWorker context.now.how.now → IfErr result (λ fault. fault ≡ Memory) }
+{
+    let made = filtered(context, &dict, rows, condition);
     with_dict(made, dict)
 }
 
 /// Returns the rows that pass the condition.
 fn filtered<R: Threads + Wait, G: Gate + Sync>(
-    rt: &R,
-    alloc: Global,
+    context: &Context<R, G>,
     dict: &Dict,
     rows: &Rows,
     condition: &Expr,
-    how: &How,
-    gate: &G,
 ) -> Result<Rows, EvalFault>
     requires known { AreKnown dict.now rows.now }
-    requires how { IsRunnable how.now }
     ensures evaluated { IfOk result (λ made. IsEvaluated dict.now rows.now.width
         (filter (holds (expression_of condition.now)) (solutions_of dict.now rows.now)) made dict.now) }
-    ensures alone { length rows.now.rows ≤ how.now.rows → IfErr result (λ fault. fault ≡ Memory) }
-    ensures one_worker { HasOneWorker how.now → IfErr result (λ fault. fault ≡ Memory) }
+    ensures alone { length rows.now.rows ≤ context.now.how.now.rows → IfErr result (λ fault. fault ≡ Memory) }
+    ensures one_worker { HasOneWorker context.now.how.now → IfErr result (λ fault. fault ≡ Memory) }
 {
     let work = FilterWork {
         dict,
         rows,
         condition,
     };
-    over_pieces(rt, alloc, &work, how, gate)
+    over_pieces(context.rt, context.alloc, &work, context.how, context.gate)
 }
 
 /// The rows to filter and the condition, as a job for the workers.

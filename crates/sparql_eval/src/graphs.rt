@@ -1,5 +1,5 @@
 //! Named graphs (SPARQL 1.1 Query Language, section 18.6, Graph).
-ghost use Rattle.std.specs.Prelude.{◌≡◌, ◌<◌, ◌++◌, ◌∷◌, [], true, false, Some, None, length, nat_eq, replicate, set, slice_get, take, ℕ, IfOk, OnErr, OnOk, MatchOption};
+ghost use Rattle.std.specs.Prelude.{◌≡◌, ◌<◌, ◌++◌, ◌∷◌, [], true, false, Some, None, length, map, nat_eq, replicate, set, slice_get, take, ℕ, IfOk, OnErr, OnOk, MatchOption};
 ghost use Rattle.std.specs.List.{list_any};
 ghost use Rattle.rdf_core.specs.Equality.{term_eq};
 ghost use Rattle.algebra_model.specs.Dataset.{names};
@@ -44,6 +44,26 @@ fn name_row(
     row.resize(width, None)?;
     row[variable] = Some(number);
     Ok(row)
+}
+
+/// Creates a row for each graph, which binds the variable to the number of the graph.
+pub(crate) fn name_rows(
+    alloc: Global,
+    width: usize,
+    variable: usize,
+    graphs: &[u64],
+) -> Result<Rows, AllocError>
+    requires variable { variable < width }
+    ensures width { IfOk result (λ made. made.width ≡ width) }
+    ensures rows { IfOk result (λ made. made.rows
+        ≡ map (λ n. set (replicate width None) variable (Some n)) graphs.now) }
+{
+    let mut made = Rows::new(alloc, width);
+    for i in 0..graphs.len() {
+        let row = name_row(alloc, width, variable, graphs[i])?;
+        made.push(row.as_slice())?;
+    }
+    Ok(made)
 }
 
 /// Appends the merge of each of the rows with one row. On error, `made` keeps its rows, followed by

@@ -10,13 +10,15 @@ ghost use Rattle.row_pieces.specs.declared.fault.EvalFault.TheVariants.{Memory};
 ghost use Rattle.expression_values.specs.ExpressionOf.{expression_of};
 ghost use Rattle.sparql_eval.specs.Evaluated.{AreKnown, IsEvaluated, solutions_of};
 
+use crate::keyed_joins::left_joined_by_keys;
+use crate::keyed_rows::join_keys;
 use crate::operator_result::with_dict;
 use crate::read_row::ReadRow;
 use dict_core::Dict;
 use piece_pool::Gate;
 use row_core::Rows;
 use row_join::RowTest;
-use row_pieces::{EvalFault, How};
+use row_pieces::{Context, EvalFault, How};
 use sparql_algebra::{Expr, test};
 use std::alloc::{AllocError, Global};
 use std::hash::RandomState;
@@ -58,8 +60,36 @@ pub fn join<R: Threads + Wait, G: Gate + Sync>(
     ensures alone { length left.now.rows ≤ how.now.rows → IfErr result (λ fault. fault ≡ Memory) }
     ensures one_worker { HasOneWorker how.now → IfErr result (λ fault. fault ≡ Memory) }
 {
+    let context = Context {
+        rt,
+        alloc,
+        how,
+        gate,
+    };
+    join_with(&context, state, dict, left, right)
+}
+
+/// Evaluates Join, as [`join`] does, with a context.
+pub(crate) fn join_with<R: Threads + Wait, G: Gate + Sync>(
+    context: &Context<R, G>,
+    state: RandomState,
+    dict: Dict,
+    left: &Rows,
+    right: &Rows,
+) -> Result<(Rows, Dict), EvalFault>
+    requires same_width { left.now.width ≡ right.now.width }
+    requires known_left { AreKnown dict left.now }
+    requires known_right { AreKnown dict right.now }
+    ensures evaluated { IfOk result (λ r. IsEvaluated dict left.now.width
+        (join term_eq (solutions_of dict left.now) (solutions_of dict right.now)) r.0 r.1) }
+    ensures same_dict { IfOk result (λ r. r.1 ≡ dict) }
+    ensures alone { length left.now.rows ≤ context.now.how.now.rows → IfErr result (λ fault. fault ≡ Memory) }
+    ensures one_worker { HasOneWorker context.now.how.now → IfErr result (λ fault. fault ≡ Memory) }
+{
     let _distinct = dict.len();
-    let made = row_join::join(rt, alloc, state, left, right, how, gate);
+    let made = row_join::join(
+        context.rt, context.alloc, state, left, right, context.how, context.gate,
+    );
     with_dict(made, dict)
 }
 
@@ -67,29 +97,25 @@ pub fn join<R: Threads + Wait, G: Gate + Sync>(
 /// nothing, with which each group graph pattern begins, the result is the right side. The
 /// dictionary is returned unchanged. If one piece holds all left rows, no thread is started.
 pub(crate) fn join_of<R: Threads + Wait, G: Gate + Sync>(
-    rt: &R,
-    alloc: Global,
+    context: &Context<R, G>,
     state: RandomState,
     dict: Dict,
     left: Rows,
     right: Rows,
-    how: &How,
-    gate: &G,
 ) -> Result<(Rows, Dict), EvalFault>
     requires same_width { left.width ≡ right.width }
     requires known_left { AreKnown dict left }
     requires known_right { AreKnown dict right }
-    requires how { IsRunnable how.now }
     ensures evaluated { IfOk result (λ r. IsEvaluated dict left.width
         (join term_eq (solutions_of dict left) (solutions_of dict right)) r.0 r.1) }
     ensures same_dict { IfOk result (λ r. r.1 ≡ dict) }
-    ensures alone { length left.rows ≤ how.now.rows → IfErr result (λ fault. fault ≡ Memory) }
-    ensures one_worker { HasOneWorker how.now → IfErr result (λ fault. fault ≡ Memory) }
+    ensures alone { length left.rows ≤ context.now.how.now.rows → IfErr result (λ fault. fault ≡ Memory) }
+    ensures one_worker { HasOneWorker context.now.how.now → IfErr result (λ fault. fault ≡ Memory) }
 {
     if binds_nothing(&left, right.width()) {
         return Ok((right, dict));
     }
-    join(rt, alloc, state, dict, &left, &right, how, gate)
+    join_with(context, state, dict, &left, &right)
 }
 
 /// Returns whether there is exactly one row, of this width, and it binds no variable.
@@ -144,35 +170,87 @@ pub fn left_join<R: Threads + Wait, G: Gate + Sync>(
     ensures alone { length left.now.rows ≤ how.now.rows → IfErr result (λ fault. fault ≡ Memory) }
     ensures one_worker { HasOneWorker how.now → IfErr result (λ fault. fault ≡ Memory) }
 {
-    let made = left_joined(rt, alloc, state, &dict, left, right, condition, how, gate);
+    let context = Context {
+        rt,
+        alloc,
+        how,
+        gate,
+    };
+    left_join_with(&context, state, dict, left, right, condition)
+}
+
+/// Evaluates LeftJoin, as [`left_join`] does, with a context.
+pub(crate) fn left_join_with<R: Threads + Wait, G: Gate + Sync>(
+    context: &Context<R, G>,
+    state: RandomState,
+    dict: Dict,
+    left: &Rows,
+    right: &Rows,
+    condition: &Expr,
+) -> Result<(Rows, Dict), EvalFault>
+    requires same_width { left.now.width ≡ right.now.width }
+    requires known_left { AreKnown dict left.now }
+    requires known_right { AreKnown dict right.now }
+    ensures evaluated { IfOk result (λ r. IsEvaluated dict left.now.width
+        (left_join term_eq (holds (expression_of condition.now))
+        (solutions_of dict left.now) (solutions_of dict right.now)) r.0 r.1) }
+    ensures same_dict { IfOk result (λ r. r.1 ≡ dict) }
+    ensures alone { length left.now.rows ≤ context.now.how.now.rows → IfErr result (λ fault. fault ≡ Memory) }
+    ensures one_worker { HasOneWorker context.now.how.now → IfErr result (λ fault. fault ≡ Memory) }
+{
+    let made = left_joined(context, state, &dict, left, right, condition);
     with_dict(made, dict)
 }
 
 /// Returns the rows of a LeftJoin.
 fn left_joined<R: Threads + Wait, G: Gate + Sync>(
-    rt: &R,
-    alloc: Global,
+    context: &Context<R, G>,
     state: RandomState,
     dict: &Dict,
     left: &Rows,
     right: &Rows,
     condition: &Expr,
-    how: &How,
-    gate: &G,
 ) -> Result<Rows, EvalFault>
     requires same_width { left.now.width ≡ right.now.width }
     requires known_left { AreKnown dict.now left.now }
     requires known_right { AreKnown dict.now right.now }
-    requires how { IsRunnable how.now }
     ensures evaluated { IfOk result (λ made. IsEvaluated dict.now left.now.width
         (left_join term_eq (holds (expression_of condition.now))
         (solutions_of dict.now left.now) (solutions_of dict.now right.now)) made dict.now) }
-    ensures alone { length left.now.rows ≤ how.now.rows → IfErr result (λ fault. fault ≡ Memory) }
-    ensures one_worker { HasOneWorker how.now → IfErr result (λ fault. fault ≡ Memory) }
+    ensures alone { length left.now.rows ≤ context.now.how.now.rows → IfErr result (λ fault. fault ≡ Memory) }
+    ensures one_worker { HasOneWorker context.now.how.now → IfErr result (λ fault. fault ≡ Memory) }
+{
+    let keys = join_keys(context.alloc, left, right, condition)?;
+    if keys.is_empty() {
+        return left_joined_by_rows(context, state, dict, left, right, condition);
+    }
+    let keys = keys.as_slice();
+    left_joined_by_keys(context, state, dict, left, right, condition, keys)
+}
+
+/// Returns the rows of a LeftJoin, joined by the variables that both sides bind.
+fn left_joined_by_rows<R: Threads + Wait, G: Gate + Sync>(
+    context: &Context<R, G>,
+    state: RandomState,
+    dict: &Dict,
+    left: &Rows,
+    right: &Rows,
+    condition: &Expr,
+) -> Result<Rows, EvalFault>
+    requires same_width { left.now.width ≡ right.now.width }
+    requires known_left { AreKnown dict.now left.now }
+    requires known_right { AreKnown dict.now right.now }
+    ensures evaluated { IfOk result (λ made. IsEvaluated dict.now left.now.width
+        (left_join term_eq (holds (expression_of condition.now))
+        (solutions_of dict.now left.now) (solutions_of dict.now right.now)) made dict.now) }
+    ensures alone { length left.now.rows ≤ context.now.how.now.rows → IfErr result (λ fault. fault ≡ Memory) }
+    ensures one_worker { HasOneWorker context.now.how.now → IfErr result (λ fault. fault ≡ Memory) }
 {
     let _distinct = dict.len();
     let test = Condition { dict, condition };
-    row_join::left_join(rt, alloc, state, left, right, &test, how, gate)
+    row_join::left_join(
+        context.rt, context.alloc, state, left, right, &test, context.how, context.gate,
+    )
 }
 
 /// Evaluates Minus: returns each left row for which every right row is incompatible with it or
@@ -209,8 +287,36 @@ pub fn minus<R: Threads + Wait, G: Gate + Sync>(
     ensures alone { length left.now.rows ≤ how.now.rows → IfErr result (λ fault. fault ≡ Memory) }
     ensures one_worker { HasOneWorker how.now → IfErr result (λ fault. fault ≡ Memory) }
 {
+    let context = Context {
+        rt,
+        alloc,
+        how,
+        gate,
+    };
+    minus_with(&context, state, dict, left, right)
+}
+
+/// Evaluates Minus, as [`minus`] does, with a context.
+pub(crate) fn minus_with<R: Threads + Wait, G: Gate + Sync>(
+    context: &Context<R, G>,
+    state: RandomState,
+    dict: Dict,
+    left: &Rows,
+    right: &Rows,
+) -> Result<(Rows, Dict), EvalFault>
+    requires same_width { left.now.width ≡ right.now.width }
+    requires known_left { AreKnown dict left.now }
+    requires known_right { AreKnown dict right.now }
+    ensures evaluated { IfOk result (λ r. IsEvaluated dict left.now.width
+        (minus term_eq (solutions_of dict left.now) (solutions_of dict right.now)) r.0 r.1) }
+    ensures same_dict { IfOk result (λ r. r.1 ≡ dict) }
+    ensures alone { length left.now.rows ≤ context.now.how.now.rows → IfErr result (λ fault. fault ≡ Memory) }
+    ensures one_worker { HasOneWorker context.now.how.now → IfErr result (λ fault. fault ≡ Memory) }
+{
     let _distinct = dict.len();
-    let made = row_join::minus(rt, alloc, state, left, right, how, gate);
+    let made = row_join::minus(
+        context.rt, context.alloc, state, left, right, context.how, context.gate,
+    );
     with_dict(made, dict)
 }
 

@@ -21,7 +21,7 @@ use piece_pool::Gate;
 use quad_index::Index;
 use row_core::Rows;
 use row_pattern::{NumberedTriple, PatternNumber, rows_read_as_solutions};
-use row_pieces::{EvalFault, How};
+use row_pieces::{Context, EvalFault, How};
 use sparql_algebra::{PatternTerm, TriplePattern};
 use std::alloc::{AllocError, Global};
 use std::sync::Wait;
@@ -63,42 +63,67 @@ pub fn pattern<R: Threads + Wait, G: Gate + Sync>(
     ensures same_dict { IfOk result (λ r. r.1 ≡ dict) }
     ensures one_worker { HasOneWorker how.now → IfErr result (λ fault. fault ≡ Memory) }
 {
-    let made = matches(
-        rt, alloc, &dict, index, active, width, labels, triples, how, gate,
-    );
+    let context = Context {
+        rt,
+        alloc,
+        how,
+        gate,
+    };
+    pattern_with(&context, dict, index, active, width, labels, triples)
+}
+
+/// Evaluates a basic graph pattern, as [`pattern`] does, with a context.
+pub(crate) fn pattern_with<R: Threads + Wait, G: Gate + Sync>(
+    context: &Context<R, G>,
+    dict: Dict,
+    index: &Index,
+    active: Option<u64>,
+    width: usize,
+    labels: usize,
+    triples: &[TriplePattern],
+) -> Result<(Rows, Dict), EvalFault>
+    requires index { AreBelow (length dict) index.now }
+    requires active { ForSome active (λ g. g < length dict) }
+    requires below { list_all (is_triple_below width labels) (map triple_pattern_of triples.now) ≡ true }
+    ensures evaluated { IfOk result (λ r. IsEvaluated dict width
+        (bgp term_eq width labels (map triple_pattern_of triples.now)
+        (graph (quads_at dict index.now) (option_map (term_at dict) active))) r.0 r.1) }
+    ensures same_dict { IfOk result (λ r. r.1 ≡ dict) }
+    ensures one_worker { HasOneWorker context.now.how.now → IfErr result (λ fault. fault ≡ Memory) }
+{
+    let made = matches(context, &dict, index, active, width, labels, triples);
     with_dict(made, dict)
 }
 
 /// Returns the rows of a basic graph pattern.
 fn matches<R: Threads + Wait, G: Gate + Sync>(
-    rt: &R,
-    alloc: Global,
+    context: &Context<R, G>,
     dict: &Dict,
     index: &Index,
     active: Option<u64>,
     width: usize,
     labels: usize,
     triples: &[TriplePattern],
-    how: &How,
-    gate: &G,
 ) -> Result<Rows, EvalFault>
     requires index { AreBelow (length dict.now) index.now }
     requires active { ForSome active (λ g. g < length dict.now) }
     requires below { list_all (is_triple_below width labels) (map triple_pattern_of triples.now) ≡ true }
-    requires how { IsRunnable how.now }
     ensures evaluated { IfOk result (λ made. IsEvaluated dict.now width
         (bgp term_eq width labels (map triple_pattern_of triples.now)
         (graph (quads_at dict.now index.now) (option_map (term_at dict.now) active))) made dict.now) }
-    ensures one_worker { HasOneWorker how.now → IfErr result (λ fault. fault ≡ Memory) }
+    ensures one_worker { HasOneWorker context.now.how.now → IfErr result (λ fault. fault ≡ Memory) }
 {
     let _distinct = dict.len();
     let _once = index.quads();
     rows_read_as_solutions();
-    let Some(numbered) = number_triples(alloc, dict, triples)? else {
-        return Ok(Rows::new(alloc, width));
+    let Some(numbered) = number_triples(context.alloc, dict, triples)? else {
+        return Ok(Rows::new(context.alloc, width));
     };
     let triples = numbered.as_slice();
-    row_pattern::pattern(rt, alloc, index, active, width, labels, triples, how, gate)
+    row_pattern::pattern(
+        context.rt, context.alloc, index, active, width, labels, triples, context.how,
+        context.gate,
+    )
 }
 
 /// Replaces each term of the triple patterns by its number. Returns None if the dictionary lacks

@@ -30,7 +30,7 @@ impl<'a> Lookup for ReadRow<'a> {
 
 /// Returns the number that the row binds a variable to, or None. The row may be too short to have
 /// the variable.
-fn number_at(row: &[Option<u64>], var: usize) -> Option<u64>
+pub(crate) fn number_at(row: &[Option<u64>], var: usize) -> Option<u64>
     ensures value { result ≡ get_or row.now var None }
 {
     if var < row.len() { row[var] } else { None }

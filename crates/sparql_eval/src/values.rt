@@ -3,7 +3,7 @@ ghost use Rattle.std.specs.Prelude.{◌≡◌, ◌≤◌, ◌-◌, [], Some, len
 ghost use Rattle.algebra_model.specs.Expression.{val};
 ghost use Rattle.algebra_model.specs.Renaming.{read_row};
 ghost use Rattle.dict_core.specs.Dict.{IsGrown, term_at};
-ghost use Rattle.row_pieces.specs.How.{IsRunnable, HasOneWorker};
+ghost use Rattle.row_pieces.specs.How.{HasOneWorker};
 ghost use Rattle.row_pieces.specs.declared.fault.EvalFault.TheVariants.{Memory};
 ghost use Rattle.expression_values.specs.ExpressionOf.{expression_of};
 ghost use Rattle.sparql_eval.specs.Computed.{TakesOnly};
@@ -18,7 +18,7 @@ use dict_core::Dict;
 use piece_pool::{Gate, Job, JobFault, Outcome, run_all};
 use rdf_core::Term;
 use row_core::Rows;
-use row_pieces::{EvalFault, How, piece_size};
+use row_pieces::{Context, EvalFault, piece_size};
 use sparql_algebra::{Expr, ExprFault, value};
 use std::alloc::{AllocError, Global};
 use std::hash::RandomState;
@@ -28,24 +28,20 @@ use std::thread::Threads;
 /// Returns the values of the expression for the rows, piece by piece in order. If one piece holds
 /// all rows, no thread is started.
 pub(crate) fn values_of<R: Threads + Wait, G: Gate + Sync>(
-    rt: &R,
-    alloc: Global,
+    context: &Context<R, G>,
     state: RandomState,
     dict: &Dict,
     rows: &Rows,
     expression: &Expr,
-    how: &How,
-    gate: &G,
 ) -> Result<Vec<PieceValues>, EvalFault>
     requires known { AreKnown dict.now rows.now }
-    requires how { IsRunnable how.now }
     ensures values { IfOk result (λ pieces. AreAllValues dict.now
         (expression_of expression.now) rows.now.rows pieces.items) }
-    ensures alone { length rows.now.rows ≤ how.now.rows → IfErr result (λ fault. fault ≡ Memory) }
-    ensures one_worker { HasOneWorker how.now → IfErr result (λ fault. fault ≡ Memory) }
+    ensures alone { length rows.now.rows ≤ context.now.how.now.rows → IfErr result (λ fault. fault ≡ Memory) }
+    ensures one_worker { HasOneWorker context.now.how.now → IfErr result (λ fault. fault ≡ Memory) }
 {
     let count = rows.len();
-    let size = piece_size(count, how.rows);
+    let size = piece_size(count, context.how.rows);
     let pieces = count.div_ceil(size) as u64;
     let job = ValueJob {
         state,
@@ -54,7 +50,7 @@ pub(crate) fn values_of<R: Threads + Wait, G: Gate + Sync>(
         expression,
         size,
     };
-    match run_all(rt, alloc, how.workers, pieces, &job, gate)? {
+    match run_all(context.rt, context.alloc, context.how.workers, pieces, &job, context.gate)? {
         Outcome::All(outs) => Ok(outs),
         Outcome::First { .. } => unreachable!(),
     }

@@ -1,3 +1,4 @@
 pub mod NumberLaws
 pub mod NumberSteps
 pub mod SignLaws
+pub mod EqualityLaws

@@ -57,7 +57,7 @@ greater_cmp m n h = int_cmp_is (pos m) (neg_ℤ (pos n)) Greater (omega (arith, 
 
 -- ---- digits
 
-in_range : (c : ℕ) → is_ascii_digit c ≡ true → (48 ≤ c) × (c ≤ 57)
+pub in_range : (c : ℕ) → is_ascii_digit c ≡ true → (48 ≤ c) × (c ≤ 57)
 in_range c h =
     (leb-true 48 c (first_so (nat_le 48 c) (nat_le c 57) h), leb-true c 57 (second_so (nat_le 48 c) (nat_le c 57) h))
 
@@ -72,7 +72,7 @@ front_digits : (v f : List ℕ) → list_all is_ascii_digit (v ++ f) ≡ true �
 front_digits v f h =
     all_digits v (first_so _ (list_all is_ascii_digit f) (sym (list_all-append is_ascii_digit v f) ∙ h))
 
-back_digits : (v f : List ℕ) → list_all is_ascii_digit (v ++ f) ≡ true → AllDigits 10 f
+pub back_digits : (v f : List ℕ) → list_all is_ascii_digit (v ++ f) ≡ true → AllDigits 10 f
 back_digits v f h =
     all_digits f (second_so (list_all is_ascii_digit v) _ (sym (list_all-append is_ascii_digit v f) ∙ h))
 

@@ -28,9 +28,11 @@
 
 mod comparison;
 mod digits;
+mod equality;
 mod literal;
 mod number;
 mod valued;
 
 pub use comparison::{compare, compare_valued, truth};
+pub use equality::{equal_terms_have_one_key, equality_key};
 pub use valued::Valued;

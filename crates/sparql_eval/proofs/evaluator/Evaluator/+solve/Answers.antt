@@ -1,4 +1,4 @@
-use Rattle.std.proofs.Common.{◌≡◌, ℕ, ◌<◌, List, [], ◌∷◌, ◌++◌, true, length, map, filter, flat_map, get_or, slice_get, nat_eq, nat_lt, replicate, set, None, Some, IfOk, sym, ap, subst, ◌∙◌, arith}
+use Rattle.std.proofs.Common.{◌≡◌, ℕ, ◌<◌, List, [], ◌∷◌, ◌++◌, true, length, map, filter, flat_map, get_or, slice_get, nat_eq, nat_lt, replicate, set, None, Some, IfOk, refl, sym, ap, subst, ◌∙◌, arith}
 use Rattle.std.specs.List.{list_all}
 use Rattle.std.proofs.lemmas.List.Sorted.{IsPermutation-refl}
 use Rattle.std.proofs.lemmas.Option.{slice_get-get_or}
@@ -7,6 +7,7 @@ use Rattle.rdf_core.proofs.TermLaws.{term_eq}
 use Rattle.algebra_model.specs.Algebra as algebra
 use Rattle.algebra_model.specs.Algebra.{Algebra, each_graph, is_within}
 use Rattle.algebra_model.specs.Bag.{IsSameBag}
+use Rattle.algebra_model.specs.Closed.{is_closed}
 use Rattle.algebra_model.specs.Eval.{eval, named}
 use Rattle.algebra_model.specs.Expression.{holds, val}
 use Rattle.algebra_model.specs.Operators.{distinct, extend, join, left_join, minus, project, table}
@@ -21,12 +22,13 @@ use Rattle.sparql_algebra.specs.declared.operator.GraphName.{GraphName}
 use Rattle.sparql_algebra.specs.declared.operator.Operator.{Operator}
 use Rattle.sparql_eval.specs.Computed.{TakesOnly}
 use Rattle.sparql_eval.specs.Evaluated.{IsEvaluated}
-use Rattle.sparql_eval.specs.TreeSolutions.{Needed, graph_solutions, tree_solutions}
-use Rattle.sparql_eval.proofs.NamedSteps.{each_done, each_more, graph_known}
+use Rattle.sparql_eval.specs.TreeSolutions.{Needed, NeededIn, graph_solutions, solutions_in, tree_solutions}
+use Rattle.sparql_eval.proofs.NamedSteps.{all_named, each_more}
+use Rattle.sparql_eval.proofs.ClosedSteps.{as_bag, closed_in, joined_in, joined_left, names_evaluated, no_graphs, none_in, some_graphs, takes_as_each, takes_closed, takes_then, takes_turned}
 use Rattle.sparql_eval.proofs.ReadingLaws.{Known, all_taken, grown_itself, grown_twice, read_by, rows_kept}
 use Rattle.sparql_eval.proofs.EvaluateSteps.{active_kept, after_left, after_one, after_right, all_below, as_whole, index_kept, tree_kept, join_keeps, left_join_keeps, union_keeps, minus_keeps, filter_keeps, extend_keeps, project_keeps, distinct_keeps}
 use Rattle.sparql_eval.proofs.TreeSteps.{distinct_denotes, distinct_tree, extend_denotes, extend_tree, filter_denotes, filter_tree, graph_denotes, graph_tree, join_denotes, join_tree, left_join_denotes, left_join_tree, minus_denotes, minus_tree, project_denotes, project_tree, table_denotes, table_tree, union_denotes, union_tree}
-use Rattle.sparql_eval.proofs.ComputedSteps.{NeededIn, takes_as, takes_both, takes_in_each, takes_nothing, takes_still, takes_values}
+use Rattle.sparql_eval.proofs.ComputedSteps.{all_graphs, takes_as, takes_both, takes_in_each, takes_nothing, takes_still, takes_values}
 use Rattle.sparql_eval.proofs.TakingLaws.{takes_none}
 use Rattle.sparql_eval.proofs.WithinSteps.{distinct_within, extend_within, filter_within, graph_within, join_within, left_join_within, minus_within, project_within, union_within}
 use Rattle.sparql_eval.proofs.evaluator.Evaluator.+solve.Goals as goal
@@ -234,19 +236,19 @@ solve_join-returns-clause-needed g t c =
     let s = c.args.self.now in
     takes_still (Needed c.args.dict s.index.now s.width c.args.active (algebra_of c.args.right.now)) c.args.dict c.in_ok-right.dict c.join_of.result c.in_ok-right.ensures.needed c.join_of.ensures.same_dict
 
-pub solve_left_join-left_join-requires-clause-known_left : goal.solve_left_join-left_join-requires-clause-known_left
-solve_left_join-left_join-requires-clause-known_left g t c κs within = (rows_kept c.args.dict c.in_ok-right.dict c.in_ok-right.ensures.evaluated.grown c.args.left.rows c.requires.known_left).0
+pub solve_left_join-left_join_with-requires-clause-known_left : goal.solve_left_join-left_join_with-requires-clause-known_left
+solve_left_join-left_join_with-requires-clause-known_left g t c κs within = (rows_kept c.args.dict c.in_ok-right.dict c.in_ok-right.ensures.evaluated.grown c.args.left.rows c.requires.known_left).0
 
 pub solve_left_join-returns-clause-evaluated : goal.solve_left_join-returns-clause-evaluated
 solve_left_join-returns-clause-evaluated g t c =
     let s = c.args.self.now in
     let S : Operator → List (Solution Term) = λ tree. tree_solutions c.args.dict s.index.now s.width c.args.active tree in
-    after_right c.args.dict c.in_ok-right.dict s.width c.left_join.result (left_join term_eq (holds (expression_of c.args.condition.now))) (left_join_keeps (holds (expression_of c.args.condition.now))) (S c.args.right.now) c.args.left c.in_ok-right.right c.requires.same_width c.requires.known_left c.in_ok-right.ensures.evaluated c.left_join.ensures.evaluated
+    after_right c.args.dict c.in_ok-right.dict s.width c.left_join_with.result (left_join term_eq (holds (expression_of c.args.condition.now))) (left_join_keeps (holds (expression_of c.args.condition.now))) (S c.args.right.now) c.args.left c.in_ok-right.right c.requires.same_width c.requires.known_left c.in_ok-right.ensures.evaluated c.left_join_with.ensures.evaluated
 
 pub solve_left_join-returns-clause-needed : goal.solve_left_join-returns-clause-needed
 solve_left_join-returns-clause-needed g t c =
     let s = c.args.self.now in
-    takes_still (Needed c.args.dict s.index.now s.width c.args.active (algebra_of c.args.right.now)) c.args.dict c.in_ok-right.dict c.left_join.result c.in_ok-right.ensures.needed c.left_join.ensures.same_dict
+    takes_still (Needed c.args.dict s.index.now s.width c.args.active (algebra_of c.args.right.now)) c.args.dict c.in_ok-right.dict c.left_join_with.result c.in_ok-right.ensures.needed c.left_join_with.ensures.same_dict
 
 pub solve_union-union_of-requires-clause-known_left : goal.solve_union-union_of-requires-clause-known_left
 solve_union-union_of-requires-clause-known_left g t c = (rows_kept c.args.dict c.in_ok-right.dict c.in_ok-right.ensures.evaluated.grown c.args.left.rows c.requires.known_left).0
@@ -262,42 +264,42 @@ solve_union-returns-clause-needed g t c =
     let s = c.args.self.now in
     takes_still (Needed c.args.dict s.index.now s.width c.args.active (algebra_of c.args.right.now)) c.args.dict c.in_ok-right.dict c.union_of.result c.in_ok-right.ensures.needed c.union_of.ensures.same_dict
 
-pub solve_minus-minus-requires-clause-known_left : goal.solve_minus-minus-requires-clause-known_left
-solve_minus-minus-requires-clause-known_left g t c κs within = (rows_kept c.args.dict c.in_ok-right.dict c.in_ok-right.ensures.evaluated.grown c.args.left.rows c.requires.known_left).0
+pub solve_minus-minus_with-requires-clause-known_left : goal.solve_minus-minus_with-requires-clause-known_left
+solve_minus-minus_with-requires-clause-known_left g t c κs within = (rows_kept c.args.dict c.in_ok-right.dict c.in_ok-right.ensures.evaluated.grown c.args.left.rows c.requires.known_left).0
 
 pub solve_minus-returns-clause-evaluated : goal.solve_minus-returns-clause-evaluated
 solve_minus-returns-clause-evaluated g t c =
     let s = c.args.self.now in
     let S : Operator → List (Solution Term) = λ tree. tree_solutions c.args.dict s.index.now s.width c.args.active tree in
-    after_right c.args.dict c.in_ok-right.dict s.width c.minus.result (minus term_eq) (minus_keeps) (S c.args.right.now) c.args.left c.in_ok-right.right c.requires.same_width c.requires.known_left c.in_ok-right.ensures.evaluated c.minus.ensures.evaluated
+    after_right c.args.dict c.in_ok-right.dict s.width c.minus_with.result (minus term_eq) (minus_keeps) (S c.args.right.now) c.args.left c.in_ok-right.right c.requires.same_width c.requires.known_left c.in_ok-right.ensures.evaluated c.minus_with.ensures.evaluated
 
 pub solve_minus-returns-clause-needed : goal.solve_minus-returns-clause-needed
 solve_minus-returns-clause-needed g t c =
     let s = c.args.self.now in
-    takes_still (Needed c.args.dict s.index.now s.width c.args.active (algebra_of c.args.right.now)) c.args.dict c.in_ok-right.dict c.minus.result c.in_ok-right.ensures.needed c.minus.ensures.same_dict
+    takes_still (Needed c.args.dict s.index.now s.width c.args.active (algebra_of c.args.right.now)) c.args.dict c.in_ok-right.dict c.minus_with.result c.in_ok-right.ensures.needed c.minus_with.ensures.same_dict
 
 pub solve_filter-returns-clause-evaluated : goal.solve_filter-returns-clause-evaluated
 solve_filter-returns-clause-evaluated g t c =
     let s = c.args.self.now in
     let S : Operator → List (Solution Term) = λ tree. tree_solutions c.args.dict s.index.now s.width c.args.active tree in
-    after_one c.args.dict c.in_ok-rows.dict s.width c.filter.result (filter (holds (expression_of c.args.condition.now))) (filter_keeps (holds (expression_of c.args.condition.now))) (S c.args.inner.now) c.in_ok-rows.rows c.in_ok-rows.ensures.evaluated c.filter.ensures.evaluated
+    after_one c.args.dict c.in_ok-rows.dict s.width c.filter_with.result (filter (holds (expression_of c.args.condition.now))) (filter_keeps (holds (expression_of c.args.condition.now))) (S c.args.inner.now) c.in_ok-rows.rows c.in_ok-rows.ensures.evaluated c.filter_with.ensures.evaluated
 
 pub solve_filter-returns-clause-needed : goal.solve_filter-returns-clause-needed
 solve_filter-returns-clause-needed g t c =
     let s = c.args.self.now in
-    takes_still (Needed c.args.dict s.index.now s.width c.args.active (algebra_of c.args.inner.now)) c.args.dict c.in_ok-rows.dict c.filter.result c.in_ok-rows.ensures.needed c.filter.ensures.same_dict
+    takes_still (Needed c.args.dict s.index.now s.width c.args.active (algebra_of c.args.inner.now)) c.args.dict c.in_ok-rows.dict c.filter_with.result c.in_ok-rows.ensures.needed c.filter_with.ensures.same_dict
 
 pub solve_extend-returns-clause-evaluated : goal.solve_extend-returns-clause-evaluated
 solve_extend-returns-clause-evaluated g t c =
     let s = c.args.self.now in
     let S : Operator → List (Solution Term) = λ tree. tree_solutions c.args.dict s.index.now s.width c.args.active tree in
-    after_one c.args.dict c.in_ok-rows.dict s.width c.extend.result (extend c.args.variable (val (expression_of c.args.expression.now))) (extend_keeps c.args.variable (val (expression_of c.args.expression.now))) (S c.args.inner.now) c.in_ok-rows.rows c.in_ok-rows.ensures.evaluated c.extend.ensures.evaluated
+    after_one c.args.dict c.in_ok-rows.dict s.width c.extend_with.result (extend c.args.variable (val (expression_of c.args.expression.now))) (extend_keeps c.args.variable (val (expression_of c.args.expression.now))) (S c.args.inner.now) c.in_ok-rows.rows c.in_ok-rows.ensures.evaluated c.extend_with.ensures.evaluated
 
 pub solve_extend-returns-clause-needed : goal.solve_extend-returns-clause-needed
 solve_extend-returns-clause-needed g t c =
     let s = c.args.self.now in
-    takes_values c.args.dict s.index.now s.width c.args.active c.extend.result c.args.variable (expression_of c.args.expression.now) (algebra_of c.args.inner.now)
-    c.in_ok-rows.dict c.in_ok-rows.rows c.in_ok-rows.ensures.evaluated c.in_ok-rows.ensures.needed c.extend.ensures.needed
+    takes_values c.args.dict s.index.now s.width c.args.active c.extend_with.result c.args.variable (expression_of c.args.expression.now) (algebra_of c.args.inner.now)
+    c.in_ok-rows.dict c.in_ok-rows.rows c.in_ok-rows.ensures.evaluated c.in_ok-rows.ensures.needed c.extend_with.ensures.needed
 
 pub solve_project-returns-clause-evaluated : goal.solve_project-returns-clause-evaluated
 solve_project-returns-clause-evaluated g t c =
@@ -363,31 +365,154 @@ solve-returns-in-Graph-clause-needed g t c =
 pub solve_graph-returns-in-Variable-clause-needed : goal.solve_graph-returns-in-Variable-clause-needed
 solve_graph-returns-in-Variable-clause-needed g t c =
     let s = c.args.self.now in
-    subst (λ (n : GraphName). IfOk c.solve_each.result (λ r. TakesOnly (NeededIn c.args.dict s.index.now s.width (algebra_of c.args.inner.now) (graph_name_of n)) c.args.dict r.1)) (sym c.in-Variable.is) c.solve_each.ensures.needed
+    subst (λ (n : GraphName). IfOk c.solve_all.result (λ r. TakesOnly (NeededIn c.args.dict s.index.now s.width (graph_name_of n) (algebra_of c.args.inner.now)) c.args.dict r.1)) (sym c.in-Variable.is) c.solve_all.ensures.needed
 
-pub solve_each-solve-requires-clause-active : goal.solve_each-solve-requires-clause-active
-solve_each-solve-requires-clause-active g t c κs within =
+pub solve_all-solve_each-requires-clause-graphs : goal.solve_all-solve_each-requires-clause-graphs
+solve_all-solve_each-requires-clause-graphs g t c κs within =
+    all_graphs c.args.dict c.len-distinct.ensures.distinct c.args.self.now.index.now c.requires.index c.graphs.result.now c.graphs.ensures.names
+
+pub solve_all-returns-clause-evaluated : goal.solve_all-returns-clause-evaluated
+solve_all-returns-clause-evaluated g t c =
+    let s = c.args.self.now in
     let terms = c.args.dict in
-    let graphs = c.graphs-names.result.now in
+    let F : Term → List (Solution Term) = λ i. join term_eq (eval s.width (quads_at terms s.index.now) (Some i) (algebra_of c.args.inner.now)) (named s.width c.args.variable i) in
+    as_bag terms s.width c.solve_each.result (flat_map F (map (term_at terms) c.graphs.result.now)) (graph_solutions terms s.index.now s.width (each_graph c.args.variable) c.args.inner.now)
+    (all_named terms c.len-distinct.ensures.distinct s.index.now c.requires.index c.graphs.result.now c.graphs.ensures.names F) c.solve_each.ensures.evaluated
+
+-- ---- some graphs
+
+pub solve_once-solve_join-requires-clause-known_left : goal.solve_once-solve_join-requires-clause-known_left
+solve_once-solve_join-requires-clause-known_left g t c κs within =
+    let s = c.args.self.now in
+    (names_evaluated c.args.dict s.width c.args.variable c.args.graphs.now (λ k n at. (c.requires.graphs k n at).0) c.in_ok-names.names c.in_ok-names.ensures.width c.in_ok-names.ensures.rows).known
+
+pub solve_once-returns-clause-evaluated : goal.solve_once-returns-clause-evaluated
+solve_once-returns-clause-evaluated g t c =
+    let s = c.args.self.now in
+    let terms = c.args.dict in
+    let C = algebra_of c.args.inner.now in
+    let A = flat_map (named s.width c.args.variable) (map (term_at terms) c.args.graphs.now) in
+    let B = tree_solutions terms s.index.now s.width None c.args.inner.now in
+    let names = names_evaluated terms s.width c.args.variable c.args.graphs.now (λ k n at. (c.requires.graphs k n at).0) c.in_ok-names.names c.in_ok-names.ensures.width c.in_ok-names.ensures.rows in
+    as_whole terms s.width c.solve_join.result (join term_eq A B) (solutions_in terms s.index.now s.width c.args.variable c.args.graphs.now C)
+    (closed_in s.width (quads_at terms s.index.now) c.args.variable (map (term_at terms) c.args.graphs.now) C c.requires.closed)
+    (after_left terms terms s.width c.solve_join.result (join term_eq) join_keeps A B B refl c.in_ok-names.names names c.solve_join.ensures.evaluated)
+
+pub solve_once-returns-clause-needed : goal.solve_once-returns-clause-needed
+solve_once-returns-clause-needed g t c =
+    let s = c.args.self.now in
+    takes_closed c.args.dict s.index.now s.width c.args.variable c.args.graphs.now c.requires.graphs c.solve_join.result (algebra_of c.args.inner.now) c.requires.some c.requires.closed c.solve_join.ensures.needed
+
+-- ---- no graph
+
+pub solve_each-returns-then-is_empty-clause-evaluated : goal.solve_each-returns-then-is_empty-clause-evaluated
+solve_each-returns-then-is_empty-clause-evaluated g t c =
+    none_in c.args.dict c.args.self.now.index.now c.args.self.now.width c.args.variable c.args.graphs.now (no_graphs c.args.graphs.now c.if-is_empty.ensures) (algebra_of c.args.inner.now)
+    c.new.result (ap (λ (r : RowList). r.width) c.new.ensures.empty) (ap (λ (r : RowList). r.rows) c.new.ensures.empty)
+
+-- ---- a join with a closed tree
+
+pub solve_each-solve_join-requires-clause-index : goal.solve_each-solve_join-requires-clause-index
+solve_each-solve_join-requires-clause-index g t c κs within = (index_kept c.args.dict c.in_ok-rows.dict c.in_ok-rows.ensures.evaluated.grown c.args.self.now.index.now c.requires.index).0
+
+pub solve_each-returns-then-is_closed-2-clause-evaluated : goal.solve_each-returns-then-is_closed-2-clause-evaluated
+solve_each-returns-then-is_closed-2-clause-evaluated g t c =
+    let s = c.args.self.now in
+    let terms = c.args.dict in
+    let v = c.args.variable in
+    let graphs = c.args.graphs.now in
+    let whole : Algebra → List (Solution Term) = λ A. solutions_in terms s.index.now s.width v graphs A in
+    let L = algebra_of c.in-Join.left.value in
+    let C = algebra_of c.in-Join.right.value in
+    let closed : is_closed C ≡ true = ap (λ (T : Operator). is_closed (algebra_of T)) (sym c.deref.ensures) ∙ sym c.is_closed-in-Join.ensures.value ∙ c.if-is_closed-2.true in
+    let h = c.in_ok-rows.ensures.evaluated in
+    as_whole terms s.width c.solve_join.result (join term_eq (whole L) (tree_solutions terms s.index.now s.width None c.in-Join.right.value)) (whole (algebra_of c.args.inner.now))
+    (ap (λ (T : Operator). whole (algebra_of T)) c.in-Join.is ∙ ap whole (join_denotes c.in-Join.left c.in-Join.right) ∙ joined_in s.width (quads_at terms s.index.now) v (map (term_at terms) graphs) L C closed)
+    (after_left terms c.in_ok-rows.dict s.width c.solve_join.result (join term_eq) join_keeps (whole L) (tree_solutions terms s.index.now s.width None c.in-Join.right.value)
+    (tree_solutions c.in_ok-rows.dict s.index.now s.width None c.deref-then-is_closed-2-2.result.now)
+    (tree_kept terms c.in_ok-rows.dict h.grown s.index.now s.width None c.deref-then-is_closed-2-2.result.now c.requires.index (λ n e. cc) ∙ ap (tree_solutions terms s.index.now s.width None) c.deref-then-is_closed-2-2.ensures)
+    c.in_ok-rows.rows (subst (λ (T : Operator). IsEvaluated terms s.width (whole (algebra_of T)) c.in_ok-rows.rows c.in_ok-rows.dict) c.deref-then-is_closed-2.ensures h) c.solve_join.ensures.evaluated)
+
+pub solve_each-returns-then-is_closed-2-clause-needed : goal.solve_each-returns-then-is_closed-2-clause-needed
+solve_each-returns-then-is_closed-2-clause-needed g t c =
+    let s = c.args.self.now in
+    let terms = c.args.dict in
+    let v = c.args.variable in
+    let L = algebra_of c.in-Join.left.value in
+    let C = algebra_of c.in-Join.right.value in
+    let closed : is_closed C ≡ true = ap (λ (T : Operator). is_closed (algebra_of T)) (sym c.deref.ensures) ∙ sym c.is_closed-in-Join.ensures.value ∙ c.if-is_closed-2.true in
+    let is : algebra_of c.args.inner.now ≡ algebra.Join L C = ap algebra_of c.in-Join.is ∙ join_denotes c.in-Join.left c.in-Join.right in
+    let some = some_graphs c.args.graphs.now c.if-is_empty.ensures in
+    takes_as_each terms s.index.now s.width v c.solve_join.result (algebra_of c.args.inner.now) (algebra.Join L C) is
+    (takes_then terms s.index.now s.width v c.args.graphs.now c.requires.graphs c.solve_join.result L C c.in_ok-rows.dict c.in_ok-rows.ensures.evaluated.grown c.requires.index some closed
+    (subst (λ (T : Operator). TakesOnly (NeededIn terms s.index.now s.width (each_graph v) (algebra_of T)) terms c.in_ok-rows.dict) c.deref-then-is_closed-2.ensures c.in_ok-rows.ensures.needed)
+    (subst (λ (T : Operator). IfOk c.solve_join.result (λ x. TakesOnly (Needed c.in_ok-rows.dict s.index.now s.width None (algebra_of T)) c.in_ok-rows.dict x.1)) c.deref-then-is_closed-2-2.ensures c.solve_join.ensures.needed))
+
+pub solve_each-solve_join-requires-then-is_closed-3-clause-index : goal.solve_each-solve_join-requires-then-is_closed-3-clause-index
+solve_each-solve_join-requires-then-is_closed-3-clause-index g t c κs within = (index_kept c.args.dict c.in_ok-others.dict c.in_ok-others.ensures.evaluated.grown c.args.self.now.index.now c.requires.index).0
+
+pub solve_each-returns-then-is_closed-3-clause-evaluated : goal.solve_each-returns-then-is_closed-3-clause-evaluated
+solve_each-returns-then-is_closed-3-clause-evaluated g t c =
+    let s = c.args.self.now in
+    let terms = c.args.dict in
+    let v = c.args.variable in
+    let graphs = c.args.graphs.now in
+    let whole : Algebra → List (Solution Term) = λ A. solutions_in terms s.index.now s.width v graphs A in
+    let C = algebra_of c.in-Join.left.value in
+    let R = algebra_of c.in-Join.right.value in
+    let closed : is_closed C ≡ true = ap (λ (T : Operator). is_closed (algebra_of T)) (sym c.deref-in-Join.ensures) ∙ sym c.is_closed-in-Join-2.ensures.value ∙ c.if-is_closed-3.true in
+    let h = c.in_ok-others.ensures.evaluated in
+    let J = join term_eq (whole R) (tree_solutions terms s.index.now s.width None c.in-Join.left.value) in
+    as_whole terms s.width c.solve_join-then-is_closed-3.result (whole (algebra.Join C R)) (whole (algebra_of c.args.inner.now))
+    (ap (λ (T : Operator). whole (algebra_of T)) c.in-Join.is ∙ ap whole (join_denotes c.in-Join.left c.in-Join.right))
+    (as_bag terms s.width c.solve_join-then-is_closed-3.result J (whole (algebra.Join C R))
+    (joined_left s.width (quads_at terms s.index.now) v (map (term_at terms) graphs) C R closed)
+    (after_left terms c.in_ok-others.dict s.width c.solve_join-then-is_closed-3.result (join term_eq) join_keeps (whole R) (tree_solutions terms s.index.now s.width None c.in-Join.left.value)
+    (tree_solutions c.in_ok-others.dict s.index.now s.width None c.deref-then-is_closed-3-2.result.now)
+    (tree_kept terms c.in_ok-others.dict h.grown s.index.now s.width None c.deref-then-is_closed-3-2.result.now c.requires.index (λ n e. cc) ∙ ap (tree_solutions terms s.index.now s.width None) c.deref-then-is_closed-3-2.ensures)
+    c.in_ok-others.others (subst (λ (T : Operator). IsEvaluated terms s.width (whole (algebra_of T)) c.in_ok-others.others c.in_ok-others.dict) c.deref-then-is_closed-3.ensures h) c.solve_join-then-is_closed-3.ensures.evaluated))
+
+pub solve_each-returns-then-is_closed-3-clause-needed : goal.solve_each-returns-then-is_closed-3-clause-needed
+solve_each-returns-then-is_closed-3-clause-needed g t c =
+    let s = c.args.self.now in
+    let terms = c.args.dict in
+    let v = c.args.variable in
+    let C = algebra_of c.in-Join.left.value in
+    let R = algebra_of c.in-Join.right.value in
+    let closed : is_closed C ≡ true = ap (λ (T : Operator). is_closed (algebra_of T)) (sym c.deref-in-Join.ensures) ∙ sym c.is_closed-in-Join-2.ensures.value ∙ c.if-is_closed-3.true in
+    let is : algebra_of c.args.inner.now ≡ algebra.Join C R = ap algebra_of c.in-Join.is ∙ join_denotes c.in-Join.left c.in-Join.right in
+    let some = some_graphs c.args.graphs.now c.if-is_empty.ensures in
+    takes_as_each terms s.index.now s.width v c.solve_join-then-is_closed-3.result (algebra_of c.args.inner.now) (algebra.Join C R) is
+    (takes_turned terms s.index.now s.width v c.solve_join-then-is_closed-3.result R C
+    (takes_then terms s.index.now s.width v c.args.graphs.now c.requires.graphs c.solve_join-then-is_closed-3.result R C c.in_ok-others.dict c.in_ok-others.ensures.evaluated.grown c.requires.index some closed
+    (subst (λ (T : Operator). TakesOnly (NeededIn terms s.index.now s.width (each_graph v) (algebra_of T)) terms c.in_ok-others.dict) c.deref-then-is_closed-3.ensures c.in_ok-others.ensures.needed)
+    (subst (λ (T : Operator). IfOk c.solve_join-then-is_closed-3.result (λ x. TakesOnly (Needed c.in_ok-others.dict s.index.now s.width None (algebra_of T)) c.in_ok-others.dict x.1)) c.deref-then-is_closed-3-2.ensures c.solve_join-then-is_closed-3.ensures.needed)))
+
+-- ---- one graph after another
+
+pub solve_in_turn-solve-requires-clause-active : goal.solve_in_turn-solve-requires-clause-active
+solve_in_turn-solve-requires-clause-active g t c κs within =
+    let terms = c.args.dict in
+    let graphs = c.args.graphs.now in
     let n = get_or graphs c.loop-i.i 0 in
     let at : slice_get graphs c.loop-i.i ≡ Some n = slice_get-get_or graphs c.loop-i.i 0 (omega arith) in
-    let low = graph_known terms c.len-distinct.ensures.distinct c.args.self.now.index.now c.requires.index graphs c.graphs-names.ensures.names c.loop-i.i n at in
+    let low = (c.requires.graphs c.loop-i.i n at).0 in
     (active_kept terms c.loop-i.dict c.loop-i.invariant.grown (Some n) (λ m e. let p : n ≡ m = cc in subst (λ (x : ℕ). x < length terms) p low)).0
 
-pub solve_each-loop-i-init : goal.solve_each-loop-i-init
-solve_each-loop-i-init g t c =
+pub solve_in_turn-loop-i-init : goal.solve_in_turn-loop-i-init
+solve_in_turn-loop-i-init g t c =
     let e = c.new-made.ensures.empty in
     let none = ap (λ (r : RowList). r.rows) e in
     record {
       width = ap (λ (r : RowList). r.width) e;
       grown = grown_itself c.args.dict;
-      takes = takes_none (NeededIn c.args.dict c.args.self.now.index.now c.args.self.now.width (algebra_of c.args.inner.now) (each_graph c.args.variable)) c.args.dict;
+      takes = takes_none (NeededIn c.args.dict c.args.self.now.index.now c.args.self.now.width (each_graph c.args.variable) (algebra_of c.args.inner.now)) c.args.dict;
       known = subst (Each (Known c.args.dict)) (sym none) tt;
       bag = subst (λ (l : List (Solution ℕ)). IsSameBag (map (read_by c.args.dict) l) []) (sym none) (IsPermutation-refl []);
     }
 
-pub solve_each-loop-i-preserved : goal.solve_each-loop-i-preserved
-solve_each-loop-i-preserved g t c =
+pub solve_in_turn-loop-i-preserved : goal.solve_in_turn-loop-i-preserved
+solve_in_turn-loop-i-preserved g t c =
     let was = c.loop-i.invariant in
     let s = c.args.self.now in
     let terms = c.args.dict in
@@ -396,10 +521,11 @@ solve_each-loop-i-preserved g t c =
     let h = c.in_ok-rows.ensures.evaluated in
     let tree = c.args.inner.now in
     let P : Term → List (Solution Term) = λ i. eval s.width (quads_at terms s.index.now) (Some i) (algebra_of tree) in
-    let graphs = c.graphs-names.result.now in
+    let graphs = c.args.graphs.now in
     let n = get_or graphs c.loop-i.i 0 in
     let at : slice_get graphs c.loop-i.i ≡ Some n = slice_get-get_or graphs c.loop-i.i 0 (omega arith) in
-    let low = graph_known terms c.len-distinct.ensures.distinct s.index.now c.requires.index graphs c.graphs-names.ensures.names c.loop-i.i n at in
+    let is = c.requires.graphs c.loop-i.i n at in
+    let low = is.0 in
     let got = subst (λ (A : List (Solution Term)). IsEvaluated now s.width A c.in_ok-rows.rows later)
     (tree_kept terms now was.grown s.index.now s.width (Some n) tree c.requires.index (λ m e. let p : n ≡ m = cc in subst (λ (x : ℕ). x < length terms) p low)) h in
     let added = c.in_ok-add_graph.ensures.added ∙ ap (λ (v : ℕ). c.loop-i.made.rows ++ join nat_eq c.in_ok-rows.rows.rows (set (replicate v None) c.args.variable (Some n) ∷ [])) c.in_ok-rows.ensures.evaluated.wide in
@@ -409,24 +535,28 @@ solve_each-loop-i-preserved g t c =
     record {
       width = c.in_ok-add_graph.ensures.width ∙ was.width;
       grown = grown;
-      takes = takes_in_each terms s.index.now s.width (algebra_of tree) c.len-distinct.ensures.distinct c.requires.index graphs c.graphs-names.ensures.names c.args.variable c.loop-i.i n at low now later was.grown was.takes c.in_ok-rows.ensures.needed;
+      takes = takes_in_each terms s.index.now s.width (algebra_of tree) c.requires.index c.args.variable n is now later was.grown was.takes c.in_ok-rows.ensures.needed;
       known = more.0;
       bag = more.1;
     }
 
-pub solve_each-returns-clause-evaluated : goal.solve_each-returns-clause-evaluated
-solve_each-returns-clause-evaluated g t c =
+pub solve_in_turn-returns-clause-evaluated : goal.solve_in_turn-returns-clause-evaluated
+solve_in_turn-returns-clause-evaluated g t c =
     let was = c.loop-i.invariant in
     let s = c.args.self.now in
     let terms = c.args.dict in
     let now = c.loop-i.dict in
-    let graphs = c.graphs-names.result.now in
+    let graphs = c.args.graphs.now in
     let F : Term → List (Solution Term) = λ i. join term_eq (eval s.width (quads_at terms s.index.now) (Some i) (algebra_of c.args.inner.now)) (named s.width c.args.variable i) in
-    let bag = subst (λ (l : List ℕ). IsSameBag (map (read_by now) c.loop-i.made.rows) (flat_map F (map (term_at terms) l))) (all_taken graphs c.loop-i.i (omega arith)) was.bag in
-    each_done terms c.len-distinct.ensures.distinct s.index.now c.requires.index graphs c.graphs-names.ensures.names F s.width now was.grown c.loop-i.made was.width was.known bag
+    record {
+      grown = was.grown;
+      wide = was.width;
+      known = was.known;
+      bag = subst (λ (l : List ℕ). IsSameBag (map (read_by now) c.loop-i.made.rows) (flat_map F (map (term_at terms) l))) (all_taken graphs c.loop-i.i (omega arith)) was.bag;
+    }
 
-pub solve_each-returns-clause-needed : goal.solve_each-returns-clause-needed
-solve_each-returns-clause-needed g t c = c.loop-i.invariant.takes
+pub solve_in_turn-returns-clause-needed : goal.solve_in_turn-returns-clause-needed
+solve_in_turn-returns-clause-needed g t c = c.loop-i.invariant.takes
 
 -- ---- what the calls require
 
@@ -565,14 +695,14 @@ solve_graph-solve-requires-clause-index g t c κs within = c.requires.index
 pub solve_graph-solve-requires-clause-within : goal.solve_graph-solve-requires-clause-within
 solve_graph-solve-requires-clause-within g t c κs within = c.requires.within
 
-pub solve_graph-solve_each-requires-clause-index : goal.solve_graph-solve_each-requires-clause-index
-solve_graph-solve_each-requires-clause-index g t c κs within = c.requires.index
+pub solve_graph-solve_all-requires-clause-index : goal.solve_graph-solve_all-requires-clause-index
+solve_graph-solve_all-requires-clause-index g t c κs within = c.requires.index
 
-pub solve_each-solve-requires-clause-index : goal.solve_each-solve-requires-clause-index
-solve_each-solve-requires-clause-index g t c κs within = (index_kept c.args.dict c.loop-i.dict c.loop-i.invariant.grown c.args.self.now.index.now c.requires.index).0
+pub solve_in_turn-solve-requires-clause-index : goal.solve_in_turn-solve-requires-clause-index
+solve_in_turn-solve-requires-clause-index g t c κs within = (index_kept c.args.dict c.loop-i.dict c.loop-i.invariant.grown c.args.self.now.index.now c.requires.index).0
 
-pub solve_each-solve-requires-clause-within : goal.solve_each-solve-requires-clause-within
-solve_each-solve-requires-clause-within g t c κs within = c.requires.within
+pub solve_in_turn-solve-requires-clause-within : goal.solve_in_turn-solve-requires-clause-within
+solve_in_turn-solve-requires-clause-within g t c κs within = c.requires.within
 
 pub solve-solve-requires-clause-within : goal.solve-solve-requires-clause-within
 solve-solve-requires-clause-within g t c κs within =
@@ -689,23 +819,23 @@ solve_join-join_of-requires-clause-known_right g t c κs within = c.in_ok-right.
 pub solve_join-returns-clause-one_worker : goal.solve_join-returns-clause-one_worker
 solve_join-returns-clause-one_worker g t c = c.join_of.ensures.one_worker
 
-pub solve_left_join-left_join-requires-clause-same_width : goal.solve_left_join-left_join-requires-clause-same_width
-solve_left_join-left_join-requires-clause-same_width g t c κs within = c.requires.same_width ∙ sym c.in_ok-right.ensures.evaluated.wide
+pub solve_left_join-left_join_with-requires-clause-same_width : goal.solve_left_join-left_join_with-requires-clause-same_width
+solve_left_join-left_join_with-requires-clause-same_width g t c κs within = c.requires.same_width ∙ sym c.in_ok-right.ensures.evaluated.wide
 
-pub solve_left_join-left_join-requires-clause-known_right : goal.solve_left_join-left_join-requires-clause-known_right
-solve_left_join-left_join-requires-clause-known_right g t c κs within = c.in_ok-right.ensures.evaluated.known
+pub solve_left_join-left_join_with-requires-clause-known_right : goal.solve_left_join-left_join_with-requires-clause-known_right
+solve_left_join-left_join_with-requires-clause-known_right g t c κs within = c.in_ok-right.ensures.evaluated.known
 
 pub solve_left_join-returns-clause-one_worker : goal.solve_left_join-returns-clause-one_worker
-solve_left_join-returns-clause-one_worker g t c = c.left_join.ensures.one_worker
+solve_left_join-returns-clause-one_worker g t c = c.left_join_with.ensures.one_worker
 
-pub solve_minus-minus-requires-clause-same_width : goal.solve_minus-minus-requires-clause-same_width
-solve_minus-minus-requires-clause-same_width g t c κs within = c.requires.same_width ∙ sym c.in_ok-right.ensures.evaluated.wide
+pub solve_minus-minus_with-requires-clause-same_width : goal.solve_minus-minus_with-requires-clause-same_width
+solve_minus-minus_with-requires-clause-same_width g t c κs within = c.requires.same_width ∙ sym c.in_ok-right.ensures.evaluated.wide
 
-pub solve_minus-minus-requires-clause-known_right : goal.solve_minus-minus-requires-clause-known_right
-solve_minus-minus-requires-clause-known_right g t c κs within = c.in_ok-right.ensures.evaluated.known
+pub solve_minus-minus_with-requires-clause-known_right : goal.solve_minus-minus_with-requires-clause-known_right
+solve_minus-minus_with-requires-clause-known_right g t c κs within = c.in_ok-right.ensures.evaluated.known
 
 pub solve_minus-returns-clause-one_worker : goal.solve_minus-returns-clause-one_worker
-solve_minus-returns-clause-one_worker g t c = c.minus.ensures.one_worker
+solve_minus-returns-clause-one_worker g t c = c.minus_with.ensures.one_worker
 
 pub solve_union-union_of-requires-clause-same_width : goal.solve_union-union_of-requires-clause-same_width
 solve_union-union_of-requires-clause-same_width g t c = c.requires.same_width ∙ sym c.in_ok-right.ensures.evaluated.wide
@@ -713,35 +843,20 @@ solve_union-union_of-requires-clause-same_width g t c = c.requires.same_width �
 pub solve_union-union_of-requires-clause-known_right : goal.solve_union-union_of-requires-clause-known_right
 solve_union-union_of-requires-clause-known_right g t c = c.in_ok-right.ensures.evaluated.known
 
-pub solve_filter-filter-requires-clause-known : goal.solve_filter-filter-requires-clause-known
-solve_filter-filter-requires-clause-known g t c κs within = c.in_ok-rows.ensures.evaluated.known
+pub solve_filter-filter_with-requires-clause-known : goal.solve_filter-filter_with-requires-clause-known
+solve_filter-filter_with-requires-clause-known g t c κs within = c.in_ok-rows.ensures.evaluated.known
 
-pub solve_extend-extend-requires-clause-known : goal.solve_extend-extend-requires-clause-known
-solve_extend-extend-requires-clause-known g t c κs within = c.in_ok-rows.ensures.evaluated.known
+pub solve_extend-extend_with-requires-clause-known : goal.solve_extend-extend_with-requires-clause-known
+solve_extend-extend_with-requires-clause-known g t c κs within = c.in_ok-rows.ensures.evaluated.known
 
 pub solve_filter-returns-clause-one_worker : goal.solve_filter-returns-clause-one_worker
-solve_filter-returns-clause-one_worker g t c = c.filter.ensures.one_worker
+solve_filter-returns-clause-one_worker g t c = c.filter_with.ensures.one_worker
 
 pub solve_extend-returns-clause-one_worker : goal.solve_extend-returns-clause-one_worker
-solve_extend-returns-clause-one_worker g t c = c.extend.ensures.one_worker
+solve_extend-returns-clause-one_worker g t c = c.extend_with.ensures.one_worker
 
-pub solve_join-join_of-requires-clause-how : goal.solve_join-join_of-requires-clause-how
-solve_join-join_of-requires-clause-how g t c κs within = c.args.self.now.runnable
-
-pub solve_left_join-left_join-requires-clause-how : goal.solve_left_join-left_join-requires-clause-how
-solve_left_join-left_join-requires-clause-how g t c κs within = c.args.self.now.runnable
-
-pub solve_minus-minus-requires-clause-how : goal.solve_minus-minus-requires-clause-how
-solve_minus-minus-requires-clause-how g t c κs within = c.args.self.now.runnable
-
-pub solve_filter-filter-requires-clause-how : goal.solve_filter-filter-requires-clause-how
-solve_filter-filter-requires-clause-how g t c κs within = c.args.self.now.runnable
-
-pub solve_extend-extend-requires-clause-how : goal.solve_extend-extend-requires-clause-how
-solve_extend-extend-requires-clause-how g t c κs within = c.args.self.now.runnable
-
-pub solve_extend-extend-requires-clause-variable : goal.solve_extend-extend-requires-clause-variable
-solve_extend-extend-requires-clause-variable g t c κs within = subst (λ (w : ℕ). c.args.variable < w) (sym c.in_ok-rows.ensures.evaluated.wide) c.requires.variable
+pub solve_extend-extend_with-requires-clause-variable : goal.solve_extend-extend_with-requires-clause-variable
+solve_extend-extend_with-requires-clause-variable g t c κs within = subst (λ (w : ℕ). c.args.variable < w) (sym c.in_ok-rows.ensures.evaluated.wide) c.requires.variable
 
 pub solve_union-returns-clause-one_worker : goal.solve_union-returns-clause-one_worker
 solve_union-returns-clause-one_worker g t c = λ _. c.union_of.ensures.memory

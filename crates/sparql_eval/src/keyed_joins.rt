@@ -1,0 +1,116 @@
+//! LeftJoin by the equalities that its condition requires.
+ghost use Rattle.std.specs.Prelude.{◌≡◌, ◌≤◌, length, map, IfErr, IfOk};
+ghost use Rattle.rdf_core.specs.Equality.{term_eq};
+ghost use Rattle.algebra_model.specs.Expression.{holds};
+ghost use Rattle.algebra_model.specs.Operators.{left_join};
+ghost use Rattle.row_pieces.specs.How.{HasOneWorker};
+ghost use Rattle.row_pieces.specs.declared.fault.EvalFault.TheVariants.{Memory};
+ghost use Rattle.expression_values.specs.ExpressionOf.{expression_of};
+ghost use Rattle.sparql_eval.specs.Evaluated.{AreKnown, IsEvaluated, solutions_of};
+ghost use Rattle.sparql_eval.specs.Required.{AreRequired};
+
+use crate::equalities::Equality;
+use crate::keyed_rows::{first_cells, keyed_rows};
+use crate::read_row::ReadRow;
+use dict_core::Dict;
+use piece_pool::Gate;
+use row_core::Rows;
+use row_join::RowTest;
+use row_pieces::{Context, EvalFault};
+use sparql_algebra::{Expr, test};
+use std::alloc::{AllocError, Global};
+use std::hash::RandomState;
+use std::sync::Wait;
+use std::thread::Threads;
+
+/// Returns the rows of a LeftJoin whose condition requires that variables of both sides have equal
+/// terms. Each row gets further cells with the key numbers of these terms, and is joined by them
+/// too. The condition is still tested on each pair.
+pub(crate) fn left_joined_by_keys<R: Threads + Wait, G: Gate + Sync>(
+    context: &Context<R, G>,
+    state: RandomState,
+    dict: &Dict,
+    left: &Rows,
+    right: &Rows,
+    condition: &Expr,
+    keys: &[Equality],
+) -> Result<Rows, EvalFault>
+    requires same_width { left.now.width ≡ right.now.width }
+    requires known_left { AreKnown dict.now left.now }
+    requires known_right { AreKnown dict.now right.now }
+    requires required { AreRequired (expression_of condition.now) keys.now }
+    ensures evaluated { IfOk result (λ made. IsEvaluated dict.now left.now.width
+        (left_join term_eq (holds (expression_of condition.now))
+        (solutions_of dict.now left.now) (solutions_of dict.now right.now)) made dict.now) }
+    ensures alone { length left.now.rows ≤ context.now.how.now.rows → IfErr result (λ fault. fault ≡ Memory) }
+    ensures one_worker { HasOneWorker context.now.how.now → IfErr result (λ fault. fault ≡ Memory) }
+{
+    let _distinct = dict.len();
+    let width = left.width();
+    let _same_width = right.width();
+    let left_variables = left_variables(context.alloc, keys)?;
+    let right_variables = right_variables(context.alloc, keys)?;
+    let left = keyed_rows(context.alloc, dict, left, left_variables.as_slice())?;
+    let right = keyed_rows(context.alloc, dict, right, right_variables.as_slice())?;
+    let test = FirstCondition {
+        dict,
+        condition,
+        width,
+    };
+    let rows = row_join::left_join(
+        context.rt, context.alloc, state, &left, &right, &test, context.how, context.gate,
+    )?;
+    let made = first_cells(context.alloc, &rows, width)?;
+    Ok(made)
+}
+
+/// Returns the variables of the left side.
+fn left_variables(alloc: Global, keys: &[Equality]) -> Result<Vec<usize>, AllocError>
+    ensures variables { IfOk result (λ made. made.items ≡ map (λ key. key.left) keys.now) }
+{
+    let mut made = Vec::new(alloc);
+    for i in 0..keys.len() {
+        made.push(keys[i].left)?;
+    }
+    Ok(made)
+}
+
+/// Returns the variables of the right side.
+fn right_variables(alloc: Global, keys: &[Equality]) -> Result<Vec<usize>, AllocError>
+    ensures variables { IfOk result (λ made. made.items ≡ map (λ key. key.right) keys.now) }
+{
+    let mut made = Vec::new(alloc);
+    for i in 0..keys.len() {
+        made.push(keys[i].right)?;
+    }
+    Ok(made)
+}
+
+/// The condition of a left join, which is tested on the first cells of a row.
+#[derive(Drop)]
+struct FirstCondition<'a> {
+    dict: &'a Dict,
+    condition: &'a Expr,
+    width: usize,
+}
+
+impl<'a> RowTest for FirstCondition<'a> {
+    ghost use Rattle.std.specs.Prelude.{length, nat_lt, take};
+    ghost use Rattle.algebra_model.specs.Expression.{holds};
+    ghost use Rattle.algebra_model.specs.Renaming.{read_row};
+    ghost use Rattle.dict_core.specs.Dict.{term_at};
+    ghost use Rattle.expression_values.specs.ExpressionOf.{expression_of};
+
+    ghost knows = { λ t n. nat_lt n (length t.dict.now) };
+
+    ghost keeps = { λ t μ. holds (expression_of t.condition.now) (read_row (term_at t.dict.now) (take t.width μ)) };
+
+    fn keeps(&self, alloc: Global, row: &[Option<u64>]) -> Result<bool, AllocError> {
+        let width = self.width.min(row.len());
+        let row = ReadRow {
+            dict: self.dict,
+            row: &row[..width],
+        };
+        test(alloc, self.condition, &row)
+    }
+}

@@ -1,0 +1,146 @@
+//! Rows with further cells, by which a join finds pairs of rows with equal terms.
+ghost use Rattle.std.specs.Prelude.{◌≡◌, ◌+◌, ◌<◌, ◌≤◌, ℕ, length, map, option_map, take, IfOk, OnOk};
+ghost use Rattle.algebra_model.specs.Expression.{Expression};
+ghost use Rattle.dict_core.specs.Dict.{AreDistinct};
+ghost use Rattle.expression_values.specs.ExpressionOf.{expression_of};
+ghost use Rattle.sparql_eval.specs.Evaluated.{AreKnown};
+ghost use Rattle.sparql_eval.specs.KeyedRows.{key_number, with_keys};
+ghost use Rattle.sparql_eval.specs.Numbered.{IsKnownAt, IsKnownCell};
+ghost use Rattle.sparql_eval.specs.Required.{AreRequired, IsRequired, OnSomePair};
+
+use crate::equalities::{Equality, equalities};
+use crate::read_row::number_at;
+use dict_core::Dict;
+use row_core::Rows;
+use sparql_algebra::Expr;
+use std::alloc::{AllocError, Global};
+use term_values::equality_key;
+
+/// Returns the pairs of variables that the condition compares, if one of them is bound on the left
+/// side and the other one on the right side. In each pair the variable of the left side is first.
+pub(crate) fn join_keys(
+    alloc: Global,
+    left: &Rows,
+    right: &Rows,
+    condition: &Expr,
+) -> Result<Vec<Equality>, AllocError>
+    ensures required { IfOk result (λ keys.
+        AreRequired (expression_of condition.now) keys.items) }
+{
+    let pairs = equalities(alloc, condition)?;
+    let mut keys = Vec::new(alloc);
+    for i in 0..pairs.len() {
+        if let Some(key) = oriented(left, right, pairs[i]) {
+            keys.push(key)?;
+        }
+    }
+    Ok(keys)
+}
+
+/// Returns the pair with the variable of the left side first, or None if no row binds one of them.
+fn oriented(left: &Rows, right: &Rows, pair: Equality) -> Option<Equality>
+    ensures required { OnSomePair result (λ key. (e : Expression)
+        → IsRequired e pair.left pair.right → IsRequired e key.left key.right) }
+{
+    if binds(left, pair.left) && binds(right, pair.right) {
+        return Some(pair);
+    }
+    if binds(left, pair.right) && binds(right, pair.left) {
+        return Some(Equality {
+            left: pair.right,
+            right: pair.left,
+        });
+    }
+    None
+}
+
+/// Returns whether some row binds the variable.
+fn binds(rows: &Rows, variable: usize) -> bool {
+    for i in 0..rows.len() {
+        if number_at(rows.row(i), variable).is_some() {
+            return true;
+        }
+    }
+    false
+}
+
+/// Returns the rows, each followed by the key numbers of the terms of these variables.
+pub(crate) fn keyed_rows(
+    alloc: Global,
+    dict: &Dict,
+    rows: &Rows,
+    variables: &[usize],
+) -> Result<Rows, AllocError>
+    requires known { AreKnown dict.now rows.now }
+    ensures width { IfOk result (λ made. made.width ≡ rows.now.width + length variables.now) }
+    ensures rows { IfOk result (λ made.
+        made.rows ≡ map (with_keys dict.now variables.now) rows.now.rows) }
+{
+    let Some(width) = rows.width().checked_add(variables.len()) else {
+        return Err(AllocError);
+    };
+    let mut made = Rows::new(alloc, width);
+    let mut cells = Vec::new(alloc);
+    for i in 0..rows.len() {
+        add_keys(dict, rows.row(i), variables, &mut cells)?;
+        made.push(cells.as_slice())?;
+    }
+    Ok(made)
+}
+
+/// Replaces the contents of `cells` with the row, followed by the key numbers of the terms of these
+/// variables.
+fn add_keys(
+    dict: &Dict,
+    row: &[Option<u64>],
+    variables: &[usize],
+    cells: &mut Vec<Option<u64>>,
+) -> Result<(), AllocError>
+    requires known { IsKnownAt dict.now row.now }
+    ensures wide { OnOk result (length cells.new.items ≡ length row.now + length variables.now) }
+    ensures keyed { OnOk result (cells.new.items ≡ with_keys dict.now variables.now row.now) }
+{
+    cells.clear();
+    cells.extend_from_slice(row)?;
+    for variable in variables {
+        cells.push(key_cell(dict, number_at(row, *variable)))?;
+    }
+    Ok(())
+}
+
+/// Returns the key number of a cell's term, or None if the cell is unbound.
+fn key_cell(dict: &Dict, cell: Option<u64>) -> Option<u64>
+    requires known { IsKnownCell dict.now cell }
+    ensures value { result ≡ option_map (key_number dict.now) cell }
+{
+    match cell {
+        Some(number) => Some(key_number(dict, number)),
+        None => None,
+    }
+}
+
+/// Returns a number that depends only on the key of a term, or the term's own number if it has no
+/// key. It is below the length of the dictionary.
+fn key_number(dict: &Dict, number: u64) -> u64
+    requires known { number < length dict.now }
+    ensures value { result ≡ key_number dict.now number }
+{
+    match equality_key(dict.term(number)) {
+        Some(key) => key % (dict.len() as u64),
+        None => number,
+    }
+}
+
+/// Returns the first cells of each row.
+pub(crate) fn first_cells(alloc: Global, rows: &Rows, width: usize) -> Result<Rows, AllocError>
+    requires wide { width ≤ rows.now.width }
+    ensures width { IfOk result (λ made. made.width ≡ width) }
+    ensures rows { IfOk result (λ made. made.rows ≡ map (take width) rows.now.rows) }
+{
+    let mut made = Rows::new(alloc, width);
+    for i in 0..rows.len() {
+        let row = rows.row(i);
+        made.push(&row[..width])?;
+    }
+    Ok(made)
+}
