@@ -40,6 +40,14 @@ pages:
     tests/pages.py --write
     tests/words.py
 
+# write out/API.md and out/CONTRACTS.md: each call of the main interface with its clauses, tests and mutants
+api:
+    tests/pages.py --out
+
+# write out/MUTANTS.md: all mutants, crate by crate
+mutant-tables:
+    tests/pages.py --out
+
 # run the commands that README and docs show with their output, and the queries of docs/USAGE.md, with the built program
 tour program='crates/spq/out/spq':
     tests/tour.py {{program}}
