@@ -70,6 +70,11 @@ refusals:
 bench quads='100000':
     bench/compare.py --tables loading --quads {{quads}}
 
+# measure everything with the built program, keep the figures in bench/results.json, and put them into the pages
+measure oxigraph='oxigraph':
+    bench/compare.py --oxigraph {{oxigraph}} --runs 10 --budget 30 --write bench
+    tests/pages.py --write
+
 # prove, build and install spq
 install folder='~/.local/bin':
     ./install {{folder}}

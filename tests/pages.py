@@ -13,6 +13,7 @@ It proves nothing and needs only Python 3. It checks:
 - the mutants and tests that docs/MUTANTS.md names exist;
 - the quotes and lists of docs/THEOREM.md are those of the sources, and it explains each line that it quotes;
 - the calls and clauses that docs/CONTRACTS.md names exist;
+- the figures of time and memory of the pages are those of bench/results.json, and none is written by hand;
 - the options, statuses and keywords of docs/USAGE.md, from which docs/spq.1 is generated;
 - docs/architecture.svg, which tests/diagram.py draws, shows every crate of the program.
 """
@@ -23,16 +24,19 @@ import re
 import sys
 
 sys.dont_write_bytecode = True
+sys.path.append(os.path.join(os.path.dirname(os.path.abspath(__file__)), "..", "bench"))
 import api
 import contracts
 import diagram
+import figures
 import theorem
 import usage
 from sources import ROOT, crates, mutants
 
 MOST_IN_THE_GATE = 80
 PART = re.compile(r"(<!-- generated: (\w+), by tests/pages\.py -->\n).*?(<!-- end of the generated part -->)", re.S)
-PAGES = [theorem.PAGE]
+PAGES = [theorem.PAGE, *figures.PAGES]
+PARTS = {**theorem.PARTS, **figures.PARTS}
 MUTANTS = "out/MUTANTS.md"
 
 
@@ -52,7 +56,7 @@ def write(path, text):
 
 def generated(page):
     """Returns the text of a page with its generated parts as the sources have them."""
-    return PART.sub(lambda part: part[1] + "\n" + "\n".join(theorem.PARTS[part[2]]()) + part[3], page)
+    return figures.filled(PART.sub(lambda part: part[1] + "\n" + "\n".join(PARTS[part[2]]()).rstrip() + "\n\n" + part[3], page))
 
 
 def mutants_page():
@@ -136,6 +140,7 @@ def main():
     faults = api.faults() + mutant_faults() + name_faults() + known_faults() + theorem.faults(PART.sub("", read(theorem.PAGE)))
     faults += contracts.rewritten(read(contracts.PAGE), api.contract_of)[1] + usage.faults() + diagram_faults()
     faults += [it for path in PAGES for it in page_faults(path)]
+    faults += [it for path in figures.PAGES for it in figures.faults(path, read(path))]
     for it in faults:
         print(it)
     if faults:

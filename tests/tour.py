@@ -39,7 +39,7 @@ NOT_RUN = [
     ("bench/README.md", "apt-get install raptor2-utils", "installs packages"),
     ("bench/README.md", "bench/compare.py --tables growth", "benchmarks"),
     ("bench/README.md", "bench/compare.py --baseline", "benchmarks"),
-    ("bench/README.md", "bench/compare.py --oxigraph", "benchmarks"),
+    ("bench/README.md", "just measure", "benchmarks"),
     ("bench/README.md", "bench/queries.py --only join", "benchmarks"),
     ("distributed/README.md", "spq-dask terms ", "the forms of the command line"),
     ("distributed/README.md", "apt-get install python3-distributed", "installs packages; needs Dask"),
