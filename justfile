@@ -75,6 +75,14 @@ measure oxigraph='oxigraph':
     bench/compare.py --oxigraph {{oxigraph}} --runs 10 --budget 30 --write bench
     tests/pages.py --write
 
+# run the test suites of the W3C with the built program, fetching them from Debian's source package of rdflib first
+w3c program='crates/spq/out/spq':
+    tests/w3c.py out/w3c {{program}} --fetch
+
+# make the files of a release in out/dist from a proved build: a tar archive, a Debian package, their sums, a note
+package *program:
+    ./package "$@"
+
 # prove, build and install spq
 install folder='~/.local/bin':
     ./install {{folder}}

@@ -15,7 +15,7 @@ python3-rdflib, serdi). A test passes if
 w3c_queries.py says which queries are outside of the language, and writes some of them with the means of the language, with the
 same solutions ('adapted': ORDER BY without LIMIT, an expression after SELECT, VALUES after the group, FROM, relative IRIs, ASK,
 REDUCED). tests/w3c-left-out.txt lists the tests that are not run, each with the reason. A report in EARL goes to
-out/w3c-earl.ttl. Exits with 1 if a test fails.
+out/w3c-earl.ttl. Exits with 1 if a test fails. --write puts the table into docs/COMPARISON.md.
 
 With --gate a machine that lacks the programs or cannot get the suites is no error: one line says so.
 """
@@ -36,6 +36,8 @@ sys.dont_write_bytecode = True
 HERE = os.path.dirname(os.path.abspath(__file__))
 ROOT = os.path.dirname(HERE)
 LEFT_OUT, EARL = f"{HERE}/w3c-left-out.txt", f"{ROOT}/out/w3c-earl.ttl"
+PAGE = f"{ROOT}/docs/COMPARISON.md"
+PART = re.compile(r"(<!-- generated: w3c, by tests/w3c\.py --write -->\n).*?(<!-- end of the generated part -->)", re.S)
 PACKAGES = ["python3-rdflib", "serdi"]
 # The suites of Debian whose source package is tried after that of the machine's own one.
 RELEASES = ["", "stable", "testing"]
@@ -279,6 +281,18 @@ def earl(outcomes):
     return "\n".join(lines) + "\n"
 
 
+def put_into_page(made, is_written):
+    """Puts the table into the page, or only says if the page has another one: other editions of the suites have other numbers."""
+    with open(PAGE, encoding="utf-8") as file:
+        page = file.read()
+    new = PART.sub(lambda found: f"{found[1]}\n{made}\n\n{found[2]}", page)
+    if is_written:
+        with open(PAGE, "w", encoding="utf-8") as file:
+            file.write(new)
+    elif new != page:
+        print("note: docs/COMPARISON.md has other numbers; w3c.py --write rewrites them")
+
+
 def unused(left_out, outcomes):
     """Returns a line for each entry of the list of tests to leave out that names no test."""
     names = [it.test.name for it in outcomes]
@@ -305,6 +319,7 @@ def run_suites(given):
             print(f"{it.outcome}: {it.test.suite}, {it.test.name}{' (adapted)' if it.is_adapted else ''}: {it.detail}".rstrip(": "))
     faults = unused(left_out, outcomes) + [it for it in outcomes if it.outcome == FAILED]
     print("\n".join([*(it for it in faults if isinstance(it, str)), table(outcomes)]))
+    put_into_page(table(outcomes), given.write)
     return len(faults)
 
 
@@ -315,6 +330,7 @@ def main():
     words.add_argument("--fetch", action="store_true", help="get the suites from Debian's source package of rdflib if DIR has none")
     words.add_argument("--gate", action="store_true", help="install the packages if possible; it is no error if they or the suites are missing")
     words.add_argument("--list", action="store_true", help="print a line for each test")
+    words.add_argument("--write", action="store_true", help="put the table into docs/COMPARISON.md")
     given = words.parse_args()
     if not os.path.exists(given.program):
         sys.exit(f"no program at {given.program}: build it first (see README)")
