@@ -15,6 +15,7 @@ It proves nothing and needs only Python 3. It checks:
 - the calls and clauses that docs/CONTRACTS.md names exist;
 - the figures of time and memory of the pages are those of bench/results.json, and none is written by hand;
 - the options, statuses and keywords of docs/USAGE.md, from which docs/spq.1 is generated;
+- each link leads to a file and a heading that exist;
 - docs/architecture.svg, which tests/diagram.py draws, shows every crate of the program.
 """
 import argparse
@@ -29,6 +30,7 @@ import api
 import contracts
 import diagram
 import figures
+import links
 import theorem
 import usage
 from sources import ROOT, crates, mutants
@@ -138,7 +140,7 @@ def main():
         for path, text in pages.items():
             write(path, text)
     faults = api.faults() + mutant_faults() + name_faults() + known_faults() + theorem.faults(PART.sub("", read(theorem.PAGE)))
-    faults += contracts.rewritten(read(contracts.PAGE), api.contract_of)[1] + usage.faults() + diagram_faults()
+    faults += contracts.rewritten(read(contracts.PAGE), api.contract_of)[1] + usage.faults() + diagram_faults() + links.faults()
     faults += [it for path in PAGES for it in page_faults(path)]
     faults += [it for path in figures.PAGES for it in figures.faults(path, read(path))]
     for it in faults:
