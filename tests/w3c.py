@@ -60,7 +60,11 @@ def apt(*words, room=None):
         places = {"Dir::Etc::SourceList": "/dev/null", "Dir::Etc::SourceParts": f"{room}/parts", "Dir::State::Lists": f"{room}/lists", "Dir::Cache": f"{room}/cache"}
         options += [it for name, path in places.items() for it in ("-o", f"{name}={path}")]
     environment = dict(os.environ, DEBIAN_FRONTEND="noninteractive")
-    return subprocess.run(["apt-get", "-qq", "-y", *options, *words], cwd=room, env=environment, stdin=subprocess.DEVNULL, capture_output=True, timeout=300).returncode == 0
+    try:
+        run = subprocess.run(["apt-get", "-qq", "-y", *options, *words], cwd=room, env=environment, stdin=subprocess.DEVNULL, capture_output=True, timeout=300)
+    except subprocess.TimeoutExpired:
+        return False
+    return run.returncode == 0
 
 
 def with_packages():
@@ -120,7 +124,7 @@ def unpack(archive, place):
     os.makedirs(place, exist_ok=True)
     names = re.compile(r"/(?:nquads|data-r2|dawg-data-r2|sparql11|data-sparql11)/")
     with tarfile.open(archive) as tar:
-        tar.extractall(place, [it for it in tar if it.isfile() and names.search(it.name) and ".." not in it.name])
+        tar.extractall(place, [it for it in tar if it.isfile() and names.search(it.name) and ".." not in it.name and not it.name.startswith("/")])
 
 
 # Running a test.
