@@ -137,13 +137,13 @@ def layers(paths):
 
 
 def table_of(paths):
-    """Returns a row for each crate, the lowest first, with links to its definition files. An asterisk marks those that only `run_words` needs."""
+    """Returns a row for each crate, the lowest first, with its definition files. An asterisk marks those that only `run_words` needs."""
     layer, of_answer = layers(paths), all_below(cited_by_call("answer"))
     lines = ["| layer | crate | definition files | lines |", "|---|---|---|---|"]
     for crate in sorted(layer, key=lambda it: (layer[it], it)):
         own = sorted((it for it in paths if crate_of(it) == crate), key=lambda it: (height(it), it))
-        links = [f"[{name_of(it)}](../{it})" + ("" if it in of_answer else "*") for it in own]
-        lines.append(f"| {layer[crate]} | {crate} | {', '.join(links)} | {sum(map(count_lines, own)):,} |")
+        names = [name_of(it) + ("" if it in of_answer else "*") for it in own]
+        lines.append(f"| {layer[crate]} | [{crate}](../crates/{crate}/specs) | {', '.join(names)} | {sum(map(count_lines, own)):,} |")
     return lines
 
 
@@ -156,7 +156,8 @@ def files_part():
     of_answer = all_below(cited_by_call("answer"))
     paths = of_answer | all_below(cited_by_call("run_words"))
     own = len(paths) - len(of_answer)
-    return [f"{len(paths)} files, {sum(map(count_lines, paths)):,} lines. With an asterisk: {own} files that `run_words` depends on and `answer` does not.", "", *table_of(paths), ""]
+    total = f"{len(paths)} files `crates/CRATE/specs/NAME.antt`, {sum(map(count_lines, paths)):,} lines."
+    return [f"{total} With an asterisk: {own} files that `run_words` depends on and `answer` does not.", "", *table_of(paths), ""]
 
 
 PARTS = {
