@@ -27,6 +27,7 @@ import sys
 sys.dont_write_bytecode = True
 sys.path.append(os.path.join(os.path.dirname(os.path.abspath(__file__)), "..", "bench"))
 import api
+import calls
 import contracts
 import diagram
 import figures
@@ -70,14 +71,14 @@ def mutants_page():
     for crate in sorted({it.crate for it in mutants()}):
         lines += [f"## {crate}", "", "| mutant | changes | checked by |", "|---|---|---|"]
         for it in (it for it in mutants() if it.crate == crate):
-            lines.append(f"| `{it.name}` | {api.spelled(it.names())} | {'the gate' if it.in_gate else 'wrong_bodies.py'} |")
+            lines.append(f"| `{it.name}` | {calls.spelled(it.names())} | {'the gate' if it.in_gate else 'wrong_bodies.py'} |")
         lines.append("")
     return "\n".join(lines)
 
 
 def out_pages():
     """Returns the pages that are generated as a whole, by path."""
-    return {api.PAGE: api.page(), contracts.OUT: contracts.rewritten(read(contracts.PAGE), api.contract_of)[0], MUTANTS: mutants_page()}
+    return {api.PAGE: api.page(), contracts.OUT: contracts.rewritten(read(contracts.PAGE), calls.contract_of)[0], MUTANTS: mutants_page()}
 
 
 # The checks.
@@ -106,7 +107,7 @@ def name_faults():
     """Returns a line for each mutant or test that docs/MUTANTS.md names and that does not exist."""
     page = read("docs/MUTANTS.md")
     known = {f"{it.crate}/{it.name}" for it in mutants()}
-    tests = {f"{crate}::{name}" for crate in crates() if crate.endswith("_tests") for name, _ in api.tests_of(crate)}
+    tests = {f"{crate}::{name}" for crate in crates() if crate.endswith("_tests") for name, _ in calls.tests_of(crate)}
     faults = [f"docs/MUTANTS.md: there is no mutant {it}" for it in re.findall(r"`(\w+/\w+)`", page) if it not in known]
     return faults + [f"docs/MUTANTS.md: there is no test {it}" for it in re.findall(r"`(\w+_tests::\w+)`", page) if it not in tests]
 
@@ -121,7 +122,7 @@ def known_faults():
 def diagram_faults():
     """Returns a line for each crate that the diagram does not show, and one if it is not drawn anew. Test crates are not shown."""
     drawn = set(re.findall(r"\w+", diagram.svg()))
-    faults = [f"tests/diagram.py: the crate {it} is missing" for it in crates() if it not in drawn and it not in api.INNER - {"spq"}]
+    faults = [f"tests/diagram.py: the crate {it} is missing" for it in crates() if it not in drawn and it not in calls.INNER - {"spq"}]
     return faults if read(diagram.DIAGRAM) == diagram.svg() else faults + [f"{diagram.DIAGRAM}: is not what tests/diagram.py draws"]
 
 
@@ -140,7 +141,7 @@ def main():
         for path, text in pages.items():
             write(path, text)
     faults = api.faults() + mutant_faults() + name_faults() + known_faults() + theorem.faults(PART.sub("", read(theorem.PAGE)))
-    faults += contracts.rewritten(read(contracts.PAGE), api.contract_of)[1] + usage.faults() + diagram_faults() + links.faults()
+    faults += contracts.rewritten(read(contracts.PAGE), calls.contract_of)[1] + usage.faults() + diagram_faults() + links.faults()
     faults += [it for path in PAGES for it in page_faults(path)]
     faults += [it for path in figures.PAGES for it in figures.faults(path, read(path))]
     for it in faults:
