@@ -139,7 +139,7 @@ def compare(options, folder):
             add(page, title, report.queries(answers[quads], quads), report.by_query(answers[quads]))
     if options.growth:
         page.show("Loading by size", report.growth({quads: loads[quads] for quads in options.growth}))
-    if options.quads and loads:
+    if options.quads and {"loading", "queries"} & set(options.tables):
         summarize(page, options, loads, answers)
     if "loading" in options.tables:
         page.record("loading", plain({quads: loads[quads] for quads in options.quads}))
