@@ -2,8 +2,8 @@
 """Tests the files of a release: two runs of ./package give the same bytes, and the archives hold what they should.
 
     package.py PROGRAM              packs the program twice, in folders of other names, with another umask
-    package.py PROGRAM --rebuild    also builds the program again from a clone in another folder, and compares the executables;
-                                    takes minutes
+    package.py PROGRAM --rebuild    also proves and builds the program again in a clone in another folder, and compares the
+                                    executables; takes minutes
 
 Unpacks the tar archive, runs the executable, and checks the sums. Where dpkg-deb is installed, it reads the package too.
 """
@@ -55,11 +55,16 @@ def package_faults(folder, files):
 
 
 def rebuilt(room):
-    """Builds the program of this revision in another folder, and returns its path."""
+    """Proves and builds the program again, in a clone in another folder, and returns its path.
+
+    The kit keeps what it built of a text. So the clone's main file gets a comment that no earlier build had.
+    """
     clone = f"{room}/another folder"
     subprocess.run(["git", "clone", "--quiet", ROOT, clone], check=True)
-    subprocess.run(["rt", "run", "--", "--version"], cwd=f"{clone}/crates/spq", stdin=subprocess.DEVNULL, stdout=subprocess.DEVNULL)
-    return f"{clone}/crates/spq/out/spq"
+    with open(f"{clone}/crates/spq/src/main.rt", "a", encoding="utf-8") as file:
+        file.write(f"// Built again in {os.path.basename(room)}.\n")
+    subprocess.run([f"{clone}/install", f"{room}/bin"], check=True, stdout=subprocess.DEVNULL)
+    return f"{clone}/out/spq"
 
 
 def main():
