@@ -122,7 +122,7 @@ def known_faults():
 def diagram_faults():
     """Returns a line for each crate that the diagram does not show, and one if it is not drawn anew. Test crates are not shown."""
     drawn = set(re.findall(r"\w+", diagram.svg()))
-    faults = [f"tests/diagram.py: the crate {it} is missing" for it in crates() if it not in drawn and it not in calls.INNER - {"spq"}]
+    faults = [f"tests/diagram.py: the crate {it} is missing" for it in crates() if it not in drawn and it not in calls.INNER - calls.PROGRAMS]
     return faults if read(diagram.DIAGRAM) == diagram.svg() else faults + [f"{diagram.DIAGRAM}: is not what tests/diagram.py draws"]
 
 
