@@ -40,6 +40,14 @@ pages:
     tests/pages.py --write
     tests/words.py
 
+# write out/API.md and out/CONTRACTS.md: each call of the main interface with its clauses, tests and mutants
+api:
+    tests/pages.py --out
+
+# write out/MUTANTS.md: all mutants, crate by crate
+mutant-tables:
+    tests/pages.py --out
+
 # run the commands that README and docs show with their output, and the queries of docs/USAGE.md, with the built program
 tour program='crates/spq/out/spq':
     tests/tour.py {{program}}
@@ -61,6 +69,19 @@ refusals:
 # compare loading with other programs
 bench quads='100000':
     bench/compare.py --tables loading --quads {{quads}}
+
+# measure everything with the built program, keep the figures in bench/results.json, and put them into the pages
+measure oxigraph='oxigraph':
+    bench/compare.py --oxigraph {{oxigraph}} --runs 10 --budget 30 --write bench
+    tests/pages.py --write
+
+# run the test suites of the W3C with the built program, fetching them from Debian's source package of rdflib first
+w3c program='crates/spq/out/spq':
+    tests/w3c.py out/w3c {{program}} --fetch
+
+# make the files of a release in out/dist from a proved build: a tar archive, a Debian package, their sums, a note
+package *program:
+    ./package "$@"
 
 # prove, build and install spq
 install folder='~/.local/bin':

@@ -7,6 +7,7 @@
 
 Prints tables of time and peak memory:
 
+- memory: the peak of spq for the kinds of document of memory.py;
 - loading: `spq check`, `spq terms` and the programs of peers.py that parse or load a document;
 - queries: the queries of queries.py with `spq select` and the engines of peers.py, each from document to JSON;
 - growth: loading of documents of increasing size;
@@ -15,7 +16,8 @@ Prints tables of time and peak memory:
 The commands of a table run in rounds. Each round runs every command once, so that noise affects all of them. A table
 has the least time and the highest peak of each command. Compare ratios within a table, not seconds of different runs.
 With --baseline, each command of spq also runs with that executable, and further tables show the change.
-With --write, the tables replace those of RESULTS.md, and the figures and plots are written next to that page.
+With --write, the figures of the measured tables replace those of results.json in a folder, and the plots are drawn there.
+results.json is the source of each figure of the pages: tests/pages.py --write puts them there.
 Python 3 standard library only; the plots need matplotlib.
 """
 import argparse
@@ -26,13 +28,14 @@ import sys
 import tempfile
 
 import measure
+import memory
 import peers
 import report
 from measure import Command, Measurement
 from queries import PREFIX, QUERIES
 from report import Report, plain, workers
 
-TABLES = ["loading", "queries", "growth"]
+TABLES = ["memory", "loading", "queries", "growth"]
 
 
 class Bench:
@@ -121,24 +124,29 @@ def compare(options, folder):
     tools = peers.find_tools(folder, options.oxigraph)
     page = Report(heading(options, tools))
     loads, answers = {}, {}
+    if "memory" in options.tables:
+        place = options.folder or folder
+        page.record("memory", {quads: memory.peaks(options.programs["spq"], quads, place) for quads in options.quads[-1:]})
     for quads in sorted({*options.quads, *options.growth}):
         bench = Bench(options, tools, quads, folder)
         title = f"{quads:,} quads, {os.path.getsize(bench.path) / 1e6:.0f} MB"
+        page.megabytes[quads] = os.path.getsize(bench.path) / 1e6
         loads[quads] = load(bench)
         if quads in options.quads and "loading" in options.tables:
-            add(page, "loading", title, report.loading(loads[quads], quads), loads[quads])
+            add(page, title, report.loading(loads[quads], quads), loads[quads])
         if quads in options.quads and "queries" in options.tables:
             answers[quads] = answer(bench, loads[quads].get(peers.OXIGRAPH_LOAD))
-            add(page, "queries", title, report.queries(answers[quads], quads), report.by_query(answers[quads]))
+            add(page, title, report.queries(answers[quads], quads), report.by_query(answers[quads]))
     if options.growth:
-        page.add("growth", "Loading by size", report.growth({quads: loads[quads] for quads in options.growth}))
-    if options.quads:
+        page.show("Loading by size", report.growth({quads: loads[quads] for quads in options.growth}))
+    if options.quads and {"loading", "queries"} & set(options.tables):
         summarize(page, options, loads, answers)
-    page.figures = {
-        "loading": plain({quads: loads[quads] for quads in options.quads if "loading" in options.tables}),
-        "queries": plain(answers),
-        "growth": plain({quads: loads[quads] for quads in options.growth}),
-    }
+    if "loading" in options.tables:
+        page.record("loading", plain({quads: loads[quads] for quads in options.quads}))
+    if "queries" in options.tables:
+        page.record("queries", plain(answers))
+    if options.growth:
+        page.record("growth", plain({quads: loads[quads] for quads in options.growth}))
     return page
 
 
@@ -152,17 +160,17 @@ def heading(options, tools):
     return "".join(f"{line}.\n" for line in lines if line)
 
 
-def add(page, section, title, table, results):
-    """Adds a table to a section and, if there is a baseline, the table of the changes."""
-    page.add(section, title, table)
+def add(page, title, table, results):
+    """Prints a table and, if there is a baseline, the table of the changes."""
+    page.show(title, table)
     if report.pairs(results):
-        page.add(section, f"{title}, change from the baseline", report.changes(results))
+        page.show(f"{title}, change from the baseline", report.changes(results))
 
 
 def summarize(page, options, loads, answers):
     quads = max(options.quads)
     table = report.summary(loads, answers.get(quads, {}), quads, options.workers[0], options.workers[-1])
-    page.add("summary", f"{quads:,} quads", table)
+    page.show(f"{quads:,} quads", table)
 
 
 def numbers(text):
@@ -178,7 +186,7 @@ def parse_options():
     parser.add_argument("--spq", default=measure.SPQ)
     parser.add_argument("--baseline", help="another spq executable, measured in the same rounds")
     parser.add_argument("--oxigraph", default="oxigraph", help="Oxigraph's executable (default: the one on the PATH)")
-    parser.add_argument("--tables", type=names, default=TABLES, help="some of loading, queries, growth")
+    parser.add_argument("--tables", type=names, default=TABLES, help="some of memory, loading, queries, growth")
     parser.add_argument("--only", type=names, default=[""], help="measure commands with one of these in their name")
     parser.add_argument("--quads", type=numbers, default=[100_000, 1_000_000], help="sizes for loading and queries")
     parser.add_argument("--growth", type=numbers, default=[100_000, 300_000, 1_000_000, 3_000_000, 10_000_000],
@@ -189,7 +197,7 @@ def parse_options():
     parser.add_argument("--limit", type=int, default=600, help="seconds after which a run is killed")
     parser.add_argument("--rdflib-most", type=int, default=100_000, help="largest dataset, in quads, for rdflib")
     parser.add_argument("--folder", help="keep the datasets here (default: a temporary folder)")
-    parser.add_argument("--write", help="write the tables, figures and plots into this folder")
+    parser.add_argument("--write", help="write results.json and the plots into this folder")
     options = parser.parse_args()
     if not set(options.tables) <= set(TABLES):
         parser.error(f"--tables: {', '.join(TABLES)}")
@@ -198,7 +206,7 @@ def parse_options():
         options.programs["baseline"] = measure.program(options.baseline)
     if "growth" not in options.tables:
         options.growth = []
-    if not {"loading", "queries"} & set(options.tables):
+    if not {"memory", "loading", "queries"} & set(options.tables):
         options.quads = []
     return options
 

@@ -191,11 +191,3 @@ def ratio(part, whole):
     if not whole:
         return ""
     return f"{part / whole:.2f}" if part >= whole else f"{part / whole:.3f}"
-
-
-def fill(page, name, text):
-    """Replaces what is between the comments `<!-- NAME -->` and `<!-- end of NAME -->` of a page."""
-    begin, end = f"<!-- {name} -->\n", f"<!-- end of {name} -->\n"
-    before, rest = page.split(begin)
-    _, after = rest.split(end)
-    return f"{before}{begin}\n{text.strip()}\n\n{end}{after}"

@@ -54,8 +54,8 @@ def loaders(tools, path, folder):
         ("plain_reader.rs", "plain Rust reader, terms and quads", ["read"]),
         ("plain_reader.rs", "plain Rust loader, numbered and sorted", ["load"]),
         ("rdflib", "rdflib, load into its store", [path]),
-        # (of a file with --file, Oxigraph 0.5 reads parts in parallel, and a blank node label of two parts is two nodes)
-        ("Oxigraph", OXIGRAPH_LOAD, ["load", "--location", store, "--format", "nq"]),
+        # (its bulk loader reads parts of the file in parallel, and a blank node label of two parts is two nodes)
+        ("Oxigraph", OXIGRAPH_LOAD, ["load", "--location", store, "--format", "nq", "--file", path]),
     ]
     return [Command(name, tools[tool] + arguments, store if tool == "Oxigraph" else None)
             for tool, name, arguments in rows if tools[tool]]

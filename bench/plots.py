@@ -3,7 +3,7 @@
 
     plots.py FIGURES FOLDER
 
-FIGURES is the file compare.json that `compare.py --write` writes. A plot without figures is left out.
+FIGURES is the file results.json that `compare.py --write` writes. A plot without figures is left out.
 Needs matplotlib (Debian: python3-matplotlib).
 """
 import json
@@ -52,7 +52,7 @@ def load_time(quads, results):
 def peak_memory(quads, results):
     shown = without_baseline(results)
     values = {name: it["peak"] for name, it in shown.items()}
-    texts = {name: f"at most {math.ceil(it['peak'])}" if it["is_limit"] else f"{it['peak']:.0f}" for name, it in shown.items()}
+    texts = {name: f"at most {math.ceil(it['peak'])}" if it.get("is_limit") else f"{it['peak']:.0f}" for name, it in shown.items()}
     return bars(f"Peak memory, {quads:,} quads", "MiB", values, texts)
 
 
@@ -73,7 +73,7 @@ def growth(sizes):
     for name in dict.fromkeys(name for results in sizes.values() for name in results):
         points = [(quads, results[name]) for quads, results in sizes.items() if name in results]
         time.plot([quads for quads, _ in points], [it["seconds"] for _, it in points], marker="o", label=name)
-        peaks = [(quads, it["peak"] * 2 ** 20 / quads if not it["is_limit"] else math.nan) for quads, it in points]
+        peaks = [(quads, it["peak"] * 2 ** 20 / quads if not it.get("is_limit") else math.nan) for quads, it in points]
         memory.plot([quads for quads, _ in peaks], [it for _, it in peaks], marker="o")
     time.set(title="Time to load or parse", xlabel="quads", ylabel="seconds", xscale="log", yscale="log")
     memory.set(title="Peak memory per quad", xlabel="quads", ylabel="bytes per quad", xscale="log", ylim=(0, None))
@@ -83,13 +83,14 @@ def growth(sizes):
     return figure
 
 
-def by_size(figures):
-    return {int(quads): results for quads, results in figures.items()}
+def by_size(results, section):
+    return {int(quads): it for quads, it in results.get(section, {}).get("sizes", {}).items()}
 
 
 def main():
     with open(sys.argv[1]) as source:
-        figures = {section: by_size(sizes) for section, sizes in json.load(source).items()}
+        results = json.load(source)
+    figures = {section: by_size(results, section) for section in ("loading", "queries", "growth")}
     plots = {}
     if figures["loading"]:
         quads, results = max(figures["loading"].items())

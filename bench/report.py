@@ -1,4 +1,4 @@
-"""The tables of compare.py, as Markdown, and the files that it writes.
+"""The tables of compare.py, as Markdown, and the file of results that it writes.
 
 A result is the measurement of a command or its failure. Results are kept in dictionaries by the name of the command.
 Python 3 standard library only; the plots need matplotlib.
@@ -16,48 +16,60 @@ from measure import Failed, Measurement
 # How the names of commands begin: those of spq and the baseline, and those in the table of growth.
 OWN = ("spq", "baseline")
 GROWTH = ("lower bound", "serdi", "Oxigraph", "spq check", "baseline check")
-PLOTS = {"loading": ["load-time", "peak-memory"], "growth": ["growth"]}
 
 
 class Report:
-    """The tables of each section (loading, queries, growth, summary), and the figures in them."""
+    """Prints the tables of a run and keeps its figures, by section: memory, loading, queries, growth."""
 
     def __init__(self, heading):
         print(f"{heading}\n")
-        self.heading, self.texts, self.figures = heading, {}, {}
+        self.heading, self.megabytes, self.figures = heading, {}, {}
 
-    def add(self, section, title, table):
-        """Prints a table and adds it to a section."""
+    def show(self, title, table):
         print(f"{title}:\n\n{table}", flush=True)
-        self.texts.setdefault(section, [self.heading]).append(f"{title}:\n\n{table}")
+
+    def record(self, section, sizes):
+        """Keeps the figures of a section, by number of quads."""
+        if sizes:
+            self.figures[section] = {"heading": self.heading.strip().split("\n"), "sizes": sizes}
 
     def write(self, folder):
-        """Writes the figures into compare.json, draws the plots, and replaces the sections of RESULTS.md.
-
-        If the folder has no RESULTS.md, it gets a copy of the page of this folder.
-        """
+        """Replaces the sections of results.json in a folder that this run measured, and draws the plots."""
         os.makedirs(folder, exist_ok=True)
-        figures, page = os.path.join(folder, "compare.json"), os.path.join(folder, "RESULTS.md")
-        with open(figures, "w") as out:
-            json.dump(self.figures, out, indent=1)
-        plots = PLOTS if draw(figures, folder) else {}
-        with open(page if os.path.exists(page) else os.path.join(measure.HERE, "RESULTS.md")) as source:
-            text = source.read()
-        for section, parts in self.texts.items():
-            images = [f"![{plot.replace('-', ' ')}]({plot}.svg)" for plot in plots.get(section, [])]
-            text = measure.fill(text, section, "\n\n".join(part.strip() for part in [*parts, *images]))
-        with open(page, "w") as out:
-            out.write(text)
+        path = os.path.join(folder, "results.json")
+        results = {}
+        if os.path.exists(path):
+            with open(path) as source:
+                results = json.load(source)
+        results.setdefault("megabytes", {}).update({str(quads): round(size, 1) for quads, size in self.megabytes.items()})
+        results.update(self.figures)
+        with open(path, "w") as out:
+            out.write(as_lines(results))
+        draw(path, folder)
+
+
+def as_lines(value, indent=""):
+    """Returns a value as JSON with one line for each measurement."""
+    is_flat = not isinstance(value, dict) or not any(isinstance(it, (dict, list)) for it in value.values())
+    if is_flat:
+        return json.dumps(rounded(value), ensure_ascii=False) + ("" if indent else "\n")
+    inner = ",\n".join(f"{indent} {json.dumps(str(name), ensure_ascii=False)}: {as_lines(it, indent + ' ')}" for name, it in value.items())
+    return f"{{\n{inner}\n{indent}}}" + ("" if indent else "\n")
+
+
+def rounded(value):
+    if isinstance(value, dict):
+        return {name: rounded(it) for name, it in value.items() if it is not None and it is not False}
+    return round(value, 4) if isinstance(value, float) else value
 
 
 def draw(figures, folder):
-    """Draws the plots if one of the Pythons has matplotlib, and returns whether it has."""
+    """Draws the plots if one of the Pythons has matplotlib."""
     python = peers.python_with("matplotlib")
     if python is None:
         print("matplotlib is not installed: no plots are drawn.")
-        return False
+        return
     subprocess.run([python, os.path.join(measure.HERE, "plots.py"), figures, folder], check=True)
-    return True
 
 
 def plain(results):

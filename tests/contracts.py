@@ -1,12 +1,12 @@
-"""The table rows of docs/CONTRACTS.md.
+"""The table rows of docs/CONTRACTS.md, and the longer page out/CONTRACTS.md.
 
-A person writes the first three cells of a row: the promise, the calls and the clauses. The other three are generated:
-the definitions that these clauses cite, tests that call the calls, and mutants that change them.
+A row of the first has the promise, the calls and the clauses. The second adds three generated cells: the definitions that
+these clauses cite, tests that call the calls, and mutants that change them.
 """
 import re
 
-PAGE = "docs/CONTRACTS.md"
-HEAD = "| promise | call | clauses | definitions | tests | mutants |"
+PAGE, OUT = "docs/CONTRACTS.md", "out/CONTRACTS.md"
+HEAD, LONG_HEAD = "| promise | call | clauses |", "| promise | call | clauses | definitions | tests | mutants |"
 CALL = re.compile(r"`(\w+)::([\w:]+)`")
 # How many tests and mutants a row names; it counts the others.
 MOST = 2
@@ -26,7 +26,7 @@ def unique(items):
 
 
 def rewritten(page, lookup):
-    """Returns the page with the generated cells as the sources have them, and a line for each fault of the others.
+    """Returns the page with the generated cells added, and a line for each fault of the others.
 
     `lookup(crate, path)` returns the clauses of a call with the definitions that each cites, its tests and its mutants, or
     None if there is no such call.
@@ -35,7 +35,7 @@ def rewritten(page, lookup):
     for number, line in enumerate(page.split("\n"), 1):
         inside = line == HEAD or inside and line.startswith("|")
         if not inside or line == HEAD or line.startswith("|---"):
-            lines.append(line)
+            lines.append(LONG_HEAD if line == HEAD else line + "---|" * 3 if inside else re.sub(r"\]\((?=[A-Z]|definitions)", "](../docs/", line))
             continue
         promise, calls, clauses = cells_of(line)[:3]
         found = [(f"{crate}::{path}", lookup(crate, path)) for crate, path in CALL.findall(calls)]

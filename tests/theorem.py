@@ -13,7 +13,7 @@ PAGE = "docs/THEOREM.md"
 OUTCOME = "crates/spq_core/specs/Outcome.antt"
 # The two calls of the theorem.
 CALLS = {"answer": "src/answering.rt", "run_words": "src/words.rt"}
-USE = re.compile(r"^use Rattle\.([\w.'-]+?)(?:\.\{[^}]*\}| as \w+)?$", re.M)
+USE = re.compile(r"^(?:pub )?use Rattle\.([\w.'-]+?)(?:\.\{[^}]*\}| as \w+)?$", re.M)
 ROW = re.compile(r"^\| `(.+?)` \| (.+) \|$", re.M)
 
 
@@ -119,17 +119,6 @@ def count_lines(path):
     return len(read(path).splitlines())
 
 
-def about(path):
-    """Returns the first sentence of the comment that opens a file."""
-    comment = []
-    for line in read(path).split("\n"):
-        if not line.startswith("--"):
-            break
-        comment.append(line[2:].strip())
-    sentence = re.split(r"(?<=[^.]\.)\s", " ".join(comment), maxsplit=1)[0]
-    return sentence.replace("|", "\\|")
-
-
 def crate_of(path):
     return path.split("/")[1]
 
@@ -148,34 +137,34 @@ def layers(paths):
 
 
 def table_of(paths):
-    layer = layers(paths)
-    lines = ["| layer | definition file | lines | opens with |", "|---|---|---|---|"]
-    for path in sorted(paths, key=lambda it: (layer[crate_of(it)], crate_of(it), height(it), it)):
-        name = os.path.basename(path).removesuffix(".antt")
-        lines.append(f"| {layer[crate_of(path)]} | [{crate_of(path)}/{name}](../{path}) | {count_lines(path)} | {about(path)} |")
+    """Returns a row for each crate, the lowest first, with its definition files. An asterisk marks those that only `run_words` needs."""
+    layer, of_answer = layers(paths), all_below(cited_by_call("answer"))
+    lines = ["| layer | crate | definition files | lines |", "|---|---|---|---|"]
+    for crate in sorted(layer, key=lambda it: (layer[it], it)):
+        own = sorted((it for it in paths if crate_of(it) == crate), key=lambda it: (height(it), it))
+        names = [name_of(it) + ("" if it in of_answer else "*") for it in own]
+        lines.append(f"| {layer[crate]} | [{crate}](../crates/{crate}/specs) | {', '.join(names)} | {sum(map(count_lines, own)):,} |")
     return lines
 
 
-def total(paths):
-    return f"{len(paths)} files, {sum(map(count_lines, paths)):,} lines."
+def name_of(path):
+    return path.partition("/specs/")[2].removesuffix(".antt")
 
 
-def answer_files_part():
-    paths = all_below(cited_by_call("answer"))
-    return [total(paths), "", *table_of(paths), ""]
-
-
-def run_files_part():
-    paths = all_below(cited_by_call("run_words")) - all_below(cited_by_call("answer"))
-    return [total(paths), "", *table_of(paths), ""]
+def files_part():
+    """Returns the definition files on which the contracts of the two calls depend."""
+    of_answer = all_below(cited_by_call("answer"))
+    paths = of_answer | all_below(cited_by_call("run_words"))
+    own = len(paths) - len(of_answer)
+    total = f"{len(paths)} files `crates/CRATE/specs/NAME.antt`, {sum(map(count_lines, paths)):,} lines."
+    return [f"{total} With an asterisk: {own} files that `run_words` depends on and `answer` does not.", "", *table_of(paths), ""]
 
 
 PARTS = {
     "answer": lambda: quote("answer"),
     "run_words": lambda: quote("run_words"),
     "outcome": outcome_part,
-    "answer_files": answer_files_part,
-    "run_files": run_files_part,
+    "files": files_part,
 }
 
 

@@ -39,7 +39,7 @@ NOT_RUN = [
     ("bench/README.md", "apt-get install raptor2-utils", "installs packages"),
     ("bench/README.md", "bench/compare.py --tables growth", "benchmarks"),
     ("bench/README.md", "bench/compare.py --baseline", "benchmarks"),
-    ("bench/README.md", "bench/compare.py --oxigraph", "benchmarks"),
+    ("bench/README.md", "just measure", "benchmarks"),
     ("bench/README.md", "bench/queries.py --only join", "benchmarks"),
     ("distributed/README.md", "spq-dask terms ", "the forms of the command line"),
     ("distributed/README.md", "apt-get install python3-distributed", "installs packages; needs Dask"),
@@ -47,7 +47,7 @@ NOT_RUN = [
     ("distributed/README.md", "spq-dask check --scheduler", "needs Dask and other machines"),
     ("distributed/README.md", "distributed/tests/run out/spq", "the tests of spq-dask"),
     ("docs/PARTS.md", "spq-dask terms --quiet", "distributed/tests/test_commands.py runs them; needs Dask"),
-    ("docs/RECIPES.md", "systemd-run --user", "needs systemd"),
+    ("docs/GUIDE.md", "systemd-run --user", "needs systemd"),
 ]
 # A block of commands and what it holds. It may be in a list.
 BLOCK = re.compile(r"^ *```(?:sh|bash|shell|console)\b[^\n]*\n(.*?)^ *```$", re.S | re.M)

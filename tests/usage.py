@@ -24,7 +24,7 @@ LIMITS = {"workers": ("MOST_WORKERS", "WORKERS"), "piece": ("MOST_BYTES", "BYTES
 
 def read(path):
     with open(f"{ROOT}/{path}", encoding="utf-8") as file:
-        return file.read()
+        return re.sub(r"<!--.*?-->", "", file.read(), flags=re.S)
 
 
 def tables(page):

@@ -1,0 +1,220 @@
+"""The figures of time and memory on the pages: each is taken from results.json, which compare.py writes.
+
+A page has them in generated parts (`<!-- generated: NAME, by tests/pages.py -->`, tables and paragraphs) and in phrases
+(`<!-- figure: NAME -->TEXT<!-- end -->`). `PARTS` and `PHRASES` make both, and `faults` reports a figure of time or memory that
+is written by hand on one of the `PAGES`.
+"""
+import functools
+import json
+import os
+import re
+
+import report
+from measure import Measurement, markdown, ratio
+
+HERE = os.path.dirname(os.path.abspath(__file__))
+PAGES = ["README.md", "docs/COST.md", "docs/COMPARISON.md", "docs/USAGE.md", "bench/RESULTS.md"]
+# Texts that are no measurements but parts of the design.
+CONSTANTS = ["64 MiB", "4 MiB", "2 MiB", "4 KiB", "128 KiB", "10 MB", "8 GB", "200 milliseconds"]
+UNIT = r"(?:seconds?|milliseconds?|minutes?|min|ms|MiB|KiB|GiB|MB|GB|bytes (?:a|per|for each) \w+|times (?:as long|its size|the size))"
+FIGURE = re.compile(rf"\b\d[\d.,]*(?:(?: to | and |, | or |-)\d[\d.,]*)*[  ]?{UNIT}\b")
+PHRASE = re.compile(r"(<!-- figure: ([\w-]+) -->).*?(<!-- end -->)", re.S)
+HIDDEN = re.compile(r"<!-- generated: .*?<!-- end of the generated part -->|<!-- figure: .*?<!-- end -->|^ *```.*?^ *```|`[^`\n]*`", re.S | re.M)
+LARGEST = "path of four"
+OTHERS = {"serdi": "serdi, parse and print", "serd": "serd's library, parse", "rapper": "rapper, parse", "riot": "riot, parse", "Oxigraph": "Oxigraph, load into its store"}
+# Gigabytes of memory (10^9 bytes) for which the table says how many statements fit. A tenth is left to the system.
+SIZES, SHARE = (8, 16, 64, 256), 0.9
+
+
+@functools.lru_cache(maxsize=None)
+def results():
+    with open(f"{HERE}/results.json", encoding="utf-8") as file:
+        return json.load(file)
+
+
+def measured(value):
+    """Returns the measurements of a dictionary from names."""
+    return {name: Measurement(**it) for name, it in value.items()}
+
+
+def section(name):
+    """Returns the figures of a section by number of quads."""
+    return {int(quads): it for quads, it in results()[name]["sizes"].items()}
+
+
+def largest(name):
+    """Returns the largest number of quads of a section, and its figures."""
+    return max(section(name).items())
+
+
+@functools.lru_cache(maxsize=None)
+def loads():
+    return measured(largest("loading")[1])
+
+
+@functools.lru_cache(maxsize=None)
+def answers():
+    return {query: measured(it) for query, it in largest("queries")[1].items()}
+
+
+@functools.lru_cache(maxsize=None)
+def memory():
+    """Returns the bytes for each statement by kind of document, or nothing if they were not measured."""
+    return largest("memory")[1] if "memory" in results() else {}
+
+
+def spq(n):
+    return [it[f"spq, {report.workers(n)}"] for it in answers().values()]
+
+
+def between(values, form):
+    """Returns the least and the highest of some values, as `A to B`."""
+    least, most = form.format(min(values)), form.format(max(values))
+    return least if least == most else f"{least} to {most}"
+
+
+def heading(name):
+    return "\n".join(results()[name]["heading"])
+
+
+def megabytes(quads):
+    return f"{results()['megabytes'][str(quads)]:.0f} MB"
+
+
+# The parts.
+
+
+def readme_speed():
+    """The table of README.md: the quickest first."""
+    rows = [
+        ("`spq check`, 4 workers: parse, number the terms, sort", loads().get("spq check, 4 workers")),
+        (f"`spq select`, 4 workers: index, a join of {answers()[LARGEST]['spq, 4 workers'].rows:,} rows", answers()[LARGEST]["spq, 4 workers"]),
+        ("`spq check`, 1 worker", loads().get("spq check, 1 worker")),
+        ("serd's library: parse", loads().get(OTHERS["serd"])),
+        ("serdi: parse and print", loads().get(OTHERS["serdi"])),
+        ("Oxigraph: load, the same join", answers()[LARGEST].get("Oxigraph")),
+    ]
+    found = sorted(((text, it) for text, it in rows if it), key=lambda row: row[1].seconds)
+    quads = largest("loading")[0]
+    runs = max(it.runs for it in loads().values())
+    return [f"{quads:,} statements, {megabytes(quads)}, 4 cores, best of {runs} (Oxigraph: {loads()[OTHERS['Oxigraph']].runs}), one run ([all](bench/RESULTS.md)):" if OTHERS["Oxigraph"] in loads()
+            else f"{quads:,} statements, {megabytes(quads)}, 4 cores, best of {runs}, one run ([all](bench/RESULTS.md)):", "",
+            *markdown(["", "seconds", "peak MiB"], [[text, f"{it.seconds:.2f}", report.peak(it)] for text, it in found]).splitlines()]
+
+
+def comparison_loading():
+    names = {"spq check, 4 workers": "`spq check`, 4 workers", OTHERS["serd"]: "serd's library, parse only", "spq check, 1 worker": "`spq check`, 1 worker",
+             OTHERS["serdi"]: "`serdi`, parse and print", OTHERS["rapper"]: "`rapper`, parse only", OTHERS["riot"]: "`riot`, parse only", OTHERS["Oxigraph"]: "Oxigraph, load into its store on disk"}
+    found = sorted(((text, loads()[name]) for name, text in names.items() if name in loads()), key=lambda row: row[1].seconds)
+    quads = largest("loading")[0]
+    one, many, serd = loads()["spq check, 1 worker"], loads()["spq check, 4 workers"], loads().get(OTHERS["serd"])
+    lines = [f"{quads:,} quads, {megabytes(quads)}, one run:", "",
+             *markdown(["command", "seconds", "CPU seconds", "peak MiB"], [[text, f"{it.seconds:.2f}", f"{it.cpu:.2f}", report.peak(it)] for text, it in found]).splitlines(), ""]
+    if serd:
+        lines.append(f"With one worker `spq check` takes {ratio(one.seconds, serd.seconds)} times as long as serd's library, with four workers {ratio(many.seconds, serd.seconds)} times.")
+    return lines
+
+
+def comparison_queries():
+    """What the other engines need for the queries, relative to spq with four workers."""
+    quads, found = largest("queries")[0], answers()
+    lines = [f"{len(found)} queries over {quads:,} quads, each from the bytes of the document to the JSON:", ""]
+    rows = [["spq, 4 workers", between([it.seconds for it in spq(4)], "{:.2f}"), between([it.peak for it in spq(4)], "{:.0f}"), "1"]]
+    for engine in ("Oxigraph", "arq", "rdflib"):
+        pairs = [(it[engine], it["spq, 4 workers"]) for it in found.values() if engine in it]
+        if pairs:
+            name = "Oxigraph, load and query" if engine == "Oxigraph" else engine
+            rows.append([name, between([it.seconds for it, _ in pairs], "{:.1f}"), between([it.peak for it, _ in pairs], "{:.0f}"),
+                         between([it.seconds / own.seconds for it, own in pairs], "{:.0f}")])
+    return lines + markdown(["engine", "seconds", "peak MiB", "times as long as spq"], rows).splitlines()
+
+
+def cost_memory():
+    """Bytes for each statement by kind of document, and how many statements fit into a memory."""
+    if not memory():
+        return ["Not measured."]
+    quads = largest("memory")[0]
+    rows = [[kind, f"{it['document']:.0f}", f"{it['check']:.0f}", f"{it['select']:.0f}"] for kind, it in memory().items()]
+    lines = [f"Peak memory, {quads:,} distinct statements of one kind, four workers, in bytes for each statement:", "",
+             *markdown(["document", "size of the document", "`check`", "`select`"], rows).splitlines(), ""]
+    lines += ["With this much memory, so many millions of statements, if a tenth of the memory is left to the system:", ""]
+    sizes = [[kind, *(" / ".join(f"{size * 1e9 * SHARE / it[name] / 1e6:.0f}" for name in ("check", "select")) for size in SIZES)] for kind, it in memory().items()]
+    return lines + markdown(["document: `check` / `select`", *(f"{size} GB" for size in SIZES)], sizes).splitlines()
+
+
+def results_summary():
+    quads, found = largest("loading")
+    return report.summary({quads: loads(), **growths()}, answers(), quads, 1, 4).splitlines()
+
+
+def growths():
+    return {quads: measured(it) for quads, it in section("growth").items() if quads not in section("loading")} if "growth" in results() else {}
+
+
+def results_loading():
+    quads = largest("loading")[0]
+    return [heading("loading"), "", f"{quads:,} quads, {megabytes(quads)}:", "", *report.loading(loads(), quads).splitlines(), "",
+            "![load time](load-time.svg)", "", "![peak memory](peak-memory.svg)"]
+
+
+def results_queries():
+    quads = largest("queries")[0]
+    same = "" if heading("queries") == heading("loading") else heading("queries") + "\n\n"
+    return [f"{same}{quads:,} quads, {megabytes(quads)}:", "", *report.queries(answers(), quads).splitlines()]
+
+
+def results_growth():
+    if "growth" not in results():
+        return ["Not measured."]
+    same = "" if heading("growth") == heading("loading") else heading("growth") + "\n\n"
+    sizes = {quads: measured(it) for quads, it in section("growth").items()}
+    return [f"{same}Loading by size:", "", *report.growth(sizes).splitlines(), "", "![growth](growth.svg)"]
+
+
+PARTS = {
+    "readme_speed": readme_speed, "comparison_loading": comparison_loading, "comparison_queries": comparison_queries,
+    "cost_memory": cost_memory, "results_summary": results_summary, "results_loading": results_loading,
+    "results_queries": results_queries, "results_growth": results_growth,
+}
+
+
+# The phrases.
+
+
+def memory_range(command):
+    if not memory():
+        return "several hundred bytes for each statement"
+    return between([it[command] for it in memory().values()], "{:.0f}") + " bytes for each statement"
+
+
+def minutes(name):
+    times = results()["proof"][name]
+    words = {"2": "two", "4": "four", "8": "eight"}
+    return ", ".join(f"{it} minutes on {words[n]} cores" for n, it in sorted(times.items(), key=lambda pair: -int(pair[0])))
+
+
+PHRASES = {
+    "select-seconds": lambda: between([it.seconds for it in spq(4)], "{:.1f}") + " seconds",
+    "select-memory": lambda: memory_range("select"),
+    "check-memory": lambda: memory_range("check"),
+    "install-minutes": lambda: minutes("install minutes"),
+    "gate-minutes": lambda: minutes("gate minutes"),
+    "serdi-memory": lambda: report.peak(loads()[OTHERS["serdi"]]) + " MiB",
+    "rapper-memory": lambda: report.peak(loads()[OTHERS["rapper"]]) + " MiB",
+    "document-size": lambda: megabytes(largest("loading")[0]),
+}
+
+
+def filled(page):
+    """Returns a page with its phrases as results.json has them."""
+    return PHRASE.sub(lambda found: found[1] + PHRASES[found[2]]() + found[3], page)
+
+
+def faults(path, page):
+    """Returns a line for each figure of time or memory that is written by hand."""
+    text = HIDDEN.sub(lambda found: re.sub(r"[^\n]", " ", found[0]), page)
+    found = []
+    for number, line in enumerate(text.split("\n"), 1):
+        hits = [it[0] for it in FIGURE.finditer(line) if it[0].strip() not in CONSTANTS]
+        found += [f"{path}:{number}: the figure '{it}' is written by hand; take it from bench/results.json (bench/figures.py)" for it in hits]
+    return found
