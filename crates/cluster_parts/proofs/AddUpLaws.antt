@@ -110,10 +110,10 @@ module _ (found : List QuadParts → List Term) where
   counted k quads n count good c =
       let texts = spread k quads n in
       let all : Each IsNQuadsTerm texts = Each-flat_map (λ qs. Each IsNQuadsTerm (found qs)) IsNQuadsTerm (λ qs. terms_in k n (without_repeats term_eq (found qs)))
-          (λ qs h. Each-filter IsNQuadsTerm (λ t. is_in k n (term_hash t)) (without_repeats term_eq (found qs)) (Each-without_repeats IsNQuadsTerm term_eq (found qs) h)) quads good in
+      (λ qs h. Each-filter IsNQuadsTerm (λ t. is_in k n (term_hash t)) (without_repeats term_eq (found qs)) (Each-without_repeats IsNQuadsTerm term_eq (found qs) h)) quads good in
       let whole : document k quads n ≡ term_document texts = joined-map (λ qs. terms_in k n (without_repeats term_eq (found qs))) term_statement quads in
       let read : c.quads ≡ map with_object texts = one_reading (lines (term_document texts)) c.quads (map with_object texts)
-          (subst (λ d. HaveStatements (lines d) c.quads) whole c.statements) (terms_read texts all) in
+      (subst (λ d. HaveStatements (lines d) c.quads) whole c.statements) (terms_read texts all) in
       c.counted ∙ ap (λ l. length (without_repeats same_parts l)) read
       ∙ ap length (without_repeats-map term_eq same_parts with_object same_object texts)
       ∙ length-map (without_repeats term_eq texts) with_object
@@ -144,7 +144,7 @@ each_names (qs ∷ quads) h = (names_of_lines qs h.0, each_names quads h.1)
 pub terms_add_up : TermsAddUp
 terms_add_up k blocks quads counts some h c =
     add_up terms_of k quads counts some (each_terms quads (block_quads blocks quads h.statements))
-        (λ n. subst (λ (f : List Term → List Term). IsCountOf (joined_texts (map (λ qs. term_document (terms_in k n (f (terms_of qs)))) quads)) (counts n)) (λ i ts. appearances_once ts i) (c n))
+    (λ n. subst (λ (f : List Term → List Term). IsCountOf (joined_texts (map (λ qs. term_document (terms_in k n (f (terms_of qs)))) quads)) (counts n)) (λ i ts. appearances_once ts i) (c n))
     ∙ ap (λ l. length (without_repeats term_eq l)) (sym (flat_map-joined terms_of_quad quads))
     ∙ ap length (sym (appearances_once (terms_of (joined quads))))
 

@@ -176,10 +176,11 @@ shorter text rest after e = subst (λ l. length after < length l) (sym e) (longe
 pub one_more_text : (texts : List (List ℕ)) (bytes rest text after joined joined' : List ℕ) → bytes ≡ all_sealed texts ++ rest → rest ≡ sealed text ++ after
     → joined ≡ joined_texts texts → joined' ≡ joined ++ text
     → (bytes ≡ all_sealed (texts ++ text ∷ []) ++ after) × (joined' ≡ joined_texts (texts ++ text ∷ []))
-one_more_text texts bytes rest text after joined joined' all first was more =
-    (all ∙ ap (λ l. all_sealed texts ++ l) first ∙ sym (append_assoc (all_sealed texts) (sealed text) after)
-    ∙ ap (λ l. l ++ after) (ap (λ l. all_sealed texts ++ l) (sym (append-nil (sealed text))) ∙ sym (flat_map-append sealed texts (text ∷ []))),
-    more ∙ ap (λ l. l ++ text) was ∙ ap (λ l. joined_texts texts ++ l) (sym (append-nil text)) ∙ sym (flat_map-append (λ t. t) texts (text ∷ [])))
+one_more_text texts bytes rest text after joined joined' all first was more = (
+  all ∙ ap (λ l. all_sealed texts ++ l) first ∙ sym (append_assoc (all_sealed texts) (sealed text) after)
+      ∙ ap (λ l. l ++ after) (ap (λ l. all_sealed texts ++ l) (sym (append-nil (sealed text))) ∙ sym (flat_map-append sealed texts (text ∷ []))),
+  more ∙ ap (λ l. l ++ text) was ∙ ap (λ l. joined_texts texts ++ l) (sym (append-nil text)) ∙ sym (flat_map-append (λ t. t) texts (text ∷ [])),
+)
 
 -- ---- numbers
 

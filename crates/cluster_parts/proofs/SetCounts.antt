@@ -81,8 +81,8 @@ module _ {X : Type 0} (same : X → X → Bool) (decides : (x y : X) → Decides
   pub length_of_set : (xs ys : List X) → IsWithoutRepeats same ys → ((x : X) → list_any (same x) xs ≡ list_any (same x) ys) → length (without_repeats same xs) ≡ length ys
   length_of_set xs ys once alike =
       sym (length_permutation (without_repeats same xs) ys (permutation_from_counts same decides (without_repeats same xs) ys
-          (λ x. count_by-without_repeats same decides x xs ∙ ap (λ (b : Bool). cond b 1 0) (alike x)
-          ∙ sym (count_by_one same (same x) (λ y z p q. (decides y z).1 (sym ((decides x y).0 p) ∙ (decides x z).0 q)) ys once))))
+      (λ x. count_by-without_repeats same decides x xs ∙ ap (λ (b : Bool). cond b 1 0) (alike x)
+      ∙ sym (count_by_one same (same x) (λ y z p q. (decides y z).1 (sym ((decides x y).0 p) ∙ (decides x z).0 q)) ys once))))
 
   pub same_length : (xs ys : List X) → ((x : X) → list_any (same x) xs ≡ list_any (same x) ys) → length (without_repeats same xs) ≡ length (without_repeats same ys)
   same_length xs ys alike = length_of_set xs (without_repeats same ys) (IsWithoutRepeats-without_repeats same ys) (λ x. alike x ∙ sym (any-without_repeats_is same decides x ys))
@@ -109,8 +109,8 @@ module _ {X : Type 0} (same : X → X → Bool) (decides : (x y : X) → Decides
   parts_add_up part k below xs lists are =
       let all = without_repeats same xs in
       sum_below-same (λ n. length (without_repeats same (lists n))) (λ n. length (filter (λ x. eqb (part x) n) all))
-          (λ n. length_of_set (lists n) (filter (λ x. eqb (part x) n) all)
-              (IsWithoutRepeats-filter same (λ x. eqb (part x) n) all (IsWithoutRepeats-without_repeats same xs))
-              (λ x. are n x ∙ ap (λ b. eqb (part x) n && b) (sym (any-without_repeats_is same decides x xs)) ∙ sym (any-filter_is (λ y. eqb (part y) n) x all)))
-          k
+      (λ n. length_of_set (lists n) (filter (λ x. eqb (part x) n) all)
+      (IsWithoutRepeats-filter same (λ x. eqb (part x) n) all (IsWithoutRepeats-without_repeats same xs))
+      (λ x. are n x ∙ ap (λ b. eqb (part x) n && b) (sym (any-without_repeats_is same decides x xs)) ∙ sym (any-filter_is (λ y. eqb (part y) n) x all)))
+      k
       ∙ sum_of_parts part k below all

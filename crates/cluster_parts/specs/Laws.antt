@@ -76,4 +76,4 @@ QuadsAddUp =
     → ((n : ℕ) → AreRepeated (hashes_gathered partitions quads n) (repeated n))
     → ((n : ℕ) → IsCountOf (quads_gathered (texts_below repeated partitions) partitions quads n) (counts n))
     → sum_below (λ n. length (single (hashes_gathered partitions quads n)) + counts n) partitions
-      ≡ length (without_repeats same_parts (joined quads))
+    ≡ length (without_repeats same_parts (joined quads))

@@ -21,7 +21,11 @@ use std::hash::RandomState;
 fn key_among(set: &IndexSet<u64, RandomState>, hash: u64) -> Option<u64>
     ensures key { result ≡ (if contains nat_eq set.now hash then Some hash else None) }
 {
-    if set.contains(&hash) { Some(hash) } else { None }
+    if set.contains(&hash) {
+        Some(hash)
+    } else {
+        None
+    }
 }
 
 /// Returns the key of each quad: its hash, if it is one of these hashes.

@@ -28,11 +28,7 @@ fn hash_of_quad(terms: &[u64], quad: &NumQuad) -> u64
 }
 
 /// Returns the hashes of quads of numbers.
-fn hashes_of_quads(
-    alloc: Global,
-    terms: &[u64],
-    quads: &[NumQuad],
-) -> Result<Vec<u64>, AllocError>
+fn hashes_of_quads(alloc: Global, terms: &[u64], quads: &[NumQuad]) -> Result<Vec<u64>, AllocError>
     requires below { AreBelow (length terms.now) quads.now }
     ensures hashes { IfOk result
         (λ hashes. hashes.items ≡ map (hash_by_numbers terms.now) quads.now) }

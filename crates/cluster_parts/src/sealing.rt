@@ -56,11 +56,7 @@ pub fn push_sealed_number(alloc: Global, out: &mut Vec<u8>, n: u64) -> Result<()
 ///
 /// # Errors
 /// `AllocError` if an allocation fails. A part of the sealed text may have been appended.
-pub fn push_sealed_list(
-    alloc: Global,
-    out: &mut Vec<u8>,
-    numbers: &[u64],
-) -> Result<(), AllocError>
+pub fn push_sealed_list(alloc: Global, out: &mut Vec<u8>, numbers: &[u64]) -> Result<(), AllocError>
     ensures appended { OnOk result (out.new.items ≡ out.old.items ++ sealed (number_list numbers.now)) }
 {
     let mut text = Vec::new(alloc);

@@ -16,11 +16,11 @@ loop-hash-preserved c =
       seen = λ n. grind (arith, common_steps, c.loop-hash.invariant.seen n);
       repeated = λ n. elim c.if-not-branch.branch [
         | then-not-branch+in_ok-push w ↦
-          let seen : has (take i hs) x ≡ true = sym (c.loop-hash.invariant.seen x) ∙ not_false _ (sym c.in_ok-add_number.ensures.new ∙ w.if-not-branch.true) in
-          ap (λ v. has v.items n) w.repeated-is ∙ ap (λ l. has l n) w.in_ok-push.ensures.items
-          ∙ pushed_again (take i hs) c.loop-hash.repeated.items x n seen (c.loop-hash.invariant.repeated n) ∙ ap (λ f. f n) more
+            let seen : has (take i hs) x ≡ true = sym (c.loop-hash.invariant.seen x) ∙ not_false _ (sym c.in_ok-add_number.ensures.new ∙ w.if-not-branch.true) in
+            ap (λ v. has v.items n) w.repeated-is ∙ ap (λ l. has l n) w.in_ok-push.ensures.items
+            ∙ pushed_again (take i hs) c.loop-hash.repeated.items x n seen (c.loop-hash.invariant.repeated n) ∙ ap (λ f. f n) more
         | else-not-branch w ↦
-          let new : has (take i hs) x ≡ false = sym (c.loop-hash.invariant.seen x) ∙ not_true _ (sym c.in_ok-add_number.ensures.new ∙ w.if-not-branch.false) in
-          ap (λ v. has v.items n) w.repeated-is ∙ not_again (take i hs) c.loop-hash.repeated.items x n new (c.loop-hash.invariant.repeated n) ∙ ap (λ f. f n) more
+            let new : has (take i hs) x ≡ false = sym (c.loop-hash.invariant.seen x) ∙ not_true _ (sym c.in_ok-add_number.ensures.new ∙ w.if-not-branch.false) in
+            ap (λ v. has v.items n) w.repeated-is ∙ not_again (take i hs) c.loop-hash.repeated.items x n new (c.loop-hash.invariant.repeated n) ∙ ap (λ f. f n) more
       ];
     }
