@@ -1,0 +1,110 @@
+-- Documents of statements: their lines, and what these hold.
+use Rattle.std.proofs.Common.{◌≡◌, ◌⊎◌, ℕ, suc, ◌<◌, eqb, false, List, [], ◌∷◌, ◌++◌, length, map, get_or, Option, None, Some, refl, sym, ap, subst, ◌∙◌, inl, inr, append_assoc, append-nil, arith}
+use Rattle.std.specs.Prelude.{codes, option_to_list, slice_index, ◌≢◌}
+use Rattle.std.specs.List.{flat_map, AllZip}
+use Rattle.rdf_core.specs.declared.term.Term.{Term}
+use Rattle.rdf_core.specs.QuadParts.{QuadParts}
+use Rattle.rdf_core.proofs.EscapeSteps.{eqb_no}
+use Rattle.nquads_core.specs.Grammar.{HasStatement}
+use Rattle.nquads_core.specs.Lines.{lines, EndsLine}
+use Rattle.nquads_core.specs.Pieces.{HaveStatements}
+use Rattle.nquads_core.specs.Laws.{Occurs, object_line, quad_line, with_object, IsNQuadsTerm}
+use Rattle.nquads_core.proofs.PieceLaws.{NoEnds, line_lf, lines_nil}
+use Rattle.nquads_core.proofs.LineEnds.{lines_join}
+use Rattle.nquads_core.proofs.Meaning.{one_meaning}
+use Rattle.nquads_core.proofs.Again.{lines_round_trip, terms_round_trip}
+use Rattle.dict_core.specs.Appearances.{terms_of, terms_of_quad}
+use Rattle.dict_core.specs.Numbered.{joined}
+use Rattle.cluster_parts.specs.Seal.{joined_texts}
+use Rattle.cluster_parts.specs.Parts.{quad_document, quad_statement, term_document, term_statement}
+use Rattle.cluster_parts.specs.Laws.{AreBlocks, AreWholeLines, BlocksJoin}
+use Rattle.cluster_parts.proofs.Each.{Each, Each-append}
+
+-- ---- one line
+
+no_ends : (line : List ℕ) → ((i : ℕ) → i < length line → (slice_index line i ≢ 10) × (slice_index line i ≢ 13)) → NoEnds line
+no_ends [] h = tt
+no_ends (b ∷ line) h =
+    (eqb_no b 10 (h 0 (omega arith)).0, eqb_no b 13 (h 0 (omega arith)).1, no_ends line (λ i below. h (suc i) (omega arith)))
+
+-- a line that holds a statement, and then others
+first_line : (line rest : List ℕ) (q : Option QuadParts) → HasStatement line q → lines ((line ++ 10 ∷ []) ++ rest) ≡ line ∷ lines rest
+first_line line rest q h = ap lines (append_assoc line (10 ∷ []) rest) ∙ line_lf line rest (no_ends line h.one_line)
+
+-- ---- documents
+
+pub terms_read : (ts : List Term) → Each IsNQuadsTerm ts → HaveStatements (lines (term_document ts)) (map with_object ts)
+terms_read [] h = subst (λ ls. HaveStatements ls []) (sym lines_nil) refl
+terms_read (t ∷ ts) h =
+    let holds : HasStatement (object_line t) (Some (with_object t)) = terms_round_trip h.0.0 h.0.1 t h.0.2 h.0.3 in
+    subst (λ ls. HaveStatements ls (map with_object (t ∷ ts))) (sym (first_line (object_line t) (term_document ts) (Some (with_object t)) holds))
+    (Some (with_object t), map with_object ts, holds, refl, terms_read ts h.1)
+
+-- a quad of some line
+abbrev pub IsOfLine : QuadParts → Type 0
+IsOfLine q = (line : List ℕ) × HasStatement line (Some q)
+
+pub quads_read : (qs : List QuadParts) → Each IsOfLine qs → HaveStatements (lines (quad_document qs)) qs
+quads_read [] h = subst (λ ls. HaveStatements ls []) (sym lines_nil) refl
+quads_read (q ∷ qs) h =
+    let holds : HasStatement (quad_line q) (Some q) = lines_round_trip h.0.0 q h.0.1 in
+    subst (λ ls. HaveStatements ls (q ∷ qs)) (sym (first_line (quad_line q) (quad_document qs) (Some q) holds))
+    (Some q, qs, holds, refl, quads_read qs h.1)
+
+-- ---- what lines hold
+
+pub one_reading : (ls : List (List ℕ)) (D E : List QuadParts) → HaveStatements ls D → HaveStatements ls E → D ≡ E
+one_reading [] D E d e = d ∙ sym e
+one_reading (l ∷ ls) D E d e =
+    let same : d.0 ≡ e.0 = one_meaning l d.0 e.0 d.2 e.2 in
+    let rest : d.1 ≡ e.1 = one_reading ls d.1 e.1 d.4 e.4 in
+    d.3 ∙ (λ i. option_to_list (same i) ++ rest i) ∙ sym e.3
+
+pub quads_of_lines : (ls : List (List ℕ)) (D : List QuadParts) → HaveStatements ls D → Each IsOfLine D
+quads_of_lines [] D h = subst (Each IsOfLine) (sym h) tt
+quads_of_lines (l ∷ ls) D h = subst (Each IsOfLine) (sym h.3) (Each-append IsOfLine (option_to_list h.0) h.1 (one h.0 h.2) (quads_of_lines ls h.1 h.4))
+  where
+    one : (q : Option QuadParts) → HasStatement l q → Each IsOfLine (option_to_list q)
+    one None k = tt
+    one (Some q) k = ((l, k), tt)
+
+pub terms_of_lines : (D : List QuadParts) → Each IsOfLine D → Each IsNQuadsTerm (terms_of D)
+terms_of_lines [] h = tt
+terms_of_lines (q ∷ qs) h =
+    Each-append IsNQuadsTerm (terms_of_quad q) (terms_of qs)
+    ((h.0.0, q, h.0.1, inl refl), ((h.0.0, q, h.0.1, inr (inl refl)), ((h.0.0, q, h.0.1, inr (inr (inl refl))), name q.g refl)))
+    (terms_of_lines qs h.1)
+  where
+    name : (g : Option Term) → q.g ≡ g → Each IsNQuadsTerm (option_to_list g)
+    name None e = tt
+    name (Some t) e = ((h.0.0, q, h.0.1, inr (inr (inr e))), tt)
+
+-- ---- blocks
+
+statements-append : (xs ys : List (List ℕ)) (qs rs : List QuadParts) → HaveStatements xs qs → HaveStatements ys rs → HaveStatements (xs ++ ys) (qs ++ rs)
+statements-append [] ys qs rs h k = rw h k
+statements-append (x ∷ xs) ys qs rs h k =
+    (h.0, h.1 ++ rs, h.2, rw h.3 (append_assoc (option_to_list h.0) h.1 rs), statements-append xs ys h.1 rs h.4 k)
+
+pub blocks_join : BlocksJoin
+blocks_join blocks quads h = by blocks quads h.whole h.statements
+  where
+    lines_of : (b : List ℕ) (bs : List (List ℕ)) → (EndsLine b ⊎ (bs ≡ [])) → lines (b ++ joined_texts bs) ≡ lines b ++ lines (joined_texts bs)
+    lines_of b bs (inl ends) = lines_join b (joined_texts bs) ends
+    lines_of b bs (inr last) =
+        ap (λ l. lines (b ++ joined_texts l)) last ∙ ap lines (append-nil b)
+        ∙ sym (ap (λ l. lines b ++ lines (joined_texts l)) last ∙ ap (λ l. lines b ++ l) lines_nil ∙ append-nil (lines b))
+
+    by : (bs : List (List ℕ)) (qs : List (List QuadParts)) → AreWholeLines bs → AllZip (λ block qs. HaveStatements (lines block) qs) bs qs → HaveStatements (lines (joined_texts bs)) (joined qs)
+    by [] [] w s = subst (λ ls. HaveStatements ls []) (sym lines_nil) refl
+    by [] (q ∷ qs) w s = absurd s
+    by (b ∷ bs) [] w s = absurd s
+    by (b ∷ bs) (q ∷ qs) w s =
+        subst (λ ls. HaveStatements ls (q ++ joined qs)) (sym (lines_of b bs w.0)) (statements-append (lines b) (lines (joined_texts bs)) q (joined qs) s.0 (by bs qs w.1 s.1))
+
+-- the quads of blocks are of lines
+pub block_quads : (bs : List (List ℕ)) (qs : List (List QuadParts)) → AllZip (λ block qs. HaveStatements (lines block) qs) bs qs → Each (Each IsOfLine) qs
+block_quads [] [] s = tt
+block_quads [] (q ∷ qs) s = absurd s
+block_quads (b ∷ bs) [] s = absurd s
+block_quads (b ∷ bs) (q ∷ qs) s = (quads_of_lines (lines b) q s.0, block_quads bs qs s.1)

@@ -1,0 +1,6 @@
+pub mod Each
+pub mod SetCounts
+pub mod DocumentLaws
+pub mod AddUpLaws
+pub mod PartSteps
+pub mod QuadLaws

@@ -1,0 +1,94 @@
+//! The quads of a block whose hashes occur more than once.
+ghost use Rattle.std.specs.Prelude.{◌≡◌, ◌<◌, ℕ, List, Some, None, if◌then◌else◌, length, map, nat_eq, IfErr, IfOk};
+ghost use Rattle.indexmap.specs.IndexSet.{contains};
+ghost use Rattle.rdf_core.specs.QuadParts.{QuadParts};
+ghost use Rattle.nquads_core.specs.Lines.{lines};
+ghost use Rattle.nquads_core.specs.Pieces.{HaveStatements, IsFirstMalformed};
+ghost use Rattle.nquads_core.specs.declared.fault.PieceFault.TheVariants.{BadLine};
+ghost use Rattle.cluster_parts.specs.Output.{again_parts};
+
+use crate::counting::set_of;
+use crate::hashing::hashes_of;
+use crate::keyed::push_keyed_parts;
+use crate::quad_hashes::quad_hashes_of;
+use dict_core::{LocalPiece, number_lines};
+use indexmap::IndexSet;
+use nquads_core::PieceFault;
+use std::alloc::{AllocError, Global};
+use std::hash::RandomState;
+
+/// Returns the hash, if the set has it.
+fn key_among(set: &IndexSet<u64, RandomState>, hash: u64) -> Option<u64>
+    ensures key { result ≡ (if contains nat_eq set.now hash then Some hash else None) }
+{
+    if set.contains(&hash) {
+        Some(hash)
+    } else {
+        None
+    }
+}
+
+/// Returns the key of each quad: its hash, if it is one of these hashes.
+fn keys_among(
+    alloc: Global,
+    quad_hashes: &[u64],
+    set: &IndexSet<u64, RandomState>,
+) -> Result<Vec<Option<u64>>, AllocError>
+    ensures keys { IfOk result (λ keys. keys.items
+        ≡ map (λ h. if contains nat_eq set.now h then Some h else None) quad_hashes.now) }
+{
+    let mut keys = Vec::with_capacity(alloc, quad_hashes.len())?;
+    for hash in quad_hashes {
+        keys.push(key_among(set, *hash))?;
+    }
+    Ok(keys)
+}
+
+/// Returns the quads of a block that have one of the hashes, by partition.
+fn parts_again(
+    alloc: Global,
+    state: RandomState,
+    piece: &LocalPiece,
+    hashes: &[u64],
+    partitions: u64,
+) -> Result<Vec<u8>, AllocError>
+    requires some { 0 < partitions }
+    ensures parts { IfOk result (λ out. out.items ≡ again_parts hashes.now partitions piece.now) }
+{
+    let term_hashes = hashes_of(alloc, piece.dict())?;
+    let quad_hashes = quad_hashes_of(alloc, term_hashes.as_slice(), piece)?;
+    let set = set_of(alloc, state, hashes)?;
+    let keys = keys_among(alloc, quad_hashes.as_slice(), &set)?;
+    let mut out = Vec::new(alloc);
+    push_keyed_parts(alloc, &mut out, piece, keys.as_slice(), partitions)?;
+    Ok(out)
+}
+
+/// Reads a block of whole lines, and returns its quads that have one of the hashes (`again_parts`): a sealed document of
+/// N-Quads for each partition.
+///
+/// # Requires
+/// There is at least one partition.
+///
+/// # Errors
+/// - `BadLine(k)` if line k of the block, counted from 0, is the first that is malformed.
+/// - `Memory` if an allocation fails.
+pub fn split_again(
+    alloc: Global,
+    state: RandomState,
+    hashes: &[u64],
+    block: &[u8],
+    partitions: u64,
+) -> Result<Vec<u8>, PieceFault>
+    requires some { 0 < partitions }
+    ensures parts { IfOk result (λ out. (quads : List QuadParts) × HaveStatements (lines block.now) quads
+        × (out.items ≡ again_parts hashes.now partitions quads)) }
+    ensures bad_line { IfErr result
+        (λ fault. (k : ℕ) → fault ≡ BadLine k → IsFirstMalformed (lines block.now) k) }
+{
+    let numbered = number_lines(alloc, state, block)?;
+    match parts_again(alloc, state, &numbered.piece, hashes, partitions) {
+        Ok(out) => Ok(out),
+        Err(_) => Err(PieceFault::Memory),
+    }
+}

@@ -1,0 +1,19 @@
+//! Laws: the counts of the partitions are those of the whole document. Each is the contract of a function that does
+//! nothing.
+ghost use Rattle.cluster_parts.specs.Laws.{BlocksJoin, NamesAddUp, QuadsAddUp, TermsAddUp};
+
+/// The quads of the blocks, one block after the other, are the quads of the document.
+pub fn blocks_join()
+    ensures law { BlocksJoin }
+{}
+
+/// The numbers of terms, and of graph names, that are counted in the partitions add up to those of the document.
+pub fn terms_add_up()
+    ensures terms { TermsAddUp }
+    ensures names { NamesAddUp }
+{}
+
+/// The hashes that occur once, and the quads with the other hashes, add up to the number of distinct quads.
+pub fn quads_add_up()
+    ensures law { QuadsAddUp }
+{}

@@ -1,0 +1,54 @@
+//! The hashes of the quads of a block, from those of its terms.
+ghost use Rattle.std.specs.Prelude.{◌≡◌, length, map, IfOk};
+ghost use Rattle.rdf_core.specs.declared.term.Term.{Term};
+ghost use Rattle.dict_core.specs.Appearances.{first_appearances, terms_of};
+ghost use Rattle.dict_core.specs.NumQuad.{AreBelow, IsBelow};
+ghost use Rattle.cluster_parts.specs.Hash.{quad_hash, term_hash};
+ghost use Rattle.cluster_parts.specs.NumberedHash.{hash_by_numbers};
+
+use crate::hashing::hash_of_four;
+use dict_core::{LocalPiece, NumQuad};
+use std::alloc::{AllocError, Global};
+
+/// Returns the hash of a quad of numbers.
+fn hash_of_quad(terms: &[u64], quad: &NumQuad) -> u64
+    requires below { IsBelow (length terms.now) quad.now }
+    ensures value { result ≡ hash_by_numbers terms.now quad.now }
+{
+    let graph = match quad.g {
+        Some(g) => terms[g as usize],
+        None => 0,
+    };
+    hash_of_four(
+        terms[quad.s as usize],
+        terms[quad.p as usize],
+        terms[quad.o as usize],
+        graph,
+    )
+}
+
+/// Returns the hashes of quads of numbers.
+fn hashes_of_quads(alloc: Global, terms: &[u64], quads: &[NumQuad]) -> Result<Vec<u64>, AllocError>
+    requires below { AreBelow (length terms.now) quads.now }
+    ensures hashes { IfOk result
+        (λ hashes. hashes.items ≡ map (hash_by_numbers terms.now) quads.now) }
+{
+    let mut hashes = Vec::with_capacity(alloc, quads.len())?;
+    for quad in quads {
+        hashes.push(hash_of_quad(terms, quad))?;
+    }
+    Ok(hashes)
+}
+
+/// Returns the hashes of the quads of a block, in order, with repeats. `terms` are the hashes of its terms.
+pub(crate) fn quad_hashes_of(
+    alloc: Global,
+    terms: &[u64],
+    piece: &LocalPiece,
+) -> Result<Vec<u64>, AllocError>
+    requires hashed { terms.now ≡ map term_hash (first_appearances (terms_of piece.now)) }
+    ensures hashes { IfOk result (λ hashes. hashes.items ≡ map quad_hash piece.now) }
+{
+    let hashes = hashes_of_quads(alloc, terms, piece.quads())?;
+    Ok(hashes)
+}

@@ -1,0 +1,195 @@
+//! Texts with a head, a length and a checksum.
+ghost use Rattle.std.specs.Prelude.{◌≡◌, ◌∷◌, ◌++◌, [], List, ℕ, length, IfOk, IfSome, OnOk};
+ghost use Rattle.cluster_parts.specs.Hash.{hash, number_bytes};
+ghost use Rattle.cluster_parts.specs.Seal.{all_sealed, joined_texts, seal_head, sealed};
+ghost use Rattle.cluster_parts.specs.Parts.{number_list};
+
+use crate::hashing::hash_of;
+use std::alloc::{AllocError, Global};
+
+/// The name of the format, its number, and the version of the program.
+const HEAD: &[u8] = b"spq-part 1 0.1.0\n";
+
+/// Why a text is not a list of sealed texts.
+#[derive(Clone, Copy, Debug, Drop, PartialEq, Eq)]
+pub enum SealFault {
+    /// A text does not begin with the head: another version of the program wrote it, or another program.
+    Version,
+    /// A text is shorter than its length says, or has another checksum.
+    Damaged,
+    /// Out of memory.
+    Memory,
+}
+
+impl From<AllocError> for SealFault {
+    ghost use Rattle.std.specs.Prelude.{◌≡◌};
+    ghost use Rattle.cluster_parts.specs.declared.sealing.SealFault.TheVariants.{Memory};
+
+    ghost from_gives = { λ _ e. e ≡ Memory };
+
+    fn from(_failed: AllocError) -> SealFault {
+        SealFault::Memory
+    }
+}
+
+/// Appends a number as eight bytes, the lowest first.
+#[tactic(auto, unfolding(crate::specs::Hash::number_bytes))]
+pub fn push_number(out: &mut Vec<u8>, n: u64) -> Result<(), AllocError>
+    ensures appended { OnOk result (out.new.items ≡ out.old.items ++ number_bytes n) }
+{
+    out.extend_from_slice(&n.to_le_bytes())
+}
+
+/// Appends a number as a sealed text.
+///
+/// # Errors
+/// `AllocError` if an allocation fails. A part of the sealed text may have been appended.
+pub fn push_sealed_number(alloc: Global, out: &mut Vec<u8>, n: u64) -> Result<(), AllocError>
+    ensures appended { OnOk result (out.new.items ≡ out.old.items ++ sealed (number_bytes n)) }
+{
+    let mut text = Vec::new(alloc);
+    push_number(&mut text, n)?;
+    push_sealed(out, text.as_slice())
+}
+
+/// Appends numbers as a sealed text.
+///
+/// # Errors
+/// `AllocError` if an allocation fails. A part of the sealed text may have been appended.
+pub fn push_sealed_list(alloc: Global, out: &mut Vec<u8>, numbers: &[u64]) -> Result<(), AllocError>
+    ensures appended { OnOk result (out.new.items ≡ out.old.items ++ sealed (number_list numbers.now)) }
+{
+    let mut text = Vec::new(alloc);
+    for number in numbers {
+        push_number(&mut text, *number)?;
+    }
+    push_sealed(out, text.as_slice())
+}
+
+/// Appends a text, sealed.
+///
+/// # Errors
+/// `AllocError` if an allocation fails. A part of the sealed text may have been appended.
+pub fn push_sealed(out: &mut Vec<u8>, text: &[u8]) -> Result<(), AllocError>
+    ensures appended { OnOk result (out.new.items ≡ out.old.items ++ sealed text.now) }
+{
+    out.extend_from_slice(HEAD)?;
+    push_number(out, text.len() as u64)?;
+    push_number(out, hash_of(text))?;
+    out.extend_from_slice(text)?;
+    Ok(())
+}
+
+/// Splits off the first eight bytes, as a number.
+fn first_number(bytes: &[u8]) -> Option<(u64, &[u8])>
+    ensures parts { IfSome result (λ r. bytes.now ≡ number_bytes r.0 ++ r.1.now) }
+{
+    if bytes.len() < 8 {
+        return None;
+    }
+    let (number, rest) = bytes.split_at(8);
+    let number = [
+        number[0], number[1], number[2], number[3], number[4], number[5], number[6], number[7],
+    ];
+    Some((u64::from_le_bytes(number), rest))
+}
+
+/// Splits off the head of a sealed text.
+fn after_head(bytes: &[u8]) -> Option<&[u8]>
+    ensures parts { IfSome result (λ rest. bytes.now ≡ seal_head ++ rest.now) }
+{
+    bytes.strip_prefix(HEAD)
+}
+
+/// Splits off the head of a sealed text, or returns `Version`.
+fn skip_head(bytes: &[u8]) -> Result<&[u8], SealFault>
+    ensures parts { IfOk result (λ rest. bytes.now ≡ seal_head ++ rest.now) }
+{
+    match after_head(bytes) {
+        Some(rest) => Ok(rest),
+        None => Err(SealFault::Version),
+    }
+}
+
+/// Splits off the first eight bytes, as a number, or returns `Damaged`.
+fn take_number(bytes: &[u8]) -> Result<(u64, &[u8]), SealFault>
+    ensures parts { IfOk result (λ r. bytes.now ≡ number_bytes r.0 ++ r.1.now) }
+{
+    match first_number(bytes) {
+        Some(found) => Ok(found),
+        None => Err(SealFault::Damaged),
+    }
+}
+
+/// Splits off a text of this length and with this checksum.
+fn checked_text(bytes: &[u8], len: u64, checksum: u64) -> Result<(&[u8], &[u8]), SealFault>
+    ensures parts { IfOk result (λ r. bytes.now ≡ r.0.now ++ r.1.now) }
+    ensures len { IfOk result (λ r. len ≡ length r.0.now) }
+    ensures checksum { IfOk result (λ r. checksum ≡ hash r.0.now) }
+{
+    if len > bytes.len() as u64 {
+        return Err(SealFault::Damaged);
+    }
+    let (text, after) = bytes.split_at(len as usize);
+    if hash_of(text) != checksum {
+        return Err(SealFault::Damaged);
+    }
+    Ok((text, after))
+}
+
+/// Splits off the first sealed text.
+pub fn first_sealed(bytes: &[u8]) -> Result<(&[u8], &[u8]), SealFault>
+    ensures parts { IfOk result (λ r. bytes.now ≡ sealed r.0.now ++ r.1.now) }
+{
+    let first = skip_head(bytes)?;
+    let (len, second) = take_number(first)?;
+    let (checksum, third) = take_number(second)?;
+    let (text, after) = checked_text(third, len, checksum)?;
+    Ok((text, after))
+}
+
+/// Joins the texts of a list of sealed texts.
+///
+/// # Errors
+/// - `Version` if a text begins with another head.
+/// - `Damaged` if a text is shorter than its length says, or has another checksum.
+/// - `Memory` if an allocation fails.
+pub fn join_sealed(alloc: Global, bytes: &[u8]) -> Result<Vec<u8>, SealFault>
+    ensures texts { IfOk result (λ joined. (texts : List (List ℕ))
+        × (bytes.now ≡ all_sealed texts) × (joined.items ≡ joined_texts texts)) }
+{
+    let mut joined = Vec::new(alloc);
+    let mut rest = bytes;
+    while !rest.is_empty() {
+        let (text, after) = first_sealed(rest)?;
+        joined.extend_from_slice(text)?;
+        rest = after;
+    }
+    Ok(joined)
+}
+
+/// Reads numbers of eight bytes.
+///
+/// # Errors
+/// - `Damaged` if the number of bytes is not a multiple of eight.
+/// - `Memory` if an allocation fails.
+pub fn numbers_of(alloc: Global, bytes: &[u8]) -> Result<Vec<u64>, SealFault>
+    ensures numbers { IfOk result (λ numbers. bytes.now ≡ number_list numbers.items) }
+{
+    let mut numbers = Vec::new(alloc);
+    let mut rest = bytes;
+    while !rest.is_empty() {
+        let (number, after) = take_number(rest)?;
+        push_one(&mut numbers, number)?;
+        rest = after;
+    }
+    Ok(numbers)
+}
+
+/// Appends a number.
+fn push_one(numbers: &mut Vec<u64>, number: u64) -> Result<(), AllocError>
+    ensures pushed { OnOk result (numbers.new.items ≡ numbers.old.items ++ number ∷ []) }
+{
+    numbers.push(number)?;
+    Ok(())
+}

@@ -1,0 +1,88 @@
+-- What each command writes for its input (choices of this project).
+use Rattle.std.specs.Prelude.{◌≡◌, ℕ, ◌<◌, List, ◌++◌, length, decimal, codes, ⊤}
+use Rattle.rdf_core.specs.QuadParts.{QuadParts}
+use Rattle.nquads_core.specs.Lines.{lines}
+use Rattle.nquads_core.specs.Pieces.{HaveStatements, IsFirstMalformed}
+use Rattle.cluster_parts.specs.Hash.{number_bytes}
+use Rattle.cluster_parts.specs.Seal.{all_sealed, joined_texts, sealed}
+use Rattle.cluster_parts.specs.Parts.{number_list}
+use Rattle.cluster_parts.specs.Repeated.{single}
+use Rattle.cluster_parts.specs.Output.{AreRepeated, IsCountOf, again_parts, check_parts}
+use Rattle.part_core.specs.declared.command.Command.{Command}
+use Rattle.part_core.specs.declared.command.Command.TheVariants.{SplitCheck, Count, Repeated, Join, Again}
+
+-- `split check`: the parts of a block
+pub record IsSplit (partitions : ℕ) (input output : List ℕ) : Type 0 where
+  pub quads : List QuadParts
+  pub statements : HaveStatements (lines input) quads
+  pub parts : output ≡ check_parts partitions (length (lines input)) quads
+
+-- `count`: the number of distinct quads of sealed documents that are joined, as a line
+pub record IsCounted (input output : List ℕ) : Type 0 where
+  pub texts : List (List ℕ)
+  pub count : ℕ
+  pub unsealed : input ≡ all_sealed texts
+  pub counted : IsCountOf (joined_texts texts) count
+  pub line : output ≡ decimal count ++ codes "\n"
+
+-- `repeated`: of sealed lists of hashes that are joined, how many hashes occur once, and the others
+pub record IsRepeatedIn (input output : List ℕ) : Type 0 where
+  pub texts : List (List ℕ)
+  pub hashes : List ℕ
+  pub repeated : List ℕ
+  pub unsealed : input ≡ all_sealed texts
+  pub numbers : joined_texts texts ≡ number_list hashes
+  pub found : AreRepeated hashes repeated
+  pub numbers_sealed : output ≡ sealed (number_bytes (length (single hashes))) ++ sealed (number_list repeated)
+
+-- `join`: the sealed texts as one
+pub record IsJoined (input output : List ℕ) : Type 0 where
+  pub texts : List (List ℕ)
+  pub unsealed : input ≡ all_sealed texts
+  pub joined : output ≡ sealed (joined_texts texts)
+
+-- `again`: after a sealed list of hashes a block; its quads that have one of the hashes
+pub record IsAgain (partitions : ℕ) (input output : List ℕ) : Type 0 where
+  pub hashes : List ℕ
+  pub block : List ℕ
+  pub quads : List QuadParts
+  pub unsealed : input ≡ sealed (number_list hashes) ++ block
+  pub statements : HaveStatements (lines block) quads
+  pub parts : output ≡ again_parts hashes partitions quads
+
+-- what a command writes
+abbrev pub IsOutput : Command → List ℕ → List ℕ → Type 0
+IsOutput (SplitCheck partitions) input output = IsSplit partitions input output
+IsOutput Count input output = IsCounted input output
+IsOutput Repeated input output = IsRepeatedIn input output
+IsOutput Join input output = IsJoined input output
+IsOutput (Again partitions) input output = IsAgain partitions input output
+
+-- the documents that are joined have a first malformed line
+pub record IsBadDocument (input : List ℕ) (k : ℕ) : Type 0 where
+  pub texts : List (List ℕ)
+  pub unsealed : input ≡ all_sealed texts
+  pub malformed : IsFirstMalformed (lines (joined_texts texts)) k
+
+-- so has the block after the hashes
+pub record IsBadBlock (input : List ℕ) (k : ℕ) : Type 0 where
+  pub hashes : List ℕ
+  pub block : List ℕ
+  pub unsealed : input ≡ sealed (number_list hashes) ++ block
+  pub malformed : IsFirstMalformed (lines block) k
+
+-- line k of what a command reads, counted from 0, is the first malformed line
+abbrev pub IsBadInput : Command → List ℕ → ℕ → Type 0
+IsBadInput (SplitCheck partitions) input k = IsFirstMalformed (lines input) k
+IsBadInput Count input k = IsBadDocument input k
+IsBadInput Repeated input k = ⊥
+IsBadInput Join input k = ⊥
+IsBadInput (Again partitions) input k = IsBadBlock input k
+
+-- a command has at least one partition
+abbrev pub HasPartitions : Command → Type 0
+HasPartitions (SplitCheck partitions) = 0 < partitions
+HasPartitions Count = ⊤
+HasPartitions Repeated = ⊤
+HasPartitions Join = ⊤
+HasPartitions (Again partitions) = 0 < partitions

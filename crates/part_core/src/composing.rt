@@ -1,0 +1,251 @@
+//! The output of a command for its input.
+ghost use Rattle.std.specs.Prelude.{◌≡◌, ◌<◌, ◌++◌, ℕ, List, codes, decimal, length, IfErr, IfOk, OnOk};
+ghost use Rattle.nquads_core.specs.Lines.{lines};
+ghost use Rattle.nquads_core.specs.Pieces.{HaveStatements, IsFirstMalformed};
+ghost use Rattle.rdf_core.specs.QuadParts.{QuadParts};
+ghost use Rattle.cluster_parts.specs.Hash.{number_bytes};
+ghost use Rattle.cluster_parts.specs.Seal.{all_sealed, joined_texts, sealed};
+ghost use Rattle.cluster_parts.specs.Parts.{number_list};
+ghost use Rattle.cluster_parts.specs.Output.{AreRepeated, IsCountOf, again_parts};
+ghost use Rattle.cluster_parts.specs.Repeated.{single};
+ghost use Rattle.part_core.specs.Output.{HasPartitions, IsAgain, IsBadBlock, IsBadDocument, IsBadInput, IsCounted, IsJoined, IsOutput, IsRepeatedIn, IsSplit};
+ghost use Rattle.part_core.specs.declared.fault.PartFault.TheVariants.{BadLine};
+
+use crate::command::Command;
+use crate::fault::PartFault;
+use cluster_parts::{
+    count_single, count_statements, first_sealed, join_sealed, numbers_of, push_sealed,
+    push_sealed_list, push_sealed_number, repeated_hashes, split_again, split_for_check,
+};
+use itoa::Buffer;
+use nquads_core::PieceFault;
+use std::alloc::{AllocError, Global};
+use std::hash::RandomState;
+
+/// Joins the sealed texts of the input.
+fn unsealed(alloc: Global, input: &[u8]) -> Result<Vec<u8>, PartFault>
+    ensures texts { IfOk result (λ joined. (texts : List (List ℕ))
+        × (input.now ≡ all_sealed texts) × (joined.items ≡ joined_texts texts)) }
+    ensures no_line { IfErr result (λ fault. (k : ℕ) → fault ≡ BadLine k → ⊥) }
+{
+    match join_sealed(alloc, input) {
+        Ok(joined) => Ok(joined),
+        Err(fault) => Err(PartFault::of_seal(fault)),
+    }
+}
+
+/// Reads numbers of eight bytes.
+fn numbers(alloc: Global, bytes: &[u8]) -> Result<Vec<u64>, PartFault>
+    ensures numbers { IfOk result (λ numbers. bytes.now ≡ number_list numbers.items) }
+    ensures no_line { IfErr result (λ fault. (k : ℕ) → fault ≡ BadLine k → ⊥) }
+{
+    match numbers_of(alloc, bytes) {
+        Ok(numbers) => Ok(numbers),
+        Err(fault) => Err(PartFault::of_seal(fault)),
+    }
+}
+
+/// Splits off the first sealed text.
+fn first_text(input: &[u8]) -> Result<(&[u8], &[u8]), PartFault>
+    ensures parts { IfOk result (λ r. input.now ≡ sealed r.0.now ++ r.1.now) }
+    ensures no_line { IfErr result (λ fault. (k : ℕ) → fault ≡ BadLine k → ⊥) }
+{
+    match first_sealed(input) {
+        Ok(parts) => Ok(parts),
+        Err(fault) => Err(PartFault::of_seal(fault)),
+    }
+}
+
+/// Counts the distinct quads of a document.
+fn count_of(alloc: Global, state: RandomState, document: &[u8]) -> Result<u64, PartFault>
+    ensures count { IfOk result (IsCountOf document.now) }
+    ensures bad_line { IfErr result
+        (λ fault. (k : ℕ) → fault ≡ BadLine k → IsFirstMalformed (lines document.now) k) }
+{
+    match count_statements(alloc, state, document) {
+        Ok(count) => Ok(count),
+        Err(PieceFault::BadLine(line)) => Err(PartFault::BadLine(line)),
+        Err(PieceFault::Memory) => Err(PartFault::Memory),
+    }
+}
+
+/// Returns a number as a line.
+fn number_line(alloc: Global, n: u64) -> Result<Vec<u8>, AllocError>
+    ensures line { IfOk result (λ line. line.items ≡ decimal n ++ codes "\n") }
+{
+    let mut buffer = Buffer::new();
+    let mut line = Vec::new(alloc);
+    line.extend_from_slice(buffer.format(n).as_bytes())?;
+    line.extend_from_slice(b"\n")?;
+    Ok(line)
+}
+
+/// Returns a number as a line.
+fn line_of_number(alloc: Global, n: u64) -> Result<Vec<u8>, PartFault>
+    ensures line { IfOk result (λ line. line.items ≡ decimal n ++ codes "\n") }
+    ensures no_line { IfErr result (λ fault. (k : ℕ) → fault ≡ BadLine k → ⊥) }
+{
+    match number_line(alloc, n) {
+        Ok(line) => Ok(line),
+        Err(_) => Err(PartFault::Memory),
+    }
+}
+
+/// Composes the output of `count`.
+fn counted(alloc: Global, state: RandomState, input: &[u8]) -> Result<Vec<u8>, PartFault>
+    ensures output { IfOk result (λ output. IsCounted input.now output.items) }
+    ensures bad_line { IfErr result (λ fault. (k : ℕ) → fault ≡ BadLine k → IsBadDocument input.now k) }
+{
+    let document = unsealed(alloc, input)?;
+    let count = match count_of(alloc, state, document.as_slice()) {
+        Ok(count) => count,
+        Err(fault) => return Err(fault),
+    };
+    let line = line_of_number(alloc, count)?;
+    Ok(line)
+}
+
+/// Returns a number and a list of numbers, sealed.
+fn sealed_numbers(alloc: Global, n: u64, numbers: &[u64]) -> Result<Vec<u8>, AllocError>
+    ensures texts { IfOk result
+        (λ out. out.items ≡ sealed (number_bytes n) ++ sealed (number_list numbers.now)) }
+{
+    let mut out = Vec::new(alloc);
+    push_sealed_number(alloc, &mut out, n)?;
+    push_sealed_list(alloc, &mut out, numbers)?;
+    Ok(out)
+}
+
+/// Finds the hashes that occur more than once, and how many occur once.
+fn repeated_of(alloc: Global, state: RandomState, hashes: &[u64]) -> Result<Vec<u8>, AllocError>
+    ensures found { IfOk result (λ out. (repeated : List ℕ) × AreRepeated hashes.now repeated
+        × (out.items ≡ sealed (number_bytes (length (single hashes.now))) ++ sealed (number_list repeated))) }
+{
+    let repeated = repeated_hashes(alloc, state, hashes)?;
+    let count = count_single(alloc, state, hashes, repeated.as_slice())?;
+    let out = sealed_numbers(alloc, count, repeated.as_slice())?;
+    Ok(out)
+}
+
+/// Composes the output of `repeated`.
+fn repeated(alloc: Global, state: RandomState, input: &[u8]) -> Result<Vec<u8>, PartFault>
+    ensures output { IfOk result (λ output. IsRepeatedIn input.now output.items) }
+    ensures no_line { IfErr result (λ fault. (k : ℕ) → fault ≡ BadLine k → ⊥) }
+{
+    let list = unsealed(alloc, input)?;
+    let hashes = numbers(alloc, list.as_slice())?;
+    match repeated_of(alloc, state, hashes.as_slice()) {
+        Ok(out) => Ok(out),
+        Err(_) => Err(PartFault::Memory),
+    }
+}
+
+/// Returns a text, sealed.
+fn sealed_text(alloc: Global, text: &[u8]) -> Result<Vec<u8>, AllocError>
+    ensures sealed { IfOk result (λ out. out.items ≡ sealed text.now) }
+{
+    let mut out = Vec::new(alloc);
+    push_sealed(&mut out, text)?;
+    Ok(out)
+}
+
+/// Composes the output of `join`.
+fn joined(alloc: Global, input: &[u8]) -> Result<Vec<u8>, PartFault>
+    ensures output { IfOk result (λ output. IsJoined input.now output.items) }
+    ensures no_line { IfErr result (λ fault. (k : ℕ) → fault ≡ BadLine k → ⊥) }
+{
+    let text = unsealed(alloc, input)?;
+    match sealed_text(alloc, text.as_slice()) {
+        Ok(out) => Ok(out),
+        Err(_) => Err(PartFault::Memory),
+    }
+}
+
+/// Splits the quads of a block that have one of the hashes.
+fn split_block_again(
+    alloc: Global,
+    state: RandomState,
+    hashes: &[u64],
+    block: &[u8],
+    partitions: u64,
+) -> Result<Vec<u8>, PartFault>
+    requires some { 0 < partitions }
+    ensures parts { IfOk result (λ out. (quads : List QuadParts) × HaveStatements (lines block.now) quads
+        × (out.items ≡ again_parts hashes.now partitions quads)) }
+    ensures bad_line { IfErr result
+        (λ fault. (k : ℕ) → fault ≡ BadLine k → IsFirstMalformed (lines block.now) k) }
+{
+    match split_again(alloc, state, hashes, block, partitions) {
+        Ok(out) => Ok(out),
+        Err(PieceFault::BadLine(line)) => Err(PartFault::BadLine(line)),
+        Err(PieceFault::Memory) => Err(PartFault::Memory),
+    }
+}
+
+/// Composes the output of `again`.
+fn again(
+    alloc: Global,
+    state: RandomState,
+    input: &[u8],
+    partitions: u64,
+) -> Result<Vec<u8>, PartFault>
+    requires some { 0 < partitions }
+    ensures output { IfOk result (λ output. IsAgain partitions input.now output.items) }
+    ensures bad_line { IfErr result (λ fault. (k : ℕ) → fault ≡ BadLine k → IsBadBlock input.now k) }
+{
+    let (list, block) = first_text(input)?;
+    let hashes = numbers(alloc, list)?;
+    match split_block_again(alloc, state, hashes.as_slice(), block, partitions) {
+        Ok(out) => Ok(out),
+        Err(fault) => Err(fault),
+    }
+}
+
+/// Composes the output of `split check`.
+fn split(
+    alloc: Global,
+    state: RandomState,
+    input: &[u8],
+    partitions: u64,
+) -> Result<Vec<u8>, PartFault>
+    requires some { 0 < partitions }
+    ensures output { IfOk result (λ output. IsSplit partitions input.now output.items) }
+    ensures bad_line { IfErr result
+        (λ fault. (k : ℕ) → fault ≡ BadLine k → IsFirstMalformed (lines input.now) k) }
+{
+    match split_for_check(alloc, state, input, partitions) {
+        Ok(out) => Ok(out),
+        Err(PieceFault::BadLine(line)) => Err(PartFault::BadLine(line)),
+        Err(PieceFault::Memory) => Err(PartFault::Memory),
+    }
+}
+
+/// Composes the output of a command for its input.
+///
+/// # Requires
+/// The command has at least one partition.
+///
+/// # Errors
+/// - `BadLine(k)` if line k of the block or of the joined documents, counted from 0, is the first that is malformed.
+/// - `Version` if another version of the program wrote the input.
+/// - `Damaged` if the input was damaged.
+/// - `Memory` if an allocation fails.
+pub fn compose(
+    alloc: Global,
+    state: RandomState,
+    command: &Command,
+    input: &[u8],
+) -> Result<Vec<u8>, PartFault>
+    requires partitions { HasPartitions command.now }
+    ensures output { IfOk result (λ output. IsOutput command.now input.now output.items) }
+    ensures bad_line { IfErr result
+        (λ fault. (k : ℕ) → fault ≡ BadLine k → IsBadInput command.now input.now k) }
+{
+    match command {
+        Command::SplitCheck(partitions) => split(alloc, state, input, *partitions),
+        Command::Count => counted(alloc, state, input),
+        Command::Repeated => repeated(alloc, state, input),
+        Command::Join => joined(alloc, input),
+        Command::Again(partitions) => again(alloc, state, input, *partitions),
+    }
+}

@@ -1,0 +1,48 @@
+//! Why a command was not done.
+ghost use Rattle.std.specs.Prelude.{◌≡◌, ℕ};
+ghost use Rattle.part_core.specs.declared.fault.PartFault.TheVariants.{BadLine};
+
+use cluster_parts::SealFault;
+use nquads_core::ReadFault;
+
+/// Why a command was not done.
+#[derive(Clone, Copy, Debug, Drop, PartialEq, Eq)]
+pub enum PartFault {
+    /// The line of the block, counted from 0, is the first malformed line.
+    BadLine(u64),
+    /// The input was written by another version of the program, or by another program.
+    Version,
+    /// The input was damaged on its way.
+    Damaged,
+    /// Out of memory.
+    Memory,
+    /// The reader failed.
+    Read,
+    /// The writer failed, or took no byte of a text that was not empty.
+    Write,
+    /// The words are not a valid command line.
+    Line,
+}
+
+impl PartFault {
+    /// Returns the fault of a sealed text, under the same name.
+    pub(crate) fn of_seal(fault: SealFault) -> PartFault
+        ensures no_line { (k : ℕ) → result ≡ BadLine k → ⊥ }
+    {
+        match fault {
+            SealFault::Version => PartFault::Version,
+            SealFault::Damaged => PartFault::Damaged,
+            SealFault::Memory => PartFault::Memory,
+        }
+    }
+
+    /// Returns the fault of a reader, under the same name.
+    pub(crate) fn of_read(fault: ReadFault) -> PartFault
+        ensures no_line { (k : ℕ) → result ≡ BadLine k → ⊥ }
+    {
+        match fault {
+            ReadFault::Read => PartFault::Read,
+            ReadFault::Memory => PartFault::Memory,
+        }
+    }
+}
