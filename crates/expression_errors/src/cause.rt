@@ -48,7 +48,7 @@ impl Cause {
     }
 
     /// Returns whether queries meet this cause on purpose, as `OPTIONAL` makes unbound variables. It
-    /// is worth a note only if no row passed.
+    /// is worth a note only if every row has an error.
     pub fn is_common(&self) -> bool {
         match self {
             Cause::Unbound(_) | Cause::Call | Cause::NotLiteral => true,

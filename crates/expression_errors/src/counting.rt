@@ -11,10 +11,10 @@ use rdf_core::Term;
 use std::alloc::{AllocError, Global};
 
 impl<'a> Place<'a> {
-    /// Notes that some row passed.
-    fn pass(self) {
+    /// Notes that the expression had a value over some row.
+    fn note_value(self) {
         if let Some(counter) = self.counter {
-            counter.pass();
+            counter.note_value();
         }
     }
 
@@ -80,11 +80,10 @@ pub fn test_counted<R: Lookup>(
     ensures takes_none { takes_none condition.now ≡ true → IsOk result }
 {
     match truth_value(alloc, condition, row)? {
-        Some(true) => {
-            place.pass();
-            Ok(true)
+        Some(passes) => {
+            place.note_value();
+            Ok(passes)
         }
-        Some(false) => Ok(false),
         None => {
             place.count_condition(alloc, condition, row);
             Ok(false)
@@ -111,7 +110,7 @@ pub fn value_counted<R: Lookup>(
 {
     match value(alloc, expression, row) {
         Ok(term) => {
-            place.pass();
+            place.note_value();
             Ok(term)
         }
         Err(ExprFault::Error) => {

@@ -1,5 +1,7 @@
 //! The number of rows for each expression and cause, shared by the workers.
 use crate::cause::Cause;
+use crate::digest::{Owner, digest_of};
+use expression_values::Expr;
 use std::alloc::{AllocError, Global};
 use std::sync::OnceLock;
 use std::sync::atomic::{AtomicU64, Ordering};
@@ -134,80 +136,106 @@ fn push_count(
     Ok(())
 }
 
-/// The counts of one expression of a plan.
+/// The counts of the equal expressions of a plan.
 #[derive(Drop)]
 pub(crate) struct Counter {
-    /// 1 if some row passed, or had a value.
-    passed: AtomicU64,
+    digest: u64,
+    /// The numbers of the expressions.
+    expressions: Vec<usize>,
+    /// 1 if an expression had a value over some row.
+    valued: AtomicU64,
     /// A counter for each FILTER of the condition.
     pub(crate) parts: Vec<PartCounter>,
 }
 
 impl Counter {
-    fn new(alloc: Global, filters: usize) -> Result<Counter, AllocError> {
+    fn new(alloc: Global, key: Key) -> Result<Counter, AllocError> {
         let mut parts = Vec::new(alloc);
-        for _ in 0..filters.max(1) {
+        for _ in 0..key.filters.max(1) {
             parts.push(PartCounter::new(alloc)?)?;
         }
         Ok(Counter {
-            passed: AtomicU64::new(0),
+            digest: key.digest,
+            expressions: Vec::new(alloc),
+            valued: AtomicU64::new(0),
             parts,
         })
     }
 
-    /// Notes that some row passed. It writes once.
-    pub(crate) fn pass(&self) {
-        if self.passed.load(Ordering::SeqCst) == 0 {
-            self.passed.store(1, Ordering::SeqCst);
+    /// Notes that an expression had a value over some row. It writes once.
+    pub(crate) fn note_value(&self) {
+        if self.valued.load(Ordering::SeqCst) == 0 {
+            self.valued.store(1, Ordering::SeqCst);
         }
     }
 }
 
-/// The counts of all expressions of a plan. Workers share it.
-#[derive(Drop)]
-pub struct ErrorCounts {
-    expressions: Vec<Counter>,
-}
-
-/// The rows over which one expression was an error, for one cause.
-#[derive(Drop)]
-pub struct Tally {
+/// What is known of an expression before an evaluation.
+#[derive(Clone, Copy, Debug, PartialEq, Eq, PartialOrd, Ord)]
+pub struct Key {
+    /// The digest of the expression and its operator.
+    pub digest: u64,
     /// The number of the expression.
     pub expression: usize,
+    /// The number of FILTERs that the expression joins with `&&`, from left to right.
+    pub filters: usize,
+}
+
+/// The counts of all expressions of a plan. Workers share it.
+///
+/// An evaluation finds the counts of an expression by its digest. So equal expressions of equal
+/// operators are counted together.
+#[derive(Drop)]
+pub struct ErrorCounts {
+    /// In the order of their digests.
+    counters: Vec<Counter>,
+}
+
+/// The rows over which equal expressions were errors, for one cause.
+#[derive(Drop)]
+pub struct Tally {
+    /// The numbers of the expressions, from the least.
+    pub expressions: Vec<usize>,
     /// The FILTER of its group, from 0 in the order of the text.
     pub filter: usize,
     pub cause: Cause,
     pub rows: u64,
-    /// Whether the expression was true, or had a value, over no row.
-    pub is_never_true: bool,
+    /// Whether the expressions were errors over every row.
+    pub is_everywhere: bool,
 }
 
 impl ErrorCounts {
-    /// Creates counts that count nothing.
-    pub fn none(alloc: Global) -> ErrorCounts {
-        ErrorCounts {
-            expressions: Vec::new(alloc),
-        }
-    }
-
-    /// Creates the counts of a plan's expressions, each with the number of its FILTERs.
+    /// Creates the counts of a plan's expressions.
     ///
     /// # Errors
     /// `AllocError` if an allocation fails.
-    pub fn new(alloc: Global, filters: &[usize]) -> Result<ErrorCounts, AllocError> {
-        let mut expressions = Vec::with_capacity(alloc, filters.len())?;
-        for count in filters {
-            expressions.push(Counter::new(alloc, *count)?)?;
+    pub fn new(alloc: Global, mut keys: Vec<Key>) -> Result<ErrorCounts, AllocError> {
+        keys.sort()?;
+        let mut counters: Vec<Counter> = Vec::new(alloc);
+        for key in keys {
+            add_key(alloc, &mut counters, key)?;
         }
-        Ok(ErrorCounts { expressions })
+        Ok(ErrorCounts { counters })
     }
 
-    /// Returns the place where the errors of the expression with this number are counted. Those of
-    /// other numbers are not counted.
-    pub fn place(&self, expression: usize) -> Place<'_> {
-        Place {
-            counter: self.expressions.get(expression),
+    /// Returns the place where the errors of an operator's expression are counted. Those of an
+    /// expression that has no counts are not counted, nor are any if memory is short.
+    pub fn place(&self, alloc: Global, owner: Owner, expr: &Expr) -> Place<'_> {
+        match digest_of(alloc, owner, expr) {
+            Ok(digest) => Place {
+                counter: self.find(digest),
+            },
+            Err(_) => Place::none(),
         }
+    }
+
+    fn find(&self, digest: u64) -> Option<&Counter> {
+        for counter in &self.counters {
+            if counter.digest == digest {
+                return Some(counter);
+            }
+        }
+        None
     }
 
     /// Returns the counts that are not zero.
@@ -216,31 +244,45 @@ impl ErrorCounts {
     /// `AllocError` if an allocation fails.
     pub fn tallies(&self, alloc: Global) -> Result<Vec<Tally>, AllocError> {
         let mut tallies = Vec::new(alloc);
-        for (expression, counter) in self.expressions.iter().enumerate() {
-            push_tallies(&mut tallies, alloc, expression, counter)?;
+        for counter in &self.counters {
+            push_tallies(&mut tallies, alloc, counter)?;
         }
         Ok(tallies)
     }
 }
 
-/// Appends the counts of one expression.
+/// Adds an expression to the last counter if that has its digest, or else to a counter of its own.
+fn add_key(alloc: Global, counters: &mut Vec<Counter>, key: Key) -> Result<(), AllocError> {
+    let is_known = match counters.last() {
+        Some(last) => last.digest == key.digest,
+        None => false,
+    };
+    if !is_known {
+        counters.push(Counter::new(alloc, key)?)?;
+    }
+    match counters.last_mut() {
+        Some(last) => Ok(last.expressions.push(key.expression)?),
+        None => Ok(()),
+    }
+}
+
+/// Appends the counts of one counter.
 fn push_tallies(
     tallies: &mut Vec<Tally>,
     alloc: Global,
-    expression: usize,
     counter: &Counter,
 ) -> Result<(), AllocError> {
-    let is_never_true = counter.passed.load(Ordering::SeqCst) == 0;
+    let is_everywhere = counter.valued.load(Ordering::SeqCst) == 0;
     for (filter, part) in counter.parts.iter().enumerate() {
         let mut counts = Vec::new(alloc);
         part.push_into(alloc, &mut counts)?;
         for (cause, rows) in counts {
             tallies.push(Tally {
-                expression,
+                expressions: counter.expressions.clone()?,
                 filter,
                 cause,
                 rows,
-                is_never_true,
+                is_everywhere,
             })?;
         }
     }
@@ -251,4 +293,11 @@ fn push_tallies(
 #[derive(Clone, Copy)]
 pub struct Place<'a> {
     pub(crate) counter: Option<&'a Counter>,
+}
+
+impl<'a> Place<'a> {
+    /// Returns a place where nothing is counted.
+    pub fn none() -> Place<'a> {
+        Place { counter: None }
+    }
 }

@@ -10,7 +10,7 @@
 //! the causes are, and which of them count, is a choice of this project.
 //!
 //! Reading order: `cause` (what can be wrong with terms), `search` (which part of an expression is
-//! wrong), `counts`, `counting`. Tests: `errors` of the crate query_tests.
+//! wrong), `digest` (how an evaluation finds the counts), `counts`, `counting`. Tests: `errors` of the crate query_tests.
 //!
 //! ```text
 //! condition_cause(alloc, &less, &row)   // ?l < "x", where ?l is "a"@en: Some(Cause::Tagged)
@@ -22,9 +22,11 @@
 mod cause;
 mod counting;
 mod counts;
+mod digest;
 mod search;
 
 pub use cause::Cause;
 pub use counting::{test_counted, value_counted};
-pub use counts::{ErrorCounts, Place, Tally};
+pub use counts::{ErrorCounts, Key, Place, Tally};
+pub use digest::{Owner, digest_of};
 pub use search::{condition_cause, value_cause};
