@@ -19,15 +19,16 @@ ghost use Rattle.sparql_eval.specs.Evaluated.{AreKnown, IsEvaluated, solutions_o
 ghost use Rattle.sparql_eval.specs.TreeSolutions.{Needed, graph_solutions, tree_solutions};
 
 use crate::distinctness::distinct;
-use crate::extensions::extend;
-use crate::filters::filter;
+use crate::extensions::extend_with;
+use crate::filters::filter_with;
 use crate::graphs::{add_graph, graph_number};
-use crate::joins::{join_of, left_join, minus};
+use crate::joins::{join_of, left_join_with, minus};
 use crate::patterns::pattern;
 use crate::projections::project_of;
 use crate::tables::table;
 use crate::unions::union_of;
 use dict_core::Dict;
+use expression_errors::{ErrorCounts, Owner, Place};
 use piece_pool::Gate;
 use quad_index::Index;
 use row_core::Rows;
@@ -41,7 +42,7 @@ use std::thread::Threads;
 /// The context of an evaluation: the index, the number of variables, the state that rows are hashed
 /// with, and the workers.
 #[derive(Drop)]
-pub(crate) struct Evaluator<'a, R, G> {
+pub(crate) struct Evaluator<'a, 'c, R, G> {
     pub(crate) rt: &'a R,
     pub(crate) alloc: Global,
     pub(crate) state: RandomState,
@@ -49,10 +50,20 @@ pub(crate) struct Evaluator<'a, R, G> {
     pub(crate) width: usize,
     pub(crate) how: &'a How,
     pub(crate) gate: &'a G,
+    /// Where the errors of expressions are counted.
+    pub(crate) counts: Option<&'c ErrorCounts>,
     pub(crate) ghost runnable: { IsRunnable how.now },
 }
 
-impl<'a, R: Threads + Wait, G: Gate + Sync> Evaluator<'a, R, G> {
+impl<'a, 'c, R: Threads + Wait, G: Gate + Sync> Evaluator<'a, 'c, R, G> {
+    /// Returns where the errors of an operator's expression are counted.
+    fn place(&self, owner: Owner, expr: &Expr) -> Place<'c> {
+        match self.counts {
+            Some(counts) => counts.place(self.alloc, owner, expr),
+            None => Place::none(),
+        }
+    }
+
     /// Evaluates a tree with the graph of this number active, or the default graph if it is None.
     /// Only the terms of VALUES and the values of Extend are added to the dictionary.
     #[cycle(solve)]
@@ -166,8 +177,10 @@ impl<'a, R: Threads + Wait, G: Gate + Sync> Evaluator<'a, R, G> {
         ensures one_worker { HasOneWorker self.now.how.now → IfErr result (λ fault. fault ≡ Memory) }
     {
         let (right, dict) = self.solve(dict, active, right)?;
-        left_join(
+        let place = self.place(Owner::LeftJoin, condition);
+        left_join_with(
             self.rt, self.alloc, self.state, dict, &left, &right, condition, self.how, self.gate,
+            place,
         )
     }
 
@@ -243,8 +256,9 @@ impl<'a, R: Threads + Wait, G: Gate + Sync> Evaluator<'a, R, G> {
         ensures one_worker { HasOneWorker self.now.how.now → IfErr result (λ fault. fault ≡ Memory) }
     {
         let (rows, dict) = self.solve(dict, active, inner)?;
-        filter(
-            self.rt, self.alloc, dict, &rows, condition, self.how, self.gate,
+        let place = self.place(Owner::Filter, condition);
+        filter_with(
+            self.rt, self.alloc, dict, &rows, condition, self.how, self.gate, place,
         )
     }
 
@@ -270,8 +284,10 @@ impl<'a, R: Threads + Wait, G: Gate + Sync> Evaluator<'a, R, G> {
         ensures one_worker { HasOneWorker self.now.how.now → IfErr result (λ fault. fault ≡ Memory) }
     {
         let (rows, dict) = self.solve(dict, active, inner)?;
-        extend(
-            self.rt, self.alloc, self.state, dict, &rows, variable, expression, self.how, self.gate,
+        let place = self.place(Owner::Extend(variable), expression);
+        extend_with(
+            self.rt, self.alloc, self.state, dict, &rows, variable, expression, self.how,
+            self.gate, place,
         )
     }
 

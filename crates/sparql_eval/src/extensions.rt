@@ -13,6 +13,7 @@ use crate::operator_result::with_dict;
 use crate::piece_values::number_values;
 use crate::values::values_of;
 use dict_core::Dict;
+use expression_errors::Place;
 use piece_pool::Gate;
 use row_core::Rows;
 use row_pieces::{EvalFault, How};
@@ -62,9 +63,46 @@ pub fn extend<R: Threads + Wait, G: Gate + Sync>(
     ensures alone { length rows.now.rows ≤ how.now.rows → IfErr result (λ fault. fault ≡ Memory) }
     ensures one_worker { HasOneWorker how.now → IfErr result (λ fault. fault ≡ Memory) }
 {
+    extend_with(
+        rt,
+        alloc,
+        state,
+        dict,
+        rows,
+        variable,
+        expression,
+        how,
+        gate,
+        Place::none(),
+    )
+}
+
+/// Evaluates Extend, as [`extend`] does. Rows over which the expression is an error are counted.
+pub(crate) fn extend_with<R: Threads + Wait, G: Gate + Sync>(
+    rt: &R,
+    alloc: Global,
+    state: RandomState,
+    dict: Dict,
+    rows: &Rows,
+    variable: usize,
+    expression: &Expr,
+    how: &How,
+    gate: &G,
+    place: Place<'_>,
+) -> Result<(Rows, Dict), EvalFault>
+    requires known { AreKnown dict rows.now }
+    requires variable { variable < rows.now.width }
+    requires how { IsRunnable how.now }
+    ensures evaluated { IfOk result (λ r. IsEvaluated dict rows.now.width
+        (extend variable (val (expression_of expression.now)) (solutions_of dict rows.now)) r.0 r.1) }
+    ensures needed { IfOk result (λ r. TakesOnly
+        (IsValue (val (expression_of expression.now)) (solutions_of dict rows.now)) dict r.1) }
+    ensures alone { length rows.now.rows ≤ how.now.rows → IfErr result (λ fault. fault ≡ Memory) }
+    ensures one_worker { HasOneWorker how.now → IfErr result (λ fault. fault ≡ Memory) }
+{
     let mut dict = dict;
     let made = extended(
-        rt, alloc, state, &mut dict, rows, variable, expression, how, gate,
+        rt, alloc, state, &mut dict, rows, variable, expression, how, gate, place,
     );
     with_dict(made, dict)
 }
@@ -80,6 +118,7 @@ fn extended<R: Threads + Wait, G: Gate + Sync>(
     expression: &Expr,
     how: &How,
     gate: &G,
+    place: Place<'_>,
 ) -> Result<Rows, EvalFault>
     requires known { AreKnown dict.old rows.now }
     requires variable { variable < rows.now.width }
@@ -91,7 +130,7 @@ fn extended<R: Threads + Wait, G: Gate + Sync>(
     ensures alone { length rows.now.rows ≤ how.now.rows → IfErr result (λ fault. fault ≡ Memory) }
     ensures one_worker { HasOneWorker how.now → IfErr result (λ fault. fault ≡ Memory) }
 {
-    let pieces = values_of(rt, alloc, state, dict, rows, expression, how, gate)?;
+    let pieces = values_of(rt, alloc, state, dict, rows, expression, how, gate, place)?;
     let numbers = number_values(alloc, dict, pieces)?;
     let made = extend_rows(alloc, rows, variable, numbers.as_slice())?;
     Ok(made)

@@ -10,10 +10,11 @@ ghost use Rattle.sparql_eval.specs.Numbered.{AreKnownAt};
 use crate::operator_result::with_dict;
 use crate::read_row::ReadRow;
 use dict_core::Dict;
+use expression_errors::{Place, test_counted};
 use piece_pool::Gate;
 use row_core::Rows;
 use row_pieces::{EvalFault, How, RowWork, over_pieces};
-use sparql_algebra::{Expr, test};
+use sparql_algebra::Expr;
 use std::alloc::{AllocError, Global};
 use std::sync::Wait;
 use std::thread::Threads;
@@ -48,7 +49,29 @@ pub fn filter<R: Threads + Wait, G: Gate + Sync>(
     ensures alone { length rows.now.rows ≤ how.now.rows → IfErr result (λ fault. fault ≡ Memory) }
     ensures one_worker { HasOneWorker how.now → IfErr result (λ fault. fault ≡ Memory) }
 {
-    let made = filtered(rt, alloc, &dict, rows, condition, how, gate);
+    filter_with(rt, alloc, dict, rows, condition, how, gate, Place::none())
+}
+
+/// Evaluates Filter, as [`filter`] does. Rows over which the condition is an error are counted.
+pub(crate) fn filter_with<R: Threads + Wait, G: Gate + Sync>(
+    rt: &R,
+    alloc: Global,
+    dict: Dict,
+    rows: &Rows,
+    condition: &Expr,
+    how: &How,
+    gate: &G,
+    place: Place<'_>,
+) -> Result<(Rows, Dict), EvalFault>
+    requires known { AreKnown dict rows.now }
+    requires how { IsRunnable how.now }
+    ensures evaluated { IfOk result (λ r. IsEvaluated dict rows.now.width
+        (filter (holds (expression_of condition.now)) (solutions_of dict rows.now)) r.0 r.1) }
+    ensures same_dict { IfOk result (λ r. r.1 ≡ dict) }
+    ensures alone { length rows.now.rows ≤ how.now.rows → IfErr result (λ fault. fault ≡ Memory) }
+    ensures one_worker { HasOneWorker how.now → IfErr result (λ fault. fault ≡ Memory) }
+{
+    let made = filtered(rt, alloc, &dict, rows, condition, how, gate, place);
     with_dict(made, dict)
 }
 
@@ -61,6 +84,7 @@ fn filtered<R: Threads + Wait, G: Gate + Sync>(
     condition: &Expr,
     how: &How,
     gate: &G,
+    place: Place<'_>,
 ) -> Result<Rows, EvalFault>
     requires known { AreKnown dict.now rows.now }
     requires how { IsRunnable how.now }
@@ -73,6 +97,7 @@ fn filtered<R: Threads + Wait, G: Gate + Sync>(
         dict,
         rows,
         condition,
+        place,
     };
     over_pieces(rt, alloc, &work, how, gate)
 }
@@ -83,6 +108,7 @@ struct FilterWork<'a> {
     dict: &'a Dict,
     rows: &'a Rows,
     condition: &'a Expr,
+    place: Place<'a>,
     ghost known: { AreKnownAt dict.now rows.now.rows },
 }
 
@@ -109,7 +135,7 @@ impl<'a> RowWork for FilterWork<'a> {
                 dict: self.dict,
                 row: self.rows.row(i),
             };
-            if test(alloc, self.condition, &row)? {
+            if test_counted(alloc, self.condition, &row, self.place)? {
                 made.push(row.row)?;
             }
         }

@@ -13,11 +13,12 @@ ghost use Rattle.sparql_eval.specs.Evaluated.{AreKnown, IsEvaluated, solutions_o
 use crate::operator_result::with_dict;
 use crate::read_row::ReadRow;
 use dict_core::Dict;
+use expression_errors::{Place, test_counted};
 use piece_pool::Gate;
 use row_core::Rows;
 use row_join::RowTest;
 use row_pieces::{EvalFault, How};
-use sparql_algebra::{Expr, test};
+use sparql_algebra::Expr;
 use std::alloc::{AllocError, Global};
 use std::hash::RandomState;
 use std::sync::Wait;
@@ -144,7 +145,48 @@ pub fn left_join<R: Threads + Wait, G: Gate + Sync>(
     ensures alone { length left.now.rows ≤ how.now.rows → IfErr result (λ fault. fault ≡ Memory) }
     ensures one_worker { HasOneWorker how.now → IfErr result (λ fault. fault ≡ Memory) }
 {
-    let made = left_joined(rt, alloc, state, &dict, left, right, condition, how, gate);
+    left_join_with(
+        rt,
+        alloc,
+        state,
+        dict,
+        left,
+        right,
+        condition,
+        how,
+        gate,
+        Place::none(),
+    )
+}
+
+/// Evaluates LeftJoin, as [`left_join`] does. Pairs of rows over which the condition is an error are
+/// counted.
+pub(crate) fn left_join_with<R: Threads + Wait, G: Gate + Sync>(
+    rt: &R,
+    alloc: Global,
+    state: RandomState,
+    dict: Dict,
+    left: &Rows,
+    right: &Rows,
+    condition: &Expr,
+    how: &How,
+    gate: &G,
+    place: Place<'_>,
+) -> Result<(Rows, Dict), EvalFault>
+    requires same_width { left.now.width ≡ right.now.width }
+    requires known_left { AreKnown dict left.now }
+    requires known_right { AreKnown dict right.now }
+    requires how { IsRunnable how.now }
+    ensures evaluated { IfOk result (λ r. IsEvaluated dict left.now.width
+        (left_join term_eq (holds (expression_of condition.now))
+        (solutions_of dict left.now) (solutions_of dict right.now)) r.0 r.1) }
+    ensures same_dict { IfOk result (λ r. r.1 ≡ dict) }
+    ensures alone { length left.now.rows ≤ how.now.rows → IfErr result (λ fault. fault ≡ Memory) }
+    ensures one_worker { HasOneWorker how.now → IfErr result (λ fault. fault ≡ Memory) }
+{
+    let made = left_joined(
+        rt, alloc, state, &dict, left, right, condition, how, gate, place,
+    );
     with_dict(made, dict)
 }
 
@@ -159,6 +201,7 @@ fn left_joined<R: Threads + Wait, G: Gate + Sync>(
     condition: &Expr,
     how: &How,
     gate: &G,
+    place: Place<'_>,
 ) -> Result<Rows, EvalFault>
     requires same_width { left.now.width ≡ right.now.width }
     requires known_left { AreKnown dict.now left.now }
@@ -171,7 +214,11 @@ fn left_joined<R: Threads + Wait, G: Gate + Sync>(
     ensures one_worker { HasOneWorker how.now → IfErr result (λ fault. fault ≡ Memory) }
 {
     let _distinct = dict.len();
-    let test = Condition { dict, condition };
+    let test = Condition {
+        dict,
+        condition,
+        place,
+    };
     row_join::left_join(rt, alloc, state, left, right, &test, how, gate)
 }
 
@@ -219,6 +266,7 @@ pub fn minus<R: Threads + Wait, G: Gate + Sync>(
 struct Condition<'a> {
     dict: &'a Dict,
     condition: &'a Expr,
+    place: Place<'a>,
 }
 
 impl<'a> RowTest for Condition<'a> {
@@ -237,6 +285,6 @@ impl<'a> RowTest for Condition<'a> {
             dict: self.dict,
             row,
         };
-        test(alloc, self.condition, &row)
+        test_counted(alloc, self.condition, &row, self.place)
     }
 }

@@ -234,19 +234,19 @@ solve_join-returns-clause-needed g t c =
     let s = c.args.self.now in
     takes_still (Needed c.args.dict s.index.now s.width c.args.active (algebra_of c.args.right.now)) c.args.dict c.in_ok-right.dict c.join_of.result c.in_ok-right.ensures.needed c.join_of.ensures.same_dict
 
-pub solve_left_join-left_join-requires-clause-known_left : goal.solve_left_join-left_join-requires-clause-known_left
-solve_left_join-left_join-requires-clause-known_left g t c κs within = (rows_kept c.args.dict c.in_ok-right.dict c.in_ok-right.ensures.evaluated.grown c.args.left.rows c.requires.known_left).0
+pub solve_left_join-left_join_with-requires-clause-known_left : goal.solve_left_join-left_join_with-requires-clause-known_left
+solve_left_join-left_join_with-requires-clause-known_left g t c κs within = (rows_kept c.args.dict c.in_ok-right.dict c.in_ok-right.ensures.evaluated.grown c.args.left.rows c.requires.known_left).0
 
 pub solve_left_join-returns-clause-evaluated : goal.solve_left_join-returns-clause-evaluated
 solve_left_join-returns-clause-evaluated g t c =
     let s = c.args.self.now in
     let S : Operator → List (Solution Term) = λ tree. tree_solutions c.args.dict s.index.now s.width c.args.active tree in
-    after_right c.args.dict c.in_ok-right.dict s.width c.left_join.result (left_join term_eq (holds (expression_of c.args.condition.now))) (left_join_keeps (holds (expression_of c.args.condition.now))) (S c.args.right.now) c.args.left c.in_ok-right.right c.requires.same_width c.requires.known_left c.in_ok-right.ensures.evaluated c.left_join.ensures.evaluated
+    after_right c.args.dict c.in_ok-right.dict s.width c.left_join_with.result (left_join term_eq (holds (expression_of c.args.condition.now))) (left_join_keeps (holds (expression_of c.args.condition.now))) (S c.args.right.now) c.args.left c.in_ok-right.right c.requires.same_width c.requires.known_left c.in_ok-right.ensures.evaluated c.left_join_with.ensures.evaluated
 
 pub solve_left_join-returns-clause-needed : goal.solve_left_join-returns-clause-needed
 solve_left_join-returns-clause-needed g t c =
     let s = c.args.self.now in
-    takes_still (Needed c.args.dict s.index.now s.width c.args.active (algebra_of c.args.right.now)) c.args.dict c.in_ok-right.dict c.left_join.result c.in_ok-right.ensures.needed c.left_join.ensures.same_dict
+    takes_still (Needed c.args.dict s.index.now s.width c.args.active (algebra_of c.args.right.now)) c.args.dict c.in_ok-right.dict c.left_join_with.result c.in_ok-right.ensures.needed c.left_join_with.ensures.same_dict
 
 pub solve_union-union_of-requires-clause-known_left : goal.solve_union-union_of-requires-clause-known_left
 solve_union-union_of-requires-clause-known_left g t c = (rows_kept c.args.dict c.in_ok-right.dict c.in_ok-right.ensures.evaluated.grown c.args.left.rows c.requires.known_left).0
@@ -280,24 +280,24 @@ pub solve_filter-returns-clause-evaluated : goal.solve_filter-returns-clause-eva
 solve_filter-returns-clause-evaluated g t c =
     let s = c.args.self.now in
     let S : Operator → List (Solution Term) = λ tree. tree_solutions c.args.dict s.index.now s.width c.args.active tree in
-    after_one c.args.dict c.in_ok-rows.dict s.width c.filter.result (filter (holds (expression_of c.args.condition.now))) (filter_keeps (holds (expression_of c.args.condition.now))) (S c.args.inner.now) c.in_ok-rows.rows c.in_ok-rows.ensures.evaluated c.filter.ensures.evaluated
+    after_one c.args.dict c.in_ok-rows.dict s.width c.filter_with.result (filter (holds (expression_of c.args.condition.now))) (filter_keeps (holds (expression_of c.args.condition.now))) (S c.args.inner.now) c.in_ok-rows.rows c.in_ok-rows.ensures.evaluated c.filter_with.ensures.evaluated
 
 pub solve_filter-returns-clause-needed : goal.solve_filter-returns-clause-needed
 solve_filter-returns-clause-needed g t c =
     let s = c.args.self.now in
-    takes_still (Needed c.args.dict s.index.now s.width c.args.active (algebra_of c.args.inner.now)) c.args.dict c.in_ok-rows.dict c.filter.result c.in_ok-rows.ensures.needed c.filter.ensures.same_dict
+    takes_still (Needed c.args.dict s.index.now s.width c.args.active (algebra_of c.args.inner.now)) c.args.dict c.in_ok-rows.dict c.filter_with.result c.in_ok-rows.ensures.needed c.filter_with.ensures.same_dict
 
 pub solve_extend-returns-clause-evaluated : goal.solve_extend-returns-clause-evaluated
 solve_extend-returns-clause-evaluated g t c =
     let s = c.args.self.now in
     let S : Operator → List (Solution Term) = λ tree. tree_solutions c.args.dict s.index.now s.width c.args.active tree in
-    after_one c.args.dict c.in_ok-rows.dict s.width c.extend.result (extend c.args.variable (val (expression_of c.args.expression.now))) (extend_keeps c.args.variable (val (expression_of c.args.expression.now))) (S c.args.inner.now) c.in_ok-rows.rows c.in_ok-rows.ensures.evaluated c.extend.ensures.evaluated
+    after_one c.args.dict c.in_ok-rows.dict s.width c.extend_with.result (extend c.args.variable (val (expression_of c.args.expression.now))) (extend_keeps c.args.variable (val (expression_of c.args.expression.now))) (S c.args.inner.now) c.in_ok-rows.rows c.in_ok-rows.ensures.evaluated c.extend_with.ensures.evaluated
 
 pub solve_extend-returns-clause-needed : goal.solve_extend-returns-clause-needed
 solve_extend-returns-clause-needed g t c =
     let s = c.args.self.now in
-    takes_values c.args.dict s.index.now s.width c.args.active c.extend.result c.args.variable (expression_of c.args.expression.now) (algebra_of c.args.inner.now)
-    c.in_ok-rows.dict c.in_ok-rows.rows c.in_ok-rows.ensures.evaluated c.in_ok-rows.ensures.needed c.extend.ensures.needed
+    takes_values c.args.dict s.index.now s.width c.args.active c.extend_with.result c.args.variable (expression_of c.args.expression.now) (algebra_of c.args.inner.now)
+    c.in_ok-rows.dict c.in_ok-rows.rows c.in_ok-rows.ensures.evaluated c.in_ok-rows.ensures.needed c.extend_with.ensures.needed
 
 pub solve_project-returns-clause-evaluated : goal.solve_project-returns-clause-evaluated
 solve_project-returns-clause-evaluated g t c =
@@ -689,14 +689,14 @@ solve_join-join_of-requires-clause-known_right g t c κs within = c.in_ok-right.
 pub solve_join-returns-clause-one_worker : goal.solve_join-returns-clause-one_worker
 solve_join-returns-clause-one_worker g t c = c.join_of.ensures.one_worker
 
-pub solve_left_join-left_join-requires-clause-same_width : goal.solve_left_join-left_join-requires-clause-same_width
-solve_left_join-left_join-requires-clause-same_width g t c κs within = c.requires.same_width ∙ sym c.in_ok-right.ensures.evaluated.wide
+pub solve_left_join-left_join_with-requires-clause-same_width : goal.solve_left_join-left_join_with-requires-clause-same_width
+solve_left_join-left_join_with-requires-clause-same_width g t c κs within = c.requires.same_width ∙ sym c.in_ok-right.ensures.evaluated.wide
 
-pub solve_left_join-left_join-requires-clause-known_right : goal.solve_left_join-left_join-requires-clause-known_right
-solve_left_join-left_join-requires-clause-known_right g t c κs within = c.in_ok-right.ensures.evaluated.known
+pub solve_left_join-left_join_with-requires-clause-known_right : goal.solve_left_join-left_join_with-requires-clause-known_right
+solve_left_join-left_join_with-requires-clause-known_right g t c κs within = c.in_ok-right.ensures.evaluated.known
 
 pub solve_left_join-returns-clause-one_worker : goal.solve_left_join-returns-clause-one_worker
-solve_left_join-returns-clause-one_worker g t c = c.left_join.ensures.one_worker
+solve_left_join-returns-clause-one_worker g t c = c.left_join_with.ensures.one_worker
 
 pub solve_minus-minus-requires-clause-same_width : goal.solve_minus-minus-requires-clause-same_width
 solve_minus-minus-requires-clause-same_width g t c κs within = c.requires.same_width ∙ sym c.in_ok-right.ensures.evaluated.wide
@@ -713,35 +713,35 @@ solve_union-union_of-requires-clause-same_width g t c = c.requires.same_width �
 pub solve_union-union_of-requires-clause-known_right : goal.solve_union-union_of-requires-clause-known_right
 solve_union-union_of-requires-clause-known_right g t c = c.in_ok-right.ensures.evaluated.known
 
-pub solve_filter-filter-requires-clause-known : goal.solve_filter-filter-requires-clause-known
-solve_filter-filter-requires-clause-known g t c κs within = c.in_ok-rows.ensures.evaluated.known
+pub solve_filter-filter_with-requires-clause-known : goal.solve_filter-filter_with-requires-clause-known
+solve_filter-filter_with-requires-clause-known g t c κs within = c.in_ok-rows.ensures.evaluated.known
 
-pub solve_extend-extend-requires-clause-known : goal.solve_extend-extend-requires-clause-known
-solve_extend-extend-requires-clause-known g t c κs within = c.in_ok-rows.ensures.evaluated.known
+pub solve_extend-extend_with-requires-clause-known : goal.solve_extend-extend_with-requires-clause-known
+solve_extend-extend_with-requires-clause-known g t c κs within = c.in_ok-rows.ensures.evaluated.known
 
 pub solve_filter-returns-clause-one_worker : goal.solve_filter-returns-clause-one_worker
-solve_filter-returns-clause-one_worker g t c = c.filter.ensures.one_worker
+solve_filter-returns-clause-one_worker g t c = c.filter_with.ensures.one_worker
 
 pub solve_extend-returns-clause-one_worker : goal.solve_extend-returns-clause-one_worker
-solve_extend-returns-clause-one_worker g t c = c.extend.ensures.one_worker
+solve_extend-returns-clause-one_worker g t c = c.extend_with.ensures.one_worker
 
 pub solve_join-join_of-requires-clause-how : goal.solve_join-join_of-requires-clause-how
 solve_join-join_of-requires-clause-how g t c κs within = c.args.self.now.runnable
 
-pub solve_left_join-left_join-requires-clause-how : goal.solve_left_join-left_join-requires-clause-how
-solve_left_join-left_join-requires-clause-how g t c κs within = c.args.self.now.runnable
+pub solve_left_join-left_join_with-requires-clause-how : goal.solve_left_join-left_join_with-requires-clause-how
+solve_left_join-left_join_with-requires-clause-how g t c κs within = c.args.self.now.runnable
 
 pub solve_minus-minus-requires-clause-how : goal.solve_minus-minus-requires-clause-how
 solve_minus-minus-requires-clause-how g t c κs within = c.args.self.now.runnable
 
-pub solve_filter-filter-requires-clause-how : goal.solve_filter-filter-requires-clause-how
-solve_filter-filter-requires-clause-how g t c κs within = c.args.self.now.runnable
+pub solve_filter-filter_with-requires-clause-how : goal.solve_filter-filter_with-requires-clause-how
+solve_filter-filter_with-requires-clause-how g t c κs within = c.args.self.now.runnable
 
-pub solve_extend-extend-requires-clause-how : goal.solve_extend-extend-requires-clause-how
-solve_extend-extend-requires-clause-how g t c κs within = c.args.self.now.runnable
+pub solve_extend-extend_with-requires-clause-how : goal.solve_extend-extend_with-requires-clause-how
+solve_extend-extend_with-requires-clause-how g t c κs within = c.args.self.now.runnable
 
-pub solve_extend-extend-requires-clause-variable : goal.solve_extend-extend-requires-clause-variable
-solve_extend-extend-requires-clause-variable g t c κs within = subst (λ (w : ℕ). c.args.variable < w) (sym c.in_ok-rows.ensures.evaluated.wide) c.requires.variable
+pub solve_extend-extend_with-requires-clause-variable : goal.solve_extend-extend_with-requires-clause-variable
+solve_extend-extend_with-requires-clause-variable g t c κs within = subst (λ (w : ℕ). c.args.variable < w) (sym c.in_ok-rows.ensures.evaluated.wide) c.requires.variable
 
 pub solve_union-returns-clause-one_worker : goal.solve_union-returns-clause-one_worker
 solve_union-returns-clause-one_worker g t c = λ _. c.union_of.ensures.memory

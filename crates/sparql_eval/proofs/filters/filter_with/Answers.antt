@@ -5,7 +5,7 @@ use Rattle.expression_values.specs.ExpressionOf.{expression_of}
 use Rattle.row_pieces.specs.declared.fault.EvalFault.TheVariants.{Memory}
 use Rattle.sparql_eval.specs.Evaluated.{IsEvaluated, solutions_of}
 use Rattle.sparql_eval.proofs.ReturnSteps.{returned, faulted}
-use Rattle.sparql_eval.proofs.filters.filter.Goals as goal
+use Rattle.sparql_eval.proofs.filters.filter_with.Goals as goal
 
 pub returns-clause-evaluated : goal.returns-clause-evaluated
 returns-clause-evaluated g c =

@@ -7,7 +7,7 @@ use Rattle.sparql_eval.proofs.ReturnSteps.{on_ok_so}
 use Rattle.row_pieces.specs.declared.fault.EvalFault.TheVariants.{Memory}
 use Rattle.sparql_eval.specs.Evaluated.{IsEvaluated, solutions_of}
 use Rattle.sparql_eval.proofs.ReturnSteps.{returned, faulted}
-use Rattle.sparql_eval.proofs.extensions.extend.Goals as goal
+use Rattle.sparql_eval.proofs.extensions.extend_with.Goals as goal
 
 pub returns-clause-evaluated : goal.returns-clause-evaluated
 returns-clause-evaluated g c =
