@@ -232,7 +232,7 @@ fn evaluate_held<'a, R: Lookup>(
 /// Returns the effective boolean value of an expression. Returns None if the value or its effective
 /// boolean value is an error.
 #[cycle(evaluate)]
-fn evaluate_truth<R: Lookup>(
+pub(crate) fn evaluate_truth<R: Lookup>(
     alloc: Global,
     expr: &Expr,
     row: &R,

@@ -5,8 +5,8 @@
 //! implements [`Lookup`].
 //!
 //! [`value`] returns the value of an expression over a row, or `Error` exactly if the expression is
-//! an error. [`test`] evaluates the condition of a filter. Many conditions allocate nothing:
-//! `takes_none` of specs/NoAllocation.antt says which.
+//! an error. [`test`] evaluates the condition of a filter, and [`truth_value`] tells an error from
+//! false. Many conditions allocate nothing: `takes_none` of specs/NoAllocation.antt says which.
 //!
 //! [`compare`] compares two terms, and [`truth`] is the effective boolean value of a term. Both are
 //! functions of the crate term_values, reexported here.
@@ -14,7 +14,7 @@
 //! Standard: SPARQL 1.1 Query Language, section 17. The crate algebra_model states its definitions.
 //!
 //! Reading order: `expression` (the tree), `lookup` (rows), `held` (intermediate values),
-//! `evaluation`. Tests: `values` of the crate query_tests.
+//! `evaluation`, `condition`. Tests: `values` of the crate query_tests.
 //!
 //! ```text
 //! value(alloc, &str_of_x, &row)      // STR(?x), where ?x is <http://e/a>: "http://e/a"
@@ -26,11 +26,13 @@
 //! evaluated in a loop.
 #![tactic(auto)]
 
+mod condition;
 mod evaluation;
 mod expression;
 mod held;
 mod lookup;
 
+pub use condition::truth_value;
 pub use evaluation::{ExprFault, test, value};
 pub use expression::Expr;
 pub use lookup::Lookup;

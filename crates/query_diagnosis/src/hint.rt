@@ -33,6 +33,8 @@ pub enum Hint {
     QuotedTriple,
     NoCommas,
     Parentheses,
+    EmptyQuery,
+    ByteOrderMark,
     Declare,
     WholeIri,
     OtherVariable,
@@ -100,6 +102,12 @@ impl Hint {
             Hint::QuotedTriple => "quoted triples (RDF-star) are not supported",
             Hint::NoCommas => "write the variables without commas",
             Hint::Parentheses => "put the condition in parentheses, as in FILTER (!BOUND(?x))",
+            Hint::EmptyQuery => {
+                "the query is empty: with --query \"$(cat FILE)\", check that FILE exists"
+            }
+            Hint::ByteOrderMark => {
+                "the query begins with a byte order mark; save the file as UTF-8 without one"
+            }
             Hint::Declare => "declare it before SELECT, as in PREFIX ex: <http://example.org/>",
             Hint::WholeIri => {
                 "there is no BASE: write the whole IRI, as <http://example.org/name>"

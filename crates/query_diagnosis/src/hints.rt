@@ -147,10 +147,7 @@ fn hint_at_sign(tokens: &[Token<'_>], at: usize, stack: &[Symbol], sign: Sign) -
     match sign {
         Sign::OpenParenthesis => hint_at_open(tokens, at, stack),
         Sign::Comma if is_selection_next(stack) => Some(Hint::NoCommas),
-        Sign::Not
-            if kind_at(tokens, at.saturating_sub(1)) == Some(Kind::Keyword(Keyword::Filter)) => {
-            Some(Hint::Parentheses)
-        }
+        Sign::Not if follows_filter(tokens, at) => { Some(Hint::Parentheses) }
         Sign::Star if may_come(stack, OPERATOR) => Some(Hint::Arithmetic),
         Sign::Star if may_come(stack, TERM) => Some(Hint::Path),
         Sign::Not | Sign::Carets if is_verb_next(stack) => Some(Hint::Path),
@@ -162,12 +159,26 @@ fn hint_at_sign(tokens: &[Token<'_>], at: usize, stack: &[Symbol], sign: Sign) -
     }
 }
 
-/// Returns the hint for a terminal that is not allowed with these symbols on the stack.
+/// Returns whether the terminal before a place is FILTER.
+fn follows_filter(tokens: &[Token<'_>], at: usize) -> bool {
+    match at.checked_sub(1) {
+        Some(before) => kind_at(tokens, before) == Some(Kind::Keyword(Keyword::Filter)),
+        None => false,
+    }
+}
+
+/// Returns the hint for a terminal that is not allowed with these symbols on the stack, or for the
+/// end of a text without terminals.
 pub fn hint_at(tokens: &[Token<'_>], at: usize, stack: &[Symbol]) -> Option<Hint> {
+    if tokens.is_empty() {
+        return Some(Hint::EmptyQuery);
+    }
     match kind_at(tokens, at)? {
         Kind::Word => hint_at_word(tokens, at, stack),
         Kind::Keyword(keyword) => hint_at_keyword(tokens, at, stack, keyword),
         Kind::Sign(sign) => hint_at_sign(tokens, at, stack, sign),
+        Kind::Variable | Kind::ShortString | Kind::Integer | Kind::Decimal
+            if follows_filter(tokens, at) => { Some(Hint::Parentheses) }
         Kind::IriRef if may_come(stack, OPERATOR) => Some(Hint::SpaceAfterLess),
         Kind::SignedInteger | Kind::SignedDecimal | Kind::SignedDouble
             if may_come(stack, OPERATOR) => { Some(Hint::Arithmetic) }
@@ -179,6 +190,7 @@ pub fn hint_at(tokens: &[Token<'_>], at: usize, stack: &[Symbol]) -> Option<Hint
 pub fn hint_at_char(c: char, stack: &[Symbol]) -> Option<Hint> {
     match c {
         '[' => Some(Hint::PropertyList),
+        '\u{FEFF}' => Some(Hint::ByteOrderMark),
         '+' | '-' | '/' if may_come(stack, OPERATOR) || may_come(stack, OPERAND) => {
             Some(Hint::Arithmetic)
         }

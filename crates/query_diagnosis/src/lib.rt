@@ -39,5 +39,5 @@ mod symbol;
 pub use diagnosis::{Diagnosis, diagnose};
 pub use hint::Hint;
 pub use machine::{Cause, Stop, stop_of};
-pub use places::Position;
+pub use places::{Position, offset_of, position_of};
 pub use reports::report;

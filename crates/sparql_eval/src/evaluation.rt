@@ -11,6 +11,7 @@ ghost use Rattle.sparql_eval.specs.Evaluated.{IsEvaluated};
 
 use crate::evaluator::Evaluator;
 use dict_core::Dict;
+use expression_errors::ErrorCounts;
 use piece_pool::Gate;
 use quad_index::Index;
 use row_core::Rows;
@@ -60,6 +61,40 @@ pub fn evaluate<R: RandomSource + Threads + Wait, G: Gate + Sync>(
         (quads_at dict index.now) None (algebra_of plan.now.tree)) dict r.1) }
     ensures one_worker { HasOneWorker how.now → IfErr result (λ fault. fault ≡ Memory) }
 {
+    evaluate_counted(rt, alloc, dict, index, plan, how, gate, None)
+}
+
+/// Returns the solutions of a plan over a dataset, as [`evaluate`] does, and counts the rows over
+/// which expressions are errors. The counts do not change the result.
+///
+/// # Requires
+/// - Each number in the index is below the length of the dictionary.
+/// - `how` keeps its limits.
+///
+/// # Errors
+/// - `WorkerRefused` if a worker thread could not be started. It cannot occur with one worker.
+/// - `Memory` if an allocation fails, or if the system has no random seed for the hash tables.
+///
+/// On error, the dictionary is dropped.
+pub fn evaluate_counted<R: RandomSource + Threads + Wait, G: Gate + Sync>(
+    rt: &R,
+    alloc: Global,
+    dict: Dict,
+    index: &Index,
+    plan: &Plan,
+    how: &How,
+    gate: &G,
+    counts: Option<&ErrorCounts>,
+) -> Result<(Rows, Dict), EvalFault>
+    requires index { AreBelow (length dict) index.now }
+    requires how { IsRunnable how.now }
+    ensures evaluated { IfOk result (λ r. IsEvaluated dict (length plan.now.names.items)
+        (eval (length plan.now.names.items) (quads_at dict index.now) None
+        (algebra_of plan.now.tree)) r.0 r.1) }
+    ensures needed { IfOk result (λ r. TakesOnly (IsComputed (length plan.now.names.items)
+        (quads_at dict index.now) None (algebra_of plan.now.tree)) dict r.1) }
+    ensures one_worker { HasOneWorker how.now → IfErr result (λ fault. fault ≡ Memory) }
+{
     let Ok(state) = RandomState::new(rt) else {
         return Err(EvalFault::Memory);
     };
@@ -74,6 +109,7 @@ pub fn evaluate<R: RandomSource + Threads + Wait, G: Gate + Sync>(
         state,
         index,
         width: plan.names.len(),
+        counts,
     };
     evaluator.solve(dict, None, &plan.tree)
 }
@@ -123,6 +159,38 @@ pub fn graph<R: Threads + Wait, G: Gate + Sync>(
         (algebra_of inner.now) t)) dict r.1) }
     ensures one_worker { HasOneWorker how.now → IfErr result (λ fault. fault ≡ Memory) }
 {
+    graph_with(
+        rt, alloc, state, dict, index, width, name, inner, how, gate, None,
+    )
+}
+
+/// Evaluates a tree in one named graph, or in each of them in turn, as [`graph`] does, and counts the
+/// rows over which expressions are errors.
+fn graph_with<R: Threads + Wait, G: Gate + Sync>(
+    rt: &R,
+    alloc: Global,
+    state: RandomState,
+    dict: Dict,
+    index: &Index,
+    width: usize,
+    name: &GraphName,
+    inner: &Operator,
+    how: &How,
+    gate: &G,
+    counts: Option<&ErrorCounts>,
+) -> Result<(Rows, Dict), EvalFault>
+    requires index { AreBelow (length dict) index.now }
+    requires name { is_name_below width (graph_name_of name.now) ≡ true }
+    requires within { is_within width (algebra_of inner.now) ≡ true }
+    requires how { IsRunnable how.now }
+    ensures evaluated { IfOk result (λ r. IsEvaluated dict width
+        (in_graphs width (quads_at dict index.now) (graph_name_of name.now)
+        (λ g. eval width (quads_at dict index.now) g (algebra_of inner.now))) r.0 r.1) }
+    ensures needed { IfOk result (λ r. TakesOnly (λ t. InSomeGraph (quads_at dict index.now)
+        (graph_name_of name.now) (λ g. IsComputed width (quads_at dict index.now) g
+        (algebra_of inner.now) t)) dict r.1) }
+    ensures one_worker { HasOneWorker how.now → IfErr result (λ fault. fault ≡ Memory) }
+{
     let context = Context {
         rt,
         alloc,
@@ -134,6 +202,7 @@ pub fn graph<R: Threads + Wait, G: Gate + Sync>(
         state,
         index,
         width,
+        counts,
     };
     evaluator.solve_graph(dict, name, inner)
 }

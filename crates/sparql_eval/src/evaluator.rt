@@ -30,6 +30,7 @@ use crate::projections::project_of;
 use crate::tables::table;
 use crate::unions::union_of;
 use dict_core::Dict;
+use expression_errors::{ErrorCounts, Owner, Place};
 use piece_pool::Gate;
 use quad_index::Index;
 use row_core::Rows;
@@ -42,14 +43,24 @@ use std::thread::Threads;
 /// An evaluation: what its operators are run with, the state that rows are hashed with, the index,
 /// and the number of variables.
 #[derive(Drop)]
-pub(crate) struct Evaluator<'c, 'i, R, G> {
+pub(crate) struct Evaluator<'c, 'i, 'e, R, G> {
     pub(crate) context: Context<'c, R, G>,
     pub(crate) state: RandomState,
     pub(crate) index: &'i Index,
     pub(crate) width: usize,
+    /// Where the errors of expressions are counted.
+    pub(crate) counts: Option<&'e ErrorCounts>,
 }
 
-impl<'c, 'i, R: Threads + Wait, G: Gate + Sync> Evaluator<'c, 'i, R, G> {
+impl<'c, 'i, 'e, R: Threads + Wait, G: Gate + Sync> Evaluator<'c, 'i, 'e, R, G> {
+    /// Returns where the errors of an operator's expression are counted.
+    fn place(&self, owner: Owner, expr: &Expr) -> Place<'e> {
+        match self.counts {
+            Some(counts) => counts.place(self.context.alloc, owner, expr),
+            None => Place::none(),
+        }
+    }
+
     /// Evaluates a tree with the graph of this number active, or the default graph if it is None.
     /// Only the terms of VALUES and the values of Extend are added to the dictionary.
     #[cycle(solve)]
@@ -161,7 +172,10 @@ impl<'c, 'i, R: Threads + Wait, G: Gate + Sync> Evaluator<'c, 'i, R, G> {
         ensures one_worker { HasOneWorker self.now.context.how.now → IfErr result (λ fault. fault ≡ Memory) }
     {
         let (right, dict) = self.solve(dict, active, right)?;
-        left_join_with(&self.context, self.state, dict, &left, &right, condition)
+        let place = self.place(Owner::LeftJoin, condition);
+        left_join_with(
+            &self.context, self.state, dict, &left, &right, condition, place,
+        )
     }
 
     /// Unites rows with the solutions of a tree.
@@ -234,7 +248,8 @@ impl<'c, 'i, R: Threads + Wait, G: Gate + Sync> Evaluator<'c, 'i, R, G> {
         ensures one_worker { HasOneWorker self.now.context.how.now → IfErr result (λ fault. fault ≡ Memory) }
     {
         let (rows, dict) = self.solve(dict, active, inner)?;
-        filter_with(&self.context, dict, &rows, condition)
+        let place = self.place(Owner::Filter, condition);
+        filter_with(&self.context, dict, &rows, condition, place)
     }
 
     /// Evaluates an Extend and its input.
@@ -259,7 +274,10 @@ impl<'c, 'i, R: Threads + Wait, G: Gate + Sync> Evaluator<'c, 'i, R, G> {
         ensures one_worker { HasOneWorker self.now.context.how.now → IfErr result (λ fault. fault ≡ Memory) }
     {
         let (rows, dict) = self.solve(dict, active, inner)?;
-        extend_with(&self.context, self.state, dict, &rows, variable, expression)
+        let place = self.place(Owner::Extend(variable), expression);
+        extend_with(
+            &self.context, self.state, dict, &rows, variable, expression, place,
+        )
     }
 
     /// Evaluates a Project and its input.

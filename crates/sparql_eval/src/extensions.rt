@@ -13,6 +13,7 @@ use crate::operator_result::with_dict;
 use crate::piece_values::number_values;
 use crate::values::values_of;
 use dict_core::Dict;
+use expression_errors::Place;
 use piece_pool::Gate;
 use row_core::Rows;
 use row_pieces::{Context, EvalFault, How};
@@ -68,10 +69,11 @@ pub fn extend<R: Threads + Wait, G: Gate + Sync>(
         how,
         gate,
     };
-    extend_with(&context, state, dict, rows, variable, expression)
+    extend_with(&context, state, dict, rows, variable, expression, Place::none())
 }
 
-/// Evaluates Extend, as [`extend`] does, with a context.
+/// Evaluates Extend, as [`extend`] does, with a context. Rows over which the expression is an error are
+/// counted.
 pub(crate) fn extend_with<R: Threads + Wait, G: Gate + Sync>(
     context: &Context<R, G>,
     state: RandomState,
@@ -79,6 +81,7 @@ pub(crate) fn extend_with<R: Threads + Wait, G: Gate + Sync>(
     rows: &Rows,
     variable: usize,
     expression: &Expr,
+    place: Place<'_>,
 ) -> Result<(Rows, Dict), EvalFault>
     requires known { AreKnown dict rows.now }
     requires variable { variable < rows.now.width }
@@ -90,7 +93,7 @@ pub(crate) fn extend_with<R: Threads + Wait, G: Gate + Sync>(
     ensures one_worker { HasOneWorker context.now.how.now → IfErr result (λ fault. fault ≡ Memory) }
 {
     let mut dict = dict;
-    let made = extended(context, state, &mut dict, rows, variable, expression);
+    let made = extended(context, state, &mut dict, rows, variable, expression, place);
     with_dict(made, dict)
 }
 
@@ -102,6 +105,7 @@ fn extended<R: Threads + Wait, G: Gate + Sync>(
     rows: &Rows,
     variable: usize,
     expression: &Expr,
+    place: Place<'_>,
 ) -> Result<Rows, EvalFault>
     requires known { AreKnown dict.old rows.now }
     requires variable { variable < rows.now.width }
@@ -112,7 +116,7 @@ fn extended<R: Threads + Wait, G: Gate + Sync>(
     ensures alone { length rows.now.rows ≤ context.now.how.now.rows → IfErr result (λ fault. fault ≡ Memory) }
     ensures one_worker { HasOneWorker context.now.how.now → IfErr result (λ fault. fault ≡ Memory) }
 {
-    let pieces = values_of(context, state, dict, rows, expression)?;
+    let pieces = values_of(context, state, dict, rows, expression, place)?;
     let numbers = number_values(context.alloc, dict, pieces)?;
     let made = extend_rows(context.alloc, rows, variable, numbers.as_slice())?;
     Ok(made)

@@ -10,10 +10,11 @@ ghost use Rattle.sparql_eval.specs.Numbered.{AreKnownAt};
 use crate::operator_result::with_dict;
 use crate::read_row::ReadRow;
 use dict_core::Dict;
+use expression_errors::{Place, test_counted};
 use piece_pool::Gate;
 use row_core::Rows;
 use row_pieces::{Context, EvalFault, How, RowWork, over_pieces};
-use sparql_algebra::{Expr, test};
+use sparql_algebra::Expr;
 use std::alloc::{AllocError, Global};
 use std::sync::Wait;
 use std::thread::Threads;
@@ -54,15 +55,17 @@ pub fn filter<R: Threads + Wait, G: Gate + Sync>(
         how,
         gate,
     };
-    filter_with(&context, dict, rows, condition)
+    filter_with(&context, dict, rows, condition, Place::none())
 }
 
-/// Evaluates Filter, as [`filter`] does, with a context.
+/// Evaluates Filter, as [`filter`] does, with a context. Rows over which the condition is an error are
+/// counted.
 pub(crate) fn filter_with<R: Threads + Wait, G: Gate + Sync>(
     context: &Context<R, G>,
     dict: Dict,
     rows: &Rows,
     condition: &Expr,
+    place: Place<'_>,
 ) -> Result<(Rows, Dict), EvalFault>
     requires known { AreKnown dict rows.now }
     ensures evaluated { IfOk result (λ r. IsEvaluated dict rows.now.width
@@ -71,7 +74,7 @@ pub(crate) fn filter_with<R: Threads + Wait, G: Gate + Sync>(
     ensures alone { length rows.now.rows ≤ context.now.how.now.rows → IfErr result (λ fault. fault ≡ Memory) }
     ensures one_worker { HasOneWorker context.now.how.now → IfErr result (λ fault. fault ≡ Memory) }
 {
-    let made = filtered(context, &dict, rows, condition);
+    let made = filtered(context, &dict, rows, condition, place);
     with_dict(made, dict)
 }
 
@@ -81,6 +84,7 @@ fn filtered<R: Threads + Wait, G: Gate + Sync>(
     dict: &Dict,
     rows: &Rows,
     condition: &Expr,
+    place: Place<'_>,
 ) -> Result<Rows, EvalFault>
     requires known { AreKnown dict.now rows.now }
     ensures evaluated { IfOk result (λ made. IsEvaluated dict.now rows.now.width
@@ -92,6 +96,7 @@ fn filtered<R: Threads + Wait, G: Gate + Sync>(
         dict,
         rows,
         condition,
+        place,
     };
     over_pieces(context.rt, context.alloc, &work, context.how, context.gate)
 }
@@ -102,6 +107,7 @@ struct FilterWork<'a> {
     dict: &'a Dict,
     rows: &'a Rows,
     condition: &'a Expr,
+    place: Place<'a>,
     ghost known: { AreKnownAt dict.now rows.now.rows },
 }
 
@@ -128,7 +134,7 @@ impl<'a> RowWork for FilterWork<'a> {
                 dict: self.dict,
                 row: self.rows.row(i),
             };
-            if test(alloc, self.condition, &row)? {
+            if test_counted(alloc, self.condition, &row, self.place)? {
                 made.push(row.row)?;
             }
         }

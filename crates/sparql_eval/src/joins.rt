@@ -15,11 +15,12 @@ use crate::keyed_rows::join_keys;
 use crate::operator_result::with_dict;
 use crate::read_row::ReadRow;
 use dict_core::Dict;
+use expression_errors::{Place, test_counted};
 use piece_pool::Gate;
 use row_core::Rows;
 use row_join::RowTest;
 use row_pieces::{Context, EvalFault, How};
-use sparql_algebra::{Expr, test};
+use sparql_algebra::Expr;
 use std::alloc::{AllocError, Global};
 use std::hash::RandomState;
 use std::sync::Wait;
@@ -176,10 +177,11 @@ pub fn left_join<R: Threads + Wait, G: Gate + Sync>(
         how,
         gate,
     };
-    left_join_with(&context, state, dict, left, right, condition)
+    left_join_with(&context, state, dict, left, right, condition, Place::none())
 }
 
-/// Evaluates LeftJoin, as [`left_join`] does, with a context.
+/// Evaluates LeftJoin, as [`left_join`] does, with a context. Pairs of rows over which the condition is
+/// an error are counted.
 pub(crate) fn left_join_with<R: Threads + Wait, G: Gate + Sync>(
     context: &Context<R, G>,
     state: RandomState,
@@ -187,6 +189,7 @@ pub(crate) fn left_join_with<R: Threads + Wait, G: Gate + Sync>(
     left: &Rows,
     right: &Rows,
     condition: &Expr,
+    place: Place<'_>,
 ) -> Result<(Rows, Dict), EvalFault>
     requires same_width { left.now.width ≡ right.now.width }
     requires known_left { AreKnown dict left.now }
@@ -198,7 +201,7 @@ pub(crate) fn left_join_with<R: Threads + Wait, G: Gate + Sync>(
     ensures alone { length left.now.rows ≤ context.now.how.now.rows → IfErr result (λ fault. fault ≡ Memory) }
     ensures one_worker { HasOneWorker context.now.how.now → IfErr result (λ fault. fault ≡ Memory) }
 {
-    let made = left_joined(context, state, &dict, left, right, condition);
+    let made = left_joined(context, state, &dict, left, right, condition, place);
     with_dict(made, dict)
 }
 
@@ -210,6 +213,7 @@ fn left_joined<R: Threads + Wait, G: Gate + Sync>(
     left: &Rows,
     right: &Rows,
     condition: &Expr,
+    place: Place<'_>,
 ) -> Result<Rows, EvalFault>
     requires same_width { left.now.width ≡ right.now.width }
     requires known_left { AreKnown dict.now left.now }
@@ -222,10 +226,10 @@ fn left_joined<R: Threads + Wait, G: Gate + Sync>(
 {
     let keys = join_keys(context.alloc, left, right, condition)?;
     if keys.is_empty() {
-        return left_joined_by_rows(context, state, dict, left, right, condition);
+        return left_joined_by_rows(context, state, dict, left, right, condition, place);
     }
     let keys = keys.as_slice();
-    left_joined_by_keys(context, state, dict, left, right, condition, keys)
+    left_joined_by_keys(context, state, dict, left, right, condition, keys, place)
 }
 
 /// Returns the rows of a LeftJoin, joined by the variables that both sides bind.
@@ -236,6 +240,7 @@ fn left_joined_by_rows<R: Threads + Wait, G: Gate + Sync>(
     left: &Rows,
     right: &Rows,
     condition: &Expr,
+    place: Place<'_>,
 ) -> Result<Rows, EvalFault>
     requires same_width { left.now.width ≡ right.now.width }
     requires known_left { AreKnown dict.now left.now }
@@ -247,7 +252,11 @@ fn left_joined_by_rows<R: Threads + Wait, G: Gate + Sync>(
     ensures one_worker { HasOneWorker context.now.how.now → IfErr result (λ fault. fault ≡ Memory) }
 {
     let _distinct = dict.len();
-    let test = Condition { dict, condition };
+    let test = Condition {
+        dict,
+        condition,
+        place,
+    };
     row_join::left_join(
         context.rt, context.alloc, state, left, right, &test, context.how, context.gate,
     )
@@ -325,6 +334,7 @@ pub(crate) fn minus_with<R: Threads + Wait, G: Gate + Sync>(
 struct Condition<'a> {
     dict: &'a Dict,
     condition: &'a Expr,
+    place: Place<'a>,
 }
 
 impl<'a> RowTest for Condition<'a> {
@@ -343,6 +353,6 @@ impl<'a> RowTest for Condition<'a> {
             dict: self.dict,
             row,
         };
-        test(alloc, self.condition, &row)
+        test_counted(alloc, self.condition, &row, self.place)
     }
 }

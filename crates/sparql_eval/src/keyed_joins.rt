@@ -13,11 +13,12 @@ use crate::equalities::Equality;
 use crate::keyed_rows::{first_cells, keyed_rows};
 use crate::read_row::ReadRow;
 use dict_core::Dict;
+use expression_errors::{Place, test_counted};
 use piece_pool::Gate;
 use row_core::Rows;
 use row_join::RowTest;
 use row_pieces::{Context, EvalFault};
-use sparql_algebra::{Expr, test};
+use sparql_algebra::Expr;
 use std::alloc::{AllocError, Global};
 use std::hash::RandomState;
 use std::sync::Wait;
@@ -34,6 +35,7 @@ pub(crate) fn left_joined_by_keys<R: Threads + Wait, G: Gate + Sync>(
     right: &Rows,
     condition: &Expr,
     keys: &[Equality],
+    place: Place<'_>,
 ) -> Result<Rows, EvalFault>
     requires same_width { left.now.width ≡ right.now.width }
     requires known_left { AreKnown dict.now left.now }
@@ -56,6 +58,7 @@ pub(crate) fn left_joined_by_keys<R: Threads + Wait, G: Gate + Sync>(
         dict,
         condition,
         width,
+        place,
     };
     let rows = row_join::left_join(
         context.rt, context.alloc, state, &left, &right, &test, context.how, context.gate,
@@ -92,6 +95,7 @@ struct FirstCondition<'a> {
     dict: &'a Dict,
     condition: &'a Expr,
     width: usize,
+    place: Place<'a>,
 }
 
 impl<'a> RowTest for FirstCondition<'a> {
@@ -111,6 +115,6 @@ impl<'a> RowTest for FirstCondition<'a> {
             dict: self.dict,
             row: &row[..width],
         };
-        test(alloc, self.condition, &row)
+        test_counted(alloc, self.condition, &row, self.place)
     }
 }

@@ -2,7 +2,7 @@
 //! and a dictionary gives the term of each number.
 //!
 //! [`evaluate`] takes a plan, an index and the dictionary of its numbers. It returns the rows of
-//! the solutions and a dictionary. [`graph`] evaluates a tree in named graphs. Each other operator
+//! the solutions and a dictionary. [`evaluate_counted`] also counts the rows over which expressions are errors. [`graph`] evaluates a tree in named graphs. Each other operator
 //! is a function of its own: [`pattern`], [`join`], [`left_join`], [`minus`], [`union`],
 //! [`filter`], [`extend`], [`project`], [`distinct`] and [`table`].
 //!
@@ -55,7 +55,7 @@ mod unions;
 mod values;
 
 pub use distinctness::distinct;
-pub use evaluation::{evaluate, graph};
+pub use evaluation::{evaluate, evaluate_counted, graph};
 pub use extensions::extend;
 pub use filters::filter;
 pub use joins::{join, left_join, minus};

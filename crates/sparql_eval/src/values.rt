@@ -15,24 +15,26 @@ use crate::numbering::number_new;
 use crate::piece_values::{PieceValue, PieceValues};
 use crate::read_row::ReadRow;
 use dict_core::Dict;
+use expression_errors::{Place, value_counted};
 use piece_pool::{Gate, Job, JobFault, Outcome, run_all};
 use rdf_core::Term;
 use row_core::Rows;
 use row_pieces::{Context, EvalFault, piece_size};
-use sparql_algebra::{Expr, ExprFault, value};
+use sparql_algebra::{Expr, ExprFault};
 use std::alloc::{AllocError, Global};
 use std::hash::RandomState;
 use std::sync::Wait;
 use std::thread::Threads;
 
-/// Returns the values of the expression for the rows, piece by piece in order. If one piece holds
-/// all rows, no thread is started.
+/// Returns the values of the expression for the rows, piece by piece in order. Rows without a value
+/// are counted. If one piece holds all rows, no thread is started.
 pub(crate) fn values_of<R: Threads + Wait, G: Gate + Sync>(
     context: &Context<R, G>,
     state: RandomState,
     dict: &Dict,
     rows: &Rows,
     expression: &Expr,
+    place: Place<'_>,
 ) -> Result<Vec<PieceValues>, EvalFault>
     requires known { AreKnown dict.now rows.now }
     ensures values { IfOk result (λ pieces. AreAllValues dict.now
@@ -48,6 +50,7 @@ pub(crate) fn values_of<R: Threads + Wait, G: Gate + Sync>(
         dict,
         rows,
         expression,
+        place,
         size,
     };
     match run_all(context.rt, context.alloc, context.how.workers, pieces, &job, context.gate)? {
@@ -63,6 +66,7 @@ struct ValueJob<'a> {
     dict: &'a Dict,
     rows: &'a Rows,
     expression: &'a Expr,
+    place: Place<'a>,
     size: usize,
     ghost known: { AreKnownAt dict.now rows.now.rows },
 }
@@ -129,7 +133,7 @@ impl<'a> ValueJob<'a> {
                 dict: self.dict,
                 row: self.rows.row(i),
             };
-            values.push(value_at(alloc, own, self.expression, &row)?)?;
+            values.push(value_at(alloc, own, self.expression, &row, self.place)?)?;
         }
         Ok(values)
     }
@@ -142,6 +146,7 @@ fn value_at(
     own: &mut Dict,
     expression: &Expr,
     row: &ReadRow,
+    place: Place<'_>,
 ) -> Result<PieceValue, AllocError>
     ensures grown { OnOk result (IsGrown own.old own.new) }
     ensures value { IfOk result (λ found. IsValueOf row.now.dict.now own.new
@@ -150,7 +155,7 @@ fn value_at(
     ensures needed { OnOk result (TakesOnly (λ t. val (expression_of expression.now)
         (read_row (term_at row.now.dict.now) row.now.row.now) ≡ Some t) own.old own.new) }
 {
-    match value(alloc, expression, row) {
+    match value_counted(alloc, expression, row, place) {
         Ok(term) => number_term(row.dict, own, term),
         Err(ExprFault::Error) => Ok(PieceValue::Error),
         Err(ExprFault::Memory) => Err(AllocError),

@@ -12,6 +12,7 @@ SELECT * { FILTER ?x }
 spq: query, line 1, column 19: expected '(' or a function (such as BOUND), found '?x'
 SELECT * { FILTER ?x }
                   ^
+hint: put the condition in parentheses, as in FILTER (!BOUND(?x))
 
 SELECT * { FILTER() }
 spq: query, line 1, column 19: expected an expression, found ')'

@@ -6,6 +6,7 @@ pub(crate) const HEADS: &str = r##"
 spq: query, line 1, column 1: expected PREFIX or SELECT, found the end of the query
 ‹›
 ^
+hint: the query is empty: with --query "$(cat FILE)", check that FILE exists
 
 { ?s ?p ?o }
 spq: query, line 1, column 1: expected PREFIX or SELECT, found '{'

@@ -158,6 +158,12 @@ SELECT * { << ?s ?p ?o >> ?q ?r }
            ^
 hint: quoted triples (RDF-star) are not supported
 
+SELECT * { ?s ?p ?x FILTER ?s != ?x }
+spq: query, line 1, column 28: expected '(' or a function (such as BOUND), found '?s'
+SELECT * { ?s ?p ?x FILTER ?s != ?x }
+                           ^
+hint: put the condition in parentheses, as in FILTER (!BOUND(?x))
+
 SELECT * { ?s ?p ?x FILTER !BOUND(?x) }
 spq: query, line 1, column 28: expected '(' or a function (such as BOUND), found '!'
 SELECT * { ?s ?p ?x FILTER !BOUND(?x) }

@@ -9,7 +9,7 @@ loop-i-preserved c =
     let was = c.loop-i.invariant in
     let row = c.row.result.now in
     let made = c.loop-i.made.rows in
-    let b = c.in_ok-test.field-0 in
+    let b = c.in_ok-test_counted.field-0 in
     let wide : c.if-branch.made.width ≡ c.args.self.now.rows.now.width =
     elim c.if-branch.branch [
       | then-branch+in_ok-push w ↦ rw w.made-is (w.in_ok-push.ensures.width ∙ was.width)
@@ -23,7 +23,7 @@ loop-i-preserved c =
     record {
       width = wide;
       made =
-          put ∙ (λ i. was.made i ++ cond (c.in_ok-test.ensures.holds i) (row ∷ []) [])
+          put ∙ (λ i. was.made i ++ cond (c.in_ok-test_counted.ensures.holds i) (row ∷ []) [])
           ∙ sym (filter_more c.args.self.now.dict.now (expression_of c.args.self.now.condition.now) c.args.self.now.rows.now.rows c.args.from c.loop-i.i row (omega arith) c.row.ensures.found);
     }
 

@@ -1,0 +1,195 @@
+//! What is wrong with terms that cannot be compared, or that have no effective boolean value.
+use rdf_core::vocabulary::{XSD_BOOLEAN, XSD_DOUBLE, XSD_STRING};
+use rdf_core::{Term, Text};
+use sparql_tree::Comparison;
+use std::alloc::{AllocError, Global};
+use term_values::{compare, truth};
+
+/// `xsd:float`.
+const XSD_FLOAT: &str = "http://www.w3.org/2001/XMLSchema#float";
+
+/// Why an expression is an error.
+#[derive(Debug, Drop, PartialEq, Eq)]
+pub enum Cause {
+    /// The variable with this number is unbound.
+    Unbound(usize),
+    /// A function was called with a term that has no such property, such as LANG of an IRI.
+    Call,
+    /// An IRI or a blank node was compared by order, or used as a truth value.
+    NotLiteral,
+    /// A literal with a language tag was compared with a literal that is another term.
+    Tagged,
+    /// Two literals of kinds that have no common values, such as a string and an integer.
+    Kinds,
+    /// A literal of this datatype, whose values are not compared here.
+    Datatype(Text),
+    /// The lexical form of a literal is none of this datatype.
+    IllFormed(Text),
+    /// A literal of this datatype has no effective boolean value.
+    NoTruth(Text),
+}
+
+impl Cause {
+    /// Returns an equal cause that owns its texts.
+    ///
+    /// # Errors
+    /// `AllocError` if an allocation fails.
+    pub fn copy(&self, alloc: Global) -> Result<Cause, AllocError> {
+        match self {
+            Cause::Unbound(variable) => Ok(Cause::Unbound(*variable)),
+            Cause::Call => Ok(Cause::Call),
+            Cause::NotLiteral => Ok(Cause::NotLiteral),
+            Cause::Tagged => Ok(Cause::Tagged),
+            Cause::Kinds => Ok(Cause::Kinds),
+            Cause::Datatype(iri) => Ok(Cause::Datatype(iri.copy(alloc)?)),
+            Cause::IllFormed(iri) => Ok(Cause::IllFormed(iri.copy(alloc)?)),
+            Cause::NoTruth(iri) => Ok(Cause::NoTruth(iri.copy(alloc)?)),
+        }
+    }
+
+    /// Returns whether queries meet this cause on purpose, as `OPTIONAL` makes unbound variables. It
+    /// is worth a note only if every row has an error.
+    pub fn is_common(&self) -> bool {
+        match self {
+            Cause::Unbound(_) | Cause::Call | Cause::NotLiteral => true,
+            Cause::Tagged
+            | Cause::Kinds
+            | Cause::Datatype(_)
+            | Cause::IllFormed(_)
+            | Cause::NoTruth(_) => false,
+        }
+    }
+}
+
+/// What a term is in a comparison.
+#[derive(Clone, Copy, PartialEq, Eq)]
+enum Kind {
+    /// An IRI or a blank node.
+    Name,
+    Tagged,
+    /// A string or a boolean.
+    Plain,
+    Number,
+    /// An xsd:float or xsd:double.
+    Float,
+    /// An ill-formed number or boolean.
+    IllFormed,
+    /// A literal of another datatype.
+    Other,
+}
+
+/// Returns the kind of a literal without a language tag.
+fn kind_of_literal(term: &Term, datatype: &str) -> Kind {
+    if datatype == XSD_STRING {
+        Kind::Plain
+    } else if datatype == XSD_DOUBLE || datatype == XSD_FLOAT {
+        Kind::Float
+    } else if truth(term).is_none() {
+        Kind::Other
+    } else if compare(Comparison::Less, term, term).is_none() {
+        Kind::IllFormed
+    } else if datatype == XSD_BOOLEAN {
+        Kind::Plain
+    } else {
+        Kind::Number
+    }
+}
+
+fn kind_of(term: &Term) -> Kind {
+    match term {
+        Term::Literal {
+            datatype,
+            tag: None,
+            ..
+        } => kind_of_literal(term, datatype.as_str()),
+        Term::Literal { tag: Some(_), .. } => Kind::Tagged,
+        Term::Iri(_) | Term::Blank(_) => Kind::Name,
+    }
+}
+
+/// Returns whether a query processor that knows all datatypes of XML Schema compares values of these
+/// kinds, of which one is not compared here.
+fn are_comparable_elsewhere(left: Kind, right: Kind, same_datatype: bool) -> bool {
+    match left {
+        Kind::Float => right == Kind::Float || right == Kind::Number,
+        Kind::Number => right == Kind::Float,
+        Kind::Other => right == Kind::Other && same_datatype,
+        Kind::Name | Kind::Tagged | Kind::Plain | Kind::IllFormed => false,
+    }
+}
+
+/// Returns the datatype of a term, or the text of an IRI or a blank node.
+fn datatype_of(alloc: Global, term: &Term) -> Result<Text, AllocError> {
+    match term {
+        Term::Literal { datatype, .. } => datatype.copy(alloc),
+        Term::Iri(text) | Term::Blank(text) => text.copy(alloc),
+    }
+}
+
+fn has_same_datatype(left: &Term, right: &Term) -> bool {
+    match left {
+        Term::Literal { datatype: one, .. } => match right {
+            Term::Literal {
+                datatype: other,
+                ..
+            } => one == other,
+            Term::Iri(_) | Term::Blank(_) => false,
+        },
+        Term::Iri(_) | Term::Blank(_) => false,
+    }
+}
+
+/// Returns why the comparison of two terms is an error.
+///
+/// # Errors
+/// `AllocError` if an allocation fails.
+pub(crate) fn comparison_cause(
+    alloc: Global,
+    left: &Term,
+    right: &Term,
+) -> Result<Cause, AllocError> {
+    let (one, other) = (kind_of(left), kind_of(right));
+    if one == Kind::Name || other == Kind::Name {
+        Ok(Cause::NotLiteral)
+    } else if one == Kind::Tagged || other == Kind::Tagged {
+        Ok(Cause::Tagged)
+    } else if one == Kind::IllFormed {
+        Ok(Cause::IllFormed(datatype_of(alloc, left)?))
+    } else if other == Kind::IllFormed {
+        Ok(Cause::IllFormed(datatype_of(alloc, right)?))
+    } else if !are_comparable_elsewhere(one, other, has_same_datatype(left, right)) {
+        Ok(Cause::Kinds)
+    } else if one == Kind::Number {
+        Ok(Cause::Datatype(datatype_of(alloc, right)?))
+    } else {
+        Ok(Cause::Datatype(datatype_of(alloc, left)?))
+    }
+}
+
+/// Returns why a term has no effective boolean value.
+///
+/// # Errors
+/// `AllocError` if an allocation fails.
+pub(crate) fn truth_cause(alloc: Global, term: &Term) -> Result<Cause, AllocError> {
+    match term {
+        Term::Literal { datatype, .. } => Ok(Cause::NoTruth(datatype.copy(alloc)?)),
+        Term::Iri(_) | Term::Blank(_) => Ok(Cause::NotLiteral),
+    }
+}
+
+fn has_same_form(left: &Term, right: &Term) -> bool {
+    match left {
+        Term::Literal { lexical: one, .. } => match right {
+            Term::Literal { lexical: other, .. } => one == other,
+            Term::Iri(_) | Term::Blank(_) => false,
+        },
+        Term::Iri(_) | Term::Blank(_) => false,
+    }
+}
+
+/// Returns whether the writer of a query expects two terms whose equality is an error to differ:
+/// their lexical forms differ, and neither is a float. So an error of `=` costs nothing that `false`
+/// would not cost.
+pub(crate) fn are_expected_to_differ(left: &Term, right: &Term) -> bool {
+    kind_of(left) != Kind::Float && kind_of(right) != Kind::Float && !has_same_form(left, right)
+}

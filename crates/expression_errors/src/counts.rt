@@ -1,0 +1,303 @@
+//! The number of rows for each expression and cause, shared by the workers.
+use crate::cause::Cause;
+use crate::digest::{Owner, digest_of};
+use expression_values::Expr;
+use std::alloc::{AllocError, Global};
+use std::sync::OnceLock;
+use std::sync::atomic::{AtomicU64, Ordering};
+
+/// The number of datatypes that are told apart at one expression. Rows of further ones are not
+/// counted.
+const MOST_DATATYPES: usize = 6;
+
+/// The number of rows with a cause that has a datatype. The cause is set by the first such row.
+#[derive(Drop)]
+struct DatatypeCounter {
+    cause: OnceLock<Cause>,
+    rows: AtomicU64,
+}
+
+impl DatatypeCounter {
+    fn new() -> DatatypeCounter {
+        DatatypeCounter {
+            cause: OnceLock::new(),
+            rows: AtomicU64::new(0),
+        }
+    }
+
+    /// Counts a row if the counter is for this cause, or is free. Returns whether it was counted.
+    fn add(&self, alloc: Global, cause: &Cause) -> bool {
+        if self.cause.get().is_none() {
+            self.claim(alloc, cause);
+        }
+        match self.cause.get() {
+            Some(own) => {
+                let is_same = own == cause;
+                if is_same {
+                    self.rows.fetch_add(1, Ordering::SeqCst);
+                }
+                is_same
+            }
+            None => false,
+        }
+    }
+
+    /// Sets the cause, unless another worker is first or memory is short.
+    fn claim(&self, alloc: Global, cause: &Cause) {
+        if let Ok(copy) = cause.copy(alloc) {
+            let _ = self.cause.try_set(copy);
+        }
+    }
+}
+
+/// The counts of one condition or value.
+#[derive(Drop)]
+pub(crate) struct PartCounter {
+    unbound: AtomicU64,
+    /// The least number of an unbound variable.
+    variable: AtomicU64,
+    calls: AtomicU64,
+    not_literals: AtomicU64,
+    tagged: AtomicU64,
+    kinds: AtomicU64,
+    datatypes: Vec<DatatypeCounter>,
+}
+
+impl PartCounter {
+    fn new(alloc: Global) -> Result<PartCounter, AllocError> {
+        let mut datatypes = Vec::with_capacity(alloc, MOST_DATATYPES)?;
+        for _ in 0..MOST_DATATYPES {
+            datatypes.push(DatatypeCounter::new())?;
+        }
+        Ok(PartCounter {
+            unbound: AtomicU64::new(0),
+            variable: AtomicU64::new(u64::MAX),
+            calls: AtomicU64::new(0),
+            not_literals: AtomicU64::new(0),
+            tagged: AtomicU64::new(0),
+            kinds: AtomicU64::new(0),
+            datatypes,
+        })
+    }
+
+    /// Counts a row.
+    pub(crate) fn add(&self, alloc: Global, cause: &Cause) {
+        let counter = match cause {
+            Cause::Unbound(variable) => {
+                self.variable.fetch_min(*variable as u64, Ordering::SeqCst);
+                &self.unbound
+            }
+            Cause::Call => &self.calls,
+            Cause::NotLiteral => &self.not_literals,
+            Cause::Tagged => &self.tagged,
+            Cause::Kinds => &self.kinds,
+            Cause::Datatype(_) | Cause::IllFormed(_) | Cause::NoTruth(_) => {
+                return self.add_datatype(alloc, cause);
+            }
+        };
+        counter.fetch_add(1, Ordering::SeqCst);
+    }
+
+    fn add_datatype(&self, alloc: Global, cause: &Cause) {
+        for counter in &self.datatypes {
+            if counter.add(alloc, cause) {
+                return;
+            }
+        }
+    }
+
+    /// Appends the counts that are not zero.
+    fn push_into(&self, alloc: Global, counts: &mut Vec<(Cause, u64)>) -> Result<(), AllocError> {
+        let variable = self.variable.load(Ordering::SeqCst) as usize;
+        push_count(counts, Cause::Unbound(variable), &self.unbound)?;
+        push_count(counts, Cause::Call, &self.calls)?;
+        push_count(counts, Cause::NotLiteral, &self.not_literals)?;
+        push_count(counts, Cause::Tagged, &self.tagged)?;
+        push_count(counts, Cause::Kinds, &self.kinds)?;
+        for counter in &self.datatypes {
+            if let Some(cause) = counter.cause.get() {
+                push_count(counts, cause.copy(alloc)?, &counter.rows)?;
+            }
+        }
+        Ok(())
+    }
+}
+
+/// Appends a count that is not zero.
+fn push_count(
+    counts: &mut Vec<(Cause, u64)>,
+    cause: Cause,
+    rows: &AtomicU64,
+) -> Result<(), AllocError> {
+    let rows = rows.load(Ordering::SeqCst);
+    if rows > 0 {
+        counts.push((cause, rows))?;
+    }
+    Ok(())
+}
+
+/// The counts of the equal expressions of a plan.
+#[derive(Drop)]
+pub(crate) struct Counter {
+    digest: u64,
+    /// The numbers of the expressions.
+    expressions: Vec<usize>,
+    /// 1 if an expression had a value over some row.
+    valued: AtomicU64,
+    /// A counter for each FILTER of the condition.
+    pub(crate) parts: Vec<PartCounter>,
+}
+
+impl Counter {
+    fn new(alloc: Global, key: Key) -> Result<Counter, AllocError> {
+        let mut parts = Vec::new(alloc);
+        for _ in 0..key.filters.max(1) {
+            parts.push(PartCounter::new(alloc)?)?;
+        }
+        Ok(Counter {
+            digest: key.digest,
+            expressions: Vec::new(alloc),
+            valued: AtomicU64::new(0),
+            parts,
+        })
+    }
+
+    /// Notes that an expression had a value over some row. It writes once.
+    pub(crate) fn note_value(&self) {
+        if self.valued.load(Ordering::SeqCst) == 0 {
+            self.valued.store(1, Ordering::SeqCst);
+        }
+    }
+}
+
+/// What is known of an expression before an evaluation.
+#[derive(Clone, Copy, Debug, PartialEq, Eq, PartialOrd, Ord)]
+pub struct Key {
+    /// The digest of the expression and its operator.
+    pub digest: u64,
+    /// The number of the expression.
+    pub expression: usize,
+    /// The number of FILTERs that the expression joins with `&&`, from left to right.
+    pub filters: usize,
+}
+
+/// The counts of all expressions of a plan. Workers share it.
+///
+/// An evaluation finds the counts of an expression by its digest. So equal expressions of equal
+/// operators are counted together.
+#[derive(Drop)]
+pub struct ErrorCounts {
+    /// In the order of their digests.
+    counters: Vec<Counter>,
+}
+
+/// The rows over which equal expressions were errors, for one cause.
+#[derive(Drop)]
+pub struct Tally {
+    /// The numbers of the expressions, from the least.
+    pub expressions: Vec<usize>,
+    /// The FILTER of its group, from 0 in the order of the text.
+    pub filter: usize,
+    pub cause: Cause,
+    pub rows: u64,
+    /// Whether the expressions were errors over every row.
+    pub is_everywhere: bool,
+}
+
+impl ErrorCounts {
+    /// Creates the counts of a plan's expressions.
+    ///
+    /// # Errors
+    /// `AllocError` if an allocation fails.
+    pub fn new(alloc: Global, mut keys: Vec<Key>) -> Result<ErrorCounts, AllocError> {
+        keys.sort()?;
+        let mut counters: Vec<Counter> = Vec::new(alloc);
+        for key in keys {
+            add_key(alloc, &mut counters, key)?;
+        }
+        Ok(ErrorCounts { counters })
+    }
+
+    /// Returns the place where the errors of an operator's expression are counted. Those of an
+    /// expression that has no counts are not counted, nor are any if memory is short.
+    pub fn place(&self, alloc: Global, owner: Owner, expr: &Expr) -> Place<'_> {
+        match digest_of(alloc, owner, expr) {
+            Ok(digest) => Place {
+                counter: self.find(digest),
+            },
+            Err(_) => Place::none(),
+        }
+    }
+
+    fn find(&self, digest: u64) -> Option<&Counter> {
+        for counter in &self.counters {
+            if counter.digest == digest {
+                return Some(counter);
+            }
+        }
+        None
+    }
+
+    /// Returns the counts that are not zero.
+    ///
+    /// # Errors
+    /// `AllocError` if an allocation fails.
+    pub fn tallies(&self, alloc: Global) -> Result<Vec<Tally>, AllocError> {
+        let mut tallies = Vec::new(alloc);
+        for counter in &self.counters {
+            push_tallies(&mut tallies, alloc, counter)?;
+        }
+        Ok(tallies)
+    }
+}
+
+/// Adds an expression to the last counter if that has its digest, or else to a counter of its own.
+fn add_key(alloc: Global, counters: &mut Vec<Counter>, key: Key) -> Result<(), AllocError> {
+    let is_known = match counters.last() {
+        Some(last) => last.digest == key.digest,
+        None => false,
+    };
+    if !is_known {
+        counters.push(Counter::new(alloc, key)?)?;
+    }
+    match counters.last_mut() {
+        Some(last) => Ok(last.expressions.push(key.expression)?),
+        None => Ok(()),
+    }
+}
+
+/// Appends the counts of one counter.
+fn push_tallies(
+    tallies: &mut Vec<Tally>,
+    alloc: Global,
+    counter: &Counter,
+) -> Result<(), AllocError> {
+    let is_everywhere = counter.valued.load(Ordering::SeqCst) == 0;
+    for (filter, part) in counter.parts.iter().enumerate() {
+        let mut counts = Vec::new(alloc);
+        part.push_into(alloc, &mut counts)?;
+        for (cause, rows) in counts {
+            tallies.push(Tally {
+                expressions: counter.expressions.clone()?,
+                filter,
+                cause,
+                rows,
+                is_everywhere,
+            })?;
+        }
+    }
+    Ok(())
+}
+
+/// Where the errors of one expression are counted.
+#[derive(Clone, Copy)]
+pub struct Place<'a> {
+    pub(crate) counter: Option<&'a Counter>,
+}
+
+impl<'a> Place<'a> {
+    /// Returns a place where nothing is counted.
+    pub fn none() -> Place<'a> {
+        Place { counter: None }
+    }
+}

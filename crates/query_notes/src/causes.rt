@@ -1,0 +1,164 @@
+//! The notes on rows that an error of an expression costs.
+use crate::outline::{Outline, Site, SiteKind};
+use crate::texts::Text;
+use expression_errors::{Cause, Tally};
+use std::alloc::{AllocError, Global};
+
+/// The namespace of XML Schema's datatypes.
+const XSD: &str = "http://www.w3.org/2001/XMLSchema#";
+
+/// Returns whether a count is worth a note.
+///
+/// - An unbound variable, a function without a value, and a term that is no literal are often meant:
+///   OPTIONAL leaves variables unbound, and `LANG(?o) = "en"` is to leave out IRIs. These speak only
+///   if the expression was an error over every row.
+/// - Every other cause speaks.
+///
+/// `=` of two literals that look different is not counted at all, as `condition_cause` of the crate
+/// expression_errors says.
+pub fn speaks(tally: &Tally) -> bool {
+    !tally.cause.is_common() || tally.is_everywhere
+}
+
+/// Appends what the rows lose.
+fn push_consequence(
+    out: &mut String,
+    alloc: Global,
+    text: &Text<'_>,
+    site: &Site,
+    rows: u64,
+) -> Result<(), AllocError> {
+    let is_one = rows == 1;
+    let noun = if is_one { "row" } else { "rows" };
+    write!(out, "{rows} {noun} ")?;
+    match site.kind {
+        SiteKind::Filter => out.push_str(if is_one {
+            "is left out"
+        } else {
+            "are left out"
+        }),
+        SiteKind::Removal => out.push_str(if is_one {
+            "removes nothing"
+        } else {
+            "remove nothing"
+        }),
+        SiteKind::Optional => out.push_str(if is_one {
+            "is treated as no match"
+        } else {
+            "are treated as no match"
+        }),
+        SiteKind::Bind => {
+            out.push_str(if is_one { "leaves " } else { "leave " })?;
+            if let Some(at) = site.variable {
+                text.push_token(out, alloc, at)?;
+            }
+            out.push_str(" unbound")
+        }
+    }
+}
+
+/// Appends the IRI of a datatype, as `xsd:double` if it is one of XML Schema.
+fn push_datatype(out: &mut String, iri: &str) -> Result<(), AllocError> {
+    match iri.strip_prefix(XSD) {
+        Some(name) => write!(out, "xsd:{name}"),
+        None => write!(out, "<{iri}>"),
+    }
+}
+
+/// Appends the cause, as a reason.
+fn push_cause(
+    out: &mut String,
+    alloc: Global,
+    text: &Text<'_>,
+    cause: &Cause,
+) -> Result<(), AllocError> {
+    match cause {
+        Cause::Unbound(number) => {
+            if let Some(at) = text.variable(alloc, *number)? {
+                text.push_token(out, alloc, at)?;
+            }
+            out.push_str(" is unbound")
+        }
+        Cause::Call => out.push_str(
+            "LANG and DATATYPE have a value only for literals, and STR has none for blank nodes",
+        ),
+        Cause::NotLiteral => {
+            out.push_str("an IRI or a blank node has no order and no effective boolean value")
+        }
+        Cause::Tagged => out.push_str(
+            "a literal with a language tag has no order and no inequality by value (compare STR(..), or LANG(..))",
+        ),
+        Cause::Kinds => out.push_str(
+            "two literals of different kinds, such as a string and a number, have no order and no inequality by value (compare STR(..))",
+        ),
+        Cause::Datatype(iri) => {
+            out.push_str("values of ")?;
+            push_datatype(out, iri.as_str())?;
+            out.push_str(
+                " are not compared (compare STR(..), if the order of the texts is that of the values)",
+            )
+        }
+        Cause::IllFormed(iri) => {
+            out.push_str("the text of a literal is no ")?;
+            push_datatype(out, iri.as_str())
+        }
+        Cause::NoTruth(iri) => {
+            out.push_str("a literal of ")?;
+            push_datatype(out, iri.as_str())?;
+            out.push_str(" has no effective boolean value")
+        }
+    }
+}
+
+/// Appends the places of the FILTER or BIND of a tally, in all expressions that it counts. Returns
+/// the first expression, if it has such a keyword.
+fn push_places<'a>(
+    out: &mut String,
+    text: &Text<'_>,
+    outline: &'a Outline,
+    tally: &Tally,
+) -> Result<Option<&'a Site>, AllocError> {
+    let mut first = None;
+    for number in &tally.expressions {
+        if let Some(site) = outline.sites.get(*number) {
+            if let Some(at) = site.keywords.get(tally.filter) {
+                out.push_str(if first.is_some() {
+                    ", "
+                } else {
+                    keyword_of(site)
+                })?;
+                text.push_place(out, *at)?;
+                first = Some(first.unwrap_or(site));
+            }
+        }
+    }
+    Ok(first)
+}
+
+fn keyword_of(site: &Site) -> &'static str {
+    match site.kind {
+        SiteKind::Bind => "spq: note: BIND at ",
+        SiteKind::Filter | SiteKind::Removal | SiteKind::Optional => "spq: note: FILTER at ",
+    }
+}
+
+/// Appends the note for a tally.
+///
+/// # Errors
+/// `AllocError` if an allocation fails.
+pub fn push_tally(
+    out: &mut String,
+    alloc: Global,
+    text: &Text<'_>,
+    outline: &Outline,
+    tally: &Tally,
+) -> Result<(), AllocError> {
+    if let Some(site) = push_places(out, text, outline, tally)? {
+        out.push_str(": ")?;
+        push_consequence(out, alloc, text, site, tally.rows)?;
+        out.push_str(", since ")?;
+        push_cause(out, alloc, text, &tally.cause)?;
+        out.push_str("\n")?;
+    }
+    Ok(())
+}
