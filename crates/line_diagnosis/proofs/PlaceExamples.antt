@@ -1,12 +1,11 @@
--- A place may be too early, and an exact place may not: the line " x" has the place 0, but its exact
--- place is 1. A line has at most one exact place.
-use Rattle.std.proofs.Common.{◌≡◌, ℕ, ◌<◌, ◌≤◌, ◌++◌, List, [], ◌∷◌, length, take, refl, inl, inr, ◌⊎◌, arith, rules, None, subst, sym}
-use Rattle.std.specs.Str.{IsUtf8, chars, IsAscii}
-use Rattle.std.proofs.lemmas.Str.{IsUtf8-from_ascii}
+-- A place is not too early: some well-formed line begins with the text before 0 in the line " x", but
+-- 0 is not its place. A line has at most one place.
+use Rattle.std.proofs.Common.{◌≡◌, ℕ, List, [], ◌∷◌, take, refl, inl, inr, arith, rules, None, subst, sym}
+use Rattle.std.specs.Str.{IsUtf8, chars}
 use Rattle.std.proofs.lemmas.Bool.{cases_order}
 use Rattle.nquads_core.specs.Grammar.{IsEnd}
-use Rattle.line_diagnosis.specs.Place.{IsWellFormed, IsLinePrefix, IsPlace, IsExactPlace}
-use Rattle.line_diagnosis.proofs.PlaceLaws.{first_place}
+use Rattle.line_diagnosis.specs.Place.{IsWellFormed, IsLinePrefix, IsPlace}
+use Rattle.line_diagnosis.proofs.PlaceLaws.{empty_line}
 
 blank_end : IsEnd (32 ∷ [])
 blank_end = record { blanks = 32 ∷ []; comment = []; parts = refl; all_blank = refl; hash = inl refl }
@@ -31,11 +30,11 @@ blank_line = record {
   };
 }
 
--- " x": 0 is a place, and not an exact one
-pub too_early : IsPlace (32 ∷ 120 ∷ []) 0 × (IsExactPlace (32 ∷ 120 ∷ []) 0 → ⊥)
-too_early = (first_place (32 ∷ 120 ∷ []), λ p. p.longest 1 (omega arith) (omega arith) blank_utf8 (record { rest = []; whole = blank_line }))
+-- " x": 0 is too early
+pub too_early : IsLinePrefix (take 0 (32 ∷ 120 ∷ [])) × (IsPlace (32 ∷ 120 ∷ []) 0 → ⊥)
+too_early = (record { rest = []; whole = empty_line }, λ p. p.longest 1 (omega arith) (omega arith) blank_utf8 (record { rest = []; whole = blank_line }))
 
-pub one_place : (line : List ℕ) (a b : ℕ) → IsExactPlace line a → IsExactPlace line b → a ≡ b
+pub one_place : (line : List ℕ) (a b : ℕ) → IsPlace line a → IsPlace line b → a ≡ b
 one_place line a b p q =
     elim (cases_order a b) [
       | inl e ↦ e
