@@ -51,9 +51,9 @@ hex_head (suc n) v (d ∷ cs) c left e =
 -- a digit in lower case
 hex_char : (d : ℕ) → d < 16 → (c : ℕ) × (is_hex c ≡ true) × (digit_value c ≡ d)
 hex_char d h = elim (cases_lt d 10) [
-    | inl low ↦ (48 + d, grind (arith, nat_tests), grind (arith, nat_tests))
-    | inr high ↦ (87 + d, grind (arith, nat_tests), grind (arith, nat_tests))
-  ]
+  | inl low ↦ (48 + d, grind (arith, nat_tests), grind (arith, nat_tests))
+  | inr high ↦ (87 + d, grind (arith, nat_tests), grind (arith, nat_tests))
+]
 
 pub record Spelled (n v c : ℕ) : Type 0 where
   pub digits : List ℕ
@@ -111,12 +111,12 @@ or_second false b h = h
 pub head_of : (ranges : List (ℕ × ℕ)) (more c : ℕ) → in_ranges ranges c ≡ true → is_head ranges more (head more c) ≡ true
 head_of [] more c h = h
 head_of (r ∷ ranges) more c h = elim (or_parts (nat_le r.0 c && nat_le c r.1) (in_ranges ranges c) h) [
-    | inl k ↦
-        let p = range_parts r.0 r.1 c k in
-        or_first (nat_le (head more r.0) (head more c) && nat_le (head more c) (head more r.1)) (is_head ranges more (head more c))
-        (range_is (head more r.0) (head more r.1) (head more c) (head_le more r.0 c p.0) (head_le more c r.1 p.1))
-    | inr k ↦ or_second (nat_le (head more r.0) (head more c) && nat_le (head more c) (head more r.1)) (is_head ranges more (head more c)) (head_of ranges more c k)
-  ]
+  | inl k ↦
+      let p = range_parts r.0 r.1 c k in
+      or_first (nat_le (head more r.0) (head more c) && nat_le (head more c) (head more r.1)) (is_head ranges more (head more c))
+      (range_is (head more r.0) (head more r.1) (head more c) (head_le more r.0 c p.0) (head_le more c r.1 p.1))
+  | inr k ↦ or_second (nat_le (head more r.0) (head more c) && nat_le (head more c) (head more r.1)) (is_head ranges more (head more c)) (head_of ranges more c k)
+]
 
 -- a number from a to b begins with each digits between the first digits of a and b
 between : (more a b v : ℕ) → a ≤ b → head more a ≤ v → v ≤ head more b → (c : ℕ) × (a ≤ c) × (c ≤ b) × (head more c ≡ v)

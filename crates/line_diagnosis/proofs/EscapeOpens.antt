@@ -24,9 +24,9 @@ uchar_large cs = refl
 
 pub uchar_opened : (letter : ℕ) (d : Digits) (cs : List ℕ) → IsOpened letter d → uchar_at (letter ∷ cs) ≡ scalar_of (suc d.more) (hex_at (suc d.more) d.value cs)
 uchar_opened letter d cs h = elim h.1 [
-    | inl k ↦ rw (k.0, k.1, h.0) (uchar_small cs)
-    | inr k ↦ rw (k.0, k.1, h.0) (uchar_large cs)
-  ]
+  | inl k ↦ rw (k.0, k.1, h.0) (uchar_small cs)
+  | inr k ↦ rw (k.0, k.1, h.0) (uchar_large cs)
+]
 
 pub uchar_other : (letter : ℕ) (cs : List ℕ) → letter ≢ 117 → letter ≢ 85 → uchar_at (letter ∷ cs) ≡ None
 unfolding uchar_at

@@ -12,7 +12,7 @@ use Rattle.nquads_core.specs.LineParser.{line_at}
 use Rattle.nquads_core.proofs.LineLaws.{Reads, line_sound}
 use Rattle.nquads_core.proofs.Meaning.{OneLine, read_again}
 use Rattle.nquads_core.proofs.RunLaws.{or_parts}
-use Rattle.line_diagnosis.specs.declared.diagnosis.Counted.TheVariants.{Characters}
+use Rattle.line_diagnosis.specs.declared.diagnosis.Counted.TheVariants.{Bytes, Characters}
 use Rattle.line_diagnosis.specs.declared.diagnosis.Diagnosis.{Diagnosis}
 use Rattle.line_diagnosis.specs.declared.diagnosis.Walk.{Walk}
 use Rattle.line_diagnosis.specs.declared.reason.Next.TheVariants as next
@@ -31,23 +31,23 @@ use Rattle.line_diagnosis.proofs.LiveLaws.{live}
 
 break_parts : (c : ℕ) → is_line_break c ≡ true → (c ≡ 10) ⊎ (c ≡ 13)
 break_parts c h = elim (or_parts (eqb c 10) (eqb c 13) h) [
-    | inl e ↦ inl (eqb-true c 10 e)
-    | inr e ↦ inr (eqb-true c 13 e)
-  ]
+  | inl e ↦ inl (eqb-true c 10 e)
+  | inr e ↦ inr (eqb-true c 13 e)
+]
 
 first_byte : (c : ℕ) (cs : List ℕ) → c < 128 → slice_index (encode_utf8_all (c ∷ cs)) 0 ≡ c
 first_byte c cs h = rw (encode_ascii c h) refl
 
 no_break : (c : ℕ) (cs : List ℕ) → OneLine (encode_utf8_all (c ∷ cs)) → is_line_break c ≡ false
 no_break c cs o = elim (which (is_line_break c)) [
-    | inl h ↦
-        let long : 0 < length (encode_utf8_all (c ∷ cs)) = omega (arith, length-append (encode c) (encode_utf8_all cs), length-encode c, len_utf8_bounds c) in
-        elim (break_parts c h) [
-          | inl e ↦ absurd ((o 0 long).0 (first_byte c cs (omega (arith, e)) ∙ e))
-          | inr e ↦ absurd ((o 0 long).1 (first_byte c cs (omega (arith, e)) ∙ e))
-        ]
-    | inr h ↦ h
-  ]
+  | inl h ↦
+      let long : 0 < length (encode_utf8_all (c ∷ cs)) = omega (arith, length-append (encode c) (encode_utf8_all cs), length-encode c, len_utf8_bounds c) in
+      elim (break_parts c h) [
+        | inl e ↦ absurd ((o 0 long).0 (first_byte c cs (omega (arith, e)) ∙ e))
+        | inr e ↦ absurd ((o 0 long).1 (first_byte c cs (omega (arith, e)) ∙ e))
+      ]
+  | inr h ↦ h
+]
 
 one_line_rest : (front rest : List ℕ) → OneLine (front ++ rest) → OneLine rest
 one_line_rest front rest o = λ i l.
@@ -225,9 +225,9 @@ longer (f ∷ front) back (c ∷ ps) tail e l =
 
 in_text : (line text : List ℕ) (n : ℕ) → IsLongestText line text → n ≤ length line → IsUtf8 (take n line) → n ≤ length text
 in_text line text n t l u = elim (cases_lt (length text) n) [
-    | inl long ↦ absurd (t.longest n long l u)
-    | inr short ↦ short
-  ]
+  | inl long ↦ absurd (t.longest n long l u)
+  | inr short ↦ short
+]
 
 no_longer : (line text : List ℕ) (w : Walk) (n : ℕ) → IsLongestText line text → IsWalk text w → w.offset < n → n ≤ length line → IsUtf8 (take n line) → IsLinePrefix (take n line) → ⊥
 no_longer line text w n t k o l u h =
@@ -273,12 +273,13 @@ front_of line text n v e =
     }
 
 pub explained_of : (line text front : List ℕ) (w : Walk) (d : Diagnosis) → IsLongestText line text → IsWalk text w → front ≡ take w.offset line → d.offset ≡ length front
-    → d.column ≡ column_of d.counted front → (d.counted ≡ Characters → IsUtf8 line) → IsExplained line d
-explained_of line text front w d t k e o c u =
+    → d.column ≡ column_of d.counted front → (d.counted ≡ Characters → IsUtf8 line) → (d.counted ≡ Bytes → IsUtf8 line → ⊥) → IsExplained line d
+explained_of line text front w d t k e o c u b =
     let p = walk_place line text w t k in
     let same : d.offset ≡ w.offset = o ∙ ap length e ∙ length-take-le w.offset line p.in_line in
     record {
       place = subst (IsPlace line) (sym same) p;
       column = c ∙ ap (column_of d.counted) (e ∙ ap (λ (n : ℕ). take n line) (sym same));
       characters = u;
+      bytes = b;
     }

@@ -111,15 +111,15 @@ iri_closes p = record {
 
 no_close : (c : ℕ) → is_iri_char c ≡ true → eqb c 62 ≡ false
 no_close c h = elim (which (eqb c 62)) [
-    | inl e ↦ let no : ⊥ = cc (sym h ∙ ap is_iri_char (eqb-true c 62 e)) in absurd no
-    | inr e ↦ e
-  ]
+  | inl e ↦ let no : ⊥ = cc (sym h ∙ ap is_iri_char (eqb-true c 62 e)) in absurd no
+  | inr e ↦ e
+]
 
 no_backslash : (c : ℕ) → is_iri_char c ≡ true → eqb c 92 ≡ false
 no_backslash c h = elim (which (eqb c 92)) [
-    | inl e ↦ let no : ⊥ = cc (sym h ∙ ap is_iri_char (eqb-true c 92 e)) in absurd no
-    | inr e ↦ e
-  ]
+  | inl e ↦ let no : ⊥ = cc (sym h ∙ ap is_iri_char (eqb-true c 92 e)) in absurd no
+  | inr e ↦ e
+]
 
 pub iri_goes : (p : Part) (s t : Scheme) (c : ℕ) → may_come s c ≡ true → ((cs : List ℕ) → completes_scheme s (c ∷ cs) ≡ completes_scheme t cs) → IsStep (Accepts (state.Iri p s)) c (state.Iri p t)
 iri_goes p s t c m a =
@@ -135,17 +135,17 @@ iri_goes p s t c m a =
 
 pub iri_stops : (p : Part) (s : Scheme) (c : ℕ) → c ≢ 92 → (c ≡ 62 → s ≡ scheme.Read → ⊥) → scalar c ≡ true → may_come s c ≡ false → IsStuck (Accepts (state.Iri p s)) c
 iri_stops p s c b n u m cs h = elim (which (eqb c 62)) [
-    | inl e ↦
-        let q = some_pair_parts [] h.chars cs h.rest (sym (subst (λ (x : ℕ). parts_at inside.Iri (Some 62) 0 (x ∷ cs) ≡ Some ([], cs)) (sym (eqb-true c 62 e)) (close_read cs)) ∙ h.read) in
-        n (eqb-true c 62 e) (read_scheme s (ap (completes_scheme s) q.0 ∙ h.scheme))
-    | inr e ↦ elim (which (is_iri_char c)) [
-      | inl i ↦
-          let w = with_some c (parts_at inside.Iri (Some 62) 0 cs) h.chars h.rest (sym (char_read c cs e (ne_eqb c 92 b) i) ∙ h.read) in
-          let yes = may s c w.0 i u (ap (completes_scheme s) (sym w.2) ∙ h.scheme) in
-          let no : ⊥ = cc in no
-      | inr i ↦ none_some (h.chars, h.rest) (sym (none_read c cs e (ne_eqb c 92 b) i) ∙ h.read)
-    ]
+  | inl e ↦
+      let q = some_pair_parts [] h.chars cs h.rest (sym (subst (λ (x : ℕ). parts_at inside.Iri (Some 62) 0 (x ∷ cs) ≡ Some ([], cs)) (sym (eqb-true c 62 e)) (close_read cs)) ∙ h.read) in
+      n (eqb-true c 62 e) (read_scheme s (ap (completes_scheme s) q.0 ∙ h.scheme))
+  | inr e ↦ elim (which (is_iri_char c)) [
+    | inl i ↦
+        let w = with_some c (parts_at inside.Iri (Some 62) 0 cs) h.chars h.rest (sym (char_read c cs e (ne_eqb c 92 b) i) ∙ h.read) in
+        let yes = may s c w.0 i u (ap (completes_scheme s) (sym w.2) ∙ h.scheme) in
+        let no : ⊥ = cc in no
+    | inr i ↦ none_some (h.chars, h.rest) (sym (none_read c cs e (ne_eqb c 92 b) i) ∙ h.read)
   ]
+]
 
 pub iri_closes_at : (p : Part) (s : Scheme) (c : ℕ) (n : Next) → s ≡ scheme.Read → c ≡ 62 → n ≡ after p → IsStep (Accepts (state.Iri p s)) c (state.Between n)
 iri_closes_at p s c n e f g =

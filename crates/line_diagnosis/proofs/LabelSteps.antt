@@ -127,9 +127,9 @@ dot_turn suffix = inr refl
 -- no line has two dots after a term
 two_dots : (t : Turn) (cs : List ℕ) → Completes t (46 ∷ 46 ∷ cs) → ⊥
 two_dots t cs m = elim (dot_turn t) [
-    | inl e ↦ dot_stuck t e (46 ∷ cs) m
-    | inr e ↦ dot_stuck (part next.End) refl cs (dot_forth t (part next.End) (46 ∷ cs) e m)
-  ]
+  | inl e ↦ dot_stuck t e (46 ∷ cs) m
+  | inr e ↦ dot_stuck (part next.End) refl cs (dot_forth t (part next.End) (46 ∷ cs) e m)
+]
 
 char_after_dot : (c : ℕ) (cs : List ℕ) → is_label_char c ≡ true → (label_tail_at (46 ∷ c ∷ cs)).1 ≡ (label_tail_at cs).1
 char_after_dot c cs h = ap (λ (y : List ℕ × List ℕ). y.1) (dot_inside (c ∷ cs) c (label_tail_at cs).0 (label_tail_at cs).1 (tail_char c cs h))

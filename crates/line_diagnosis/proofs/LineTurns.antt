@@ -123,9 +123,9 @@ statement_completes cs y e =
 pub line_completes : (cs : List ℕ) (y : Option QuadParts) → line_at cs ≡ Some y → Completes (part Subject) cs
 unfolding line_at
 line_completes cs y e = elim (which (is_end (skip_blanks cs))) [
-    | inl h ↦ ended refl h
-    | inr h ↦ statement_completes cs y (rw h at e)
-  ]
+  | inl h ↦ ended refl h
+  | inr h ↦ statement_completes cs y (rw h at e)
+]
 
 -- ---- what completes the line is read
 
@@ -290,9 +290,9 @@ no_hash cs = refl
 not_end : (cs : List ℕ) (x : Terminal × List ℕ) → terminal_at cs ≡ Some x → is_end cs ≡ false
 not_end [] x e = absurd (none_some x (sym no_nil ∙ e))
 not_end (c ∷ cs) x e = elim (which (eqb c 35)) [
-    | inl h ↦ absurd (none_some x (sym (no_hash cs) ∙ subst (λ (y : ℕ). terminal_at (y ∷ cs) ≡ Some x) (eqb-true c 35 h) e))
-    | inr h ↦ h
-  ]
+  | inl h ↦ absurd (none_some x (sym (no_hash cs) ∙ subst (λ (y : ℕ). terminal_at (y ∷ cs) ≡ Some x) (eqb-true c 35 h) e))
+  | inr h ↦ h
+]
 
 abbrev Line : List ℕ → Type 0
 Line cs = (y : Option QuadParts) × (line_at cs ≡ Some y)

@@ -57,12 +57,12 @@ eqb_ne a b h e = let no : ⊥ = cc (sym h ∙ eq-eqb a b e) in no
 
 pub nothing_opens : (n : Next) (c : ℕ) → c ≢ 32 → c ≢ 9 → c ≢ 60 → c ≢ 95 → c ≢ 34 → c ≢ 46 → c ≢ 35 → IsStuck (Accepts (state.Between n)) c
 nothing_opens n c a b d e f g h = elim (which (eqb c 64)) [
-    | inl k ↦ stuck_char (Completes (part n)) c 64 (eqb-true c 64 k) (tag_stuck n)
-    | inr k ↦ elim (which (eqb c 94)) [
-      | inl j ↦ stuck_char (Completes (part n)) c 94 (eqb-true c 94 j) (carets_stuck n)
-      | inr j ↦ other_stuck (part n) c (not_blank c a b) (λ x. absurd (h x)) d f e (eqb_ne c 64 k) (eqb_ne c 94 j) g
-    ]
+  | inl k ↦ stuck_char (Completes (part n)) c 64 (eqb-true c 64 k) (tag_stuck n)
+  | inr k ↦ elim (which (eqb c 94)) [
+    | inl j ↦ stuck_char (Completes (part n)) c 94 (eqb-true c 94 j) (carets_stuck n)
+    | inr j ↦ other_stuck (part n) c (not_blank c a b) (λ x. absurd (h x)) d f e (eqb_ne c 64 k) (eqb_ne c 94 j) g
   ]
+]
 
 -- after a string and its blanks
 pub suffix_goes : (c : ℕ) (r : Result State Reason) → c ≢ 32 → c ≢ 9 → c ≢ 64 → c ≢ 94 → Steps (Accepts (state.Between next.Graph)) c r → Steps (Accepts state.AfterString) c r

@@ -25,9 +25,9 @@ in_others a b c others h = or_second (nat_le a c && nat_le c b) (in_ranges other
 
 cases_in : (a b c : ℕ) (others : List (ℕ × ℕ)) → in_ranges ((a, b) ∷ others) c ≡ true → ((a ≤ c) × (c ≤ b)) ⊎ (in_ranges others c ≡ true)
 cases_in a b c others h = elim (or_parts (nat_le a c && nat_le c b) (in_ranges others c) h) [
-    | inl k ↦ inl (range_parts a b c k)
-    | inr k ↦ inr k
-  ]
+  | inl k ↦ inl (range_parts a b c k)
+  | inr k ↦ inr k
+]
 
 not_this : (c x : ℕ) → is_iri_char x ≡ false → is_iri_char c ≡ true → c ≢ x
 not_this c x n h e = let no : ⊥ = cc (sym n ∙ ap is_iri_char (sym e) ∙ h) in no
@@ -73,38 +73,38 @@ iri_forth c h =
     elim (cases_in 33 33 c ((35, 59) ∷ (61, 61) ∷ (63, 91) ∷ (93, 93) ∷ (95, 95) ∷ (97, 122) ∷ (126, 55295) ∷ (57344, 1114111) ∷ []) h) [
       | inl k ↦ range_chars 33 33 c k.0 k.1 (lit< tt) (lit< tt) (inl (lit< tt)) (inl (lit< tt)) (inl (lit< tt)) (inl (lit< tt)) (inl (lit< tt)) (inl (lit< tt)) (inl (lit< tt)) (inl (lit< tt)) (inl (lit< tt))
       | inr n1 ↦
-      elim (cases_in 35 59 c ((61, 61) ∷ (63, 91) ∷ (93, 93) ∷ (95, 95) ∷ (97, 122) ∷ (126, 55295) ∷ (57344, 1114111) ∷ []) n1) [
-        | inl k ↦ range_chars 35 59 c k.0 k.1 (lit< tt) (lit< tt) (inl (lit< tt)) (inl (lit< tt)) (inr (lit< tt)) (inl (lit< tt)) (inl (lit< tt)) (inl (lit< tt)) (inl (lit< tt)) (inl (lit< tt)) (inl (lit< tt))
-        | inr n2 ↦
-        elim (cases_in 61 61 c ((63, 91) ∷ (93, 93) ∷ (95, 95) ∷ (97, 122) ∷ (126, 55295) ∷ (57344, 1114111) ∷ []) n2) [
-          | inl k ↦ range_chars 61 61 c k.0 k.1 (lit< tt) (lit< tt) (inr (lit< tt)) (inl (lit< tt)) (inr (lit< tt)) (inl (lit< tt)) (inl (lit< tt)) (inl (lit< tt)) (inl (lit< tt)) (inl (lit< tt)) (inl (lit< tt))
-          | inr n3 ↦
-          elim (cases_in 63 91 c ((93, 93) ∷ (95, 95) ∷ (97, 122) ∷ (126, 55295) ∷ (57344, 1114111) ∷ []) n3) [
-            | inl k ↦ range_chars 63 91 c k.0 k.1 (lit< tt) (lit< tt) (inr (lit< tt)) (inr (lit< tt)) (inr (lit< tt)) (inl (lit< tt)) (inl (lit< tt)) (inl (lit< tt)) (inl (lit< tt)) (inl (lit< tt)) (inl (lit< tt))
-            | inr n4 ↦
-            elim (cases_in 93 93 c ((95, 95) ∷ (97, 122) ∷ (126, 55295) ∷ (57344, 1114111) ∷ []) n4) [
-              | inl k ↦ range_chars 93 93 c k.0 k.1 (lit< tt) (lit< tt) (inr (lit< tt)) (inr (lit< tt)) (inr (lit< tt)) (inl (lit< tt)) (inl (lit< tt)) (inl (lit< tt)) (inl (lit< tt)) (inl (lit< tt)) (inr (lit< tt))
-              | inr n5 ↦
-              elim (cases_in 95 95 c ((97, 122) ∷ (126, 55295) ∷ (57344, 1114111) ∷ []) n5) [
-                | inl k ↦ range_chars 95 95 c k.0 k.1 (lit< tt) (lit< tt) (inr (lit< tt)) (inr (lit< tt)) (inr (lit< tt)) (inl (lit< tt)) (inl (lit< tt)) (inl (lit< tt)) (inr (lit< tt)) (inl (lit< tt)) (inr (lit< tt))
-                | inr n6 ↦
-                elim (cases_in 97 122 c ((126, 55295) ∷ (57344, 1114111) ∷ []) n6) [
-                  | inl k ↦ range_chars 97 122 c k.0 k.1 (lit< tt) (lit< tt) (inr (lit< tt)) (inr (lit< tt)) (inr (lit< tt)) (inl (lit< tt)) (inl (lit< tt)) (inl (lit< tt)) (inr (lit< tt)) (inr (lit< tt)) (inr (lit< tt))
-                  | inr n7 ↦
-                  elim (cases_in 126 55295 c ((57344, 1114111) ∷ []) n7) [
-                    | inl k ↦ range_chars 126 55295 c k.0 k.1 (lit< tt) (lit< tt) (inr (lit< tt)) (inr (lit< tt)) (inr (lit< tt)) (inr (lit< tt)) (inr (lit< tt)) (inr (lit< tt)) (inr (lit< tt)) (inr (lit< tt)) (inr (lit< tt))
-                    | inr n8 ↦
-                    elim (cases_in 57344 1114111 c [] n8) [
-                      | inl k ↦ high_chars c k.0 k.1
-                      | inr n9 ↦ absurd cc
-                    ]
-                  ]
+          elim (cases_in 35 59 c ((61, 61) ∷ (63, 91) ∷ (93, 93) ∷ (95, 95) ∷ (97, 122) ∷ (126, 55295) ∷ (57344, 1114111) ∷ []) n1) [
+            | inl k ↦ range_chars 35 59 c k.0 k.1 (lit< tt) (lit< tt) (inl (lit< tt)) (inl (lit< tt)) (inr (lit< tt)) (inl (lit< tt)) (inl (lit< tt)) (inl (lit< tt)) (inl (lit< tt)) (inl (lit< tt)) (inl (lit< tt))
+            | inr n2 ↦
+                elim (cases_in 61 61 c ((63, 91) ∷ (93, 93) ∷ (95, 95) ∷ (97, 122) ∷ (126, 55295) ∷ (57344, 1114111) ∷ []) n2) [
+                  | inl k ↦ range_chars 61 61 c k.0 k.1 (lit< tt) (lit< tt) (inr (lit< tt)) (inl (lit< tt)) (inr (lit< tt)) (inl (lit< tt)) (inl (lit< tt)) (inl (lit< tt)) (inl (lit< tt)) (inl (lit< tt)) (inl (lit< tt))
+                  | inr n3 ↦
+                      elim (cases_in 63 91 c ((93, 93) ∷ (95, 95) ∷ (97, 122) ∷ (126, 55295) ∷ (57344, 1114111) ∷ []) n3) [
+                        | inl k ↦ range_chars 63 91 c k.0 k.1 (lit< tt) (lit< tt) (inr (lit< tt)) (inr (lit< tt)) (inr (lit< tt)) (inl (lit< tt)) (inl (lit< tt)) (inl (lit< tt)) (inl (lit< tt)) (inl (lit< tt)) (inl (lit< tt))
+                        | inr n4 ↦
+                            elim (cases_in 93 93 c ((95, 95) ∷ (97, 122) ∷ (126, 55295) ∷ (57344, 1114111) ∷ []) n4) [
+                              | inl k ↦ range_chars 93 93 c k.0 k.1 (lit< tt) (lit< tt) (inr (lit< tt)) (inr (lit< tt)) (inr (lit< tt)) (inl (lit< tt)) (inl (lit< tt)) (inl (lit< tt)) (inl (lit< tt)) (inl (lit< tt)) (inr (lit< tt))
+                              | inr n5 ↦
+                                  elim (cases_in 95 95 c ((97, 122) ∷ (126, 55295) ∷ (57344, 1114111) ∷ []) n5) [
+                                    | inl k ↦ range_chars 95 95 c k.0 k.1 (lit< tt) (lit< tt) (inr (lit< tt)) (inr (lit< tt)) (inr (lit< tt)) (inl (lit< tt)) (inl (lit< tt)) (inl (lit< tt)) (inr (lit< tt)) (inl (lit< tt)) (inr (lit< tt))
+                                    | inr n6 ↦
+                                        elim (cases_in 97 122 c ((126, 55295) ∷ (57344, 1114111) ∷ []) n6) [
+                                          | inl k ↦ range_chars 97 122 c k.0 k.1 (lit< tt) (lit< tt) (inr (lit< tt)) (inr (lit< tt)) (inr (lit< tt)) (inl (lit< tt)) (inl (lit< tt)) (inl (lit< tt)) (inr (lit< tt)) (inr (lit< tt)) (inr (lit< tt))
+                                          | inr n7 ↦
+                                              elim (cases_in 126 55295 c ((57344, 1114111) ∷ []) n7) [
+                                                | inl k ↦ range_chars 126 55295 c k.0 k.1 (lit< tt) (lit< tt) (inr (lit< tt)) (inr (lit< tt)) (inr (lit< tt)) (inr (lit< tt)) (inr (lit< tt)) (inr (lit< tt)) (inr (lit< tt)) (inr (lit< tt)) (inr (lit< tt))
+                                                | inr n8 ↦
+                                                    elim (cases_in 57344 1114111 c [] n8) [
+                                                      | inl k ↦ high_chars c k.0 k.1
+                                                      | inr n9 ↦ absurd cc
+                                                    ]
+                                              ]
+                                        ]
+                                  ]
+                            ]
+                      ]
                 ]
-              ]
-            ]
           ]
-        ]
-      ]
     ]
 
 iri_back : (c : ℕ) → 32 < c → (c < 55296) ⊎ ((57344 ≤ c) × (c < 1114112)) → ((x : ℕ) → is_iri_char x ≡ false → c ≢ x) → in_ranges iri_list c ≡ true
@@ -113,31 +113,31 @@ iri_back c l (inl h) n =
     elim (cases_lt 33 c) [
       | inr s0 ↦ in_first 33 33 c ((35, 59) ∷ (61, 61) ∷ (63, 91) ∷ (93, 93) ∷ (95, 95) ∷ (97, 122) ∷ (126, 55295) ∷ (57344, 1114111) ∷ []) (omega arith) (omega arith)
       | inl l0 ↦
-      elim (cases_lt 59 c) [
-        | inr s1 ↦ in_others 33 33 c ((35, 59) ∷ (61, 61) ∷ (63, 91) ∷ (93, 93) ∷ (95, 95) ∷ (97, 122) ∷ (126, 55295) ∷ (57344, 1114111) ∷ []) (in_first 35 59 c ((61, 61) ∷ (63, 91) ∷ (93, 93) ∷ (95, 95) ∷ (97, 122) ∷ (126, 55295) ∷ (57344, 1114111) ∷ []) (omega (arith, n 34 refl)) (omega arith))
-        | inl l1 ↦
-        elim (cases_lt 61 c) [
-          | inr s2 ↦ in_others 33 33 c ((35, 59) ∷ (61, 61) ∷ (63, 91) ∷ (93, 93) ∷ (95, 95) ∷ (97, 122) ∷ (126, 55295) ∷ (57344, 1114111) ∷ []) (in_others 35 59 c ((61, 61) ∷ (63, 91) ∷ (93, 93) ∷ (95, 95) ∷ (97, 122) ∷ (126, 55295) ∷ (57344, 1114111) ∷ []) (in_first 61 61 c ((63, 91) ∷ (93, 93) ∷ (95, 95) ∷ (97, 122) ∷ (126, 55295) ∷ (57344, 1114111) ∷ []) (omega (arith, n 60 refl)) (omega arith)))
-          | inl l2 ↦
-          elim (cases_lt 91 c) [
-            | inr s3 ↦ in_others 33 33 c ((35, 59) ∷ (61, 61) ∷ (63, 91) ∷ (93, 93) ∷ (95, 95) ∷ (97, 122) ∷ (126, 55295) ∷ (57344, 1114111) ∷ []) (in_others 35 59 c ((61, 61) ∷ (63, 91) ∷ (93, 93) ∷ (95, 95) ∷ (97, 122) ∷ (126, 55295) ∷ (57344, 1114111) ∷ []) (in_others 61 61 c ((63, 91) ∷ (93, 93) ∷ (95, 95) ∷ (97, 122) ∷ (126, 55295) ∷ (57344, 1114111) ∷ []) (in_first 63 91 c ((93, 93) ∷ (95, 95) ∷ (97, 122) ∷ (126, 55295) ∷ (57344, 1114111) ∷ []) (omega (arith, n 62 refl)) (omega arith))))
-            | inl l3 ↦
-            elim (cases_lt 93 c) [
-              | inr s4 ↦ in_others 33 33 c ((35, 59) ∷ (61, 61) ∷ (63, 91) ∷ (93, 93) ∷ (95, 95) ∷ (97, 122) ∷ (126, 55295) ∷ (57344, 1114111) ∷ []) (in_others 35 59 c ((61, 61) ∷ (63, 91) ∷ (93, 93) ∷ (95, 95) ∷ (97, 122) ∷ (126, 55295) ∷ (57344, 1114111) ∷ []) (in_others 61 61 c ((63, 91) ∷ (93, 93) ∷ (95, 95) ∷ (97, 122) ∷ (126, 55295) ∷ (57344, 1114111) ∷ []) (in_others 63 91 c ((93, 93) ∷ (95, 95) ∷ (97, 122) ∷ (126, 55295) ∷ (57344, 1114111) ∷ []) (in_first 93 93 c ((95, 95) ∷ (97, 122) ∷ (126, 55295) ∷ (57344, 1114111) ∷ []) (omega (arith, n 92 refl)) (omega arith)))))
-              | inl l4 ↦
-              elim (cases_lt 95 c) [
-                | inr s5 ↦ in_others 33 33 c ((35, 59) ∷ (61, 61) ∷ (63, 91) ∷ (93, 93) ∷ (95, 95) ∷ (97, 122) ∷ (126, 55295) ∷ (57344, 1114111) ∷ []) (in_others 35 59 c ((61, 61) ∷ (63, 91) ∷ (93, 93) ∷ (95, 95) ∷ (97, 122) ∷ (126, 55295) ∷ (57344, 1114111) ∷ []) (in_others 61 61 c ((63, 91) ∷ (93, 93) ∷ (95, 95) ∷ (97, 122) ∷ (126, 55295) ∷ (57344, 1114111) ∷ []) (in_others 63 91 c ((93, 93) ∷ (95, 95) ∷ (97, 122) ∷ (126, 55295) ∷ (57344, 1114111) ∷ []) (in_others 93 93 c ((95, 95) ∷ (97, 122) ∷ (126, 55295) ∷ (57344, 1114111) ∷ []) (in_first 95 95 c ((97, 122) ∷ (126, 55295) ∷ (57344, 1114111) ∷ []) (omega (arith, n 94 refl)) (omega arith))))))
-                | inl l5 ↦
-                elim (cases_lt 122 c) [
-                  | inr s6 ↦ in_others 33 33 c ((35, 59) ∷ (61, 61) ∷ (63, 91) ∷ (93, 93) ∷ (95, 95) ∷ (97, 122) ∷ (126, 55295) ∷ (57344, 1114111) ∷ []) (in_others 35 59 c ((61, 61) ∷ (63, 91) ∷ (93, 93) ∷ (95, 95) ∷ (97, 122) ∷ (126, 55295) ∷ (57344, 1114111) ∷ []) (in_others 61 61 c ((63, 91) ∷ (93, 93) ∷ (95, 95) ∷ (97, 122) ∷ (126, 55295) ∷ (57344, 1114111) ∷ []) (in_others 63 91 c ((93, 93) ∷ (95, 95) ∷ (97, 122) ∷ (126, 55295) ∷ (57344, 1114111) ∷ []) (in_others 93 93 c ((95, 95) ∷ (97, 122) ∷ (126, 55295) ∷ (57344, 1114111) ∷ []) (in_others 95 95 c ((97, 122) ∷ (126, 55295) ∷ (57344, 1114111) ∷ []) (in_first 97 122 c ((126, 55295) ∷ (57344, 1114111) ∷ []) (omega (arith, n 96 refl)) (omega arith)))))))
-                  | inl l6 ↦
-                    in_others 33 33 c ((35, 59) ∷ (61, 61) ∷ (63, 91) ∷ (93, 93) ∷ (95, 95) ∷ (97, 122) ∷ (126, 55295) ∷ (57344, 1114111) ∷ []) (in_others 35 59 c ((61, 61) ∷ (63, 91) ∷ (93, 93) ∷ (95, 95) ∷ (97, 122) ∷ (126, 55295) ∷ (57344, 1114111) ∷ []) (in_others 61 61 c ((63, 91) ∷ (93, 93) ∷ (95, 95) ∷ (97, 122) ∷ (126, 55295) ∷ (57344, 1114111) ∷ []) (in_others 63 91 c ((93, 93) ∷ (95, 95) ∷ (97, 122) ∷ (126, 55295) ∷ (57344, 1114111) ∷ []) (in_others 93 93 c ((95, 95) ∷ (97, 122) ∷ (126, 55295) ∷ (57344, 1114111) ∷ []) (in_others 95 95 c ((97, 122) ∷ (126, 55295) ∷ (57344, 1114111) ∷ []) (in_others 97 122 c ((126, 55295) ∷ (57344, 1114111) ∷ []) (in_first 126 55295 c ((57344, 1114111) ∷ []) (omega (arith, n 123 refl, n 124 refl, n 125 refl)) (omega arith))))))))
+          elim (cases_lt 59 c) [
+            | inr s1 ↦ in_others 33 33 c ((35, 59) ∷ (61, 61) ∷ (63, 91) ∷ (93, 93) ∷ (95, 95) ∷ (97, 122) ∷ (126, 55295) ∷ (57344, 1114111) ∷ []) (in_first 35 59 c ((61, 61) ∷ (63, 91) ∷ (93, 93) ∷ (95, 95) ∷ (97, 122) ∷ (126, 55295) ∷ (57344, 1114111) ∷ []) (omega (arith, n 34 refl)) (omega arith))
+            | inl l1 ↦
+                elim (cases_lt 61 c) [
+                  | inr s2 ↦ in_others 33 33 c ((35, 59) ∷ (61, 61) ∷ (63, 91) ∷ (93, 93) ∷ (95, 95) ∷ (97, 122) ∷ (126, 55295) ∷ (57344, 1114111) ∷ []) (in_others 35 59 c ((61, 61) ∷ (63, 91) ∷ (93, 93) ∷ (95, 95) ∷ (97, 122) ∷ (126, 55295) ∷ (57344, 1114111) ∷ []) (in_first 61 61 c ((63, 91) ∷ (93, 93) ∷ (95, 95) ∷ (97, 122) ∷ (126, 55295) ∷ (57344, 1114111) ∷ []) (omega (arith, n 60 refl)) (omega arith)))
+                  | inl l2 ↦
+                      elim (cases_lt 91 c) [
+                        | inr s3 ↦ in_others 33 33 c ((35, 59) ∷ (61, 61) ∷ (63, 91) ∷ (93, 93) ∷ (95, 95) ∷ (97, 122) ∷ (126, 55295) ∷ (57344, 1114111) ∷ []) (in_others 35 59 c ((61, 61) ∷ (63, 91) ∷ (93, 93) ∷ (95, 95) ∷ (97, 122) ∷ (126, 55295) ∷ (57344, 1114111) ∷ []) (in_others 61 61 c ((63, 91) ∷ (93, 93) ∷ (95, 95) ∷ (97, 122) ∷ (126, 55295) ∷ (57344, 1114111) ∷ []) (in_first 63 91 c ((93, 93) ∷ (95, 95) ∷ (97, 122) ∷ (126, 55295) ∷ (57344, 1114111) ∷ []) (omega (arith, n 62 refl)) (omega arith))))
+                        | inl l3 ↦
+                            elim (cases_lt 93 c) [
+                              | inr s4 ↦ in_others 33 33 c ((35, 59) ∷ (61, 61) ∷ (63, 91) ∷ (93, 93) ∷ (95, 95) ∷ (97, 122) ∷ (126, 55295) ∷ (57344, 1114111) ∷ []) (in_others 35 59 c ((61, 61) ∷ (63, 91) ∷ (93, 93) ∷ (95, 95) ∷ (97, 122) ∷ (126, 55295) ∷ (57344, 1114111) ∷ []) (in_others 61 61 c ((63, 91) ∷ (93, 93) ∷ (95, 95) ∷ (97, 122) ∷ (126, 55295) ∷ (57344, 1114111) ∷ []) (in_others 63 91 c ((93, 93) ∷ (95, 95) ∷ (97, 122) ∷ (126, 55295) ∷ (57344, 1114111) ∷ []) (in_first 93 93 c ((95, 95) ∷ (97, 122) ∷ (126, 55295) ∷ (57344, 1114111) ∷ []) (omega (arith, n 92 refl)) (omega arith)))))
+                              | inl l4 ↦
+                                  elim (cases_lt 95 c) [
+                                    | inr s5 ↦ in_others 33 33 c ((35, 59) ∷ (61, 61) ∷ (63, 91) ∷ (93, 93) ∷ (95, 95) ∷ (97, 122) ∷ (126, 55295) ∷ (57344, 1114111) ∷ []) (in_others 35 59 c ((61, 61) ∷ (63, 91) ∷ (93, 93) ∷ (95, 95) ∷ (97, 122) ∷ (126, 55295) ∷ (57344, 1114111) ∷ []) (in_others 61 61 c ((63, 91) ∷ (93, 93) ∷ (95, 95) ∷ (97, 122) ∷ (126, 55295) ∷ (57344, 1114111) ∷ []) (in_others 63 91 c ((93, 93) ∷ (95, 95) ∷ (97, 122) ∷ (126, 55295) ∷ (57344, 1114111) ∷ []) (in_others 93 93 c ((95, 95) ∷ (97, 122) ∷ (126, 55295) ∷ (57344, 1114111) ∷ []) (in_first 95 95 c ((97, 122) ∷ (126, 55295) ∷ (57344, 1114111) ∷ []) (omega (arith, n 94 refl)) (omega arith))))))
+                                    | inl l5 ↦
+                                        elim (cases_lt 122 c) [
+                                          | inr s6 ↦ in_others 33 33 c ((35, 59) ∷ (61, 61) ∷ (63, 91) ∷ (93, 93) ∷ (95, 95) ∷ (97, 122) ∷ (126, 55295) ∷ (57344, 1114111) ∷ []) (in_others 35 59 c ((61, 61) ∷ (63, 91) ∷ (93, 93) ∷ (95, 95) ∷ (97, 122) ∷ (126, 55295) ∷ (57344, 1114111) ∷ []) (in_others 61 61 c ((63, 91) ∷ (93, 93) ∷ (95, 95) ∷ (97, 122) ∷ (126, 55295) ∷ (57344, 1114111) ∷ []) (in_others 63 91 c ((93, 93) ∷ (95, 95) ∷ (97, 122) ∷ (126, 55295) ∷ (57344, 1114111) ∷ []) (in_others 93 93 c ((95, 95) ∷ (97, 122) ∷ (126, 55295) ∷ (57344, 1114111) ∷ []) (in_others 95 95 c ((97, 122) ∷ (126, 55295) ∷ (57344, 1114111) ∷ []) (in_first 97 122 c ((126, 55295) ∷ (57344, 1114111) ∷ []) (omega (arith, n 96 refl)) (omega arith)))))))
+                                          | inl l6 ↦
+                                              in_others 33 33 c ((35, 59) ∷ (61, 61) ∷ (63, 91) ∷ (93, 93) ∷ (95, 95) ∷ (97, 122) ∷ (126, 55295) ∷ (57344, 1114111) ∷ []) (in_others 35 59 c ((61, 61) ∷ (63, 91) ∷ (93, 93) ∷ (95, 95) ∷ (97, 122) ∷ (126, 55295) ∷ (57344, 1114111) ∷ []) (in_others 61 61 c ((63, 91) ∷ (93, 93) ∷ (95, 95) ∷ (97, 122) ∷ (126, 55295) ∷ (57344, 1114111) ∷ []) (in_others 63 91 c ((93, 93) ∷ (95, 95) ∷ (97, 122) ∷ (126, 55295) ∷ (57344, 1114111) ∷ []) (in_others 93 93 c ((95, 95) ∷ (97, 122) ∷ (126, 55295) ∷ (57344, 1114111) ∷ []) (in_others 95 95 c ((97, 122) ∷ (126, 55295) ∷ (57344, 1114111) ∷ []) (in_others 97 122 c ((126, 55295) ∷ (57344, 1114111) ∷ []) (in_first 126 55295 c ((57344, 1114111) ∷ []) (omega (arith, n 123 refl, n 124 refl, n 125 refl)) (omega arith))))))))
+                                        ]
+                                  ]
+                            ]
+                      ]
                 ]
-              ]
-            ]
           ]
-        ]
-      ]
     ]
 
 pub bool_same : (a b : Bool) → (a ≡ true → b ≡ true) → (b ≡ true → a ≡ true) → a ≡ b
@@ -158,12 +158,12 @@ scalar_list = (0, 55295) ∷ (57344, 1114111) ∷ []
 
 scalar_forth : (c : ℕ) → in_ranges scalar_list c ≡ true → scalar c ≡ true
 scalar_forth c h = elim (cases_in 0 55295 c ((57344, 1114111) ∷ []) h) [
-    | inl k ↦ scalar_low c (less_than c 55295 55296 k.1 (lit< tt))
-    | inr n ↦ elim (cases_in 57344 1114111 c [] n) [
-      | inl k ↦ scalar_high c k.0 (less_than c 1114111 1114112 k.1 (lit< tt))
-      | inr m ↦ absurd cc
-    ]
+  | inl k ↦ scalar_low c (less_than c 55295 55296 k.1 (lit< tt))
+  | inr n ↦ elim (cases_in 57344 1114111 c [] n) [
+    | inl k ↦ scalar_high c k.0 (less_than c 1114111 1114112 k.1 (lit< tt))
+    | inr m ↦ absurd cc
   ]
+]
 
 scalar_back : (c : ℕ) → (c < 55296) ⊎ ((57344 ≤ c) × (c < 1114112)) → in_ranges scalar_list c ≡ true
 scalar_back c (inl h) = in_first 0 55295 c ((57344, 1114111) ∷ []) (omega arith) (omega arith)

@@ -25,16 +25,16 @@ high_scheme c b h = grind (arith, nat_tests)
 rest_high : (bs rest : List ℕ) (c : ℕ) → bs ≡ encode c ++ rest → 128 ≤ c → is_scheme_rest bs ≡ false
 rest_high [] rest c e h = refl
 rest_high (b ∷ bs) rest c e h = elim (cases_lt b 128) [
-    | inl low ↦ absurd (omega (arith, char_from_byte (b ∷ bs) rest c e low (omega arith)))
-    | inr high ↦ high_scheme b (is_scheme_rest bs) high
-  ]
+  | inl low ↦ absurd (omega (arith, char_from_byte (b ∷ bs) rest c e low (omega arith)))
+  | inr high ↦ high_scheme b (is_scheme_rest bs) high
+]
 
 start_high : (bs rest : List ℕ) (c : ℕ) → bs ≡ encode c ++ rest → 128 ≤ c → has_scheme bs ≡ false
 start_high [] rest c e h = refl
 start_high (b ∷ bs) rest c e h = elim (cases_lt b 128) [
-    | inl low ↦ absurd (omega (arith, char_from_byte (b ∷ bs) rest c e low (omega arith)))
-    | inr high ↦ rw (high_letter b high) refl
-  ]
+  | inl low ↦ absurd (omega (arith, char_from_byte (b ∷ bs) rest c e low (omega arith)))
+  | inr high ↦ rw (high_letter b high) refl
+]
 
 encode_low : (c : ℕ) (cs : List ℕ) → c < 128 → encode_utf8_all (c ∷ cs) ≡ c ∷ encode_utf8_all cs
 encode_low c cs h = rw (encode_ascii c h) refl
@@ -42,23 +42,23 @@ encode_low c cs h = rw (encode_ascii c h) refl
 rest_of_bytes : (cs : List ℕ) → is_scheme_rest (encode_utf8_all cs) ≡ is_scheme_rest cs
 rest_of_bytes [] = refl
 rest_of_bytes (c ∷ cs) = elim (cases_lt c 128) [
-    | inl low ↦
-        let step : is_scheme_rest (c ∷ encode_utf8_all cs) ≡ is_scheme_rest (c ∷ cs) = rw (rest_of_bytes cs) refl in
-        ap is_scheme_rest (encode_low c cs low) ∙ step
-    | inr high ↦ rest_high (encode_utf8_all (c ∷ cs)) (encode_utf8_all cs) c refl high ∙ sym (high_scheme c (is_scheme_rest cs) high)
-  ]
+  | inl low ↦
+      let step : is_scheme_rest (c ∷ encode_utf8_all cs) ≡ is_scheme_rest (c ∷ cs) = rw (rest_of_bytes cs) refl in
+      ap is_scheme_rest (encode_low c cs low) ∙ step
+  | inr high ↦ rest_high (encode_utf8_all (c ∷ cs)) (encode_utf8_all cs) c refl high ∙ sym (high_scheme c (is_scheme_rest cs) high)
+]
 
 -- the bytes have a scheme if the characters do
 pub scheme_of_bytes : (cs : List ℕ) → has_scheme (encode_utf8_all cs) ≡ has_scheme cs
 scheme_of_bytes [] = refl
 scheme_of_bytes (c ∷ cs) = elim (cases_lt c 128) [
-    | inl low ↦
-        let step : has_scheme (c ∷ encode_utf8_all cs) ≡ has_scheme (c ∷ cs) = rw (rest_of_bytes cs) refl in
-        ap has_scheme (encode_low c cs low) ∙ step
-    | inr high ↦
-        let step : has_scheme (c ∷ cs) ≡ false = rw (high_letter c high) refl in
-        start_high (encode_utf8_all (c ∷ cs)) (encode_utf8_all cs) c refl high ∙ sym step
-  ]
+  | inl low ↦
+      let step : has_scheme (c ∷ encode_utf8_all cs) ≡ has_scheme (c ∷ cs) = rw (rest_of_bytes cs) refl in
+      ap has_scheme (encode_low c cs low) ∙ step
+  | inr high ↦
+      let step : has_scheme (c ∷ cs) ≡ false = rw (high_letter c high) refl in
+      start_high (encode_utf8_all (c ∷ cs)) (encode_utf8_all cs) c refl high ∙ sym step
+]
 
 -- ---- the next code point
 
@@ -80,9 +80,9 @@ or_true false b h = h
 
 begun_may : (c : ℕ) (b : Bool) → (eqb c 58 || ((is_ascii_alphanumeric c || eqb c 43 || eqb c 45 || eqb c 46) && b)) ≡ true → may_come Begun c ≡ true
 begun_may c b h = elim (or_parts (eqb c 58) ((is_ascii_alphanumeric c || eqb c 43 || eqb c 45 || eqb c 46) && b) h) [
-    | inl e ↦ rw e refl
-    | inr k ↦ let p = and_parts (is_ascii_alphanumeric c || eqb c 43 || eqb c 45 || eqb c 46) b k in or_true (eqb c 58) (is_ascii_alphanumeric c || eqb c 43 || eqb c 45 || eqb c 46) p.0
-  ]
+  | inl e ↦ rw e refl
+  | inr k ↦ let p = and_parts (is_ascii_alphanumeric c || eqb c 43 || eqb c 45 || eqb c 46) b k in or_true (eqb c 58) (is_ascii_alphanumeric c || eqb c 43 || eqb c 45 || eqb c 46) p.0
+]
 
 -- a character of IRIs that goes on with a scheme may come
 pub may : (s : Scheme) (c : ℕ) (cs : List ℕ) → is_iri_char c ≡ true → scalar c ≡ true → completes_scheme s (c ∷ cs) ≡ true → may_come s c ≡ true

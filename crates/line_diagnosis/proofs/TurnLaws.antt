@@ -94,16 +94,16 @@ comment_again t cs l = ended l (subst (λ (y : List ℕ). is_end y ≡ true) (sy
 -- the first character is not the one of a comment
 read_first : (t : Turn) (c : ℕ) (cs : List ℕ) → is_blank c ≡ false → (c ≡ 35 → ⊥) → Completes t (c ∷ cs) → Reads t (c ∷ cs)
 read_first t c cs h n m = elim (first t c cs h m) [
-    | inl e ↦ absurd (n e.1)
-    | inr r ↦ r
-  ]
+  | inl e ↦ absurd (n e.1)
+  | inr r ↦ r
+]
 
 pub stuck : (t : Turn) (c : ℕ) → is_blank c ≡ false → (c ≡ 35 → is_last t ≡ false)
     → ((cs : List ℕ) (k : Terminal) (rest : List ℕ) → terminal_at (c ∷ cs) ≡ Some (k, rest) → follows t k ≡ None) → IsStuck (Completes t) c
 stuck t c h l n cs m = elim (first t c cs h m) [
-    | inl e ↦ let no : ⊥ = cc (e.0, l e.1) in no
-    | inr r ↦ none_some r.turn (sym (n cs r.k r.rest r.reads) ∙ r.follows)
-  ]
+  | inl e ↦ let no : ⊥ = cc (e.0, l e.1) in no
+  | inr r ↦ none_some r.turn (sym (n cs r.k r.rest r.reads) ∙ r.follows)
+]
 
 -- ---- terminals by their first character
 
@@ -216,9 +216,9 @@ label_opens n p a = record { forth = λ cs h. label_forth (part n) p cs a h; bac
 pub label_stuck : (n : Next) → after_blank (part n) ≡ None → IsStuck (Accepts (state.Between n)) 95
 label_stuck n a = stuck (part n) 95 refl (λ e. let no : ⊥ = cc in absurd no)
     (λ cs k rest e.
-        let b = bind_some (after_char 58 cs) (λ label. as_terminal blank_label (label_at label)) (k, rest) (sym (at_blank cs) ∙ e) in
-        let s = as_some blank_label (label_at b.0) k rest b.2 in
-        follows_none (part n) k (blank_label s.0) s.2 (follows_blank (part n) s.0 ∙ a))
+    let b = bind_some (after_char 58 cs) (λ label. as_terminal blank_label (label_at label)) (k, rest) (sym (at_blank cs) ∙ e) in
+    let s = as_some blank_label (label_at b.0) k rest b.2 in
+    follows_none (part n) k (blank_label s.0) s.2 (follows_blank (part n) s.0 ∙ a))
 
 dot_read : (t u : Turn) (cs : List ℕ) → after_dot t ≡ Some u → Reads t (46 ∷ cs) → Completes u cs
 dot_read t u cs a r =
@@ -279,32 +279,32 @@ tag_opens = record {
 same_turn : (c : ℕ) (cs : List ℕ) (k : Terminal) (rest : List ℕ) → c ≢ 64 → c ≢ 94 → terminal_at (c ∷ cs) ≡ Some (k, rest) → follows suffix k ≡ follows (part Graph) k
 unfolding follows
 same_turn c cs k rest a b e = elim (which (eqb c 60)) [
-    | inl h ↦ rw (as_some iri_ref (iri_at cs) k rest (sym (at_iri cs) ∙ subst (λ (x : ℕ). terminal_at (x ∷ cs) ≡ Some (k, rest)) (eqb-true c 60 h) e)).2 refl
-    | inr n1 ↦ elim (which (eqb c 34)) [
-      | inl h ↦ rw (as_some quoted (string_at cs) k rest (sym (at_string cs) ∙ subst (λ (x : ℕ). terminal_at (x ∷ cs) ≡ Some (k, rest)) (eqb-true c 34 h) e)).2 refl
-      | inr n2 ↦ elim (which (eqb c 95)) [
-        | inl h ↦
-            let d = bind_some (after_char 58 cs) (λ label. as_terminal blank_label (label_at label)) (k, rest) (sym (at_blank cs) ∙ subst (λ (x : ℕ). terminal_at (x ∷ cs) ≡ Some (k, rest)) (eqb-true c 95 h) e) in
-            rw (as_some blank_label (label_at d.0) k rest d.2).2 refl
-        | inr n3 ↦ elim (which (eqb c 46)) [
-          | inl h ↦ rw (← (some_pair_parts dot k cs rest (sym (at_dot cs) ∙ subst (λ (x : ℕ). terminal_at (x ∷ cs) ≡ Some (k, rest)) (eqb-true c 46 h) e)).0) refl
-          | inr n4 ↦ absurd (none_some (k, rest) (sym (at_rest c cs n1 n2 n3 (ne_eqb c 64 a) (ne_eqb c 94 b) n4) ∙ e))
-        ]
+  | inl h ↦ rw (as_some iri_ref (iri_at cs) k rest (sym (at_iri cs) ∙ subst (λ (x : ℕ). terminal_at (x ∷ cs) ≡ Some (k, rest)) (eqb-true c 60 h) e)).2 refl
+  | inr n1 ↦ elim (which (eqb c 34)) [
+    | inl h ↦ rw (as_some quoted (string_at cs) k rest (sym (at_string cs) ∙ subst (λ (x : ℕ). terminal_at (x ∷ cs) ≡ Some (k, rest)) (eqb-true c 34 h) e)).2 refl
+    | inr n2 ↦ elim (which (eqb c 95)) [
+      | inl h ↦
+          let d = bind_some (after_char 58 cs) (λ label. as_terminal blank_label (label_at label)) (k, rest) (sym (at_blank cs) ∙ subst (λ (x : ℕ). terminal_at (x ∷ cs) ≡ Some (k, rest)) (eqb-true c 95 h) e) in
+          rw (as_some blank_label (label_at d.0) k rest d.2).2 refl
+      | inr n3 ↦ elim (which (eqb c 46)) [
+        | inl h ↦ rw (← (some_pair_parts dot k cs rest (sym (at_dot cs) ∙ subst (λ (x : ℕ). terminal_at (x ∷ cs) ≡ Some (k, rest)) (eqb-true c 46 h) e)).0) refl
+        | inr n4 ↦ absurd (none_some (k, rest) (sym (at_rest c cs n1 n2 n3 (ne_eqb c 64 a) (ne_eqb c 94 b) n4) ∙ e))
       ]
     ]
   ]
+]
 
 pub suffix_forth : (c : ℕ) (cs : List ℕ) → is_blank c ≡ false → c ≢ 64 → c ≢ 94 → Completes suffix (c ∷ cs) → Completes (part Graph) (c ∷ cs)
 suffix_forth c cs h a b m = elim (first suffix c cs h m) [
-    | inl e ↦ absurd cc
-    | inr r ↦ first_again (part Graph) c cs h (record { k = r.k; rest = r.rest; turn = r.turn; reads = r.reads; follows = sym (same_turn c cs r.k r.rest a b r.reads) ∙ r.follows; more = r.more })
-  ]
+  | inl e ↦ absurd cc
+  | inr r ↦ first_again (part Graph) c cs h (record { k = r.k; rest = r.rest; turn = r.turn; reads = r.reads; follows = sym (same_turn c cs r.k r.rest a b r.reads) ∙ r.follows; more = r.more })
+]
 
 pub suffix_back : (c : ℕ) (cs : List ℕ) → is_blank c ≡ false → c ≢ 64 → c ≢ 94 → Completes (part Graph) (c ∷ cs) → Completes suffix (c ∷ cs)
 suffix_back c cs h a b m = elim (first (part Graph) c cs h m) [
-    | inl e ↦ absurd cc
-    | inr r ↦ first_again suffix c cs h (record { k = r.k; rest = r.rest; turn = r.turn; reads = r.reads; follows = same_turn c cs r.k r.rest a b r.reads ∙ r.follows; more = r.more })
-  ]
+  | inl e ↦ absurd cc
+  | inr r ↦ first_again suffix c cs h (record { k = r.k; rest = r.rest; turn = r.turn; reads = r.reads; follows = same_turn c cs r.k r.rest a b r.reads ∙ r.follows; more = r.more })
+]
 
 -- ---- characters that begin no terminal
 

@@ -4,3 +4,4 @@ pub mod Explained
 pub mod Turn
 pub mod Rest
 pub mod Front
+pub mod Report

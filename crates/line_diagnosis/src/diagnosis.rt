@@ -1,14 +1,14 @@
 //! The place of a malformed line, and the reason.
 
 ghost use Rattle.std.specs.Prelude.{◌≡◌, ◌∷◌, ◌<◌, ◌^◌, ℕ, true, false, List, length, IfOk, IfNone, IfSome, MatchResult, OnSome};
-ghost use Rattle.std.specs.Str.{IsUtf8, NonePass};
+ghost use Rattle.std.specs.Str.{IsUtf8, NonePass, chars};
 ghost use Rattle.nquads_core.specs.Grammar.{IsMalformed};
 ghost use Rattle.line_diagnosis.specs.Place.{IsWellFormed};
 ghost use Rattle.line_diagnosis.specs.Column.{column_of};
 ghost use Rattle.line_diagnosis.specs.Explained.{IsExplained};
 ghost use Rattle.line_diagnosis.specs.Front.{IsLongestText, IsWalk, is_line_break};
 ghost use Rattle.line_diagnosis.specs.Rest.{Accepts, IsStep, Steps};
-ghost use Rattle.line_diagnosis.specs.declared.diagnosis.Counted.TheVariants.{Characters};
+ghost use Rattle.line_diagnosis.specs.declared.diagnosis.Counted.TheVariants.{Bytes, Characters};
 
 use crate::between::{step_after_string, step_between};
 use crate::iris::{step_backslash, step_escape, step_iri};
@@ -255,24 +255,40 @@ fn is_malformed(alloc: Global, line: &[u8]) -> Result<bool, AllocError>
     }
 }
 
+/// Returns the number of characters of bytes that are UTF-8.
+pub(crate) fn count_of_bytes(front: &[u8]) -> usize
+    requires utf8 { IsUtf8 front.now }
+    ensures value { result ≡ length (chars front.now) }
+    ensures small { result < 2 ^ 63 }
+{
+    match str::from_utf8(front) {
+        Ok(text) => count_of(text),
+        Err(_) => 0,
+    }
+}
+
 /// Returns the column after a beginning of the line, and its unit.
 fn column_of(line: &[u8], front: &[u8]) -> (usize, Counted)
     requires small { length front.now < 2 ^ 63 }
+    requires utf8 { IsUtf8 front.now }
     ensures column { result.0 ≡ column_of result.1 front.now }
     ensures characters { (result.1 ≡ Characters) → IsUtf8 line.now }
+    ensures bytes { (result.1 ≡ Bytes) → IsUtf8 line.now → ⊥ }
 {
-    if let (Ok(_), Ok(text)) = (str::from_utf8(line), str::from_utf8(front)) {
-        return (count_of(text) + 1, Counted::Characters);
+    match str::from_utf8(line) {
+        Ok(_) => (count_of_bytes(front) + 1, Counted::Characters),
+        Err(_) => (front.len() + 1, Counted::Bytes),
     }
-    (front.len() + 1, Counted::Bytes)
 }
 
 /// Returns the diagnosis of a line for the place after a beginning of it.
 fn placed(line: &[u8], front: &[u8], reason: Reason) -> Diagnosis
     requires small { length front.now < 2 ^ 63 }
+    requires utf8 { IsUtf8 front.now }
     ensures offset { result.offset ≡ length front.now }
     ensures column { result.column ≡ column_of result.counted front.now }
     ensures characters { (result.counted ≡ Characters) → IsUtf8 line.now }
+    ensures bytes { (result.counted ≡ Bytes) → IsUtf8 line.now → ⊥ }
 {
     let (column, counted) = column_of(line, front);
     Diagnosis {

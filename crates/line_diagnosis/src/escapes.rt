@@ -107,9 +107,9 @@ pub fn step_digits(digits: Digits, ranges: &[(u64, u64)], c: char) -> Result<u64
     requires { are_code_points ranges.now ≡ true }
     ensures { MatchResult result
         (λ value. (is_hex c ≡ true) × (value ≡ digits.value * 16 + digit_value c)
-            × (is_head ranges.now digits.more value ≡ true))
+        × (is_head ranges.now digits.more value ≡ true))
         (λ reason. is_hex c ≡ true
-            → is_head ranges.now digits.more (digits.value * 16 + digit_value c) ≡ true → ⊥) }
+        → is_head ranges.now digits.more (digits.value * 16 + digit_value c) ≡ true → ⊥) }
 {
     let Some(digit) = c.to_digit(16) else {
         return Err(Reason::NoDigit(Found::Char(c)));

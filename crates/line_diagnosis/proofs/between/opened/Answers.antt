@@ -52,7 +52,7 @@ returns-in_default c = elim c.match-matches.branch [
 
 pub returns-in-46 : goal.returns-in-46
 returns-in-46 c = elim c.match-matches-2.branch [
-  | in-Graph w ↦ at_char (Accepts (state.Between c.args.next)) c.args.c 46 _ c.in-46.is (dot_step c.args.next (elim w.in-Graph.is [ | inl e ↦ rw e refl | inr e ↦ rw e refl ]))
+  | in-Graph w ↦ at_char (Accepts (state.Between c.args.next)) c.args.c 46 _ c.in-46.is (dot_step c.args.next (elim w.in-Graph.is [ inl e ↦ rw e refl | inr e ↦ rw e refl ]))
   | in_default-matches-2 w ↦ absurd cc
 ]
 
@@ -64,7 +64,7 @@ returns-in_default-2 c = elim c.match-matches-2.branch [
 
 pub returns-in-35 : goal.returns-in-35
 returns-in-35 c = elim c.match-matches-3.branch [
-  | in-Subject w ↦ at_char (Accepts (state.Between c.args.next)) c.args.c 35 _ c.in-35.is (comment_opens c.args.next (elim w.in-Subject.is [ | inl e ↦ rw e refl | inr e ↦ rw e refl ]))
+  | in-Subject w ↦ at_char (Accepts (state.Between c.args.next)) c.args.c 35 _ c.in-35.is (comment_opens c.args.next (elim w.in-Subject.is [ inl e ↦ rw e refl | inr e ↦ rw e refl ]))
   | in_default-matches-3 w ↦ absurd cc
 ]
 

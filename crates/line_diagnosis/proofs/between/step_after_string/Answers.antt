@@ -18,7 +18,7 @@ blank_goes : (c : ℕ) → is_blank c ≡ true → IsStep (Accepts state.AfterSt
 blank_goes c h = record { forth = λ cs m. blank_forth suffix c cs h m; back = λ cs m. blank_back suffix c cs h m; can_end = tt }
 
 pub returns-in-32 : goal.returns-in-32
-returns-in-32 c = blank_goes c.args.c (elim c.in-32.is [ | inl e ↦ rw e refl | inr e ↦ rw e refl ])
+returns-in-32 c = blank_goes c.args.c (elim c.in-32.is [ inl e ↦ rw e refl | inr e ↦ rw e refl ])
 
 pub returns-in_default : goal.returns-in_default
 returns-in_default c = suffix_goes c.args.c c.step_between.result (search rules) (search rules) (search rules) (search rules) c.step_between.ensures

@@ -18,7 +18,7 @@ returns-then-c-eq46 c = at_char (Accepts (state.LabelDot c.args.part)) c.args.c 
 pub returns-then-matches : goal.returns-then-matches
 returns-then-matches c = elim c.match-matches.branch [
   | in-Graph w ↦
-      let e : after_dot (part c.after.result) ≡ Some (part next.End) = elim w.in-Graph.is [ | inl k ↦ rw k refl | inr k ↦ rw k refl ] in
+      let e : after_dot (part c.after.result) ≡ Some (part next.End) = elim w.in-Graph.is [ inl k ↦ rw k refl | inr k ↦ rw k refl ] in
       dot_ends c.args.part c.args.c c.step_between.result (sym c.if-is_label_char.ensures.value) c.if-c-eq46.false
       (subst (λ (n : Next). after_dot (part n) ≡ Some (part next.End)) c.after.ensures e) c.step_between.ensures
   | in_default w ↦ absurd cc
