@@ -1,6 +1,6 @@
 //! Whole messages.
 
-ghost use Rattle.std.specs.Prelude.{IfOk, OnOk, ◌≡◌, ◌++◌, string_bytes};
+ghost use Rattle.std.specs.Prelude.{IfOk, OnOk, Some, ◌≡◌, ◌++◌, string_bytes};
 ghost use Rattle.std.specs.Str.{chars};
 ghost use Rattle.excerpt.specs.Message.{IsMessage, heading_of};
 
@@ -9,11 +9,14 @@ use std::alloc::{AllocError, Global};
 use std::fmt::Display;
 
 /// Appends the first line of a message.
-fn push_heading(out: &mut String, heading: &str) -> Result<(), AllocError>
-    ensures line { OnOk result (string_bytes out.new ≡ string_bytes out.old ++ heading_of heading.now) }
+fn push_heading(out: &mut String, place: &str, reason: &str) -> Result<(), AllocError>
+    ensures line { OnOk result
+        (string_bytes out.new ≡ string_bytes out.old ++ heading_of place.now reason.now) }
 {
     out.push_str("spq: ")?;
-    out.push_str(heading)?;
+    out.push_str(place)?;
+    out.push_str(": ")?;
+    out.push_str(reason)?;
     out.push('\n')
 }
 
@@ -25,18 +28,20 @@ fn hint_line<H: Display>(alloc: Global, hint: Option<&H>) -> Result<String, Allo
     }
 }
 
-/// Returns the message with this heading and hint.
+/// Returns the message with this place, reason and hint.
 fn composed(
     alloc: Global,
-    heading: &str,
+    place: &str,
+    reason: &str,
     line: &str,
     at: usize,
     hint: &str,
 ) -> Result<String, AllocError>
-    ensures message { IfOk result (λ s. IsMessage (chars line.now) at (string_bytes s)) }
+    ensures message { IfOk result
+        (λ s. IsMessage (Some place.now) (chars line.now) at (string_bytes s)) }
 {
     let mut out = String::new(alloc);
-    push_heading(&mut out, heading)?;
+    push_heading(&mut out, place, reason)?;
     excerpt(&mut out, line, at)?;
     out.push_str(hint)?;
     Ok(out)
@@ -57,9 +62,18 @@ pub fn message<P: Display, R: Display, H: Display>(
     at: usize,
     hint: Option<&H>,
 ) -> Result<String, AllocError>
-    ensures message { IfOk result (λ s. IsMessage (chars line.now) at (string_bytes s)) }
+    ensures message { IfOk result
+        (λ s. IsMessage (P.output place.now) (chars line.now) at (string_bytes s)) }
 {
-    let heading = format!(in alloc; "{place}: {reason}")?;
+    let place = place.to_string(alloc)?;
+    let reason = reason.to_string(alloc)?;
     let hint = hint_line(alloc, hint)?;
-    composed(alloc, heading.as_str(), line, at, hint.as_str())
+    composed(
+        alloc,
+        place.as_str(),
+        reason.as_str(),
+        line,
+        at,
+        hint.as_str(),
+    )
 }

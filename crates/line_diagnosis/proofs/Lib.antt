@@ -1,1 +1,15 @@
 pub mod PlaceLaws
+pub mod PlaceExamples
+pub mod TurnLaws
+pub mod SchemeLaws
+pub mod DigitLaws
+pub mod IriSteps
+pub mod EscapeOpens
+pub mod StringSteps
+pub mod LabelSteps
+pub mod TagSteps
+pub mod LineTurns
+pub mod LiveLaws
+pub mod FrontLaws
+pub mod OpenLaws
+pub mod RangeLaws

@@ -1,14 +1,13 @@
--- The empty beginning of a line.
-use Rattle.std.proofs.Common.{◌≡◌, ℕ, ◌<◌, ◌≤◌, ◌++◌, List, [], ◌∷◌, length, take, refl, inl, arith, rules, None, subst, sym, Bool, true, false}
-use Rattle.std.specs.Str.{IsUtf8, chars}
+-- The empty line.
+use Rattle.std.proofs.Common.{◌≡◌, ℕ, List, [], refl, inl, arith, rules, None, subst, sym, true, false}
 use Rattle.std.proofs.lemmas.Str.{chars-nil}
-use Rattle.nquads_core.specs.Grammar.{HasStatement, IsMalformed, IsEnd, Splits}
-use Rattle.line_diagnosis.specs.Place.{IsWellFormed, IsLinePrefix, IsPlace}
+use Rattle.nquads_core.specs.Grammar.{IsMalformed, IsEnd}
+use Rattle.line_diagnosis.specs.Place.{IsWellFormed}
 
 empty_end : IsEnd []
 empty_end = record { blanks = []; comment = []; parts = refl; all_blank = refl; hash = inl refl }
 
-empty_line : IsWellFormed []
+pub empty_line : IsWellFormed []
 empty_line = record {
   meaning = None;
   statement = record {
@@ -19,10 +18,6 @@ empty_line = record {
     derives = refl;
   };
 }
-
--- every line begins with the empty text
-pub first_place : (line : List ℕ) → IsPlace line 0
-first_place line = record { in_line = omega arith; beginning = record { rest = []; whole = empty_line } }
 
 -- a line that was read is not malformed, so there is nothing to prove
 pub unread_bad : (line : List ℕ) → false ≡ true → IsMalformed line

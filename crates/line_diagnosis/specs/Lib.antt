@@ -1,3 +1,7 @@
 pub mod Place
 pub mod Column
 pub mod Explained
+pub mod Turn
+pub mod Rest
+pub mod Front
+pub mod Report

@@ -1,23 +1,25 @@
 //! The place of a malformed line, and the reason.
 
-ghost use Rattle.std.specs.Prelude.{◌≡◌, ◌<◌, ◌^◌, true, false, length, IfOk, IfNone, IfSome, OnSome};
-ghost use Rattle.std.specs.Str.{IsUtf8};
+ghost use Rattle.std.specs.Prelude.{◌≡◌, ◌∷◌, ◌<◌, ◌^◌, ℕ, true, false, List, length, IfOk, IfNone, IfSome, MatchResult, OnSome};
+ghost use Rattle.std.specs.Str.{IsUtf8, NonePass, chars};
 ghost use Rattle.nquads_core.specs.Grammar.{IsMalformed};
-ghost use Rattle.line_diagnosis.specs.Place.{IsLinePrefix, IsWellFormed};
+ghost use Rattle.line_diagnosis.specs.Place.{IsWellFormed};
 ghost use Rattle.line_diagnosis.specs.Column.{column_of};
 ghost use Rattle.line_diagnosis.specs.Explained.{IsExplained};
-ghost use Rattle.line_diagnosis.specs.declared.diagnosis.Counted.TheVariants.{Characters};
+ghost use Rattle.line_diagnosis.specs.Front.{IsLongestText, IsWalk, is_line_break};
+ghost use Rattle.line_diagnosis.specs.Rest.{Accepts, IsStep, Steps};
+ghost use Rattle.line_diagnosis.specs.declared.diagnosis.Counted.TheVariants.{Bytes, Characters};
 
 use crate::between::{step_after_string, step_between};
-use crate::completion::completion;
 use crate::iris::{step_backslash, step_escape, step_iri};
 use crate::labels::{step_label, step_label_dot, step_label_dots};
 use crate::literals::{step_string, step_string_backslash, step_string_escape};
 use crate::reason::{Found, Next, Packing, Reason};
 use crate::state::{State, after};
+use crate::tags::{step_subtag, step_tag};
 use excerpt::count_of;
 use nquads_core::{LineFault, read_line};
-use rdf_core::lexical::is_label_start;
+use rdf_core::lexical::{first_char, is_label_start};
 use std::alloc::{AllocError, Global};
 
 /// The unit of a column.
@@ -56,20 +58,25 @@ struct Walk {
 }
 
 /// Returns the state after a character, if the character is allowed.
-fn expect(is_allowed: bool, state: State, reason: Reason) -> Result<State, Reason> {
+fn expect(is_allowed: bool, state: State, reason: Reason) -> Result<State, Reason>
+    ensures { MatchResult result (λ new. (is_allowed ≡ true) × (new ≡ state))
+        (λ reason. is_allowed ≡ false) }
+{
     if is_allowed { Ok(state) } else { Err(reason) }
 }
 
-/// Reads a character (RDF 1.1 N-Quads, section 4).
+/// Reads a character other than LF and CR (RDF 1.1 N-Quads, section 4).
 ///
 /// # Errors
 /// The reason why no well-formed line continues with this character in this state.
-fn step(state: State, c: char) -> Result<State, Reason> {
+fn step_plain(state: State, c: char) -> Result<State, Reason>
+    ensures { Steps (Accepts state) c result }
+{
     let found = Found::Char(c);
     match state {
         State::Between(next) => step_between(next, c),
         State::AfterString => step_after_string(c),
-        State::Comment => expect(c != '\n' && c != '\r', state, Reason::LineBreak),
+        State::Comment => Ok(state),
         State::Iri(part, scheme) => step_iri(part, scheme, c),
         State::IriBackslash(part, scheme) => step_backslash(part, scheme, c),
         State::IriDigits(part, scheme, digits) => step_escape(part, scheme, digits, c),
@@ -82,10 +89,8 @@ fn step(state: State, c: char) -> Result<State, Reason> {
             Reason::OneCaret(found),
         ),
         State::At => expect(c.is_ascii_alphabetic(), State::Tag, Reason::NoTag(found)),
-        State::Tag if c.is_ascii_alphabetic() => Ok(state),
-        State::Subtag if c.is_ascii_alphanumeric() => Ok(state),
-        State::Tag | State::Subtag if c == '-' => Ok(State::Hyphen),
-        State::Tag | State::Subtag => step_between(Next::Graph, c),
+        State::Tag => step_tag(c),
+        State::Subtag => step_subtag(c),
         State::Hyphen => expect(
             c.is_ascii_alphanumeric(),
             State::Subtag,
@@ -107,6 +112,21 @@ fn step(state: State, c: char) -> Result<State, Reason> {
     }
 }
 
+/// Reads a character.
+///
+/// # Errors
+/// The reason why no well-formed line continues with this character in this state.
+fn step(state: State, c: char) -> Result<State, Reason>
+    ensures { MatchResult result
+        (λ new. (is_line_break c ≡ false) × IsStep (Accepts state) c new)
+        (λ reason. (cs : List ℕ) → NonePass is_line_break (c ∷ cs) → Accepts state (c ∷ cs) → ⊥) }
+{
+    if c == '\n' || c == '\r' {
+        return Err(Reason::LineBreak);
+    }
+    step_plain(state, c)
+}
+
 /// Returns the reason why a line may not end in a state.
 fn reason_at_end(state: State) -> Reason {
     match state {
@@ -114,7 +134,7 @@ fn reason_at_end(state: State) -> Reason {
         State::AfterString | State::Tag | State::Subtag => {
             Reason::Unexpected(Next::Graph, Found::LineEnd)
         }
-        State::Comment => Reason::Unexplained,
+        State::Comment => Reason::Unexpected(Next::End, Found::LineEnd),
         State::Iri(_, _) | State::IriBackslash(_, _) | State::IriDigits(_, _, _) => Reason::OpenIri,
         State::String | State::StringBackslash | State::StringDigits(_) => Reason::OpenLiteral,
         State::Caret => Reason::OneCaret(Found::LineEnd),
@@ -128,14 +148,20 @@ fn reason_at_end(state: State) -> Reason {
 }
 
 /// Reads a text up to the first character that is not allowed at its place.
-fn read_front(text: &str) -> Walk {
+fn read_front(text: &str) -> Walk
+    ensures { IsWalk text.now result }
+{
     let mut state = State::Between(Next::Subject);
-    for (offset, c) in text.char_indices() {
+    let mut rest = text;
+    while let Some((c, after)) = first_char(rest) {
         match step(state, c) {
-            Ok(next) => state = next,
+            Ok(next) => {
+                state = next;
+                rest = after;
+            }
             Err(reason) => {
                 return Walk {
-                    offset,
+                    offset: text.len() - rest.len(),
                     state,
                     reason: Some(reason),
                 };
@@ -151,17 +177,21 @@ fn read_front(text: &str) -> Walk {
 
 /// Returns the longest valid UTF-8 text that the bytes begin with, and the reason why the bytes
 /// after it are not a character.
-fn text_of(line: &[u8]) -> (&str, Option<Reason>) {
+fn text_of(line: &[u8]) -> (&str, Option<Reason>)
+    ensures { IsLongestText line.now result.0.now }
+{
     match str::from_utf8(line) {
         Ok(text) => (text, None),
         Err(error) => {
             let end = error.valid_up_to();
-            let text = str::from_utf8(&line[..end]).unwrap_or("");
             let reason = match error.error_len() {
                 Some(_) => Reason::InvalidUtf8(line[end]),
                 None => Reason::CutCharacter,
             };
-            (text, Some(reason))
+            match str::from_utf8(&line[..end]) {
+                Ok(text) => (text, Some(reason)),
+                Err(_) => ("", Some(reason)),
+            }
         }
     }
 }
@@ -225,36 +255,40 @@ fn is_malformed(alloc: Global, line: &[u8]) -> Result<bool, AllocError>
     }
 }
 
-/// Returns whether the line of these bytes and this end is well-formed.
-fn is_beginning(alloc: Global, front: &[u8], end: &str) -> Result<bool, AllocError>
-    ensures { IfOk result (λ found. found ≡ true → IsLinePrefix front.now) }
+/// Returns the number of characters of bytes that are UTF-8.
+pub(crate) fn count_of_bytes(front: &[u8]) -> usize
+    requires utf8 { IsUtf8 front.now }
+    ensures value { result ≡ length (chars front.now) }
+    ensures small { result < 2 ^ 63 }
 {
-    let mut line = Vec::from_slice(alloc, front)?;
-    line.extend_from_slice(end.as_bytes())?;
-    if is_malformed(alloc, &line)? {
-        return Ok(false);
+    match str::from_utf8(front) {
+        Ok(text) => count_of(text),
+        Err(_) => 0,
     }
-    Ok(true)
 }
 
 /// Returns the column after a beginning of the line, and its unit.
 fn column_of(line: &[u8], front: &[u8]) -> (usize, Counted)
     requires small { length front.now < 2 ^ 63 }
+    requires utf8 { IsUtf8 front.now }
     ensures column { result.0 ≡ column_of result.1 front.now }
     ensures characters { (result.1 ≡ Characters) → IsUtf8 line.now }
+    ensures bytes { (result.1 ≡ Bytes) → IsUtf8 line.now → ⊥ }
 {
-    if let (Ok(_), Ok(text)) = (str::from_utf8(line), str::from_utf8(front)) {
-        return (count_of(text) + 1, Counted::Characters);
+    match str::from_utf8(line) {
+        Ok(_) => (count_of_bytes(front) + 1, Counted::Characters),
+        Err(_) => (front.len() + 1, Counted::Bytes),
     }
-    (front.len() + 1, Counted::Bytes)
 }
 
 /// Returns the diagnosis of a line for the place after a beginning of it.
 fn placed(line: &[u8], front: &[u8], reason: Reason) -> Diagnosis
     requires small { length front.now < 2 ^ 63 }
+    requires utf8 { IsUtf8 front.now }
     ensures offset { result.offset ≡ length front.now }
     ensures column { result.column ≡ column_of result.counted front.now }
     ensures characters { (result.counted ≡ Characters) → IsUtf8 line.now }
+    ensures bytes { (result.counted ≡ Bytes) → IsUtf8 line.now → ⊥ }
 {
     let (column, counted) = column_of(line, front);
     Diagnosis {
@@ -266,25 +300,21 @@ fn placed(line: &[u8], front: &[u8], reason: Reason) -> Diagnosis
 }
 
 /// Returns the place and the reason of a malformed line.
-fn explain(alloc: Global, line: &[u8]) -> Result<Diagnosis, AllocError>
-    ensures explained { IfOk result (IsExplained line.now) }
+fn explain(line: &[u8]) -> Diagnosis
+    ensures explained { IsExplained line.now result }
 {
     let (text, broken) = text_of(line);
     let walk = read_front(text);
     let reason = walk.reason.or(broken).unwrap_or(reason_at_end(walk.state));
-    let end = completion(alloc, walk.state)?;
-    if let Some(front) = line.get(..walk.offset) {
-        if is_beginning(alloc, front, end.as_str())? {
-            return Ok(placed(line, front, refined(line, walk.offset, reason)));
-        }
-    }
-    Ok(placed(line, &line[..0], Reason::Unexplained))
+    let reason = refined(line, walk.offset, reason);
+    placed(line, &line[..walk.offset], reason)
 }
 
 /// Returns the place and the reason of a malformed line, given without its line end. Returns None
 /// for a well-formed one (RDF 1.1 N-Quads, section 4).
 ///
-/// Some well-formed line begins with the bytes before the place.
+/// Some well-formed line begins with the bytes before the place, and none with the character at the
+/// place as well.
 ///
 /// # Errors
 /// `AllocError` if an allocation fails.
@@ -296,6 +326,5 @@ pub fn diagnose(alloc: Global, line: &[u8]) -> Result<Option<Diagnosis>, AllocEr
     if !is_malformed(alloc, line)? {
         return Ok(None);
     }
-    let diagnosis = explain(alloc, line)?;
-    Ok(Some(diagnosis))
+    Ok(Some(explain(line)))
 }

@@ -1,5 +1,10 @@
 //! Escapes of code points (RDF 1.1 N-Quads, section 4, [12] UCHAR).
 
+ghost use Rattle.std.specs.Prelude.{◌≡◌, ◌≢◌, ◌⊎◌, ◌+◌, ◌*◌, ℕ, true, MatchOption, MatchResult};
+ghost use Rattle.std.specs.Char.{digit_value};
+ghost use Rattle.rdf_core.specs.Characters.{is_hex};
+ghost use Rattle.line_diagnosis.specs.Rest.{AreRanges, are_code_points, head, is_head, may_come};
+
 use crate::reason::{Found, Reason};
 use crate::state::{Digits, Scheme};
 
@@ -36,7 +41,9 @@ const IRI_CHARS: [(u64, u64); 9] = [
 ];
 
 /// Returns the code points that may come next in an IRI.
-pub fn iri_ranges(scheme: Scheme) -> Ranges {
+pub fn iri_ranges(scheme: Scheme) -> Ranges
+    ensures ranges { AreRanges result.now (may_come scheme) }
+{
     match scheme {
         Scheme::Unread => &SCHEME_START,
         Scheme::Begun => &SCHEME_REST,
@@ -44,62 +51,76 @@ pub fn iri_ranges(scheme: Scheme) -> Ranges {
     }
 }
 
-/// Returns whether a code point is in one of the ranges.
-pub fn is_within(ranges: &[(u64, u64)], code: u64) -> bool {
+/// Returns the number without its last hexadecimal digits.
+fn head(number: u64, digits: u32) -> u64
+    ensures { result ≡ head digits number }
+{
+    let mut head = number;
+    let mut left = digits;
+    while left > 0 {
+        head /= 16;
+        left -= 1;
+    }
+    head
+}
+
+/// Returns whether the digits of this value, and `more` further ones, can denote a code point of
+/// the ranges.
+pub fn is_head(ranges: &[(u64, u64)], more: u32, value: u64) -> bool
+    ensures { result ≡ is_head ranges.now more value }
+{
     for range in ranges {
-        if range.0 <= code && code <= range.1 {
+        if head(range.0, more) <= value && value <= head(range.1, more) {
             return true;
         }
     }
     false
 }
 
-/// Returns the least code point of the ranges that these digits and further ones can denote.
-pub fn least_named(ranges: &[(u64, u64)], digits: Digits) -> Option<u64> {
-    let last = digits.last();
-    for range in ranges {
-        let least = digits.low.max(range.0);
-        if least <= range.1 && least <= last {
-            return Some(least);
-        }
-    }
-    None
-}
-
 /// Returns the digits after `\u` or `\U`, or None if the letter is another one.
-pub fn digits_after(letter: char) -> Option<Digits> {
+pub fn digits_after(letter: char) -> Option<Digits>
+    ensures { MatchOption result ((letter ≢ 117) × (letter ≢ 85))
+        (λ d. (d.value ≡ 0) × (((letter ≡ 117) × (d.more ≡ 3)) ⊎ ((letter ≡ 85) × (d.more ≡ 7)))) }
+{
     match letter {
-        'u' => Some(Digits {
-            low: 0,
-            span: 0x1_0000,
-        }),
-        'U' => Some(Digits {
-            low: 0,
-            span: 0x1_0000_0000,
-        }),
+        'u' => Some(Digits { value: 0, more: 3 }),
+        'U' => Some(Digits { value: 0, more: 7 }),
         _ => None,
     }
 }
 
-/// Returns the reason why the digits can denote no code point that is allowed.
-fn reason_of(digits: Digits) -> Reason {
-    if digits.low > 0x10FFFF {
+/// Returns the reason why the digits of this value, and `more` further ones, denote no code point
+/// that is allowed.
+fn reason_of(value: u64, more: u32) -> Reason {
+    if value > head(0x10FFFF, more) {
         Reason::TooLarge
-    } else if 0xD800 <= digits.low && digits.last() <= 0xDFFF {
+    } else if head(0xD7FF, more) < value && value < head(0xE000, more) {
         Reason::Surrogate
     } else {
         Reason::IriEscape
     }
 }
 
-/// Reads one more digit of an escape, which must denote a code point of these ranges.
-pub fn step_digits(digits: Digits, ranges: &[(u64, u64)], c: char) -> Result<Digits, Reason> {
+/// Reads one more digit of an escape, which must denote a code point of these ranges. Returns the
+/// value of the digits.
+pub fn step_digits(digits: Digits, ranges: &[(u64, u64)], c: char) -> Result<u64, Reason>
+    requires { are_code_points ranges.now ≡ true }
+    ensures { MatchResult result
+        (λ value. (is_hex c ≡ true) × (value ≡ digits.value * 16 + digit_value c)
+        × (is_head ranges.now digits.more value ≡ true))
+        (λ reason. is_hex c ≡ true
+        → is_head ranges.now digits.more (digits.value * 16 + digit_value c) ≡ true → ⊥) }
+{
     let Some(digit) = c.to_digit(16) else {
         return Err(Reason::NoDigit(Found::Char(c)));
     };
-    let narrowed = digits.narrowed(u64::from(digit));
-    match least_named(ranges, narrowed) {
-        Some(_) => Ok(narrowed),
-        None => Err(reason_of(narrowed)),
+    if digits.value > 0x10FFFF {
+        return Err(Reason::TooLarge);
+    }
+    let value = digits.value * 16 + u64::from(digit);
+    if is_head(ranges, digits.more, value) {
+        Ok(value)
+    } else {
+        Err(reason_of(value, digits.more))
     }
 }

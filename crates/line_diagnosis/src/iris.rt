@@ -1,12 +1,19 @@
 //! IRIs in angle brackets with a scheme (RDF 1.1 N-Quads, section 4, [10] IRIREF).
 
-use crate::escapes::{digits_after, iri_ranges, is_within, step_digits};
+ghost use Rattle.std.specs.Prelude.{◌≡◌, true, ℕ, List, ◌∷◌};
+ghost use Rattle.line_diagnosis.specs.Rest.{Accepts, Steps, completes_scheme, may_come};
+ghost use Rattle.line_diagnosis.specs.declared.state.State.TheVariants as state;
+
+use crate::escapes::{digits_after, iri_ranges, is_head, step_digits};
 use crate::reason::{Found, Reason};
 use crate::state::{Digits, Part, Scheme, State, after};
 use rdf_core::lexical::is_iri_char;
 
 /// Returns the state of the scheme after one more character.
-pub fn scheme_after(scheme: Scheme, code: u64) -> Scheme {
+fn scheme_after(scheme: Scheme, code: u64) -> Scheme
+    ensures { may_come scheme code ≡ true
+        → (cs : List ℕ) → completes_scheme scheme (code ∷ cs) ≡ completes_scheme result cs }
+{
     match scheme {
         Scheme::Unread => Scheme::Begun,
         Scheme::Begun if code == 0x3A => Scheme::Read,
@@ -26,7 +33,9 @@ fn reason_of(scheme: Scheme, c: char) -> Reason {
 }
 
 /// Reads a character in an IRI.
-pub fn step_iri(part: Part, scheme: Scheme, c: char) -> Result<State, Reason> {
+pub fn step_iri(part: Part, scheme: Scheme, c: char) -> Result<State, Reason>
+    ensures { Steps (Accepts (state.Iri part scheme)) c result }
+{
     if c == '\\' {
         return Ok(State::IriBackslash(part, scheme));
     }
@@ -34,14 +43,16 @@ pub fn step_iri(part: Part, scheme: Scheme, c: char) -> Result<State, Reason> {
         return Ok(State::Between(after(part)));
     }
     let code = u64::from(c as u32);
-    if is_within(iri_ranges(scheme), code) {
+    if is_head(iri_ranges(scheme), 0, code) {
         return Ok(State::Iri(part, scheme_after(scheme, code)));
     }
     Err(reason_of(scheme, c))
 }
 
 /// Reads a character after a backslash.
-pub fn step_backslash(part: Part, scheme: Scheme, c: char) -> Result<State, Reason> {
+pub fn step_backslash(part: Part, scheme: Scheme, c: char) -> Result<State, Reason>
+    ensures { Steps (Accepts (state.IriBackslash part scheme)) c result }
+{
     match digits_after(c) {
         Some(digits) => Ok(State::IriDigits(part, scheme, digits)),
         None => Err(Reason::UnknownEscape(Found::Char(c))),
@@ -49,10 +60,13 @@ pub fn step_backslash(part: Part, scheme: Scheme, c: char) -> Result<State, Reas
 }
 
 /// Reads a character of an escape.
-pub fn step_escape(part: Part, scheme: Scheme, digits: Digits, c: char) -> Result<State, Reason> {
-    let digits = step_digits(digits, iri_ranges(scheme), c)?;
-    if digits.is_whole() {
-        return Ok(State::Iri(part, scheme_after(scheme, digits.low)));
+pub fn step_escape(part: Part, scheme: Scheme, digits: Digits, c: char) -> Result<State, Reason>
+    ensures { Steps (Accepts (state.IriDigits part scheme digits)) c result }
+{
+    let value = step_digits(digits, iri_ranges(scheme), c)?;
+    if digits.more == 0 {
+        return Ok(State::Iri(part, scheme_after(scheme, value)));
     }
-    Ok(State::IriDigits(part, scheme, digits))
+    let more = digits.more - 1;
+    Ok(State::IriDigits(part, scheme, Digits { value, more }))
 }

@@ -2,17 +2,17 @@
 //!
 //! [`diagnose`] takes the bytes of a line. It returns None for a well-formed line, and a
 //! [`Diagnosis`] for a malformed one. Its contract states that some well-formed line begins with
-//! the bytes before the place (`IsPlace` of specs/Place.antt). No well-formed line begins with
-//! these bytes and the character at the place. This is not proved; `tests/line_places.py` tests it
-//! for every short line over an alphabet of 23 characters.
+//! the bytes before the place, and that none begins with more whole characters of the line
+//! (`IsPlace` of specs/Place.antt). So the place is neither too late nor too early.
 //!
 //! [`report`] composes the message for a user: the place and the reason, the excerpt, and a hint.
 //!
 //! Standard: RDF 1.1 N-Quads (Recommendation of 2014), section 4, as nquads_core reads it.
 //!
 //! Reading order: specs/Place.antt, `reason`, `state` (the states between two characters), then a
-//! file for each family of terminals (`between`, `iris`, `escapes`, `literals`, `labels`),
-//! `completion` (a well-formed end for each state), `diagnosis`, `hint`, `reports`.
+//! file for each family of terminals (`between`, `iris`, `escapes`, `literals`, `labels`, `tags`),
+//! `diagnosis`, `hint`, `reports`. The contract of each step cites specs/Rest.antt, which says
+//! which texts complete the line after each state.
 //!
 //! Tests: `lines` of the crate program_tests.
 //!
@@ -21,7 +21,6 @@
 #![tactic(auto)]
 
 mod between;
-mod completion;
 mod diagnosis;
 mod escapes;
 mod hint;
@@ -31,6 +30,7 @@ mod literals;
 mod reason;
 mod reports;
 mod state;
+mod tags;
 
 pub use diagnosis::{Counted, Diagnosis, diagnose};
 pub use hint::{Hint, hint_of};

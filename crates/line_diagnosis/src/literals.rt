@@ -1,12 +1,17 @@
 //! Strings (RDF 1.1 N-Quads, section 4, [11] STRING_LITERAL_QUOTE).
 
+ghost use Rattle.line_diagnosis.specs.Rest.{Accepts, Steps};
+ghost use Rattle.line_diagnosis.specs.declared.state.State.TheVariants as state;
+
 use crate::escapes::{SCALARS, digits_after, step_digits};
 use crate::reason::{Found, Reason};
 use crate::state::{Digits, State};
 use rdf_core::lexical::echar;
 
 /// Reads a character in a string.
-pub fn step_string(c: char) -> Result<State, Reason> {
+pub fn step_string(c: char) -> Result<State, Reason>
+    ensures { Steps (Accepts state.String) c result }
+{
     match c {
         '"' => Ok(State::AfterString),
         '\\' => Ok(State::StringBackslash),
@@ -16,8 +21,10 @@ pub fn step_string(c: char) -> Result<State, Reason> {
 }
 
 /// Reads a character after a backslash.
-pub fn step_string_backslash(c: char) -> Result<State, Reason> {
-    if echar(c).is_some() {
+pub fn step_string_backslash(c: char) -> Result<State, Reason>
+    ensures { Steps (Accepts state.StringBackslash) c result }
+{
+    if let Some(_) = echar(c) {
         return Ok(State::String);
     }
     match digits_after(c) {
@@ -27,10 +34,13 @@ pub fn step_string_backslash(c: char) -> Result<State, Reason> {
 }
 
 /// Reads a character of an escape.
-pub fn step_string_escape(digits: Digits, c: char) -> Result<State, Reason> {
-    let digits = step_digits(digits, &SCALARS, c)?;
-    if digits.is_whole() {
+pub fn step_string_escape(digits: Digits, c: char) -> Result<State, Reason>
+    ensures { Steps (Accepts (state.StringDigits digits)) c result }
+{
+    let value = step_digits(digits, &SCALARS, c)?;
+    if digits.more == 0 {
         return Ok(State::String);
     }
-    Ok(State::StringDigits(digits))
+    let more = digits.more - 1;
+    Ok(State::StringDigits(Digits { value, more }))
 }

@@ -92,8 +92,6 @@ pub enum Reason {
     NoSubtag(Found),
     /// A single `^`
     OneCaret(Found),
-    /// The reason is not known. No test has this reason.
-    Unexplained,
 }
 
 /// Writes a character, or its code point if it has no visible form.
@@ -228,7 +226,6 @@ impl Reason {
                 "expected a letter or a digit after '-' in a language tag, found "
             }
             Reason::OneCaret(_) => "expected '^^' before a datatype, found ",
-            Reason::Unexplained => "this is not a line of N-Quads",
         }
     }
 }

@@ -1,13 +1,14 @@
 //! The message for a malformed line.
 
-ghost use Rattle.std.specs.Prelude.{IfOk, IfNone, IfSome, OnSome, string_bytes};
-ghost use Rattle.excerpt.specs.Message.{IsSomeMessage};
+ghost use Rattle.std.specs.Prelude.{IfOk, IfNone, IfSome, OnSome, Some, string_bytes};
 ghost use Rattle.nquads_core.specs.Grammar.{IsMalformed};
+ghost use Rattle.line_diagnosis.specs.Explained.{IsExplained};
 ghost use Rattle.line_diagnosis.specs.Place.{IsWellFormed};
+ghost use Rattle.line_diagnosis.specs.Report.{IsReport, place_words};
 
-use crate::diagnosis::{Counted, Diagnosis, diagnose};
+use crate::diagnosis::{Counted, Diagnosis, count_of_bytes, diagnose};
 use crate::hint::hint_of;
-use excerpt::{count_of, message};
+use excerpt::message;
 use std::alloc::{AllocError, Global};
 use std::fmt;
 
@@ -20,6 +21,8 @@ struct Place {
 }
 
 impl fmt::Display for Place {
+    ghost output = { λ place. Some (place_words place.line place.counted place.column) };
+
     fn fmt<W: fmt::Write>(&self, f: &mut fmt::Formatter<W>) -> fmt::Result {
         let unit = match self.counted {
             Counted::Characters => "column",
@@ -27,12 +30,6 @@ impl fmt::Display for Place {
         };
         write!(f, "line {}, {unit} {}", self.line, self.column)
     }
-}
-
-/// Returns the number of characters before a place, given by the number of bytes before it.
-fn characters_before(alloc: Global, line: &[u8], offset: usize) -> Result<usize, AllocError> {
-    let before = String::from_utf8_lossy(alloc, line.get(..offset).unwrap_or(line))?;
-    Ok(count_of(before.as_str()))
 }
 
 /// Returns the message about a diagnosis.
@@ -43,14 +40,15 @@ fn message_of(
     diagnosis: &Diagnosis,
     is_cut: bool,
 ) -> Result<String, AllocError>
-    ensures message { IfOk result (λ s. IsSomeMessage (string_bytes s)) }
+    requires explained { IsExplained line.now diagnosis.now }
+    ensures message { IfOk result (λ s. IsReport number line.now (string_bytes s)) }
 {
     let place = Place {
         line: number,
         column: diagnosis.column,
         counted: diagnosis.counted,
     };
-    let at = characters_before(alloc, line, diagnosis.offset)?;
+    let at = count_of_bytes(&line[..diagnosis.offset]);
     let hint = hint_of(line, diagnosis, is_cut);
     let text = String::from_utf8_lossy(alloc, line)?;
     message(
@@ -66,8 +64,9 @@ fn message_of(
 /// Returns the message for a malformed line, given without its line end. Returns None for a
 /// well-formed one.
 ///
-/// `number` is the number of the line in its document, from 1. `is_cut` is true if the line is the
-/// last of its document and no line end follows it.
+/// The message names the number and the column of the place, and shows the line with a caret under
+/// the place. `number` is the number of the line in its document, from 1. `is_cut` is true if the
+/// line is the last of its document and no line end follows it.
 ///
 /// # Errors
 /// `AllocError` if an allocation fails.
@@ -79,7 +78,8 @@ pub fn report(
 ) -> Result<Option<String>, AllocError>
     ensures well_formed { IfOk result (λ found. IfNone found (IsWellFormed line.now)) }
     ensures malformed { IfOk result (λ found. OnSome found (IsMalformed line.now)) }
-    ensures message { IfOk result (λ found. IfSome found (λ s. IsSomeMessage (string_bytes s))) }
+    ensures message { IfOk result
+        (λ found. IfSome found (λ s. IsReport number line.now (string_bytes s))) }
 {
     match diagnose(alloc, line)? {
         None => Ok(None),

@@ -1,6 +1,9 @@
 //! The states between two characters of a line. Each state occurs, and some well-formed line
 //! continues from it.
 
+ghost use Rattle.std.specs.Prelude.{◌≡◌};
+ghost use Rattle.line_diagnosis.specs.Rest.{after};
+
 use crate::reason::Next;
 
 /// The position of a term in a statement.
@@ -24,35 +27,13 @@ pub enum Scheme {
     Read,
 }
 
-/// The digits of a [12] UCHAR that are read. With further digits they can denote `span` numbers,
-/// the least of which is `low`.
+/// The digits of a [12] UCHAR before its last one.
 #[derive(Clone, Copy)]
 pub struct Digits {
-    /// The least number that they can still denote.
-    pub low: u64,
-    /// The number of numbers that they can still denote.
-    pub span: u64,
-}
-
-impl Digits {
-    /// Returns the greatest number that these digits and further ones can denote.
-    pub fn last(self) -> u64 {
-        self.low.saturating_add(self.span.saturating_sub(1))
-    }
-
-    /// Returns the digits after one more digit.
-    pub fn narrowed(self, digit: u64) -> Digits {
-        let span = self.span / 16;
-        Digits {
-            low: self.low.saturating_add(digit.saturating_mul(span)),
-            span,
-        }
-    }
-
-    /// Returns whether all digits are read.
-    pub fn is_whole(self) -> bool {
-        self.span <= 1
-    }
+    /// The number that the digits denote so far.
+    pub value: u64,
+    /// The number of digits that follow the next one.
+    pub more: u32,
 }
 
 /// A state between two characters of a line.
@@ -99,7 +80,9 @@ pub enum State {
 }
 
 /// Returns the part that may come after a term at this position.
-pub fn after(part: Part) -> Next {
+pub fn after(part: Part) -> Next
+    ensures { result ≡ after part }
+{
     match part {
         Part::Subject => Next::Predicate,
         Part::Predicate => Next::Object,

@@ -1,6 +1,3 @@
-use Rattle.std.proofs.Common.{◌≡◌, Bool, true, rules}
-use Rattle.std.specs.Prelude.{IfOk}
-use Rattle.nquads_core.specs.Grammar.{IsMalformed}
 use Rattle.line_diagnosis.proofs.PlaceLaws.{unread_bad}
 use Rattle.line_diagnosis.proofs.diagnosis.is_malformed.Goals.{in-Ok, in-Err-Bad, in-Err-Memory}
 use Rattle.line_diagnosis.proofs.diagnosis.is_malformed.Goals as goal
