@@ -1,3 +1,4 @@
 pub mod Place
 pub mod Column
 pub mod Explained
+pub mod Safe

@@ -12,7 +12,8 @@
 //!
 //! Reading order: specs/Place.antt, `reason`, `state` (the states between two characters), then a
 //! file for each family of terminals (`between`, `iris`, `escapes`, `literals`, `labels`),
-//! `completion` (a well-formed end for each state), `diagnosis`, `hint`, `reports`.
+//! `completion` (a well-formed end for each state), `diagnosis`, `likeness` (other formats), `hint`,
+//! `reports`.
 //!
 //! Tests: `lines` of the crate program_tests.
 //!
@@ -27,12 +28,13 @@ mod escapes;
 mod hint;
 mod iris;
 mod labels;
+mod likeness;
 mod literals;
 mod reason;
 mod reports;
 mod state;
 
 pub use diagnosis::{Counted, Diagnosis, diagnose};
-pub use hint::{Hint, hint_of};
+pub use hint::{Hint, LineContext, hint_of};
 pub use reason::{Found, Next, Packing, Reason};
 pub use reports::report;

@@ -6,7 +6,7 @@ ghost use Rattle.nquads_core.specs.Grammar.{IsMalformed};
 ghost use Rattle.line_diagnosis.specs.Place.{IsWellFormed};
 
 use crate::diagnosis::{Counted, Diagnosis, diagnose};
-use crate::hint::hint_of;
+use crate::hint::{LineContext, hint_of};
 use excerpt::{count_of, message};
 use std::alloc::{AllocError, Global};
 use std::fmt;
@@ -38,20 +38,19 @@ fn characters_before(alloc: Global, line: &[u8], offset: usize) -> Result<usize,
 /// Returns the message about a diagnosis.
 fn message_of(
     alloc: Global,
-    number: u128,
     line: &[u8],
     diagnosis: &Diagnosis,
-    is_cut: bool,
+    context: &LineContext,
 ) -> Result<String, AllocError>
     ensures message { IfOk result (λ s. IsSomeMessage (string_bytes s)) }
 {
     let place = Place {
-        line: number,
+        line: context.number,
         column: diagnosis.column,
         counted: diagnosis.counted,
     };
     let at = characters_before(alloc, line, diagnosis.offset)?;
-    let hint = hint_of(line, diagnosis, is_cut);
+    let hint = hint_of(line, diagnosis, context);
     let text = String::from_utf8_lossy(alloc, line)?;
     message(
         alloc,
@@ -66,16 +65,12 @@ fn message_of(
 /// Returns the message for a malformed line, given without its line end. Returns None for a
 /// well-formed one.
 ///
-/// `number` is the number of the line in its document, from 1. `is_cut` is true if the line is the
-/// last of its document and no line end follows it.
-///
 /// # Errors
 /// `AllocError` if an allocation fails.
 pub fn report(
     alloc: Global,
-    number: u128,
     line: &[u8],
-    is_cut: bool,
+    context: &LineContext,
 ) -> Result<Option<String>, AllocError>
     ensures well_formed { IfOk result (λ found. IfNone found (IsWellFormed line.now)) }
     ensures malformed { IfOk result (λ found. OnSome found (IsMalformed line.now)) }
@@ -83,6 +78,6 @@ pub fn report(
 {
     match diagnose(alloc, line)? {
         None => Ok(None),
-        Some(diagnosis) => Ok(Some(message_of(alloc, number, line, &diagnosis, is_cut)?)),
+        Some(diagnosis) => Ok(Some(message_of(alloc, line, &diagnosis, context)?)),
     }
 }
