@@ -55,6 +55,7 @@ def failed(name, words, given, status, line, said, **how):
 # Malformed lines: the line, the column of its place, the reason, and the hint if there is one. The column is that of the
 # first character that no line of the grammar can have there (RDF 1.1 N-Quads, section 4).
 TURTLE = "this looks like Turtle; N-Quads has no prefixes and no abbreviations: write each term in full"
+LATIN1 = "if the input is Latin-1, convert it: iconv -f LATIN1 -t UTF-8 FILE | spq check"
 CUT_OFF = "the document ends inside its last line: truncated?"
 NO_SUBJECT = "expected a subject (an IRI or a blank node), found "
 NO_DOT = "missing '.' at the end of the statement"
@@ -71,7 +72,7 @@ LINES = [
     ('<a:s> <a:p> "a\\qb" .', 16, "unknown escape: found 'q' after '\\'", "write a backslash as \\\\ in a literal, and as %5C in an IRI"),
     ('<a:s> <a:p> "\\uD800" .', 17, "this escape is for a surrogate (U+D800 to U+DFFF), which is no character", None),
     ("<http://e/a b> <a:p> <a:o> .", 12, "a space is not allowed in an IRI", "write a space in an IRI as %20"),
-    ("<a:\\u0020> <a:p> <a:o> .", 9, "this escape is for a character that is not allowed here in an IRI", None),
+    ("<a:\\u0020> <a:p> <a:o> .", 9, "this escape is for a character that is not allowed here in an IRI", "write a space in an IRI as %20"),
     ("</s> <a:p> <a:o> .", 2, "an IRI must begin with a scheme, such as 'http:', found '/'",
      "N-Quads has no relative IRIs: write the whole IRI, as <http://example.org/name>"),
     ('<a:s> <a:p> "x"@1 .', 17, "a language tag must begin with a letter, found '1'", None),
@@ -84,6 +85,10 @@ LINES = [
     ("<a:s> e:p <a:o> .", 7, "expected a predicate (an IRI), found 'e'", TURTLE),
     ("<a:s> <a:p> e:o .", 13, "expected an object (an IRI, a blank node or a literal), found 'e'", TURTLE),
     ("<< <a:s> <a:p> <a:o> >> <a:p> <a:o> .", 2, "'<<': quoted triples (RDF-star) are not supported", None),
+    ("<<<<<<< HEAD", 2, "'<<': quoted triples (RDF-star) are not supported", "this looks like the mark of a merge conflict: resolve it"),
+    ("<html>", 6, "an IRI must begin with a scheme, such as 'http:', found '>'", "this looks like HTML; spq reads N-Quads"),
+    ("Internal Server Error", 1, NO_SUBJECT + "'I'", None),
+    ('second line of a literal" .', 1, NO_SUBJECT + "'s'", None),
 ]
 # Bytes that are no line of text: the bytes, the place, the reason, what is shown of them, and the hint.
 BYTES = [
@@ -96,6 +101,19 @@ BYTES = [
     (b"\x1f\x8b\x08\0\n", "byte 1", "the input looks like gzip", "\u241f\ufffd\u2408\u2400\n^", "unpack it: zcat FILE | spq check"),
     (b"\xfd7zXZ\0\n", "byte 1", "the input looks like xz", "\ufffd7zXZ\u2400\n^", "unpack it: xzcat FILE | spq check"),
     (b"\x28\xb5\x2f\xfd\0\n", "byte 1", "the input looks like zstd", "(\ufffd/\ufffd\u2400\n^", "unpack it: zstdcat FILE | spq check"),
+]
+# Documents whose second line is malformed: the first line, the second one, its place, the reason, what is shown, and the hint.
+LATER = [
+    (b"", b"\xef\xbb\xbf<a:s> <a:p> <a:o> .", "column 1", "a byte order mark (U+FEFF) at the beginning of a line",
+     "\ufffd<a:s> <a:p> <a:o> .\n^", "leave the mark out: sed $'s/^\\xEF\\xBB\\xBF//' FILE | spq check"),
+    (b"", b"\x1f\x8b\x08\0", "byte 1", "the input looks like gzip", "\u241f\ufffd\u2408\u2400\n^",
+     "a compressed file begins in this line: unpack files before they are joined"),
+    (b"", b'<a:s> <a:p> "caf\xe9" .', "byte 17", "invalid UTF-8: byte 0xE9", '<a:s> <a:p> "caf\ufffd" .\n                ^',
+     "if the input is Latin-1, convert it: iconv -f LATIN1 -t UTF-8 FILE | spq check"),
+    ("<a:s> <a:p> \"caf\u00e9\" .".encode(), b'<a:s> <a:p> "caf\xe9" .', "byte 17", "invalid UTF-8: byte 0xE9", '<a:s> <a:p> "caf\ufffd" .\n                ^',
+     "the text before this byte is UTF-8, so the byte is damaged: repair line 2"),
+    ("# caf\u00e9".encode(), b'<a:s> <a:p> "caf\xe9" .', "byte 17", "invalid UTF-8: byte 0xE9", '<a:s> <a:p> "caf\ufffd" .\n                ^',
+     "the text before this byte is UTF-8, so the byte is damaged: repair line 2"),
 ]
 # Rejected queries: the query, the column of its place, the reason, and the hint. The place is the first terminal after
 # which no query goes on (SPARQL 1.1 Query Language, section 19.8), and for the other rules the terminal that breaks one.
@@ -205,6 +223,15 @@ def reasons_of_lines():
         yield bad_line(f"the line {line}", line.encode() + b"\n", f"column {column}", reason, under(line, column), hint)
     for given, place, reason, shown, hint in BYTES:
         yield bad_line(f"the bytes {given}", given, place, reason, shown, hint)
+    for first, second, place, reason, shown, hint in LATER:
+        yield failed(f"the bytes {second} after {first}", ["check"], first + b"\n" + second + b"\n" + "<a:s> <a:p> <a:\u00e9> .\n".encode(), 1, "error: line 2",
+                     message(f"line 2, {place}", reason, shown, hint))
+    # Text beyond ASCII in a round of blocks before the one of the malformed line.
+    plain = b"<a:s> <a:p> <a:o> .\n" * 500_000
+    for before, hint in ((b"", LATIN1), ("<a:s> <a:p> <a:\u00e9> .\n".encode(), "the text before this byte is UTF-8, so the byte is damaged: repair line {}")):
+        number = 500_001 + (before != b"")
+        yield failed(f"a byte that is not UTF-8 after {len(before)} bytes and 500,000 lines", ["check"], before + plain + b"\xe9x\n", 1, f"error: line {number}",
+                     message(f"line {number}, byte 1", "invalid UTF-8: byte 0xE9", "\ufffdx\n^", hint.format(number)))
     for line, reason in (('<a:s> <a:p> "abc', OPEN_LITERAL), ("<a:s> <a:p> <a:o> <a:g>", NO_DOT)):
         column = len(line) + 1
         yield bad_line(f"the end of a document in {line}", line.encode(), f"column {column}", reason, under(line, column), CUT_OFF)

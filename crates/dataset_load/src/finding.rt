@@ -20,6 +20,9 @@ pub struct Line {
     pub is_whole: bool,
     /// Whether the document ends with this line, and no line end follows it.
     pub is_cut: bool,
+    /// Whether a line before it is known to have a character beyond ASCII. Lines before the first malformed one
+    /// are UTF-8.
+    pub is_after_utf8: bool,
 }
 
 fn begins_with_lf(text: &[u8]) -> bool
@@ -90,6 +93,34 @@ fn beginning(line: &[u8], most: usize) -> &[u8]
     &line[..most]
 }
 
+/// Returns whether one of the first `count` lines of a text has a byte beyond ASCII.
+fn is_beyond_ascii(text: &[u8], count: u128) -> bool {
+    let mut rest = text;
+    for _ in 0..count {
+        if rest.is_empty() {
+            return false;
+        }
+        let (line, after) = first_line(rest);
+        if !line.is_ascii() {
+            return true;
+        }
+        rest = after;
+    }
+    false
+}
+
+/// Returns whether one of the first `count` lines of the blocks has a byte beyond ASCII.
+fn are_beyond_ascii(blocks: &[Vec<u8>], count: u128) -> bool {
+    let mut left = count;
+    for block in blocks {
+        if is_beyond_ascii(block, left) {
+            return true;
+        }
+        left = left.saturating_sub(count_lines(block) as u128);
+    }
+    false
+}
+
 /// Returns line `number` of a document split into blocks, counted from 1, or the beginning of a very long one.
 /// Returns None if there is no line with this number, or if an allocation fails.
 ///
@@ -109,5 +140,6 @@ pub fn line_at(alloc: Global, blocks: &[Vec<u8>], number: u128) -> Option<Line>
         bytes,
         is_whole,
         is_cut,
+        is_after_utf8: are_beyond_ascii(blocks, number - 1),
     })
 }

@@ -2,7 +2,9 @@
 
 use crate::fault::LoadFault;
 use crate::finding::{Line, line_at};
+use dict_core::Dict;
 use piece_pool::OffsetGate;
+use rdf_core::Term;
 use std::alloc::Global;
 
 /// Notes that loading takes for the message about a failure.
@@ -49,6 +51,14 @@ impl<'g, G> Rounds<'g, G> {
         }
     }
 
+    /// Returns the malformed line, given the dictionary of the rounds before its own.
+    pub(crate) fn into_line(self, dict: &Dict) -> Option<Line> {
+        let Rounds { line, .. } = self;
+        let mut line = line?;
+        line.is_after_utf8 |= has_text_beyond_ascii(dict);
+        Some(line)
+    }
+
     /// Notes that a round with these blocks is read, or the line in it that is malformed. `before` is the number
     /// of lines before the round.
     pub(crate) fn add(
@@ -63,4 +73,27 @@ impl<'g, G> Rounds<'g, G> {
             self.line = line_at(alloc, blocks, number.saturating_sub(before));
         }
     }
+}
+
+/// Returns whether a term has a character beyond ASCII.
+fn is_beyond_ascii(term: &Term) -> bool {
+    match term {
+        Term::Blank(label) => !label.as_str().is_ascii(),
+        Term::Iri(text) => !text.as_str().is_ascii(),
+        Term::Literal {
+            lexical,
+            datatype,
+            ..
+        } => !lexical.as_str().is_ascii() || !datatype.as_str().is_ascii(),
+    }
+}
+
+/// Returns whether a term of a dictionary has a character beyond ASCII. A document may have it as an escape.
+fn has_text_beyond_ascii(dict: &Dict) -> bool {
+    for n in 0..dict.len() {
+        if is_beyond_ascii(dict.term(n as u64)) {
+            return true;
+        }
+    }
+    false
 }

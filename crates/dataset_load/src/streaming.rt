@@ -197,8 +197,7 @@ fn number_reader<R: Threads + Wait + RandomSource, S: Source, G: Gate + Sync>(
         workers,
         &mut rounds,
     );
-    let Rounds { line, .. } = rounds;
-    notes.line = line;
+    notes.line = rounds.into_line(&so_far.dict);
     done?;
     notes.is_read = true;
     Ok(so_far)

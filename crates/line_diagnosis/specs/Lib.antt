@@ -5,3 +5,4 @@ pub mod Turn
 pub mod Rest
 pub mod Front
 pub mod Report
+pub mod Safe

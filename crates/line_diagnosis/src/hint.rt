@@ -1,25 +1,49 @@
 //! The hint for a malformed line.
 
-ghost use Rattle.std.specs.Prelude.{◌≡◌, ◌≢◌, Some, true};
-ghost use Rattle.line_diagnosis.specs.declared.hint.Hint.TheVariants.{Truncated, Unpack};
+ghost use Rattle.std.specs.Prelude.{◌≡◌, IfSome, Some};
+ghost use Rattle.line_diagnosis.specs.Safe.{IsSafe};
+ghost use Rattle.line_diagnosis.specs.declared.hint.Hint.TheVariants.{Unpack};
+ghost use Rattle.line_diagnosis.specs.declared.hint.LineContext.{LineContext};
 ghost use Rattle.line_diagnosis.specs.declared.reason.Packing.{Packing};
 ghost use Rattle.line_diagnosis.specs.declared.reason.Reason.TheVariants.{Packed};
 
 use crate::diagnosis::Diagnosis;
+use crate::likeness::{is_conflict_mark, is_html, is_turtle};
 use crate::reason::{Found, Next, Packing, Reason};
 use std::fmt;
+
+/// What is known of a line besides its bytes.
+#[derive(Clone, Copy)]
+pub struct LineContext {
+    /// The number of the line in its document, from 1.
+    pub number: u128,
+    /// Whether the line is the last of its document and no line end follows it.
+    pub is_cut: bool,
+    /// Whether a line before it is known to have a character beyond ASCII, in UTF-8.
+    pub is_after_utf8: bool,
+}
 
 /// What a user can do about a malformed line.
 #[derive(Clone, Copy)]
 pub enum Hint {
+    /// Unpack the input, whose first bytes are those of a compressed file
     Unpack(Packing),
+    /// Unpack the file that begins in the middle of the input
+    UnpackPart,
     FromLatin1,
+    /// Repair the line with this number. Text before it is UTF-8
+    Repair(u128),
     FromUtf16,
-    DropByteOrderMark,
+    /// Leave out the byte order mark that the input begins with
+    DropFirstBytes,
+    /// Leave out the byte order marks at the beginning of lines
+    DropMarks,
     Truncated,
     Turtle,
     Xml,
+    Html,
     Json,
+    Conflict,
     SpaceInIri,
     WholeIri,
     DoubleQuotes,
@@ -36,16 +60,30 @@ impl fmt::Display for Hint {
             Hint::Unpack(Packing::Xz) => "unpack it: xzcat FILE | spq check",
             Hint::Unpack(Packing::Zstd) => "unpack it: zstdcat FILE | spq check",
             Hint::Unpack(Packing::Bzip2) => "unpack it: bzcat FILE | spq check",
+            Hint::UnpackPart => {
+                "a compressed file begins in this line: unpack files before they are joined"
+            }
             Hint::FromLatin1 => {
                 "if the input is Latin-1, convert it: iconv -f LATIN1 -t UTF-8 FILE | spq check"
             }
+            Hint::Repair(number) => {
+                return write!(
+                    f,
+                    "the text before this byte is UTF-8, so the byte is damaged: repair line {number}"
+                );
+            }
             Hint::FromUtf16 => "convert it: iconv -f UTF-16 -t UTF-8 FILE | spq check",
-            Hint::DropByteOrderMark => "leave the mark out: tail -c +4 FILE | spq check",
+            Hint::DropFirstBytes => "leave the mark out: tail -c +4 FILE | spq check",
+            Hint::DropMarks => {
+                "leave the mark out: sed $'s/^\\xEF\\xBB\\xBF//' FILE | spq check"
+            }
             Hint::Truncated => "the document ends inside its last line: truncated?",
             Hint::Turtle => {
                 "this looks like Turtle; N-Quads has no prefixes and no abbreviations: write each term in full"
             }
             Hint::Xml => "this looks like XML; spq reads N-Quads",
+            Hint::Html => "this looks like HTML; spq reads N-Quads",
+            Hint::Conflict => "this looks like the mark of a merge conflict: resolve it",
             Hint::Json => "this looks like JSON or TriG; spq reads N-Quads",
             Hint::SpaceInIri => "write a space in an IRI as %20",
             Hint::WholeIri => {
@@ -85,28 +123,30 @@ fn ends_with_tag(front: &[u8]) -> bool {
     }
 }
 
-/// Returns the hint for a character that begins no terminal, after these bytes of the line.
-fn hint_of_char(before: &[u8], next: Next, c: char) -> Option<Hint>
-    ensures whole { result ≢ Some Truncated }
+/// Returns whether the last digit of an escape of a space is between these parts of the line.
+fn is_escaped_space(before: &[u8], rest: &[u8]) -> bool {
+    rest.starts_with(b"0") && (before.ends_with(b"\\u002") || before.ends_with(b"\\U0000002"))
+}
+
+/// Returns the hint for a character that begins no terminal, between these parts of the line.
+fn hint_of_char(before: &[u8], rest: &[u8], next: Next, c: char) -> Option<Hint>
+    ensures safe { (context : LineContext) → IfSome result (IsSafe context) }
 {
     let touches_quote = next == Next::Graph && before.last().copied() == Some(b'"');
     match c {
-        '\'' => Some(Hint::DoubleQuotes),
+        '\'' if next == Next::Object => Some(Hint::DoubleQuotes),
         '{' | '[' if before.is_empty() => Some(Hint::Json),
-        '@' | ':' | ';' | ',' | '[' | ']' | '(' | ')' | '{' | '}' => Some(Hint::Turtle),
+        _ if is_turtle(next, rest) => Some(Hint::Turtle),
         _ if touches_quote => Some(Hint::QuoteInside),
-        _ if next != Next::End && (c.is_ascii_alphanumeric() || c == '+' || c == '-') => {
-            Some(Hint::Turtle)
-        }
         _ => None,
     }
 }
 
 /// Returns the hint for a line that ends too early.
-fn hint_at_end(reason: Reason, is_cut: bool) -> Option<Hint>
-    ensures truncated { result ≡ Some Truncated → is_cut ≡ true }
+fn hint_at_end(reason: Reason, context: &LineContext) -> Option<Hint>
+    ensures safe { IfSome result (IsSafe context.now) }
 {
-    if is_cut {
+    if context.is_cut {
         Some(Hint::Truncated)
     } else if matches!(reason, Reason::OpenLiteral) {
         Some(Hint::BreakInside)
@@ -115,29 +155,65 @@ fn hint_at_end(reason: Reason, is_cut: bool) -> Option<Hint>
     }
 }
 
-/// Returns the hint for a malformed line, or None if there is none. `is_cut` is true if the line is
-/// the last of its document and no line end follows it.
-///
-/// Only a line with `is_cut` can be truncated. A compressed file has the hint for its format.
-pub fn hint_of(line: &[u8], diagnosis: &Diagnosis, is_cut: bool) -> Option<Hint>
-    ensures truncated { result ≡ Some Truncated → is_cut ≡ true }
-    ensures packed { (packing : Packing) → diagnosis.now.reason ≡ Packed packing
+/// Returns the hint for bytes that are no text, or that are those of another format.
+fn hint_of_bytes(before: &[u8], reason: Reason, context: &LineContext) -> Option<Hint>
+    ensures safe { IfSome result (IsSafe context.now) }
+    ensures packed { (packing : Packing) → reason ≡ Packed packing → context.now.number ≡ 1
         → result ≡ Some (Unpack packing) }
 {
-    let before = line.get(..diagnosis.offset).unwrap_or(line);
-    match diagnosis.reason {
-        Reason::Packed(packing) => Some(Hint::Unpack(packing)),
-        Reason::Utf16 => Some(Hint::FromUtf16),
-        Reason::ByteOrderMark => Some(Hint::DropByteOrderMark),
+    let is_first = context.number == 1;
+    match reason {
+        Reason::Packed(packing) if is_first => Some(Hint::Unpack(packing)),
+        Reason::Packed(_) => Some(Hint::UnpackPart),
+        Reason::Utf16 if is_first => Some(Hint::FromUtf16),
+        Reason::ByteOrderMark if is_first => Some(Hint::DropFirstBytes),
+        Reason::ByteOrderMark => Some(Hint::DropMarks),
+        Reason::InvalidUtf8(_) if context.is_after_utf8 || !before.is_ascii() => {
+            Some(Hint::Repair(context.number))
+        }
         Reason::InvalidUtf8(_) => Some(Hint::FromLatin1),
-        Reason::CutCharacter if is_cut => Some(Hint::Truncated),
+        Reason::CutCharacter if context.is_cut => Some(Hint::Truncated),
+        _ => None,
+    }
+}
+
+/// Returns the hint for text, given the parts of the line before the place and from it on.
+fn hint_of_text(before: &[u8], rest: &[u8], reason: Reason, context: &LineContext) -> Option<Hint>
+    ensures safe { IfSome result (IsSafe context.now) }
+{
+    match reason {
         Reason::IriChar(' ') => Some(Hint::SpaceInIri),
+        Reason::IriEscape if is_escaped_space(before, rest) => Some(Hint::SpaceInIri),
         Reason::NoScheme(Found::Char('?' | '!')) => Some(Hint::Xml),
         Reason::NoScheme(_) => Some(Hint::WholeIri),
         Reason::UnknownEscape(_) => Some(Hint::Backslash),
         Reason::NoColon(_) if ends_with_tag(before) => Some(Hint::HyphenInTag),
-        Reason::Unexpected(next, Found::Char(c)) => hint_of_char(before, next, c),
-        reason if before.len() == line.len() => hint_at_end(reason, is_cut),
+        Reason::Unexpected(next, Found::Char(c)) => hint_of_char(before, rest, next, c),
+        reason if rest.is_empty() => hint_at_end(reason, context),
         _ => None,
     }
+}
+
+/// Returns the hint for a malformed line, or None if there is none.
+///
+/// A command that changes a whole document is in the hint only if it harms no other line. So a document is
+/// unpacked or converted for its first line alone, and from Latin-1 only if no text in UTF-8 is before the
+/// place. Only the last line can be truncated.
+pub fn hint_of(line: &[u8], diagnosis: &Diagnosis, context: &LineContext) -> Option<Hint>
+    ensures safe { IfSome result (IsSafe context.now) }
+    ensures packed { (packing : Packing) → diagnosis.now.reason ≡ Packed packing
+        → context.now.number ≡ 1 → result ≡ Some (Unpack packing) }
+{
+    let before = line.get(..diagnosis.offset).unwrap_or(line);
+    if let Some(hint) = hint_of_bytes(before, diagnosis.reason, context) {
+        return Some(hint);
+    }
+    if is_html(line) {
+        return Some(Hint::Html);
+    }
+    if is_conflict_mark(line) {
+        return Some(Hint::Conflict);
+    }
+    let rest = line.get(diagnosis.offset..).unwrap_or(&[]);
+    hint_of_text(before, rest, diagnosis.reason, context)
 }

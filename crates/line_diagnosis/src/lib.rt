@@ -11,7 +11,7 @@
 //!
 //! Reading order: specs/Place.antt, `reason`, `state` (the states between two characters), then a
 //! file for each family of terminals (`between`, `iris`, `escapes`, `literals`, `labels`, `tags`),
-//! `diagnosis`, `hint`, `reports`. The contract of each step cites specs/Rest.antt, which says
+//! `diagnosis`, `likeness` (other formats), `hint`, `reports`. The contract of each step cites specs/Rest.antt, which says
 //! which texts complete the line after each state.
 //!
 //! Tests: `lines` of the crate program_tests.
@@ -26,6 +26,7 @@ mod escapes;
 mod hint;
 mod iris;
 mod labels;
+mod likeness;
 mod literals;
 mod reason;
 mod reports;
@@ -33,6 +34,6 @@ mod state;
 mod tags;
 
 pub use diagnosis::{Counted, Diagnosis, diagnose};
-pub use hint::{Hint, hint_of};
+pub use hint::{Hint, LineContext, hint_of};
 pub use reason::{Found, Next, Packing, Reason};
 pub use reports::report;

@@ -7,7 +7,7 @@ ghost use Rattle.line_diagnosis.specs.Place.{IsWellFormed};
 ghost use Rattle.line_diagnosis.specs.Report.{IsReport, place_words};
 
 use crate::diagnosis::{Counted, Diagnosis, count_of_bytes, diagnose};
-use crate::hint::hint_of;
+use crate::hint::{LineContext, hint_of};
 use excerpt::message;
 use std::alloc::{AllocError, Global};
 use std::fmt;
@@ -35,21 +35,20 @@ impl fmt::Display for Place {
 /// Returns the message about a diagnosis.
 fn message_of(
     alloc: Global,
-    number: u128,
     line: &[u8],
     diagnosis: &Diagnosis,
-    is_cut: bool,
+    context: &LineContext,
 ) -> Result<String, AllocError>
     requires explained { IsExplained line.now diagnosis.now }
-    ensures message { IfOk result (λ s. IsReport number line.now (string_bytes s)) }
+    ensures message { IfOk result (λ s. IsReport context.now.number line.now (string_bytes s)) }
 {
     let place = Place {
-        line: number,
+        line: context.number,
         column: diagnosis.column,
         counted: diagnosis.counted,
     };
     let at = count_of_bytes(&line[..diagnosis.offset]);
-    let hint = hint_of(line, diagnosis, is_cut);
+    let hint = hint_of(line, diagnosis, context);
     let text = String::from_utf8_lossy(alloc, line)?;
     message(
         alloc,
@@ -65,24 +64,22 @@ fn message_of(
 /// well-formed one.
 ///
 /// The message names the number and the column of the place, and shows the line with a caret under
-/// the place. `number` is the number of the line in its document, from 1. `is_cut` is true if the
-/// line is the last of its document and no line end follows it.
+/// the place.
 ///
 /// # Errors
 /// `AllocError` if an allocation fails.
 pub fn report(
     alloc: Global,
-    number: u128,
     line: &[u8],
-    is_cut: bool,
+    context: &LineContext,
 ) -> Result<Option<String>, AllocError>
     ensures well_formed { IfOk result (λ found. IfNone found (IsWellFormed line.now)) }
     ensures malformed { IfOk result (λ found. OnSome found (IsMalformed line.now)) }
     ensures message { IfOk result
-        (λ found. IfSome found (λ s. IsReport number line.now (string_bytes s))) }
+        (λ found. IfSome found (λ s. IsReport context.now.number line.now (string_bytes s))) }
 {
     match diagnose(alloc, line)? {
         None => Ok(None),
-        Some(diagnosis) => Ok(Some(message_of(alloc, number, line, &diagnosis, is_cut)?)),
+        Some(diagnosis) => Ok(Some(message_of(alloc, line, &diagnosis, context)?)),
     }
 }

@@ -2,6 +2,7 @@
 //! line is the input, and the others are the expected message.
 use crate::texts::decoded_text;
 use crate::{command_lines, commands, lines, messages, queries};
+use line_diagnosis::LineContext;
 use std::alloc::{AllocError, Global};
 use std::process::Abort;
 use std::random::RandomSource;
@@ -11,9 +12,8 @@ use std::thread::Threads;
 /// The kind of the input.
 #[derive(Clone, Copy)]
 pub(crate) enum Reader {
-    /// A line with its number. `is_cut` is true if it is the last line of its document and has no
-    /// line end.
-    Line { number: u128, is_cut: bool },
+    /// A line of a document.
+    Line(LineContext),
     /// The text of a query.
     Query,
     /// The arguments of a command line. The message must have each of the expected lines.
@@ -35,7 +35,7 @@ fn printed<R: Threads + Wait + RandomSource + Sync>(
     case: &str,
 ) -> Result<String, AllocError> {
     match reader {
-        Reader::Line { number, is_cut } => lines::message(alloc, case, number, is_cut),
+        Reader::Line(context) => lines::message(alloc, case, &context),
         Reader::Query => queries::message(alloc, case),
         Reader::Command => commands::message_of(alloc, case),
         Reader::Run => messages::message_of(rt, alloc, case),

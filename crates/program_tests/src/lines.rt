@@ -3,46 +3,56 @@
 
 mod bytes;
 mod ends;
+mod hints;
 mod iris;
 mod literals;
 mod places;
 
 use crate::cases::{Reader, Table, check_tables};
 use crate::texts::decoded;
-use line_diagnosis::report;
+use line_diagnosis::{LineContext, report};
 use std::alloc::{AllocError, AllocGlobal, Global};
 
 /// Prints the message about a line, or `no diagnosis`.
 pub(crate) fn message(
     alloc: Global,
     case: &str,
-    number: u128,
-    is_cut: bool,
+    context: &LineContext,
 ) -> Result<String, AllocError> {
     let line = decoded(alloc, case)?;
-    match report(alloc, number, &line, is_cut)? {
+    match report(alloc, &line, context)? {
         Some(message) => Ok(message),
         None => String::from_str(alloc, "no diagnosis\n"),
     }
 }
 
 /// A first line with a line end.
-const FIRST: Reader = Reader::Line {
+const FIRST: Reader = Reader::Line(LineContext {
     number: 1,
     is_cut: false,
-};
+    is_after_utf8: false,
+});
 
 /// A line without a line end.
-const CUT_OFF: Reader = Reader::Line {
+const CUT_OFF: Reader = Reader::Line(LineContext {
     number: 1,
     is_cut: true,
-};
+    is_after_utf8: false,
+});
 
 /// A later line.
-const LATER: Reader = Reader::Line {
+const LATER: Reader = Reader::Line(LineContext {
     number: 69,
     is_cut: false,
-};
+    is_after_utf8: false,
+});
+
+/// A later line, after a line with a character beyond ASCII.
+const AFTER_UTF8: Reader = Reader::Line(LineContext {
+    number: 69,
+    is_cut: false,
+    is_after_utf8: true,
+});
 
 const TABLES: &[Table] = &[
     (FIRST, places::PLACES),
@@ -51,6 +61,9 @@ const TABLES: &[Table] = &[
     (FIRST, bytes::BYTES),
     (CUT_OFF, ends::LAST),
     (LATER, ends::CUT),
+    (FIRST, hints::FORMATS),
+    (LATER, hints::LATER),
+    (AFTER_UTF8, hints::AFTER_UTF8),
     (FIRST, ends::WELL_FORMED),
 ];
 

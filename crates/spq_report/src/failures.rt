@@ -3,7 +3,7 @@
 use crate::account::Account;
 use command_help::message;
 use dataset_load::Line;
-use line_diagnosis::diagnose;
+use line_diagnosis::{LineContext, diagnose};
 use nquads_core::Device;
 use spq_core::{Command, RunFault, Stage, write_fault};
 use std::alloc::{AllocError, Global};
@@ -35,7 +35,12 @@ fn line_text(alloc: Global, number: u128, line: &Line) -> Result<Option<String>,
     if !has_place(alloc, line)? {
         return Ok(None);
     }
-    line_diagnosis::report(alloc, number, &line.bytes, line.is_cut)
+    let context = LineContext {
+        number,
+        is_cut: line.is_cut,
+        is_after_utf8: line.is_after_utf8,
+    };
+    line_diagnosis::report(alloc, &line.bytes, &context)
 }
 
 /// Returns the message about a malformed line, if the line and the place in it are known.

@@ -13,7 +13,7 @@ hint: if the input is Latin-1, convert it: iconv -f LATIN1 -t UTF-8 FILE | spq c
 spq: line 1, byte 16: invalid UTF-8: byte 0xFF
 <a:s> <a:p> "é�" .
               ^
-hint: if the input is Latin-1, convert it: iconv -f LATIN1 -t UTF-8 FILE | spq check
+hint: the text before this byte is UTF-8, so the byte is damaged: repair line 1
 
 <a:s> <a:p> "‹E2›‹82›
 spq: line 1, byte 14: invalid UTF-8: the line ends inside a character

@@ -33,6 +33,7 @@ spq: line 1, column 4: '^' is not allowed in an IRI
 spq: line 1, column 9: this escape is for a character that is not allowed here in an IRI
 <a:\u0020> <a:p> <a:o> .
         ^
+hint: write a space in an IRI as %20
 
 <\u0031:> <a:p> <a:o> .
 spq: line 1, column 6: this escape is for a character that is not allowed here in an IRI
@@ -111,9 +112,9 @@ spq: line 1, column 2: an IRI must begin with a scheme, such as 'http:', found '
  ^
 hint: this looks like XML; spq reads N-Quads
 
-<!DOCTYPE html>
+<!DOCTYPE rdf:RDF>
 spq: line 1, column 2: an IRI must begin with a scheme, such as 'http:', found '!'
-<!DOCTYPE html>
+<!DOCTYPE rdf:RDF>
  ^
 hint: this looks like XML; spq reads N-Quads
 "##;

@@ -137,7 +137,6 @@ hint: this looks like Turtle; N-Quads has no prefixes and no abbreviations: writ
 spq: line 1, column 11: expected an object (an IRI, a blank node or a literal), found ','
 <a:s><a:p>, <a:o> .
           ^
-hint: this looks like Turtle; N-Quads has no prefixes and no abbreviations: write each term in full
 
 <a:s> <a:p> 'x' .
 spq: line 1, column 13: expected an object (an IRI, a blank node or a literal), found '''
