@@ -19,6 +19,7 @@ part_between terms len i from to len_is from_is to_is = by (cases_lt (i * terms_
   where
     start : ℕ
     start = i * terms_of_a_part
+
     by : (start < len) ⊎ (len ≤ start) → slice_range terms from to ≡ take terms_of_a_part (drop start terms)
     by (inl low) =
         let rest = drop start terms in

@@ -50,12 +50,7 @@ impl<'d> Job for TermParts<'d> {
 }
 
 /// Reads part `i` of the terms.
-fn part_of(
-    alloc: Global,
-    state: RandomState,
-    texts: &TextDict,
-    i: u64,
-) -> Result<Dict, AllocError>
+fn part_of(alloc: Global, state: RandomState, texts: &TextDict, i: u64) -> Result<Dict, AllocError>
     ensures part { IfOk result (IsTermPart texts.now.texts i) }
 {
     let len = texts.len() as u64;
@@ -108,11 +103,7 @@ fn read_parts<R: Threads + Wait>(
 }
 
 /// Joins the parts, in order.
-fn joined_parts(
-    alloc: Global,
-    state: RandomState,
-    parts: Vec<Dict>,
-) -> Result<Dict, AllocError>
+fn joined_parts(alloc: Global, state: RandomState, parts: Vec<Dict>) -> Result<Dict, AllocError>
     ensures joined { IfOk result
         (λ dict. (terms : _) → AreTermParts terms parts.items → dict ≡ first_appearances terms) }
 {

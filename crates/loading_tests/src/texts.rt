@@ -77,7 +77,12 @@ fn both<R: Abort>(
     let piece = read(rt, alloc, state, &dict, *first);
     add_piece(alloc, &mut dict, &mut quads, piece)?;
     let late = read(rt, alloc, state, &dict, *second);
-    add_piece(alloc, &mut dict, &mut quads, if is_later { late } else { early })?;
+    add_piece(
+        alloc,
+        &mut dict,
+        &mut quads,
+        if is_later { late } else { early },
+    )?;
     printed(alloc, &dict, quads.as_slice())
 }
 
@@ -86,8 +91,18 @@ fn pieces_are_added_in_order(rt: HostRuntime) {
     let state = RandomState::new(&rt).expect(&rt, "a hash state");
     for pieces in PIECES {
         let (first, _, expected) = pieces;
-        gives(&rt, *first, *expected, both(&rt, rt.alloc(), state, pieces, false));
-        gives(&rt, *first, *expected, both(&rt, rt.alloc(), state, pieces, true));
+        gives(
+            &rt,
+            *first,
+            *expected,
+            both(&rt, rt.alloc(), state, pieces, false),
+        );
+        gives(
+            &rt,
+            *first,
+            *expected,
+            both(&rt, rt.alloc(), state, pieces, true),
+        );
     }
 }
 
@@ -105,7 +120,10 @@ fn a_malformed_line_is_named(rt: HostRuntime) {
     let dict = TextDict::new(rt.alloc(), state);
     for (text, line) in MALFORMED {
         let found = read_lines(rt.alloc(), state, &dict, text.as_bytes());
-        assert!(rt; matches!(&found, Err(PieceFault::BadLine(k)) if *k == *line), "{text}");
+        assert!(rt;
+            matches!(&found, Err(PieceFault::BadLine(k)) if *k == *line),
+            "{text}"
+        );
     }
 }
 
@@ -134,12 +152,21 @@ fn many_texts_keep_their_numbers(rt: HostRuntime) {
     for _ in 0..2 {
         let piece = read(&rt, rt.alloc(), state, &dict, text.as_str());
         add_piece(rt.alloc(), &mut dict, &mut quads, piece).expect(&rt, "a piece is added");
-        assert!(rt; dict.len() == 6001, "3000 subjects, 3000 objects and a predicate");
+        assert!(rt;
+            dict.len() == 6001,
+            "3000 subjects, 3000 objects and a predicate"
+        );
     }
     assert!(rt; dict.number_of(b"<a:0>") == Some(0), "the first subject");
     assert!(rt; dict.number_of(b"<a:p>") == Some(1), "the predicate");
     assert!(rt; dict.number_of(b"\"0\"") == Some(2), "the first object");
-    assert!(rt; dict.number_of(b"<a:2999>") == Some(5999), "the last subject");
-    assert!(rt; dict.number_of(b"\"2999\"") == Some(6000), "the last object");
+    assert!(rt;
+        dict.number_of(b"<a:2999>") == Some(5999),
+        "the last subject"
+    );
+    assert!(rt;
+        dict.number_of(b"\"2999\"") == Some(6000),
+        "the last object"
+    );
     assert!(rt; dict.number_of(b"<a:3000>") == None, "another text");
 }
