@@ -2,7 +2,7 @@
 use Rattle.std.proofs.Common.{◌≡◌, ℕ, ◌+◌, ◌<◌, List, [], ◌∷◌, ◌++◌, length, get_or, take, map, Option, IsPermutation, refl, sym, ap, ◌∙◌, subst, inr, arith}
 use Rattle.std.specs.Option.{unwrap_or}
 use Rattle.std.specs.List.{filter_map}
-use Rattle.std.proofs.lemmas.List.{take_more, take_all}
+use Rattle.std.proofs.lemmas.List.{append-nil, take_more, take_all}
 use Rattle.std.proofs.lemmas.Option.{slice_get_within, unwrap_or-slice_get}
 use Rattle.std.proofs.lemmas.List.Sorted.{IsPermutation-refl, IsPermutation-sym, IsPermutation-trans}
 use Rattle.rdf_core.specs.declared.term.Term.{Term}
@@ -15,7 +15,10 @@ use Rattle.algebra_model.proofs.SetLaws.{alike_from_set, alike-filter_map, witho
 use Rattle.piece_cuts.specs.Cuts.{piece_at}
 use Rattle.piece_cuts.specs.Laws.{pieces_from, pieces_of, ArePiecesOf}
 use Rattle.dict_core.specs.declared.num_quad.NumQuad.{NumQuad}
+use Rattle.dict_core.specs.Appearances.{first_appearances, terms_of}
 use Rattle.dict_core.specs.Dict.{term_at}
+use Rattle.dict_core.proofs.AppearanceLaws.{appearances_front}
+use Rattle.text_pieces.specs.Forms.{AreFormsOf}
 use Rattle.dict_core.specs.NumQuad.{quads_at}
 use Rattle.dict_core.proofs.NumQuadLaws.{quad_eq}
 use Rattle.quad_index.proofs.ReadingLaws.{index_reads, index_counts, index_names}
@@ -55,10 +58,11 @@ module _ (doc places : List ℕ) (pieces : ArePiecesOf doc places) where
       ap all_lines (is ∙ take_all n (pieces_of doc places) (omega arith))
       ∙ lines_of_pieces (pieces_of doc places) whole ∙ ap lines pieces.joined
 
-pub loaded : (ls : List (List ℕ)) (dict : List Term) (numbered index : List NumQuad) → AreNumbered ls dict numbered
-    → IsPermutation (without_repeats quad_eq numbered) index → IsLoaded ls (record { dict = dict; index = index })
-loaded ls dict numbered index read once =
-    let same = (index_reads read.quads dict numbered index read.numbered once).0 in
+pub loaded : (ls texts : List (List ℕ)) (numbered index : List NumQuad) (read : AreNumbered ls texts numbered)
+    → IsPermutation (without_repeats quad_eq numbered) index → IsLoaded ls (record { dict = read.numbered.terms; index = index })
+loaded ls texts numbered index read once =
+    let dict = read.numbered.terms in
+    let same = (index_reads read.quads dict numbered index read.numbered.numbered once).0 in
     let graphs : List QuadParts → List Term = λ qs. filter_map (λ (q : QuadParts). q.g) qs in
     let renamed : IsPermutation (names (quads_at dict index)) (names read.quads) =
     without_repeats-alike term_eq term_decides (graphs (quads_at dict index)) (graphs read.quads)
@@ -66,13 +70,22 @@ loaded ls dict numbered index read once =
     record {
       quads = read.quads;
       statements = read.statements;
-      terms = read.numbered.0;
+      terms = read.numbered.numbered.0;
       dataset = same;
-      each_once = index_counts read.quads dict numbered index read.numbered once;
+      each_once = index_counts read.quads dict numbered index read.numbered.numbered once;
       graphs = IsPermutation-trans (names read.quads) (names (quads_at dict index)) (map (term_at dict) (names_in index))
           (IsPermutation-sym (names (quads_at dict index)) (names read.quads) renamed)
-          (index_names read.quads dict numbered index (names_in index) read.numbered once (IsPermutation-refl (names_in index)));
+          (index_names read.quads dict numbered index (names_in index) read.numbered.numbered once (IsPermutation-refl (names_in index)));
     }
+
+-- the terms of the texts, read one after the other, are those that the texts are forms of
+pub terms_are : (ls texts : List (List ℕ)) (numbered : List NumQuad) (read : AreNumbered ls texts numbered) (dict : List Term)
+    → ((terms : List Term) → AreFormsOf terms texts → dict ≡ first_appearances terms) → dict ≡ read.numbered.terms
+terms_are ls texts numbered read dict h =
+    let own = terms_of read.quads in
+    let is = read.numbered.numbered.0 in
+    h read.numbered.terms read.numbered.forms
+    ∙ ap first_appearances (is ∙ sym (append-nil (first_appearances own))) ∙ appearances_front own [] ∙ ap first_appearances (append-nil own) ∙ sym is
 
 pub same_slice : (slice numbered index : List NumQuad) → slice ≡ numbered → IsPermutation (without_repeats quad_eq slice) index → IsPermutation (without_repeats quad_eq numbered) index
 same_slice slice numbered index e h = subst (λ (qs : List NumQuad). IsPermutation (without_repeats quad_eq qs) index) e h

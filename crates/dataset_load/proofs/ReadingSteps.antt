@@ -4,45 +4,43 @@ use Rattle.std.specs.List.{slice_index_or, slice_range}
 use Rattle.std.proofs.Math.Seq.{take-add}
 use Rattle.std.proofs.lemmas.List.{map-append, length-map, append-nil, take-append-drop, take-map, take_all}
 use Rattle.std.proofs.lemmas.Grind.{flat_map-append}
-use Rattle.rdf_core.specs.declared.term.Term.{Term}
 use Rattle.rdf_core.specs.QuadParts.{QuadParts}
 use Rattle.nquads_core.specs.Lines.{lines}
 use Rattle.nquads_core.specs.Pieces.{HaveStatements, IsFirstMalformed, IsBadLine}
-use Rattle.dict_core.specs.SeenPiece.{IsLookedUp}
 use Rattle.dict_core.specs.Numbered as numbering
-use Rattle.dict_core.specs.Numbered.{IsNumbered}
-use Rattle.dict_core.specs.Dict.{IsGrown}
+use Rattle.text_pieces.specs.declared.text_piece.TextPiece.{TextPiece}
+use Rattle.text_pieces.specs.Forms.{AreNumberedBy}
+use Rattle.text_pieces.specs.Pieces.{AreGrown, IsPieceOf, IsRead}
 use Rattle.dict_core.specs.declared.num_quad.NumQuad.{NumQuad}
 use Rattle.std.specs.Borrow.{Bor}
-use Rattle.dataset_load.specs.declared.read_piece.ReadPiece.{ReadPiece}
 use Rattle.dataset_load.specs.Lines.{all_lines, texts, text_at}
-use Rattle.dataset_load.specs.Rounds.{AreLookedUp, AreNumbered, HasRead, IsReadPiece, line_total}
+use Rattle.dataset_load.specs.Rounds.{AreNumbered, ArePiecesOf, HasRead, line_total}
 use Rattle.dataset_load.specs.Fault.{IfBadLine}
 use Rattle.dataset_load.specs.declared.numbered.Numbered.{Numbered}
 use Rattle.dataset_load.specs.declared.fault.LoadFault.{LoadFault}
 use Rattle.dataset_load.specs.declared.fault.LoadFault.TheVariants.{BadLine, WorkerRefused, Memory}
 use Rattle.dataset_load.proofs.LineLaws.{statements-append, malformed_after, bad_before}
 
--- the quads of the pieces of a round, that each was looked up, and how many lines they have
-pub record AreRead (dict : List Term) (ps : List (List ℕ)) (reads : List ReadPiece) : Type 0 where
+-- the quads of the pieces of a round, that each is numbered, and how many lines they have
+pub record AreRead (dict : List (List ℕ)) (ps : List (List ℕ)) (reads : List TextPiece) : Type 0 where
   pub each : List (List QuadParts)
   pub statements : HaveStatements (all_lines ps) (numbering.joined each)
-  pub looked_up : AreLookedUp dict each reads
+  pub looked_up : ArePiecesOf dict each reads
   pub count : line_total reads ≡ length (all_lines ps)
 
-pub pieces_read : (dict : List Term) (ps : List (List ℕ)) (reads : List ReadPiece) → length reads ≡ length ps
-    → ((i : ℕ) (d : ReadPiece) → i < length ps → IsReadPiece dict (slice_index_or ps i []) (slice_index_or reads i d))
+pub pieces_read : (dict : List (List ℕ)) (ps : List (List ℕ)) (reads : List TextPiece) → length reads ≡ length ps
+    → ((i : ℕ) (d : TextPiece) → i < length ps → IsRead dict (slice_index_or ps i []) (slice_index_or reads i d))
     → AreRead dict ps reads
 pieces_read dict [] [] e h = record { each = []; statements = refl; looked_up = tt; count = refl }
 pieces_read dict [] (o ∷ os) e h = absurd (omega arith)
 pieces_read dict (p ∷ ps) [] e h = absurd (omega arith)
 pieces_read dict (p ∷ ps) (o ∷ os) e h =
-    let first : IsReadPiece dict p o = h 0 o (omega arith) in
+    let first : IsRead dict p o = h 0 o (omega arith) in
     let rest : AreRead dict ps os = pieces_read dict ps os (omega arith) (λ i d low. h (suc i) d (omega arith)) in
     record {
       each = first.quads ∷ rest.each;
       statements = statements-append (lines p) (all_lines ps) first.quads (numbering.joined rest.each) first.statements rest.statements;
-      looked_up = (first.looked_up, rest.looked_up);
+      looked_up = (first.numbered, rest.looked_up);
       count = (λ i. first.count i + rest.count i) ∙ sym (length-append (lines p) (all_lines ps));
     }
 
@@ -65,9 +63,9 @@ bad_piece (x ∷ xs) (suc p) line low h b =
 -- ---- a round after lines that were read
 
 -- the quads of a round, after those of the lines before
-pub round_numbered : (before : List (List ℕ)) (round : List (Bor (List ℕ))) (dict dict' : List Term) (numbered numbered' : List NumQuad) (reads : List ReadPiece)
+pub round_numbered : (before : List (List ℕ)) (round : List (Bor (List ℕ))) (dict dict' : List (List ℕ)) (numbered numbered' : List NumQuad) (reads : List TextPiece)
     → AreNumbered before dict numbered → AreRead dict (texts round) reads
-    → ((done : List QuadParts) (each : List (List QuadParts)) → IsNumbered done dict numbered → AreLookedUp dict each reads → IsNumbered (done ++ numbering.joined each) dict' numbered')
+    → ((done : List QuadParts) (each : List (List QuadParts)) → AreNumberedBy done dict numbered → ArePiecesOf dict each reads → AreNumberedBy (done ++ numbering.joined each) dict' numbered')
     → AreNumbered (before ++ all_lines (texts round)) dict' numbered'
 round_numbered before round dict dict' numbered numbered' reads was r taken = record {
   quads = was.quads ++ numbering.joined r.each;
@@ -75,17 +73,17 @@ round_numbered before round dict dict' numbered numbered' reads was r taken = re
   numbered = taken was.quads r.each was.numbered r.looked_up;
 }
 
-pub round_read : (round : List (Bor (List ℕ))) (dict : List Term) (reads : List ReadPiece) → length reads ≡ length round
-    → ((i : ℕ) (d : ReadPiece) → i < length round → IsReadPiece dict (text_at round i) (slice_index_or reads i d))
+pub round_read : (round : List (Bor (List ℕ))) (dict : List (List ℕ)) (reads : List TextPiece) → length reads ≡ length round
+    → ((i : ℕ) (d : TextPiece) → i < length round → IsRead dict (text_at round i) (slice_index_or reads i d))
     → AreRead dict (texts round) reads
 round_read round dict reads count each =
     let m : length (texts round) ≡ length round = length-map round (λ (piece : Bor (List ℕ)). piece.now) in
     pieces_read dict (texts round) reads (count ∙ sym m) (λ i d low. each i d (omega arith))
 
 -- the first malformed line of a round, after valid lines
-pub round_bad : (before : List (List ℕ)) (round : List (Bor (List ℕ))) (dict old : List Term) (numbered : List NumQuad) (count p line n : ℕ)
+pub round_bad : (before : List (List ℕ)) (round : List (Bor (List ℕ))) (dict old : List (List ℕ)) (numbered : List NumQuad) (count p line n : ℕ)
     → AreNumbered before old numbered → count ≡ length before → p < length round
-    → ((i : ℕ) → i < p → (read : ReadPiece) × IsReadPiece dict (text_at round i) read)
+    → ((i : ℕ) → i < p → (read : TextPiece) × IsRead dict (text_at round i) read)
     → IsFirstMalformed (lines (text_at round p)) line
     → n ≡ count + (length (all_lines (texts (take p round))) + line + 1)
     → IsBadLine (before ++ all_lines (texts round)) n
@@ -141,7 +139,7 @@ pub lines_up_to_end : (all : List (Bor (List ℕ))) (from : ℕ) → length all 
 lines_up_to_end all from end = ap (λ (ps : List (Bor (List ℕ))). all_lines (texts ps)) (take_all from all end)
 
 -- one more piece is counted
-pub total_more : (reads : List ReadPiece) (i : ℕ) (d : ReadPiece) → i < length reads
+pub total_more : (reads : List TextPiece) (i : ℕ) (d : TextPiece) → i < length reads
     → line_total (take (i + 1) reads) ≡ line_total (take i reads) + (slice_index_or reads i d).lines
 total_more [] i d low = absurd (omega arith)
 total_more (r ∷ reads) zero d low = omega arith
@@ -154,24 +152,24 @@ total_more (r ∷ reads) (suc i) d low =
 
 -- the pieces that are left were looked up in the dictionary of the round's start, and with their
 -- quads after those that are numbered it is all of them
-pub record AreTaken (old dict : List Term) (numbers : List NumQuad) (left : List ReadPiece) (all : List QuadParts) : Type 0 where
+pub record AreTaken (old dict : List (List ℕ)) (numbers : List NumQuad) (left : List TextPiece) (all : List QuadParts) : Type 0 where
   pub done : List QuadParts
   pub each : List (List QuadParts)
-  pub numbered : IsNumbered done dict numbers
-  pub looked_up : AreLookedUp old each left
+  pub numbered : AreNumberedBy done dict numbers
+  pub looked_up : ArePiecesOf old each left
   pub parts : done ++ numbering.joined each ≡ all
 
-pub grown_more : (old dict dict' : List Term) → IsGrown old dict → IsGrown dict dict' → IsGrown old dict'
-grown_more old dict dict' a b = (a.0 ++ b.0, b.1 ∙ ap (λ (d : List Term). d ++ b.0) a.1 ∙ append_assoc old a.0 b.0)
+pub grown_more : (old dict dict' : List (List ℕ)) → AreGrown old dict → AreGrown dict dict' → AreGrown old dict'
+grown_more old dict dict' a b = (a.0 ++ b.0, b.1 ∙ ap (λ (d : List (List ℕ)). d ++ b.0) a.1 ∙ append_assoc old a.0 b.0)
 
-pub take_step : (old dict dict' : List Term) (numbered numbered' : List NumQuad) (piece : ReadPiece) (left left' : List ReadPiece) (all : List QuadParts)
-    → IsGrown old dict → AreTaken old dict numbered left all → left ≡ piece ∷ left'
-    → ((earlier : List Term) (done quads : List QuadParts) → IsGrown earlier dict → IsLookedUp earlier quads piece.seen → IsNumbered done dict numbered → IsNumbered (done ++ quads) dict' numbered')
+pub take_step : (old dict dict' : List (List ℕ)) (numbered numbered' : List NumQuad) (piece : TextPiece) (left left' : List TextPiece) (all : List QuadParts)
+    → AreGrown old dict → AreTaken old dict numbered left all → left ≡ piece ∷ left'
+    → ((earlier : List (List ℕ)) (done quads : List QuadParts) → AreGrown earlier dict → IsPieceOf earlier quads piece → AreNumberedBy done dict numbered → AreNumberedBy (done ++ quads) dict' numbered')
     → AreTaken old dict' numbered' left' all
 take_step old dict dict' numbered numbered' piece left left' all grown was e taken =
-    by was.each (subst (λ (ps : List ReadPiece). AreLookedUp old was.each ps) e was.looked_up) was.parts
+    by was.each (subst (λ (ps : List TextPiece). ArePiecesOf old was.each ps) e was.looked_up) was.parts
   where
-    by : (each : List (List QuadParts)) → AreLookedUp old each (piece ∷ left') → was.done ++ numbering.joined each ≡ all → AreTaken old dict' numbered' left' all
+    by : (each : List (List QuadParts)) → ArePiecesOf old each (piece ∷ left') → was.done ++ numbering.joined each ≡ all → AreTaken old dict' numbered' left' all
     by [] z parts = absurd z
     by (q ∷ qs) z parts = record {
       done = was.done ++ q;
@@ -181,11 +179,11 @@ take_step old dict dict' numbered numbered' piece left left' all grown was e tak
       parts = append_assoc was.done q (numbering.joined qs) ∙ parts;
     }
 
-pub all_taken : (old dict : List Term) (numbered : List NumQuad) (left : List ReadPiece) (all : List QuadParts)
-    → AreTaken old dict numbered left all → length left ≡ 0 → IsNumbered all dict numbered
+pub all_taken : (old dict : List (List ℕ)) (numbered : List NumQuad) (left : List TextPiece) (all : List QuadParts)
+    → AreTaken old dict numbered left all → length left ≡ 0 → AreNumberedBy all dict numbered
 all_taken old dict numbered (p ∷ ps) all was none = absurd (omega arith)
 all_taken old dict numbered [] all was none = by was.each was.looked_up was.parts
   where
-    by : (each : List (List QuadParts)) → AreLookedUp old each [] → was.done ++ numbering.joined each ≡ all → IsNumbered all dict numbered
-    by [] z parts = subst (λ (qs : List QuadParts). IsNumbered qs dict numbered) (sym (append-nil was.done) ∙ parts) was.numbered
+    by : (each : List (List QuadParts)) → ArePiecesOf old each [] → was.done ++ numbering.joined each ≡ all → AreNumberedBy all dict numbered
+    by [] z parts = subst (λ (qs : List QuadParts). AreNumberedBy qs dict numbered) (sym (append-nil was.done) ∙ parts) was.numbered
     by (q ∷ qs) z parts = absurd z

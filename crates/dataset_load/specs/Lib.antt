@@ -9,3 +9,4 @@ pub mod Streaming
 pub mod Found
 pub mod Counted
 pub mod Ahead
+pub mod Terms

@@ -4,15 +4,15 @@ ghost use Rattle.dataset_load.specs.Rounds.{HasRead};
 ghost use Rattle.dataset_load.specs.Counted.{IsCounted};
 
 use crate::numbered::Numbered;
-use dict_core::Dict;
 use quad_index::count_quads;
 use std::alloc::{AllocError, Global};
+use text_dict::TextDict;
 
 /// The terms of a dataset, and the counts of its quads and graph names.
 #[derive(Drop)]
 pub struct Counted {
-    /// The terms by number.
-    pub dict: Dict,
+    /// The terms by number, as texts.
+    pub dict: TextDict,
     /// The number of distinct quads.
     pub quads: u64,
     /// The number of distinct graph names.

@@ -17,8 +17,8 @@
 //! dictionary and the counts of that store, and [`load_terms`] only the dictionary. Neither builds an
 //! index (`IsCountedFrom`, `AreTermsFrom` in specs/Counted.antt).
 //!
-//! Reading order: `fault`, `store`, `read_piece` and `round_job` (one piece), `numbered` and `rounds`
-//! (all pieces), `sorting` (the lists of the index), `loading`, `reader` (blocks of a reader),
+//! Reading order: `fault`, `store`, `round_job` (one piece), `numbered` and `rounds`
+//! (all pieces), `sorting` (the lists of the index), `terms` (the terms of the texts), `loading`, `reader` (blocks of a reader),
 //! `reader_fault`, `counted`, `finding` and `load_notes` (the malformed line, for messages), `streaming`.
 //!
 //! Tests: `documents`, `readers` and `refusals` of the crate loading_tests.
@@ -40,7 +40,6 @@ mod finding;
 mod load_notes;
 mod loading;
 mod numbered;
-mod read_piece;
 mod reader;
 mod reader_fault;
 mod round_job;
@@ -48,6 +47,7 @@ mod rounds;
 mod sorting;
 mod store;
 mod streaming;
+mod terms;
 
 pub use counted::Counted;
 pub use fault::LoadFault;

@@ -2,9 +2,8 @@
 
 use crate::fault::LoadFault;
 use crate::finding::{Line, line_at};
-use dict_core::Dict;
+use text_dict::TextDict;
 use piece_pool::OffsetGate;
-use rdf_core::Term;
 use std::alloc::Global;
 
 /// Notes that loading takes for the message about a failure.
@@ -52,7 +51,7 @@ impl<'g, G> Rounds<'g, G> {
     }
 
     /// Returns the malformed line, given the dictionary of the rounds before its own.
-    pub(crate) fn into_line(self, dict: &Dict) -> Option<Line> {
+    pub(crate) fn into_line(self, dict: &TextDict) -> Option<Line> {
         let Rounds { line, .. } = self;
         let mut line = line?;
         line.is_after_utf8 |= has_text_beyond_ascii(dict);
@@ -75,23 +74,10 @@ impl<'g, G> Rounds<'g, G> {
     }
 }
 
-/// Returns whether a term has a character beyond ASCII.
-fn is_beyond_ascii(term: &Term) -> bool {
-    match term {
-        Term::Blank(label) => !label.as_str().is_ascii(),
-        Term::Iri(text) => !text.as_str().is_ascii(),
-        Term::Literal {
-            lexical,
-            datatype,
-            ..
-        } => !lexical.as_str().is_ascii() || !datatype.as_str().is_ascii(),
-    }
-}
-
 /// Returns whether a term of a dictionary has a character beyond ASCII. A document may have it as an escape.
-fn has_text_beyond_ascii(dict: &Dict) -> bool {
+fn has_text_beyond_ascii(dict: &TextDict) -> bool {
     for n in 0..dict.len() {
-        if is_beyond_ascii(dict.term(n as u64)) {
+        if !dict.text(n as u64).is_ascii() {
             return true;
         }
     }

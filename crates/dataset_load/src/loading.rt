@@ -14,6 +14,7 @@ use crate::numbered::Numbered;
 use crate::rounds::number_pieces;
 use crate::sorting::sorted_index;
 use crate::store::Store;
+use crate::terms::read_terms;
 use piece_cuts::Cuts;
 use piece_cuts::laws::pieces_are_the_document;
 use piece_pool::Gate;
@@ -101,7 +102,7 @@ fn load_pieces<R: Threads + Wait + RandomSource, G: Gate + Sync>(
 }
 
 /// Builds the store of quads that are numbered.
-pub(crate) fn store_of<R: Threads + Wait>(
+pub(crate) fn store_of<R: Threads + Wait + RandomSource>(
     rt: &R,
     alloc: Global,
     so_far: Numbered,
@@ -115,7 +116,9 @@ pub(crate) fn store_of<R: Threads + Wait>(
 {
     let Numbered { dict, quads, .. } = so_far;
     let index = sorted_index(rt, alloc, quads, workers)?;
-    Ok(Store::of_parts(dict, index))
+    let terms = read_terms(rt, alloc, &dict, workers)?;
+    drop(dict);
+    Ok(Store::of_parts(terms, index))
 }
 
 /// Creates a hash state with random keys of the runtime, because the terms are untrusted input.

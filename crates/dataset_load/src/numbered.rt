@@ -1,14 +1,15 @@
 //! What was read of a document so far.
 
-use dict_core::{Dict, NumQuad};
+use dict_core::NumQuad;
 use std::alloc::{AllocError, Global};
 use std::hash::RandomState;
+use text_dict::TextDict;
 
-/// The quads of the lines that were read so far, numbered by a dictionary, and the count of these
-/// lines.
+/// The quads of the lines that were read so far, numbered by a dictionary of the texts of their terms, and the count of
+/// these lines.
 #[derive(Drop)]
 pub(crate) struct Numbered {
-    pub(crate) dict: Dict,
+    pub(crate) dict: TextDict,
     pub(crate) quads: Vec<NumQuad>,
     pub(crate) lines: u128,
 }
@@ -27,7 +28,7 @@ impl Numbered {
         ensures no_lines { IfOk result (λ so_far. so_far.lines ≡ 0) }
     {
         Ok(Numbered {
-            dict: Dict::new(alloc, state)?,
+            dict: TextDict::new(alloc, state),
             quads: Vec::new(alloc),
             lines: 0,
         })

@@ -3,21 +3,21 @@ ghost use Rattle.std.specs.Prelude.{◌≡◌, IfOk, IfErr};
 ghost use Rattle.nquads_core.specs.Lines.{lines};
 ghost use Rattle.nquads_core.specs.Pieces.{IsFirstMalformed};
 ghost use Rattle.piece_pool.specs.Job.{IfOwn};
+ghost use Rattle.text_pieces.specs.Pieces.{IsRead};
 ghost use Rattle.dataset_load.specs.Lines.{text_at};
-ghost use Rattle.dataset_load.specs.Rounds.{IsReadPiece};
 
-use crate::read_piece::ReadPiece;
-use dict_core::{Dict, NumberedLines, look_up, number_lines};
 use nquads_core::PieceFault;
 use piece_pool::{Job, JobFault};
 use std::alloc::Global;
 use std::hash::RandomState;
+use text_dict::TextDict;
+use text_pieces::{TextPiece, read_lines};
 
 /// The pieces of a round, each to be read and looked up in the dictionary of the rounds before.
 #[derive(Drop)]
 pub(crate) struct Round<'d> {
     pub(crate) pieces: &'d [&'d [u8]],
-    pub(crate) dict: &'d Dict,
+    pub(crate) dict: &'d TextDict,
     pub(crate) state: RandomState,
 }
 
@@ -25,17 +25,18 @@ impl<'d> Job for Round<'d> {
     ghost use Rattle.nquads_core.specs.Lines.{lines};
     ghost use Rattle.nquads_core.specs.Pieces.{IsFirstMalformed};
     ghost use Rattle.dataset_load.specs.Lines.{text_at};
-    ghost use Rattle.dataset_load.specs.Rounds.{IsReadPiece, not_both};
+    ghost use Rattle.text_pieces.specs.Pieces.{IsRead};
+    ghost use Rattle.dataset_load.specs.Rounds.{not_both};
 
-    type Out = ReadPiece;
+    type Out = TextPiece;
 
     type Fault = u64;
 
-    ghost answers = { λ job i out. IsReadPiece job.dict.now (text_at job.pieces.now i) out };
+    ghost answers = { λ job i out. IsRead job.dict.now.texts (text_at job.pieces.now i) out };
 
     ghost faults = { λ job i line. IsFirstMalformed (lines (text_at job.pieces.now i)) line };
 
-    fn run(&self, alloc: Global, i: u64) -> Result<ReadPiece, JobFault<u64>> {
+    fn run(&self, alloc: Global, i: u64) -> Result<TextPiece, JobFault<u64>> {
         read_against(alloc, self.state, self.dict, piece_at(self.pieces, i))
     }
 
@@ -53,23 +54,19 @@ fn piece_at<'d>(pieces: &[&'d [u8]], i: u64) -> &'d [u8]
     }
 }
 
-/// Numbers the quads of a piece by a dictionary of their own, counts its lines, and looks up its terms.
+/// Reads a piece against the dictionary of the rounds before.
 fn read_against(
     alloc: Global,
     state: RandomState,
-    dict: &Dict,
+    dict: &TextDict,
     bytes: &[u8],
-) -> Result<ReadPiece, JobFault<u64>>
-    ensures read { IfOk result (IsReadPiece dict.now bytes.now) }
+) -> Result<TextPiece, JobFault<u64>>
+    ensures read { IfOk result (IsRead dict.now.texts bytes.now) }
     ensures bad { IfErr result (IfOwn (IsFirstMalformed (lines bytes.now))) }
 {
-    let NumberedLines { piece, lines } = match number_lines(alloc, state, bytes) {
-        Ok(numbered) => numbered,
-        Err(PieceFault::BadLine(line)) => return Err(JobFault::Own(line)),
-        Err(PieceFault::Memory) => return Err(JobFault::Memory),
-    };
-    let Ok(seen) = look_up(alloc, dict, piece) else {
-        return Err(JobFault::Memory);
-    };
-    Ok(ReadPiece { seen, lines })
+    match read_lines(alloc, state, dict, bytes) {
+        Ok(piece) => Ok(piece),
+        Err(PieceFault::BadLine(line)) => Err(JobFault::Own(line)),
+        Err(PieceFault::Memory) => Err(JobFault::Memory),
+    }
 }

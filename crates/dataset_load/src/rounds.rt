@@ -9,29 +9,35 @@ ghost use Rattle.nquads_core.specs.Pieces.{IsFirstMalformed, IsBadLine};
 ghost use Rattle.piece_pool.specs.Limits.{most_pieces, most_workers};
 ghost use Rattle.piece_pool.specs.Outcome.{IsPoolOutcome};
 ghost use Rattle.piece_pool.specs.declared.pool.PoolFault.TheVariants.{Memory};
-ghost use Rattle.dict_core.specs.Numbered.{IsNumbered, joined};
+ghost use Rattle.dict_core.specs.Numbered.{joined};
+ghost use Rattle.text_pieces.specs.Forms.{AreNumberedBy};
+ghost use Rattle.text_pieces.specs.Pieces.{IsRead};
 ghost use Rattle.dataset_load.specs.Fault.{IfBadLine, IsOneWorkerLoadFault};
 ghost use Rattle.dataset_load.specs.Limits.{most_pieces_of_a_round};
 ghost use Rattle.dataset_load.specs.Lines.{all_lines, text_at, texts};
-ghost use Rattle.dataset_load.specs.Rounds.{AreLookedUp, HasRead, IsReadPiece, line_total};
+ghost use Rattle.dataset_load.specs.Rounds.{ArePiecesOf, HasRead, line_total};
 
 use crate::fault::LoadFault;
 use crate::numbered::Numbered;
-use crate::read_piece::ReadPiece;
 use crate::round_job::Round;
-use dict_core::{Dict, NumQuad, add_piece};
+use dict_core::NumQuad;
 use nquads_core::count_lines;
 use piece_pool::{Gate, OffsetGate, Outcome, PoolFault, run_all_with};
 use std::alloc::{AllocError, Global};
 use std::hash::RandomState;
 use std::sync::Wait;
 use std::thread::Threads;
+use text_dict::TextDict;
+use text_pieces::{TextPiece, add_piece};
 
-/// The least number of pieces of a round for each worker, except in the last round.
+/// The least number of pieces of a round for each of several workers, except in the last round.
 const PIECES_A_WORKER: usize = 16;
 
 /// The least number of bytes of a round, except in the last round.
 const BYTES_A_ROUND: usize = 4 << 20;
+
+/// The same for one worker. No thread is started, so a round costs little, and its bytes stay in the cache.
+const BYTES_OF_ONE_WORKER: usize = 1 << 16;
 
 /// The largest number of pieces of a round.
 pub(crate) const PIECES_A_ROUND: usize = 1 << 20;
@@ -119,16 +125,16 @@ fn read_round<R: Threads + Wait, G: Gate + Sync, F: FnMut() -> T, T>(
     alloc: Global,
     state: RandomState,
     pieces: &[&[u8]],
-    dict: &Dict,
+    dict: &TextDict,
     workers: usize,
     gate: &G,
     task: &mut F,
-) -> (Result<Outcome<ReadPiece, u64>, PoolFault>, T)
+) -> (Result<Outcome<TextPiece, u64>, PoolFault>, T)
     requires workers { (1 ≤ workers) × (workers ≤ most_workers) }
     requires pieces { length pieces.now ≤ most_pieces }
     requires task { F.pre task.old }
     ensures outcome { IfOk result.0
-        (IsPoolOutcome (λ i out. IsReadPiece dict.now (text_at pieces.now i) out)
+        (IsPoolOutcome (λ i out. IsRead dict.now.texts (text_at pieces.now i) out)
         (λ i line. IsFirstMalformed (lines (text_at pieces.now i)) line) (length pieces.now)) }
     ensures one_worker { workers ≡ 1 → IfErr result.0 (λ fault. fault ≡ Memory) }
     ensures task { F.step task.old result.1 task.new }
@@ -146,12 +152,12 @@ fn add_outcome(
     alloc: Global,
     so_far: &mut Numbered,
     pieces: &[&[u8]],
-    outcome: Result<Outcome<ReadPiece, u64>, PoolFault>,
+    outcome: Result<Outcome<TextPiece, u64>, PoolFault>,
 ) -> Result<(), LoadFault>
     requires pieces { length pieces.now ≤ most_pieces_of_a_round }
     requires countable { so_far.old.lines ≤ 2 ^ 127 }
     requires outcome { IfOk outcome
-        (IsPoolOutcome (λ i out. IsReadPiece so_far.old.dict (text_at pieces.now i) out)
+        (IsPoolOutcome (λ i out. IsRead so_far.old.dict.texts (text_at pieces.now i) out)
         (λ i line. IsFirstMalformed (lines (text_at pieces.now i)) line) (length pieces.now)) }
     ensures numbered { OnOk result ((before : _) → HasRead so_far.old before
         → HasRead so_far.new (before ++ all_lines (texts pieces.now))) }
@@ -195,7 +201,11 @@ pub(crate) fn is_full(pieces: usize, bytes: usize, workers: usize) -> bool
     requires workers { (1 ≤ workers) × (workers ≤ most_workers) }
     ensures some { result ≡ true → 1 ≤ pieces }
 {
-    pieces >= PIECES_A_WORKER * workers && bytes >= BYTES_A_ROUND
+    if workers == 1 {
+        pieces >= 1 && bytes >= BYTES_OF_ONE_WORKER
+    } else {
+        pieces >= PIECES_A_WORKER * workers && bytes >= BYTES_A_ROUND
+    }
 }
 
 fn part<'p, 'd>(pieces: &'p [&'d [u8]], from: usize, to: usize) -> &'p [&'d [u8]]
@@ -211,14 +221,14 @@ fn part<'p, 'd>(pieces: &'p [&'d [u8]], from: usize, to: usize) -> &'p [&'d [u8]
 fn add_read_pieces(
     alloc: Global,
     so_far: &mut Numbered,
-    pieces: Vec<ReadPiece>,
+    pieces: Vec<TextPiece>,
 ) -> Result<(), AllocError>
     requires pieces { length pieces.items ≤ most_pieces_of_a_round }
     requires countable { so_far.old.lines ≤ 2 ^ 127 }
     ensures numbered { OnOk result ((done : List QuadParts) (each : List (List QuadParts))
-        → IsNumbered done so_far.old.dict so_far.old.quads.items
-        → AreLookedUp so_far.old.dict each pieces.items
-        → IsNumbered (done ++ joined each) so_far.new.dict so_far.new.quads.items) }
+        → AreNumberedBy done so_far.old.dict.texts so_far.old.quads.items
+        → ArePiecesOf so_far.old.dict.texts each pieces.items
+        → AreNumberedBy (done ++ joined each) so_far.new.dict.texts so_far.new.quads.items) }
     ensures lines { OnOk result
         (so_far.new.lines ≡ so_far.old.lines + line_total pieces.items) }
     ensures counted { OnOk result
@@ -233,23 +243,23 @@ fn add_read_pieces(
 /// Adds the pieces of a round, one after the other.
 fn add_pieces(
     alloc: Global,
-    dict: &mut Dict,
+    dict: &mut TextDict,
     quads: &mut Vec<NumQuad>,
-    pieces: Vec<ReadPiece>,
+    pieces: Vec<TextPiece>,
 ) -> Result<(), AllocError>
     ensures numbered { OnOk result ((done : List QuadParts) (each : List (List QuadParts))
-        → IsNumbered done dict.old quads.old.items
-        → AreLookedUp dict.old each pieces.items
-        → IsNumbered (done ++ joined each) dict.new quads.new.items) }
+        → AreNumberedBy done dict.old.texts quads.old.items
+        → ArePiecesOf dict.old.texts each pieces.items
+        → AreNumberedBy (done ++ joined each) dict.new.texts quads.new.items) }
 {
     for piece in pieces {
-        add_piece(alloc, dict, quads, piece.seen)?;
+        add_piece(alloc, dict, quads, piece)?;
     }
     Ok(())
 }
 
 /// Returns the number of lines of the pieces of a round.
-fn count_read(pieces: &[ReadPiece]) -> u128
+fn count_read(pieces: &[TextPiece]) -> u128
     ensures total { result ≡ line_total pieces.now }
     ensures small { result ≤ length pieces.now * (2 ^ 64 - 1) }
 {

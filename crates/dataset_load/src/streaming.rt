@@ -23,7 +23,6 @@ use crate::reader::{FilledRound, next_round, round_after};
 use crate::reader_fault::ReaderFault;
 use crate::rounds::add_round;
 use crate::store::Store;
-use dict_core::Dict;
 use nquads_core::{ReadFault, Source};
 use piece_cuts::{BlockState, Blocks};
 use piece_pool::Gate;
@@ -32,8 +31,9 @@ use std::hash::RandomState;
 use std::random::RandomSource;
 use std::sync::Wait;
 use std::thread::Threads;
+use text_dict::TextDict;
 
-/// The largest number of rounds of a document. A round has at least 4 MiB or 2^20 lines, except the last one.
+/// The largest number of rounds of a document. A round has at least 64 KiB or 2^20 lines, except the last one.
 const MOST_ROUNDS: u64 = 1 << 40;
 
 /// Loads the rest of a reader, as `load_blocks` does after `read_blocks`. Only the blocks of two rounds are in
@@ -104,7 +104,7 @@ pub fn count_reader<R: Threads + Wait + RandomSource, S: Source, G: Gate + Sync>
     Ok(counted_of(alloc, so_far)?)
 }
 
-/// Returns the dictionary of the rest of a reader, which it reads as [`load_reader`] does. No quads are sorted.
+/// Returns the terms of the rest of a reader as texts. It reads as [`load_reader`] does. No quads are sorted.
 ///
 /// # Requires
 /// `size` is 1 or more, and `workers` is 1 to 64.
@@ -119,7 +119,7 @@ pub fn load_terms<R: Threads + Wait + RandomSource, S: Source, G: Gate + Sync>(
     workers: usize,
     gate: &G,
     notes: &mut LoadNotes,
-) -> Result<Dict, ReaderFault>
+) -> Result<TextDict, ReaderFault>
     requires some { 1 ≤ size }
     requires workers { (1 ≤ workers) × (workers ≤ most_workers) }
     ensures terms { IfOk result (AreTermsFrom (S.left reader.old) (S.left reader.new)) }

@@ -97,7 +97,7 @@ fn append_terms(alloc: Global, out: &mut String, dict: &Dict) -> Result<(), Allo
 }
 
 /// Appends subject, predicate, object and graph name of each quad.
-fn append_quads(out: &mut String, quads: &[NumQuad]) -> Result<(), AllocError> {
+pub(crate) fn append_quads(out: &mut String, quads: &[NumQuad]) -> Result<(), AllocError> {
     for NumQuad { g, s, p, o } in quads {
         write!(out, "Some({s}) Some({p}) Some({o}) {g:?} ")?;
     }

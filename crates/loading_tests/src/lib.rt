@@ -4,6 +4,7 @@
 //! - `lines`, `slices` and `transfers` of nquads_core;
 //! - `boards` of piece_board, `pools` of piece_pool, and `cutting` of piece_cuts;
 //! - `dictionary` of dict_core, and `index` of quad_index;
+//! - `texts` of text_dict and text_pieces;
 //! - `documents` and `readers` of dataset_load;
 //! - `refusals`: what is left of each if an allocation fails or a worker thread cannot be started.
 //!
@@ -42,5 +43,7 @@ mod refusals;
 mod slices;
 #[cfg(test)]
 mod terms;
+#[cfg(test)]
+mod texts;
 #[cfg(test)]
 mod transfers;

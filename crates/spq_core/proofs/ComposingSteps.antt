@@ -1,17 +1,19 @@
 -- How composing an output follows from loading a document, and a run from composing.
-use Rattle.std.proofs.Common.{◌≡◌, inr, ℕ, List, Option, Result, Ok, Err, Vec, Global, length, refl, sym, subst, ◌∙◌}
+use Rattle.std.proofs.Common.{◌≡◌, inr, ℕ, List, Option, Result, Ok, Err, Vec, Global, length, refl, sym, ap, subst, ◌∙◌}
+use Rattle.std.proofs.lemmas.List.{length-map}
 use Rattle.std.specs.Result.{IfOk, IfErr}
 use Rattle.nquads_core.specs.declared.device.DeviceFailed.{DeviceFailed}
 use Rattle.std.specs.Io.KnownBytes.{Appends}
 use Rattle.nquads_core.specs.Device.{Stays}
 use Rattle.nquads_core.specs.Transfer.{IsReadInPart, WroteBeginning}
-use Rattle.rdf_core.specs.declared.term.Term.{Term}
+use Rattle.rdf_core.specs.Serialization.{serialization}
+use Rattle.text_dict.specs.TextDict.{TextDictView}
 use Rattle.dataset_load.specs.declared.counted.Counted.{Counted}
 use Rattle.dataset_load.specs.Store.{StoreView}
 use Rattle.dataset_load.specs.Counted.{AreTermsFrom, IsCountedFrom}
 use Rattle.result_json.specs.Results.{joined_blocks}
 use Rattle.spq_core.specs.Output.{Request, select, check, terms}
-use Rattle.spq_core.specs.Listing.{counts_line, term_lines}
+use Rattle.spq_core.specs.Listing.{counts_line, text_lines}
 use Rattle.spq_core.specs.Run.{IsAnswerable, IsBadLineFrom, IsBadLineOf, IsComposed, IsComposing, IsLoadedFrom, IsLoading, IsRun, WriterFailed}
 use Rattle.spq_core.proofs.DocumentSteps.{composed_check, composed_terms}
 use Rattle.spq_core.specs.declared.program.RunFault.{RunFault}
@@ -88,20 +90,20 @@ module _ {S T : Type 0} (left : S → Option (List ℕ)) (failures : S → Optio
 
 module _ {S : Type 0} (left : S → Option (List ℕ)) (failures : S → Option ℕ) (alone : Type 0) (reader reader' : S) where
   pub counted : (counts : Counted) → IsLoading left failures IsCountedFrom alone reader reader' (Ok counts) → (result : Result (Vec (Vec ℕ Global) Global) RunFault)
-      → IfOk result (λ blocks. joined_blocks blocks.items ≡ counts_line counts.quads (length counts.dict) counts.graphs) → IfErr result (λ f. f ≡ Memory)
+      → IfOk result (λ blocks. joined_blocks blocks.items ≡ counts_line counts.quads (length counts.dict.texts) counts.graphs) → IfErr result (λ f. f ≡ Memory)
       → IsComposing left failures check alone reader reader' result
   counted counts h (Ok blocks) e m =
       loaded left failures IsCountedFrom check alone reader reader' counts tt (part_loaded (left reader) (left reader') h.loaded.store h.loaded.loaded) h (Ok blocks)
       (composed_check (left reader) (left reader') h.loaded.store (joined_blocks blocks.items) h.loaded.loaded
-      (e ∙ (λ i. counts_line (h.loaded.counts.quads i) (length (h.loaded.counts.terms i)) (h.loaded.counts.graphs i)))) tt
+      (e ∙ (λ i. counts_line (h.loaded.counts.quads i) ((ap length h.loaded.counts.terms ∙ length-map h.loaded.store.dict serialization) i) (h.loaded.counts.graphs i)))) tt
   counted counts h (Err f) e m =
       loaded left failures IsCountedFrom check alone reader reader' counts tt (part_loaded (left reader) (left reader') h.loaded.store h.loaded.loaded) h (Err f) tt m
 
-  pub listed : (dict : List Term) → IsLoading left failures AreTermsFrom alone reader reader' (Ok dict) → (result : Result (Vec (Vec ℕ Global) Global) RunFault)
-      → IfOk result (λ blocks. joined_blocks blocks.items ≡ term_lines dict) → IfErr result (λ f. f ≡ Memory) → IsComposing left failures terms alone reader reader' result
+  pub listed : (dict : TextDictView) → IsLoading left failures AreTermsFrom alone reader reader' (Ok dict) → (result : Result (Vec (Vec ℕ Global) Global) RunFault)
+      → IfOk result (λ blocks. joined_blocks blocks.items ≡ text_lines dict.texts) → IfErr result (λ f. f ≡ Memory) → IsComposing left failures terms alone reader reader' result
   listed dict h (Ok blocks) e m =
       loaded left failures AreTermsFrom terms alone reader reader' dict tt (part_loaded (left reader) (left reader') h.loaded.store h.loaded.loaded) h (Ok blocks)
-      (composed_terms (left reader) (left reader') h.loaded.store dict (joined_blocks blocks.items) h.loaded.loaded h.loaded.same e) tt
+      (composed_terms (left reader) (left reader') h.loaded.store dict.texts (joined_blocks blocks.items) h.loaded.loaded h.loaded.same e) tt
   listed dict h (Err f) e m =
       loaded left failures AreTermsFrom terms alone reader reader' dict tt (part_loaded (left reader) (left reader') h.loaded.store h.loaded.loaded) h (Err f) tt m
 

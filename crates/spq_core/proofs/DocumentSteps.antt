@@ -3,7 +3,7 @@ use Rattle.std.proofs.Common.{◌≡◌, ℕ, List, length, map, Option, Vec, Gl
 use Rattle.std.proofs.lemmas.List.{length-map}
 use Rattle.std.proofs.lemmas.List.Sorted.{length_permutation}
 use Rattle.std.specs.Io.KnownBytes.{Consumes, IsAtEnd}
-use Rattle.rdf_core.specs.declared.term.Term.{Term}
+use Rattle.rdf_core.specs.Serialization.{serialization}
 use Rattle.nquads_core.specs.Lines.{lines}
 use Rattle.algebra_model.specs.Bag.{without_repeats}
 use Rattle.algebra_model.specs.Dataset.{names}
@@ -14,7 +14,7 @@ use Rattle.quad_index.specs.Laws.{same_parts}
 use Rattle.dataset_load.specs.Lines.{block_texts, joined}
 use Rattle.dataset_load.specs.Store.{StoreView, names_in}
 use Rattle.dataset_load.specs.Loaded as load
-use Rattle.spq_core.specs.Listing.{counts_line, counts_of, term_lines}
+use Rattle.spq_core.specs.Listing.{counts_line, counts_of, term_lines, text_lines}
 use Rattle.std.specs.Str.{chars}
 use Rattle.nquads_core.specs.Pieces.{IsBadLine}
 use Rattle.algebra_model.specs.Laws.{BagHasOneList, DatasetIsSet}
@@ -25,6 +25,7 @@ use Rattle.spq_core.specs.Outcome.{rows}
 use Rattle.spq_core.specs.Output.{check, select, terms}
 use Rattle.result_json.specs.Results.{json}
 use Rattle.spq_core.proofs.AnsweringSteps.{json_of_store}
+use Rattle.spq_core.proofs.ListingSteps.{lines_of_forms}
 use Rattle.spq_core.specs.Run.{IsBadLineFrom, IsBadLineOf, IsComposed, IsLoadedFrom}
 
 pub counts_are : (ls : List (List ℕ)) (store : StoreView) (l : load.IsLoaded ls store)
@@ -48,13 +49,13 @@ composed_check left left' store text h e = record {
   output = record { quads = h.loaded.quads; statements = h.loaded.statements; printed = e ∙ counts_are (lines h.doc) store h.loaded };
 }
 
-pub composed_terms : (left left' : Option (List ℕ)) (store : StoreView) (dict : List Term) (text : List ℕ) → IsLoadedFrom left left' store
-    → dict ≡ store.dict → text ≡ term_lines dict → IsComposed terms left left' text
-composed_terms left left' store dict text h d e = record {
+pub composed_terms : (left left' : Option (List ℕ)) (store : StoreView) (texts : List (List ℕ)) (text : List ℕ) → IsLoadedFrom left left' store
+    → texts ≡ map serialization store.dict → text ≡ text_lines texts → IsComposed terms left left' text
+composed_terms left left' store texts text h d e = record {
   doc = h.doc;
   consumed = h.consumed;
   at_end = h.at_end;
-  output = record { quads = h.loaded.quads; statements = h.loaded.statements; printed = e ∙ ap term_lines (d ∙ h.loaded.terms) };
+  output = record { quads = h.loaded.quads; statements = h.loaded.statements; printed = e ∙ ap text_lines d ∙ lines_of_forms store.dict ∙ ap term_lines h.loaded.terms };
 }
 
 pub composed_select : DatasetIsSet → BagHasOneList → (left left' : Option (List ℕ)) (query : List ℕ) (q : QueryTree) (store : StoreView) (text : List ℕ) → IsValidQuery (chars query) q → IsLoadedFrom left left' store

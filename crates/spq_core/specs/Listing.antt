@@ -18,6 +18,10 @@ abbrev pub counts_of : List QuadParts → List ℕ
 counts_of quads = counts_line
     (length (without_repeats same_parts quads)) (length (first_appearances (terms_of quads))) (length (names quads))
 
+-- each text on a line of its own
+abbrev pub text_lines : List (List ℕ) → List ℕ
+text_lines texts = flat_map (λ text. text ++ codes "\n") texts
+
 -- each term on a line of its own
 abbrev pub term_lines : List Term → List ℕ
 term_lines terms = flat_map (λ t. serialization t ++ codes "\n") terms

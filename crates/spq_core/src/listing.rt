@@ -1,12 +1,11 @@
 //! What `check` and `terms` print about a dataset.
 ghost use Rattle.std.specs.Prelude.{◌≡◌, ◌++◌, IfOk, OnOk, decimal, length};
-ghost use Rattle.spq_core.specs.Listing.{counts_line, term_lines};
+ghost use Rattle.spq_core.specs.Listing.{counts_line, text_lines};
 
 use dataset_load::Counted;
-use dict_core::Dict;
 use itoa::Buffer;
-use rdf_core::write_term;
 use std::alloc::{AllocError, Global};
+use text_dict::TextDict;
 
 fn push_number(text: &mut Vec<u8>, n: u64) -> Result<(), AllocError>
     ensures pushed { OnOk result (text.new.items ≡ text.old.items ++ decimal n) }
@@ -18,7 +17,7 @@ fn push_number(text: &mut Vec<u8>, n: u64) -> Result<(), AllocError>
 /// Returns the numbers of distinct quads, terms and graph names, as one line.
 pub fn counts_text(alloc: Global, counted: &Counted) -> Result<Vec<u8>, AllocError>
     ensures text { IfOk result (λ text. text.items ≡ counts_line
-        counted.now.quads (length counted.now.dict) counted.now.graphs) }
+        counted.now.quads (length counted.now.dict.texts) counted.now.graphs) }
 {
     let mut text = Vec::new(alloc);
     text.extend_from_slice(b"ok ")?;
@@ -31,13 +30,13 @@ pub fn counts_text(alloc: Global, counted: &Counted) -> Result<Vec<u8>, AllocErr
     Ok(text)
 }
 
-/// Returns the terms by number, each on its own line.
-pub fn terms_text(alloc: Global, dict: &Dict) -> Result<Vec<u8>, AllocError>
-    ensures text { IfOk result (λ text. text.items ≡ term_lines dict.now) }
+/// Returns the texts of a dictionary by number, each on its own line.
+pub fn terms_text(alloc: Global, dict: &TextDict) -> Result<Vec<u8>, AllocError>
+    ensures text { IfOk result (λ text. text.items ≡ text_lines dict.now.texts) }
 {
     let mut text = Vec::new(alloc);
     for n in 0..dict.len() as u64 {
-        write_term(dict.term(n), &mut text)?;
+        text.extend_from_slice(dict.text(n))?;
         text.push(b'\n')?;
     }
     Ok(text)

@@ -10,7 +10,7 @@ ghost use Rattle.sparql_tree.specs.QueryTree.{query_of};
 ghost use Rattle.sparql_read.specs.Rejection.{IsValidQuery};
 ghost use Rattle.result_json.specs.Results.{joined_blocks};
 ghost use Rattle.spq_core.specs.Output.{check, request_of, select, terms};
-ghost use Rattle.spq_core.specs.Listing.{counts_line, term_lines};
+ghost use Rattle.spq_core.specs.Listing.{counts_line, text_lines};
 ghost use Rattle.spq_core.specs.Run.{IsAnswerable, IsByOneWorker, IsComposing, IsLoading, IsRun, WriterFailed, run_result_of};
 ghost use Rattle.spq_core.specs.declared.program.RunFault.TheVariants.{Memory, WorkerRefused};
 
@@ -20,7 +20,6 @@ use crate::listing::{counts_text, terms_text};
 use crate::notes::{Log, NoProgress, Progress, Stage};
 use algebra_model::laws::{a_bag_has_one_sorted_list, a_dataset_is_a_set};
 use dataset_load::{Counted, LoadNotes, ReaderFault, Store, count_reader, load_reader, load_terms};
-use dict_core::Dict;
 use nquads_core::{DeviceFailed, Sink, Source, write_all};
 use piece_pool::OpenGate;
 use row_pieces::{EvalFault, How};
@@ -33,6 +32,7 @@ use std::random::RandomSource;
 use std::sync::Wait;
 use std::thread::Threads;
 use std::{fmt, mem};
+use text_dict::TextDict;
 
 /// Why a command was not done.
 #[derive(Clone, Copy, Debug, Drop, PartialEq, Eq)]
@@ -172,7 +172,7 @@ fn load_document_terms<R: Threads + Wait + RandomSource, S: Source, P: Progress>
     reading: ReadOptions,
     reader: &mut S,
     log: &mut Log<'_, P>,
-) -> Result<Dict, RunFault>
+) -> Result<TextDict, RunFault>
     ensures { IsLoading S.left S.failures AreTermsFrom (reading.workers ≡ 1)
         reader.old reader.new result }
 {
@@ -252,7 +252,7 @@ fn one_block(alloc: Global, text: Vec<u8>) -> Result<Vec<Vec<u8>>, AllocError>
 /// Prints the counts of a dataset, as one block.
 fn counts_block(alloc: Global, counted: &Counted) -> Result<Vec<Vec<u8>>, RunFault>
     ensures text { IfOk result (λ blocks. joined_blocks blocks.items ≡ counts_line
-        counted.now.quads (length counted.now.dict) counted.now.graphs) }
+        counted.now.quads (length counted.now.dict.texts) counted.now.graphs) }
     ensures memory { IfErr result (λ fault. fault ≡ Memory) }
 {
     let text = counts_text(alloc, counted)?;
@@ -260,8 +260,8 @@ fn counts_block(alloc: Global, counted: &Counted) -> Result<Vec<Vec<u8>>, RunFau
 }
 
 /// Lists the terms of a dataset, as one block.
-fn terms_block(alloc: Global, dict: &Dict) -> Result<Vec<Vec<u8>>, RunFault>
-    ensures text { IfOk result (λ blocks. joined_blocks blocks.items ≡ term_lines dict.now) }
+fn terms_block(alloc: Global, dict: &TextDict) -> Result<Vec<Vec<u8>>, RunFault>
+    ensures text { IfOk result (λ blocks. joined_blocks blocks.items ≡ text_lines dict.now.texts) }
     ensures memory { IfErr result (λ fault. fault ≡ Memory) }
 {
     let text = terms_text(alloc, dict)?;

@@ -7,8 +7,8 @@ use Rattle.dataset_load.proofs.rounds.add_pieces.Goals as goal
 pub loop-piece-preserved : goal.loop-piece-preserved
 loop-piece-preserved c =
     let was = c.loop-piece.invariant in record {
-      grown = grown_more c.args.dict.now c.loop-piece.dict c.add_piece.new.dict was.grown c.in_ok-add_piece.ensures.grown;
-      taken = λ done each n z. take_step c.args.dict.now c.loop-piece.dict c.add_piece.new.dict _ _ c.in-Some.piece _ _ (done ++ joined each)
+      grown = grown_more c.args.dict.now.texts c.loop-piece.dict.texts c.add_piece.new.dict.texts was.grown c.add_piece.ensures.grown;
+      taken = λ done each n z. take_step c.args.dict.now.texts c.loop-piece.dict.texts c.add_piece.new.dict.texts _ _ c.in-Some.piece _ _ (done ++ joined each)
           was.grown (was.taken done each n z) c.in-Some.ensures.steps.0 c.in_ok-add_piece.ensures.numbered;
     }
 
@@ -17,6 +17,6 @@ returns c =
     let left = into_iter_items c.loop-piece.piece-iterator in
     let none : length left ≡ 0 = omega (arith, c.loop-piece.piece-iterator.rest.ok.0, c.in-None.ensures.steps.0) in
     record {
-      numbered = λ done each n z. all_taken c.args.dict.now c.loop-piece.dict c.loop-piece.quads.items left (done ++ joined each)
+      numbered = λ done each n z. all_taken c.args.dict.now.texts c.loop-piece.dict.texts c.loop-piece.quads.items left (done ++ joined each)
           (c.loop-piece.invariant.taken done each n z) none;
     }

@@ -1,6 +1,6 @@
 use Rattle.std.proofs.Common.{◌≡◌, take}
-use Rattle.spq_core.specs.Listing.{term_lines}
+use Rattle.spq_core.specs.Listing.{text_lines}
 use Rattle.spq_core.proofs.listing.terms_text.Given as goal
 
 abbrev pub invariant-loop-n : goal.invariant-loop-n
-invariant-loop-n l = l.text.items ≡ term_lines (take l.n l.dict)
+invariant-loop-n l = l.text.items ≡ text_lines (take l.n l.dict.texts)
