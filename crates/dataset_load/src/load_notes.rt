@@ -2,9 +2,9 @@
 
 use crate::fault::LoadFault;
 use crate::finding::{Line, line_at};
-use text_dict::TextDict;
 use piece_pool::OffsetGate;
 use std::alloc::Global;
+use text_dict::TextDict;
 
 /// Notes that loading takes for the message about a failure.
 #[derive(Debug, Drop)]
