@@ -31,8 +31,10 @@ mod literals;
 mod reason;
 mod reports;
 mod state;
+mod summary;
 
 pub use diagnosis::{Counted, Diagnosis, diagnose};
 pub use hint::{Hint, hint_of};
 pub use reason::{Found, Next, Packing, Reason};
 pub use reports::report;
+pub use summary::Summary;
