@@ -6,3 +6,4 @@ mod ReaderSteps
 mod StreamingSteps
 mod CountingSteps
 pub mod LineSteps
+pub mod ListingSteps

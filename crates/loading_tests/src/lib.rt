@@ -4,7 +4,7 @@
 //! - `lines`, `slices` and `transfers` of nquads_core;
 //! - `boards` of piece_board, `pools` of piece_pool, and `cutting` of piece_cuts;
 //! - `dictionary` of dict_core, and `index` of quad_index;
-//! - `documents` and `readers` of dataset_load;
+//! - `documents` and `readers` of dataset_load, and `malformed` of malformed_lines;
 //! - `refusals`: what is left of each if an allocation fails or a worker thread cannot be started.
 //!
 //! `cases` prints cases that are wrong. The expected outputs of terms and lines are written from RDF 1.1 N-Quads, section 4, and
@@ -32,6 +32,8 @@ mod index;
 mod lexical;
 #[cfg(test)]
 mod lines;
+#[cfg(test)]
+mod malformed;
 #[cfg(test)]
 mod pools;
 #[cfg(test)]

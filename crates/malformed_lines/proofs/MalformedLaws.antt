@@ -2,6 +2,7 @@
 use Rattle.std.proofs.Common.{◌≡◌, ℕ, suc, ◌+◌, List, [], ◌∷◌, ◌++◌, length, map, Option, refl, ap, subst, append-nil, arith, inl, inr}
 use Rattle.rdf_core.specs.QuadParts.{QuadParts}
 use Rattle.nquads_core.specs.Grammar.{HasStatement, IsMalformed}
+use Rattle.nquads_core.specs.Pieces.{HaveStatements}
 use Rattle.malformed_lines.specs.Malformed.{AreMalformedFrom}
 
 -- ---- the numbers
@@ -33,3 +34,8 @@ numbers_from m n (line ∷ a) x h =
       | inl p ↦ inl (p.0, (map (λ k. m + k) p.1.0, ap (map (λ k. m + k)) p.1.1, subst (λ (z : ℕ). AreMalformedFrom z a (map (λ k. m + k) p.1.0)) e (numbers_from m (n + 1) a p.1.0 p.1.2)))
       | inr w ↦ inr (w.0, subst (λ (z : ℕ). AreMalformedFrom z a (map (λ k. m + k) x)) e (numbers_from m (n + 1) a x w.1))
     ]
+
+-- no line of valid ones is malformed
+pub none_malformed : (n : ℕ) (ls : List (List ℕ)) (quads : List QuadParts) → HaveStatements ls quads → AreMalformedFrom n ls []
+none_malformed n [] quads h = refl
+none_malformed n (line ∷ ls) quads h = inr ((h.0, h.2), none_malformed (n + 1) ls h.1 h.4)

@@ -1,6 +1,8 @@
 //! Adding the list of a piece to that of the pieces before.
-ghost use Rattle.std.specs.Prelude.{◌≡◌, ◌+◌, ◌≤◌, ◌<◌, ◌++◌, ◌^◌, [], List, ℕ, length, IfOk, OnOk, OnErr, take};
+ghost use Rattle.std.specs.Prelude.{◌≡◌, ◌+◌, ◌-◌, ◌≤◌, ◌<◌, ◌++◌, ◌^◌, [], List, ℕ, length, IfOk, OnOk, OnErr, take};
 ghost use Rattle.malformed_lines.specs.Counts.{total_of};
+ghost use Rattle.rdf_core.specs.QuadParts.{QuadParts};
+ghost use Rattle.nquads_core.specs.Pieces.{HaveStatements};
 ghost use Rattle.malformed_lines.specs.Malformed.{AreKept, IsCopy, IsListOf, IsListed};
 
 use crate::document_list::{MalformedLine, MalformedLines};
@@ -54,15 +56,18 @@ fn keep_all(
 }
 
 impl MalformedLines {
-    /// Returns the list of no lines. Allocates nothing.
-    pub fn new(alloc: Global) -> MalformedLines
-        ensures listed { IsListed [] result }
+    /// Returns the list of a document that begins with this number of well-formed lines, as far as these lines.
+    /// Allocates nothing.
+    pub fn after(alloc: Global, lines: u128) -> MalformedLines
+        ensures listed { (before : List (List ℕ)) (quads : List QuadParts)
+            → HaveStatements before quads → lines ≡ length before → IsListed before result }
+        ensures lines { result.lines ≡ lines }
     {
         MalformedLines {
             shown: Vec::new(alloc),
             total: 0,
             reasons: ReasonCounts::new(alloc),
-            lines: 0,
+            lines,
         }
     }
 
@@ -77,7 +82,7 @@ impl MalformedLines {
         requires countable { self.old.lines ≤ 2 ^ 127 }
         ensures listed { OnOk result ((before after : List (List ℕ)) → IsListed before self.old
             → IsListOf after piece.now → IsListed (before ++ after) self.new) }
-        ensures lines { OnOk result (self.new.lines ≡ self.old.lines + piece.now.lines) }
+        ensures lines { OnOk result (self.new.lines ≤ self.old.lines + (2 ^ 64 - 1)) }
     {
         let (before, lines, total) = (self.lines, piece.lines, piece.total);
         keep_all(alloc, &mut self.shown, before, piece.shown.as_slice())?;
