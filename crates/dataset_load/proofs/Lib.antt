@@ -7,3 +7,4 @@ mod StreamingSteps
 mod CountingSteps
 pub mod LineSteps
 pub mod TermSteps
+pub mod ListingSteps

@@ -23,9 +23,9 @@ use Rattle.dataset_load.specs.Loaded.{IsLoaded}
 use Rattle.dataset_load.specs.Store.{StoreView}
 use Rattle.dataset_load.specs.Rounds.{HasRead}
 use Rattle.dataset_load.specs.ReaderFault.{CountsLoading, IfBadLineRead, fault_of_load, fault_of_read}
-use Rattle.dataset_load.specs.Streaming.{IsBadLineFrom, IsBadSoFar, IsLoadedFrom, IsReadFrom, IsReadIn, IsReadUpTo, TakesRest, TakesRound}
+use Rattle.dataset_load.specs.Streaming.{IsBadLineFrom, IsBadSoFar, IsLoadedFrom, IsReadFrom, IsReadIn, IsReadUpTo, IsToEnd, IsUpTo, TakesRest, TakesRound}
 use Rattle.dataset_load.specs.declared.reader.FilledRound.{FilledRound}
-use Rattle.dataset_load.specs.Ahead.{IsNextRound, IsReadAhead, texts_of}
+use Rattle.dataset_load.specs.Ahead.{IsAhead, IsNextRound, IsReadAhead, texts_of}
 use Rattle.dataset_load.proofs.LineLaws.{bad_before, lines_of_pieces}
 use Rattle.dataset_load.proofs.ReaderSteps.{nothing_after, read_front, read_start}
 
@@ -108,10 +108,10 @@ ends_joined x (p ∷ ps) h each =
 
 -- ---- a round that is added after the next one was read
 
--- the round that was read after these lines were numbered
-pub ahead : (a b c : Option (List ℕ)) (kept kept' : List ℕ) (so_far : Numbered) (round : FilledRound) → IsReadUpTo a b kept so_far → IsNextRound b c kept kept' round
-    → IsReadAhead a c kept' so_far round
-ahead a b c kept kept' so_far round was filled = record {
+-- the round that was read after the lines before it
+pub ahead : (P : List (List ℕ) → Type 0) (a b c : Option (List ℕ)) (kept kept' : List ℕ) (round : FilledRound) → IsUpTo P a b kept → IsNextRound b c kept kept' round
+    → IsAhead P a c kept' round
+ahead P a b c kept kept' round was filled = record {
   done = was.done;
   whole = was.whole;
   read = was.read;
@@ -148,67 +148,54 @@ part_of_next b c kept kept' round filled = by round.is_last refl
     by false is = part_of_round b c kept kept' (joined (texts_of round)) (filled.more is).1
     by true is = part_of_rest b c kept (joined (texts_of round)) (filled.last is).0
 
--- the lines of a round are added
-abbrev pub AddsLines : Numbered → Numbered → FilledRound → Type 0
-AddsLines so_far now round = (before : List (List ℕ)) → HasRead so_far before → HasRead now (before ++ all_lines (texts_of round))
+-- Q holds of lines with those of a round after them, if P holds of these lines
+abbrev pub AddsLines : (P Q : List (List ℕ) → Type 0) → FilledRound → Type 0
+AddsLines P Q round = (before : List (List ℕ)) → P before → Q (before ++ all_lines (texts_of round))
 
 -- this line of those before and of a round is the first that is malformed
 abbrev pub HasBadLine : Numbered → FilledRound → ℕ → Type 0
 HasBadLine so_far round n = (before : List (List ℕ)) → HasRead so_far before → IsBadLine (before ++ all_lines (texts_of round)) n
 
-module _ (a b c : Option (List ℕ)) (kept : List ℕ) (so_far : Numbered) (round : FilledRound) (was : IsReadAhead a b kept so_far round) where
+module _ (P : List (List ℕ) → Type 0) (a b c : Option (List ℕ)) (kept : List ℕ) (round : FilledRound) (was : IsAhead P a b kept round) where
   abbrev done_now : List ℕ
   done_now = was.done ++ joined (texts_of round)
 
-  lines_now : lines done_now ≡ lines was.done ++ all_lines (texts_of round)
+  pub lines_now : lines done_now ≡ lines was.done ++ all_lines (texts_of round)
   lines_now = lines_after was.done (texts_of round) was.whole was.whole_lines
 
-  read_now : (now : Numbered) → AddsLines so_far now round → HasRead now (lines done_now)
-  read_now now read = subst (λ (ls : List (List ℕ)). HasRead now ls) (sym lines_now) (read (lines was.done) was.read)
+  read_now : (Q : List (List ℕ) → Type 0) → AddsLines P Q round → Q (lines done_now)
+  read_now Q read = subst Q (sym lines_now) (read (lines was.done) was.read)
 
-  up_to_now : (now : Numbered) → round.is_last ≡ false → AddsLines so_far now round → IsReadUpTo a b kept now
-  up_to_now now is read = record {
+  up_to_now : (Q : List (List ℕ) → Type 0) → round.is_last ≡ false → AddsLines P Q round → IsUpTo Q a b kept
+  up_to_now Q is read = record {
     done = done_now;
     bytes = (was.more is).1;
     whole = ends_joined was.done (texts_of round) was.whole (was.more is).0;
-    read = read_now now read;
+    read = read_now Q read;
   }
 
-  at_last : c ≡ b → round.is_last ≡ true → Consumes a c done_now × IsAtEnd c
+  pub at_last : c ≡ b → round.is_last ≡ true → Consumes a c done_now × IsAtEnd c
   at_last same is = (
     subst (λ (x : Option (List ℕ)). Consumes a x done_now) (sym same) (was.last is).0,
     subst (λ (x : Option (List ℕ)). IsAtEnd x) (sym same) (was.last is).1,
   )
 
-  pub read_round : (kept' : List ℕ) (now : Numbered) (next : Option FilledRound) → (round.is_last ≡ true → (next ≡ None) × (c ≡ b))
-      → (round.is_last ≡ false → IsSomeAnd next (IsNextRound b c kept kept')) → AddsLines so_far now round
-      → MatchOption next (IsReadFrom a c now) (IsReadAhead a c kept' now)
-  read_round kept' now next ended filled read = by round.is_last refl
+  pub read_round : (Q : List (List ℕ) → Type 0) (kept' : List ℕ) (next : Option FilledRound) → (round.is_last ≡ true → (next ≡ None) × (c ≡ b))
+      → (round.is_last ≡ false → IsSomeAnd next (IsNextRound b c kept kept')) → AddsLines P Q round
+      → MatchOption next (IsToEnd Q a c) (IsAhead Q a c kept')
+  read_round Q kept' next ended filled read = by round.is_last refl
     where
-      some : (r : Option FilledRound) → round.is_last ≡ false → IsSomeAnd r (IsNextRound b c kept kept') → MatchOption r (IsReadFrom a c now) (IsReadAhead a c kept' now)
+      some : (r : Option FilledRound) → round.is_last ≡ false → IsSomeAnd r (IsNextRound b c kept kept') → MatchOption r (IsToEnd Q a c) (IsAhead Q a c kept')
       some None is f = absurd f
-      some (Some r) is f = ahead a b c kept kept' now r (up_to_now now is read) f
+      some (Some r) is f = ahead Q a b c kept kept' r (up_to_now Q is read) f
 
-      by : (is_last : Bool) → round.is_last ≡ is_last → MatchOption next (IsReadFrom a c now) (IsReadAhead a c kept' now)
+      by : (is_last : Bool) → round.is_last ≡ is_last → MatchOption next (IsToEnd Q a c) (IsAhead Q a c kept')
       by false is = some next is (filled is)
       by true is =
           let e = ended is in
           let last = at_last e.1 is in
-          subst (λ (r : Option FilledRound). MatchOption r (IsReadFrom a c now) (IsReadAhead a c kept' now)) (sym e.0)
-          record { doc = done_now; consumed = last.0; at_end = last.1; read = read_now now read }
-
-  pub bad_ahead : (n : ℕ) → (round.is_last ≡ true → c ≡ b) → (round.is_last ≡ false → TakesPart b c kept) → HasBadLine so_far round n → IsBadSoFar a c n
-  bad_ahead n ended taken bad = record {
-    done = done_now;
-    bad = subst (λ (ls : List (List ℕ)). IsBadLine ls n) (sym lines_now) (bad (lines was.done) was.read);
-    rest = by round.is_last refl;
-  }
-    where
-      by : (is_last : Bool) → round.is_last ≡ is_last → ((kept : List ℕ) × IsReadIn a c done_now kept × EndsLine done_now) ⊎ (Consumes a c done_now × IsAtEnd c)
-      by false is =
-          let part = taken is (with_kept b kept) [] (in_kept b kept) in
-          inl (part.taken, kept_in a b c done_now kept part (was.more is).1, ends_joined was.done (texts_of round) was.whole (was.more is).0)
-      by true is = inr (at_last (ended is) is)
+          subst (λ (r : Option FilledRound). MatchOption r (IsToEnd Q a c) (IsAhead Q a c kept')) (sym e.0)
+          record { doc = done_now; consumed = last.0; at_end = last.1; read = read_now Q read }
 
   pub part_ahead : (round.is_last ≡ true → c ≡ b) → (round.is_last ≡ false → TakesPart b c kept) → IsReadInPart a c
   part_ahead ended taken = by round.is_last refl
@@ -217,9 +204,26 @@ module _ (a b c : Option (List ℕ)) (kept : List ℕ) (so_far : Numbered) (roun
       by false is = taken is a done_now (was.more is).1
       by true is = record { taken = done_now; consumed = (at_last (ended is) is).0 }
 
+-- a line of a round is the first that is malformed
+pub bad_ahead : (a b c : Option (List ℕ)) (kept : List ℕ) (so_far : Numbered) (round : FilledRound) (was : IsReadAhead a b kept so_far round) (n : ℕ)
+    → (round.is_last ≡ true → c ≡ b) → (round.is_last ≡ false → TakesPart b c kept) → HasBadLine so_far round n → IsBadSoFar a c n
+bad_ahead a b c kept so_far round was n ended taken bad = record {
+  done = done_now (HasRead so_far) a b c kept round was;
+  bad = subst (λ (ls : List (List ℕ)). IsBadLine ls n) (sym (lines_now (HasRead so_far) a b c kept round was)) (bad (lines was.done) was.read);
+  rest = by round.is_last refl;
+}
+  where
+    by : (is_last : Bool) → round.is_last ≡ is_last
+        → ((kept' : List ℕ) × IsReadIn a c (done_now (HasRead so_far) a b c kept round was) kept' × EndsLine (done_now (HasRead so_far) a b c kept round was))
+        ⊎ (Consumes a c (done_now (HasRead so_far) a b c kept round was) × IsAtEnd c)
+    by false is =
+        let part = taken is (with_kept b kept) [] (in_kept b kept) in
+        inl (part.taken, kept_in a b c (was.done ++ joined (texts_of round)) kept part (was.more is).1, ends_joined was.done (texts_of round) was.whole (was.more is).0)
+    by true is = inr (at_last (HasRead so_far) a b c kept round was (ended is) is)
+
 -- what was read of the reader, up to the end of a round and what is kept after it
-pub part_so_far : (a b : Option (List ℕ)) (kept : List ℕ) (so_far : Numbered) (round : FilledRound) → IsReadAhead a b kept so_far round → IsReadInPart a b
-part_so_far a b kept so_far round was = part_ahead a b b kept so_far round was (λ _. refl) (λ is start done h. record { taken = done ++ kept; consumed = read_front start b done kept h })
+pub part_so_far : (P : List (List ℕ) → Type 0) (a b : Option (List ℕ)) (kept : List ℕ) (round : FilledRound) → IsAhead P a b kept round → IsReadInPart a b
+part_so_far P a b kept round was = part_ahead P a b b kept round was (λ _. refl) (λ is start done h. record { taken = done ++ kept; consumed = read_front start b done kept h })
 
 -- the number of the malformed line, if a round has one
 pub bad_round : {T : Type 0} (b c : Option (List ℕ)) (kept : List ℕ) (so_far : Numbered) (round : FilledRound) (added : Result T LoadFault) (fault : ReaderFault)
@@ -246,12 +250,12 @@ both_ok (Err e) added P is h = tt
 pub round_done : {T : Type 0} (b c : Option (List ℕ)) (kept kept' : List ℕ) (so_far now : Numbered) (round : FilledRound) (added : Result T LoadFault)
     (next : Result (Option FilledRound) ReadFault) (r : Result (Option FilledRound) ReaderFault)
     → (round.is_last ≡ true → (next ≡ Ok None) × (c ≡ b)) → (round.is_last ≡ false → IfOk next (λ n. IsSomeAnd n (IsNextRound b c kept kept')))
-    → OnOk added (AddsLines so_far now round) → IfOk r (λ n. next ≡ Ok n) → OnOk r (IsOk added)
+    → OnOk added (AddsLines (HasRead so_far) (HasRead now) round) → IfOk r (λ n. next ≡ Ok n) → OnOk r (IsOk added)
     → IfOk r (λ n. (start : Option (List ℕ)) → IsReadAhead start b kept so_far round → MatchOption n (IsReadFrom start c now) (IsReadAhead start c kept' now))
 round_done b c kept kept' so_far now round added next (Err fault) ended filled read is both = tt
 round_done b c kept kept' so_far now round (Err fault) next (Ok n) ended filled read is both = absurd (true≢false (sym both))
 round_done b c kept kept' so_far now round (Ok x) next (Ok n) ended filled read is both = λ start was.
-    read_round start b c kept so_far round was kept' now n
+    read_round (HasRead so_far) start b c kept round was (HasRead now) kept' n
     (λ last. let e = ended last in (same_Ok n None next next is e.0, e.1))
     (λ more. subst (λ (r : Result (Option FilledRound) ReadFault). IfOk r (λ n. IsSomeAnd n (IsNextRound b c kept kept'))) is (filled more))
     read
@@ -263,7 +267,7 @@ pub part_done : (b c : Option (List ℕ)) (kept : List ℕ) (so_far : Numbered) 
     → (round.is_last ≡ true → c ≡ b) → (round.is_last ≡ false → TakesPart b c kept)
     → OnErr r ((start : Option (List ℕ)) → IsReadAhead start b kept so_far round → IsReadInPart start c)
 part_done b c kept so_far round (Ok n) ended taken = tt
-part_done b c kept so_far round (Err fault) ended taken = λ start was. part_ahead start b c kept so_far round was ended taken
+part_done b c kept so_far round (Err fault) ended taken = λ start was. part_ahead (HasRead so_far) start b c kept round was ended taken
 
 pub bad_done : {T : Type 0} (b c : Option (List ℕ)) (kept : List ℕ) (so_far : Numbered) (round : FilledRound) (added : Result T LoadFault) (r : Result (Option FilledRound) ReaderFault)
     → (round.is_last ≡ true → c ≡ b) → (round.is_last ≡ false → TakesPart b c kept) → IfErr added (IfBadLine (HasBadLine so_far round))

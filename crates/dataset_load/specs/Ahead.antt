@@ -21,13 +21,17 @@ pub record IsNextRound (left left' : Option (List ℕ)) (kept kept' : List ℕ) 
   pub more : round.is_last ≡ false → EachEnds (texts_of round) × TakesRound left left' kept kept' (joined (texts_of round))
   pub last : round.is_last ≡ true → TakesRest left left' kept (joined (texts_of round)) × IsAtEnd left'
 
--- The lines before this round are numbered. What is kept and left now follows its blocks; or nothing does, and the
+-- P holds of the lines before this round. What is kept and left now follows its blocks; or nothing does, and the
 -- reader is at its end.
-pub record IsReadAhead (left left' : Option (List ℕ)) (kept : List ℕ) (so_far : Numbered) (round : FilledRound) : Type 0 where
+pub record IsAhead (P : List (List ℕ) → Type 0) (left left' : Option (List ℕ)) (kept : List ℕ) (round : FilledRound) : Type 0 where
   pub done : List ℕ
   pub whole : EndsLine done
-  pub read : HasRead so_far (lines done)
+  pub read : P (lines done)
   pub few : length round.blocks.items ≤ most_pieces_of_a_round
   pub whole_lines : AreWholeLines (texts_of round)
   pub more : round.is_last ≡ false → EachEnds (texts_of round) × IsReadIn left left' (done ++ joined (texts_of round)) kept
   pub last : round.is_last ≡ true → Consumes left left' (done ++ joined (texts_of round)) × IsAtEnd left'
+
+-- The lines before this round are numbered.
+abbrev pub IsReadAhead : Option (List ℕ) → Option (List ℕ) → List ℕ → Numbered → FilledRound → Type 0
+IsReadAhead left left' kept so_far round = IsAhead (HasRead so_far) left left' kept round

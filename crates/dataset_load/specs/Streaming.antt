@@ -38,20 +38,28 @@ TakesRound left left' kept kept' bytes = BothKnown left left' (λ xs ys. kept ++
 abbrev pub TakesRest : Option (List ℕ) → Option (List ℕ) → List ℕ → List ℕ → Type 0
 TakesRest left left' kept bytes = BothKnown left left' (λ xs ys. kept ++ xs ≡ bytes ++ ys)
 
--- The lines of what was read before the bytes that are kept and left are numbered, and none goes on in
--- these bytes.
-pub record IsReadUpTo (left left' : Option (List ℕ)) (kept : List ℕ) (so_far : Numbered) : Type 0 where
+-- P holds of the lines of what was read before the bytes that are kept and left, and no line goes on in these bytes.
+pub record IsUpTo (P : List (List ℕ) → Type 0) (left left' : Option (List ℕ)) (kept : List ℕ) : Type 0 where
   pub done : List ℕ
   pub bytes : IsReadIn left left' done kept
   pub whole : EndsLine done
-  pub read : HasRead so_far (lines done)
+  pub read : P (lines done)
 
--- The reader was read to its end, and the lines of what was read are numbered.
-pub record IsReadFrom (left left' : Option (List ℕ)) (so_far : Numbered) : Type 0 where
+-- The reader was read to its end, and P holds of the lines of what was read.
+pub record IsToEnd (P : List (List ℕ) → Type 0) (left left' : Option (List ℕ)) : Type 0 where
   pub doc : List ℕ
   pub consumed : Consumes left left' doc
   pub at_end : IsAtEnd left'
-  pub read : HasRead so_far (lines doc)
+  pub read : P (lines doc)
+
+-- The lines of what was read before the bytes that are kept and left are numbered, and none goes on in
+-- these bytes.
+abbrev pub IsReadUpTo : Option (List ℕ) → Option (List ℕ) → List ℕ → Numbered → Type 0
+IsReadUpTo left left' kept so_far = IsUpTo (HasRead so_far) left left' kept
+
+-- The reader was read to its end, and the lines of what was read are numbered.
+abbrev pub IsReadFrom : Option (List ℕ) → Option (List ℕ) → Numbered → Type 0
+IsReadFrom left left' so_far = IsToEnd (HasRead so_far) left left'
 
 -- The line is the first malformed one of what was read so far. No line goes on in the bytes that are kept
 -- and left, or the reader was read to its end.

@@ -37,6 +37,7 @@
 mod counted;
 mod fault;
 mod finding;
+mod listing;
 mod load_notes;
 mod loading;
 mod numbered;
@@ -52,6 +53,7 @@ mod terms;
 pub use counted::Counted;
 pub use fault::LoadFault;
 pub use finding::{Line, line_at};
+pub use listing::list_blocks;
 pub use load_notes::LoadNotes;
 pub use loading::{load, load_blocks};
 pub use reader::read_blocks;

@@ -44,7 +44,7 @@ impl<'d> Job for Round<'d> {
 }
 
 /// Returns the piece with this number, or no bytes if there is none.
-fn piece_at<'d>(pieces: &[&'d [u8]], i: u64) -> &'d [u8]
+pub(crate) fn piece_at<'d>(pieces: &[&'d [u8]], i: u64) -> &'d [u8]
     ensures bytes { result.now ≡ text_at pieces.now i }
 {
     if i < pieces.len() as u64 {

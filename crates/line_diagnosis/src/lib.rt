@@ -31,9 +31,11 @@ mod literals;
 mod reason;
 mod reports;
 mod state;
+mod summary;
 mod tags;
 
 pub use diagnosis::{Counted, Diagnosis, diagnose};
 pub use hint::{Hint, LineContext, hint_of};
 pub use reason::{Found, Next, Packing, Reason};
 pub use reports::report;
+pub use summary::Summary;

@@ -18,7 +18,7 @@ pub enum Next {
 }
 
 /// The text that was found instead.
-#[derive(Clone, Copy)]
+#[derive(Clone, Copy, PartialEq, Eq)]
 pub enum Found {
     /// `<`
     Iri,
@@ -35,7 +35,7 @@ pub enum Found {
 }
 
 /// A format in which files are compressed.
-#[derive(Clone, Copy)]
+#[derive(Clone, Copy, PartialEq, Eq)]
 pub enum Packing {
     Gzip,
     Xz,
@@ -44,7 +44,7 @@ pub enum Packing {
 }
 
 /// The reason why no well-formed line has this character at this place.
-#[derive(Clone, Copy)]
+#[derive(Clone, Copy, PartialEq, Eq)]
 pub enum Reason {
     /// A byte that is not a part of a UTF-8 character
     InvalidUtf8(u8),
@@ -95,7 +95,7 @@ pub enum Reason {
 }
 
 /// Writes a character, or its code point if it has no visible form.
-fn write_char<W: fmt::Write>(f: &mut fmt::Formatter<W>, c: char) -> fmt::Result {
+pub(crate) fn write_char<W: fmt::Write>(f: &mut fmt::Formatter<W>, c: char) -> fmt::Result {
     if c == ' ' {
         f.write_str("a space")
     } else if c == '\t' {
@@ -131,16 +131,16 @@ impl fmt::Display for Packing {
     }
 }
 
-fn is_end(found: Found) -> bool {
+pub(crate) fn is_end(found: Found) -> bool {
     matches!(found, Found::LineEnd | Found::Comment | Found::Char('.'))
 }
 
-fn is_term(found: Found) -> bool {
+pub(crate) fn is_term(found: Found) -> bool {
     matches!(found, Found::Iri | Found::BlankNode | Found::Literal)
 }
 
 /// Returns the text for a dot that is missing, or None if something else is.
-fn missing_dot(next: Next, found: Found) -> Option<&'static str> {
+pub(crate) fn missing_dot(next: Next, found: Found) -> Option<&'static str> {
     match (next, found) {
         (Next::Graph | Next::Dot, Found::LineEnd) => Some(
             "missing '.' at the end of the statement",
@@ -187,7 +187,7 @@ fn write_unexpected<W: fmt::Write>(
 
 impl Reason {
     /// Returns the text of the reason, up to what was found.
-    fn words(self) -> &'static str {
+    pub(crate) fn words(self) -> &'static str {
         match self {
             Reason::InvalidUtf8(_) => "invalid UTF-8: byte 0x",
             Reason::CutCharacter => "invalid UTF-8: the line ends inside a character",

@@ -5,7 +5,7 @@
 //! - `boards` of piece_board, `pools` of piece_pool, and `cutting` of piece_cuts;
 //! - `dictionary` of dict_core, and `index` of quad_index;
 //! - `texts` of text_dict and text_pieces;
-//! - `documents` and `readers` of dataset_load;
+//! - `documents` and `readers` of dataset_load, and `malformed` of malformed_lines;
 //! - `refusals`: what is left of each if an allocation fails or a worker thread cannot be started.
 //!
 //! `cases` prints cases that are wrong. The expected outputs of terms and lines are written from RDF 1.1 N-Quads, section 4, and
@@ -33,6 +33,8 @@ mod index;
 mod lexical;
 #[cfg(test)]
 mod lines;
+#[cfg(test)]
+mod malformed;
 #[cfg(test)]
 mod pools;
 #[cfg(test)]

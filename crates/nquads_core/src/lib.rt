@@ -34,7 +34,7 @@ pub mod transfer;
 pub use device::{Device, DeviceFailed, Sink, Source};
 pub use fault::{LineFault, PieceFault};
 pub use line::read_line;
-pub use piece::{Piece, count_lines, read_piece};
+pub use piece::{Piece, count_lines, first_line, read_piece};
 pub use raw_term::read_term;
 pub use slices::{RawStatement, SplitPiece, split_piece};
 pub use transfer::{ReadFault, read_more, read_to_end, write_all};

@@ -28,8 +28,12 @@ fn begins_with_lf(text: &[u8]) -> bool
     !text.is_empty() && text[0] == b'\n'
 }
 
-/// Splits off the first line. Returns it without its line end, and what follows the line end.
-fn first_line(text: &[u8]) -> (&[u8], &[u8])
+/// Splits off the first line of a text. Returns it without its line end, and what follows the line end (RDF 1.1
+/// N-Quads, [8] `EOL`).
+///
+/// # Requires
+/// The text is not empty.
+pub fn first_line(text: &[u8]) -> (&[u8], &[u8])
     requires { 0 < length text.now }
     ensures lines { lines text.now ≡ result.0.now ∷ lines result.1.now }
     ensures shorter { length result.1.now < length text.now }

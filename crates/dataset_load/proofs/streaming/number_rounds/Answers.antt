@@ -1,4 +1,5 @@
 use Rattle.std.proofs.Common.{rules, arith}
+use Rattle.dataset_load.specs.Rounds.{HasRead}
 use Rattle.dataset_load.proofs.StreamingSteps.{ahead, part_so_far}
 use Rattle.dataset_load.proofs.streaming.number_rounds.Goals as goal
 
@@ -6,12 +7,12 @@ pub loop-init : goal.loop-init
 loop-init g c = record {
   state = search rules;
   countable = omega (arith, c.requires.none);
-  read = ahead _ _ _ _ _ _ _ c.requires.start c.in_ok-round.ensures.round;
+  read = ahead (HasRead c.args.so_far.now) _ _ _ _ _ _ c.requires.start c.in_ok-round.ensures.round;
   failures = search rules;
 }
 
 pub returns-clause-taken : goal.returns-clause-taken
-returns-clause-taken g c = part_so_far _ _ _ _ _ c.loop.invariant.read
+returns-clause-taken g c = part_so_far (HasRead c.loop.so_far) _ _ _ _ c.loop.invariant.read
 
 pub returns-clause-count : goal.returns-clause-count
 returns-clause-count g c = c.loop.invariant.failures

@@ -1,0 +1,4 @@
+pub mod CountLaws
+pub mod MalformedLaws
+pub mod ListSteps
+pub mod AddingSteps

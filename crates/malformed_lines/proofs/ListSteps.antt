@@ -1,0 +1,115 @@
+-- The list of a piece, line after line.
+use Rattle.std.proofs.Common.{◌≡◌, ℕ, zero, suc, ◌+◌, ◌≤◌, ◌<◌, List, [], ◌∷◌, ◌++◌, length, map, take, Option, Some, refl, sym, ap, subst, ◌∙◌, append_assoc, append-nil, length-append, arith, inl, inr}
+use Rattle.std.specs.Prelude.{Vec}
+use Rattle.std.specs.Global.{Global}
+use Rattle.std.specs.List.{All, slice_get}
+use Rattle.std.proofs.lemmas.List.{length-map, length-take, take_all, take-append-le, map-append}
+use Rattle.std.proofs.lemmas.List.Elements.{All-append}
+use Rattle.rdf_core.specs.QuadParts.{QuadParts}
+use Rattle.nquads_core.specs.Grammar.{HasStatement, IsMalformed}
+use Rattle.nquads_core.specs.Lines.{lines}
+use Rattle.malformed_lines.specs.declared.piece_list.FoundLine.{FoundLine}
+use Rattle.malformed_lines.specs.declared.piece_list.PieceList.{PieceList}
+use Rattle.malformed_lines.specs.Malformed.{AreMalformedFrom, IsFound, IsKept, IsListOf, most_shown}
+use Rattle.malformed_lines.proofs.MalformedLaws.{malformed_more, well_formed_more}
+
+pub still_at : (a b : List (List ℕ)) (k : ℕ) (line : List ℕ) → slice_get a k ≡ Some line → slice_get (a ++ b) k ≡ Some line
+still_at [] b k line h = absurd cc
+still_at (l ∷ a) b zero line h = h
+still_at (l ∷ a) b (suc k) line h = still_at a b k line h
+
+pub at_end : (a : List (List ℕ)) (line : List ℕ) (b : List (List ℕ)) → slice_get (a ++ line ∷ b) (length a) ≡ Some line
+at_end [] line b = refl
+at_end (l ∷ a) line b = at_end a line b
+
+pub still_found : (a b : List (List ℕ)) (fs : List FoundLine) → All (IsFound a) fs → All (IsFound (a ++ b)) fs
+still_found a b fs h = λ k d l. still_at a b _ _ (h k d l)
+
+pub shown_more : (xs : List ℕ) (x : ℕ) → length (take most_shown xs) < most_shown → take most_shown (xs ++ x ∷ []) ≡ take most_shown xs ++ x ∷ []
+shown_more xs x l =
+    let n = length-take most_shown xs in
+    let s : length xs < most_shown = omega (arith, n) in
+    let m = length-append xs (x ∷ []) in
+    take_all most_shown (xs ++ x ∷ []) (omega (arith, m)) ∙ ap (λ (y : List ℕ). y ++ x ∷ []) (sym (take_all most_shown xs (omega (arith, s))))
+
+pub shown_full : (xs : List ℕ) (x : ℕ) → most_shown ≤ length (take most_shown xs) → take most_shown (xs ++ x ∷ []) ≡ take most_shown xs
+shown_full xs x l =
+    let n = length-take most_shown xs in
+    take-append-le most_shown xs (x ∷ []) (omega (arith, n))
+
+one_found : (before : List (List ℕ)) (line : List ℕ) (f : FoundLine) → f.place ≡ length before → f.bytes.now ≡ line → All (IsFound (before ++ line ∷ [])) (f ∷ [])
+one_found before line f p b = λ k d l.
+    let z : k ≡ 0 = omega arith in
+    rw (z, p, b) (at_end before line [])
+
+-- the line after these is malformed
+pub one_malformed : (before : List (List ℕ)) (line : List ℕ) (old new : PieceList) → IsListOf before old → IsMalformed line
+    → IsKept old.shown.items old.lines line new.shown.items → new.total ≡ old.total + 1 → new.lines ≡ old.lines + 1 → IsListOf (before ++ line ∷ []) new
+one_malformed before line old new h m k t n =
+    let place = λ (f : FoundLine). f.place in
+    let places' : List ℕ = h.places ++ old.lines ∷ [] in
+    let here : old.lines ≡ 0 + length before = omega (arith, h.count) in
+    let bad : AreMalformedFrom 0 (before ++ line ∷ []) places' = malformed_more 0 before h.places line old.lines h.malformed m here in
+    let total : new.total ≡ length places' = omega (arith, t, h.total, length-append h.places (old.lines ∷ [])) in
+    let count : new.lines ≡ length (before ++ line ∷ []) = omega (arith, n, h.count, length-append before (line ∷ [])) in
+    let same : length old.shown.items ≡ length (take most_shown h.places) = sym (length-map old.shown.items place) ∙ ap length h.shown in
+    let still = still_found before (line ∷ []) old.shown.items h.found in
+    elim k as (λ k. IsListOf (before ++ line ∷ []) new) [
+      | inl a ↦ record {
+        places = places';
+        malformed = bad;
+        shown = ap (map place) a.1.1 ∙ map-append place old.shown.items (a.1.0 ∷ []) ∙ ap (λ (y : List ℕ). y ++ place a.1.0 ∷ []) h.shown ∙ ap (λ (y : ℕ). take most_shown h.places ++ y ∷ []) a.1.2 ∙ sym (shown_more h.places old.lines (subst (λ (y : ℕ). y < most_shown) same a.0));
+        found = subst (λ (y : List FoundLine). All (IsFound (before ++ line ∷ [])) y) (sym a.1.1) (All-append (IsFound (before ++ line ∷ [])) old.shown.items (a.1.0 ∷ []) still (one_found before line a.1.0 (a.1.2 ∙ h.count) a.1.3));
+        total = total;
+        count = count;
+      }
+      | inr b ↦ record {
+        places = places';
+        malformed = bad;
+        shown = ap (map place) b.1 ∙ h.shown ∙ sym (shown_full h.places old.lines (subst (λ (y : ℕ). most_shown ≤ y) same b.0));
+        found = subst (λ (y : List FoundLine). All (IsFound (before ++ line ∷ [])) y) (sym b.1) still;
+        total = total;
+        count = count;
+      }
+    ]
+
+-- the line after these is well-formed
+pub one_well_formed : (before : List (List ℕ)) (line : List ℕ) (q : Option QuadParts) (old new : PieceList) → IsListOf before old → HasStatement line q
+    → new.shown ≡ old.shown → new.total ≡ old.total → new.lines ≡ old.lines + 1 → IsListOf (before ++ line ∷ []) new
+one_well_formed before line q old new h s e t n =
+    let items = λ (v : Vec FoundLine Global). v.items in
+    let i : new.shown.items ≡ old.shown.items = ap items e in
+    record {
+      places = h.places;
+      malformed = well_formed_more 0 before h.places line q h.malformed s;
+      shown = ap (map (λ (f : FoundLine). f.place)) i ∙ h.shown;
+      found = subst (λ (y : List FoundLine). All (IsFound (before ++ line ∷ [])) y) (sym i) (still_found before (line ∷ []) old.shown.items h.found);
+      total = t ∙ h.total;
+      count = omega (arith, n, h.count, length-append before (line ∷ []));
+    }
+
+-- the lines before the rest are listed
+pub record IsListedUpTo (list : PieceList) (rest all : List ℕ) : Type 0 where
+  pub before : List (List ℕ)
+  pub parts : lines all ≡ before ++ lines rest
+  pub listed : IsListOf before list
+  pub short : list.lines + length rest ≤ length all
+
+-- one more line is listed
+pub one_more : (old new : PieceList) (rest after all line : List ℕ) → IsListedUpTo old rest all → lines rest ≡ line ∷ lines after → length after < length rest
+    → ((before : List (List ℕ)) → IsListOf before old → IsListOf (before ++ line ∷ []) new) → new.lines ≡ old.lines + 1 → IsListedUpTo new after all
+one_more old new rest after all line h e l step n = record {
+  before = h.before ++ line ∷ [];
+  parts = h.parts ∙ ap (λ (y : List (List ℕ)). h.before ++ y) e ∙ sym (append_assoc h.before (line ∷ []) (lines after));
+  listed = step h.before h.listed;
+  short = omega (arith, h.short, n);
+}
+
+lines_nil : lines [] ≡ []
+unfolding lines
+lines_nil = refl
+
+pub all_listed : (list : PieceList) (rest all : List ℕ) → IsListedUpTo list rest all → rest ≡ [] → IsListOf (lines all) list
+all_listed list rest all h e =
+    let whole : lines all ≡ h.before = h.parts ∙ ap (λ (y : List (List ℕ)). h.before ++ y) (ap lines e ∙ lines_nil) ∙ append-nil h.before in
+    subst (λ (y : List (List ℕ)). IsListOf y list) (sym whole) h.listed

@@ -1,0 +1,9 @@
+use Rattle.std.proofs.Common.{refl}
+use Rattle.line_diagnosis.specs.Place.{IsWellFormed}
+use Rattle.malformed_lines.proofs.ListSteps.{one_well_formed}
+use Rattle.malformed_lines.proofs.piece_list.PieceList.add_line.Goals as goal
+
+pub returns-in-None-clause-listed : goal.returns-in-None-clause-listed
+returns-in-None-clause-listed c = λ before h.
+    let w : IsWellFormed c.args.line.now = rw c.in-None.is at c.in_ok-diagnosis.ensures.well_formed in
+    one_well_formed before c.args.line.now w.meaning c.args.self.now _ h w.statement refl refl refl

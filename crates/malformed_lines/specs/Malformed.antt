@@ -1,0 +1,81 @@
+-- The malformed lines of a document (RDF 1.1 N-Quads, grammar). That they are listed, and how many, is a choice of this
+-- project.
+use Rattle.std.specs.Prelude.{◌≡◌, ◌⊎◌, ◌++◌, ℕ, ◌+◌, ◌<◌, ◌≤◌, List, [], ◌∷◌, length, map, take, Option, Some}
+use Rattle.std.specs.List.{All, AllZip, slice_get}
+use Rattle.rdf_core.specs.QuadParts.{QuadParts}
+use Rattle.nquads_core.specs.Grammar.{HasStatement, IsMalformed}
+use Rattle.malformed_lines.specs.declared.piece_list.FoundLine.{FoundLine}
+use Rattle.malformed_lines.specs.declared.piece_list.PieceList.{PieceList}
+use Rattle.malformed_lines.specs.declared.document_list.MalformedLine.{MalformedLine}
+use Rattle.malformed_lines.specs.declared.document_list.MalformedLines.{MalformedLines}
+
+-- the largest number of lines that are kept
+abbrev pub most_shown : ℕ
+most_shown = 20
+
+-- the largest number of bytes of a line that are kept: 2^20
+abbrev pub most_kept : ℕ
+most_kept = 1048576
+
+-- These are the numbers of the malformed lines, in order, if the first line has number n. Every other line is
+-- well-formed.
+abbrev pub AreMalformedFrom : ℕ → List (List ℕ) → List ℕ → Type 0
+AreMalformedFrom n [] numbers = numbers ≡ []
+AreMalformedFrom n (line ∷ lines) numbers =
+    (IsMalformed line × ((more : List ℕ) × (numbers ≡ n ∷ more) × AreMalformedFrom (n + 1) lines more))
+    ⊎ (((q : Option QuadParts) × HasStatement line q) × AreMalformedFrom (n + 1) lines numbers)
+
+-- the numbers of the malformed lines, counted from 1
+abbrev pub AreMalformed : List (List ℕ) → List ℕ → Type 0
+AreMalformed lines numbers = AreMalformedFrom 1 lines numbers
+
+-- the line of this place, counted from 0
+abbrev pub IsFound : List (List ℕ) → FoundLine → Type 0
+IsFound lines found = slice_get lines found.place ≡ Some found.bytes.now
+
+-- the list of a piece with these lines: the first twenty malformed ones, counted from 0, and how many there are
+pub record IsListOf (lines : List (List ℕ)) (list : PieceList) : Type 0 where
+  pub places : List ℕ
+  pub malformed : AreMalformedFrom 0 lines places
+  pub shown : map (λ f. f.place) list.shown.items ≡ take most_shown places
+  pub found : All (IsFound lines) list.shown.items
+  pub total : list.total ≡ length places
+  pub count : list.lines ≡ length lines
+
+-- the line with this number, counted from 1, or its first bytes
+pub record IsShown (lines : List (List ℕ)) (shown : MalformedLine) : Type 0 where
+  pub place : ℕ
+  pub number : shown.number ≡ place + 1
+  pub line : List ℕ
+  pub at_place : slice_get lines place ≡ Some line
+  pub bytes : shown.bytes.items ≡ take most_kept line
+
+-- the list of a document with these lines: the first twenty malformed ones by their numbers, and how many there are
+pub record IsListed (lines : List (List ℕ)) (list : MalformedLines) : Type 0 where
+  pub numbers : List ℕ
+  pub malformed : AreMalformed lines numbers
+  pub shown : map (λ s. s.number) list.shown.items ≡ take most_shown numbers
+  pub each : All (IsShown lines) list.shown.items
+  pub total : list.total ≡ length numbers
+  pub count : list.lines ≡ length lines
+
+-- Words that only private clauses cite.
+
+-- the line with this place is kept after the others, unless twenty are kept
+abbrev pub IsKept : List FoundLine → ℕ → List ℕ → List FoundLine → Type 0
+IsKept old place bytes new =
+    ((length old < most_shown) × ((found : FoundLine) × (new ≡ old ++ found ∷ []) × (found.place ≡ place) × (found.bytes.now ≡ bytes)))
+    ⊎ ((most_shown ≤ length old) × (new ≡ old))
+
+-- the line of a document that a malformed line of a piece is, if this many lines are before the piece
+pub record IsCopy (before : ℕ) (found : FoundLine) (shown : MalformedLine) : Type 0 where
+  pub number : shown.number ≡ before + (found.place + 1)
+  pub bytes : shown.bytes.items ≡ take most_kept found.bytes.now
+
+-- copies of the first of these lines come after the others, until twenty are kept
+pub record AreKept (before : ℕ) (found : List FoundLine) (old new : List MalformedLine) : Type 0 where
+  pub copies : List MalformedLine
+  pub added : new ≡ old ++ copies
+  pub each : AllZip (IsCopy before) (take (length copies) found) copies
+  pub all : (length copies ≡ length found) ⊎ (most_shown ≤ length new)
+  pub few : (length new ≤ most_shown) ⊎ (new ≡ old)

@@ -1,0 +1,103 @@
+//! Listing the malformed lines of a piece.
+ghost use Rattle.std.specs.Prelude.{◌≡◌, ◌+◌, ◌<◌, ◌∷◌, ◌++◌, ◌^◌, [], List, ℕ, length, IfOk, OnOk};
+ghost use Rattle.nquads_core.specs.Grammar.{IsMalformed};
+ghost use Rattle.nquads_core.specs.Lines.{lines};
+ghost use Rattle.malformed_lines.specs.Malformed.{IsKept, IsListOf};
+
+use crate::piece_list::{FoundLine, MOST_SHOWN, PieceList};
+use crate::reason_counts::{ReasonCount, ReasonCounts};
+use line_diagnosis::{Diagnosis, diagnose};
+use nquads_core::first_line;
+use std::alloc::{AllocError, Global};
+
+/// Keeps a malformed line, unless twenty are kept.
+fn keep<'d>(
+    shown: &mut Vec<FoundLine<'d>>,
+    place: u64,
+    bytes: &'d [u8],
+    is_cut: bool,
+) -> Result<(), AllocError>
+    ensures kept { OnOk result (IsKept shown.old.items place bytes.now shown.new.items) }
+{
+    if shown.len() < MOST_SHOWN {
+        shown.push(FoundLine {
+            place,
+            bytes,
+            is_cut,
+        })?;
+    }
+    Ok(())
+}
+
+impl<'d> PieceList<'d> {
+    fn new(alloc: Global) -> PieceList<'d>
+        ensures listed { IsListOf [] result }
+        ensures none { result.lines ≡ 0 }
+    {
+        PieceList {
+            shown: Vec::new(alloc),
+            total: 0,
+            reasons: ReasonCounts::new(alloc),
+            lines: 0,
+        }
+    }
+
+    /// Adds a malformed line.
+    fn add_malformed(
+        &mut self,
+        line: &'d [u8],
+        is_cut: bool,
+        diagnosis: &Diagnosis,
+    ) -> Result<(), AllocError>
+        requires few { self.old.lines < 2 ^ 63 }
+        ensures listed { OnOk result ((before : List (List ℕ)) → IsListOf before self.old
+            → IsMalformed line.now → IsListOf (before ++ line.now ∷ []) self.new) }
+        ensures lines { OnOk result (self.new.lines ≡ self.old.lines + 1) }
+    {
+        keep(&mut self.shown, self.lines, line, is_cut)?;
+        self.reasons.add(ReasonCount {
+            reason: diagnosis.reason.summary(),
+            count: 1,
+            first: self.lines as u128,
+            column: diagnosis.column,
+            counted: diagnosis.counted,
+        })?;
+        self.lines += 1;
+        self.total += 1;
+        Ok(())
+    }
+
+    /// Adds the next line.
+    fn add_line(&mut self, alloc: Global, line: &'d [u8], is_cut: bool) -> Result<(), AllocError>
+        requires few { self.old.lines < 2 ^ 63 }
+        ensures listed { OnOk result ((before : List (List ℕ)) → IsListOf before self.old
+            → IsListOf (before ++ line.now ∷ []) self.new) }
+        ensures lines { OnOk result (self.new.lines ≡ self.old.lines + 1) }
+    {
+        match diagnose(alloc, line)? {
+            Some(diagnosis) => self.add_malformed(line, is_cut, &diagnosis),
+            None => {
+                self.lines += 1;
+                Ok(())
+            }
+        }
+    }
+}
+
+/// Lists the malformed lines of a piece of a document: the first twenty, how many there are, and how many for each
+/// reason (RDF 1.1 N-Quads, grammar).
+///
+/// # Errors
+/// `AllocError` if an allocation fails.
+pub fn list_piece(alloc: Global, bytes: &[u8]) -> Result<PieceList<'_>, AllocError>
+    ensures listed { IfOk result (IsListOf (lines bytes.now)) }
+{
+    let mut list = PieceList::new(alloc);
+    let mut rest = bytes;
+    while !rest.is_empty() {
+        let (line, after) = first_line(rest);
+        list.add_line(alloc, line, line.len() == rest.len())?;
+        rest = after;
+    }
+    Ok(list)
+}
