@@ -45,7 +45,7 @@ NOT_RUN = [
     ("distributed/README.md", "apt-get install python3-distributed", "installs packages; needs Dask"),
     ("distributed/README.md", "dask-scheduler --host", "needs Dask and other machines"),
     ("distributed/README.md", "spq-dask check --scheduler", "needs Dask and other machines"),
-    ("distributed/README.md", "distributed/tests/run out/spq", "the tests of spq-dask"),
+    ("distributed/README.md", "distributed/tests/run out/spq out/spq-part", "the tests of spq-dask"),
     ("docs/PARTS.md", "spq-dask terms --quiet", "distributed/tests/test_commands.py runs them; needs Dask"),
     ("docs/GUIDE.md", "systemd-run --user", "needs systemd"),
 ]

@@ -2,10 +2,9 @@
 
 - `cutting`: the blocks of a document, and its lines.
 - `program`: one run of `spq` over one text; a text that needs too much memory is cut in two.
-- `canonical`: the canonical form of the quads of a block.
-- `lines`: runs the program `lines.lua`, which hashes lines, recognises canonical ones, and counts distinct ones.
-- `hashing`: hashes of canonical quads.
-- `message`: texts that workers send to each other.
+- `parts`: runs `spq-part`, and cuts its output into sealed texts.
+- `canonical`: the canonical form of the quads of a block, for `select`.
+- `lines`: runs the program `lines.lua`, which recognises canonical lines.
 - `shuffle`: texts and hashes by partition; Dask's shuffle of bags.
 - `counting`: the commands `check` and `terms`.
 - `outline`: what the command must know of a query: DISTINCT, LIMIT, OFFSET, and whether it may be split.

@@ -6,20 +6,22 @@ import logging
 import os
 import sys
 import tempfile
+import time
 import warnings
 import zipfile
+import zlib
 from hashlib import sha256
 from typing import Any, Iterator, Optional
 
 import dask
 from dask.delayed import Delayed
 from distributed import Client, Future, LocalCluster, progress
-from distributed.comm import get_address_host
+from distributed.comm import CommClosedError, get_address_host
 from distributed.diagnostics.plugin import UploadFile
 from distributed.scheduler import KilledWorker
 
 from .cutting import Source
-from .program import DEVICE, MALLOC, MEMORY, Failed, Malformed
+from .program import DEVICE, MALLOC, MEMORY, Failed, Malformed, Spq, versions
 
 
 @contextlib.contextmanager
@@ -58,7 +60,7 @@ LOADED_AGAIN = """
 import sys
 
 if globals().get("digest") != {digest!r}:
-    for name in [name for name in sys.modules if name.startswith("spq_dask.") and name != "spq_dask.message"]:
+    for name in [name for name in sys.modules if name.startswith("spq_dask.")]:
         del sys.modules[name]
         globals().pop(name.removeprefix("spq_dask."), None)
 digest = {digest!r}
@@ -80,6 +82,38 @@ def upload_package(client: Client, folder: str = os.path.dirname(os.path.abspath
                 archive.writestr(f"spq_dask/{name}", text)
         # By the name a worker that joins later gets what was uploaded last, and nothing else.
         client.register_worker_plugin(UploadFile(path), name="spq_dask")
+
+
+def wait_for_workers(client: Client, seconds: float) -> None:
+    """Waits until there is a worker, with a line on standard error after a minute. Raises `Failed` after this time."""
+    start, told = time.monotonic(), False
+    while not client.ncores():
+        waited = time.monotonic() - start
+        if waited >= seconds:
+            raise Failed(MEMORY, "error: worker", f"no worker for {seconds:g} seconds at {client.scheduler.address}")
+        if waited >= 60 and not told:
+            print(f"spq-dask: no worker for 60 seconds at {client.scheduler.address}", file=sys.stderr, flush=True)
+            told = True
+        time.sleep(0.1)
+
+
+def compare_versions(client: Client, spq: Spq) -> None:
+    """Raises `Failed` if two workers have programs of different versions, or one of them has none."""
+    first = wanted = None
+    for address, version in client.run(versions, spq, on_error="return").items():
+        if isinstance(version, Failed):
+            raise version
+        if isinstance(version, Exception):  # the worker is gone
+            continue
+        if wanted is None:
+            first, wanted = get_address_host(address), version
+        elif version != wanted:
+            raise Failed(MEMORY, "error: worker", f"{first} has {wanted}, but {get_address_host(address)} has {version}")
+
+
+def shown(path: str) -> str:
+    """Returns how a message names a file: by its path from the current folder, if it is in there."""
+    return os.path.relpath(path) if path.startswith(os.getcwd() + os.sep) else path
 
 
 class Run:
@@ -123,13 +157,16 @@ class Run:
         """
         futures = self.client.compute(tasks)
         self.show(futures)
-        lines, found = 0, []
+        lines, before, file, found = 0, 0, None, []
         with failures():
-            for future in futures:
+            for source, future in zip((source for source in sources for _ in source.blocks), futures):
+                if source is not file:
+                    file, before = source, lines
                 try:
                     found.append(future.result())
                 except Malformed as malformed:
-                    raise Failed(1, f"error: line {lines + malformed.number}") from None
+                    line = lines + malformed.number
+                    raise Failed(1, f"error: line {line}", f"{shown(source.path)}: line {line - before}") from None
                 lines += found[-1].lines
         sizes = iter(found)
         for source in sources:
@@ -154,5 +191,7 @@ def failures() -> Iterator[None]:
         raise
     except KilledWorker as error:
         raise Failed(MEMORY, "error: worker", f"workers die of this task: {error}") from None
-    except (OSError, EOFError) as error:
+    except CommClosedError as error:
+        raise Failed(MEMORY, "error: worker", f"the connection was lost: {error}") from None
+    except (OSError, EOFError, ImportError, zlib.error) as error:
         raise Failed(DEVICE, "error: input", str(error)) from None

@@ -2,18 +2,21 @@
 from __future__ import annotations
 
 import argparse
+import contextlib
+import io
 import os
 import sys
+import traceback
 from typing import BinaryIO, Iterable, NoReturn, Optional
 
 from . import quick  # noqa: F401  (imports Dask)
 from dask.utils import parse_bytes
 from distributed import Client
 
-from .cluster import Run, connected, failures
+from .cluster import Run, compare_versions, connected, failures, wait_for_workers
 from .counting import check, terms
 from .cutting import sources
-from .program import COMMAND_LINE, DEVICE, Failed, Spq
+from .program import COMMAND_LINE, DEVICE, MEMORY, Failed, Spq
 
 CONDITION_TEXT = """\
 A query may be split where its condition holds (docs/PARTS.md gives the reasons):
@@ -67,7 +70,10 @@ def parser() -> Parser:
     common.add_argument("--processes", type=number, help="worker processes, if a scheduler is started here; default one a processor")
     common.add_argument("--blocksize", type=size, help="bytes of a block; default 256MiB, or less to give each worker four blocks")
     common.add_argument("--spq", default="spq", metavar="PATH", help="the program on the workers; default spq")
+    common.add_argument("--spq-part", default="spq-part", metavar="PATH", help="the second program on the workers; default spq-part")
     common.add_argument("--workers", type=number, default=1, help="threads of each run of spq; default 1")
+    common.add_argument("--wait", type=number, default=300, metavar="SECONDS", help="how long to wait for a worker; default 300")
+    common.add_argument("--debug", action="store_true", help="show the traceback of an unexpected failure")
     common.add_argument("--quiet", action="store_true", help="neither a progress bar nor the dashboard's address")
     common.add_argument(
         "files", nargs="+", metavar="FILE|URL", help="N-Quads, plain or compressed; all are parts of one document, in order"
@@ -90,9 +96,15 @@ def parser() -> Parser:
 
 def output(given: argparse.Namespace, client: Client) -> Iterable[bytes]:
     """Runs a command, and returns what it prints."""
-    run, spq = Run(client, given.quiet), Spq(given.spq, given.workers)
-    with failures():
-        found = sources(given.files, given.blocksize, run.workers())
+    spq = Spq(given.spq, given.workers, given.spq_part)
+    wait_for_workers(client, given.wait)
+    compare_versions(client, spq)
+    run = Run(client, given.quiet)
+    try:
+        with failures():
+            found = sources(given.files, given.blocksize, run.workers())
+    except ValueError as error:  # fsspec raises it for an unknown protocol
+        raise Failed(DEVICE, "error: input", str(error)) from None
     if given.command == "check":
         return [check(run, found, spq)]
     if given.command == "terms":
@@ -116,15 +128,22 @@ def run_words(words: list[str], out: BinaryIO, client: Optional[Client] = None) 
                     print(f"dashboard: {own.dashboard_link}", file=sys.stderr)
                 write(output(given, own), out)
     except Failed as failed:
-        if failed.reason:
-            print(f"spq-dask: {failed.reason}", file=sys.stderr)
-        try:
-            out.write(failed.line.encode() + b"\n")
-            out.flush()
-        except OSError:
-            pass
-        return failed.status
+        return report(failed, out)
+    except Exception as error:
+        if "--debug" in words:
+            traceback.print_exc()
+        return report(Failed(MEMORY, "error: worker", f"{type(error).__name__}: {error}".partition("\n")[0]), out)
     return 0
+
+
+def report(failed: Failed, out: BinaryIO) -> int:
+    """Prints a failure, and returns its status."""
+    if failed.reason:
+        print(f"spq-dask: {failed.reason}", file=sys.stderr)
+    with contextlib.suppress(OSError):
+        out.write(failed.line.encode() + b"\n")
+        out.flush()
+    return failed.status
 
 
 def write(texts: Iterable[bytes], out: BinaryIO) -> None:
@@ -142,6 +161,8 @@ def write(texts: Iterable[bytes], out: BinaryIO) -> None:
 
 def main() -> None:
     """Runs the program, and ends with its status, at once: Python takes 0.1 seconds to free what the program used."""
+    if sys.stdout is None:
+        sys.exit(report(Failed(DEVICE, "error: output", "standard output is closed"), io.BytesIO()))
     status = run_words(sys.argv[1:], sys.stdout.buffer)
     sys.stderr.flush()
     os._exit(status)

@@ -93,21 +93,6 @@ def pieces(text: bytes, size: int) -> Iterator[memoryview]:
         start = end
 
 
-def lines_at(text: bytes, numbers: numpy.ndarray) -> list[bytes]:
-    """Returns the lines with these numbers, which rise and begin at 0. Here each line ends with a line feed."""
-    found, first = [], 0
-    for piece in pieces(text, 1 << 18):
-        if not len(numbers) or numbers[-1] < first:
-            break
-        after = first + line_feeds(piece)
-        start, end = numpy.searchsorted(numbers, [first, after])
-        if start < end:
-            lines = bytes(piece).split(b"\n")
-            found += [lines[number - first] for number in numbers[start:end]]
-        first = after
-    return found
-
-
 def ended(lines: Iterable[bytes]) -> bytes:
     """Returns the lines as one text, in which each line ends with a line feed."""
     return b"\n".join([*lines, b""])

@@ -5,22 +5,16 @@
 --                               writes to REWRITTEN the lines that are plain but for capitals in a language tag or the
 --                               datatype xsd:string, in their plain form; to OTHERS the other lines; and to NAMES the
 --                               graph name of each line that is not one of the others, unless it is that of the line before
---   luajit - hashes TEXT        prints the hash of each line
---   luajit - split TEXT N       puts the lines into N parts by their hashes; prints the size of each part, then the parts
---   luajit - distinct TEXT ..   prints the number of distinct lines, or -1 if too many lines have the same hash; the text
---                               consists of parts of these sizes, and no line is in two parts
 --
--- The words in capitals are descriptors of files. A line feed ends each line. A hash is printed as a whole number, a size or
--- count as a floating-point number, of 8 bytes each. What a plain line consists of is in the module `canonical`.
+-- The words in capitals are descriptors of files. A line feed ends each line. A hash is printed as a whole number
+-- of 8 bytes. What a plain line consists of is in the module `canonical`.
 local bit, ffi = require("bit"), require("ffi")
 ffi.cdef [[
   void *mmap(void *, size_t, int, int, int, int64_t);
   int64_t lseek(int, int64_t, int);
   void *memchr(const void *, int, size_t);
   int memcmp(const void *, const void *, size_t);
-  void *calloc(size_t, size_t);
   void *realloc(void *, size_t);
-  void free(void *);
   void *fdopen(int, const char *);
   size_t fwrite(const void *, size_t, size_t, void *);
   int fclose(void *);
@@ -38,13 +32,6 @@ assert(cast("intptr_t", text) ~= -1, "mmap")
 local function find(byte, place, stop)
   local found = C.memchr(text + place, byte, stop - place)
   return found == nil and stop or tonumber(cast("const uint8_t *", found) - text)
-end
-
--- Returns memory that is zero. (Memory of LuaJIT itself is limited.)
-local function memory(bytes)
-  local found = C.calloc(bytes + 1, 1)
-  assert(found ~= nil, "memory")
-  return found
 end
 
 -- Returns more memory for an array of numbers, with the numbers that it has.
@@ -214,127 +201,6 @@ function modes.quads(...)
   end
   for _, file in ipairs(files) do assert(C.fclose(file) == 0, "write") end
   print_array(hashes, number, 8)
-end
-
-function modes.hashes()
-  local hashes, number, room = nil, 0, 0
-  local start = 0
-  while start < size do
-    if number == room then
-      room = 2 * room + 65536
-      hashes = longer(hashes, "uint64_t *", 8 * room)
-    end
-    local ending = find(LINE_FEED, start, size)
-    hashes[number] = hash_of(start, ending)
-    start, number = ending + 1, number + 1
-  end
-  print_array(hashes, number, 8)
-end
-
--- Returns a hash of 32 bits, never 0, that depends on the bytes of a line alone. It takes less time: LuaJIT keeps 32 bits in
--- registers of the processor, but not always 64.
-local function short_hash(start, ending)
-  local hash, place = ending - start, start
-  if hash < 4 then
-    for place = start, ending - 1 do hash = hash * 256 + text[place] end
-    hash = tobit(hash)
-  else
-    while place + 4 <= ending do
-      hash = tobit(bxor(rol(hash, 5), cast("const int32_t *", text + place)[0]) + rol(hash, 19))
-      place = place + 4
-    end
-    hash = tobit(bxor(rol(hash, 5), cast("const int32_t *", text + ending - 4)[0]) + rol(hash, 19))
-  end
-  hash = bxor(hash, rshift(hash, 15))
-  hash = tobit(hash + rol(hash, 10))
-  hash = bxor(hash, rshift(hash, 6))
-  return hash == 0 and 1 or hash
-end
-
-function modes.split(parts)
-  parts = tonumber(parts)
-  local part_of, lengths, count, room = nil, nil, 0, 0
-  local sizes, places = ffi.new("double[?]", parts), ffi.new("double[?]", parts)
-  local scale = parts / 2 ^ 32
-  local start = 0
-  while start < size do
-    if count == room then
-      room = 2 * room + 65536
-      part_of, lengths = longer(part_of, "int32_t *", 4 * room), longer(lengths, "double *", 8 * room)
-    end
-    local ending = find(LINE_FEED, start, size)
-    local part, length = math.floor((short_hash(start, ending) + 2 ^ 31) * scale), ending + 1 - start
-    part_of[count], lengths[count] = part, length
-    sizes[part] = sizes[part] + length
-    start, count = ending + 1, count + 1
-  end
-  for part = 1, parts - 1 do places[part] = places[part - 1] + sizes[part - 1] end
-  local texts = cast("uint8_t *", memory(size))
-  start = 0
-  for number = 0, count - 1 do
-    local part, length = part_of[number], lengths[number]
-    ffi.copy(texts + places[part], text + start, length)
-    places[part] = places[part] + length
-    start = start + length
-  end
-  print_array(sizes, parts, 8)
-  print_array(texts, size, 1)
-end
-
--- A hash table of lines: their hashes, 0 where there is none, and their places.
-local hashes, places, room = nil, nil, 0
-
-local function enlarge()
-  local old_hashes, old_places, old_room = hashes, places, room
-  room = math.max(2 ^ 16, 4 * room)
-  hashes, places = cast("int32_t *", memory(4 * room)), cast("double *", memory(8 * room))
-  for number = 0, old_room - 1 do
-    local hash = old_hashes[number]
-    if hash ~= 0 then
-      local slot = band(hash, room - 1)
-      while hashes[slot] ~= 0 do slot = band(slot + 1, room - 1) end
-      hashes[slot], places[slot] = hash, old_places[number]
-    end
-  end
-  C.free(old_hashes)
-  C.free(old_places)
-end
-
--- Returns the number of distinct lines of a part, or -1 if too many lines have the same hash.
-local function distinct(start, stop)
-  local count, lines, steps = 0, 0, 0
-  ffi.fill(hashes, 4 * room)
-  while start < stop do
-    if 2 * count > room then enlarge() end
-    local ending = find(LINE_FEED, start, stop)
-    local hash = short_hash(start, ending)
-    local slot = band(hash, room - 1)
-    while hashes[slot] ~= 0 and not (hashes[slot] == hash and C.memcmp(text + start, text + places[slot], ending + 1 - start) == 0) do
-      slot, steps = band(slot + 1, room - 1), steps + 1
-    end
-    if hashes[slot] == 0 then
-      hashes[slot], places[slot] = hash, start
-      count = count + 1
-    end
-    start, lines = ending + 1, lines + 1
-    if steps > 100 * lines + 100000 then return -1 end
-  end
-  return count
-end
-
-function modes.distinct(...)
-  local total, start = ffi.new("double[1]"), 0
-  enlarge()
-  for _, size in ipairs({ ... }) do
-    local stop = start + tonumber(size)
-    local count = distinct(start, stop)
-    if count == -1 then
-      total[0] = -1
-      break
-    end
-    total[0], start = total[0] + count, stop
-  end
-  print_array(total, 1, 8)
 end
 
 modes[words[1]](unpack(words, 3))

@@ -7,11 +7,10 @@ from __future__ import annotations
 import io
 import pkgutil
 from dataclasses import dataclass
-from typing import Iterable, Optional
 
 import numpy
 
-from .program import MEMORY, Failed, Text, in_memory, printed, write
+from .program import MEMORY, Failed, in_memory, printed
 
 OTHER = -1  # is the hash of no line
 SCRIPT = pkgutil.get_data(__package__, "lines.lua") or b""
@@ -47,32 +46,3 @@ def read(text: io.FileIO) -> Lines:
         for file in files:
             file.seek(0)
         return Lines(hashes, *(file.read().split(b"\n")[:-1] for file in files))
-
-
-def hashes(text: Text) -> numpy.ndarray:
-    """Returns the hash of each line."""
-    with in_memory(text) as file:
-        return numpy.frombuffer(run(file, ["hashes"]), numpy.int64)
-
-
-def split(text: io.FileIO, parts: int) -> tuple[numpy.ndarray, list[int]]:
-    """Puts the lines of a file in memory into parts by their hashes. Returns the text of all parts, and the size of each part."""
-    printed = run(text, ["split", str(parts)])
-    sizes = numpy.frombuffer(printed, float, parts).astype(numpy.int64)
-    return numpy.frombuffer(printed, numpy.uint8, offset=8 * parts), sizes.tolist()
-
-
-def distinct(parts: Iterable[Iterable[Text]]) -> Optional[int]:
-    """Returns the number of distinct lines of texts that are put into parts; no line is in two parts.
-
-    Returns `None` if too many lines have the same hash.
-    """
-    sizes = []
-    with in_memory(b"") as file:
-        for texts in parts:
-            start = file.tell()
-            for text in texts:
-                write(file, text)
-            sizes.append(file.tell() - start)
-        count = numpy.frombuffer(run(file, ["distinct", *map(str, sizes)]), float)[0]
-    return None if count < 0 else int(count)

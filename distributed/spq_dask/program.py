@@ -5,6 +5,7 @@ import contextlib
 import io
 import os
 import signal
+import socket
 import subprocess
 from contextlib import nullcontext
 from dataclasses import dataclass
@@ -38,12 +39,25 @@ class Malformed(Exception):
         self.number = number
 
 
+def versions(spq: Spq) -> str:
+    """Returns what the programs of this worker print for `--version`, in one line. Raises `Failed` if one cannot be started."""
+    said = []
+    for path in (spq.path, spq.part):
+        try:
+            ran = subprocess.run([path, "--version"], stdin=subprocess.DEVNULL, capture_output=True)
+        except OSError as error:
+            raise Failed(MEMORY, "error: worker", f"{socket.gethostname()}: {path} cannot be started: {error.strerror}") from None
+        said.append(" ".join((ran.stdout + ran.stderr).decode(errors="replace").replace("error: command line", "").split()))
+    return ", ".join(said)
+
+
 @dataclass(frozen=True)
 class Spq:
-    """The program: its path on the workers, and the number of threads of each run."""
+    """The programs: the paths of `spq` and `spq-part` on the workers, and the number of threads of each run of `spq`."""
 
     path: str = "spq"
     threads: int = 1
+    part: str = "spq-part"
 
     def run(self, words: list[str], text: Text, file: Optional[io.FileIO] = None) -> tuple[int, bytes]:
         """Runs a command over a text, which may be in a file in memory already. Returns the status and the standard output.
@@ -87,16 +101,6 @@ class Spq:
             yield text, status, output
         else:
             raise Failed(status, output.decode().strip())
-
-    def write_outputs(self, output: io.FileIO, words: list[str], text: Text, file: io.FileIO) -> None:
-        """Does what `outputs` does, for a text that is also in a file in memory, and writes the outputs to a file in memory."""
-        status = self.run_into(output, words, file)
-        if status:
-            first = self.told(status, output)
-            output.seek(0)
-            output.truncate()
-            for found in self.outputs(words, text, file, first):
-                write(output, found)
 
     def outputs(
         self, words: list[str], text: Text, file: Optional[io.FileIO] = None, first: Optional[tuple[int, bytes]] = None

@@ -1,6 +1,7 @@
 """The command `select`: runs the query in the parts, and merges their rows."""
 from __future__ import annotations
 
+import sys
 from dataclasses import dataclass
 from itertools import islice
 from operator import attrgetter
@@ -56,10 +57,10 @@ def select(run: Run, sources: list[Source], spq: Spq, text: str, split: str, def
         parts = split_by_key(run, sources, spq, query.for_parts(), split, default_in_all)
     counts = run.results([delayed(number_of_rows)(part) for part in parts])
     found = merged([stream(run, part, count) for part, count in zip(parts, counts)], query.distinct)
-    end = None if query.limit is None else query.offset + query.limit
+    end = None if query.limit is None else min(query.offset + query.limit, sys.maxsize)
     yield head(output).encode()
     separator = ""
-    for _, row in islice(found, query.offset, end):
+    for _, row in islice(found, min(query.offset, sys.maxsize), end):
         yield (separator + row).encode()
         separator = ","
     yield b"]}}\n"

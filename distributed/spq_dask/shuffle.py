@@ -2,7 +2,7 @@
 from __future__ import annotations
 
 from operator import itemgetter
-from typing import Any, Callable, Iterable, Sequence
+from typing import Any, Callable, Sequence
 from zlib import crc32
 
 import dask
@@ -30,27 +30,6 @@ def places_by_partition(numbers: numpy.ndarray, partitions: int) -> list[numpy.n
         partition = partition.astype(numpy.uint16)
     order = numpy.argsort(partition, kind="stable")
     return numpy.split(order, numpy.searchsorted(partition[order], range(1, partitions)))
-
-
-def texts_by_partition(lines: list[bytes], partitions: int) -> list[bytes]:
-    """Returns the lines of each partition as one text, with line feeds between the lines."""
-    places = places_by_partition(hashes(lines), partitions)
-    return [b"\n".join(map(lines.__getitem__, these.tolist())) for these in places]
-
-
-def ranges(numbers: numpy.ndarray, partitions: int) -> list[numpy.ndarray]:
-    """Cuts sorted numbers of 64 bits where a partition ends. Each partition has a range of numbers."""
-    ends = [(number << 64) // partitions - (1 << 63) for number in range(1, partitions)]
-    return numpy.split(numbers, numpy.searchsorted(numbers, numpy.array(ends, numpy.int64)))
-
-
-def distinct(texts: Iterable[bytes]) -> int:
-    """Returns the number of distinct lines of the texts."""
-    found = set()
-    for text in texts:
-        found.update(text.split(b"\n"))
-    found.discard(b"")
-    return len(found)
 
 
 def part(block: Delayed, number: int) -> Delayed:

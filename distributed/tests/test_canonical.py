@@ -3,17 +3,14 @@ import os
 import random
 import re
 import unittest
-from itertools import accumulate
 from unittest import mock
 
 import documents
-import numpy
 import parts
 import testing
-from spq_dask import counting, lines, shuffle
+from spq_dask import lines
 from spq_dask.canonical import CANONICAL, canonical_quads, graph_of, subject_of, with_line_feeds
-from spq_dask.cutting import count_lines, halves, lines_at, pieces
-from spq_dask.hashing import hashed_quads, once, with_hashes
+from spq_dask.cutting import count_lines, halves, pieces
 from spq_dask.program import Failed, Spq, in_memory
 
 
@@ -25,12 +22,6 @@ STRING = r"\^\^<http://www\.w3\.org/2001/XMLSchema#string>"
 PLAIN = re.compile(rf"{NODE} {IRI} (?:{NODE}|{TEXT}(?:@[a-z0-9-]+|(?!{STRING})\^\^{IRI})?)(?: ({NODE}))? \.".encode())
 # A line that is plain but for capitals in a language tag or the datatype xsd:string.
 NEARLY = re.compile(rf"{NODE} {IRI} (?:{NODE}|{TEXT}(?:@[A-Za-z0-9-]+|\^\^{IRI})?)(?: ({NODE}))? \.".encode())
-
-
-def split(text: bytes, parts: int) -> tuple[numpy.ndarray, list[int]]:
-    """Puts the lines of a text into parts."""
-    with in_memory(text) as file:
-        return lines.split(file, parts)
 
 
 def read(text: bytes) -> lines.Lines:
@@ -125,113 +116,11 @@ class Canonical(unittest.TestCase):
 
 
 class Lines(unittest.TestCase):
-    TEXTS = [b"", b"\n", b"\n\n", *(b"".join(b"%d" % number * (number % times) + b"\n" for number in range(500)) for times in (2, 5, 40))]
-
-    def test_hashes_depend_on_the_line_alone(self):
-        every: dict[bytes, int] = {}
-        for text in self.TEXTS:
-            found = text.split(b"\n")[:-1]
-            for line, number in zip(found, lines.hashes(text).tolist(), strict=True):
-                self.assertEqual(every.setdefault(line, number), number)
-        for size in range(40):  # each byte counts, and the length
-            for place in range(size):
-                every[b"x" * place + b"y" + b"x" * (size - place - 1)] = 0
-            every[b"x" * size], every[b"\0" * size] = 0, 0
-        found = lines.hashes(b"\n".join([*every, b""]))
-        self.assertEqual(len(set(found.tolist())), len(every))
-        self.assertNotIn(lines.OTHER, found)
-
-    def test_split(self):
-        for text in self.TEXTS:
-            for count in (1, 2, 7, 64, 1000):
-                whole, sizes = split(text, count)
-                ends = list(accumulate(sizes))
-                parts = [whole[end - size : end].tobytes() for size, end in zip(sizes, ends)]
-                self.assertEqual((len(parts), ends[-1]), (count, len(whole)))
-                self.assertEqual(sorted(b"".join(parts).split(b"\n")), sorted(text.split(b"\n")))
-                sets = [set(part.split(b"\n")[:-1]) for part in parts]
-                self.assertEqual(len(set().union(*sets)), sum(map(len, sets)))
-                self.assertEqual(lines.distinct([(part, b"", part[: part.rfind(b"\n", 0, -1) + 1]) for part in parts]), sum(map(len, sets)))
-
-    def test_distinct(self):
-        """Many lines, so that the table grows; lines of all lengths; and lines that differ in one byte."""
-        for every in [
-            [b"%d" % number for number in range(100_000)],
-            [bytes([byte]) * size for size in range(1, 40) for byte in range(11, 256)],
-            [b"x" * place + b"y" + b"x" * (size - place - 1) for size in range(1, 40) for place in range(size)],
-        ]:
-            text = b"\n".join([*every, b""])
-            self.assertEqual(lines.distinct([[text]]), len(every))
-            self.assertEqual(lines.distinct([[text, text], [], [b"\n"]]), len(every) + 1)
-            whole, sizes = split(text, 5 * counting.BUCKETS)
-            buckets = [sizes[first :: 5] for first in range(5)]
-            texts = numpy.split(whole, numpy.cumsum(sizes)[:-1])
-            found = [counting.distinct([numpy.concatenate(texts[first::5])] * 2, [buckets[first]] * 2) for first in range(5)]
-            self.assertEqual(sum(found), len(every))
-
-    def test_many_lines_with_one_hash(self):
-        """Lines of four words: after any two words a third one gives the hash of another line."""
-        def turned(number, bits):
-            return (number << bits | number >> 32 - bits) & 0xFFFFFFFF
-
-        def after(number, word):
-            return ((turned(number, 5) ^ word) + turned(number, 19)) & 0xFFFFFFFF
-
-        every = []
-        for number in range(4000):
-            start = b"%08d" % number
-            state = after(after(16, int.from_bytes(start[:4], "little")), int.from_bytes(start[4:], "little"))
-            word = ((12345 - turned(state, 19)) & 0xFFFFFFFF) ^ turned(state, 5)
-            every.append(start + word.to_bytes(4, "little") + b"same")
-        every = [line for line in every if b"\n" not in line]
-        text = b"\n".join([*every, *every, b""])
-        self.assertEqual(lines.distinct([[text[: len(text) // 20 // 17 * 17]]]), len(every) // 10)
-        self.assertIsNone(lines.distinct([[text]]))
-        self.assertEqual(counting.distinct([numpy.frombuffer(text, numpy.uint8)], [[len(text), 0]]), len(every))
-
     def test_program_is_missing(self):
         with mock.patch.dict(os.environ, PATH="/nowhere"), self.assertRaises(Failed) as failed:
-            lines.hashes(b"\n")
+            read(b"\n")
         self.assertEqual(failed.exception.line, "error: worker")
         self.assertIn("luajit", failed.exception.reason)
-
-    def test_program_fails(self):
-        with self.assertRaises(Failed) as failed:
-            split(b"\n", -1)
-        self.assertEqual(failed.exception.line, "error: worker")
-
-
-class Hashes(unittest.TestCase):
-    def test_are_those_of_the_distinct_quads(self):
-        every: dict[int, bytes] = {}
-        for text in documents_of("hashes", 30, ["\n", "\r\n", "\r"]):
-            quads, hashes = hashed_quads(Spq(testing.SPQ), text)
-            distinct = set(quads.lines())
-            numbers = once(quads, hashes)
-            self.assertEqual(len(numbers), len(distinct))
-            pairs = with_hashes(quads, hashes, numbers)
-            self.assertEqual({quad for _, quad in pairs}, distinct)
-            for number, quad in pairs:
-                self.assertEqual(every.setdefault(number, quad), quad)
-            self.assertEqual(len(once(quads, numpy.where(hashes == -1, -1, hashes % 2))), len(distinct))
-
-    def test_check_is_exact_if_hashes_are_not(self):
-        """Different quads have the same hash here, in a block and in different ones."""
-        def few(spq, text, file=None):
-            quads, hashes = hashed_quads(spq, text, file)
-            return quads, numpy.where(hashes == -1, -1, hashes % 5 << 61)
-
-        program = Spq(testing.SPQ)
-        with mock.patch.object(counting, "hashed_quads", few):
-            for text in documents_of("few", 20, ["\n"]):
-                reads = [lambda piece=piece: bytes(piece) for piece in pieces(text, 200)]
-                blocks = [counting.examine(read, program, 3, False) for read in reads]
-                counts = [counting.count([block[number] for block in blocks]) for number in range(3)]
-                repeated = numpy.concatenate([one.repeated for one in counts])
-                again = [counting.repeated_quads(read, program, hashes, repeated, 3) for read, (*_, hashes) in zip(reads, blocks)]
-                quads = sum(one.single for one in counts) + sum(map(shuffle.distinct, zip(*again)))
-                said = b"ok %d quads %d terms %d graphs\n" % (quads, sum(one.terms for one in counts), sum(one.names for one in counts))
-                self.assertEqual(testing.spq(["check"], text)[1], said)
 
 
 class Cutting(unittest.TestCase):
@@ -252,8 +141,3 @@ class Cutting(unittest.TestCase):
                 cut = list(map(bytes, pieces(text, size)))
                 self.assertEqual(b"".join(cut), text)
                 self.assertTrue(all(piece.endswith(b"\n") and len(piece) >= size for piece in cut[:-1]))
-
-    def test_lines_at(self):
-        text = b"".join(b"%d" % number * (number % 97) + b"\n" for number in range(20_000))
-        for numbers in [[], [0], [19_999], [3, 5_000, 5_001, 19_998], range(20_000)]:
-            self.assertEqual(lines_at(text, numpy.array(numbers, int)), [b"%d" % number * (number % 97) for number in numbers])

@@ -49,7 +49,7 @@ class Catalogue(unittest.TestCase):
             (["terms", "--scheduler", testing.ADDRESS, "missing.nq"], 5, b"error: input\n"),
             (["check", "--blocksize", "many", CATALOGUE], 3, b"error: command line\n"),
         ]:
-            ran = subprocess.run([program, words[0], "--spq", testing.SPQ, *words[1:]], capture_output=True)
+            ran = subprocess.run([program, words[0], "--spq", testing.SPQ, "--spq-part", testing.PART, *words[1:]], capture_output=True)
             if said is None:
                 with open(CATALOGUE, "rb") as source:
                     said = spq(["select", "--query", query], source.read())[1]
@@ -57,7 +57,7 @@ class Catalogue(unittest.TestCase):
                 self.assertEqual((ran.returncode, ran.stdout), (status, said), ran.stderr)
                 self.assertEqual(b"100% Completed" in ran.stderr, status == 0)
                 if "--quiet" in words:
-                    self.assertEqual(ran.stderr, b"")
+                    self.assertRegex(ran.stderr, rb"^spq-dask: \S*document.nq: line 4\n$")
                 self.assertNotIn(b"Traceback", ran.stderr)
 
     def test_page(self):
@@ -135,6 +135,25 @@ class Forms(unittest.TestCase):
         self.same(text, file(text))
         self.same(text[:-1], file(text[:-1]))
 
+    def test_equal_terms_in_different_forms(self):
+        """Literals that differ by a tag or an escape alone, and one quad in many forms, in different blocks."""
+        objects = ['"chat"', '"chat"@fr', '"chat"^^<http://www.w3.org/2001/XMLSchema#string>', '"a\\u005Cb"', '"a\\\\b"', '"a\\b"', '"\\u0078"', '"x"', '"x"@EN', '"x"@en']
+        text = "".join(f"<a:s> <a:p> {o} {g} .\n" for g in ["", "<a:g>", "<a:\\u0067>", "_:g"] for o in objects * 2).encode()
+        self.same(text, file(text), sizes=["40", "90", "333", "1MiB"])
+
+    def test_repeated_quads(self):
+        """Quads that are in several blocks, once or more in each."""
+        dice = random.Random(6)
+        text = b"".join(b'<a:s%d> <a:p> "%d" .\n' % (dice.randrange(9), dice.randrange(9)) for _ in range(300))
+        self.same(text, file(text), sizes=["60", "500", "3KiB"])
+
+    def test_large_block(self):
+        """A block of more than 8 MiB, with and without a malformed last line."""
+        text = b"".join(b'<a:s%d> <a:p> "%d" <a:g%d> .\n' % (k, k % 9, k % 5) for k in range(300_000))
+        for document in [text, text + b"x"]:
+            for command in ["check", "terms"]:
+                self.assertEqual(spq_dask([command, "--blocksize", "64MiB"], file(document))[:2], spq([command], document))
+
     def test_no_line_feed(self):
         text = self.TEXT.replace(b"\n", b"\r")
         self.same(text, file(text), sizes=["90", "1MiB"])
@@ -143,18 +162,20 @@ class Forms(unittest.TestCase):
         """A block that needs too much memory is cut in two."""
         small = script('t=$(mktemp); cat > $t; if [ $(wc -c < $t) -gt 300 ]; then rm $t; echo "error: memory"; exit 4; fi\n'
                        '"$SPQ" "$@" < $t; s=$?; rm $t; exit $s')
+        part = script('t=$(mktemp); cat > $t; if [ $1 = split ] && [ $(wc -c < $t) -gt 300 ]; then rm $t; echo "error: memory"; exit 4; fi\n'
+                      '"$PART" "$@" < $t; s=$?; rm $t; exit $s')
         path = file(self.TEXT)
-        for words, options in [(["check"], []), (["terms"], [])]:
-            self.assertEqual(spq_dask([*words, *options, "--blocksize", "1KiB"], path, program=small)[:2], spq(words, self.TEXT))
+        for words in [["check"], ["terms"]]:
+            self.assertEqual(spq_dask([*words, "--blocksize", "1KiB"], path, program=small, part=part)[:2], spq(words, self.TEXT))
         for split, query in [("lines", "SELECT * { GRAPH ?g { ?s ?p ?o } } LIMIT 5"), ("subject", "SELECT * { GRAPH ?g { ?s ?p ?o } }")]:
             words = ["select", "--query", query.replace("SELECT", "SELECT DISTINCT")]
             asked = [*words, "--split", split, "--blocksize", "1KiB"]
             self.assertEqual(spq_dask(asked, path, program=small)[:2], spq(words, self.TEXT))
         bad = self.TEXT.splitlines(True)
         bad[40] = b"x\n"
-        self.assertEqual(spq_dask(["check", "--blocksize", "1KiB"], file(b"".join(bad)), program=small)[:2], (1, b"error: line 41\n"))
+        self.assertEqual(spq_dask(["check", "--blocksize", "1KiB"], file(b"".join(bad)), part=part)[:2], (1, b"error: line 41\n"))
         long = file(b'<a:b> <a:b> "%s" .\n' % (b"x" * 400))
-        self.assertEqual(spq_dask(["check"], long, program=small)[:2], (4, b"error: memory\n"))
+        self.assertEqual(spq_dask(["check"], long, part=part)[:2], (4, b"error: memory\n"))
 
 
 class Malformed(unittest.TestCase):

@@ -1,4 +1,5 @@
 """What fails: files, queries, the program, and workers."""
+import gzip
 import os
 import signal
 import threading
@@ -34,7 +35,7 @@ class Files(unittest.TestCase):
         found = sources([path], 1000, 3)
         change(path)
         with self.assertRaises(Failed) as failed:
-            counting.check(Run(testing.CLIENT, True), found, Spq(testing.SPQ))
+            counting.check(Run(testing.CLIENT, True), found, Spq(testing.SPQ, 1, testing.PART))
         self.assertIn(path, failed.exception.reason)
         return failed.exception
 
@@ -43,6 +44,20 @@ class Files(unittest.TestCase):
 
     def test_is_cut_short(self):
         self.assertEqual(self.failed(lambda path: os.truncate(path, TEXT.index(b"\n", 3000) + 1)).line, "error: input")
+
+    def test_is_of_no_protocol(self):
+        for url in ["nowhere://x/y.nq", "http://127.0.0.1:9/x.nq"]:
+            self.assertEqual(spq_dask(["check"], url)[:2], (5, b"error: input\n"))
+
+    def test_damaged_gzip(self):
+        packed = bytearray(gzip.compress(TEXT))
+        packed[40] ^= 255
+        self.assertEqual(spq_dask(["check"], file(bytes(packed), "x.gz"))[:2], (5, b"error: input\n"))
+
+    def test_names_the_file_and_its_line(self):
+        said = spq_dask(["check"], file(TEXT), file(b"# c\n\nx\n", "second.nq"))
+        self.assertEqual(said[:2], (1, b"error: line 403\n"))
+        self.assertRegex(said[2], r"second.nq: line 3$")
 
     def test_broken_gzip(self):
         self.assertEqual(spq_dask(["check"], file(b"no gzip", "x.gz"))[:2], (5, b"error: input\n"))
@@ -76,18 +91,32 @@ class Programs(unittest.TestCase):
         self.assertEqual((status, said), (4, b"error: worker\n"))
         self.assertIn("/nowhere/spq", told)
 
+    def test_has_another_version(self):
+        """Two workers with different versions, and a version that changes while a command runs."""
+        each = script('[ "$1" = --version ] && exec echo spq-part $$; exec "$PART" "$@"')
+        status, said, told = spq_dask(["check"], file(TEXT), part=each)
+        self.assertEqual((status, said), (4, b"error: worker\n"))
+        self.assertIn("spq-part", told)
+        later = script('[ "$1" = split ] || exec "$PART" "$@"; "$PART" "$@" | LC_ALL=C sed "s/^spq-part 1 .*/spq-part 1 9.9.9/"')
+        self.assertEqual(spq_dask(["check", "--blocksize", "1KiB"], file(TEXT), part=later)[:2], (4, b"error: worker\n"))
+
+    def test_part_is_missing(self):
+        status, said, told = spq_dask(["check"], file(TEXT), part="/nowhere/spq-part")
+        self.assertEqual((status, said), (4, b"error: worker\n"))
+        self.assertIn("/nowhere/spq-part", told)
+
     def test_ends_in_another_way(self):
-        self.assertEqual(spq_dask(["check"], file(TEXT), program=script("exit 77"))[:2], (4, b"error: worker\n"))
-        self.assertEqual(spq_dask(["check"], file(TEXT), program=script("echo 'error: input'; exit 5"))[:2], (5, b"error: input\n"))
+        self.assertEqual(spq_dask(["check"], file(TEXT), part=script("exit 77"))[:2], (4, b"error: worker\n"))
+        self.assertEqual(spq_dask(["check"], file(TEXT), part=script("echo 'error: input'; exit 5"))[:2], (5, b"error: input\n"))
 
 
 class Workers(unittest.TestCase):
     def test_one_is_killed(self):
         """A worker is killed while it runs `spq`, and another after it has results."""
-        slow = script('sleep 0.2; exec "$SPQ" "$@"')
+        slow, later = script('sleep 0.2; exec "$SPQ" "$@"'), script('sleep 0.2; exec "$PART" "$@"')
         for words in [["check"], ["terms"]]:
             found = []
-            run = threading.Thread(target=lambda: found.append(outcome([*words, "--blocksize", "400"], file(TEXT), program=slow)))
+            run = threading.Thread(target=lambda: found.append(outcome([*words, "--blocksize", "400"], file(TEXT), program=slow, part=later)))
             before = testing.workers()
             run.start()
             busy = lambda: [address for address, keys in testing.CLIENT.has_what().items() if keys and address in before]

@@ -15,6 +15,7 @@ from spq_dask.command import run_words
 
 ROOT = os.path.dirname(os.path.dirname(os.path.dirname(os.path.abspath(__file__))))
 SPQ = ""
+PART = ""
 CLIENT: Optional[Client] = None
 ADDRESS = ""
 FOLDER = ""
@@ -34,6 +35,7 @@ def environment() -> dict[str, str]:
     if not os.path.exists(place):
         os.mkdir(place)
         os.symlink(SPQ, os.path.join(place, "spq"))
+        os.symlink(PART, os.path.join(place, "spq-part"))
         os.symlink(os.path.join(ROOT, "distributed", "spq-dask"), os.path.join(place, "spq-dask"))
     return dict(os.environ, PATH=place + os.pathsep + os.environ["PATH"], DASK_SCHEDULER_ADDRESS=ADDRESS)
 
@@ -92,8 +94,8 @@ def file(text: bytes, name: str = "document.nq") -> str:
 
 
 def script(text: str) -> str:
-    """Writes a shell script that replaces `spq`, and returns its path."""
-    path = file(f"#!/bin/sh\nSPQ={SPQ}\n{text}\n".encode(), "stand-in")
+    """Writes a shell script that replaces `spq` or `spq-part`, and returns its path."""
+    path = file(f"#!/bin/sh\nSPQ={SPQ}\nPART={PART}\n{text}\n".encode(), "stand-in")
     os.chmod(path, 0o755)
     return path
 
@@ -104,11 +106,12 @@ def spq(words: Sequence[str], text: bytes) -> tuple[int, bytes]:
     return ran.returncode, ran.stdout
 
 
-def spq_dask(words: Sequence[str], *files: str, program: Optional[str] = None) -> tuple[int, bytes, str]:
+def spq_dask(words: Sequence[str], *files: str, program: Optional[str] = None, part: Optional[str] = None) -> tuple[int, bytes, str]:
     """Runs spq-dask in this process, with the client. Returns its status, its output, and what it prints for the user."""
     out, told = io.BytesIO(), io.StringIO()
     with contextlib.redirect_stderr(told):
-        status = run_words([words[0], "--quiet", "--spq", program or SPQ, *words[1:], *files], out, CLIENT)
+        programs = ["--spq", program or SPQ, "--spq-part", part or PART]
+        status = run_words([words[0], "--quiet", *programs, *words[1:], *files], out, CLIENT)
     return status, out.getvalue(), told.getvalue()
 
 
