@@ -5,7 +5,7 @@ ghost use Rattle.sparql_algebra.specs.AlgebraOf.{algebra_of};
 
 use sparql_algebra::Operator;
 
-/// Returns whether no triple pattern of the tree is outside of a GRAPH. Such a tree has the same
+/// Returns whether no triple pattern of the tree is outside of a GRAPH. The tree then has the same
 /// solutions for every active graph.
 pub(crate) fn is_closed(tree: &Operator) -> bool
     ensures value { result ≡ is_closed (algebra_of tree.now) }
