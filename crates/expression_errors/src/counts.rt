@@ -1,4 +1,4 @@
-//! The number of rows for each expression and cause, shared by the workers.
+//! The number of rows for each expression and cause. Workers share it.
 use crate::cause::Cause;
 use crate::digest::{Owner, digest_of};
 use expression_values::Expr;
@@ -6,7 +6,7 @@ use std::alloc::{AllocError, Global};
 use std::sync::OnceLock;
 use std::sync::atomic::{AtomicU64, Ordering};
 
-/// The number of datatypes that are told apart at one expression. Rows of further ones are not
+/// The number of datatypes that have counts of their own at one expression. Rows of further ones are not
 /// counted.
 const MOST_DATATYPES: usize = 6;
 

@@ -12,7 +12,7 @@ use std::alloc::{AllocError, Global};
 /// Returns the effective boolean value of an expression over a row (SPARQL 1.1 Query Language,
 /// section 17.2). Returns None if the value or its effective boolean value is an error.
 ///
-/// `test` returns false for an error. This function is for callers that tell the two apart. It
+/// `test` returns false for an error. This function is for callers that treat the two differently. It
 /// allocates as `test` does.
 ///
 /// # Errors

@@ -5,8 +5,8 @@
 //! implements [`Lookup`].
 //!
 //! [`value`] returns the value of an expression over a row, or `Error` exactly if the expression is
-//! an error. [`test`] evaluates the condition of a filter, and [`truth_value`] tells an error from
-//! false. Many conditions allocate nothing: `takes_none` of specs/NoAllocation.antt says which.
+//! an error. [`test`] evaluates the condition of a filter, and [`truth_value`] returns an error
+//! and false as two results. Many conditions allocate nothing: `takes_none` of specs/NoAllocation.antt says which.
 //!
 //! [`compare`] compares two terms, and [`truth`] is the effective boolean value of a term. Both are
 //! functions of the crate term_values, reexported here.

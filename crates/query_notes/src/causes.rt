@@ -111,7 +111,7 @@ fn push_cause(
 }
 
 /// Appends the places of the FILTER or BIND of a tally, in all expressions that it counts. Returns
-/// the first expression, if it has such a keyword.
+/// the first of these expressions.
 fn push_places<'a>(
     out: &mut String,
     text: &Text<'_>,
