@@ -1,7 +1,7 @@
 """Draws docs/architecture.svg: the crates and how data flows through them. `tests/pages.py --write` writes it."""
 
 DIAGRAM = "docs/architecture.svg"
-WIDTH, HEIGHT = 1080, 816
+WIDTH, HEIGHT = 1080, 876
 STYLE = """  <style>
     text { font-family: "DejaVu Sans", "Helvetica Neue", Arial, sans-serif; font-size: 12px; fill: #1f2933; }
     .name { font-size: 14px; font-weight: bold; }
@@ -59,12 +59,12 @@ def parts():
     yield data(40, 92, 420, "N-Quads document, standard input")
     yield frame(40, 150, 420, 218, "dataset_load", "a dataset, or the first malformed line")
     yield box(60, 186, 180, "piece_cuts", "blocks of whole lines")
-    yield box(260, 186, 180, "nquads_core", "lines to statements")
-    yield box(260, 296, 180, "dict_core", "terms to numbers")
+    yield box(260, 186, 180, "nquads_core", "lines to statements;", "nquads_scan: to slices")
+    yield box(260, 296, 180, "dict_core", "terms to numbers; text_dict,", "text_pieces, keyed_hash")
     yield box(60, 296, 180, "quad_index", "sorted lists, scans")
     yield arrow((250, 124), (250, 149))
     yield arrow((240, 209), (259, 209))
-    yield arrow((350, 232), (350, 295))
+    yield arrow((350, 248), (350, 295))
     yield arrow((260, 319), (241, 319))
     yield [text(40, 396, "A box is a crate. A frame is the crate that calls those inside it.", anchor="start")]
     yield [text(40, 414, "A dashed box has data types. A yellow box is an input or the output.", anchor="start")]
@@ -78,7 +78,7 @@ def parts():
     yield box(640, 296, 180, "sparql_expression", "terms and expressions")
     yield box(840, 296, 180, "sparql_parse", "patterns and the query")
     yield box(620, 400, 200, "sparql_tree", "the syntax tree", kind="types")
-    yield box(840, 400, 200, "sparql_algebra", "plans; expression_values", "and term_values: expressions")
+    yield box(840, 400, 200, "sparql_algebra", "plans; expression_values,", "term_values, expression_errors")
     yield arrow((830, 124), (830, 149))
     yield arrow((730, 232), (730, 295))
     yield arrow((820, 319), (839, 319))
@@ -101,7 +101,8 @@ def parts():
     yield box(40, 692, 240, "rdf_core", "terms, quads, lexical forms", kind="base", height=102)
     yield box(293, 692, 240, "algebra_model", "definitions and laws", "of the SPARQL algebra;", "query_laws: laws of queries", kind="base", height=102)
     yield box(546, 692, 240, "piece_pool", "worker threads run the", "tasks of a job; numbers from", "piece_board, a lock-free counter", kind="base", height=102)
-    yield box(799, 692, 241, "spq_report", "messages: line_diagnosis, excerpt,", "query_diagnosis, command_help,", "query_warnings", kind="program", height=102)
+    yield box(799, 692, 241, "spq_report", "messages: line_diagnosis, excerpt,", "query_diagnosis, command_help,", "query_warnings, query_notes, malformed_lines", kind="program", height=102)
+    yield box(40, 814, 1000, "spq_part", "what spq-dask runs for a part of a document: part_core; cluster_parts, the laws of its counts", kind="program")
 
 
 def svg():
