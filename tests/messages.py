@@ -1,5 +1,5 @@
 #!/usr/bin/env python3
-"""Runs the built program on failures and warnings, and compares standard error, standard output and status.
+"""Runs the built program on failures and notes, and compares standard error, standard output and status.
 
     messages.py [PROGRAM] [--only WORD]
 
@@ -303,29 +303,38 @@ def memory():
     yield failed("a rejected query where no thread starts", ["select", "--query", "SELECT"], STATEMENT, 2, "error: query syntax", None, start=1)
 
 
-def warnings():
-    """Rows that are lost without a sign."""
+def notes():
+    """Rows that an error of an expression costs, and parts of a query that find nothing."""
     def literal(value, kind):
         return b'<http://e/a> <http://e/p> "%s"^^<%s> .\n' % (value.encode(), (XSD + kind).encode())
 
-    def about(kind):
-        return f"spq: warning: comparisons with xsd:{kind} are not supported, rows with such values are dropped\n"
+    def about(rows, why):
+        return f"spq: note: FILTER at line 1, column 22: {rows} left out, since {why}\n"
     compared = "SELECT ?o { ?s ?p ?o FILTER(?o < 7) }"
-    for kind in ("double", "float", "dateTime", "date"):
-        yield warned(f"xsd:{kind} is compared", compared, literal("1", kind), about(kind))
+    kinds = "two literals of different kinds, such as a string and a number, have no order and no inequality by value (compare STR(..))"
+    floats = "values of xsd:%s are not compared (compare STR(..), if the order of the texts is that of the values)"
+    for kind in ("double", "float"):
+        yield warned(f"xsd:{kind} is compared", compared, literal("1", kind), about("1 row is", floats % kind))
         yield warned(f"xsd:{kind} is not compared", "SELECT ?o { ?s ?p ?o }", literal("1", kind), "")
-    yield warned("two datatypes", "SELECT ?o { ?s ?p ?o FILTER(?o IN (1)) }", literal("1", "date") + literal("1", "double"),
-                 about("double") + about("date"))
+    for kind in ("dateTime", "date", "string"):
+        yield warned(f"a number and xsd:{kind}", compared, literal("1", kind), about("1 row is", kinds))
+    yield warned("two causes, most rows first", compared, literal("1", "double") + literal("1", "date") + literal("2", "date"),
+                 about("2 rows are", kinds) + about("1 row is", floats % "double"))
+    yield warned("an equality of other kinds", "SELECT ?o { ?s ?p ?o FILTER(?o IN (1)) }", literal("2", "date"), "")
     yield warned("an integer", compared, literal("1", "integer"), "")
     yield warned("a variable that is nowhere", "SELECT ?o ?x { ?s ?p ?o }", STATEMENT,
-                 "spq: warning: ?x is selected and occurs nowhere in the pattern\n")
-    yield warned("a variable of a filter", "SELECT ?o ?x { ?s ?p ?o FILTER(!BOUND(?x)) }", STATEMENT, "")
+                 "spq: note: ?x at line 1, column 11 is selected and occurs nowhere in the pattern\n")
+    yield warned("a variable of a filter", "SELECT ?o ?x { ?s ?p ?o FILTER(!BOUND(?x)) }", STATEMENT,
+                 "spq: note: ?x at line 1, column 39 occurs only in expressions, so it is never bound\n")
     named = b"<http://e/a> <http://e/p> <http://e/b> <http://e/g> .\n"
-    graphs = "spq: warning: no rows: the default graph is empty, and the query has no GRAPH for the named graphs\n"
-    yield warned("named graphs alone", "SELECT * { ?s ?p ?o }", named, graphs)
+
+    def outside(column):
+        return (f"spq: note: the pattern at line 1, column {column} finds nothing: "
+                "it is outside of GRAPH, and all quads are in named graphs\n")
+    yield warned("named graphs alone", "SELECT * { ?s ?p ?o }", named, outside(12))
+    yield warned("named graphs, GRAPH and MINUS", "SELECT ?s { GRAPH ?g { ?s ?p ?o } MINUS { ?s ?p ?o } }", named, outside(43))
     yield warned("named graphs and GRAPH", "SELECT * { GRAPH <http://e/h> { ?s ?p ?o } }", named, "")
     yield warned("named graphs and a row", "SELECT * { VALUES ?a { 1 } }", named, "")
-    yield warned("named graphs and LIMIT 0", "SELECT * { VALUES ?a { 1 } } LIMIT 0", named, "")
     yield warned("a default graph", "SELECT * { ?s <http://e/q> ?o }", named + STATEMENT, "")
     yield warned("no document", "SELECT * { ?s ?p ?o }", b"", "")
 
@@ -511,7 +520,7 @@ def wrong_at_a_terminal(run, status, pattern, pipes):
 
 def cases(runner):
     """The name of each case, and a function that returns what is wrong of it, or nothing."""
-    for kind in (lines, reasons_of_lines, queries, reasons_of_queries, command_lines, devices, memory, warnings, silent):
+    for kind in (lines, reasons_of_lines, queries, reasons_of_queries, command_lines, devices, memory, notes, silent):
         for case in kind():
             yield case.name, functools.partial(runner.wrong, case)
     for kind in (at_the_keyboard, with_progress):

@@ -1,7 +1,7 @@
 //! Tables of cases. A case is a block of lines, and an empty line separates two cases. The first
 //! line is the input, and the others are the expected message.
 use crate::texts::decoded_text;
-use crate::{command_lines, commands, lines, messages, queries};
+use crate::{command_lines, commands, lines, messages, notes, queries};
 use line_diagnosis::LineContext;
 use std::alloc::{AllocError, Global};
 use std::process::Abort;
@@ -20,6 +20,8 @@ pub(crate) enum Reader {
     Command,
     /// Arguments and a document: what a run writes to standard error.
     Run,
+    /// A query over the document of the notes: its notes.
+    Noted,
     /// Arguments: the command that they are.
     Arguments,
 }
@@ -39,6 +41,7 @@ fn printed<R: Threads + Wait + RandomSource + Sync>(
         Reader::Query => queries::message(alloc, case),
         Reader::Command => commands::message_of(alloc, case),
         Reader::Run => messages::message_of(rt, alloc, case),
+        Reader::Noted => notes::message_of(rt, alloc, case),
         Reader::Arguments => command_lines::line_text(alloc, case),
     }
 }

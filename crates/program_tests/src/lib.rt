@@ -30,6 +30,8 @@ mod lines;
 #[cfg(test)]
 mod messages;
 #[cfg(test)]
+mod notes;
+#[cfg(test)]
 mod queries;
 #[cfg(test)]
 mod refusals;

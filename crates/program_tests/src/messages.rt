@@ -2,6 +2,7 @@
 
 use crate::cases::{Reader, Table, check_tables};
 use crate::commands::words_of;
+use crate::notes::NOTES;
 use crate::texts::decoded_text;
 use spq_core::{NoProgress, run_words};
 use spq_report::{Account, Input, NoMeter, Output, report};
@@ -11,7 +12,7 @@ use std::sync::Wait;
 use std::thread::Threads;
 
 /// Returns the bytes that are written to standard error for arguments and a document.
-fn written<R: Threads + Wait + RandomSource + Sync>(
+pub(crate) fn written<R: Threads + Wait + RandomSource + Sync>(
     rt: &R,
     alloc: Global,
     words: &[String],
@@ -83,36 +84,35 @@ For more information, try '--help'.
 hint: spq reads standard input: use spq check < dump.nq
 "##;
 
-/// Runs without an error, and their warnings.
+/// Runs without an error, and their notes.
 const WARNINGS: &str = r##"
 spq|check -- <http://e/a> <http://e/p> <http://e/b> .‹0A›
 no message
 
-spq|select|--query|SELECT ?o { ?s ?p ?o FILTER(?o = 1) } -- <http://e/a> <http://e/p> "1.0"^^<http://www.w3.org/2001/XMLSchema#double> .‹0A›
-spq: warning: comparisons with xsd:double are not supported, rows with such values are dropped
-
-spq|select|--query|SELECT ?o { ?s ?p ?o } -- <http://e/a> <http://e/p> "1.0"^^<http://www.w3.org/2001/XMLSchema#double> .‹0A›
-no message
-
-spq|select|--query|SELECT ?o { ?s ?p ?o FILTER(?o IN (1)) } -- <http://e/a> <http://e/p> "x"^^<http://www.w3.org/2001/XMLSchema#dateTime> .‹0A›<http://e/a> <http://e/p> "x"^^<http://www.w3.org/2001/XMLSchema#date> .‹0A›<http://e/a> <http://e/p> "x"^^<http://www.w3.org/2001/XMLSchema#float> .‹0A›
-spq: warning: comparisons with xsd:float are not supported, rows with such values are dropped
-spq: warning: comparisons with xsd:dateTime are not supported, rows with such values are dropped
-spq: warning: comparisons with xsd:date are not supported, rows with such values are dropped
-
 spq|select|--query|SELECT ?o ?x ?x { ?s ?p ?o } -- <http://e/a> <http://e/p> <http://e/b> .‹0A›
-spq: warning: ?x is selected and occurs nowhere in the pattern
+spq: note: ?x at line 1, column 11 is selected and occurs nowhere in the pattern
 
 spq|select|--query|SELECT ?o { ?s ?p ?o } -- <http://e/a> <http://e/p> <http://e/b> <http://e/g> .‹0A›
-spq: warning: no rows: the default graph is empty, and the query has no GRAPH for the named graphs
+spq: note: the pattern at line 1, column 13 finds nothing: it is outside of GRAPH, and all quads are in named graphs
 
 spq|select|--query|SELECT ?o { GRAPH <http://e/h> { ?s ?p ?o } } -- <http://e/a> <http://e/p> <http://e/b> <http://e/g> .‹0A›
+no message
+
+spq|select|--query|SELECT ?s { GRAPH ?g { ?s ?p ?o } MINUS { ?s ?p ?o } } -- <http://e/a> <http://e/p> <http://e/b> <http://e/g> .‹0A›
+spq: note: the pattern at line 1, column 43 finds nothing: it is outside of GRAPH, and all quads are in named graphs
+
+spq|select|--query|SELECT * { VALUES ?s { <http://e/a> } FILTER(BOUND(?s)) } -- <http://e/a> <http://e/p> <http://e/b> <http://e/g> .‹0A›
 no message
 
 spq|select|--query|SELECT * { } LIMIT 0 -- <http://e/a> <http://e/p> <http://e/b> <http://e/g> .‹0A›
 no message
 "##;
 
-const TABLES: &[Table] = &[(Reader::Run, FAILURES), (Reader::Run, WARNINGS)];
+const TABLES: &[Table] = &[
+    (Reader::Run, FAILURES),
+    (Reader::Run, WARNINGS),
+    (Reader::Noted, NOTES),
+];
 
 #[test]
 fn runs_are_explained(rt: HostRuntime) {

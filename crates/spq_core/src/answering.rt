@@ -29,7 +29,7 @@ use result_json::{Table, print_rows};
 use row_core::Rows;
 use row_pieces::{EvalFault, How};
 use sparql_algebra::{Plan, translate};
-use sparql_eval::evaluate;
+use sparql_eval::evaluate_counted;
 use sparql_read::{QueryFault, read_query};
 use sparql_tree::Query;
 use std::alloc::{AllocError, Global};
@@ -122,7 +122,9 @@ fn answer_plan<R: Threads + Wait + RandomSource, G: Gate + Sync, P: Progress>(
 {
     a_bag_has_one_sorted_list();
     let (dict, index) = store.into_parts();
-    let evaluated = evaluate(rt, alloc, dict, &index, plan, how, gate);
+    log.planned(alloc, plan);
+    let counts = log.counts();
+    let evaluated = evaluate_counted(rt, alloc, dict, &index, plan, how, gate, counts);
     drop(index);
     match evaluated {
         Ok((rows, dict)) => {
@@ -160,7 +162,6 @@ fn print_solutions<R: Threads + Wait, G: Gate + Sync, P: Progress>(
         (sorted_rows (projected (algebra_of plan.now.tree)) (solutions_of dict.now found.now)))) }
     ensures one_worker { HasOneWorker how.now → IfErr result (λ fault. fault ≡ Memory) }
 {
-    log.evaluated(found.len() == 0);
     log.begin(Stage::Printing);
     let table = Table {
         names: &plan.names,

@@ -1,7 +1,9 @@
 //! Notes that a run takes for messages to the user. No clause and no output depends on them.
 
 use dataset_load::{Line, LoadNotes, Store};
-use query_warnings::{Facts, facts_of, text_compares};
+use expression_errors::ErrorCounts;
+use query_notes::{Outline, counts_of, outline_of};
+use sparql_algebra::Plan;
 use std::alloc::Global;
 
 /// What a run is doing.
@@ -40,10 +42,10 @@ pub struct Notes {
     pub stage: Stage,
     /// The malformed line whose number was returned, if there was memory for it.
     pub line: Option<Line>,
-    /// What its query and its dataset show together.
-    pub facts: Facts,
-    /// Whether its query had no rows, before LIMIT and OFFSET.
-    pub is_empty: bool,
+    /// The rows over which expressions of its query were errors, if there was memory to count them.
+    pub counts: Option<ErrorCounts>,
+    /// Whether all quads are in named graphs, and some are.
+    pub is_named_only: bool,
 }
 
 impl Notes {
@@ -52,8 +54,8 @@ impl Notes {
         Notes {
             stage: Stage::Checking,
             line: None,
-            facts: Facts::NONE,
-            is_empty: false,
+            counts: None,
+            is_named_only: false,
         }
     }
 }
@@ -61,6 +63,8 @@ impl Notes {
 /// The notes of a run, and the progress that it calls.
 pub(crate) struct Log<'p, P> {
     notes: Notes,
+    /// The outline of the query.
+    outline: Option<Outline>,
     progress: &'p P,
 }
 
@@ -70,6 +74,7 @@ impl<'p, P> Drop for Log<'p, P> {
     fn drop(self) {
         let Log {
             notes: _,
+            outline: _,
             progress: _,
         } = self;
     }
@@ -80,13 +85,18 @@ impl<'p, P: Progress> Log<'p, P> {
     pub(crate) fn new(progress: &'p P) -> Log<'p, P> {
         Log {
             notes: Notes::new(),
+            outline: None,
             progress,
         }
     }
 
     /// Returns what was noted.
     pub(crate) fn into_notes(self) -> Notes {
-        let Log { notes, progress: _ } = self;
+        let Log {
+            notes,
+            outline: _,
+            progress: _,
+        } = self;
         notes
     }
 
@@ -105,15 +115,23 @@ impl<'p, P: Progress> Log<'p, P> {
         self.notes.line = line;
     }
 
-    /// Notes what a query and its dataset show together. Without memory for the terminals of the query, none of
-    /// its comparisons are noted.
+    /// Notes the query that is evaluated, and whether all quads are in named graphs.
     pub(crate) fn queried(&mut self, alloc: Global, text: &str, store: &Store) {
-        let compares = text_compares(alloc, text).unwrap_or(false);
-        self.notes.facts = facts_of(compares, store);
+        self.outline = outline_of(alloc, text).ok();
+        let is_empty = store.index().scan(None, None, None, None).is_empty();
+        self.notes.is_named_only = is_empty && store.graphs() > 0;
     }
 
-    /// Notes whether the query had no rows.
-    pub(crate) fn evaluated(&mut self, is_empty: bool) {
-        self.notes.is_empty = is_empty;
+    /// Notes the plan that is evaluated. Without memory, or without the text of its query, the errors
+    /// of its expressions are not counted.
+    pub(crate) fn planned(&mut self, alloc: Global, plan: &Plan) {
+        if let Some(outline) = &self.outline {
+            self.notes.counts = counts_of(alloc, outline, plan).ok();
+        }
+    }
+
+    /// Returns the counts of the errors of the plan's expressions.
+    pub(crate) fn counts(&self) -> Option<&ErrorCounts> {
+        self.notes.counts.as_ref()
     }
 }
