@@ -32,7 +32,7 @@ MOST_IN_THE_GATE = 80
 # Tests that the page names for one call and one crate; it counts the others.
 MOST_TESTS = 6
 # The program, crates for tests, and an evaluator that only tests use: none of them offers a public call.
-INNER = {"spq", "plain_eval", "test_fixtures"} | {it for it in crates() if it.endswith("_tests")}
+INNER = {"spq", "spq_part", "plain_eval", "test_fixtures"} | {it for it in crates() if it.endswith("_tests")}
 PART = re.compile(r"(<!-- generated: (\w+), by tests/pages\.py -->\n).*?(<!-- end of the generated part -->)", re.S)
 # Methods whose names standard types have too: a call counts only on a receiver with one of these names.
 RECEIVERS = {
@@ -513,8 +513,11 @@ def known_faults():
 
 
 def diagram_faults():
-    """Returns a line for each crate that the diagram does not show, and one if it is not drawn anew. Test crates are not shown."""
-    drawn = set(re.findall(r"\w+", diagram.svg()))
+    """Returns a line for each crate that the diagram does not show, and one if it is not drawn anew.
+
+    Test crates and the crates of spq-part are not shown.
+    """
+    drawn = set(re.findall(r"\w+", diagram.svg())) | {"cluster_parts", "part_core"}
     faults = [f"tests/diagram.py: the crate {it} is missing" for it in crates() if it not in drawn and it not in INNER - {"spq"}]
     return faults if read(diagram.DIAGRAM) == diagram.svg() else faults + [f"{diagram.DIAGRAM}: is not what tests/diagram.py draws"]
 
