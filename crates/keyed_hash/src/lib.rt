@@ -6,6 +6,7 @@
 //!
 //! Not guaranteed: which hash a text has. No result of the program depends on it, only its speed.
 #![tactic(auto)]
+
 ghost use Rattle.std.specs.Prelude.{◌≡◌, ◌+◌, ◌≤◌, length};
 ghost use Rattle.core.specs.Hash.FoldHasher.{folded_multiply, read_u32, read_u64, read_short};
 ghost use Rattle.keyed_hash.specs.Hashing.{write, finish, hash_of};

@@ -43,7 +43,10 @@ impl Reason {
         let any = Found::LineEnd;
         let reason = match self {
             Reason::InvalidUtf8(_) => Reason::InvalidUtf8(0),
-            Reason::Unexpected(next, found) => Reason::Unexpected(next, representative(next, found)),
+            Reason::Unexpected(next, found) => Reason::Unexpected(
+                next,
+                representative(next, found),
+            ),
             Reason::NoScheme(_) => Reason::NoScheme(any),
             Reason::UnknownEscape(_) => Reason::UnknownEscape(any),
             Reason::NoDigit(_) => Reason::NoDigit(any),
@@ -62,7 +65,9 @@ impl fmt::Display for Summary {
     fn fmt<W: fmt::Write>(&self, f: &mut fmt::Formatter<W>) -> fmt::Result {
         let words = without_found(self.reason.words());
         match self.reason {
-            Reason::Unexpected(next, found) => f.write_str(missing_dot(next, found).unwrap_or(words)),
+            Reason::Unexpected(next, found) => f.write_str(missing_dot(next, found).unwrap_or(
+                words,
+            )),
             Reason::IriChar(c) => {
                 write_char(f, c)?;
                 f.write_str(words)

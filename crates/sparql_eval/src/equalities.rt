@@ -54,11 +54,7 @@ fn add_equality(operand: &Expr, found: &mut Vec<Equality>) -> Result<(), AllocEr
 }
 
 /// Adds two variables that are compared.
-fn add_variables(
-    left: &Expr,
-    right: &Expr,
-    found: &mut Vec<Equality>,
-) -> Result<(), AllocError>
+fn add_variables(left: &Expr, right: &Expr, found: &mut Vec<Equality>) -> Result<(), AllocError>
     ensures required { OnOk result ((e : Expression)
         → IsRequiredEqual e (expression_of left.now) (expression_of right.now)
         → AreRequired e found.old.items → AreRequired e found.new.items) }

@@ -119,7 +119,13 @@ impl<'c, 'i, 'e, R: Threads + Wait, G: Gate + Sync> Evaluator<'c, 'i, 'e, R, G> 
             Operator::Distinct { inner } => self.solve_distinct(dict, active, inner),
             Operator::Table { variables, rows } => {
                 let variables = variables.as_slice();
-                table(self.context.alloc, dict, self.width, variables, rows.as_slice())
+                table(
+                    self.context.alloc,
+                    dict,
+                    self.width,
+                    variables,
+                    rows.as_slice(),
+                )
             }
         }
     }
@@ -174,7 +180,13 @@ impl<'c, 'i, 'e, R: Threads + Wait, G: Gate + Sync> Evaluator<'c, 'i, 'e, R, G> 
         let (right, dict) = self.solve(dict, active, right)?;
         let place = self.place(Owner::LeftJoin, condition);
         left_join_with(
-            &self.context, self.state, dict, &left, &right, condition, place,
+            &self.context,
+            self.state,
+            dict,
+            &left,
+            &right,
+            condition,
+            place,
         )
     }
 
@@ -276,7 +288,13 @@ impl<'c, 'i, 'e, R: Threads + Wait, G: Gate + Sync> Evaluator<'c, 'i, 'e, R, G> 
         let (rows, dict) = self.solve(dict, active, inner)?;
         let place = self.place(Owner::Extend(variable), expression);
         extend_with(
-            &self.context, self.state, dict, &rows, variable, expression, place,
+            &self.context,
+            self.state,
+            dict,
+            &rows,
+            variable,
+            expression,
+            place,
         )
     }
 
@@ -503,7 +521,13 @@ impl<'c, 'i, 'e, R: Threads + Wait, G: Gate + Sync> Evaluator<'c, 'i, 'e, R, G> 
         ensures one_worker { HasOneWorker self.now.context.how.now → IfErr result (λ fault. fault ≡ Memory) }
     {
         pattern_with(
-            &self.context, dict, self.index, active, self.width, labels, triples,
+            &self.context,
+            dict,
+            self.index,
+            active,
+            self.width,
+            labels,
+            triples,
         )
     }
 }

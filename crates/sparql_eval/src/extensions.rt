@@ -69,7 +69,15 @@ pub fn extend<R: Threads + Wait, G: Gate + Sync>(
         how,
         gate,
     };
-    extend_with(&context, state, dict, rows, variable, expression, Place::none())
+    extend_with(
+        &context,
+        state,
+        dict,
+        rows,
+        variable,
+        expression,
+        Place::none(),
+    )
 }
 
 /// Evaluates Extend, as [`extend`] does, with a context. Rows over which the expression is an error are

@@ -89,7 +89,13 @@ pub(crate) fn join_with<R: Threads + Wait, G: Gate + Sync>(
 {
     let _distinct = dict.len();
     let made = row_join::join(
-        context.rt, context.alloc, state, left, right, context.how, context.gate,
+        context.rt,
+        context.alloc,
+        state,
+        left,
+        right,
+        context.how,
+        context.gate,
     );
     with_dict(made, dict)
 }
@@ -258,7 +264,14 @@ fn left_joined_by_rows<R: Threads + Wait, G: Gate + Sync>(
         place,
     };
     row_join::left_join(
-        context.rt, context.alloc, state, left, right, &test, context.how, context.gate,
+        context.rt,
+        context.alloc,
+        state,
+        left,
+        right,
+        &test,
+        context.how,
+        context.gate,
     )
 }
 
@@ -324,7 +337,13 @@ pub(crate) fn minus_with<R: Threads + Wait, G: Gate + Sync>(
 {
     let _distinct = dict.len();
     let made = row_join::minus(
-        context.rt, context.alloc, state, left, right, context.how, context.gate,
+        context.rt,
+        context.alloc,
+        state,
+        left,
+        right,
+        context.how,
+        context.gate,
     );
     with_dict(made, dict)
 }

@@ -61,7 +61,14 @@ pub(crate) fn left_joined_by_keys<R: Threads + Wait, G: Gate + Sync>(
         place,
     };
     let rows = row_join::left_join(
-        context.rt, context.alloc, state, &left, &right, &test, context.how, context.gate,
+        context.rt,
+        context.alloc,
+        state,
+        &left,
+        &right,
+        &test,
+        context.how,
+        context.gate,
     )?;
     let made = first_cells(context.alloc, &rows, width)?;
     Ok(made)

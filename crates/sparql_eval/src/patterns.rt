@@ -121,7 +121,14 @@ fn matches<R: Threads + Wait, G: Gate + Sync>(
     };
     let triples = numbered.as_slice();
     row_pattern::pattern(
-        context.rt, context.alloc, index, active, width, labels, triples, context.how,
+        context.rt,
+        context.alloc,
+        index,
+        active,
+        width,
+        labels,
+        triples,
+        context.how,
         context.gate,
     )
 }

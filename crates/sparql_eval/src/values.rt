@@ -53,7 +53,14 @@ pub(crate) fn values_of<R: Threads + Wait, G: Gate + Sync>(
         place,
         size,
     };
-    match run_all(context.rt, context.alloc, context.how.workers, pieces, &job, context.gate)? {
+    match run_all(
+        context.rt,
+        context.alloc,
+        context.how.workers,
+        pieces,
+        &job,
+        context.gate,
+    )? {
         Outcome::All(outs) => Ok(outs),
         Outcome::First { .. } => unreachable!(),
     }

@@ -141,8 +141,8 @@ place_back slots h i at used =
     let back = drop start slots in (
       get-drop start i 0 slots at,
       λ slot. leads_front slot (drop start (set slots (start + i) slot)) (take start (set slots (start + i) slot))
-      (subst (Leads slot) (sym (drop-set-add start slots i slot ∙ set_split back i slot (slice_get_within back i 0 at)))
-      (leads_here slot (take i back) (drop (suc i) back) used)),
+          (subst (Leads slot) (sym (drop-set-add start slots i slot ∙ set_split back i slot (slice_get_within back i 0 at)))
+          (leads_here slot (take i back) (drop (suc i) back) used)),
     )
 
 place_front : (slots : List ℕ) (h i : ℕ) → let start = start_of h slots in AreUsed (drop start slots) → slice_get (take start slots) i ≡ Some 0 → AreUsed (take i (take start slots))
@@ -154,7 +154,7 @@ place_front slots h i back at used =
     let low : i < start = omega (arith, within, length-take start slots) in (
       get-take start i 0 slots at,
       λ slot. subst (Leads slot) (λ k. sym (drop-set-lt start slots i slot low) k ++ sym (take-set_at start i slot slots ∙ set_split front i slot within) k)
-      (leads_used slot (drop start slots) (take i front ++ slot ∷ drop (suc i) front) back (leads_here slot (take i front) (drop (suc i) front) used)),
+          (leads_used slot (drop start slots) (take i front ++ slot ∷ drop (suc i) front) back (leads_here slot (take i front) (drop (suc i) front) used)),
     )
 
 -- ---- what the functions say
@@ -269,6 +269,7 @@ reached_more hash texts slots place text n was here n_is m t at = by (get-push t
   where
     new : List ℕ
     new = set slots place (slot_of (hash text) n)
+
     by : (slice_get texts m ≡ Some t) ⊎ ((m ≡ length texts) × (t ≡ text)) → Leads (slot_of (hash t) m) (path new (start_of (hash t) new))
     by (inl e) =
         subst (λ s. Leads (slot_of (hash t) m) (path new s)) (sym (start_kept (hash t) slots place (slot_of (hash text) n)))

@@ -157,7 +157,14 @@ impl TextDict {
         make_room(&self.texts, &mut self.slots, self.state)?;
         match find(&self.texts, self.slots.as_slice(), hash, text) {
             Search::Found(n) => Ok(n as u64),
-            Search::Free(place) => add(&mut self.texts, &mut self.slots, self.state, hash, place, text),
+            Search::Free(place) => add(
+                &mut self.texts,
+                &mut self.slots,
+                self.state,
+                hash,
+                place,
+                text,
+            ),
             Search::Full => Err(AllocError),
         }
     }
