@@ -15,6 +15,6 @@ returns c =
     let m = c.min-width.result in
     let of : Solution ℕ → Bool = λ μ. holds (expression_of s.condition.now) (read_row (term_at s.dict.now) μ) in
     record {
-      value = IfOk-weaker c.test.result (λ (answer : Bool). answer ≡ of (take m row)) (λ answer. answer ≡ of (take s.width row))
-          (λ answer h. h ∙ ap of (first_taken s.width m row (omega (arith, c.min-width.ensures)) (omega (arith, c.min-width.ensures)) (λ l. omega (arith, c.min-width.ensures)))) c.test.ensures.holds;
+      value = IfOk-weaker c.test_counted.result (λ (answer : Bool). answer ≡ of (take m row)) (λ answer. answer ≡ of (take s.width row))
+          (λ answer h. h ∙ ap of (first_taken s.width m row (omega (arith, c.min-width.ensures)) (omega (arith, c.min-width.ensures)) (λ l. omega (arith, c.min-width.ensures)))) c.test_counted.ensures.holds;
     }
