@@ -210,8 +210,7 @@ def lines():
     yield failed(
         "a long line with an early mistake", ["check"], b"<http://e/a> x" + long + b"\n", 1, "error: line 1",
         "spq: line 1, column 14: expected a predicate (an IRI), found 'x'\n"
-        "<http://e/a> x<http://e/a> <http://e/p> \"" + "a" * 38 + "\u2026\n             ^\n"
-        "hint: this looks like Turtle; N-Quads has no prefixes and no abbreviations: write each term in full\n")
+        "<http://e/a> x<http://e/a> <http://e/p> \"" + "a" * 38 + "\u2026\n             ^\n")
     yield failed(
         "a long line with a late mistake", ["check"], long + b"\n", 1, "error: line 1",
         "spq: line 1: this is not a line of N-Quads\n")
@@ -484,8 +483,8 @@ def with_progress(program):
         ("a check that is shown at the terminal", ["check"], slow(STATEMENT), both, 0, three + re.escape(counts), {}),
         ("a malformed line", ["check"], slow(STATEMENT + b".\n"), both, 1,
          progress(["reading", "indexing"]) + begins_with("error: line 2\nspq: line 2, column 1: "), {}),
-        ("a warning", ["select", "--query", "SELECT ?o ?x { ?s ?p ?o }"], slow(STATEMENT), error, 0,
-         four + re.escape("spq: warning: ?x is selected and occurs nowhere in the pattern\n"), {}),
+        ("a note", ["select", "--query", "SELECT ?o ?x { ?s ?p ?o }"], slow(STATEMENT), error, 0,
+         four + re.escape("spq: note: ?x at line 1, column 11 is selected and occurs nowhere in the pattern\n"), {}),
         ("a rejected query", ["select", "--query", "SELECT"], at_once, both, 2, begins_with("error: query syntax\nspq: query, "), {}),
         ("standard error is no terminal", select, slow_unseen, ("output",), 0, re.escape(rows), {"error": ""}),
     ]
