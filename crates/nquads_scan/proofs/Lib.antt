@@ -9,3 +9,4 @@ pub mod PieceSteps
 pub mod FormSteps
 pub mod FormLaws
 pub mod PlainLaws
+pub mod PlainLineSteps

@@ -25,6 +25,7 @@ use Rattle.nquads_core.proofs.RunLaws.{or_parts}
 use Rattle.nquads_core.proofs.TerminalLaws.{at_dot}
 use Rattle.nquads_scan.specs.Ends.{IsApart}
 use Rattle.nquads_scan.specs.Layout.{IsBlanksThen, IsComment, IsCut, IsGraphCut, IsLaidOut, IsLineEndThen, at_text_end, lf, cr, crlf, IsTail, IsStatementThen}
+use Rattle.nquads_scan.specs.PlainLines.{FirstLine}
 use Rattle.nquads_scan.proofs.ByteLaws.{apart_front, apart_here, blank_ascii, chars_blanks, chars_cons, one_utf8, utf8_after}
 use Rattle.nquads_scan.proofs.NoEnds.{HasNoEnd, no_end, no_end_join, slice_kept}
 use Rattle.nquads_scan.proofs.RunSteps.{begins_with, object_runs}
@@ -298,12 +299,6 @@ utf8_line line eol rest at_text_end u = subst IsUtf8 (append-nil line) u
 utf8_line line eol rest lf u = utf8_before line 10 rest (lit< tt) u
 utf8_line line eol rest (cr h) u = utf8_before line 13 rest (lit< tt) u
 utf8_line line eol rest crlf u = utf8_before line 13 (10 ∷ rest) (lit< tt) u
-
--- the first line of the text, and the statement that it holds
-pub record FirstLine (text rest : List ℕ) (q : Option QuadParts) : Type 0 where
-  pub line : List ℕ
-  pub parts : lines text ≡ line ∷ lines rest
-  pub statement : HasStatement line q
 
 pub blank_line : (text rest : List ℕ) → IsUtf8 text → 0 < length text → IsTail text rest → FirstLine text rest None
 blank_line text rest u l t =

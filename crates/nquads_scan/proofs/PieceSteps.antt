@@ -10,7 +10,8 @@ use Rattle.nquads_core.specs.Splitting.{DenotesQuad, DenoteAll, AreStatements}
 use Rattle.nquads_core.proofs.PieceLaws.{statements_more, lines_nil}
 use Rattle.nquads_scan.specs.Counting.{AreCounted}
 use Rattle.nquads_scan.specs.Layout.{IsLineThen}
-use Rattle.nquads_scan.proofs.LineSteps.{FirstLine, blank_line, statement_line}
+use Rattle.nquads_scan.specs.PlainLines.{AreLinesBefore, FirstLine}
+use Rattle.nquads_scan.proofs.LineSteps.{blank_line, statement_line}
 
 record DenotesLast (raws : List RawStatement) (raw : RawStatement) (quads : List QuadParts) : Type 0 where
   front : List QuadParts
@@ -25,14 +26,7 @@ denote_last (r ∷ raws) raw quads d =
     let p = denote_last raws raw d.1 d.4 in
     record { front = d.0 ∷ p.front; q = p.q; parts = d.2 ∙ ap (λ (y : List QuadParts). d.0 ∷ y) p.parts; others = (d.0, p.front, refl, d.3, p.others); last = p.last }
 
--- the lines before the rest hold these quads, and are this many
-pub record LinesBefore (quads : List QuadParts) (count : ℕ) (rest all : List ℕ) : Type 0 where
-  pub before : List (List ℕ)
-  pub parts : lines all ≡ before ++ lines rest
-  pub statements : HaveStatements before quads
-  pub number : length before ≡ count
-
-line_more : (quads : List QuadParts) (q : Option QuadParts) (count : ℕ) (rest all after : List ℕ) → LinesBefore quads count rest all → FirstLine rest after q → LinesBefore (quads ++ option_to_list q) (count + 1) after all
+pub line_more : (quads : List QuadParts) (q : Option QuadParts) (count : ℕ) (rest all after : List ℕ) → AreLinesBefore quads count rest all → FirstLine rest after q → AreLinesBefore (quads ++ option_to_list q) (count + 1) after all
 line_more quads q count rest all after h f =
     record {
       before = h.before ++ f.line ∷ [];
@@ -45,7 +39,7 @@ line_more quads q count rest all after h f =
 pub record SplitLines (raws : List RawStatement) (count : ℕ) (rest all : List ℕ) : Type 0 where
   pub utf8 : IsUtf8 rest
   pub short : count + length rest ≤ length all
-  pub so_far : (quads : List QuadParts) → DenoteAll raws quads → LinesBefore quads count rest all
+  pub so_far : (quads : List QuadParts) → DenoteAll raws quads → AreLinesBefore quads count rest all
 
 all_left : (all : List ℕ) → IsUtf8 all → SplitLines [] 0 all all
 all_left all u = record { utf8 = u; short = omega arith; so_far = λ quads d. record { before = []; parts = refl; statements = d; number = refl } }
@@ -60,7 +54,7 @@ split_more raws raws' None count rest all after h l u s t e = record {
   short = omega (arith, h.short);
   so_far = λ quads d.
       let old = h.so_far quads (subst (λ (y : List RawStatement). DenoteAll y quads) (e ∙ append-nil raws) d) in
-      subst (λ (y : List QuadParts). LinesBefore y (count + 1) after all) (append-nil quads) (line_more quads None count rest all after old (blank_line rest after h.utf8 l t));
+      subst (λ (y : List QuadParts). AreLinesBefore y (count + 1) after all) (append-nil quads) (line_more quads None count rest all after old (blank_line rest after h.utf8 l t));
 }
 split_more raws raws' (Some raw) count rest all after h l u s t e = record {
   utf8 = u;
@@ -68,10 +62,10 @@ split_more raws raws' (Some raw) count rest all after h l u s t e = record {
   so_far = λ quads d.
       let p = denote_last raws raw quads (subst (λ (y : List RawStatement). DenoteAll y quads) e d) in
       let old = h.so_far p.front p.others in
-      subst (λ (y : List QuadParts). LinesBefore y (count + 1) after all) (sym p.parts) (line_more p.front (Some p.q) count rest all after old (statement_line rest raw after p.q h.utf8 l t p.last));
+      subst (λ (y : List QuadParts). AreLinesBefore y (count + 1) after all) (sym p.parts) (line_more p.front (Some p.q) count rest all after old (statement_line rest raw after p.q h.utf8 l t p.last));
 }
 
-before_all : (quads : List QuadParts) (count : ℕ) (rest all : List ℕ) → LinesBefore quads count rest all → rest ≡ [] → HaveStatements (lines all) quads × (count ≡ length (lines all))
+before_all : (quads : List QuadParts) (count : ℕ) (rest all : List ℕ) → AreLinesBefore quads count rest all → rest ≡ [] → HaveStatements (lines all) quads × (count ≡ length (lines all))
 before_all quads count rest all h e =
     let whole : lines all ≡ h.before = h.parts ∙ ap (λ (y : List (List ℕ)). h.before ++ y) (ap lines e ∙ lines_nil) ∙ append-nil h.before in
     (subst (λ (y : List (List ℕ)). HaveStatements y quads) (sym whole) h.statements, sym h.number ∙ ap (λ (y : List (List ℕ)). length y) (sym whole))

@@ -15,6 +15,7 @@ use Rattle.rdf_core.specs.Characters.{all_pass, is_iri_char, is_string_char}
 use Rattle.rdf_core.specs.Escapes.{IsIriPart, Writes}
 use Rattle.rdf_core.specs.Lexical.{has_scheme}
 use Rattle.rdf_core.specs.Serialization.{escaped, serialization, suffix}
+use Rattle.rdf_core.specs.QuadFacts.{is_iri, is_node}
 use Rattle.rdf_core.specs.Vocabulary.{rdf_lang_string, xsd_string}
 use Rattle.nquads_core.specs.Terminal.{is_label}
 use Rattle.rdf_core.proofs.EscapeLaws.{and_is, and_parts}
@@ -47,6 +48,9 @@ good_iri iri u h =
       right = writes_pass (chars iri) (chars iri) (raw_writes inside.Iri (chars iri) (subst (λ (y : List ℕ). list_all is_iri_char y ≡ true) (sym bytes) p.0));
       scheme = p.1;
     }
+
+pub iri_denotes : (raw iri : List ℕ) → IsBracketed raw iri → is_plain_iri iri ≡ true → (t : Term) × Denotes raw t × (is_iri t ≡ true)
+iri_denotes raw iri b h = (Iri iri, subst (λ (y : List ℕ). Denotes y (Iri iri)) (sym b.parts) (good_denotes (Iri iri) (good_iri iri b.utf8 h)), refl)
 
 pub iri_form : (raw iri : List ℕ) → IsBracketed raw iri → is_plain_iri iri ≡ true → HasForm raw raw
 iri_form raw iri b h = form_of raw (Iri iri) (good_iri iri b.utf8 h) b.parts
@@ -82,9 +86,14 @@ literal_form raw string more s (inr (inl d)) =
 
 -- ---- labels
 
+good_label : (raw label : List ℕ) → IsLabelled raw label → is_label (chars label) ≡ true → GoodTerm (Blank label)
+good_label raw label b h = record { chars = chars label; scalars = scalars-chars label b.utf8; utf8 = sym (encodes-chars label b.utf8); right = h }
+
+pub label_denotes : (raw label : List ℕ) → IsLabelled raw label → is_label (chars label) ≡ true → (t : Term) × Denotes raw t × (is_node t ≡ true)
+label_denotes raw label b h = (Blank label, subst (λ (y : List ℕ). Denotes y (Blank label)) (sym b.parts) (good_denotes (Blank label) (good_label raw label b h)), refl)
+
 pub label_form : (raw label : List ℕ) → IsLabelled raw label → is_label (chars label) ≡ true → HasForm raw raw
-label_form raw label b h =
-    form_of raw (Blank label) (record { chars = chars label; scalars = scalars-chars label b.utf8; utf8 = sym (encodes-chars label b.utf8); right = h }) b.parts
+label_form raw label b h = form_of raw (Blank label) (good_label raw label b h) b.parts
 
 -- ---- the ends of a text
 

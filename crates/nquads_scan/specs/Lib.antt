@@ -3,3 +3,4 @@ pub mod Layout
 pub mod Counting
 pub mod Canonical
 pub mod Plain
+pub mod PlainLines

@@ -9,7 +9,7 @@
 //! of this project: the one that `write_term` of rdf_core writes.
 //!
 //! Reading order: `search`, `ends` (where a slice ends), `blanks` (what is between slices), `statement` (a line), `pieces`,
-//! `checks`, `plain`, `canonical_text`.
+//! `checks`, `plain`, `canonical_text`, `plain_lines`.
 #![tactic(auto)]
 
 mod blanks;
@@ -18,8 +18,10 @@ mod checks;
 mod ends;
 mod pieces;
 mod plain;
+mod plain_lines;
 mod search;
 mod statement;
 
 pub use canonical_text::{Form, canonical};
 pub use pieces::split_piece;
+pub use plain_lines::{is_plain_line, skip_plain_lines};

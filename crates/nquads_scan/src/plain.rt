@@ -64,14 +64,14 @@ fn are_string_bytes(bytes: &[u8]) -> bool
 }
 
 /// Returns whether this is an IRI with a scheme, written without an escape.
-fn is_plain_iri(inside: &str) -> bool
+pub fn is_plain_iri(inside: &str) -> bool
     ensures { result ≡ is_plain_iri inside.now }
 {
     are_iri_bytes(inside.as_bytes()) && has_scheme(inside)
 }
 
 /// Returns what is between `<` and `>`, if these are at the ends of the text.
-fn between_brackets(text: &str) -> Option<&str>
+pub fn between_brackets(text: &str) -> Option<&str>
     ensures { IfSome result (λ inside. IsBracketed text.now inside.now) }
 {
     let bytes = text.as_bytes();
@@ -119,7 +119,7 @@ fn is_plain_suffix(suffix: &str) -> bool
 }
 
 /// Returns the label of a blank node after `_:`, if the text begins with that.
-fn after_label_sign(text: &str) -> Option<&str>
+pub fn after_label_sign(text: &str) -> Option<&str>
     ensures { IfSome result (λ label. IsLabelled text.now label.now) }
 {
     let bytes = text.as_bytes();

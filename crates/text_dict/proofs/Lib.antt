@@ -1,3 +1,4 @@
 pub mod TextLaws
 pub mod SlotLaws
 pub mod FormLaws
+pub mod TruncateLaws

@@ -1,11 +1,11 @@
 //! The dictionary of texts.
-ghost use Rattle.std.specs.Prelude.{◌≡◌, ◌<◌, ◌^◌, ◌++◌, ◌∷◌, [], length, slice_get, Some, IfOk, IfSome, MatchOption, OnOk, OnErr};
+ghost use Rattle.std.specs.Prelude.{◌≡◌, ◌<◌, ◌≤◌, ◌^◌, ◌++◌, ◌∷◌, [], length, take, slice_get, Some, IfOk, IfSome, MatchOption, OnOk, OnErr};
 ghost use Rattle.keyed_hash.specs.Hashing.{hash_of};
 ghost use Rattle.text_dict.specs.Forms.{AreForms, IsForm};
 ghost use Rattle.text_dict.specs.Slots.{IsPlace};
 ghost use Rattle.text_dict.specs.TextDict.{Has, IsAdded, IsTable};
 
-use crate::slots::{MOST_NUMBERS, Search, find, slot_of, table_of};
+use crate::slots::{MOST_NUMBERS, Search, find, likely_number, slot_of, table_of};
 use crate::texts::Texts;
 use keyed_hash::HashState;
 use std::alloc::{AllocError, Global};
@@ -119,6 +119,16 @@ impl TextDict {
         }
     }
 
+    /// Returns the number that a text is likely to have, or `len`. The text is not compared, so the caller has to do that. Who
+    /// asks for several texts first, and compares them then, lets the processor overlap the reads of the table.
+    #[inline]
+    pub fn guess(&self, text: &[u8]) -> u64
+        ensures within { result ≤ length self.now.texts }
+    {
+        let n = likely_number(self.slots.as_slice(), self.state.hash_of(text));
+        n.min(self.texts.len() as u64)
+    }
+
     /// Returns the number of a text. A new text is appended.
     ///
     /// # Requires
@@ -136,6 +146,27 @@ impl TextDict {
     {
         let hash = self.state.hash_of(text);
         self.intern_hashed(hash, text)
+    }
+
+    /// Returns the number of a text. A new text is appended. The text with the number `guess` is compared first, if there is
+    /// one.
+    ///
+    /// # Requires
+    /// The text is the N-Quads form of a term.
+    ///
+    /// # Errors
+    /// As `intern`.
+    pub fn intern_guessed(&mut self, guess: u64, text: &[u8]) -> Result<u64, AllocError>
+        requires form { IsForm text.now }
+        ensures number { IfOk result (λ n. slice_get self.new.texts n ≡ Some text.now) }
+        ensures added { OnOk result (IsAdded self.old.texts text.now self.new.texts) }
+        ensures unchanged { OnErr result (self.new.texts ≡ self.old.texts) }
+        ensures state { self.new.state ≡ self.old.state }
+    {
+        if guess < self.texts.len() as u64 && self.texts.text(guess as usize) == text {
+            return Ok(guess);
+        }
+        self.intern(text)
     }
 
     /// Returns the number of a text with this hash. A new text is appended.
@@ -167,6 +198,17 @@ impl TextDict {
             ),
             Search::Full => Err(AllocError),
         }
+    }
+
+    /// Removes the texts from this number on. The other texts keep their numbers.
+    ///
+    /// The slots of the removed texts stay in the table. A search passes them: their numbers are those of no text, or of
+    /// a text that was added later, which is compared.
+    pub fn truncate(&mut self, len: usize)
+        ensures texts { self.new.texts ≡ take len self.old.texts }
+        ensures state { self.new.state ≡ self.old.state }
+    {
+        self.texts.truncate(len);
     }
 }
 

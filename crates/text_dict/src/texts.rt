@@ -1,5 +1,5 @@
 //! Texts in one buffer.
-ghost use Rattle.std.specs.Prelude.{◌≡◌, ◌<◌, ◌≤◌, ◌^◌, ◌++◌, ◌∷◌, [], List, length, slice_get, get_or, Some, OnOk, OnErr};
+ghost use Rattle.std.specs.Prelude.{◌≡◌, ◌<◌, ◌≤◌, ◌^◌, ◌++◌, ◌∷◌, [], List, length, take, slice_get, get_or, Some, OnOk, OnErr};
 ghost use Rattle.text_dict.specs.Texts.{AreEnds, texts_after};
 
 use std::alloc::{AllocError, Global};
@@ -74,6 +74,17 @@ impl Texts {
         self.bytes.extend_from_slice(text)?;
         self.ends.push_reserved(self.bytes.len());
         Ok(())
+    }
+
+    /// Removes the texts from this number on.
+    pub fn truncate(&mut self, len: usize)
+        ensures value { self.new ≡ take len self.old }
+    {
+        if len >= self.ends.len() {
+            return;
+        }
+        self.bytes.truncate(start_of(self.ends.as_slice(), len));
+        self.ends.truncate(len);
     }
 }
 

@@ -4,6 +4,7 @@ ghost use Rattle.rdf_core.specs.QuadParts.{QuadParts};
 ghost use Rattle.text_pieces.specs.Forms.{AreNumberedBy};
 ghost use Rattle.text_pieces.specs.Pieces.{AreAdded, AreGrown, IsPieceOf};
 
+use crate::guesses::guess_text;
 use crate::renumbering::append_renumbered;
 use crate::text_piece::TextPiece;
 use dict_core::NumQuad;
@@ -16,8 +17,7 @@ use text_dict::TextDict;
 /// The piece may have been read against an earlier state of the dictionary.
 ///
 /// # Errors
-/// `AllocError` if an allocation fails. The list is unchanged. The dictionary has the texts that it had, with their
-/// numbers, and perhaps some of the new ones.
+/// `AllocError` if an allocation fails. Dictionary and list are unchanged.
 pub fn add_piece(
     alloc: Global,
     dict: &mut TextDict,
@@ -29,10 +29,11 @@ pub fn add_piece(
         → AreGrown earlier dict.old.texts → IsPieceOf earlier quads piece
         → AreNumberedBy done dict.old.texts all.old.items
         → AreNumberedBy (done ++ quads) dict.new.texts all.new.items) }
-    ensures unchanged { OnErr result (all.new.items ≡ all.old.items) }
+    ensures unchanged { OnErr result (dict.new.texts ≡ dict.old.texts) }
+    ensures unchanged_quads { OnErr result (all.new.items ≡ all.old.items) }
 {
     all.reserve(piece.quads.len())?;
-    let numbers = add_texts(alloc, dict, &piece.new)?;
+    let numbers = add_all(alloc, dict, &piece.new)?;
     append_renumbered(
         all,
         piece.base as u64,
@@ -42,6 +43,23 @@ pub fn add_piece(
     Ok(())
 }
 
+/// Adds texts, in order. Returns their numbers. On error the dictionary is unchanged.
+fn add_all(alloc: Global, dict: &mut TextDict, new: &TextDict) -> Result<Vec<u64>, AllocError>
+    ensures grown { AreGrown dict.old.texts dict.new.texts }
+    ensures added { IfOk result
+        (λ v. AreAdded dict.old.texts new.now.texts dict.new.texts v.items) }
+    ensures unchanged { OnErr result (dict.new.texts ≡ dict.old.texts) }
+{
+    let before = dict.len();
+    match add_texts(alloc, dict, new) {
+        Ok(numbers) => Ok(numbers),
+        Err(fault) => {
+            dict.truncate(before);
+            Err(fault)
+        }
+    }
+}
+
 /// Adds texts, in order. Returns their numbers.
 fn add_texts(alloc: Global, dict: &mut TextDict, new: &TextDict) -> Result<Vec<u64>, AllocError>
     ensures grown { AreGrown dict.old.texts dict.new.texts }
@@ -49,8 +67,10 @@ fn add_texts(alloc: Global, dict: &mut TextDict, new: &TextDict) -> Result<Vec<u
         (λ v. AreAdded dict.old.texts new.now.texts dict.new.texts v.items) }
 {
     let mut numbers = Vec::with_capacity(alloc, new.len())?;
+    let mut guesses = Vec::new(alloc);
     for n in 0..new.len() as u64 {
-        numbers.push_reserved(dict.intern(new.text(n))?);
+        let guess = guess_text(dict, new, n, &mut guesses)?;
+        numbers.push_reserved(dict.intern_guessed(guess, new.text(n))?);
     }
     Ok(numbers)
 }

@@ -84,13 +84,23 @@ pub(crate) fn number_text(
     }
 }
 
+/// Returns whether a text has this number, in the dictionary or among the new texts.
+#[inline(always)]
+fn has_number(dict: &TextDict, new: &TextDict, n: u64, text: &[u8]) -> bool
+    ensures number { result ≡ true
+        → (slice_get (dict.now.texts ++ new.now.texts) n ≡ Some text.now) × IsForm text.now }
+{
+    n < (dict.len() + new.len()) as u64 && text_at(dict, new, n) == text
+}
+
 /// Returns the number of the term that a slice denotes. A slice that has no number is checked, and rewritten to the
-/// N-Quads form of its term. `form` is a buffer for that.
+/// N-Quads form of its term. `form` is a buffer for that. The text with the number `guess` is compared first.
 pub(crate) fn number_slice(
     alloc: Global,
     dict: &TextDict,
     new: &mut TextDict,
     form: &mut Vec<u8>,
+    guess: u64,
     raw: &str,
 ) -> Result<u64, NamingFault>
     requires state { new.old.state ≡ dict.now.state }
@@ -98,6 +108,9 @@ pub(crate) fn number_slice(
     ensures number { IfOk result
         (IsNumberOf (λ _. ⊤) dict.now.texts new.old.texts new.new.texts raw.now) }
 {
+    if has_number(dict, new, guess, raw.as_bytes()) {
+        return Ok(guess);
+    }
     let hash = dict.state().hash_of(raw.as_bytes());
     match known(dict, new, hash, raw.as_bytes()) {
         Some(n) => Ok(n),
@@ -130,9 +143,11 @@ fn number_new(
 }
 
 /// Returns the text with this number.
+#[inline(always)]
 fn text_at<'a>(dict: &'a TextDict, new: &'a TextDict, n: u64) -> &'a [u8]
     requires known { n < length (dict.now.texts ++ new.now.texts) }
     ensures value { slice_get (dict.now.texts ++ new.now.texts) n ≡ Some result.now }
+    ensures form { IsForm result.now }
 {
     let base = dict.len() as u64;
     if n < base {
@@ -155,6 +170,7 @@ pub(crate) fn number_node(
     dict: &TextDict,
     new: &mut TextDict,
     form: &mut Vec<u8>,
+    guess: u64,
     raw: &str,
 ) -> Result<u64, NamingFault>
     requires state { new.old.state ≡ dict.now.state }
@@ -162,7 +178,7 @@ pub(crate) fn number_node(
     ensures number { IfOk result (IsNumberOf (λ t. is_node t ≡ true)
         dict.now.texts new.old.texts new.new.texts raw.now) }
 {
-    let n = number_slice(alloc, dict, new, form, raw)?;
+    let n = number_slice(alloc, dict, new, form, guess, raw)?;
     if first_byte(text_at(dict, new, n)) == b'"' {
         return Err(NamingFault::Doubt);
     }
@@ -175,6 +191,7 @@ pub(crate) fn number_iri(
     dict: &TextDict,
     new: &mut TextDict,
     form: &mut Vec<u8>,
+    guess: u64,
     raw: &str,
 ) -> Result<u64, NamingFault>
     requires state { new.old.state ≡ dict.now.state }
@@ -182,7 +199,7 @@ pub(crate) fn number_iri(
     ensures number { IfOk result (IsNumberOf (λ t. is_iri t ≡ true)
         dict.now.texts new.old.texts new.new.texts raw.now) }
 {
-    let n = number_slice(alloc, dict, new, form, raw)?;
+    let n = number_slice(alloc, dict, new, form, guess, raw)?;
     if first_byte(text_at(dict, new, n)) != b'<' {
         return Err(NamingFault::Doubt);
     }

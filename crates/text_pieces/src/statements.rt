@@ -2,6 +2,7 @@
 ghost use Rattle.std.specs.Prelude.{◌≡◌, ◌≤◌, [], length, vec_capacity, IfOk, OnOk};
 ghost use Rattle.text_pieces.specs.Slices.{AreNumbersOfAll, AreNumbersOfQuad};
 
+use crate::guesses::{Guess, Guesses};
 use crate::naming::{NamingFault, number_iri, number_node, number_slice};
 use dict_core::NumQuad;
 use nquads_core::RawStatement;
@@ -22,8 +23,12 @@ pub(crate) fn number_statements(
 {
     let mut quads = Vec::with_capacity(alloc, raws.len())?;
     let mut form = Vec::new(alloc);
+    let mut guesses = Guesses::new(alloc)?;
     for raw in raws {
-        quads.push_reserved(number_statement(alloc, dict, new, &mut form, raw)?);
+        let guess = guesses.next(dict, raws)?;
+        let quad = number_statement(alloc, dict, new, &mut form, guess, raw)?;
+        guesses.add(&quad);
+        quads.push_reserved(quad);
     }
     Ok(quads)
 }
@@ -34,6 +39,7 @@ fn number_statement(
     dict: &TextDict,
     new: &mut TextDict,
     form: &mut Vec<u8>,
+    guess: Guess,
     raw: &RawStatement<'_>,
 ) -> Result<NumQuad, NamingFault>
     requires state { new.old.state ≡ dict.now.state }
@@ -41,11 +47,11 @@ fn number_statement(
     ensures number { IfOk result
         (AreNumbersOfQuad dict.now.texts new.old.texts new.new.texts raw.now) }
 {
-    let s = number_node(alloc, dict, new, form, raw.subject)?;
-    let p = number_iri(alloc, dict, new, form, raw.predicate)?;
-    let o = number_slice(alloc, dict, new, form, raw.object)?;
+    let s = number_node(alloc, dict, new, form, guess.s, raw.subject)?;
+    let p = number_iri(alloc, dict, new, form, guess.p, raw.predicate)?;
+    let o = number_slice(alloc, dict, new, form, guess.o, raw.object)?;
     let g = match raw.graph {
-        Some(name) => Some(number_node(alloc, dict, new, form, name)?),
+        Some(name) => Some(number_node(alloc, dict, new, form, guess.g, name)?),
         None => None,
     };
     Ok(NumQuad { g, s, p, o })

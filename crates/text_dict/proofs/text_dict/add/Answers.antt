@@ -1,8 +1,8 @@
-use Rattle.std.proofs.Common.{◌≡◌, ◌+◌, ◌<◌, ◌++◌, ◌∷◌, [], List, length, set, slice_get, Some, ap, sym, subst, ◌∙◌, arith}
+use Rattle.std.proofs.Common.{◌≡◌, ◌++◌, ◌∷◌, [], length, set, slice_get, Some, ap, sym, subst, ◌∙◌, arith}
 use Rattle.std.proofs.lemmas.List.{length_push}
 use Rattle.keyed_hash.specs.Hashing.{hash_of}
 use Rattle.text_dict.specs.Forms.{AreForms}
-use Rattle.text_dict.specs.Slots.{AreReached, IsPlace, most_numbers, slot_of}
+use Rattle.text_dict.specs.Slots.{AreReached, IsPlace, slot_of}
 use Rattle.text_dict.proofs.FormLaws.{forms-push}
 use Rattle.text_dict.proofs.SlotLaws.{get-last, reached_more}
 use Rattle.text_dict.proofs.text_dict.add.Goals as goal

@@ -9,5 +9,5 @@ loop-raw-preserved c =
       count = omega (arith, was.count, c.push_reserved.ensures.len);
       state = c.number_statement.ensures.state;
       numbered = statements_more c.args.dict.now.texts c.loop-raw.new.texts c.number_statement.new.new.texts c.args.raws.now c.loop-raw.raw-index c.loop-raw.quads.items c.push_reserved.new.self.items _
-          c.in_ok-number_statement.field-0 (omega arith) was.numbered c.in_ok-number_statement.ensures.number c.push_reserved.ensures.items;
+          c.in_ok-quad.quad (omega arith) was.numbered c.in_ok-quad.ensures.number c.push_reserved.ensures.items;
     }

@@ -1,4 +1,4 @@
-use Rattle.std.proofs.Common.{length, ap, ◌∙◌, arith}
+use Rattle.std.proofs.Common.{length, ap, arith}
 use Rattle.text_dict.proofs.TextLaws.{length_texts}
 use Rattle.text_dict.proofs.texts.Texts.len.Goals as goal
 
