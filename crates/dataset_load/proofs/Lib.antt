@@ -5,6 +5,6 @@ mod SortingSteps
 mod ReaderSteps
 mod StreamingSteps
 mod CountingSteps
-pub mod LineSteps
 pub mod TermSteps
 pub mod ListingSteps
+mod RestSteps

@@ -1,5 +1,5 @@
 -- Rounds of blocks that are read one after the other.
-use Rattle.std.proofs.Common.{◌≡◌, ℕ, suc, List, [], ◌∷◌, ◌++◌, Bool, true, false, Option, Some, None, IfErr, IfOk, IsOk, IsSomeAnd, OnErr, OnOk, MatchOption, Result, Ok, Err, Vec, Global, refl, sym, ap, ◌∙◌, subst, true≢false, append_assoc, append-nil, inl, inr, ◌⊎◌, arith}
+use Rattle.std.proofs.Common.{◌≡◌, ℕ, suc, List, [], ◌∷◌, ◌++◌, Bool, true, false, Option, Some, None, ◌^◌, ◌≤◌, length, IfErr, IfOk, IfSome, IsOk, IsSomeAnd, OnErr, OnOk, MatchOption, Result, Ok, Err, Vec, Global, refl, sym, ap, ◌∙◌, subst, true≢false, append_assoc, append-nil, inl, inr, ◌⊎◌, arith}
 use Rattle.std.specs.Io.KnownBytes.{Consumes, IsAtEnd}
 use Rattle.nquads_core.specs.Lines.{lines, EndsLine}
 use Rattle.nquads_core.specs.Device.{Stays}
@@ -7,7 +7,6 @@ use Rattle.nquads_core.specs.Transfer.{CountsRead, IsReadInPart}
 use Rattle.nquads_core.proofs.LineEnds.{lines_join}
 use Rattle.nquads_core.proofs.PieceLaws.{lines_nil}
 use Rattle.nquads_core.proofs.TransferSteps.{Consumes-more, in-part-more}
-use Rattle.piece_cuts.specs.Blocks.{GivesKnownBlock}
 use Rattle.piece_cuts.specs.Laws.{EndsWithLineFeed}
 use Rattle.dataset_load.specs.declared.numbered.Numbered.{Numbered}
 use Rattle.nquads_core.specs.declared.transfer.ReadFault.{ReadFault}
@@ -18,7 +17,13 @@ use Rattle.dataset_load.specs.declared.fault.LoadFault.TheVariants.{BadLine, Wor
 use Rattle.dataset_load.specs.declared.reader_fault.ReaderFault.{ReaderFault}
 use Rattle.dataset_load.specs.declared.reader_fault.ReaderFault.TheVariants.{BadLine as ReadBadLine, WorkerRefused as ReadRefused, Memory as ReadOutOfMemory, Read as ReadFailed}
 use Rattle.dataset_load.specs.Fault.{IfBadLine}
+use Rattle.piece_cuts.specs.Blocks.{BlocksView, GivesKnownBlock}
+use Rattle.piece_cuts.specs.declared.blocks.BlockState.TheVariants.{Reading}
+use Rattle.malformed_lines.specs.Malformed.{IsListed}
+use Rattle.dataset_load.specs.Limits.{most_pieces_of_a_round}
 use Rattle.dataset_load.specs.Lines.{AreWholeLines, EachEnds, all_lines, joined}
+use Rattle.dataset_load.specs.declared.bad_round.BadRound.{BadRound}
+use Rattle.dataset_load.specs.Listing.{IsBadList, IsBadRound, IsReady}
 use Rattle.dataset_load.specs.Loaded.{IsLoaded}
 use Rattle.dataset_load.specs.Store.{StoreView}
 use Rattle.dataset_load.specs.Rounds.{HasRead}
@@ -154,7 +159,7 @@ AddsLines P Q round = (before : List (List ℕ)) → P before → Q (before ++ a
 
 -- this line of those before and of a round is the first that is malformed
 abbrev pub HasBadLine : Numbered → FilledRound → ℕ → Type 0
-HasBadLine so_far round n = (before : List (List ℕ)) → HasRead so_far before → IsBadLine (before ++ all_lines (texts_of round)) n
+HasBadLine so_far round n = AddsLines (HasRead so_far) (λ ls. IsBadLine ls n) round
 
 module _ (P : List (List ℕ) → Type 0) (a b c : Option (List ℕ)) (kept : List ℕ) (round : FilledRound) (was : IsAhead P a b kept round) where
   abbrev done_now : List ℕ
@@ -204,37 +209,39 @@ module _ (P : List (List ℕ) → Type 0) (a b c : Option (List ℕ)) (kept : Li
       by false is = taken is a done_now (was.more is).1
       by true is = record { taken = done_now; consumed = (at_last (ended is) is).0 }
 
--- a line of a round is the first that is malformed
-pub bad_ahead : (a b c : Option (List ℕ)) (kept : List ℕ) (so_far : Numbered) (round : FilledRound) (was : IsReadAhead a b kept so_far round) (n : ℕ)
-    → (round.is_last ≡ true → c ≡ b) → (round.is_last ≡ false → TakesPart b c kept) → HasBadLine so_far round n → IsBadSoFar a c n
-bad_ahead a b c kept so_far round was n ended taken bad = record {
-  done = done_now (HasRead so_far) a b c kept round was;
-  bad = subst (λ (ls : List (List ℕ)). IsBadLine ls n) (sym (lines_now (HasRead so_far) a b c kept round was)) (bad (lines was.done) was.read);
+-- a line of those before and of a round is the first that is malformed
+pub bad_ahead : (P : List (List ℕ) → Type 0) (a b c : Option (List ℕ)) (kept : List ℕ) (round : FilledRound) (was : IsAhead P a b kept round) (n : ℕ)
+    → (round.is_last ≡ true → c ≡ b) → (round.is_last ≡ false → TakesPart b c kept) → AddsLines P (λ ls. IsBadLine ls n) round → IsBadSoFar a c n
+bad_ahead P a b c kept round was n ended taken bad = record {
+  done = done_now P a b c kept round was;
+  bad = read_now P a b c kept round was (λ ls. IsBadLine ls n) bad;
   rest = by round.is_last refl;
 }
   where
     by : (is_last : Bool) → round.is_last ≡ is_last
-        → ((kept' : List ℕ) × IsReadIn a c (done_now (HasRead so_far) a b c kept round was) kept' × EndsLine (done_now (HasRead so_far) a b c kept round was))
-        ⊎ (Consumes a c (done_now (HasRead so_far) a b c kept round was) × IsAtEnd c)
+        → ((kept' : List ℕ) × IsReadIn a c (done_now P a b c kept round was) kept' × EndsLine (done_now P a b c kept round was))
+        ⊎ (Consumes a c (done_now P a b c kept round was) × IsAtEnd c)
     by false is =
         let part = taken is (with_kept b kept) [] (in_kept b kept) in
         inl (part.taken, kept_in a b c (was.done ++ joined (texts_of round)) kept part (was.more is).1, ends_joined was.done (texts_of round) was.whole (was.more is).0)
-    by true is = inr (at_last (HasRead so_far) a b c kept round was (ended is) is)
+    by true is = inr (at_last P a b c kept round was (ended is) is)
 
 -- what was read of the reader, up to the end of a round and what is kept after it
 pub part_so_far : (P : List (List ℕ) → Type 0) (a b : Option (List ℕ)) (kept : List ℕ) (round : FilledRound) → IsAhead P a b kept round → IsReadInPart a b
 part_so_far P a b kept round was = part_ahead P a b b kept round was (λ _. refl) (λ is start done h. record { taken = done ++ kept; consumed = read_front start b done kept h })
 
--- the number of the malformed line, if a round has one
-pub bad_round : {T : Type 0} (b c : Option (List ℕ)) (kept : List ℕ) (so_far : Numbered) (round : FilledRound) (added : Result T LoadFault) (fault : ReaderFault)
-    → (round.is_last ≡ true → c ≡ b) → (round.is_last ≡ false → TakesPart b c kept) → IfErr added (IfBadLine (HasBadLine so_far round))
-    → IfBadLineRead (λ n. added ≡ Err (BadLine n)) fault
-    → IfBadLineRead (λ n. (start : Option (List ℕ)) → IsReadAhead start b kept so_far round → IsBadSoFar start c n) fault
-bad_round {T = T} b c kept so_far round added (ReadBadLine n) ended taken bad is = λ start was.
-    bad_ahead start b c kept so_far round was n ended taken (subst (λ (r : Result T LoadFault). IfErr r (IfBadLine (HasBadLine so_far round))) is bad)
-bad_round b c kept so_far round added ReadRefused ended taken bad is = tt
-bad_round b c kept so_far round added ReadOutOfMemory ended taken bad is = tt
-bad_round b c kept so_far round added ReadFailed ended taken bad is = tt
+-- what was read after a round, if the read succeeded
+same_Ok : {T E : Type 0} (x y : T) → (a b : Result T E) → a ≡ Ok x → a ≡ Ok y → b ≡ a → x ≡ y
+same_Ok x y a b e f g = cc
+
+after_last : (b c : Option (List ℕ)) (round : FilledRound) (next : Result (Option FilledRound) ReadFault) (n : Option FilledRound)
+    → (round.is_last ≡ true → (next ≡ Ok None) × (c ≡ b)) → next ≡ Ok n → round.is_last ≡ true → (n ≡ None) × (c ≡ b)
+after_last b c round next n ended is last = let e = ended last in (same_Ok n None next next is e.0 refl, e.1)
+
+after_more : (b c : Option (List ℕ)) (kept kept' : List ℕ) (round : FilledRound) (next : Result (Option FilledRound) ReadFault) (n : Option FilledRound)
+    → (round.is_last ≡ false → IfOk next (λ n. IsSomeAnd n (IsNextRound b c kept kept'))) → next ≡ Ok n → round.is_last ≡ false → IsSomeAnd n (IsNextRound b c kept kept')
+after_more b c kept kept' round next n filled is more =
+    subst (λ (r : Result (Option FilledRound) ReadFault). IfOk r (λ n. IsSomeAnd n (IsNextRound b c kept kept'))) is (filled more)
 
 -- P of the result of one fallible step, if another one succeeds with it
 pub taken_ok : {T E F : Type 0} (r : Result T F) (next : Result T E) (P : T → Type 0) → IfOk r (λ x. next ≡ Ok x) → IfOk next P → IfOk r P
@@ -247,21 +254,15 @@ both_ok (Ok x) (Err e) P is h = absurd (true≢false (sym is))
 both_ok (Err e) added P is h = tt
 
 -- a round was added while the next one was read
-pub round_done : {T : Type 0} (b c : Option (List ℕ)) (kept kept' : List ℕ) (so_far now : Numbered) (round : FilledRound) (added : Result T LoadFault)
-    (next : Result (Option FilledRound) ReadFault) (r : Result (Option FilledRound) ReaderFault)
+pub round_done : {T E F : Type 0} (P Q : List (List ℕ) → Type 0) (b c : Option (List ℕ)) (kept kept' : List ℕ) (round : FilledRound) (added : Result T F)
+    (next : Result (Option FilledRound) ReadFault) (r : Result (Option FilledRound) E)
     → (round.is_last ≡ true → (next ≡ Ok None) × (c ≡ b)) → (round.is_last ≡ false → IfOk next (λ n. IsSomeAnd n (IsNextRound b c kept kept')))
-    → OnOk added (AddsLines (HasRead so_far) (HasRead now) round) → IfOk r (λ n. next ≡ Ok n) → OnOk r (IsOk added)
-    → IfOk r (λ n. (start : Option (List ℕ)) → IsReadAhead start b kept so_far round → MatchOption n (IsReadFrom start c now) (IsReadAhead start c kept' now))
-round_done b c kept kept' so_far now round added next (Err fault) ended filled read is both = tt
-round_done b c kept kept' so_far now round (Err fault) next (Ok n) ended filled read is both = absurd (true≢false (sym both))
-round_done b c kept kept' so_far now round (Ok x) next (Ok n) ended filled read is both = λ start was.
-    read_round (HasRead so_far) start b c kept round was (HasRead now) kept' n
-    (λ last. let e = ended last in (same_Ok n None next next is e.0, e.1))
-    (λ more. subst (λ (r : Result (Option FilledRound) ReadFault). IfOk r (λ n. IsSomeAnd n (IsNextRound b c kept kept'))) is (filled more))
-    read
-  where
-    same_Ok : (x y : Option FilledRound) → (a b : Result (Option FilledRound) ReadFault) → a ≡ Ok x → a ≡ Ok y → x ≡ y
-    same_Ok x y a b e f = cc
+    → OnOk added (AddsLines P Q round) → IfOk r (λ n. next ≡ Ok n) → OnOk r (IsOk added)
+    → IfOk r (λ n. (start : Option (List ℕ)) → IsAhead P start b kept round → MatchOption n (IsToEnd Q start c) (IsAhead Q start c kept'))
+round_done P Q b c kept kept' round added next (Err fault) ended filled read is both = tt
+round_done P Q b c kept kept' round (Err fault) next (Ok n) ended filled read is both = absurd (true≢false (sym both))
+round_done P Q b c kept kept' round (Ok x) next (Ok n) ended filled read is both = λ start was.
+    read_round P start b c kept round was Q kept' n (after_last b c round next n ended is) (after_more b c kept kept' round next n filled is) read
 
 pub part_done : (b c : Option (List ℕ)) (kept : List ℕ) (so_far : Numbered) (round : FilledRound) (r : Result (Option FilledRound) ReaderFault)
     → (round.is_last ≡ true → c ≡ b) → (round.is_last ≡ false → TakesPart b c kept)
@@ -269,12 +270,75 @@ pub part_done : (b c : Option (List ℕ)) (kept : List ℕ) (so_far : Numbered) 
 part_done b c kept so_far round (Ok n) ended taken = tt
 part_done b c kept so_far round (Err fault) ended taken = λ start was. part_ahead (HasRead so_far) start b c kept round was ended taken
 
-pub bad_done : {T : Type 0} (b c : Option (List ℕ)) (kept : List ℕ) (so_far : Numbered) (round : FilledRound) (added : Result T LoadFault) (r : Result (Option FilledRound) ReaderFault)
-    → (round.is_last ≡ true → c ≡ b) → (round.is_last ≡ false → TakesPart b c kept) → IfErr added (IfBadLine (HasBadLine so_far round))
-    → IfErr r (IfBadLineRead (λ n. added ≡ Err (BadLine n)))
-    → IfErr r (IfBadLineRead (λ n. (start : Option (List ℕ)) → IsReadAhead start b kept so_far round → IsBadSoFar start c n))
-bad_done b c kept so_far round added (Ok n) ended taken bad is = tt
-bad_done b c kept so_far round added (Err fault) ended taken bad is = bad_round b c kept so_far round added fault ended taken bad is
+-- the next round is not too long
+pub few_after : (b c : Option (List ℕ)) (kept kept' : List ℕ) (round : FilledRound) (next : Result (Option FilledRound) ReadFault) (n : Option FilledRound)
+    → (round.is_last ≡ true → (next ≡ Ok None) × (c ≡ b)) → (round.is_last ≡ false → IfOk next (λ n. IsSomeAnd n (IsNextRound b c kept kept'))) → next ≡ Ok n
+    → IfSome n (λ r. length r.blocks.items ≤ most_pieces_of_a_round)
+few_after b c kept kept' round next n ended filled is = by round.is_last refl
+  where
+    some : (m : Option FilledRound) → IsSomeAnd m (IsNextRound b c kept kept') → IfSome m (λ r. length r.blocks.items ≤ most_pieces_of_a_round)
+    some None h = tt
+    some (Some r) h = h.few
+
+    by : (is_last : Bool) → round.is_last ≡ is_last → IfSome n (λ r. length r.blocks.items ≤ most_pieces_of_a_round)
+    by false more = some n (after_more b c kept kept' round next n filled is more)
+    by true last = rw (after_last b c round next n ended is last).0 tt
+
+-- ---- a round with the first malformed line
+
+-- the same lines are before the round
+these_ahead : (P : List (List ℕ) → Type 0) (a b : Option (List ℕ)) (kept : List ℕ) (round : FilledRound) (was : IsAhead P a b kept round)
+    → IsAhead (λ ls. ls ≡ lines was.done) a b kept round
+these_ahead P a b kept round was =
+    record { done = was.done; whole = was.whole; read = refl; few = was.few; whole_lines = was.whole_lines; more = was.more; last = was.last }
+
+module _ (b c : Option (List ℕ)) (kept kept' : List ℕ) (so_far : Numbered) (round : FilledRound) (next : Result (Option FilledRound) ReadFault)
+    (ended : round.is_last ≡ true → (next ≡ Ok None) × (c ≡ b)) (filled : round.is_last ≡ false → IfOk next (λ n. IsSomeAnd n (IsNextRound b c kept kept')))
+    (taken : round.is_last ≡ false → TakesPart b c kept) where
+  bad_round : (n : ℕ) (bad : BadRound) → bad.before ≡ so_far.lines → bad.round ≡ round → next ≡ Ok bad.next → HasBadLine so_far round n
+      → (start : Option (List ℕ)) → IsReadAhead start b kept so_far round → IsBadRound start c kept' n bad
+  bad_round n bad before_is round_is next_is has_bad start was =
+      let is_bad = has_bad (lines was.done) was.read in
+      record {
+        so_far = bad_ahead (HasRead so_far) start b c kept round was n (λ last. (ended last).1) taken has_bad;
+        before = lines was.done;
+        quads = was.read.numbered.quads;
+        statements = was.read.numbered.statements;
+        count = before_is ∙ was.read.count;
+        next = λ list listed.
+            let now = subst (λ (r : FilledRound). IsListed (lines was.done ++ all_lines (texts_of r)) list) round_is listed in
+            read_round (λ ls. ls ≡ lines was.done) start b c kept round (these_ahead (HasRead so_far) start b kept round was) (IsBadList n list) kept' bad.next
+            (after_last b c round next bad.next ended next_is) (after_more b c kept kept' round next bad.next filled next_is)
+            (λ before e. subst (λ (ls : List (List ℕ)). IsBadList n list (ls ++ all_lines (texts_of round))) (sym e) (record { bad = is_bad; listed = now }));
+      }
+
+  ready : (blocks : BlocksView) (bad : BadRound) → so_far.lines ≤ 2 ^ 124 → length round.blocks.items ≤ most_pieces_of_a_round
+      → IfOk next (λ n. IfSome n (λ r. r.is_last ≡ false → blocks.state ≡ Reading))
+      → bad.before ≡ so_far.lines → bad.round ≡ round → next ≡ Ok bad.next → IsReady blocks bad
+  ready blocks bad countable few reading before_is round_is next_is = record {
+    countable = omega (arith, before_is, countable);
+    few = subst (λ (r : FilledRound). length r.blocks.items ≤ most_pieces_of_a_round) (sym round_is) few;
+    few_next = few_after b c kept kept' round next bad.next ended filled next_is;
+    reading = subst (λ (r : Result (Option FilledRound) ReadFault). IfOk r (λ n. IfSome n (λ r. r.is_last ≡ false → blocks.state ≡ Reading))) next_is reading;
+  }
+
+  -- what is kept of a round, if it has a malformed line
+  pub bad_done : {T : Type 0} (blocks : BlocksView) (added : Result T LoadFault) (r : Result (Option FilledRound) ReaderFault) (held : Option BadRound)
+      → so_far.lines ≤ 2 ^ 124 → length round.blocks.items ≤ most_pieces_of_a_round
+      → IfOk next (λ n. IfSome n (λ r. r.is_last ≡ false → blocks.state ≡ Reading))
+      → IfErr added (IfBadLine (HasBadLine so_far round))
+      → IfErr r (IfBadLineRead (λ n. added ≡ Err (BadLine n)))
+      → IfErr r (IfBadLineRead (λ n. IsSomeAnd held (λ bad. (bad.before ≡ so_far.lines) × (bad.round ≡ round) × (next ≡ Ok bad.next))))
+      → IfErr r (IfBadLineRead (λ n. IsSomeAnd held (λ bad. IsReady blocks bad × ((start : Option (List ℕ)) → IsReadAhead start b kept so_far round → IsBadRound start c kept' n bad))))
+  bad_done blocks added (Ok n) held countable few reading bad is has = tt
+  bad_done blocks added (Err ReadRefused) held countable few reading bad is has = tt
+  bad_done blocks added (Err ReadOutOfMemory) held countable few reading bad is has = tt
+  bad_done blocks added (Err ReadFailed) held countable few reading bad is has = tt
+  bad_done blocks added (Err (ReadBadLine n)) None countable few reading bad is has = absurd has
+  bad_done {T = T} blocks added (Err (ReadBadLine n)) (Some x) countable few reading bad is has = (
+    ready blocks x countable few reading has.0 has.1 has.2,
+    bad_round n x has.0 has.1 has.2 (subst (λ (r : Result T LoadFault). IfErr r (IfBadLine (HasBadLine so_far round))) is bad),
+  )
 
 -- ---- the start and the end of the reader
 

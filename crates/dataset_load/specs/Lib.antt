@@ -6,7 +6,7 @@ pub mod Fault
 pub mod Rounds
 pub mod ReaderFault
 pub mod Streaming
-pub mod Found
+pub mod Listing
 pub mod Counted
 pub mod Ahead
 pub mod Terms

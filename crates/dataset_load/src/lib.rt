@@ -19,7 +19,7 @@
 //!
 //! Reading order: `fault`, `store`, `round_job` (one piece), `numbered` and `rounds`
 //! (all pieces), `sorting` (the lists of the index), `terms` (the terms of the texts), `loading`, `reader` (blocks of a reader),
-//! `reader_fault`, `counted`, `finding` and `load_notes` (the malformed line, for messages), `streaming`.
+//! `reader_fault`, `counted`, `load_notes`, `listing` and `rest` (the malformed lines), `bad_round`, `streaming`.
 //!
 //! Tests: `documents`, `readers` and `refusals` of the crate loading_tests.
 //!
@@ -34,15 +34,16 @@
 //! that a call returns (it joins its workers).
 #![tactic(auto)]
 
+mod bad_round;
 mod counted;
 mod fault;
-mod finding;
 mod listing;
 mod load_notes;
 mod loading;
 mod numbered;
 mod reader;
 mod reader_fault;
+mod rest;
 mod round_job;
 mod rounds;
 mod sorting;
@@ -52,9 +53,8 @@ mod terms;
 
 pub use counted::Counted;
 pub use fault::LoadFault;
-pub use finding::{Line, line_at};
 pub use listing::list_blocks;
-pub use load_notes::LoadNotes;
+pub use load_notes::{Listing, LoadListener, LoadNotes, NoListener};
 pub use loading::{load, load_blocks};
 pub use reader::read_blocks;
 pub use reader_fault::ReaderFault;

@@ -1,16 +1,24 @@
-//! Notes that loading takes for the message about a failure. No clause and no result depends on them.
+//! Notes that loading takes for the messages about a failure, and who is told of the first malformed line.
 
-use crate::fault::LoadFault;
-use crate::finding::{Line, line_at};
-use piece_pool::OffsetGate;
-use std::alloc::Global;
-use text_dict::TextDict;
+use malformed_lines::{MalformedLine, MalformedLines};
 
-/// Notes that loading takes for the message about a failure.
-#[derive(Debug, Drop)]
+/// The malformed lines of what was read.
+#[derive(Drop)]
+pub struct Listing {
+    /// The malformed lines.
+    pub list: MalformedLines,
+    /// Whether these are all of them. If not, an allocation failed before the end, or a worker could not be started.
+    pub is_complete: bool,
+    /// Whether a line before the first malformed one is known to have a character beyond ASCII. The lines before it
+    /// are UTF-8.
+    pub is_after_utf8: bool,
+}
+
+/// Notes that loading takes for the messages about a failure.
+#[derive(Drop)]
 pub struct LoadNotes {
-    /// The malformed line whose number is returned, if there was memory for it.
-    pub line: Option<Line>,
+    /// The malformed lines, if the result is the number of the first.
+    pub malformed: Option<Listing>,
     /// Whether all lines were read, so that only sorting was left.
     pub is_read: bool,
 }
@@ -19,67 +27,24 @@ impl LoadNotes {
     /// Creates empty notes.
     pub fn new() -> LoadNotes {
         LoadNotes {
-            line: None,
+            malformed: None,
             is_read: false,
         }
     }
 }
 
-/// The rounds of a reader: the gate of all pieces, the number of pieces so far, and the malformed line.
-#[derive(Drop)]
-pub(crate) struct Rounds<'g, G> {
-    pub(crate) gate: &'g G,
-    pub(crate) pieces: u64,
-    pub(crate) line: Option<Line>,
+/// A callback of loading, for the message about the first malformed line. No contract mentions it, so it changes
+/// no result.
+pub trait LoadListener {
+    /// Runs at most once, on the thread of the caller: with the first malformed line of the document, before the rest
+    /// of the reader is listed. `is_after_utf8` is as in [`Listing`].
+    fn found(&self, line: &MalformedLine, is_after_utf8: bool);
 }
 
-impl<'g, G> Rounds<'g, G> {
-    pub(crate) fn new(gate: &'g G) -> Rounds<'g, G> {
-        Rounds {
-            gate,
-            pieces: 0,
-            line: None,
-        }
-    }
+/// The listener that does nothing.
+#[derive(Clone, Copy)]
+pub struct NoListener;
 
-    /// Returns the gate of the next round's pieces.
-    pub(crate) fn offset_gate(&self) -> OffsetGate<'g, G> {
-        OffsetGate {
-            gate: self.gate,
-            first: self.pieces,
-        }
-    }
-
-    /// Returns the malformed line, given the dictionary of the rounds before its own.
-    pub(crate) fn into_line(self, dict: &TextDict) -> Option<Line> {
-        let Rounds { line, .. } = self;
-        let mut line = line?;
-        line.is_after_utf8 |= has_text_beyond_ascii(dict);
-        Some(line)
-    }
-
-    /// Notes that a round with these blocks is read, or the line in it that is malformed. `before` is the number
-    /// of lines before the round.
-    pub(crate) fn add(
-        &mut self,
-        alloc: Global,
-        blocks: &[Vec<u8>],
-        before: u128,
-        added: &Result<(), LoadFault>,
-    ) {
-        self.pieces = self.pieces.saturating_add(blocks.len() as u64);
-        if let Err(LoadFault::BadLine(number)) = added {
-            self.line = line_at(alloc, blocks, number.saturating_sub(before));
-        }
-    }
-}
-
-/// Returns whether a term of a dictionary has a character beyond ASCII. A document may have it as an escape.
-fn has_text_beyond_ascii(dict: &TextDict) -> bool {
-    for n in 0..dict.len() {
-        if !dict.text(n as u64).is_ascii() {
-            return true;
-        }
-    }
-    false
+impl LoadListener for NoListener {
+    fn found(&self, _line: &MalformedLine, _is_after_utf8: bool) {}
 }

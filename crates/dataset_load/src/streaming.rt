@@ -1,6 +1,5 @@
 //! Loading the rest of a reader, round by round, so that the document is never held as a whole.
-ghost use Rattle.std.specs.Prelude.{◌≡◌, ◌+◌, ◌≤◌, ◌^◌, ◌++◌, false, length, Err, IfErr, IfOk, IfSome, IsOk, MatchOption, Ok, OnErr, OnOk};
-ghost use Rattle.std.specs.Io.KnownBytes.{IsAtEnd};
+ghost use Rattle.std.specs.Prelude.{◌≡◌, ◌+◌, ◌≤◌, ◌^◌, ◌++◌, false, length, Err, IfErr, IfOk, IfSome, IsOk, IsSomeAnd, MatchOption, Ok, OnErr, OnOk};
 ghost use Rattle.nquads_core.specs.Transfer.{CountsRead, IsReadInPart};
 ghost use Rattle.nquads_core.specs.Pieces.{IsBadLine};
 ghost use Rattle.piece_pool.specs.Limits.{most_workers};
@@ -11,16 +10,19 @@ ghost use Rattle.dataset_load.specs.Limits.{most_pieces_of_a_round};
 ghost use Rattle.dataset_load.specs.Lines.{all_lines, block_texts};
 ghost use Rattle.dataset_load.specs.Rounds.{HasRead};
 ghost use Rattle.dataset_load.specs.ReaderFault.{CountsLoading, IfBadLineRead, IsOneWorkerReaderFault};
-ghost use Rattle.dataset_load.specs.Streaming.{IsBadLineFrom, IsBadSoFar, IsLoadedFrom, IsReadFrom, IsReadUpTo};
+ghost use Rattle.dataset_load.specs.Streaming.{IsBadLineFrom, IsLoadedFrom, IsReadFrom, IsReadUpTo};
 ghost use Rattle.dataset_load.specs.Ahead.{IsReadAhead};
+ghost use Rattle.dataset_load.specs.Listing.{IsBadRound, IsListing, IsReady};
 
+use crate::bad_round::{BadRound, Rounds};
 use crate::counted::{Counted, counted_of};
 use crate::fault::LoadFault;
-use crate::load_notes::{LoadNotes, Rounds};
+use crate::load_notes::{LoadListener, LoadNotes};
 use crate::loading::{borrowed_blocks, hash_state, store_of};
 use crate::numbered::Numbered;
 use crate::reader::{FilledRound, next_round, round_after};
 use crate::reader_fault::ReaderFault;
+use crate::rest::{MOST_ROUNDS, list_rest};
 use crate::rounds::add_round;
 use crate::store::Store;
 use nquads_core::{ReadFault, Source};
@@ -32,9 +34,6 @@ use std::random::RandomSource;
 use std::sync::Wait;
 use std::thread::Threads;
 use text_dict::TextDict;
-
-/// The largest number of rounds of a document. A round has at least 64 KiB or 2^20 lines, except the last one.
-const MOST_ROUNDS: u64 = 1 << 40;
 
 /// Loads the rest of a reader, as `load_blocks` does after `read_blocks`. Only the blocks of two rounds are in
 /// memory at a time: one that is parsed, and the next one. `notes` gets what a message about a failure shows.
@@ -52,7 +51,7 @@ const MOST_ROUNDS: u64 = 1 << 40;
 /// - `Read` if the reader fails in this call. It takes precedence over the other errors.
 ///
 /// On every error, the bytes that were taken are a beginning of what the reader had left.
-pub fn load_reader<R: Threads + Wait + RandomSource, S: Source, G: Gate + Sync>(
+pub fn load_reader<R: Threads + Wait + RandomSource, S: Source, G: Gate + Sync, L: LoadListener>(
     rt: &R,
     alloc: Global,
     size: usize,
@@ -60,17 +59,20 @@ pub fn load_reader<R: Threads + Wait + RandomSource, S: Source, G: Gate + Sync>(
     workers: usize,
     gate: &G,
     notes: &mut LoadNotes,
+    listener: &L,
 ) -> Result<Store, ReaderFault>
     requires some { 1 ≤ size }
     requires workers { (1 ≤ workers) × (workers ≤ most_workers) }
     ensures loaded { IfOk result (IsLoadedFrom (S.left reader.old) (S.left reader.new)) }
     ensures bad_line { IfErr result
         (IfBadLineRead (IsBadLineFrom (S.left reader.old) (S.left reader.new))) }
+    ensures listed { IfErr result (IfBadLineRead
+        (λ _. IsListing (S.left reader.old) (S.left reader.new) notes.new.malformed)) }
     ensures taken { OnErr result (IsReadInPart (S.left reader.old) (S.left reader.new)) }
     ensures count { CountsLoading (S.failures reader.old) (S.failures reader.new) result }
     ensures one_worker { workers ≡ 1 → IfErr result IsOneWorkerReaderFault }
 {
-    let so_far = read_reader(rt, alloc, size, reader, workers, gate, notes)?;
+    let so_far = read_reader(rt, alloc, size, reader, workers, gate, notes, listener)?;
     Ok(store_of(rt, alloc, so_far, workers)?)
 }
 
@@ -82,7 +84,7 @@ pub fn load_reader<R: Threads + Wait + RandomSource, S: Source, G: Gate + Sync>(
 ///
 /// # Errors
 /// As `load_reader`.
-pub fn count_reader<R: Threads + Wait + RandomSource, S: Source, G: Gate + Sync>(
+pub fn count_reader<R: Threads + Wait + RandomSource, S: Source, G: Gate + Sync, L: LoadListener>(
     rt: &R,
     alloc: Global,
     size: usize,
@@ -90,17 +92,20 @@ pub fn count_reader<R: Threads + Wait + RandomSource, S: Source, G: Gate + Sync>
     workers: usize,
     gate: &G,
     notes: &mut LoadNotes,
+    listener: &L,
 ) -> Result<Counted, ReaderFault>
     requires some { 1 ≤ size }
     requires workers { (1 ≤ workers) × (workers ≤ most_workers) }
     ensures counted { IfOk result (IsCountedFrom (S.left reader.old) (S.left reader.new)) }
     ensures bad_line { IfErr result
         (IfBadLineRead (IsBadLineFrom (S.left reader.old) (S.left reader.new))) }
+    ensures listed { IfErr result (IfBadLineRead
+        (λ _. IsListing (S.left reader.old) (S.left reader.new) notes.new.malformed)) }
     ensures taken { OnErr result (IsReadInPart (S.left reader.old) (S.left reader.new)) }
     ensures count { CountsLoading (S.failures reader.old) (S.failures reader.new) result }
     ensures one_worker { workers ≡ 1 → IfErr result IsOneWorkerReaderFault }
 {
-    let so_far = read_reader(rt, alloc, size, reader, workers, gate, notes)?;
+    let so_far = read_reader(rt, alloc, size, reader, workers, gate, notes, listener)?;
     Ok(counted_of(alloc, so_far)?)
 }
 
@@ -111,7 +116,7 @@ pub fn count_reader<R: Threads + Wait + RandomSource, S: Source, G: Gate + Sync>
 ///
 /// # Errors
 /// As `load_reader`.
-pub fn load_terms<R: Threads + Wait + RandomSource, S: Source, G: Gate + Sync>(
+pub fn load_terms<R: Threads + Wait + RandomSource, S: Source, G: Gate + Sync, L: LoadListener>(
     rt: &R,
     alloc: Global,
     size: usize,
@@ -119,23 +124,27 @@ pub fn load_terms<R: Threads + Wait + RandomSource, S: Source, G: Gate + Sync>(
     workers: usize,
     gate: &G,
     notes: &mut LoadNotes,
+    listener: &L,
 ) -> Result<TextDict, ReaderFault>
     requires some { 1 ≤ size }
     requires workers { (1 ≤ workers) × (workers ≤ most_workers) }
     ensures terms { IfOk result (AreTermsFrom (S.left reader.old) (S.left reader.new)) }
     ensures bad_line { IfErr result
         (IfBadLineRead (IsBadLineFrom (S.left reader.old) (S.left reader.new))) }
+    ensures listed { IfErr result (IfBadLineRead
+        (λ _. IsListing (S.left reader.old) (S.left reader.new) notes.new.malformed)) }
     ensures taken { OnErr result (IsReadInPart (S.left reader.old) (S.left reader.new)) }
     ensures count { CountsLoading (S.failures reader.old) (S.failures reader.new) result }
     ensures one_worker { workers ≡ 1 → IfErr result IsOneWorkerReaderFault }
 {
-    let so_far = read_reader(rt, alloc, size, reader, workers, gate, notes)?;
+    let so_far = read_reader(rt, alloc, size, reader, workers, gate, notes, listener)?;
     let Numbered { dict, .. } = so_far;
     Ok(dict)
 }
 
-/// Reads a reader to its end, and numbers the quads of its lines.
-fn read_reader<R: Threads + Wait + RandomSource, S: Source, G: Gate + Sync>(
+/// Reads a reader to its end, and numbers the quads of its lines. After a malformed line it lists the malformed lines. The
+/// quads of the lines before are dropped first.
+fn read_reader<R: Threads + Wait + RandomSource, S: Source, G: Gate + Sync, L: LoadListener>(
     rt: &R,
     alloc: Global,
     size: usize,
@@ -143,42 +152,15 @@ fn read_reader<R: Threads + Wait + RandomSource, S: Source, G: Gate + Sync>(
     workers: usize,
     gate: &G,
     notes: &mut LoadNotes,
+    listener: &L,
 ) -> Result<Numbered, ReaderFault>
     requires some { 1 ≤ size }
     requires workers { (1 ≤ workers) × (workers ≤ most_workers) }
     ensures read { IfOk result (IsReadFrom (S.left reader.old) (S.left reader.new)) }
     ensures bad_line { IfErr result
         (IfBadLineRead (IsBadLineFrom (S.left reader.old) (S.left reader.new))) }
-    ensures taken { OnErr result (IsReadInPart (S.left reader.old) (S.left reader.new)) }
-    ensures count { CountsLoading (S.failures reader.old) (S.failures reader.new) result }
-    ensures one_worker { workers ≡ 1 → IfErr result IsOneWorkerReaderFault }
-{
-    match number_reader(rt, alloc, size, reader, workers, gate, notes) {
-        Ok(so_far) => Ok(so_far),
-        Err(ReaderFault::BadLine(line)) => match skip_rest(reader) {
-            Ok(()) => Err(ReaderFault::BadLine(line)),
-            Err(fault) => Err(ReaderFault::from(fault)),
-        },
-        Err(fault) => Err(fault),
-    }
-}
-
-/// Reads the lines of a reader, and numbers their quads. After a malformed line the reader may have more
-/// bytes.
-fn number_reader<R: Threads + Wait + RandomSource, S: Source, G: Gate + Sync>(
-    rt: &R,
-    alloc: Global,
-    size: usize,
-    reader: &mut S,
-    workers: usize,
-    gate: &G,
-    notes: &mut LoadNotes,
-) -> Result<Numbered, ReaderFault>
-    requires some { 1 ≤ size }
-    requires workers { (1 ≤ workers) × (workers ≤ most_workers) }
-    ensures read { IfOk result (IsReadFrom (S.left reader.old) (S.left reader.new)) }
-    ensures bad_line { IfErr result
-        (IfBadLineRead (IsBadSoFar (S.left reader.old) (S.left reader.new))) }
+    ensures listed { IfErr result (IfBadLineRead
+        (λ _. IsListing (S.left reader.old) (S.left reader.new) notes.new.malformed)) }
     ensures taken { OnErr result (IsReadInPart (S.left reader.old) (S.left reader.new)) }
     ensures count { CountsLoading (S.failures reader.old) (S.failures reader.new) result }
     ensures one_worker { workers ≡ 1 → IfErr result IsOneWorkerReaderFault }
@@ -187,7 +169,7 @@ fn number_reader<R: Threads + Wait + RandomSource, S: Source, G: Gate + Sync>(
     let mut so_far = Numbered::new(alloc, state)?;
     let mut blocks = Blocks::new(alloc, size)?;
     let mut rounds = Rounds::new(gate);
-    let done = number_rounds(
+    match number_rounds(
         rt,
         alloc,
         state,
@@ -196,11 +178,34 @@ fn number_reader<R: Threads + Wait + RandomSource, S: Source, G: Gate + Sync>(
         reader,
         workers,
         &mut rounds,
-    );
-    notes.line = rounds.into_line(&so_far.dict);
-    done?;
-    notes.is_read = true;
-    Ok(so_far)
+    ) {
+        Ok(()) => {
+            notes.is_read = true;
+            Ok(so_far)
+        }
+        Err(ReaderFault::BadLine(line)) => {
+            let Some(bad) = rounds.bad else {
+                unreachable!();
+            };
+            let is_after_utf8 = bad.is_after_utf8(&so_far.dict, line);
+            drop(so_far);
+            match list_rest(
+                rt,
+                alloc,
+                bad,
+                is_after_utf8,
+                &mut blocks,
+                reader,
+                workers,
+                notes,
+                listener,
+            ) {
+                Ok(()) => Err(ReaderFault::BadLine(line)),
+                Err(fault) => Err(ReaderFault::from(fault)),
+            }
+        }
+        Err(fault) => Err(fault),
+    }
 }
 
 /// Reads the rounds of a reader. Each round is read while the one before is parsed.
@@ -219,8 +224,9 @@ fn number_rounds<R: Threads + Wait, S: Source, G: Gate + Sync>(
     requires none { so_far.old.lines ≡ 0 }
     requires start { IsReadUpTo (S.left reader.old) (S.left reader.old) blocks.old.kept so_far.old }
     ensures read { OnOk result (IsReadFrom (S.left reader.old) (S.left reader.new) so_far.new) }
-    ensures bad_line { IfErr result
-        (IfBadLineRead (IsBadSoFar (S.left reader.old) (S.left reader.new))) }
+    ensures bad_round { IfErr result (IfBadLineRead (λ n. IsSomeAnd rounds.new.bad
+        (λ bad. IsReady blocks.new bad × IsBadRound (S.left reader.old) (S.left reader.new)
+        blocks.new.kept n bad))) }
     ensures taken { OnErr result (IsReadInPart (S.left reader.old) (S.left reader.new)) }
     ensures count { CountsLoading (S.failures reader.old) (S.failures reader.new) result }
     ensures one_worker { workers ≡ 1 → IfErr result IsOneWorkerReaderFault }
@@ -254,7 +260,7 @@ fn number_round<R: Threads + Wait, S: Source, G: Gate + Sync>(
     requires workers { (1 ≤ workers) × (workers ≤ most_workers) }
     requires few { length round.blocks.items ≤ most_pieces_of_a_round }
     requires reading { round.is_last ≡ false → blocks.old.state ≡ BlockState.Reading }
-    requires countable { so_far.old.lines ≤ 2 ^ 127 }
+    requires countable { so_far.old.lines ≤ 2 ^ 124 }
     ensures reading { IfOk result (λ next. IfSome next
         (λ round. round.is_last ≡ false → blocks.new.state ≡ BlockState.Reading)) }
     ensures counted { OnOk result (so_far.new.lines ≤ so_far.old.lines + 2 ^ 84) }
@@ -262,15 +268,17 @@ fn number_round<R: Threads + Wait, S: Source, G: Gate + Sync>(
         → IsReadAhead start (S.left reader.old) blocks.old.kept so_far.old round
         → MatchOption next (IsReadFrom start (S.left reader.new) so_far.new)
         (IsReadAhead start (S.left reader.new) blocks.new.kept so_far.new)) }
-    ensures bad_line { IfErr result (IfBadLineRead (λ n. (start : _)
+    ensures bad_round { IfErr result (IfBadLineRead (λ n. IsSomeAnd rounds.new.bad
+        (λ bad. IsReady blocks.new bad × ((start : _)
         → IsReadAhead start (S.left reader.old) blocks.old.kept so_far.old round
-        → IsBadSoFar start (S.left reader.new) n)) }
+        → IsBadRound start (S.left reader.new) blocks.new.kept n bad)))) }
     ensures taken { OnErr result ((start : _)
         → IsReadAhead start (S.left reader.old) blocks.old.kept so_far.old round
         → IsReadInPart start (S.left reader.new)) }
     ensures count { CountsLoading (S.failures reader.old) (S.failures reader.new) result }
     ensures one_worker { workers ≡ 1 → IfErr result IsOneWorkerReaderFault }
 {
+    let before = so_far.lines;
     let is_last = round.is_last;
     let (added, next) = add_blocks(
         rt,
@@ -282,27 +290,45 @@ fn number_round<R: Threads + Wait, S: Source, G: Gate + Sync>(
         rounds,
         &mut || round_after(alloc, is_last, blocks, reader, workers),
     );
-    blocks.reuse(round.blocks);
-    outcome_of(added, next)
+    end_round(rounds, blocks, before, round, added, next)
 }
 
 /// Returns the round that was read while another was added, or the fault of one of the two. That of the read takes
-/// precedence, except over a worker that could not be started, where the read ran out of memory.
-fn outcome_of(
+/// precedence, except over a worker that could not be started, where the read ran out of memory. A round with a malformed
+/// line is kept to be listed; otherwise the memory of its blocks is used again.
+fn end_round<G>(
+    rounds: &mut Rounds<'_, G>,
+    blocks: &mut Blocks,
+    before: u128,
+    round: FilledRound,
     added: Result<(), LoadFault>,
     next: Result<Option<FilledRound>, ReadFault>,
 ) -> Result<Option<FilledRound>, ReaderFault>
+    ensures blocks { blocks.new ≡ blocks.old }
     ensures next { IfOk result (λ round. next ≡ Ok round) }
     ensures added { OnOk result (IsOk added) }
     ensures bad_line { IfErr result (IfBadLineRead (λ n. added ≡ Err (BadLine n))) }
+    ensures bad_round { IfErr result (IfBadLineRead (λ n. IsSomeAnd rounds.new.bad
+        (λ bad. (bad.before ≡ before) × (bad.round ≡ round) × (next ≡ Ok bad.next)))) }
     ensures count { (old : _) (new : _) → CountsRead old new next → CountsLoading old new result }
     ensures one_worker { IfErr added IsOneWorkerLoadFault → IfErr result IsOneWorkerReaderFault }
 {
     match next {
-        Ok(next) => {
-            added?;
-            Ok(next)
-        }
+        Ok(next) => match added {
+            Ok(()) => {
+                blocks.reuse(round.blocks);
+                Ok(next)
+            }
+            Err(LoadFault::BadLine(line)) => {
+                rounds.bad = Some(BadRound {
+                    before,
+                    round,
+                    next,
+                });
+                Err(ReaderFault::BadLine(line))
+            }
+            Err(fault) => Err(ReaderFault::from(fault)),
+        },
         Err(ReadFault::Read) => Err(ReaderFault::Read),
         Err(ReadFault::Memory) => match added {
             Err(LoadFault::WorkerRefused) => Err(ReaderFault::WorkerRefused),
@@ -338,7 +364,6 @@ fn add_blocks<R: Threads + Wait, G: Gate + Sync, F: FnMut() -> T, T>(
     let Ok(pieces) = borrowed_blocks(alloc, blocks) else {
         return (Err(LoadFault::Memory), task());
     };
-    let before = so_far.lines;
     let gate = rounds.offset_gate();
     let (added, given) = add_round(
         rt,
@@ -350,27 +375,6 @@ fn add_blocks<R: Threads + Wait, G: Gate + Sync, F: FnMut() -> T, T>(
         &gate,
         task,
     );
-    rounds.add(alloc, blocks, before, &added);
+    rounds.pieces = rounds.pieces.saturating_add(blocks.len() as u64);
     (added, given)
-}
-
-/// Reads a reader to its end, and drops what is read.
-///
-/// # Errors
-/// - `Read` if the reader fails.
-/// - `Memory` if the reader has not ended after 2^64 - 1 reads.
-fn skip_rest<S: Source>(reader: &mut S) -> Result<(), ReadFault>
-    ensures part { IsReadInPart (S.left reader.old) (S.left reader.new) }
-    ensures at_end { OnOk result (IsAtEnd (S.left reader.new)) }
-    ensures count { CountsRead (S.failures reader.old) (S.failures reader.new) result }
-{
-    let mut chunk = [0u8; 8192];
-    for _ in 0..u64::MAX {
-        match reader.read(&mut chunk) {
-            Ok(0) => return Ok(()),
-            Ok(_) => {}
-            Err(_) => return Err(ReadFault::Read),
-        }
-    }
-    Err(ReadFault::Memory)
 }

@@ -37,5 +37,5 @@ mod tags;
 pub use diagnosis::{Counted, Diagnosis, diagnose};
 pub use hint::{Hint, LineContext, hint_of};
 pub use reason::{Found, Next, Packing, Reason};
-pub use reports::report;
+pub use reports::{report, report_without_hint};
 pub use summary::Summary;

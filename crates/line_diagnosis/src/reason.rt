@@ -131,11 +131,11 @@ impl fmt::Display for Packing {
     }
 }
 
-pub(crate) fn is_end(found: Found) -> bool {
+fn is_end(found: Found) -> bool {
     matches!(found, Found::LineEnd | Found::Comment | Found::Char('.'))
 }
 
-pub(crate) fn is_term(found: Found) -> bool {
+fn is_term(found: Found) -> bool {
     matches!(found, Found::Iri | Found::BlankNode | Found::Literal)
 }
 
@@ -151,7 +151,7 @@ pub(crate) fn missing_dot(next: Next, found: Found) -> Option<&'static str> {
 }
 
 /// Returns the text for what was expected, up to what was found.
-fn expected(next: Next, found: Found) -> &'static str {
+pub(crate) fn expected(next: Next, found: Found) -> &'static str {
     match next {
         Next::Subject if is_term(found) => "a subject must be an IRI or a blank node, found ",
         Next::Subject => "expected a subject (an IRI or a blank node), found ",

@@ -7,7 +7,7 @@ ghost use Rattle.line_diagnosis.specs.Place.{IsWellFormed};
 ghost use Rattle.line_diagnosis.specs.Report.{IsReport, place_words};
 
 use crate::diagnosis::{Counted, Diagnosis, count_of_bytes, diagnose};
-use crate::hint::{LineContext, hint_of};
+use crate::hint::{Hint, LineContext, hint_of};
 use excerpt::message;
 use std::alloc::{AllocError, Global};
 use std::fmt;
@@ -32,32 +32,25 @@ impl fmt::Display for Place {
     }
 }
 
-/// Returns the message about a diagnosis.
+/// Returns the message about a diagnosis of the line with this number.
 fn message_of(
     alloc: Global,
     line: &[u8],
+    number: u128,
     diagnosis: &Diagnosis,
-    context: &LineContext,
+    hint: Option<&Hint>,
 ) -> Result<String, AllocError>
     requires explained { IsExplained line.now diagnosis.now }
-    ensures message { IfOk result (λ s. IsReport context.now.number line.now (string_bytes s)) }
+    ensures message { IfOk result (λ s. IsReport number line.now (string_bytes s)) }
 {
     let place = Place {
-        line: context.number,
+        line: number,
         column: diagnosis.column,
         counted: diagnosis.counted,
     };
     let at = count_of_bytes(&line[..diagnosis.offset]);
-    let hint = hint_of(line, diagnosis, context);
     let text = String::from_utf8_lossy(alloc, line)?;
-    message(
-        alloc,
-        &place,
-        &diagnosis.reason,
-        text.as_str(),
-        at,
-        hint.as_ref(),
-    )
+    message(alloc, &place, &diagnosis.reason, text.as_str(), at, hint)
 }
 
 /// Returns the message for a malformed line, given without its line end. Returns None for a
@@ -80,6 +73,30 @@ pub fn report(
 {
     match diagnose(alloc, line)? {
         None => Ok(None),
-        Some(diagnosis) => Ok(Some(message_of(alloc, line, &diagnosis, context)?)),
+        Some(diagnosis) => {
+            let hint = hint_of(line, &diagnosis, context);
+            let text = message_of(alloc, line, context.number, &diagnosis, hint.as_ref())?;
+            Ok(Some(text))
+        }
+    }
+}
+
+/// Returns the message of [`report`] without its hint.
+///
+/// # Errors
+/// `AllocError` if an allocation fails.
+pub fn report_without_hint(
+    alloc: Global,
+    line: &[u8],
+    number: u128,
+) -> Result<Option<String>, AllocError>
+    ensures well_formed { IfOk result (λ found. IfNone found (IsWellFormed line.now)) }
+    ensures malformed { IfOk result (λ found. OnSome found (IsMalformed line.now)) }
+    ensures message { IfOk result
+        (λ found. IfSome found (λ s. IsReport number line.now (string_bytes s))) }
+{
+    match diagnose(alloc, line)? {
+        None => Ok(None),
+        Some(diagnosis) => Ok(Some(message_of(alloc, line, number, &diagnosis, None)?)),
     }
 }

@@ -1,6 +1,6 @@
 //! The reason of a malformed line, without what was found in the line. Lines are counted by it.
 
-use crate::reason::{Found, Next, Reason, is_end, is_term, missing_dot, write_char};
+use crate::reason::{Found, Next, Reason, expected, missing_dot, write_char};
 use std::fmt;
 
 /// The reason of a malformed line, without what was found in the line.
@@ -17,14 +17,15 @@ pub struct Summary {
 /// Returns one of the things that may be found in place of a part, for all with the same words.
 fn representative(next: Next, found: Found) -> Found {
     if missing_dot(next, found).is_some() {
-        found
-    } else if is_term(found) {
-        Found::Iri
-    } else if is_end(found) {
-        Found::LineEnd
-    } else {
-        Found::Char(' ')
+        return found;
     }
+    let words = expected(next, found);
+    for other in [Found::Char(' '), Found::Iri] {
+        if expected(next, other) == words {
+            return other;
+        }
+    }
+    Found::LineEnd
 }
 
 /// Returns words without those that announce what was found.

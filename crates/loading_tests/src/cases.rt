@@ -29,6 +29,8 @@ pub(crate) enum Reader {
     LineNotUtf8,
     /// The lines and quads of a piece.
     Piece,
+    /// Whether a text is a plain line, and its plain lines.
+    PlainLines,
     /// The string before `"`, and the text after it.
     Quoted,
     /// Whether the text begins with a scheme.
@@ -54,6 +56,7 @@ fn append(out: &mut String, alloc: Global, reader: Reader, text: &str) -> Result
         Reader::Line => lines::line(out, alloc, text.as_bytes()),
         Reader::LineNotUtf8 => lines::line(out, alloc, b"# \xFF"),
         Reader::Piece => lines::piece(out, alloc, text),
+        Reader::PlainLines => slices::plain_lines(out, text.as_bytes()),
         Reader::Quoted => lexical::delimited(out, read_quoted(alloc, text)),
         Reader::Scheme => out.push_str(if has_scheme(text) { "yes" } else { "no" }),
         Reader::Slices => slices::slices(out, alloc, text.as_bytes()),

@@ -1,15 +1,19 @@
 //! Lists of the malformed lines of documents, with blocks of any size and any number of workers.
 ghost use Rattle.std.specs.Prelude.{◌≤◌};
 
-use crate::cases::gives_by;
-use dataset_load::{list_blocks, read_blocks};
-use malformed_lines::MalformedLines;
-use nquads_core::Device;
+use crate::cases::{equal_by, gives_by};
+use crate::readers::noted;
+use dataset_load::{LoadListener, LoadNotes, NoListener, count_reader, list_blocks, read_blocks};
+use malformed_lines::{MalformedLine, MalformedLines};
+use nquads_core::{Device, Source};
 use piece_pool::OpenGate;
 use std::alloc::{AllocError, Global};
 use std::process::Abort;
+use std::random::RandomSource;
 use std::sync::Wait;
+use std::sync::atomic::{AtomicU64, Ordering};
 use std::thread::Threads;
+use test_fixtures::SliceSource;
 
 /// Lines with seven mistakes of three kinds, and five lines without one.
 const MIXED: &[u8] =
@@ -40,7 +44,7 @@ const DOCUMENTS: &[(&str, &[u8], &str)] = &[
 ];
 
 /// Prints a list.
-fn printed(alloc: Global, list: &MalformedLines) -> Result<String, AllocError> {
+pub(crate) fn printed(alloc: Global, list: &MalformedLines) -> Result<String, AllocError> {
     let mut out = String::new(alloc);
     for line in &list.shown {
         let text = String::from_utf8_lossy(alloc, &line.bytes)?;
@@ -102,4 +106,159 @@ fn every_cut_lists_the_same(rt: HostRuntime) {
     check_lists(&rt, alloc, 1, 8);
     check_lists(&rt, alloc, 40, 2);
     check_lists(&rt, alloc, 65536, 4);
+}
+
+/// A listener that counts its calls, and adds the numbers of the lines.
+#[derive(Drop)]
+struct Heard {
+    calls: AtomicU64,
+    numbers: AtomicU64,
+}
+
+impl Heard {
+    fn new() -> Heard {
+        Heard {
+            calls: AtomicU64::new(0),
+            numbers: AtomicU64::new(0),
+        }
+    }
+}
+
+impl LoadListener for Heard {
+    fn found(&self, line: &MalformedLine, _is_after_utf8: bool) {
+        self.calls.fetch_add(1, Ordering::SeqCst);
+        let number = line.number.min(u64::MAX as u128);
+        self.numbers.fetch_add(number as u64, Ordering::SeqCst);
+    }
+}
+
+/// Counts a reader, and prints the list of its malformed lines, or nothing if there is none.
+fn listed_by_load<R: Threads + Wait + RandomSource, S: Source, L: LoadListener>(
+    rt: &R,
+    alloc: Global,
+    reader: &mut S,
+    size: usize,
+    workers: usize,
+    listener: &L,
+) -> Result<String, AllocError>
+    requires size { 1 ≤ size }
+    requires workers { (1 ≤ workers) × (workers ≤ 64) }
+{
+    let mut notes = LoadNotes::new();
+    let _counted = count_reader(
+        rt, alloc, size, reader, workers, &OpenGate, &mut notes, listener,
+    );
+    noted(alloc, &notes)
+}
+
+/// Checks that a load of each document lists the same as its blocks do.
+fn check_loads<R: Threads + Wait + RandomSource + Abort>(
+    rt: &R,
+    alloc: Global,
+    size: usize,
+    workers: usize,
+)
+    requires size { 1 ≤ size }
+    requires workers { (1 ≤ workers) × (workers ≤ 64) }
+{
+    for (name, doc, expected) in DOCUMENTS {
+        let mut reader = Device { inner: *doc };
+        let found = listed_by_load(rt, alloc, &mut reader, size, workers, &NoListener);
+        let is_good = expected.starts_with("0 of");
+        gives_by(
+            rt,
+            *name,
+            [size, workers],
+            if is_good { "" } else { *expected },
+            found,
+        );
+    }
+}
+
+#[test]
+fn a_load_lists_the_same(rt: HostRuntime) {
+    let alloc = rt.alloc();
+    check_loads(&rt, alloc, 1, 1);
+    check_loads(&rt, alloc, 1, 8);
+    check_loads(&rt, alloc, 40, 2);
+    check_loads(&rt, alloc, 65536, 4);
+}
+
+/// Appends a line: a malformed one, or a comment of 65,999 bytes, so that a round of one worker has one or two of these.
+fn append_line(doc: &mut Vec<u8>, is_malformed: bool) -> Result<(), AllocError> {
+    if is_malformed {
+        doc.extend_from_slice(b"x\n")?;
+        return Ok(());
+    }
+    let comment = [b'#'; 1000];
+    for _ in 0..66 {
+        doc.extend_from_slice(&comment)?;
+    }
+    doc.push(b'\n')?;
+    Ok(())
+}
+
+/// Builds a document of many rounds: after three comments, each seventh line is malformed, this number in all. A comment
+/// is its end.
+fn many_rounds(alloc: Global, malformed: usize) -> Result<Vec<u8>, AllocError> {
+    let mut doc = Vec::new(alloc);
+    for _ in 0..3 {
+        append_line(&mut doc, false)?;
+    }
+    for _ in 0..malformed {
+        append_line(&mut doc, true)?;
+        for _ in 0..6 {
+            append_line(&mut doc, false)?;
+        }
+    }
+    Ok(doc)
+}
+
+/// The lists of documents with 20 and 21 malformed lines, in many rounds.
+const TWENTY: &str =
+    "4:x 11:x 18:x 25:x 32:x 39:x 46:x 53:x 60:x 67:x 74:x 81:x 88:x 95:x 102:x 109:x 116:x 123:x 130:x 137:x 20 of 143; 20 expected a subject (an IRI or a blank node), from 4:1";
+
+const TWENTY_ONE: &str =
+    "4:x 11:x 18:x 25:x 32:x 39:x 46:x 53:x 60:x 67:x 74:x 81:x 88:x 95:x 102:x 109:x 116:x 123:x 130:x 137:x 21 of 150; 21 expected a subject (an IRI or a blank node), from 4:1";
+
+/// Checks the list of a document of many rounds, and that the listener is told of its first line, once.
+fn check_rounds<R: Threads + Wait + RandomSource + Abort>(
+    rt: &R,
+    alloc: Global,
+    malformed: usize,
+    workers: usize,
+    expected: &str,
+)
+    requires workers { (1 ≤ workers) × (workers ≤ 64) }
+{
+    let doc = many_rounds(alloc, malformed).expect(rt, "a document");
+    let heard = Heard::new();
+    let mut reader = Device {
+        inner: doc.as_slice(),
+    };
+    let found = listed_by_load(rt, alloc, &mut reader, 65536, workers, &heard);
+    gives_by(rt, "many rounds", [malformed, workers], expected, found);
+    let (calls, numbers) = (&heard.calls, &heard.numbers);
+    equal_by(rt, "calls", workers, 1, calls.load(Ordering::SeqCst));
+    equal_by(rt, "the line", workers, 4, numbers.load(Ordering::SeqCst));
+}
+
+/// All rounds are listed, and the first twenty malformed lines of them are kept.
+#[test]
+fn a_list_goes_over_many_rounds(rt: HostRuntime) {
+    let alloc = rt.alloc();
+    check_rounds(&rt, alloc, 20, 1, TWENTY);
+    check_rounds(&rt, alloc, 21, 8, TWENTY_ONE);
+}
+
+/// If the reader fails while the rest is listed, there is no list.
+#[test]
+fn a_failing_reader_has_no_list(rt: HostRuntime) {
+    let alloc = rt.alloc();
+    let doc = many_rounds(alloc, 20).expect(&rt, "a document");
+    for workers in 1..3 {
+        let mut reader = SliceSource::failing_after(doc.as_slice(), 8192, 7 << 20);
+        let found = listed_by_load(&rt, alloc, &mut reader, 65536, workers, &NoListener);
+        gives_by(&rt, "no list", [20, workers], "", found);
+    }
 }

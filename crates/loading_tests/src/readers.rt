@@ -3,7 +3,10 @@ ghost use Rattle.std.specs.Prelude.{◌≤◌};
 
 use crate::cases::{equal, gives, gives_by};
 use crate::documents::{BAD, GRAPHS, REPEATED, TWO_LINES, counts, shown};
-use dataset_load::{LoadNotes, ReaderFault, count_reader, load_reader, load_terms};
+use crate::malformed::printed;
+use dataset_load::{
+    LoadListener, LoadNotes, NoListener, ReaderFault, count_reader, load_reader, load_terms,
+};
 use nquads_core::{Device, Source};
 use piece_pool::{Gate, OpenGate};
 use std::alloc::{AllocError, AllocGlobal, Global};
@@ -13,10 +16,11 @@ use std::sync::Wait;
 use std::thread::Threads;
 use test_fixtures::{Counter, SliceSource};
 
-/// Prints the noted line, or nothing.
-fn noted(alloc: Global, notes: &LoadNotes) -> Result<String, AllocError> {
-    match &notes.line {
-        Some(line) => String::from_utf8_lossy(alloc, &line.bytes),
+/// Prints the list of the malformed lines, or nothing.
+pub(crate) fn noted(alloc: Global, notes: &LoadNotes) -> Result<String, AllocError> {
+    match &notes.malformed {
+        Some(listing) if listing.is_complete => printed(alloc, &listing.list),
+        Some(_) => format!(in alloc; "a part of the list"),
         None => Ok(String::new(alloc)),
     }
 }
@@ -31,7 +35,12 @@ pub(crate) enum Call {
 
 /// Reads a reader, in blocks of at least `size` bytes, and returns the counts of quads, terms and graph names that the
 /// call reports. `load_terms` reports the terms alone.
-pub(crate) fn counts_of<R: Threads + Wait + RandomSource, S: Source, G: Gate + Sync>(
+pub(crate) fn counts_of<
+    R: Threads + Wait + RandomSource,
+    S: Source,
+    G: Gate + Sync,
+    L: LoadListener,
+>(
     rt: &R,
     alloc: Global,
     call: Call,
@@ -40,25 +49,26 @@ pub(crate) fn counts_of<R: Threads + Wait + RandomSource, S: Source, G: Gate + S
     workers: usize,
     gate: &G,
     notes: &mut LoadNotes,
+    listener: &L,
 ) -> Result<(u64, u64, u64), ReaderFault>
     requires size { 1 ≤ size }
     requires workers { (1 ≤ workers) × (workers ≤ 64) }
 {
     match call {
-        Call::Load => counts(load_reader(rt, alloc, size, reader, workers, gate, notes)),
+        Call::Load => counts(load_reader(rt, alloc, size, reader, workers, gate, notes, listener)),
         Call::Count => {
-            let counted = count_reader(rt, alloc, size, reader, workers, gate, notes)?;
+            let counted = count_reader(rt, alloc, size, reader, workers, gate, notes, listener)?;
             Ok((counted.quads, counted.dict.len() as u64, counted.graphs))
         }
         Call::Terms => {
-            let dict = load_terms(rt, alloc, size, reader, workers, gate, notes)?;
+            let dict = load_terms(rt, alloc, size, reader, workers, gate, notes, listener)?;
             Ok((0, dict.len() as u64, 0))
         }
     }
 }
 
 /// Reads the document from a reader, and prints what is found: the counts or the fault, whether all lines were read,
-/// and the malformed line.
+/// and the malformed lines.
 fn streamed<R: Threads + Wait + RandomSource, G: Gate + Sync>(
     rt: &R,
     alloc: Global,
@@ -82,6 +92,7 @@ fn streamed<R: Threads + Wait + RandomSource, G: Gate + Sync>(
         workers,
         gate,
         &mut notes,
+        &NoListener,
     );
     let line = noted(alloc, &notes)?;
     format!(in alloc; "{found:?}, {}, {line}", notes.is_read)
@@ -110,8 +121,8 @@ const DOCUMENTS: &[(&str, &[u8], &str, &str)] = &[
     (
         "a malformed line",
         BAD,
-        "Err(BadLine(3)), false, <http://e/a> <http://e/p> .",
-        "Err(BadLine(3)), false, <http://e/a> <http://e/p> .",
+        "Err(BadLine(3)), false, 3:<http://e/a> <http://e/p> . 4:x 2 of 4; 1 missing object: expected an IRI, a blank node or a literal, from 3:27; 1 expected a subject (an IRI or a blank node), from 4:1",
+        "Err(BadLine(3)), false, 3:<http://e/a> <http://e/p> . 4:x 2 of 4; 1 missing object: expected an IRI, a blank node or a literal, from 3:27; 1 expected a subject (an IRI or a blank node), from 4:1",
     ),
     (
         "the empty document",
@@ -188,7 +199,12 @@ fn rounds_count_lines_and_pieces_of_the_document(rt: HostRuntime) {
     let doc = three_rounds(rt.alloc()).expect(&rt, "a document");
     let gate = Counter::new();
     let found = streamed(&rt, rt.alloc(), Call::Load, doc.as_slice(), 65536, 1, &gate);
-    gives(&rt, "a reader", "Err(BadLine(145)), false, x", found);
+    gives(
+        &rt,
+        "a reader",
+        "Err(BadLine(145)), false, 145:x! 1 of 145; 1 expected a subject (an IRI or a blank node), from 145:1",
+        found,
+    );
     check_gate(&rt, &gate);
     let gate = Counter::new();
     let found = shown(&rt, rt.alloc(), doc.as_slice(), 65536, 1, &gate);
@@ -273,6 +289,7 @@ fn failing<R: Threads + Wait + RandomSource>(
         workers,
         &OpenGate,
         &mut notes,
+        &NoListener,
     );
     format!(in alloc; "{found:?}, {}", reader.failed)
 }

@@ -3,3 +3,4 @@ mod dictionary;
 mod documents;
 mod index;
 mod pools;
+mod texts;

@@ -1,7 +1,9 @@
-//! Slices by example: the slices of each statement of a piece, and the term that a slice denotes.
+//! Slices by example: the slices of each statement of a piece, the lines that are seen to be well-formed by their slices,
+//! and the term that a slice denotes.
 use crate::cases::{Case, Reader, all_hold};
 use crate::lines::append_term;
 use nquads_core::{RawStatement, read_term, split_piece};
+use nquads_scan::{is_plain_line, skip_plain_lines};
 use std::alloc::{AllocError, AllocGlobal, Global};
 
 /// Appends the slices of each statement in order, with `-` for the default graph.
@@ -82,6 +84,55 @@ fn other_texts_are_not_split(rt: HostRuntime) {
         Reader::SlicesNotUtf8,
         &[("not UTF-8", "not split")],
     );
+}
+
+/// Appends `plain`, or `not plain`, and then how many lines at the front of the text are plain, and what follows them.
+pub(crate) fn plain_lines(out: &mut String, text: &[u8]) -> Result<(), AllocError> {
+    let (count, rest) = skip_plain_lines(text);
+    let seen = if is_plain_line(text) {
+        "plain"
+    } else {
+        "not plain"
+    };
+    write!(out, "{seen}; {count} lines, {} bytes left", rest.len())
+}
+
+/// Texts, whether each is a plain line, and its plain lines.
+const PLAIN: &[Case] = &[
+    ("", "plain; 0 lines, 0 bytes left"),
+    (" \t# c", "plain; 1 lines, 0 bytes left"),
+    ("_:s<a:p>\"x y\"@en-gb _:g.", "plain; 1 lines, 0 bytes left"),
+    (
+        "<a:\u{e9}> <a:p> \"\u{6771}\"^^<a:d> <a:g> . # c",
+        "plain; 1 lines, 0 bytes left",
+    ),
+    // more than one line
+    ("\n", "not plain; 1 lines, 0 bytes left"),
+    ("_:s <a:p> _:o .\r", "not plain; 1 lines, 0 bytes left"),
+    (
+        "_:s <a:p> _:o .\n\r\n# c\n_:s <a:p> _:o\n",
+        "not plain; 3 lines, 14 bytes left",
+    ),
+    // well-formed lines that are not seen to be so
+    ("_:s <a:p> \"\\n\" .", "not plain; 0 lines, 16 bytes left"),
+    ("_:s <a:p> \"x\"@EN .", "not plain; 0 lines, 18 bytes left"),
+    ("_:s <a:p> \"x\" @en .", "not plain; 0 lines, 19 bytes left"),
+    // malformed lines
+    ("x", "not plain; 0 lines, 1 bytes left"),
+    ("<a:s> <a:p> <o> .", "not plain; 0 lines, 17 bytes left"),
+    ("<a:s> _:p <a:o> .", "not plain; 0 lines, 17 bytes left"),
+    (
+        "<a:s> <a:p> <a:o> \"g\" .",
+        "not plain; 0 lines, 23 bytes left",
+    ),
+    ("<a:s> <a:p> <a: o> .", "not plain; 0 lines, 20 bytes left"),
+    ("_:s <a:p> \"x\"@1 .", "not plain; 0 lines, 17 bytes left"),
+    ("_:s <a:p> \"x\n\" .", "not plain; 0 lines, 16 bytes left"),
+];
+
+#[test]
+fn plain_lines_are_seen(rt: HostRuntime) {
+    all_hold(&rt, rt.alloc(), Reader::PlainLines, PLAIN);
 }
 
 /// Appends the N-Quads form of the term that a slice denotes, or `none`.

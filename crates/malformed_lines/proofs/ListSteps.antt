@@ -8,6 +8,8 @@ use Rattle.std.proofs.lemmas.List.Elements.{All-append}
 use Rattle.rdf_core.specs.QuadParts.{QuadParts}
 use Rattle.nquads_core.specs.Grammar.{HasStatement, IsMalformed}
 use Rattle.nquads_core.specs.Lines.{lines}
+use Rattle.nquads_core.specs.Pieces.{HaveStatements}
+use Rattle.nquads_scan.specs.PlainLines.{AreLinesBefore}
 use Rattle.malformed_lines.specs.declared.piece_list.FoundLine.{FoundLine}
 use Rattle.malformed_lines.specs.declared.piece_list.PieceList.{PieceList}
 use Rattle.malformed_lines.specs.Malformed.{AreMalformedFrom, IsFound, IsKept, IsListOf, most_shown}
@@ -113,3 +115,14 @@ pub all_listed : (list : PieceList) (rest all : List ℕ) → IsListedUpTo list 
 all_listed list rest all h e =
     let whole : lines all ≡ h.before = h.parts ∙ ap (λ (y : List (List ℕ)). h.before ++ y) (ap lines e ∙ lines_nil) ∙ append-nil h.before in
     subst (λ (y : List (List ℕ)). IsListOf y list) (sym whole) h.listed
+
+-- the plain lines at the front are listed
+pub plain_listed : (list : PieceList) (count : ℕ) (rest all : List ℕ) (quads : List QuadParts) → AreLinesBefore quads count rest all
+    → ((before : List (List ℕ)) (quads : List QuadParts) → HaveStatements before quads → length before ≡ count → IsListOf before list)
+    → list.lines ≡ count → count + length rest ≤ length all → IsListedUpTo list rest all
+plain_listed list count rest all quads h list_of lines_are short = record {
+  before = h.before;
+  parts = h.parts;
+  listed = list_of h.before quads h.statements h.number;
+  short = omega (arith, lines_are, short);
+}

@@ -1,13 +1,16 @@
 //! Listing the malformed lines of a piece.
 ghost use Rattle.std.specs.Prelude.{◌≡◌, ◌+◌, ◌<◌, ◌∷◌, ◌++◌, ◌^◌, [], List, ℕ, length, IfOk, OnOk};
+ghost use Rattle.rdf_core.specs.QuadParts.{QuadParts};
 ghost use Rattle.nquads_core.specs.Grammar.{IsMalformed};
 ghost use Rattle.nquads_core.specs.Lines.{lines};
+ghost use Rattle.nquads_core.specs.Pieces.{HaveStatements};
 ghost use Rattle.malformed_lines.specs.Malformed.{IsKept, IsListOf};
 
 use crate::piece_list::{FoundLine, MOST_SHOWN, PieceList};
 use crate::reason_counts::{ReasonCount, ReasonCounts};
 use line_diagnosis::{Diagnosis, diagnose};
 use nquads_core::first_line;
+use nquads_scan::{is_plain_line, skip_plain_lines};
 use std::alloc::{AllocError, Global};
 
 /// Keeps a malformed line, unless twenty are kept.
@@ -30,15 +33,17 @@ fn keep<'d>(
 }
 
 impl<'d> PieceList<'d> {
-    fn new(alloc: Global) -> PieceList<'d>
-        ensures listed { IsListOf [] result }
-        ensures none { result.lines ≡ 0 }
+    /// Returns the list of a piece that begins with this number of well-formed lines, as far as these lines.
+    fn after(alloc: Global, lines: u64) -> PieceList<'d>
+        ensures listed { (before : List (List ℕ)) (quads : List QuadParts)
+            → HaveStatements before quads → length before ≡ lines → IsListOf before result }
+        ensures lines { result.lines ≡ lines }
     {
         PieceList {
             shown: Vec::new(alloc),
             total: 0,
             reasons: ReasonCounts::new(alloc),
-            lines: 0,
+            lines,
         }
     }
 
@@ -74,6 +79,10 @@ impl<'d> PieceList<'d> {
             → IsListOf (before ++ line.now ∷ []) self.new) }
         ensures lines { OnOk result (self.new.lines ≡ self.old.lines + 1) }
     {
+        if is_plain_line(line) {
+            self.lines += 1;
+            return Ok(());
+        }
         match diagnose(alloc, line)? {
             Some(diagnosis) => self.add_malformed(line, is_cut, &diagnosis),
             None => {
@@ -85,15 +94,15 @@ impl<'d> PieceList<'d> {
 }
 
 /// Lists the malformed lines of a piece of a document: the first twenty, how many there are, and how many for each
-/// reason (RDF 1.1 N-Quads, grammar).
+/// reason (RDF 1.1 N-Quads, grammar). Only a line that is not plain is diagnosed.
 ///
 /// # Errors
 /// `AllocError` if an allocation fails.
 pub fn list_piece(alloc: Global, bytes: &[u8]) -> Result<PieceList<'_>, AllocError>
     ensures listed { IfOk result (IsListOf (lines bytes.now)) }
 {
-    let mut list = PieceList::new(alloc);
-    let mut rest = bytes;
+    let (plain, mut rest) = skip_plain_lines(bytes);
+    let mut list = PieceList::after(alloc, plain);
     while !rest.is_empty() {
         let (line, after) = first_line(rest);
         list.add_line(alloc, line, line.len() == rest.len())?;

@@ -11,7 +11,7 @@ use crate::documents::{
     loaded_blocks,
 };
 use crate::readers::{Call, counts_of};
-use dataset_load::{LoadFault, LoadNotes, ReaderFault};
+use dataset_load::{LoadFault, LoadNotes, NoListener, ReaderFault};
 use nquads_core::Device;
 use std::alloc::Global;
 use std::process::Abort;
@@ -31,8 +31,9 @@ enum Manner {
     Reader(Call),
 }
 
-/// Reads the document from a reader, and returns its counts. A failed read, which cannot occur, is a malformed line 0.
-fn from_reader<R: Threads + Wait + RandomSource>(
+/// Reads the document from a reader, and returns its counts. Prints whether a list of malformed lines is not complete, for the
+/// script to see. A failed read, which cannot occur, is a malformed line 0.
+fn from_reader<R: Threads + Wait + RandomSource + Print>(
     rt: &R,
     alloc: Global,
     call: Call,
@@ -44,7 +45,23 @@ fn from_reader<R: Threads + Wait + RandomSource>(
 {
     let mut reader = Device { inner: doc };
     let mut notes = LoadNotes::new();
-    match counts_of(rt, alloc, call, &mut reader, 1, workers, gate, &mut notes) {
+    let found = counts_of(
+        rt,
+        alloc,
+        call,
+        &mut reader,
+        1,
+        workers,
+        gate,
+        &mut notes,
+        &NoListener,
+    );
+    if let Some(listing) = &notes.malformed {
+        if !listing.is_complete {
+            let _ = println!(rt; "the list failed");
+        }
+    }
+    match found {
         Ok(counts) => Ok(counts),
         Err(ReaderFault::BadLine(line)) => Err(LoadFault::BadLine(line)),
         Err(ReaderFault::WorkerRefused) => Err(LoadFault::WorkerRefused),
@@ -54,7 +71,7 @@ fn from_reader<R: Threads + Wait + RandomSource>(
 }
 
 /// Reads the document, and returns its counts.
-fn read<R: Threads + Wait + RandomSource>(
+fn read<R: Threads + Wait + RandomSource + Print>(
     rt: &R,
     alloc: Global,
     manner: Manner,

@@ -1,10 +1,15 @@
 use Rattle.std.proofs.Common.{sym}
 use Rattle.std.proofs.lemmas.List.{nil_from_length}
 use Rattle.std.proofs.lemmas.Bool.{eqb-true}
-use Rattle.malformed_lines.proofs.ListSteps.{all_listed}
+use Rattle.malformed_lines.proofs.ListSteps.{all_listed, plain_listed}
 use Rattle.malformed_lines.proofs.listing.list_piece.Goals as goal
 
 pub returns : goal.returns
 returns c = record {
   listed = all_listed c.loop-rest.list c.loop-rest.rest.now c.args.bytes.now c.loop-rest.invariant (nil_from_length c.loop-rest.rest.now (eqb-true _ _ (sym c.loop-rest-test.ensures)));
 }
+
+pub loop-rest-init : goal.loop-rest-init
+loop-rest-init c =
+    let front = c.skip_plain_lines-plain.ensures.lines in
+    plain_listed c.after-list.result c.skip_plain_lines-plain.result.0 c.skip_plain_lines-plain.result.1.now c.args.bytes.now front.0 front.1 c.after-list.ensures.listed c.after-list.ensures.lines c.skip_plain_lines-plain.ensures.shorter

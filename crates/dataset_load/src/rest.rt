@@ -1,0 +1,269 @@
+//! The malformed lines of the rest of a reader, after the first of them is known.
+ghost use Rattle.std.specs.Prelude.{◌≡◌, ◌+◌, ◌≤◌, ◌^◌, List, ℕ, false, length, IfErr, IfOk, IfSome, IsOk, MatchOption, OnErr, OnOk, Ok};
+ghost use Rattle.std.specs.Io.KnownBytes.{IsAtEnd};
+ghost use Rattle.rdf_core.specs.QuadParts.{QuadParts};
+ghost use Rattle.nquads_core.specs.Pieces.{HaveStatements};
+ghost use Rattle.nquads_core.specs.Transfer.{CountsRead, IsReadInPart};
+ghost use Rattle.malformed_lines.specs.Malformed.{IsListed};
+ghost use Rattle.piece_pool.specs.Limits.{most_workers};
+ghost use Rattle.dataset_load.specs.Limits.{most_pieces_of_a_round};
+ghost use Rattle.dataset_load.specs.Ahead.{IsAhead};
+ghost use Rattle.dataset_load.specs.Listing.{IsBadList, IsBadRound, IsListing, IsReady};
+ghost use Rattle.dataset_load.specs.Streaming.{IsBadLineFrom, IsBadSoFar, IsToEnd};
+
+use crate::bad_round::BadRound;
+use crate::listing::list_blocks;
+use crate::load_notes::{Listing, LoadListener, LoadNotes};
+use crate::reader::{FilledRound, round_after};
+use malformed_lines::MalformedLines;
+use nquads_core::{ReadFault, Source};
+use piece_cuts::{BlockState, Blocks};
+use piece_pool::{OpenGate, PoolFault};
+use std::alloc::Global;
+use std::sync::Wait;
+use std::thread::Threads;
+
+/// The largest number of rounds of a document. A round has at least 64 KiB or 2^20 lines, except the last one.
+pub(crate) const MOST_ROUNDS: u64 = 1 << 40;
+
+/// Lists the malformed lines of a round and of all that the reader has after it, and reads the reader to its end.
+/// `notes` gets the list. If an allocation fails or a worker cannot be started, the rest is dropped, and the list is not complete.
+///
+/// # Errors
+/// - `Read` if the reader fails.
+/// - `Memory` if the reader has not ended after 2^64 - 1 reads.
+pub(crate) fn list_rest<R: Threads + Wait, S: Source, L: LoadListener>(
+    rt: &R,
+    alloc: Global,
+    bad: BadRound,
+    is_after_utf8: bool,
+    blocks: &mut Blocks,
+    reader: &mut S,
+    workers: usize,
+    notes: &mut LoadNotes,
+    listener: &L,
+) -> Result<(), ReadFault>
+    requires workers { (1 ≤ workers) × (workers ≤ most_workers) }
+    requires ready { IsReady blocks.old bad }
+    ensures bad_line { OnOk result ((start : _) (n : ℕ)
+        → IsBadRound start (S.left reader.old) blocks.old.kept n bad
+        → IsBadLineFrom start (S.left reader.new) n) }
+    ensures listed { OnOk result ((start : _) (n : ℕ)
+        → IsBadRound start (S.left reader.old) blocks.old.kept n bad
+        → IsListing start (S.left reader.new) notes.new.malformed) }
+    ensures taken { OnErr result ((start : _) (n : ℕ)
+        → IsBadRound start (S.left reader.old) blocks.old.kept n bad
+        → IsReadInPart start (S.left reader.new)) }
+    ensures count { CountsRead (S.failures reader.old) (S.failures reader.new) result }
+{
+    let mut list = MalformedLines::after(alloc, bad.before);
+    match list_lines(
+        rt,
+        alloc,
+        &mut list,
+        bad,
+        is_after_utf8,
+        blocks,
+        reader,
+        workers,
+        listener,
+    ) {
+        Ok(()) => {
+            notes.malformed = Some(Listing {
+                list,
+                is_complete: true,
+                is_after_utf8,
+            });
+            Ok(())
+        }
+        Err(ReadFault::Memory) => {
+            notes.malformed = Some(Listing {
+                list,
+                is_complete: false,
+                is_after_utf8,
+            });
+            skip_rest(reader)
+        }
+        Err(ReadFault::Read) => Err(ReadFault::Read),
+    }
+}
+
+/// Adds the malformed lines of a round, and of all rounds after it, to the list. The listener is told of the first one.
+///
+/// # Errors
+/// - `Read` if the reader fails.
+/// - `Memory` if an allocation fails, if a worker could not be started, or if the document has too many rounds.
+fn list_lines<R: Threads + Wait, S: Source, L: LoadListener>(
+    rt: &R,
+    alloc: Global,
+    list: &mut MalformedLines,
+    bad: BadRound,
+    is_after_utf8: bool,
+    blocks: &mut Blocks,
+    reader: &mut S,
+    workers: usize,
+    listener: &L,
+) -> Result<(), ReadFault>
+    requires workers { (1 ≤ workers) × (workers ≤ most_workers) }
+    requires ready { IsReady blocks.old bad }
+    requires countable { list.old.lines ≤ 2 ^ 124 }
+    requires before { (before : List (List ℕ)) (quads : List QuadParts) → HaveStatements before quads
+        → bad.before ≡ length before → IsListed before list.old }
+    ensures listed { OnOk result ((start : _) (n : ℕ)
+        → IsBadRound start (S.left reader.old) blocks.old.kept n bad
+        → IsToEnd (IsBadList n list.new) start (S.left reader.new)) }
+    ensures stopped { OnErr result ((start : _) (n : ℕ)
+        → IsBadRound start (S.left reader.old) blocks.old.kept n bad
+        → IsBadSoFar start (S.left reader.new) n) }
+    ensures count { CountsRead (S.failures reader.old) (S.failures reader.new) result }
+{
+    let BadRound { round, next, .. } = bad;
+    let (listed, ()) = list_blocks(
+        rt,
+        alloc,
+        list,
+        round.blocks.as_slice(),
+        workers,
+        &OpenGate,
+        &mut || (),
+    );
+    let Ok(()) = listed else {
+        return Err(ReadFault::Memory);
+    };
+    tell(listener, list, is_after_utf8);
+    match next {
+        Some(next) => list_rounds(rt, alloc, list, blocks, reader, workers, next),
+        None => Ok(()),
+    }
+}
+
+/// Tells the listener of the first line of a list.
+fn tell<L: LoadListener>(listener: &L, list: &MalformedLines, is_after_utf8: bool) {
+    if let Some(line) = list.shown.first() {
+        listener.found(line, is_after_utf8);
+    }
+}
+
+/// Adds the malformed lines of a round, and of all rounds after it, to the list. Each round is read while the one before is
+/// listed.
+///
+/// # Errors
+/// As `list_lines`.
+fn list_rounds<R: Threads + Wait, S: Source>(
+    rt: &R,
+    alloc: Global,
+    list: &mut MalformedLines,
+    blocks: &mut Blocks,
+    reader: &mut S,
+    workers: usize,
+    first: FilledRound,
+) -> Result<(), ReadFault>
+    requires workers { (1 ≤ workers) × (workers ≤ most_workers) }
+    requires few { length first.blocks.items ≤ most_pieces_of_a_round }
+    requires reading { first.is_last ≡ false → blocks.old.state ≡ BlockState.Reading }
+    requires countable { list.old.lines ≤ 2 ^ 125 }
+    ensures listed { OnOk result ((start : _) (n : ℕ)
+        → IsAhead (IsBadList n list.old) start (S.left reader.old) blocks.old.kept first
+        → IsToEnd (IsBadList n list.new) start (S.left reader.new)) }
+    ensures stopped { OnErr result ((start : _) (n : ℕ)
+        → IsAhead (IsBadList n list.old) start (S.left reader.old) blocks.old.kept first
+        → IsBadSoFar start (S.left reader.new) n) }
+    ensures count { CountsRead (S.failures reader.old) (S.failures reader.new) result }
+{
+    let mut round = first;
+    for _ in 0..MOST_ROUNDS {
+        let next = list_round(rt, alloc, list, blocks, reader, workers, round)?;
+        let Some(next) = next else {
+            return Ok(());
+        };
+        round = next;
+    }
+    Err(ReadFault::Memory)
+}
+
+/// Adds the malformed lines of a round to the list, and returns the next round, or None after the last one. The
+/// caller's thread reads the next round while the workers list this one.
+///
+/// # Errors
+/// As `list_lines`.
+fn list_round<R: Threads + Wait, S: Source>(
+    rt: &R,
+    alloc: Global,
+    list: &mut MalformedLines,
+    blocks: &mut Blocks,
+    reader: &mut S,
+    workers: usize,
+    round: FilledRound,
+) -> Result<Option<FilledRound>, ReadFault>
+    requires workers { (1 ≤ workers) × (workers ≤ most_workers) }
+    requires few { length round.blocks.items ≤ most_pieces_of_a_round }
+    requires reading { round.is_last ≡ false → blocks.old.state ≡ BlockState.Reading }
+    requires countable { list.old.lines ≤ 2 ^ 126 }
+    ensures few { IfOk result (λ next. IfSome next
+        (λ round. length round.blocks.items ≤ most_pieces_of_a_round)) }
+    ensures reading { IfOk result (λ next. IfSome next
+        (λ round. round.is_last ≡ false → blocks.new.state ≡ BlockState.Reading)) }
+    ensures counted { OnOk result (list.new.lines ≤ list.old.lines + 2 ^ 84) }
+    ensures listed { (n : ℕ) → IfOk result (λ next. (start : _)
+        → IsAhead (IsBadList n list.old) start (S.left reader.old) blocks.old.kept round
+        → MatchOption next (IsToEnd (IsBadList n list.new) start (S.left reader.new))
+        (IsAhead (IsBadList n list.new) start (S.left reader.new) blocks.new.kept)) }
+    ensures stopped { (n : ℕ) → OnErr result ((start : _)
+        → IsAhead (IsBadList n list.old) start (S.left reader.old) blocks.old.kept round
+        → IsBadSoFar start (S.left reader.new) n) }
+    ensures count { CountsRead (S.failures reader.old) (S.failures reader.new) result }
+{
+    let is_last = round.is_last;
+    let (listed, next) = list_blocks(
+        rt,
+        alloc,
+        list,
+        round.blocks.as_slice(),
+        workers,
+        &OpenGate,
+        &mut || round_after(alloc, is_last, blocks, reader, workers),
+    );
+    blocks.reuse(round.blocks);
+    next_if_listed(listed, next)
+}
+
+/// Returns the round that was read while another was listed. If that one was not listed, returns `Memory`, unless the
+/// read failed.
+fn next_if_listed(
+    listed: Result<(), PoolFault>,
+    next: Result<Option<FilledRound>, ReadFault>,
+) -> Result<Option<FilledRound>, ReadFault>
+    ensures next { IfOk result (λ round. next ≡ Ok round) }
+    ensures listed { OnOk result (IsOk listed) }
+    ensures count { (old : _) (new : _) → CountsRead old new next → CountsRead old new result }
+{
+    let next = match next {
+        Ok(next) => next,
+        Err(fault) => return Err(fault),
+    };
+    match listed {
+        Ok(()) => Ok(next),
+        Err(_) => Err(ReadFault::Memory),
+    }
+}
+
+/// Reads a reader to its end, and drops what is read.
+///
+/// # Errors
+/// - `Read` if the reader fails.
+/// - `Memory` if the reader has not ended after 2^64 - 1 reads.
+fn skip_rest<S: Source>(reader: &mut S) -> Result<(), ReadFault>
+    ensures part { IsReadInPart (S.left reader.old) (S.left reader.new) }
+    ensures at_end { OnOk result (IsAtEnd (S.left reader.new)) }
+    ensures count { CountsRead (S.failures reader.old) (S.failures reader.new) result }
+{
+    let mut chunk = [0u8; 8192];
+    for _ in 0..u64::MAX {
+        match reader.read(&mut chunk) {
+            Ok(0) => return Ok(()),
+            Ok(_) => {}
+            Err(_) => return Err(ReadFault::Read),
+        }
+    }
+    Err(ReadFault::Memory)
+}
