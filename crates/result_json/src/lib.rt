@@ -1,6 +1,6 @@
 //! Prints rows of numbers as SPARQL Query Results JSON, in the order of their terms.
 //!
-//! [`print_rows`] is the only entry point. It takes a [`Table`]: the rows of an evaluator, the
+//! [`print_rows`] is the only entry point. It takes the rows of an evaluator and a [`Table`]: the
 //! dictionary of their numbers, and the projected variables. It returns the whole document in
 //! blocks. Its contract defines the bytes of the concatenated blocks. They are `json` of the
 //! projected names and of the sorted rows that OFFSET and LIMIT keep. `json` is defined in
@@ -12,7 +12,7 @@
 //!
 //! The steps are:
 //!
-//! - The cells of the projected variables are copied into one buffer of numbers.
+//! - The cells of the projected variables are copied into one buffer of numbers, and the rows are freed.
 //! - Their distinct terms are sorted, and the rank of its term replaces each number. Workers sort
 //!   pieces of the terms by keys. The pieces are merged, and workers check the order.
 //! - The rows are sorted by ranks. Rows of two cells are first sorted as one number each.

@@ -34,7 +34,7 @@ fn kept<T>(rows: &[T], offset: u64, limit: Option<u64>) -> &[T]
     }
 }
 
-/// The input of the printer: rows of numbers, the projected variables, and the slice to keep.
+/// What the printer makes of rows of numbers: the projected variables, the terms, and the slice to keep.
 #[derive(Clone, Copy)]
 pub struct Table<'a> {
     /// Each variable's name at its number.
@@ -42,8 +42,6 @@ pub struct Table<'a> {
     /// The numbers of the projected variables, in the order of the results. A variable without a
     /// place in the rows is unbound in all of them.
     pub listed: &'a [usize],
-    /// The rows, each with the number of a term at the place of each variable that it binds.
-    pub rows: &'a Rows,
     /// The term of each number in the rows.
     pub dict: &'a Dict,
     /// The number of first rows to leave out (SPARQL 1.1 Query Language, section 15.4).
@@ -55,6 +53,9 @@ pub struct Table<'a> {
 /// Prints the result of a query as JSON (SPARQL 1.1 Query Results JSON Format), in blocks to be
 /// concatenated. It has the names of the projected variables, and the rows in the order of their
 /// terms, cut to what OFFSET and LIMIT keep. It ends with a line feed.
+///
+/// Each row has the number of a term at the place of each variable that it binds. The rows are freed
+/// as soon as their numbers are copied, before anything is printed.
 ///
 /// Workers print the rows in pieces, as `how` says, each piece into its own block. They call the
 /// gate before and after each piece. Neither changes the bytes. With one worker the caller does all
@@ -71,22 +72,24 @@ pub fn print_rows<R: Threads + Wait, G: Gate + Sync>(
     rt: &R,
     alloc: Global,
     table: &Table<'_>,
+    rows: Rows,
     how: &How,
     gate: &G,
 ) -> Result<Vec<Vec<u8>>, EvalFault>
-    requires known { Each (EachBound (λ n. n < length table.now.dict.now)) table.now.rows.now.rows }
+    requires known { Each (EachBound (λ n. n < length table.now.dict.now)) rows.rows }
     requires how { IsRunnable how.now }
     ensures json { IfOk result (λ blocks. joined_blocks blocks.items
         ≡ json (listed_names table.now.names.now table.now.listed.now)
         (slice table.now.offset table.now.limit
-        (sorted_rows table.now.listed.now (map (read_row (term_at table.now.dict.now)) table.now.rows.now.rows)))) }
+        (sorted_rows table.now.listed.now (map (read_row (term_at table.now.dict.now)) rows.rows)))) }
     ensures one_worker { HasOneWorker how.now → IfErr result (λ fault. fault ≡ Memory) }
 {
-    let (listed, rows) = (table.listed, table.rows);
-    let mut ranks = listed_codes(alloc, listed, rows, table.dict)?;
+    let (listed, count) = (table.listed, rows.len());
+    let mut ranks = listed_codes(alloc, listed, &rows, table.dict)?;
+    drop(rows);
     let terms = rank(rt, alloc, &mut ranks, table.dict, how)?;
-    order_pairs(alloc, &mut ranks, listed.len(), rows.len())?;
-    let sorted = sorted_rows(alloc, &ranks, listed.len(), rows.len())?;
+    order_pairs(alloc, &mut ranks, listed.len(), count)?;
+    let sorted = sorted_rows(alloc, &ranks, listed.len(), count)?;
     let kept = kept(&sorted, table.offset, table.limit);
     to_json(rt, alloc, table.names, listed, &terms, kept, how, gate)
 }

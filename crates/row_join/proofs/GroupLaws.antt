@@ -1,17 +1,10 @@
 -- Groups under their keys: the contents of one group, and what adding a place changes.
-use Rattle.std.proofs.Common.{◌≡◌, ℕ, suc, ◌+◌, ◌<◌, ◌≤◌, Bool, true, false, not, cond, ◌||◌, List, [], ◌∷◌, ◌++◌, length, map, set, get_or, nat_eq, nat_lt, Some, None, if◌then◌else◌, refl, sym, ap, subst, ◌∙◌, true≢false, arith}
-use Rattle.std.specs.List.{list_any, position_or_len}
-use Rattle.std.specs.Cmp.Lexicographic.{pointwise}
+use Rattle.std.proofs.Common.{◌≡◌, ℕ, suc, ◌+◌, ◌<◌, Bool, true, false, not, cond, ◌||◌, List, [], ◌∷◌, ◌++◌, length, map, set, get_or, if◌then◌else◌, refl, sym, ap, subst, ◌∙◌, true≢false, arith}
+use Rattle.std.specs.List.{list_any}
 use Rattle.std.proofs.lemmas.Cmp.{nat_list_eq_equiv}
-use Rattle.std.proofs.lemmas.List.{append-nil, map-append, get_or-map, get_or_past}
-use Rattle.std.proofs.lemmas.Bool.Decides.{nat_tests}
+use Rattle.std.proofs.lemmas.List.{append-nil, length-map, get_or-map, get_or_past}
 use Rattle.row_join.specs.Places.{group_in, place_if}
-
-abbrev pub same_numbers : List ℕ → List ℕ → Bool
-same_numbers = pointwise nat_eq
-
-abbrev pub place_of : List ℕ → List (List ℕ) → ℕ
-place_of n keys = position_or_len (same_numbers n) keys
+use Rattle.row_join.specs.KeyTable.{place_of, same_numbers, with_key}
 
 -- the group of numbers is the one at their place
 pub group_in-at : (keys groups : List (List ℕ)) (n : List ℕ) → length keys ≡ length groups → group_in keys groups n ≡ get_or groups (place_of n keys) []
@@ -24,15 +17,6 @@ group_in-at (k ∷ keys) (g ∷ groups) n h = by (same_numbers n k) (group_in-at
         → (if b then g else group_in keys groups n) ≡ get_or (g ∷ groups) (cond (not b) (1 + place_of n keys) 0) []
     by true e = refl
     by false e = let s : suc (place_of n keys) ≡ 1 + place_of n keys = omega arith in e ∙ ap (λ k. get_or (g ∷ groups) k []) s
-
--- what a look-up returns about the place
-pub some_place : (b : Bool) (p i : ℕ) → cond b (Some p) None ≡ Some i → i ≡ p
-some_place true p i e = cc
-some_place false p i e = cc
-
-pub no_place : (b : Bool) (p : ℕ) → cond b (Some p) None ≡ None → b ≡ false
-no_place true p e = cc
-no_place false p e = refl
 
 -- equal numbers have equal results
 congruent : (n k found : List ℕ) → same_numbers n k ≡ true → same_numbers found k ≡ same_numbers found n
@@ -106,80 +90,60 @@ module _ (n : List ℕ) (place : ℕ) (found : List ℕ) where
           subst (λ (j : ℕ). group_in (k ∷ keys ++ n ∷ []) (set (g ∷ groups ++ [] ∷ []) j (get_or (g ∷ groups ++ [] ∷ []) j [] ++ place ∷ [])) found ≡ group_in (k ∷ keys) (g ∷ groups) found ++ place_if (same_numbers found n) place) s
           (there_is (same_numbers found k) (group_in (keys ++ n ∷ []) (set (groups ++ [] ∷ []) (place_of n keys) (get_or (groups ++ [] ∷ []) (place_of n keys) [] ++ place ∷ [])) found) (other n k found e) (rest t))
 
--- stored keys: f of each is its numbers
-module _ {V : Type 0} (f : V → List ℕ) where
-  pub place_of-map : (n : List ℕ) (vs : List V) → position_or_len (λ v. same_numbers n (f v)) vs ≡ place_of n (map f vs)
-  place_of-map n [] = refl
-  place_of-map n (v ∷ vs) = ap (λ (k : ℕ). cond (not (same_numbers n (f v))) (1 + k) 0) (place_of-map n vs)
+-- the place of a key that occurs, and of one that does not
+occurs : (n : List ℕ) (keys : List (List ℕ)) → place_of n keys < length keys → list_any (same_numbers n) keys ≡ true
+occurs n [] h = absurd (omega arith)
+occurs n (k ∷ keys) h = by (same_numbers n k) h (occurs n keys)
+  where
+    by : (b : Bool) → cond (not b) (1 + place_of n keys) 0 < suc (length keys)
+        → (place_of n keys < length keys → list_any (same_numbers n) keys ≡ true) → (b || list_any (same_numbers n) keys) ≡ true
+    by true h rest = refl
+    by false h rest = rest (omega arith)
 
-  pub any-map : (n : List ℕ) (vs : List V) → list_any (λ v. same_numbers n (f v)) vs ≡ list_any (same_numbers n) (map f vs)
-  any-map n [] = refl
-  any-map n (v ∷ vs) = ap (λ b. same_numbers n (f v) || b) (any-map n vs)
+never : (n : List ℕ) (keys : List (List ℕ)) → length keys ≡ place_of n keys → list_any (same_numbers n) keys ≡ false
+never n [] e = refl
+never n (k ∷ keys) e = by (same_numbers n k) e (never n keys)
+  where
+    by : (b : Bool) → suc (length keys) ≡ cond (not b) (1 + place_of n keys) 0
+        → (length keys ≡ place_of n keys → list_any (same_numbers n) keys ≡ false) → (b || list_any (same_numbers n) keys) ≡ false
+    by true e rest = absurd (omega arith)
+    by false e rest = rest (omega arith)
 
-  pub length-inside : (vs : List V) → length (map f vs) ≡ length vs
-  length-inside [] = refl
-  length-inside (v ∷ vs) = ap suc (length-inside vs)
+pub with_key-old : (keys : List (List ℕ)) (n : List ℕ) → place_of n keys < length keys → with_key keys n ≡ keys
+with_key-old keys n h = ap (λ b. if b then keys else keys ++ n ∷ []) (occurs n keys h)
 
-abbrev pub grown : Bool → List (List ℕ) → List (List ℕ)
-grown is_new groups = if is_new then groups ++ [] ∷ [] else groups
+pub with_key-new : (keys : List (List ℕ)) (n : List ℕ) → length keys ≡ place_of n keys → with_key keys n ≡ keys ++ n ∷ []
+with_key-new keys n e = ap (λ b. if b then keys else keys ++ n ∷ []) (never n keys e)
 
-module _ {V W : Type 0} (f : V → List ℕ) (h : W → List ℕ) where
-  -- what a look-up among stored keys finds
-  pub found_group : (keys : List V) (groups : List W) (n : List ℕ) (at : ℕ) (d : W) → length keys ≡ length groups → at < length keys
-      → Some at ≡ cond (nat_lt (position_or_len (λ v. same_numbers n (f v)) keys) (length keys)) (Some (position_or_len (λ v. same_numbers n (f v)) keys)) None
-      → h (get_or groups at d) ≡ group_in (map f keys) (map h groups) n
-  found_group keys groups n at d e low p =
-      let a : at ≡ place_of n (map f keys) = some_place (nat_lt (position_or_len (λ v. same_numbers n (f v)) keys) (length keys)) _ at (sym p) ∙ place_of-map f n keys in
-      let lk = length-inside f keys in
-      let lg = length-inside h groups in
+module _ {W : Type 0} (h : W → List ℕ) where
+  -- what a look-up finds
+  pub found_group : (keys : List (List ℕ)) (groups : List W) (n : List ℕ) (at : ℕ) (d : W) → length keys ≡ length groups → at ≡ place_of n keys → at < length keys
+      → h (get_or groups at d) ≡ group_in keys (map h groups) n
+  found_group keys groups n at d e a low =
+      let lg = length-map groups h in
       sym (get_or-map h groups at d [] (omega arith))
       ∙ ap (λ (k : ℕ). get_or (map h groups) k []) a
-      ∙ sym (group_in-at (map f keys) (map h groups) n (omega arith))
+      ∙ sym (group_in-at keys (map h groups) n (omega arith))
 
-  pub no_group : (keys : List V) (groups : List W) (n : List ℕ) → length keys ≡ length groups
-      → None ≡ cond (nat_lt (position_or_len (λ v. same_numbers n (f v)) keys) (length keys)) (Some (position_or_len (λ v. same_numbers n (f v)) keys)) None
-      → [] ≡ group_in (map f keys) (map h groups) n
+  pub no_group : (keys : List (List ℕ)) (groups : List W) (n : List ℕ) → length keys ≡ length groups → length keys ≡ place_of n keys
+      → [] ≡ group_in keys (map h groups) n
   no_group keys groups n e p =
-      let b = no_place (nat_lt (position_or_len (λ v. same_numbers n (f v)) keys) (length keys)) _ (sym p) in
-      let a = place_of-map f n keys in
-      let lk = length-inside f keys in
-      let lg = length-inside h groups in
-      let low : length keys ≤ position_or_len (λ v. same_numbers n (f v)) keys = grind (arith, nat_tests) in
-      sym (get_or_past (map h groups) (place_of n (map f keys)) [] (omega arith))
-      ∙ sym (group_in-at (map f keys) (map h groups) n (omega arith))
+      let lg = length-map groups h in
+      sym (get_or_past (map h groups) (place_of n keys) [] (omega arith))
+      ∙ sym (group_in-at keys (map h groups) n (omega arith))
 
-module _ {V : Type 0} (f : V → List ℕ) where
-  -- what an insertion changes
-  pub place_added : (keys keys' : List V) (v : V) (groups : List (List ℕ)) (more new : List (List ℕ)) (at place : ℕ) (is_new : Bool)
-      → length keys ≡ length groups
-      → keys' ≡ (if list_any (λ y. same_numbers (f v) (f y)) keys then keys else keys ++ v ∷ [])
-      → at ≡ position_or_len (λ y. same_numbers (f v) (f y)) keys
-      → is_new ≡ not (list_any (λ y. same_numbers (f v) (f y)) keys)
-      → more ≡ grown is_new groups
-      → new ≡ set more at (get_or more at [] ++ place ∷ [])
-      → (found : List ℕ) → group_in (map f keys') new found ≡ group_in (map f keys) groups found ++ place_if (same_numbers found (f v)) place
-  place_added keys keys' v groups more new at place is_new e k a i m n found =
-      by (list_any (λ y. same_numbers (f v) (f y)) keys) refl
-    where
-      p : at ≡ place_of (f v) (map f keys)
-      p = a ∙ place_of-map f (f v) keys
+module _ (keys keys' : List (List ℕ)) (n : List ℕ) (groups new : List (List ℕ)) (at place : ℕ) (long : length keys ≡ length groups) (all : keys' ≡ with_key keys n) (a : at ≡ place_of n keys) where
+  -- what adding a place under a key changes
+  pub place_added-old : at < length keys → new ≡ set groups at (get_or groups at [] ++ place ∷ [])
+      → (found : List ℕ) → group_in keys' new found ≡ group_in keys groups found ++ place_if (same_numbers found n) place
+  place_added-old low m found =
+      let low' : place_of n keys < length keys = omega arith in
+      (λ j. group_in ((all ∙ with_key-old keys n low') j) ((m ∙ ap (λ (k : ℕ). set groups k (get_or groups k [] ++ place ∷ [])) a) j) found)
+      ∙ added_to n place found keys groups long (occurs n keys low')
 
-      long : length (map f keys) ≡ length groups
-      long = length-inside f keys ∙ e
-
-      new_is : (b : Bool) → list_any (λ y. same_numbers (f v) (f y)) keys ≡ b
-          → new ≡ set (grown (not b) groups) (place_of (f v) (map f keys)) (get_or (grown (not b) groups) (place_of (f v) (map f keys)) [] ++ place ∷ [])
-      new_is b is = n ∙ (λ j. set (m' j) (p j) (get_or (m' j) (p j) [] ++ place ∷ []))
-        where
-          m' : more ≡ grown (not b) groups
-          m' = m ∙ ap (λ x. grown x groups) (i ∙ ap not is)
-
-      by : (b : Bool) → list_any (λ y. same_numbers (f v) (f y)) keys ≡ b
-          → group_in (map f keys') new found ≡ group_in (map f keys) groups found ++ place_if (same_numbers found (f v)) place
-      by true is =
-          (λ j. group_in (map f ((k ∙ ap (λ b. if b then keys else keys ++ v ∷ []) is) j)) (new_is true is j) found)
-          ∙ added_to (f v) place found (map f keys) groups long (sym (any-map f (f v) keys) ∙ is)
-      by false is =
-          (λ j. group_in (map f ((k ∙ ap (λ b. if b then keys else keys ++ v ∷ []) is) j)) (new_is false is j) found)
-          ∙ ap (λ (ks : List (List ℕ)). group_in ks (set (groups ++ [] ∷ []) (place_of (f v) (map f keys)) (get_or (groups ++ [] ∷ []) (place_of (f v) (map f keys)) [] ++ place ∷ [])) found) (map-append f keys (v ∷ []))
-          ∙ added_new (f v) place found (map f keys) groups long (sym (any-map f (f v) keys) ∙ is)
+  pub place_added-new : at ≡ length keys → new ≡ set (groups ++ [] ∷ []) at (get_or (groups ++ [] ∷ []) at [] ++ place ∷ [])
+      → (found : List ℕ) → group_in keys' new found ≡ group_in keys groups found ++ place_if (same_numbers found n) place
+  place_added-new e m found =
+      let none : length keys ≡ place_of n keys = sym e ∙ a in
+      (λ j. group_in ((all ∙ with_key-new keys n none) j) ((m ∙ ap (λ (k : ℕ). set (groups ++ [] ∷ []) k (get_or (groups ++ [] ∷ []) k [] ++ place ∷ [])) a) j) found)
+      ∙ added_new n place found keys groups long (never n keys none)

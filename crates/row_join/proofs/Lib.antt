@@ -1,4 +1,6 @@
+mod KeyTableLaws
 mod GroupLaws
+mod InsertLaws
 mod PlaceLaws
 mod PairLaws
 pub mod NumberLaws

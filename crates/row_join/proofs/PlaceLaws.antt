@@ -4,7 +4,7 @@ use Rattle.std.specs.List.{range_with_len}
 use Rattle.std.specs.Option.{option_eq}
 use Rattle.std.specs.Cmp.Lexicographic.{pointwise}
 use Rattle.std.proofs.lemmas.Bool.{false≢true, and_parts}
-use Rattle.std.proofs.lemmas.List.{map-append, append-nil, length-append}
+use Rattle.std.proofs.lemmas.List.{map-append, append-nil, length-append, length-map}
 use Rattle.std.proofs.lemmas.List.Elements.{filter-append}
 use Rattle.std.proofs.lemmas.Option.{get_or_from_slice_get}
 use Rattle.algebra_model.specs.Bag.{IsSameBag}
@@ -173,3 +173,8 @@ places-turn p rows n row at b e was now h k =
     k ∙ ap (λ (l : List ℕ). l ++ place_if b n) h
     ∙ ap (λ (c : Bool). places_below n p rows ++ place_if c n) (sym (ap p (get_or_from_slice_get rows n row [] at) ∙ e))
     ∙ sym (places_more p rows n)
+
+-- the numbers of a key are as many as its variables
+pub read_wide : (key : List ℕ) (μ : Solution ℕ) (numbers : List ℕ) → map Some numbers ≡ cells key μ → length numbers ≡ length key
+read_wide key μ numbers e =
+    sym (length-map numbers Some) ∙ ap length e ∙ length-map key (λ v. get_or μ v None)

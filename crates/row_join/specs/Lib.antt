@@ -1,3 +1,4 @@
 pub mod Places
+pub mod KeyTable
 pub mod Numbers
 pub mod Pairing

@@ -1,18 +1,22 @@
 //! Groups of places under keys of numbers: the contents of a hash table.
-ghost use Rattle.std.specs.Prelude.{◌≡◌, ◌<◌, ◌++◌, ◌∷◌, [], ℕ, List, OnOk, length, map, set, get_or};
+ghost use Rattle.std.specs.Prelude.{◌≡◌, ◌<◌, ◌++◌, ◌∷◌, [], ℕ, List, IfOk, OnOk, length, map, set, get_or};
 ghost use Rattle.std.specs.Cmp.Lexicographic.{pointwise};
 ghost use Rattle.std.specs.Prelude.{nat_eq};
 ghost use Rattle.row_join.specs.Places.{group_of, place_if};
 
-use indexmap::IndexSet;
+use crate::keys::Keys;
+use smallvec::SmallVec;
 use std::alloc::{AllocError, Global};
 use std::hash::RandomState;
 use std::marker::Model;
 
+/// The places of one group. Two of them need no allocation.
+type Group = SmallVec<usize, 2>;
+
 /// Lists of places, each under its key.
 pub(crate) struct Groups {
-    keys: IndexSet<Vec<u64>, RandomState>,
-    groups: Vec<Vec<usize>>,
+    keys: Keys,
+    groups: Vec<Group>,
 }
 
 impl Drop for Groups {
@@ -25,17 +29,17 @@ impl Drop for Groups {
 
 impl Model for Groups {
     ghost use Rattle.std.specs.Prelude.{◌≡◌, ℕ, List, length, map};
-    ghost use Rattle.row_join.specs.Places.{GroupList};
+    ghost use Rattle.row_join.specs.KeyTable.{KeyedGroups};
 
-    ghost Value = { GroupList };
+    ghost Value = { KeyedGroups };
 
-    ghost view = { λ g. record { keys = map (λ k. k.items) g.keys.keys; groups = map (λ l. l.items) g.groups.items } };
+    ghost view = { λ g. record { width = g.keys.width; list = record { keys = g.keys.keys; groups = map (λ l. l.items) g.groups.items } } };
 
     ghost invariant = { λ g. length g.keys.keys ≡ length g.groups.items };
 }
 
 /// Appends a place to one group.
-fn push_at(groups: &mut Vec<Vec<usize>>, at: usize, place: usize) -> Result<(), AllocError>
+fn push_at(groups: &mut Vec<Group>, at: usize, place: usize) -> Result<(), AllocError>
     requires within { at < length groups.old.items }
     ensures added { OnOk result (map (λ l. l.items) groups.new.items
         ≡ set (map (λ l. l.items) groups.old.items) at
@@ -47,21 +51,32 @@ fn push_at(groups: &mut Vec<Vec<usize>>, at: usize, place: usize) -> Result<(), 
 }
 
 impl Groups {
-    /// Creates a table without places. Allocates nothing.
-    pub(crate) fn new(alloc: Global, state: RandomState) -> Groups
-        ensures empty { (numbers : List ℕ) → group_of result numbers ≡ [] }
+    /// Creates a table without places, for keys of this width. It has room for this number of keys; more keys may be
+    /// added.
+    ///
+    /// # Errors
+    /// `AllocError` if an allocation fails.
+    pub(crate) fn new(
+        alloc: Global,
+        state: RandomState,
+        width: usize,
+        count: usize,
+    ) -> Result<Groups, AllocError>
+        ensures empty { IfOk result (λ groups. (numbers : List ℕ) → group_of groups.list numbers ≡ []) }
+        ensures width { IfOk result (λ groups. groups.width ≡ width) }
     {
-        Groups {
-            keys: IndexSet::with_hasher(alloc, state),
+        let keys = Keys::new(alloc, state, width, count)?;
+        Ok(Groups {
+            keys,
             groups: Vec::new(alloc),
-        }
+        })
     }
 
     /// Returns the places under a key, in the order in which they were added.
-    pub(crate) fn places(&self, numbers: &Vec<u64>) -> &[usize]
-        ensures value { result.now ≡ group_of self.now numbers.now.items }
+    pub(crate) fn places(&self, numbers: &[u64]) -> &[usize]
+        ensures value { result.now ≡ group_of self.now.list numbers.now }
     {
-        match self.keys.get_index_of(numbers) {
+        match self.keys.place(numbers) {
             Some(at) => &self.groups[at],
             None => &[],
         }
@@ -69,21 +84,26 @@ impl Groups {
 
     /// Adds a place under a key.
     ///
+    /// # Requires
+    /// The key is as long as the table requires.
+    ///
     /// # Errors
     /// `AllocError` if an allocation fails.
     pub(crate) fn add(
         &mut self,
         alloc: Global,
-        numbers: Vec<u64>,
+        numbers: &[u64],
         place: usize,
     ) -> Result<(), AllocError>
+        requires wide { length numbers.now ≡ self.old.width }
         ensures added { OnOk result ((found : List ℕ)
-            → group_of self.new found ≡ group_of self.old found ++ place_if (pointwise nat_eq found numbers.items) place) }
+            → group_of self.new.list found ≡ group_of self.old.list found ++ place_if (pointwise nat_eq found numbers.now) place) }
+        ensures width { self.new.width ≡ self.old.width }
     {
         self.groups.reserve(1)?;
-        let (at, is_new) = self.keys.insert_full(numbers)?;
-        if is_new {
-            self.groups.push_reserved(Vec::new(alloc));
+        let at = self.keys.insert(numbers)?;
+        if at == self.groups.len() {
+            self.groups.push_reserved(SmallVec::new(alloc));
         }
         push_at(&mut self.groups, at, place)?;
         Ok(())

@@ -25,7 +25,7 @@ impl Model for Keyed {
 
     ghost Value = { PlaceTable };
 
-    ghost view = { λ k. record { keyed = k.groups; apart = k.apart.items } };
+    ghost view = { λ k. record { keyed = k.groups.list; apart = k.apart.items } };
 }
 
 impl Keyed {
@@ -47,12 +47,12 @@ impl Keyed {
         requires below { All (λ v. v < rows.now.width) key.now }
         ensures table { IfOk result (λ keyed. IsTableOf key.now rows.now.rows keyed) }
     {
-        let mut groups = Groups::new(alloc, state);
+        let mut groups = Groups::new(alloc, state, key.len(), rows.len())?;
         let mut apart = Vec::new(alloc);
+        let mut numbers = Vec::new(alloc);
         for place in 0..rows.len() {
-            let mut numbers = Vec::new(alloc);
             if read_key(rows.row(place), key, &mut numbers)? {
-                groups.add(alloc, numbers, place)?;
+                groups.add(alloc, &numbers, place)?;
             } else {
                 apart.push(place)?;
             }

@@ -20,7 +20,7 @@
 //!
 //! Standard: SPARQL 1.1 Query Language, section 18.5.
 //!
-//! Reading order: `keyed` (over `groups`, the hash table), `key_choice` (the variables of the key),
+//! Reading order: `keyed` (over `groups` and `keys`, the hash table), `key_choice` (the variables of the key),
 //! `right_side` (the keyed rows, and the candidates for a left row), `left_rows` (the loop over the
 //! left rows, in pieces), `joins`, `left_joins`, `minus_operator`.
 //!
@@ -37,6 +37,7 @@ mod groups;
 mod joins;
 mod key_choice;
 mod keyed;
+mod keys;
 mod left_joins;
 mod left_rows;
 mod minus_operator;

@@ -39,14 +39,14 @@ module _ {T : Type 0} (same : T → T → Bool) (decides : (x y : T) → Decides
   join_with_none [] = refl
   join_with_none (ν ∷ B) = join_with_none B
 
-  merges_first : (ν μ : Solution T) (A : List (Solution T)) → merges same ν (μ ∷ A) ≡ merges same ν (μ ∷ []) ++ merges same ν A
+  pub merges_first : (ν μ : Solution T) (A : List (Solution T)) → merges same ν (μ ∷ A) ≡ merges same ν (μ ∷ []) ++ merges same ν A
   merges_first ν μ A = by (is_compatible same ν μ)
     where
       by : (b : Bool) → map (merge ν) (cond b (μ ∷ filter (is_compatible same ν) A) (filter (is_compatible same ν) A)) ≡ map (merge ν) (cond b (μ ∷ []) []) ++ merges same ν A
       by true = refl
       by false = refl
 
-  interchanged : (a b P Q R : List (Solution T)) → IsSameBag R (P ++ Q) → IsSameBag ((a ++ b) ++ R) ((a ++ P) ++ (b ++ Q))
+  pub interchanged : (a b P Q R : List (Solution T)) → IsSameBag R (P ++ Q) → IsSameBag ((a ++ b) ++ R) ((a ++ P) ++ (b ++ Q))
   interchanged a b P Q R h =
       let first = IsPermutation-append (a ++ b) (a ++ b) R (P ++ Q) (IsPermutation-refl (a ++ b)) h in
       let turned : IsSameBag ((b ++ P) ++ Q) ((P ++ b) ++ Q) = IsPermutation-append (b ++ P) (P ++ b) Q Q (IsPermutation-append_comm b P) (IsPermutation-refl Q) in

@@ -1,15 +1,16 @@
 -- Left joins of rows with key numbers: the pairs that a condition keeps have the same key numbers.
-use Rattle.std.proofs.Common.{◌≡◌, ℕ, zero, suc, ◌+◌, ◌<◌, ◌≤◌, Bool, true, false, cond, not, ◌&&◌, List, [], ◌∷◌, ◌++◌, length, map, filter, take, get_or, option_map, nat_eq, Option, None, Some, IsPermutation, refl, sym, ap, ◌∙◌, subst, arith}
+use Rattle.std.proofs.Common.{◌≡◌, ℕ, zero, suc, ◌+◌, ◌<◌, ◌≤◌, Bool, true, false, cond, not, ◌&&◌, ◌||◌, is_some, List, [], ◌∷◌, ◌++◌, length, map, filter, take, get_or, option_map, nat_eq, Option, None, Some, IsPermutation, refl, sym, ap, ◌∙◌, subst, arith}
 use Rattle.std.specs.List.{list_all, All}
+use Rattle.std.specs.Option.{option_eq}
 use Rattle.std.proofs.Math.Nat.{mod-lt}
-use Rattle.std.proofs.lemmas.Bool.{false≢true}
+use Rattle.std.proofs.lemmas.Bool.{and_parts, false≢true}
 use Rattle.std.proofs.lemmas.Bool.Decides.{Decides-eqb}
 use Rattle.std.proofs.lemmas.List.{map-append, take_more}
 use Rattle.std.proofs.lemmas.List.Elements.{All-head, All-tail, filter-append}
 use Rattle.std.proofs.lemmas.List.Sorted.{IsPermutation-map}
 use Rattle.rdf_core.specs.declared.term.Term.{Term}
+use Rattle.rdf_core.proofs.TermLaws.{term_eq, term_decides}
 use Rattle.algebra_model.specs.Bag.{IsSameBag}
-use Rattle.algebra_model.specs.Expression.{Expression, holds}
 use Rattle.algebra_model.specs.Operators.{join, left_join, merges}
 use Rattle.algebra_model.specs.Renaming.{Each}
 use Rattle.algebra_model.specs.Solution.{Solution, agree, bound_or, is_compatible, merge}
@@ -20,7 +21,7 @@ use Rattle.dict_core.specs.Dict.{AreDistinct, term_at}
 use Rattle.term_values.specs.EqualityKey.{HaveOneKey, equality_key}
 use Rattle.sparql_eval.specs.KeyedRows.{key_among, key_number, keys_of, with_keys}
 use Rattle.sparql_eval.specs.Numbered.{IsKnownAt, IsKnownCell}
-use Rattle.sparql_eval.specs.Required.{AreRequired}
+use Rattle.sparql_eval.specs.Fitting.{Requires, fits, have_one_key, meet}
 use Rattle.sparql_eval.specs.declared.equalities.Equality.{Equality}
 use Rattle.sparql_eval.proofs.ReadingLaws.{Known, apart, read_by}
 
@@ -54,13 +55,13 @@ take-first [] z (suc w) e = absurd (omega arith)
 take-first (x ∷ m) z zero e = absurd (omega arith)
 take-first (x ∷ m) z (suc w) e = ap (λ r. x ∷ r) (take-first m z w (omega arith))
 
-get-merge : (μ ν : Solution ℕ) (k : ℕ) → get_or (merge μ ν) k None ≡ bound_or (get_or μ k None) (get_or ν k None)
+pub get-merge : {T : Type 0} (μ ν : Solution T) (k : ℕ) → get_or (merge μ ν) k None ≡ bound_or (get_or μ k None) (get_or ν k None)
 get-merge [] ν k = refl
 get-merge (None ∷ μ) [] zero = refl
 get-merge (Some x ∷ μ) [] zero = refl
-get-merge (x ∷ μ) [] (suc k) = by (get_or μ k None)
+get-merge {T} (x ∷ μ) [] (suc k) = by (get_or μ k None)
   where
-    by : (y : Option ℕ) → y ≡ bound_or y None
+    by : (y : Option T) → y ≡ bound_or y None
     by None = refl
     by (Some y) = refl
 get-merge (x ∷ μ) (y ∷ ν) zero = refl
@@ -73,6 +74,17 @@ get-read terms (x ∷ μ) (suc k) = get-read terms μ k
 
 -- ---- key numbers
 
+has_one_key : (s t : Term) → have_one_key s t ≡ true → HaveOneKey s t
+has_one_key s t h =
+    let b = and_parts (option_eq nat_eq (equality_key s) (equality_key t)) (is_some (equality_key s) || term_eq s t) h in
+    (same (equality_key s) (equality_key t) b.0, λ none. (term_decides s t).0 (sym (ap (λ (k : Option ℕ). is_some k || term_eq s t) none) ∙ b.1))
+  where
+    same : (a b : Option ℕ) → option_eq nat_eq a b ≡ true → a ≡ b
+    same None None h = refl
+    same None (Some y) h = absurd (false≢true h)
+    same (Some x) None h = absurd (false≢true h)
+    same (Some x) (Some y) h = ap Some ((Decides-eqb x y).0 h)
+
 module _ (terms : List Term) (once : AreDistinct terms) where
   keys_meet : (n m : ℕ) → n < length terms → m < length terms → HaveOneKey (term_at terms n) (term_at terms m) → key_number terms n ≡ key_number terms m
   keys_meet n m low high h = by (equality_key (term_at terms n)) refl
@@ -82,42 +94,42 @@ module _ (terms : List Term) (once : AreDistinct terms) where
       by None p = ap (key_number terms) (apart terms once n m low high (h.1 p))
 
   module _ (μ ν : Solution ℕ) (knownL : Known terms μ) (knownR : Known terms ν) (c : is_compatible nat_eq μ ν ≡ true) where
-    cells_agree : (x y : ℕ) (s t : Term) → get_or (read_by terms (merge μ ν)) x None ≡ Some s → get_or (read_by terms (merge μ ν)) y None ≡ Some t → HaveOneKey s t
+    cells_agree : (x y : ℕ) → meet (get_or (read_by terms (merge μ ν)) x None) (get_or (read_by terms (merge μ ν)) y None) ≡ true
         → agree nat_eq (option_map (key_number terms) (get_or μ x None)) (option_map (key_number terms) (get_or ν y None)) ≡ true
-    cells_agree x y s t p q h = by (get_or μ x None) (get_or ν y None) (get_or μ y None) refl refl refl
+    cells_agree x y h = by (get_or μ x None) (get_or ν y None) (get_or μ y None) refl refl refl
       where
-        merged : (v : ℕ) (u : Term) → get_or (read_by terms (merge μ ν)) v None ≡ Some u → option_map (term_at terms) (bound_or (get_or μ v None) (get_or ν v None)) ≡ Some u
-        merged v u e = sym (ap (option_map (term_at terms)) (get-merge μ ν v)) ∙ sym (get-read terms (merge μ ν) v) ∙ e
+        merged : (v : ℕ) → get_or (read_by terms (merge μ ν)) v None ≡ option_map (term_at terms) (bound_or (get_or μ v None) (get_or ν v None))
+        merged v = get-read terms (merge μ ν) v ∙ ap (option_map (term_at terms)) (get-merge μ ν v)
 
-        left : (n : ℕ) → get_or μ x None ≡ Some n → term_at terms n ≡ s
-        left n e = let r : Some (term_at terms n) ≡ Some s = sym (ap (λ o. option_map (term_at terms) (bound_or o (get_or ν x None))) e) ∙ merged x s p in cc
+        left : (n : ℕ) → get_or μ x None ≡ Some n → get_or (read_by terms (merge μ ν)) x None ≡ Some (term_at terms n)
+        left n e = merged x ∙ ap (λ o. option_map (term_at terms) (bound_or o (get_or ν x None))) e
 
-        right : (m : ℕ) (d : Option ℕ) → get_or ν y None ≡ Some m → get_or μ y None ≡ d → term_at terms m ≡ t
-        right m None e f = let r : Some (term_at terms m) ≡ Some t = sym (λ i. option_map (term_at terms) (bound_or (f i) (e i))) ∙ merged y t q in cc
+        right : (m : ℕ) (d : Option ℕ) → get_or ν y None ≡ Some m → get_or μ y None ≡ d → get_or (read_by terms (merge μ ν)) y None ≡ Some (term_at terms m)
+        right m None e f = merged y ∙ (λ i. option_map (term_at terms) (bound_or (f i) (e i)))
         right m (Some d) e f =
             let same : nat_eq d m ≡ true = sym (λ i. agree nat_eq (f i) (e i)) ∙ agree_at nat_eq μ ν c y in
             let is : d ≡ m = (Decides-eqb d m).0 same in
-            let r : Some (term_at terms d) ≡ Some t = sym (λ i. option_map (term_at terms) (bound_or (f i) (e i))) ∙ merged y t q in
-            ap (term_at terms) (sym is) ∙ cc
+            merged y ∙ (λ i. option_map (term_at terms) (bound_or (f i) (e i))) ∙ ap (λ k. Some (term_at terms k)) is
 
         by : (a b d : Option ℕ) → get_or μ x None ≡ a → get_or ν y None ≡ b → get_or μ y None ≡ d → agree nat_eq (option_map (key_number terms) a) (option_map (key_number terms) b) ≡ true
         by None b d e f g = refl
         by (Some n) None d e f g = refl
         by (Some n) (Some m) d e f g =
-            let one = subst (λ (u : Term). HaveOneKey u (term_at terms m)) (sym (left n e)) (subst (λ (u : Term). HaveOneKey s u) (sym (right m d f g)) h) in
+            let one : have_one_key (term_at terms n) (term_at terms m) ≡ true = sym (λ i. meet (left n e i) (right m d f g i)) ∙ h in
             (Decides-eqb (key_number terms n) (key_number terms m)).1
-            (keys_meet n m (bound_at (λ k. k < length terms) μ x n knownL e) (bound_at (λ k. k < length terms) ν y m knownR f) one)
+            (keys_meet n m (bound_at (λ k. k < length terms) μ x n knownL e) (bound_at (λ k. k < length terms) ν y m knownR f) (has_one_key (term_at terms n) (term_at terms m) one))
 
-    keys_agree : (e : Expression) → holds e (read_by terms (merge μ ν)) ≡ true → (pairs : List Equality) → AreRequired e pairs
+    keys_agree : (pairs : List Equality) → fits pairs (read_by terms (merge μ ν)) ≡ true
         → is_compatible nat_eq (keys_of terms (map (λ p. p.left) pairs) μ) (keys_of terms (map (λ p. p.right) pairs) ν) ≡ true
-    keys_agree e h [] r = refl
-    keys_agree e h (p ∷ pairs) r =
-        let f = r.0 (read_by terms (merge μ ν)) h in
-        λ i. cells_agree p.left p.right f.0 f.1.0 f.1.1.0 f.1.1.1.0 f.1.1.1.1 i && keys_agree e h pairs r.1 i
+    keys_agree [] h = refl
+    keys_agree (p ∷ pairs) h =
+        let ρ = read_by terms (merge μ ν) in
+        let b = and_parts (meet (get_or ρ p.left None) (get_or ρ p.right None)) (fits pairs ρ) h in
+        λ i. cells_agree p.left p.right b.0 i && keys_agree pairs b.1 i
 
   -- ---- pairs of rows
 
-  module _ (e : Expression) (pairs : List Equality) (required : AreRequired e pairs) (w : ℕ) where
+  module _ (test : Solution Term → Bool) (pairs : List Equality) (required : Requires test pairs) (w : ℕ) where
     abbrev xs : List ℕ
     xs = map (λ p. p.left) pairs
 
@@ -125,7 +137,7 @@ module _ (terms : List Term) (once : AreDistinct terms) where
     ys = map (λ p. p.right) pairs
 
     abbrev keeps : Solution ℕ → Bool
-    keeps ρ = holds e (read_by terms ρ)
+    keeps ρ = test (read_by terms ρ)
 
     abbrev keeps_first : Solution ℕ → Bool
     keeps_first ρ = keeps (take w ρ)
@@ -145,7 +157,7 @@ module _ (terms : List Term) (once : AreDistinct terms) where
       pair_kept : (ν : Solution ℕ) → Known terms ν → length ν ≡ w → (is_compatible nat_eq (W μ) (V ν) && keeps_first (merge (W μ) (V ν))) ≡ (is_compatible nat_eq μ ν && keeps (merge μ ν))
       pair_kept ν knownR wide =
           (λ i. compatible-append μ ν (keys_of terms xs μ) (keys_of terms ys ν) (omega arith) i && keeps (first_merged ν wide i))
-          ∙ by (is_compatible nat_eq μ ν) (is_compatible nat_eq (keys_of terms xs μ) (keys_of terms ys ν)) (keeps (merge μ ν)) (λ c k. keys_agree μ ν knownL knownR c e k pairs required)
+          ∙ by (is_compatible nat_eq μ ν) (is_compatible nat_eq (keys_of terms xs μ) (keys_of terms ys ν)) (keeps (merge μ ν)) (λ c k. keys_agree μ ν knownL knownR c pairs (required (read_by terms (merge μ ν)) k))
         where
           by : (c a k : Bool) → (c ≡ true → k ≡ true → a ≡ true) → ((c && a) && k) ≡ (c && k)
           by true true k h = refl

@@ -20,3 +20,4 @@ mod WithinSteps
 mod ClosedSteps
 mod RequiredSteps
 mod KeySteps
+mod FittingSteps

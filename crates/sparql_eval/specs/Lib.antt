@@ -8,3 +8,4 @@ pub mod TreeSolutions
 pub mod Computed
 pub mod Required
 pub mod KeyedRows
+pub mod Fitting

@@ -1,14 +1,17 @@
 //! The equalities that a condition requires, by which rows are paired.
-ghost use Rattle.std.specs.Prelude.{◌≡◌, [], IfOk, OnOk};
-ghost use Rattle.algebra_model.specs.Expression.{Expression};
+ghost use Rattle.std.specs.Prelude.{◌≡◌, [], true, IfOk, OnOk};
+ghost use Rattle.rdf_core.specs.declared.term.Term.{Term};
+ghost use Rattle.algebra_model.specs.Expression.{Expression, holds};
+ghost use Rattle.algebra_model.specs.Solution.{Solution};
 ghost use Rattle.expression_values.specs.ExpressionOf.{expression_of};
+ghost use Rattle.sparql_eval.specs.Fitting.{fits};
 ghost use Rattle.sparql_eval.specs.Required.{AreRequired, Implies, IsRequiredEqual};
 
 use sparql_algebra::{Comparison, Expr};
 use std::alloc::{AllocError, Global};
 
 /// The number of equalities that are used. The limit keeps the rows short.
-const MOST_EQUALITIES: usize = 4;
+pub(crate) const MOST_EQUALITIES: usize = 4;
 
 /// Two variables that have equal terms in each row for which a condition is true.
 #[derive(Clone, Copy)]
@@ -32,6 +35,22 @@ pub(crate) fn equalities(alloc: Global, condition: &Expr) -> Result<Vec<Equality
     }
     add_equality(rest, &mut found)?;
     Ok(found)
+}
+
+/// Returns the equalities of the condition, followed by the given ones.
+#[tactic(auto, using(crate::proofs::FittingSteps::fits_all))]
+pub(crate) fn with_equalities(
+    alloc: Global,
+    condition: &Expr,
+    pairs: &[Equality],
+) -> Result<Vec<Equality>, AllocError>
+    ensures required { IfOk result (λ all. (ρ : Solution Term)
+        → holds (expression_of condition.now) ρ ≡ true → fits pairs.now ρ ≡ true
+        → fits all.items ρ ≡ true) }
+{
+    let mut all = equalities(alloc, condition)?;
+    all.extend_from_slice(pairs)?;
+    Ok(all)
 }
 
 /// Adds the variables that an operand of `&&` compares.

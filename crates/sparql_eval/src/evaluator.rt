@@ -17,12 +17,15 @@ ghost use Rattle.expression_values.specs.ExpressionOf.{expression_of};
 ghost use Rattle.sparql_algebra.specs.AlgebraOf.{algebra_of, graph_name_of, triple_pattern_of};
 ghost use Rattle.sparql_eval.specs.Computed.{InSomeGraph, IsComputed, TakesOnly};
 ghost use Rattle.sparql_eval.specs.Evaluated.{AreKnown, IsEvaluated, solutions_of};
+ghost use Rattle.sparql_eval.specs.Fitting.{IsEvaluatedWhere, fits};
 ghost use Rattle.sparql_eval.specs.TreeSolutions.{AreGraphs, Needed, NeededIn, graph_solutions, solutions_in, tree_solutions};
 
 use crate::closed::is_closed;
 use crate::distinctness::distinct;
+use crate::equalities::{Equality, with_equalities};
 use crate::extensions::extend_with;
 use crate::filters::filter_with;
+use crate::fitted_joins::join_where;
 use crate::graphs::{add_graph, graph_number, name_rows};
 use crate::joins::{join_of, left_join_with, minus_with};
 use crate::patterns::pattern_with;
@@ -259,9 +262,90 @@ impl<'c, 'i, 'e, R: Threads + Wait, G: Gate + Sync> Evaluator<'c, 'i, 'e, R, G> 
             (Filter (expression_of condition.now) (algebra_of inner.now))) dict r.1) }
         ensures one_worker { HasOneWorker self.now.context.how.now → IfErr result (λ fault. fault ≡ Memory) }
     {
-        let (rows, dict) = self.solve(dict, active, inner)?;
+        self.solve_filter_where(dict, active, inner, condition, &[])
+    }
+
+    /// Evaluates a Filter of which only the solutions that fit are needed, and its input.
+    #[cycle(solve)]
+    fn solve_filter_where(
+        &self,
+        dict: Dict,
+        active: Option<u64>,
+        inner: &Operator,
+        condition: &Expr,
+        pairs: &[Equality],
+    ) -> Result<(Rows, Dict), EvalFault>
+        requires index { AreBelow (length dict) self.now.index.now }
+        requires active { ForSome active (λ g. g < length dict) }
+        requires within { is_within self.now.width (algebra_of inner.now) ≡ true }
+        ensures evaluated { IfOk result (λ r. IsEvaluatedWhere dict self.now.width (fits pairs.now)
+            (filter (holds (expression_of condition.now))
+            (tree_solutions dict self.now.index.now self.now.width active inner.now)) r.0 r.1) }
+        ensures needed { IfOk result (λ r. TakesOnly (Needed dict self.now.index.now self.now.width active
+            (algebra_of inner.now)) dict r.1) }
+        ensures one_worker { HasOneWorker self.now.context.how.now → IfErr result (λ fault. fault ≡ Memory) }
+    {
+        let all = with_equalities(self.context.alloc, condition, pairs)?;
+        let (rows, dict) = self.solve_where(dict, active, inner, all.as_slice())?;
         let place = self.place(Owner::Filter, condition);
         filter_with(&self.context, dict, &rows, condition, place)
+    }
+
+    /// Evaluates a tree of which only the solutions that fit are needed. Joins leave out pairs of
+    /// rows in which the terms of two variables have different keys.
+    #[cycle(solve)]
+    fn solve_where(
+        &self,
+        dict: Dict,
+        active: Option<u64>,
+        tree: &Operator,
+        pairs: &[Equality],
+    ) -> Result<(Rows, Dict), EvalFault>
+        requires index { AreBelow (length dict) self.now.index.now }
+        requires active { ForSome active (λ g. g < length dict) }
+        requires within { is_within self.now.width (algebra_of tree.now) ≡ true }
+        ensures evaluated { IfOk result (λ r. IsEvaluatedWhere dict self.now.width (fits pairs.now)
+            (tree_solutions dict self.now.index.now self.now.width active tree.now) r.0 r.1) }
+        ensures needed { IfOk result (λ r. TakesOnly (Needed dict self.now.index.now self.now.width active
+            (algebra_of tree.now)) dict r.1) }
+        ensures one_worker { HasOneWorker self.now.context.how.now → IfErr result (λ fault. fault ≡ Memory) }
+    {
+        match tree {
+            Operator::Join { left, right } => {
+                let (left, dict) = self.solve_where(dict, active, left, pairs)?;
+                self.solve_join_where(dict, active, left, right, pairs)
+            }
+            Operator::Filter { condition, inner } => {
+                self.solve_filter_where(dict, active, inner, condition, pairs)
+            }
+            _ => self.solve(dict, active, tree),
+        }
+    }
+
+    /// Joins rows with the solutions of a tree. Only the pairs that fit are needed.
+    #[cycle(solve)]
+    fn solve_join_where(
+        &self,
+        dict: Dict,
+        active: Option<u64>,
+        left: Rows,
+        right: &Operator,
+        pairs: &[Equality],
+    ) -> Result<(Rows, Dict), EvalFault>
+        requires index { AreBelow (length dict) self.now.index.now }
+        requires active { ForSome active (λ g. g < length dict) }
+        requires same_width { left.width ≡ self.now.width }
+        requires known_left { AreKnown dict left }
+        requires within { is_within self.now.width (algebra_of right.now) ≡ true }
+        ensures evaluated { IfOk result (λ r. IsEvaluatedWhere dict left.width (fits pairs.now)
+            (join term_eq (solutions_of dict left)
+            (tree_solutions dict self.now.index.now self.now.width active right.now)) r.0 r.1) }
+        ensures needed { IfOk result (λ r. TakesOnly (Needed dict self.now.index.now self.now.width active
+            (algebra_of right.now)) dict r.1) }
+        ensures one_worker { HasOneWorker self.now.context.how.now → IfErr result (λ fault. fault ≡ Memory) }
+    {
+        let (right, dict) = self.solve_where(dict, active, right, pairs)?;
+        join_where(&self.context, self.state, dict, left, right, pairs)
     }
 
     /// Evaluates an Extend and its input.

@@ -10,6 +10,7 @@ ghost use Rattle.row_pieces.specs.declared.fault.EvalFault.TheVariants.{Memory};
 ghost use Rattle.expression_values.specs.ExpressionOf.{expression_of};
 ghost use Rattle.sparql_eval.specs.Evaluated.{AreKnown, IsEvaluated, solutions_of};
 
+use crate::equalities::equalities;
 use crate::keyed_joins::left_joined_by_keys;
 use crate::keyed_rows::join_keys;
 use crate::operator_result::with_dict;
@@ -230,7 +231,8 @@ fn left_joined<R: Threads + Wait, G: Gate + Sync>(
     ensures alone { length left.now.rows ≤ context.now.how.now.rows → IfErr result (λ fault. fault ≡ Memory) }
     ensures one_worker { HasOneWorker context.now.how.now → IfErr result (λ fault. fault ≡ Memory) }
 {
-    let keys = join_keys(context.alloc, left, right, condition)?;
+    let pairs = equalities(context.alloc, condition)?;
+    let keys = join_keys(context.alloc, left, right, pairs.as_slice())?;
     if keys.is_empty() {
         return left_joined_by_rows(context, state, dict, left, right, condition, place);
     }

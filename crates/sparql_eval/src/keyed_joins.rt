@@ -1,13 +1,13 @@
-//! LeftJoin by the equalities that its condition requires.
+//! Join and LeftJoin by the equalities that a condition requires.
 ghost use Rattle.std.specs.Prelude.{◌≡◌, ◌≤◌, length, map, IfErr, IfOk};
 ghost use Rattle.rdf_core.specs.Equality.{term_eq};
 ghost use Rattle.algebra_model.specs.Expression.{holds};
-ghost use Rattle.algebra_model.specs.Operators.{left_join};
+ghost use Rattle.algebra_model.specs.Operators.{join, left_join};
 ghost use Rattle.row_pieces.specs.How.{HasOneWorker};
 ghost use Rattle.row_pieces.specs.declared.fault.EvalFault.TheVariants.{Memory};
 ghost use Rattle.expression_values.specs.ExpressionOf.{expression_of};
 ghost use Rattle.sparql_eval.specs.Evaluated.{AreKnown, IsEvaluated, solutions_of};
-ghost use Rattle.sparql_eval.specs.Required.{AreRequired};
+ghost use Rattle.sparql_eval.specs.Fitting.{IsEvaluatedWhere, Requires, fits};
 
 use crate::equalities::Equality;
 use crate::keyed_rows::{first_cells, keyed_rows};
@@ -40,7 +40,7 @@ pub(crate) fn left_joined_by_keys<R: Threads + Wait, G: Gate + Sync>(
     requires same_width { left.now.width ≡ right.now.width }
     requires known_left { AreKnown dict.now left.now }
     requires known_right { AreKnown dict.now right.now }
-    requires required { AreRequired (expression_of condition.now) keys.now }
+    requires required { Requires (holds (expression_of condition.now)) keys.now }
     ensures evaluated { IfOk result (λ made. IsEvaluated dict.now left.now.width
         (left_join term_eq (holds (expression_of condition.now))
         (solutions_of dict.now left.now) (solutions_of dict.now right.now)) made dict.now) }
@@ -71,6 +71,43 @@ pub(crate) fn left_joined_by_keys<R: Threads + Wait, G: Gate + Sync>(
         context.gate,
     )?;
     let made = first_cells(context.alloc, &rows, width)?;
+    Ok(made)
+}
+
+/// Returns the rows of a Join without the pairs whose terms have different keys. Each row gets
+/// further cells with the key numbers of these terms, and is joined by them too.
+pub(crate) fn joined_by_keys<R: Threads + Wait, G: Gate + Sync>(
+    context: &Context<R, G>,
+    state: RandomState,
+    dict: &Dict,
+    left: &Rows,
+    right: &Rows,
+    keys: &[Equality],
+) -> Result<Rows, EvalFault>
+    requires same_width { left.now.width ≡ right.now.width }
+    requires known_left { AreKnown dict.now left.now }
+    requires known_right { AreKnown dict.now right.now }
+    ensures evaluated { IfOk result (λ made. IsEvaluatedWhere dict.now left.now.width (fits keys.now)
+        (join term_eq (solutions_of dict.now left.now) (solutions_of dict.now right.now)) made dict.now) }
+    ensures one_worker { HasOneWorker context.now.how.now → IfErr result (λ fault. fault ≡ Memory) }
+{
+    let _distinct = dict.len();
+    let width = left.width();
+    let _same_width = right.width();
+    let left_variables = left_variables(context.alloc, keys)?;
+    let right_variables = right_variables(context.alloc, keys)?;
+    let left = keyed_rows(context.alloc, dict, left, left_variables.as_slice())?;
+    let right = keyed_rows(context.alloc, dict, right, right_variables.as_slice())?;
+    let joined = row_join::join(
+        context.rt,
+        context.alloc,
+        state,
+        &left,
+        &right,
+        context.how,
+        context.gate,
+    )?;
+    let made = first_cells(context.alloc, &joined, width)?;
     Ok(made)
 }
 

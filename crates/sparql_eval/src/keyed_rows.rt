@@ -1,46 +1,53 @@
 //! Rows with further cells, by which a join finds pairs of rows with equal terms.
-ghost use Rattle.std.specs.Prelude.{◌≡◌, ◌+◌, ◌<◌, ◌≤◌, ℕ, length, map, option_map, take, IfOk, OnOk};
-ghost use Rattle.algebra_model.specs.Expression.{Expression};
-ghost use Rattle.dict_core.specs.Dict.{AreDistinct};
-ghost use Rattle.expression_values.specs.ExpressionOf.{expression_of};
+ghost use Rattle.std.specs.Prelude.{◌≡◌, ◌+◌, ◌<◌, ◌≤◌, ◌∷◌, [], ℕ, Bool, length, map, option_map, take, IfOk, OnOk};
+ghost use Rattle.rdf_core.specs.declared.term.Term.{Term};
+ghost use Rattle.algebra_model.specs.Solution.{Solution};
 ghost use Rattle.sparql_eval.specs.Evaluated.{AreKnown};
+ghost use Rattle.sparql_eval.specs.Fitting.{Requires, fits};
 ghost use Rattle.sparql_eval.specs.KeyedRows.{key_number, with_keys};
 ghost use Rattle.sparql_eval.specs.Numbered.{IsKnownAt, IsKnownCell};
-ghost use Rattle.sparql_eval.specs.Required.{AreRequired, IsRequired, OnSomePair};
+ghost use Rattle.sparql_eval.specs.Required.{OnSomePair};
 
-use crate::equalities::{Equality, equalities};
+use crate::equalities::{Equality, MOST_EQUALITIES};
 use crate::read_row::number_at;
 use dict_core::Dict;
 use row_core::Rows;
-use sparql_algebra::Expr;
 use std::alloc::{AllocError, Global};
 use term_values::equality_key;
 
-/// Returns the pairs of variables that the condition compares, if one of them is bound on the left
-/// side and the other one on the right side. In each pair the variable of the left side is first.
+/// Returns the pairs of which one variable is bound on the left side and the other one on the right
+/// side. In each pair the variable of the left side is first.
 pub(crate) fn join_keys(
     alloc: Global,
     left: &Rows,
     right: &Rows,
-    condition: &Expr,
+    pairs: &[Equality],
 ) -> Result<Vec<Equality>, AllocError>
-    ensures required { IfOk result (λ keys.
-        AreRequired (expression_of condition.now) keys.items) }
+    ensures required { IfOk result (λ keys. Requires (fits pairs.now) keys.items) }
 {
-    let pairs = equalities(alloc, condition)?;
     let mut keys = Vec::new(alloc);
     for i in 0..pairs.len() {
         if let Some(key) = oriented(left, right, pairs[i]) {
-            keys.push(key)?;
+            add_key(key, &mut keys)?;
         }
     }
     Ok(keys)
 }
 
+/// Adds a pair, if there are not too many.
+fn add_key(key: Equality, keys: &mut Vec<Equality>) -> Result<(), AllocError>
+    ensures required { OnOk result ((test : Solution Term → Bool) → Requires test (key ∷ [])
+        → Requires test keys.old.items → Requires test keys.new.items) }
+{
+    if keys.len() < MOST_EQUALITIES {
+        keys.push(key)?;
+    }
+    Ok(())
+}
+
 /// Returns the pair with the variable of the left side first, or None if no row binds one of them.
 fn oriented(left: &Rows, right: &Rows, pair: Equality) -> Option<Equality>
-    ensures required { OnSomePair result (λ key. (e : Expression)
-        → IsRequired e pair.left pair.right → IsRequired e key.left key.right) }
+    ensures required { OnSomePair result (λ key. Requires (fits (pair ∷ [])) (key ∷ [])) }
 {
     if binds(left, pair.left) && binds(right, pair.right) {
         return Some(pair);

@@ -40,6 +40,7 @@ mod evaluation;
 mod evaluator;
 mod extensions;
 mod filters;
+mod fitted_joins;
 mod graphs;
 mod joins;
 mod keyed_joins;

@@ -35,8 +35,8 @@ const RULES: &[(char, &[&str])] = &[
         ],
     ),
     ('μ', &["", "ε", "εε", "εεε", "εεεε"]),
-    // An element of any kind. About half of them are single triples, graphs and tables. An OPTIONAL
-    // may have a filter on `?g`, a filter is on a variable that a query may bind, and a BIND is to
+    // An element of any kind. Nearly half of them are single triples, graphs and tables. An OPTIONAL
+    // may have a filter on `?g`, a filter is on variables that a query may bind, and a BIND is to
     // a variable that triples or graphs may have bound.
     (
         'ε',
@@ -45,6 +45,8 @@ const RULES: &[(char, &[&str])] = &[
             "{ π} UNION { π} ",
             "MINUS { π} ",
             "FILTER(BOUND(?β)) ",
+            "FILTER(?β = ?η) ",
+            "{ π} ",
             "BIND(STR(?a) AS ?η) ",
             "π",
             "π",

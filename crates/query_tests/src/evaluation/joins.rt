@@ -246,3 +246,36 @@ fn rows_are_under_their_key_or_apart(rt: HostRuntime) {
     let found = places(rt.alloc(), state, "05 -5 0-");
     gives(&rt, "05 -5 0-", "[0, 2] [] [1]", found);
 }
+
+/// Prints the places under the key 0, 5, under the key 0 alone, and the places without a key.
+fn shown_by_both(alloc: Global, keyed: &Keyed) -> Result<String, AllocError> {
+    let pair = vec![in alloc; 0u64, 5]?;
+    let short = vec![in alloc; 0u64]?;
+    format!(in alloc;
+        "{:?} {:?} {:?}",
+        keyed.places(&pair),
+        keyed.places(&short),
+        keyed.apart()
+    )
+}
+
+/// Prints the places of rows under keys of both variables, and the places without a key.
+fn both_places_of(alloc: Global, state: RandomState, rows: &Rows) -> Result<String, AllocError>
+    requires width { rows.now.width ≡ 2 }
+{
+    let keyed = Keyed::build(alloc, state, rows, &[0, 1])?;
+    shown_by_both(alloc, &keyed)
+}
+
+/// Prints the places of the rows of a text under keys of both variables.
+fn both_places(alloc: Global, state: RandomState, text: &str) -> Result<String, AllocError> {
+    let rows = rows_of(alloc, text)?;
+    both_places_of(alloc, state, &rows)
+}
+
+#[test]
+fn a_key_has_all_its_variables(rt: HostRuntime) {
+    let state = RandomState::new(&rt).expect(&rt, "a hash state");
+    let found = both_places(rt.alloc(), state, "05 06 05 15 -5 05 50");
+    gives(&rt, "05 06 05 15 -5 05 50", "[0, 2, 5] [] [4]", found);
+}

@@ -108,23 +108,22 @@ fn document<R: Threads + Wait>(
     rt: &R,
     alloc: Global,
     dict: &Dict,
-    rows: &Rows,
+    rows: Rows,
     selection: &Selection,
     how: &How,
 ) -> Result<String, EvalFault>
-    requires known { Each (EachBound (λ n. n < length dict.now)) rows.now.rows }
+    requires known { Each (EachBound (λ n. n < length dict.now)) rows.rows }
     requires how { IsRunnable how.now }
 {
     let names = variables(alloc)?;
     let table = Table {
         names: &names,
         listed: selection.listed,
-        rows,
         dict,
         offset: selection.offset,
         limit: selection.limit,
     };
-    let blocks = print_rows(rt, alloc, &table, how, &OpenGate)?;
+    let blocks = print_rows(rt, alloc, &table, rows, how, &OpenGate)?;
     Ok(joined(alloc, &blocks)?)
 }
 
@@ -141,7 +140,7 @@ fn printed<R: Threads + Wait>(
 {
     let how = How { workers, rows };
     let rows = rows_of(alloc, dict, selection.rows)?;
-    document(rt, alloc, dict, &rows, selection, &how)
+    document(rt, alloc, dict, rows, selection, &how)
 }
 
 /// Checks that a document is this one, with `workers` workers and pieces of `rows` rows. Prints the selection, these

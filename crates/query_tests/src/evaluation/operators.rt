@@ -459,12 +459,11 @@ fn met_over<R: Threads + Wait>(rt: &R, alloc: Global, dict: &Dict) -> Result<Str
     let table = Table {
         names: &names,
         listed: &[0],
-        rows: &rows,
         dict,
         offset: 0,
         limit: None,
     };
-    let blocks = print_rows(rt, alloc, &table, &row_by_row(), &gate)?;
+    let blocks = print_rows(rt, alloc, &table, rows, &row_by_row(), &gate)?;
     let word = if gate.is_met() { "met" } else { "not met" };
     Ok(format!(in alloc; "{word}, {} blocks", blocks.len())?)
 }

@@ -252,6 +252,26 @@ SELECT * { ?s <a:q> ?v BIND(STR(?v) AS ?w) }      => 1: <a:x> "5" "5"
 SELECT * { ?s <a:q> ?v BIND(DATATYPE(?v) AS ?w) } => 1: <a:x> "5" <http://www.w3.org/2001/XMLSchema#string>
 "#;
 
+/// FILTER ([68] `Filter`) that requires variables of two groups to be equal.
+const EQUALITIES: &str = r#"
+# Rows are paired by the terms that the condition compares, in either order of the operands.
+SELECT * { { ?s <a:p> ?o } { ?t <a:q> ?v } FILTER(?s = ?t) }                             => 1: <a:x> <a:y> <a:x> "5"
+SELECT * { { ?s <a:p> ?o } { ?t <a:p> ?u } FILTER(?t = ?o) }                             => 1: <a:x> <a:y> <a:y> <a:z>
+SELECT * { { ?s <a:p> ?o } { ?t <a:p> ?u } { ?a <a:q> ?b } FILTER(sameTerm(?o, ?t) && ?a = ?s) } => 1: <a:x> <a:y> <a:y> <a:z> <a:x> "5"
+# The condition of an outer filter counts inside an inner one, too.
+SELECT * { { { ?s <a:p> ?o } { ?t <a:p> ?u } FILTER(BOUND(?u)) } FILTER(?o = ?t) }       => 1: <a:x> <a:y> <a:y> <a:z>
+# A row that leaves a variable unbound is paired with every row, and then fails.
+SELECT * { { ?s <a:p> ?o OPTIONAL { ?s <a:q> ?v } } { VALUES ?w { "5" "6" } } FILTER(?v = ?w) } => 1: <a:x> <a:y> "5" "5"
+# The other group may bind the variable that a row leaves unbound.
+SELECT * { { VALUES (?a ?b) { (UNDEF <a:y>) (<a:x> <a:z>) } } { VALUES (?a ?c) { (<a:z> <a:z>) (<a:x> <a:x>) } } FILTER(?a = ?c) } => 3: <a:x> <a:y> <a:x>; <a:x> <a:z> <a:x>; <a:z> <a:y> <a:z>
+# Numbers are equal by value.
+SELECT ?v { { VALUES ?v { 1 2 } } { VALUES ?w { 1.0 3 } } FILTER(?v = ?w) }              => 1: "1"^^<http://www.w3.org/2001/XMLSchema#integer> -
+SELECT ?v { { VALUES ?v { 1 2 } } { VALUES ?w { 1.0 3 } } FILTER(sameTerm(?v, ?w)) }     => 0:
+# An equality that is not required pairs no rows.
+SELECT * { { ?s <a:p> ?o } { ?t <a:p> ?u } FILTER(?o = ?t || ?o = ?u) } => 3: <a:x> <a:y> <a:x> <a:y>; <a:x> <a:y> <a:y> <a:z>; <a:y> <a:z> <a:y> <a:z>
+SELECT * { { ?s <a:p> ?o } { ?t <a:q> ?v } FILTER(!(?s = ?t)) }         => 1: <a:y> <a:z> <a:x> "5"
+"#;
+
 /// GRAPH ([58] `GraphGraphPattern`).
 const NAMED_GRAPHS: &str = r#"
 # With a variable each named graph is tried, also one whose name is a blank node. The variable is bound after the
@@ -359,6 +379,7 @@ a:none => 0:
 
 const TABLES: &[(Reader, &str)] = &[
     (Reader::Rows(RowReader::Query), OPERATORS),
+    (Reader::Rows(RowReader::Query), EQUALITIES),
     (Reader::Rows(RowReader::Query), NAMED_GRAPHS),
     (Reader::Rows(RowReader::Added), ADDED),
     (Reader::Rows(RowReader::Graph), ALONE),

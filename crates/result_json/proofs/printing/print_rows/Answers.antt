@@ -22,7 +22,7 @@ returns-clause-json g c =
     let table = c.args.table.now in
     let dict = table.dict.now in
     let listed = table.listed.now in
-    let solutions = table.rows.now.rows in
+    let solutions = c.args.rows.rows in
     let terms = terms_of c.in_ok-terms.terms.items in
     let ranks = c.rank.new.codes in
     let ordered = c.order_pairs.new.ranks in
@@ -35,11 +35,11 @@ returns-clause-json g c =
     let ranks_are : c.deref_mut-2.result.now ≡ ranks = c.deref_mut-2.ensures.value ∙ with_items_is c.in_ok-ranks.ranks ranks wide in
     let there : c.deref.result.now ≡ ordered = c.deref.ensures.value ∙ with_items_is ranked ordered (c.order_pairs.auto.ranks ∙ ap length ranks_are ∙ wide) in
     let by_pairs : IsPermutation rows (rows_of (length solutions) ordered) =
-    subst (λ (n : ℕ). IsPermutation (rows_of n ranks) (rows_of n ordered)) c.len.ensures.value
-    (subst (λ (rs : List ℕ). IsPermutation (rows_of c.len.result rs) (rows_of c.len.result ordered)) ranks_are c.in_ok-order_pairs.ensures.permutation) in
+    subst (λ (n : ℕ). IsPermutation (rows_of n ranks) (rows_of n ordered)) c.len-count.ensures.value
+    (subst (λ (rs : List ℕ). IsPermutation (rows_of c.len-count.result rs) (rows_of c.len-count.result ordered)) ranks_are c.in_ok-order_pairs.ensures.permutation) in
     let by_rows : IsPermutation (rows_of (length solutions) ordered) (ranks_of sorted) =
-    subst (λ (n : ℕ). IsPermutation (rows_of n ordered) (ranks_of sorted)) c.len-2.ensures.value
-    (subst (λ (rs : List ℕ). IsPermutation (rows_of c.len-2.result rs) (ranks_of sorted)) there c.in_ok-sorted.ensures.permutation) in
+    subst (λ (n : ℕ). IsPermutation (rows_of n ordered) (ranks_of sorted)) c.len-count.ensures.value
+    (subst (λ (rs : List ℕ). IsPermutation (rows_of c.len-count.result rs) (ranks_of sorted)) there c.in_ok-sorted.ensures.permutation) in
     let permutation = IsPermutation-trans rows (rows_of (length solutions) ordered) (ranks_of sorted) by_pairs by_rows in
     let by_ranks : map (ranked_row terms) (ranks_of sorted) ≡ sorted_list cells_cmp (map (ranked_row terms) rows) =
     sorted_by_ranks terms c.in_ok-terms.ensures.rising rows (ranks_of sorted) (Each-rows_in (IsRank terms) (length listed) (length solutions) ranks c.in_ok-terms.ensures.ranks) permutation c.in_ok-sorted.ensures.sorted in

@@ -44,7 +44,7 @@ returns-clause-evaluated g c =
     let wideR : Each (λ (μ : Solution ℕ). length μ ≡ w) R =
     each_of_all (λ (μ : Solution ℕ). length μ ≡ w) R (λ k d low. c.width-same_width.ensures.wide k d low ∙ sym c.requires.same_width ∙ sym c.width-width.ensures.value) in
     let first : Solution ℕ → Bool = λ μ. holds e (read_by terms (take w μ)) in
-    let bag = left_join_keyed terms c.len-distinct.ensures.distinct e pairs c.requires.required w R c.requires.known_right wideR L c.requires.known_left wideL c.in_ok-rows.rows.rows
+    let bag = left_join_keyed terms c.len-distinct.ensures.distinct (holds e) pairs c.requires.required w R c.requires.known_right wideR L c.requires.known_left wideL c.in_ok-rows.rows.rows
     (subst (λ (B : List (Solution ℕ)). IsSameBag c.in_ok-rows.rows.rows B) (λ i. left_join nat_eq first (left_is i) (right_is i)) c.in_ok-rows.ensures.rows) in
     left_joined terms c.len-distinct.ensures.distinct c.args.left.now c.args.right.now c.in_ok-made.made c.requires.known_left c.requires.known_right
     (c.in_ok-made.ensures.width ∙ c.width-width.ensures.value) e

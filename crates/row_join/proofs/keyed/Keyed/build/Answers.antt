@@ -1,9 +1,9 @@
-use Rattle.std.proofs.Common.{nat_eq, not, sym, ap, ◌∙◌, true, false}
+use Rattle.std.proofs.Common.{ℕ, List, ◌++◌, nat_eq, not, sym, ap, ◌∙◌, true, false, length}
 use Rattle.std.proofs.lemmas.List.{append-nil}
 use Rattle.std.specs.Cmp.Lexicographic.{pointwise}
 use Rattle.algebra_model.specs.Keys.{is_keyed}
-use Rattle.row_join.specs.Places.{group_of, has_key}
-use Rattle.row_join.proofs.PlaceLaws.{places-turn, has_key-numbers, has_key-unkeyed}
+use Rattle.row_join.specs.Places.{group_of, has_key, place_if}
+use Rattle.row_join.proofs.PlaceLaws.{places-turn, has_key-numbers, has_key-unkeyed, read_wide}
 use Rattle.row_join.proofs.keyed.Keyed.build.Goals as goal
 use Rattle.row_join.proofs.keyed.Keyed.build.Goals.{then-branch+in_ok-add, else-branch+in_ok-push}
 
@@ -19,24 +19,34 @@ loop-place-preserved c =
         keyed = λ f.
             places-turn (has_key key f) rows n row c.row.ensures.found (pointwise nat_eq f c.read_key.new.numbers.items)
             (has_key-numbers key c.read_key.new.numbers.items row (read.read w.if-branch.true) f)
-            (group_of c.loop-place.groups f) (group_of c.if-branch.groups f) (c.loop-place.invariant.keyed f)
-            (ap (λ g. group_of g f) w.groups-is ∙ w.in_ok-add.ensures.added f);
+            (group_of c.loop-place.groups.list f) (group_of c.if-branch.groups.list f) (c.loop-place.invariant.keyed f)
+            (ap (λ g. group_of g.list f) w.groups-is ∙ w.in_ok-add.ensures.added f
+            ∙ ap (λ (ns : List ℕ). group_of c.loop-place.groups.list f ++ place_if (pointwise nat_eq f ns) n) w.deref.ensures.value);
         apart =
             places-turn (λ μ. not (is_keyed key μ)) rows n row c.row.ensures.found false
             (ap not (sym read.keyed ∙ w.if-branch.true))
             c.loop-place.apart.items c.if-branch.apart.items c.loop-place.invariant.apart
             (ap (λ a. a.items) w.apart-is ∙ sym (append-nil c.loop-place.apart.items));
+        wide = ap (λ g. g.width) w.groups-is ∙ w.in_ok-add.ensures.width ∙ c.loop-place.invariant.wide;
       }
       | else-branch+in_ok-push w ↦ record {
         keyed = λ f.
             places-turn (has_key key f) rows n row c.row.ensures.found false
             (has_key-unkeyed key row (sym read.keyed ∙ w.if-branch.false) f)
-            (group_of c.loop-place.groups f) (group_of c.if-branch.groups f) (c.loop-place.invariant.keyed f)
-            (ap (λ g. group_of g f) w.groups-is ∙ sym (append-nil (group_of c.loop-place.groups f)));
+            (group_of c.loop-place.groups.list f) (group_of c.if-branch.groups.list f) (c.loop-place.invariant.keyed f)
+            (ap (λ g. group_of g.list f) w.groups-is ∙ sym (append-nil (group_of c.loop-place.groups.list f)));
         apart =
             places-turn (λ μ. not (is_keyed key μ)) rows n row c.row.ensures.found true
             (ap not (sym read.keyed ∙ w.if-branch.false))
             c.loop-place.apart.items c.if-branch.apart.items c.loop-place.invariant.apart
             (ap (λ a. a.items) w.apart-is ∙ w.in_ok-push.ensures.items);
+        wide = ap (λ g. g.width) w.groups-is ∙ c.loop-place.invariant.wide;
       }
     ]
+
+pub add-requires : goal.add-requires
+add-requires c =
+    let read = c.in_ok-read_key.ensures in
+    record {
+      wide = ap length c.deref.ensures.value ∙ read_wide c.args.key.now c.row.result.now c.read_key.new.numbers.items (read.read c.if-branch.true) ∙ sym c.loop-place.invariant.wide;
+    }

@@ -2,6 +2,7 @@ use Rattle.std.proofs.Common.{◌≡◌, ℕ, ◌<◌, List, [], ◌∷◌, ◌+
 use Rattle.std.specs.List.{list_all}
 use Rattle.std.proofs.lemmas.List.Sorted.{IsPermutation-refl}
 use Rattle.std.proofs.lemmas.Option.{slice_get-get_or}
+use Rattle.std.proofs.lemmas.Result.{IfOk-weaker}
 use Rattle.rdf_core.specs.declared.term.Term.{Term}
 use Rattle.rdf_core.proofs.TermLaws.{term_eq}
 use Rattle.algebra_model.specs.Algebra as algebra
@@ -22,9 +23,12 @@ use Rattle.sparql_algebra.specs.declared.operator.GraphName.{GraphName}
 use Rattle.sparql_algebra.specs.declared.operator.Operator.{Operator}
 use Rattle.sparql_eval.specs.Computed.{TakesOnly}
 use Rattle.sparql_eval.specs.Evaluated.{IsEvaluated}
+use Rattle.sparql_eval.specs.Fitting.{IsEvaluatedWhere, fits}
+use Rattle.sparql_eval.specs.declared.equalities.Equality.{Equality}
 use Rattle.sparql_eval.specs.TreeSolutions.{Needed, NeededIn, graph_solutions, solutions_in, tree_solutions}
 use Rattle.sparql_eval.proofs.NamedSteps.{all_named, each_more}
 use Rattle.sparql_eval.proofs.ClosedSteps.{as_bag, closed_in, joined_in, joined_left, names_evaluated, no_graphs, none_in, some_graphs, takes_as_each, takes_closed, takes_then, takes_turned}
+use Rattle.sparql_eval.proofs.FittingSteps.{where_all, where_any_ok, where_filtered, where_joined, where_right, where_whole}
 use Rattle.sparql_eval.proofs.ReadingLaws.{Known, all_taken, grown_itself, grown_twice, read_by, rows_kept}
 use Rattle.sparql_eval.proofs.EvaluateSteps.{active_kept, after_left, after_one, after_right, all_below, as_whole, index_kept, tree_kept, join_keeps, left_join_keeps, union_keeps, minus_keeps, filter_keeps, extend_keeps, project_keeps, distinct_keeps}
 use Rattle.sparql_eval.proofs.TreeSteps.{distinct_denotes, distinct_tree, extend_denotes, extend_tree, filter_denotes, filter_tree, graph_denotes, graph_tree, join_denotes, join_tree, left_join_denotes, left_join_tree, minus_denotes, minus_tree, project_denotes, project_tree, table_denotes, table_tree, union_denotes, union_tree}
@@ -277,17 +281,6 @@ pub solve_minus-returns-clause-needed : goal.solve_minus-returns-clause-needed
 solve_minus-returns-clause-needed g t c =
     let s = c.args.self.now in
     takes_still (Needed c.args.dict s.index.now s.width c.args.active (algebra_of c.args.right.now)) c.args.dict c.in_ok-right.dict c.minus_with.result c.in_ok-right.ensures.needed c.minus_with.ensures.same_dict
-
-pub solve_filter-returns-clause-evaluated : goal.solve_filter-returns-clause-evaluated
-solve_filter-returns-clause-evaluated g t c =
-    let s = c.args.self.now in
-    let S : Operator → List (Solution Term) = λ tree. tree_solutions c.args.dict s.index.now s.width c.args.active tree in
-    after_one c.args.dict c.in_ok-rows.dict s.width c.filter_with.result (filter (holds (expression_of c.args.condition.now))) (filter_keeps (holds (expression_of c.args.condition.now))) (S c.args.inner.now) c.in_ok-rows.rows c.in_ok-rows.ensures.evaluated c.filter_with.ensures.evaluated
-
-pub solve_filter-returns-clause-needed : goal.solve_filter-returns-clause-needed
-solve_filter-returns-clause-needed g t c =
-    let s = c.args.self.now in
-    takes_still (Needed c.args.dict s.index.now s.width c.args.active (algebra_of c.args.inner.now)) c.args.dict c.in_ok-rows.dict c.filter_with.result c.in_ok-rows.ensures.needed c.filter_with.ensures.same_dict
 
 pub solve_extend-returns-clause-evaluated : goal.solve_extend-returns-clause-evaluated
 solve_extend-returns-clause-evaluated g t c =
@@ -653,15 +646,6 @@ solve_minus-solve-requires-clause-active g t c κs within = c.requires.active
 pub solve_minus-solve-requires-clause-within : goal.solve_minus-solve-requires-clause-within
 solve_minus-solve-requires-clause-within g t c κs within = c.requires.within
 
-pub solve_filter-solve-requires-clause-index : goal.solve_filter-solve-requires-clause-index
-solve_filter-solve-requires-clause-index g t c κs within = c.requires.index
-
-pub solve_filter-solve-requires-clause-active : goal.solve_filter-solve-requires-clause-active
-solve_filter-solve-requires-clause-active g t c κs within = c.requires.active
-
-pub solve_filter-solve-requires-clause-within : goal.solve_filter-solve-requires-clause-within
-solve_filter-solve-requires-clause-within g t c κs within = c.requires.within
-
 pub solve_extend-solve-requires-clause-index : goal.solve_extend-solve-requires-clause-index
 solve_extend-solve-requires-clause-index g t c κs within = c.requires.index
 
@@ -843,14 +827,8 @@ solve_union-union_of-requires-clause-same_width g t c = c.requires.same_width �
 pub solve_union-union_of-requires-clause-known_right : goal.solve_union-union_of-requires-clause-known_right
 solve_union-union_of-requires-clause-known_right g t c = c.in_ok-right.ensures.evaluated.known
 
-pub solve_filter-filter_with-requires-clause-known : goal.solve_filter-filter_with-requires-clause-known
-solve_filter-filter_with-requires-clause-known g t c κs within = c.in_ok-rows.ensures.evaluated.known
-
 pub solve_extend-extend_with-requires-clause-known : goal.solve_extend-extend_with-requires-clause-known
 solve_extend-extend_with-requires-clause-known g t c κs within = c.in_ok-rows.ensures.evaluated.known
-
-pub solve_filter-returns-clause-one_worker : goal.solve_filter-returns-clause-one_worker
-solve_filter-returns-clause-one_worker g t c = c.filter_with.ensures.one_worker
 
 pub solve_extend-returns-clause-one_worker : goal.solve_extend-returns-clause-one_worker
 solve_extend-returns-clause-one_worker g t c = c.extend_with.ensures.one_worker
@@ -869,3 +847,185 @@ solve_distinct-returns-clause-one_worker g t c = λ _. c.distinct.ensures.memory
 
 pub solve-returns-in-Table-clause-one_worker : goal.solve-returns-in-Table-clause-one_worker
 solve-returns-in-Table-clause-one_worker g t c = λ _. c.table.ensures.memory
+
+-- ---- solutions that fit
+
+pub solve_filter-solve_filter_where-requires-clause-index : goal.solve_filter-solve_filter_where-requires-clause-index
+solve_filter-solve_filter_where-requires-clause-index g t c κs within = c.requires.index
+
+pub solve_filter-solve_filter_where-requires-clause-active : goal.solve_filter-solve_filter_where-requires-clause-active
+solve_filter-solve_filter_where-requires-clause-active g t c κs within = c.requires.active
+
+pub solve_filter-solve_filter_where-requires-clause-within : goal.solve_filter-solve_filter_where-requires-clause-within
+solve_filter-solve_filter_where-requires-clause-within g t c κs within = c.requires.within
+
+pub solve_filter-returns-clause-evaluated : goal.solve_filter-returns-clause-evaluated
+solve_filter-returns-clause-evaluated g t c =
+    let s = c.args.self.now in
+    let S : Operator → List (Solution Term) = λ tree. tree_solutions c.args.dict s.index.now s.width c.args.active tree in
+    IfOk-weaker c.solve_filter_where.result (λ x. IsEvaluatedWhere c.args.dict s.width (fits []) (filter (holds (expression_of c.args.condition.now)) (S c.args.inner.now)) x.0 x.1)
+    (λ x. IsEvaluated c.args.dict s.width (filter (holds (expression_of c.args.condition.now)) (S c.args.inner.now)) x.0 x.1)
+    (λ x h. where_all c.args.dict s.width (filter (holds (expression_of c.args.condition.now)) (S c.args.inner.now)) x.0 x.1 h) c.solve_filter_where.ensures.evaluated
+
+pub solve_filter-returns-clause-needed : goal.solve_filter-returns-clause-needed
+solve_filter-returns-clause-needed g t c = c.solve_filter_where.ensures.needed
+
+pub solve_filter-returns-clause-one_worker : goal.solve_filter-returns-clause-one_worker
+solve_filter-returns-clause-one_worker g t c = c.solve_filter_where.ensures.one_worker
+
+pub solve_filter_where-solve_where-requires-clause-index : goal.solve_filter_where-solve_where-requires-clause-index
+solve_filter_where-solve_where-requires-clause-index g t c κs within = c.requires.index
+
+pub solve_filter_where-solve_where-requires-clause-active : goal.solve_filter_where-solve_where-requires-clause-active
+solve_filter_where-solve_where-requires-clause-active g t c κs within = c.requires.active
+
+pub solve_filter_where-solve_where-requires-clause-within : goal.solve_filter_where-solve_where-requires-clause-within
+solve_filter_where-solve_where-requires-clause-within g t c κs within = c.requires.within
+
+pub solve_filter_where-filter_with-requires-clause-known : goal.solve_filter_where-filter_with-requires-clause-known
+solve_filter_where-filter_with-requires-clause-known g t c κs within = c.in_ok-rows.ensures.evaluated.known
+
+pub solve_filter_where-returns-clause-evaluated : goal.solve_filter_where-returns-clause-evaluated
+solve_filter_where-returns-clause-evaluated g t c =
+    let s = c.args.self.now in
+    let S : Operator → List (Solution Term) = λ tree. tree_solutions c.args.dict s.index.now s.width c.args.active tree in
+    where_filtered c.args.dict c.in_ok-rows.dict s.width c.filter_with.result (expression_of c.args.condition.now) c.args.pairs.now c.as_slice.result.now
+    (subst (λ (l : List Equality). (ρ : Solution Term) → holds (expression_of c.args.condition.now) ρ ≡ true → fits c.args.pairs.now ρ ≡ true → fits l ρ ≡ true) (sym c.as_slice.ensures.value) c.in_ok-all.ensures.required)
+    (S c.args.inner.now) c.in_ok-rows.rows c.in_ok-rows.ensures.evaluated c.filter_with.ensures.evaluated
+
+pub solve_filter_where-returns-clause-needed : goal.solve_filter_where-returns-clause-needed
+solve_filter_where-returns-clause-needed g t c =
+    let s = c.args.self.now in
+    takes_still (Needed c.args.dict s.index.now s.width c.args.active (algebra_of c.args.inner.now)) c.args.dict c.in_ok-rows.dict c.filter_with.result c.in_ok-rows.ensures.needed c.filter_with.ensures.same_dict
+
+pub solve_filter_where-returns-clause-one_worker : goal.solve_filter_where-returns-clause-one_worker
+solve_filter_where-returns-clause-one_worker g t c = c.filter_with.ensures.one_worker
+
+pub solve_where-solve_where-requires-clause-index : goal.solve_where-solve_where-requires-clause-index
+solve_where-solve_where-requires-clause-index g t c κs within = c.requires.index
+
+pub solve_where-solve_where-requires-clause-active : goal.solve_where-solve_where-requires-clause-active
+solve_where-solve_where-requires-clause-active g t c κs within = c.requires.active
+
+pub solve_where-solve_where-requires-clause-within : goal.solve_where-solve_where-requires-clause-within
+solve_where-solve_where-requires-clause-within g t c κs within =
+    subst (λ (T : Operator). is_within c.args.self.now.width (algebra_of T) ≡ true) (sym c.deref.ensures) (join_within c.args.self.now.width c.in-Join.left c.in-Join.right c.args.tree.now c.in-Join.is c.requires.within).0
+
+pub solve_where-solve_join_where-requires-clause-index : goal.solve_where-solve_join_where-requires-clause-index
+solve_where-solve_join_where-requires-clause-index g t c κs within = (index_kept c.args.dict c.in_ok-left-in-Join.dict c.in_ok-left-in-Join.ensures.evaluated.grown c.args.self.now.index.now c.requires.index).0
+
+pub solve_where-solve_join_where-requires-clause-active : goal.solve_where-solve_join_where-requires-clause-active
+solve_where-solve_join_where-requires-clause-active g t c κs within = (active_kept c.args.dict c.in_ok-left-in-Join.dict c.in_ok-left-in-Join.ensures.evaluated.grown c.args.active c.requires.active).0
+
+pub solve_where-solve_join_where-requires-clause-same_width : goal.solve_where-solve_join_where-requires-clause-same_width
+solve_where-solve_join_where-requires-clause-same_width g t c κs within = c.in_ok-left-in-Join.ensures.evaluated.wide
+
+pub solve_where-solve_join_where-requires-clause-known_left : goal.solve_where-solve_join_where-requires-clause-known_left
+solve_where-solve_join_where-requires-clause-known_left g t c κs within = c.in_ok-left-in-Join.ensures.evaluated.known
+
+pub solve_where-solve_join_where-requires-clause-within : goal.solve_where-solve_join_where-requires-clause-within
+solve_where-solve_join_where-requires-clause-within g t c κs within =
+    subst (λ (T : Operator). is_within c.args.self.now.width (algebra_of T) ≡ true) (sym c.deref-in-Join.ensures) (join_within c.args.self.now.width c.in-Join.left c.in-Join.right c.args.tree.now c.in-Join.is c.requires.within).1
+
+pub solve_where-solve_filter_where-requires-clause-index : goal.solve_where-solve_filter_where-requires-clause-index
+solve_where-solve_filter_where-requires-clause-index g t c κs within = c.requires.index
+
+pub solve_where-solve_filter_where-requires-clause-active : goal.solve_where-solve_filter_where-requires-clause-active
+solve_where-solve_filter_where-requires-clause-active g t c κs within = c.requires.active
+
+pub solve_where-solve_filter_where-requires-clause-within : goal.solve_where-solve_filter_where-requires-clause-within
+solve_where-solve_filter_where-requires-clause-within g t c κs within =
+    subst (λ (T : Operator). is_within c.args.self.now.width (algebra_of T) ≡ true) (sym c.deref-in-Filter.ensures) (filter_within c.args.self.now.width c.in-Filter.condition c.in-Filter.inner c.args.tree.now c.in-Filter.is c.requires.within)
+
+pub solve_where-solve-requires-clause-index : goal.solve_where-solve-requires-clause-index
+solve_where-solve-requires-clause-index g t c κs within = c.requires.index
+
+pub solve_where-solve-requires-clause-active : goal.solve_where-solve-requires-clause-active
+solve_where-solve-requires-clause-active g t c κs within = c.requires.active
+
+pub solve_where-solve-requires-clause-within : goal.solve_where-solve-requires-clause-within
+solve_where-solve-requires-clause-within g t c κs within = c.requires.within
+
+pub solve_where-returns-in_ok-left-in-Join-clause-evaluated : goal.solve_where-returns-in_ok-left-in-Join-clause-evaluated
+solve_where-returns-in_ok-left-in-Join-clause-evaluated g t c =
+    let s = c.args.self.now in
+    let S : Operator → List (Solution Term) = λ tree. tree_solutions c.args.dict s.index.now s.width c.args.active tree in
+    let h = c.in_ok-left-in-Join.ensures.evaluated in
+    where_whole c.args.pairs.now c.args.dict s.width c.solve_join_where.result (join term_eq (S c.deref.result.now) (S c.deref-in-Join.result.now)) (S c.args.tree.now)
+    (ap S c.in-Join.is ∙ join_tree c.args.dict s.index.now s.width c.args.active c.in-Join.left c.in-Join.right ∙ (λ i. join term_eq (S ((sym c.deref.ensures) i)) (S ((sym c.deref-in-Join.ensures) i))))
+    (where_joined c.args.pairs.now c.args.dict c.in_ok-left-in-Join.dict s.width c.solve_join_where.result (S c.deref.result.now) (S c.deref-in-Join.result.now) (tree_solutions c.in_ok-left-in-Join.dict s.index.now s.width c.args.active c.deref-in-Join.result.now) c.in_ok-left-in-Join.left
+    (tree_kept c.args.dict c.in_ok-left-in-Join.dict h.grown s.index.now s.width c.args.active c.deref-in-Join.result.now c.requires.index c.requires.active)
+    h c.solve_join_where.ensures.evaluated)
+
+pub solve_where-returns-in_ok-left-in-Join-clause-needed : goal.solve_where-returns-in_ok-left-in-Join-clause-needed
+solve_where-returns-in_ok-left-in-Join-clause-needed g t c =
+    let s = c.args.self.now in
+    let L = algebra_of c.deref.result.now in
+    let R = algebra_of c.deref-in-Join.result.now in
+    takes_both c.args.dict c.in_ok-left-in-Join.dict c.in_ok-left-in-Join.ensures.evaluated.grown s.index.now c.requires.index s.width c.args.active c.requires.active c.solve_join_where.result
+    L R (algebra_of c.args.tree.now) (algebra.Join L R) (ap algebra_of c.in-Join.is ∙ join_denotes c.in-Join.left c.in-Join.right ∙ (λ i. algebra.Join (algebra_of ((sym c.deref.ensures) i)) (algebra_of ((sym c.deref-in-Join.ensures) i)))) (λ x m. m)
+    c.in_ok-left-in-Join.ensures.needed c.solve_join_where.ensures.needed
+
+pub solve_where-returns-in_ok-left-in-Join-clause-one_worker : goal.solve_where-returns-in_ok-left-in-Join-clause-one_worker
+solve_where-returns-in_ok-left-in-Join-clause-one_worker g t c = c.solve_join_where.ensures.one_worker
+
+pub solve_where-returns-in-Filter-clause-evaluated : goal.solve_where-returns-in-Filter-clause-evaluated
+solve_where-returns-in-Filter-clause-evaluated g t c =
+    let s = c.args.self.now in
+    let S : Operator → List (Solution Term) = λ tree. tree_solutions c.args.dict s.index.now s.width c.args.active tree in
+    where_whole c.args.pairs.now c.args.dict s.width c.solve_filter_where.result (filter (holds (expression_of c.in-Filter.condition)) (S c.deref-in-Filter.result.now)) (S c.args.tree.now)
+    (ap S c.in-Filter.is ∙ filter_tree c.args.dict s.index.now s.width c.args.active c.in-Filter.condition c.in-Filter.inner ∙ (λ i. filter (holds (expression_of c.in-Filter.condition)) (S ((sym c.deref-in-Filter.ensures) i))))
+    c.solve_filter_where.ensures.evaluated
+
+pub solve_where-returns-in-Filter-clause-needed : goal.solve_where-returns-in-Filter-clause-needed
+solve_where-returns-in-Filter-clause-needed g t c =
+    let s = c.args.self.now in
+    takes_as c.args.dict s.index.now s.width c.args.active c.solve_filter_where.result (algebra_of c.args.tree.now) (algebra.Filter (expression_of c.in-Filter.condition) (algebra_of c.deref-in-Filter.result.now))
+    (ap algebra_of c.in-Filter.is ∙ filter_denotes c.in-Filter.condition c.in-Filter.inner ∙ (λ i. algebra.Filter (expression_of c.in-Filter.condition) (algebra_of ((sym c.deref-in-Filter.ensures) i))))
+    c.solve_filter_where.ensures.needed
+
+pub solve_where-returns-in-Filter-clause-one_worker : goal.solve_where-returns-in-Filter-clause-one_worker
+solve_where-returns-in-Filter-clause-one_worker g t c = c.solve_filter_where.ensures.one_worker
+
+pub solve_where-returns-in_default-clause-evaluated : goal.solve_where-returns-in_default-clause-evaluated
+solve_where-returns-in_default-clause-evaluated g t c =
+    let s = c.args.self.now in
+    where_any_ok c.args.pairs.now c.args.dict s.width c.solve.result (tree_solutions c.args.dict s.index.now s.width c.args.active c.args.tree.now) c.solve.ensures.evaluated
+
+pub solve_where-returns-in_default-clause-needed : goal.solve_where-returns-in_default-clause-needed
+solve_where-returns-in_default-clause-needed g t c = c.solve.ensures.needed
+
+pub solve_where-returns-in_default-clause-one_worker : goal.solve_where-returns-in_default-clause-one_worker
+solve_where-returns-in_default-clause-one_worker g t c = c.solve.ensures.one_worker
+
+pub solve_join_where-solve_where-requires-clause-index : goal.solve_join_where-solve_where-requires-clause-index
+solve_join_where-solve_where-requires-clause-index g t c κs within = c.requires.index
+
+pub solve_join_where-solve_where-requires-clause-active : goal.solve_join_where-solve_where-requires-clause-active
+solve_join_where-solve_where-requires-clause-active g t c κs within = c.requires.active
+
+pub solve_join_where-solve_where-requires-clause-within : goal.solve_join_where-solve_where-requires-clause-within
+solve_join_where-solve_where-requires-clause-within g t c κs within = c.requires.within
+
+pub solve_join_where-join_where-requires-clause-same_width : goal.solve_join_where-join_where-requires-clause-same_width
+solve_join_where-join_where-requires-clause-same_width g t c κs within = c.requires.same_width ∙ sym c.in_ok-right.ensures.evaluated.wide
+
+pub solve_join_where-join_where-requires-clause-known_left : goal.solve_join_where-join_where-requires-clause-known_left
+solve_join_where-join_where-requires-clause-known_left g t c κs within = (rows_kept c.args.dict c.in_ok-right.dict c.in_ok-right.ensures.evaluated.grown c.args.left.rows c.requires.known_left).0
+
+pub solve_join_where-join_where-requires-clause-known_right : goal.solve_join_where-join_where-requires-clause-known_right
+solve_join_where-join_where-requires-clause-known_right g t c κs within = c.in_ok-right.ensures.evaluated.known
+
+pub solve_join_where-returns-clause-evaluated : goal.solve_join_where-returns-clause-evaluated
+solve_join_where-returns-clause-evaluated g t c =
+    let s = c.args.self.now in
+    let S : Operator → List (Solution Term) = λ tree. tree_solutions c.args.dict s.index.now s.width c.args.active tree in
+    where_right c.args.pairs.now c.args.dict c.in_ok-right.dict s.width c.join_where.result (S c.args.right.now) c.args.left c.in_ok-right.right c.requires.known_left c.in_ok-right.ensures.evaluated c.join_where.ensures.evaluated
+
+pub solve_join_where-returns-clause-needed : goal.solve_join_where-returns-clause-needed
+solve_join_where-returns-clause-needed g t c =
+    let s = c.args.self.now in
+    takes_still (Needed c.args.dict s.index.now s.width c.args.active (algebra_of c.args.right.now)) c.args.dict c.in_ok-right.dict c.join_where.result c.in_ok-right.ensures.needed c.join_where.ensures.same_dict
+
+pub solve_join_where-returns-clause-one_worker : goal.solve_join_where-returns-clause-one_worker
+solve_join_where-returns-clause-one_worker g t c = c.join_where.ensures.one_worker

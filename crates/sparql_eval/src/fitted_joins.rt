@@ -1,0 +1,47 @@
+//! Join of which only the pairs with equal terms are needed.
+ghost use Rattle.std.specs.Prelude.{◌≡◌, IfErr, IfOk};
+ghost use Rattle.rdf_core.specs.Equality.{term_eq};
+ghost use Rattle.algebra_model.specs.Operators.{join};
+ghost use Rattle.row_pieces.specs.How.{HasOneWorker};
+ghost use Rattle.row_pieces.specs.declared.fault.EvalFault.TheVariants.{Memory};
+ghost use Rattle.sparql_eval.specs.Evaluated.{AreKnown, solutions_of};
+ghost use Rattle.sparql_eval.specs.Fitting.{IsEvaluatedWhere, fits};
+
+use crate::equalities::Equality;
+use crate::joins::join_of;
+use crate::keyed_joins::joined_by_keys;
+use crate::keyed_rows::join_keys;
+use crate::operator_result::with_dict;
+use dict_core::Dict;
+use piece_pool::Gate;
+use row_core::Rows;
+use row_pieces::{Context, EvalFault};
+use std::hash::RandomState;
+use std::sync::Wait;
+use std::thread::Threads;
+
+/// Joins rows of which only the pairs that fit are needed. If one of the equalities has a variable
+/// of each side, rows with different keys are not paired. The dictionary is returned unchanged.
+pub(crate) fn join_where<R: Threads + Wait, G: Gate + Sync>(
+    context: &Context<R, G>,
+    state: RandomState,
+    dict: Dict,
+    left: Rows,
+    right: Rows,
+    pairs: &[Equality],
+) -> Result<(Rows, Dict), EvalFault>
+    requires same_width { left.width ≡ right.width }
+    requires known_left { AreKnown dict left }
+    requires known_right { AreKnown dict right }
+    ensures evaluated { IfOk result (λ r. IsEvaluatedWhere dict left.width (fits pairs.now)
+        (join term_eq (solutions_of dict left) (solutions_of dict right)) r.0 r.1) }
+    ensures same_dict { IfOk result (λ r. r.1 ≡ dict) }
+    ensures one_worker { HasOneWorker context.now.how.now → IfErr result (λ fault. fault ≡ Memory) }
+{
+    let keys = join_keys(context.alloc, &left, &right, pairs)?;
+    if keys.is_empty() {
+        return join_of(context, state, dict, left, right);
+    }
+    let made = joined_by_keys(context, state, &dict, &left, &right, keys.as_slice());
+    with_dict(made, dict)
+}
