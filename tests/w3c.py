@@ -10,7 +10,8 @@ python3-rdflib, serdi). A test passes if
 - a document or query that the W3C calls bad is rejected: status 1 and 2;
 - a document that it calls good is accepted;
 - a query that it calls good is accepted, or rejected as a query if it uses what the language of docs/USAGE.md leaves out;
-- the solutions of a query are the expected multiset, up to the labels of blank nodes.
+- the solutions of a query are the expected multiset, up to the labels of blank nodes, and the notes on standard error are those of
+  tests/w3c-notes.txt, or none.
 
 w3c_queries.py says which queries are outside of the language, and writes some of them with the means of the language, with the
 same solutions ('adapted': ORDER BY without LIMIT, an expression after SELECT, VALUES after the group, FROM, relative IRIs, ASK,
@@ -34,7 +35,7 @@ from w3c_fetch import Missing, fetch, install_packages
 
 HERE = os.path.dirname(os.path.abspath(__file__))
 ROOT = os.path.dirname(HERE)
-LEFT_OUT, EARL = f"{HERE}/w3c-left-out.txt", f"{ROOT}/out/w3c-earl.ttl"
+LEFT_OUT, NOTES, EARL = f"{HERE}/w3c-left-out.txt", f"{HERE}/w3c-notes.txt", f"{ROOT}/out/w3c-earl.ttl"
 PAGE = f"{ROOT}/docs/COMPARISON.md"
 PART = re.compile(r"(<!-- generated: w3c, by tests/w3c\.py --write -->\n).*?(<!-- end of the generated part -->)", re.S)
 PASSED, FAILED, OUTSIDE, UNTESTED = "passed", "failed", "inapplicable", "untested"
@@ -57,10 +58,16 @@ def with_packages():
 # Running a test.
 
 
+def run_with_notes(program, words, document):
+    """Runs the program and returns its status, what it wrote, and its notes."""
+    ran = subprocess.run([program, *words], input=document, capture_output=True, timeout=120)
+    notes = [it.removeprefix("spq: note: ") for it in ran.stderr.decode("utf-8", "replace").splitlines()]
+    return ran.returncode, ran.stdout.decode("utf-8", "replace").rstrip("\n"), notes
+
+
 def run(program, words, document):
     """Runs the program and returns its status and what it wrote."""
-    ran = subprocess.run([program, *words], input=document, capture_output=True, timeout=120)
-    return ran.returncode, ran.stdout.decode("utf-8", "replace").rstrip("\n")
+    return run_with_notes(program, words, document)[:2]
 
 
 def selected(program, query, document=b""):
@@ -102,10 +109,12 @@ def run_evaluation(program, test, read, queries):
         document = read.document(test, default, [(it, it) for it in named])
     else:
         document = read.document(test, test.data, test.named)
-    status, said = selected(program, query, document.encode())
+    status, said, notes = run_with_notes(program, ["select", "--query", query], document.encode())
     if status != 0:
         return Outcome(test, FAILED, query != text, f"status {status}, {said[:80]}")
     detail = difference(read, test, read.expected(test), read.of_json(said))
+    if notes != EXPECTED_NOTES.get(test.name, []):
+        detail = detail or f"the notes {notes}"
     return Outcome(test, FAILED if detail else PASSED, query != text, detail)
 
 
@@ -178,10 +187,15 @@ def run_test(program, test, read, queries, left_out):
 # Reports.
 
 
-def read_left_out():
-    """Returns the tests to leave out, each with its reason."""
-    with open(LEFT_OUT, encoding="utf-8") as file:
+def read_list(path):
+    """Returns the tests of a list, each with what its line says of it."""
+    with open(path, encoding="utf-8") as file:
         return [tuple(it.strip() for it in line.split(": ", 1)) for line in file if line.strip() and not line.startswith("#")]
+
+
+EXPECTED_NOTES = {}
+for name, note in read_list(NOTES):
+    EXPECTED_NOTES.setdefault(name, []).append(note)
 
 
 def table(outcomes):
@@ -225,9 +239,10 @@ def put_into_page(made, is_written):
 
 
 def unused(left_out, outcomes):
-    """Returns a line for each entry of the list of tests to leave out that names no test."""
+    """Returns a line for each entry of the two lists that names no test."""
     names = [it.test.name for it in outcomes]
-    return [f"tests/w3c-left-out.txt: there is no test {name}" for name, _ in left_out if not fnmatch.filter(names, name)]
+    wrong = [f"tests/w3c-left-out.txt: there is no test {name}" for name, _ in left_out if not fnmatch.filter(names, name)]
+    return wrong + [f"tests/w3c-notes.txt: there is no test {name}" for name in EXPECTED_NOTES if name not in names]
 
 
 def run_suites(given):
@@ -239,7 +254,7 @@ def run_suites(given):
     suites = read.tests_of(given.folder)
     if not suites:
         raise Missing(f"{given.folder} has no suite of the W3C")
-    tests, left_out = [it for found in suites.values() for it in found], read_left_out()
+    tests, left_out = [it for found in suites.values() for it in found], read_list(LEFT_OUT)
     with concurrent.futures.ThreadPoolExecutor(os.cpu_count()) as pool:
         outcomes = list(pool.map(lambda it: run_test(given.program, it, read, queries, left_out), tests))
     os.makedirs(os.path.dirname(EARL), exist_ok=True)

@@ -1,4 +1,6 @@
 //! What is wrong with terms that cannot be compared, or that have no effective boolean value.
+ghost use Rattle.std.specs.Prelude.{◌≡◌, IfOk};
+
 use rdf_core::vocabulary::{XSD_BOOLEAN, XSD_DOUBLE, XSD_STRING};
 use rdf_core::{Term, Text};
 use sparql_tree::Comparison;
@@ -13,6 +15,9 @@ const XSD_FLOAT: &str = "http://www.w3.org/2001/XMLSchema#float";
 pub enum Cause {
     /// The variable with this number is unbound.
     Unbound(usize),
+    /// A variable is unbound: in some rows the one with this number, in some rows another one. Only
+    /// tallies have it.
+    SomeUnbound(usize),
     /// A function was called with a term that has no such property, such as LANG of an IRI.
     Call,
     /// An IRI or a blank node was compared by order, or used as a truth value.
@@ -34,9 +39,12 @@ impl Cause {
     ///
     /// # Errors
     /// `AllocError` if an allocation fails.
-    pub fn copy(&self, alloc: Global) -> Result<Cause, AllocError> {
+    pub fn copy(&self, alloc: Global) -> Result<Cause, AllocError>
+        ensures equal { IfOk result (λ cause. cause ≡ self.now) }
+    {
         match self {
             Cause::Unbound(variable) => Ok(Cause::Unbound(*variable)),
+            Cause::SomeUnbound(variable) => Ok(Cause::SomeUnbound(*variable)),
             Cause::Call => Ok(Cause::Call),
             Cause::NotLiteral => Ok(Cause::NotLiteral),
             Cause::Tagged => Ok(Cause::Tagged),
@@ -51,7 +59,7 @@ impl Cause {
     /// is worth a note only if every row has an error.
     pub fn is_common(&self) -> bool {
         match self {
-            Cause::Unbound(_) | Cause::Call | Cause::NotLiteral => true,
+            Cause::Unbound(_) | Cause::SomeUnbound(_) | Cause::Call | Cause::NotLiteral => true,
             Cause::Tagged
             | Cause::Kinds
             | Cause::Datatype(_)

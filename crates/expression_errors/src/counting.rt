@@ -4,6 +4,7 @@ ghost use Rattle.algebra_model.specs.Expression.{holds, val};
 ghost use Rattle.expression_values.specs.ExpressionOf.{expression_of};
 ghost use Rattle.expression_values.specs.NoAllocation.{takes_none};
 
+use crate::cause::Cause;
 use crate::counts::{Counter, Place};
 use crate::search::{condition_cause, value_cause};
 use expression_values::{Expr, ExprFault, Lookup, truth_value, value};
@@ -11,10 +12,21 @@ use rdf_core::Term;
 use std::alloc::{AllocError, Global};
 
 impl<'a> Place<'a> {
-    /// Notes that the expression had a value over some row.
+    /// Notes that a condition is true or false over a row.
+    fn note_truth<R: Lookup>(self, alloc: Global, condition: &Expr, row: &R) {
+        if let Some(counter) = self.counter {
+            if !counter.is_valued() {
+                note_filters(alloc, counter, condition, row);
+            }
+        }
+    }
+
+    /// Notes that an expression has a value over a row.
     fn note_value(self) {
         if let Some(counter) = self.counter {
-            counter.note_value();
+            if !counter.is_valued() {
+                counter.note_values();
+            }
         }
     }
 
@@ -22,8 +34,11 @@ impl<'a> Place<'a> {
     /// row is not counted.
     fn count_condition<R: Lookup>(self, alloc: Global, condition: &Expr, row: &R) {
         if let Some(counter) = self.counter {
-            let (filter, part) = wrong_filter(alloc, condition, counter.parts.len(), row);
-            if let Ok(Some(cause)) = condition_cause(alloc, part, row) {
+            if counter.parts.len() > 1 && !counter.is_valued() {
+                note_filters(alloc, counter, condition, row);
+            }
+            let found = wrong_filter(alloc, condition, counter.parts.len(), row);
+            if let Ok(Some((filter, cause))) = found {
                 if let Some(part) = counter.parts.get(filter) {
                     part.add(alloc, &cause);
                 }
@@ -43,25 +58,81 @@ impl<'a> Place<'a> {
     }
 }
 
-/// Returns the last FILTER of a condition that is an error, and its number. The condition is the
-/// FILTERs of a group, joined with `&&` from left to right.
-fn wrong_filter<'a, R: Lookup>(
+/// Notes which FILTERs of a condition are true or false over a row. Once each of them was over some
+/// row, this is not called again.
+fn note_filters<R: Lookup>(alloc: Global, counter: &Counter, condition: &Expr, row: &R) {
+    let mut rest = condition;
+    for filter in (1..counter.parts.len()).rev() {
+        if let Expr::And { left, right } = rest {
+            note_filter(alloc, counter, filter, right, row);
+            rest = left;
+        }
+    }
+    note_filter(alloc, counter, 0, rest, row);
+    counter.note_if_all();
+}
+
+/// Notes a FILTER if it is true or false over a row.
+fn note_filter<R: Lookup>(
     alloc: Global,
-    condition: &'a Expr,
+    counter: &Counter,
+    filter: usize,
+    condition: &Expr,
+    row: &R,
+) {
+    if let Some(part) = counter.parts.get(filter) {
+        if !part.is_valued() {
+            if let Ok(Some(_)) = truth_value(alloc, condition, row) {
+                part.note_value();
+            }
+        }
+    }
+}
+
+/// Returns the FILTER that leaves a row out by an error, with the cause: the first one with a common
+/// cause, or else the first one. Returns None if one of them is expected not to be true. The
+/// condition is the FILTERs of a group, joined with `&&` from left to right.
+fn wrong_filter<R: Lookup>(
+    alloc: Global,
+    condition: &Expr,
     filters: usize,
     row: &R,
-) -> (usize, &'a Expr) {
+) -> Result<Option<(usize, Cause)>, AllocError> {
+    let mut found = None;
     let mut rest = condition;
     for filter in (1..filters).rev() {
         let Expr::And { left, right } = rest else {
-            return (0, rest);
+            break;
         };
-        if let Ok(None) = truth_value(alloc, right, row) {
-            return (filter, right);
+        if truth_value(alloc, right, row)?.is_none() {
+            let Some(cause) = condition_cause(alloc, right, row)? else {
+                return Ok(None);
+            };
+            found = Some(lighter(filter, cause, found));
         }
         rest = left;
     }
-    (0, rest)
+    if truth_value(alloc, rest, row)?.is_none() {
+        let Some(cause) = condition_cause(alloc, rest, row)? else {
+            return Ok(None);
+        };
+        found = Some(lighter(0, cause, found));
+    }
+    Ok(found)
+}
+
+/// Returns the FILTER with a common cause if there is one, or else the first.
+fn lighter(filter: usize, cause: Cause, later: Option<(usize, Cause)>) -> (usize, Cause) {
+    match later {
+        Some((number, other)) => {
+            if other.is_common() && !cause.is_common() {
+                (number, other)
+            } else {
+                (filter, cause)
+            }
+        }
+        None => (filter, cause),
+    }
 }
 
 /// Returns whether a row passes a filter, as `test` of the crate expression_values does. If the
@@ -81,7 +152,7 @@ pub fn test_counted<R: Lookup>(
 {
     match truth_value(alloc, condition, row)? {
         Some(passes) => {
-            place.note_value();
+            place.note_truth(alloc, condition, row);
             Ok(passes)
         }
         None => {

@@ -8,7 +8,7 @@ use std::sync::atomic::{AtomicU64, Ordering};
 
 /// The number of datatypes that have counts of their own at one expression. Rows of further ones are not
 /// counted.
-const MOST_DATATYPES: usize = 6;
+const MOST_DATATYPES: usize = 16;
 
 /// The number of rows with a cause that has a datatype. The cause is set by the first such row.
 #[derive(Drop)]
@@ -53,9 +53,13 @@ impl DatatypeCounter {
 /// The counts of one condition or value.
 #[derive(Drop)]
 pub(crate) struct PartCounter {
+    /// 1 if the condition or value was no error over some row.
+    valued: AtomicU64,
     unbound: AtomicU64,
     /// The least number of an unbound variable.
-    variable: AtomicU64,
+    first_variable: AtomicU64,
+    /// The largest number of an unbound variable.
+    last_variable: AtomicU64,
     calls: AtomicU64,
     not_literals: AtomicU64,
     tagged: AtomicU64,
@@ -70,8 +74,10 @@ impl PartCounter {
             datatypes.push(DatatypeCounter::new())?;
         }
         Ok(PartCounter {
+            valued: AtomicU64::new(0),
             unbound: AtomicU64::new(0),
-            variable: AtomicU64::new(u64::MAX),
+            first_variable: AtomicU64::new(u64::MAX),
+            last_variable: AtomicU64::new(0),
             calls: AtomicU64::new(0),
             not_literals: AtomicU64::new(0),
             tagged: AtomicU64::new(0),
@@ -80,11 +86,19 @@ impl PartCounter {
         })
     }
 
+    pub(crate) fn is_valued(&self) -> bool {
+        self.valued.load(Ordering::SeqCst) != 0
+    }
+
+    pub(crate) fn note_value(&self) {
+        self.valued.store(1, Ordering::SeqCst);
+    }
+
     /// Counts a row.
     pub(crate) fn add(&self, alloc: Global, cause: &Cause) {
         let counter = match cause {
-            Cause::Unbound(variable) => {
-                self.variable.fetch_min(*variable as u64, Ordering::SeqCst);
+            Cause::Unbound(variable) | Cause::SomeUnbound(variable) => {
+                self.add_variable(*variable as u64);
                 &self.unbound
             }
             Cause::Call => &self.calls,
@@ -98,6 +112,21 @@ impl PartCounter {
         counter.fetch_add(1, Ordering::SeqCst);
     }
 
+    fn add_variable(&self, variable: u64) {
+        self.first_variable.fetch_min(variable, Ordering::SeqCst);
+        self.last_variable.fetch_max(variable, Ordering::SeqCst);
+    }
+
+    /// Returns the cause of the rows with an unbound variable.
+    fn unbound_cause(&self) -> Cause {
+        let first = self.first_variable.load(Ordering::SeqCst);
+        if first == self.last_variable.load(Ordering::SeqCst) {
+            Cause::Unbound(first as usize)
+        } else {
+            Cause::SomeUnbound(first as usize)
+        }
+    }
+
     fn add_datatype(&self, alloc: Global, cause: &Cause) {
         for counter in &self.datatypes {
             if counter.add(alloc, cause) {
@@ -108,8 +137,7 @@ impl PartCounter {
 
     /// Appends the counts that are not zero.
     fn push_into(&self, alloc: Global, counts: &mut Vec<(Cause, u64)>) -> Result<(), AllocError> {
-        let variable = self.variable.load(Ordering::SeqCst) as usize;
-        push_count(counts, Cause::Unbound(variable), &self.unbound)?;
+        push_count(counts, self.unbound_cause(), &self.unbound)?;
         push_count(counts, Cause::Call, &self.calls)?;
         push_count(counts, Cause::NotLiteral, &self.not_literals)?;
         push_count(counts, Cause::Tagged, &self.tagged)?;
@@ -142,7 +170,7 @@ pub(crate) struct Counter {
     digest: u64,
     /// The numbers of the expressions.
     expressions: Vec<usize>,
-    /// 1 if an expression had a value over some row.
+    /// 1 if each of the parts was no error over some row.
     valued: AtomicU64,
     /// A counter for each FILTER of the condition.
     pub(crate) parts: Vec<PartCounter>,
@@ -162,9 +190,21 @@ impl Counter {
         })
     }
 
-    /// Notes that an expression had a value over some row. It writes once.
-    pub(crate) fn note_value(&self) {
-        if self.valued.load(Ordering::SeqCst) == 0 {
+    pub(crate) fn is_valued(&self) -> bool {
+        self.valued.load(Ordering::SeqCst) != 0
+    }
+
+    /// Notes that each part was no error over some row.
+    pub(crate) fn note_values(&self) {
+        for part in &self.parts {
+            part.note_value();
+        }
+        self.valued.store(1, Ordering::SeqCst);
+    }
+
+    /// Notes whether each part was no error over some row.
+    pub(crate) fn note_if_all(&self) {
+        if self.parts.iter().all(|part| part.is_valued()) {
             self.valued.store(1, Ordering::SeqCst);
         }
     }
@@ -200,7 +240,7 @@ pub struct Tally {
     pub filter: usize,
     pub cause: Cause,
     pub rows: u64,
-    /// Whether the expressions were errors over every row.
+    /// Whether this FILTER or BIND was an error over every row.
     pub is_everywhere: bool,
 }
 
@@ -251,7 +291,8 @@ impl ErrorCounts {
     }
 }
 
-/// Adds an expression to the last counter if that has its digest, or else to a counter of its own.
+/// Adds an expression to the last counter if that has its digest, or else to a counter of its own. If
+/// one expression is two FILTERs and an equal one is a FILTER with `&&`, both are counted as the latter.
 fn add_key(alloc: Global, counters: &mut Vec<Counter>, key: Key) -> Result<(), AllocError> {
     let is_known = match counters.last() {
         Some(last) => last.digest == key.digest,
@@ -261,7 +302,10 @@ fn add_key(alloc: Global, counters: &mut Vec<Counter>, key: Key) -> Result<(), A
         counters.push(Counter::new(alloc, key)?)?;
     }
     match counters.last_mut() {
-        Some(last) => Ok(last.expressions.push(key.expression)?),
+        Some(last) => {
+            last.parts.truncate(key.filters.max(1));
+            Ok(last.expressions.push(key.expression)?)
+        }
         None => Ok(()),
     }
 }
@@ -272,7 +316,6 @@ fn push_tallies(
     alloc: Global,
     counter: &Counter,
 ) -> Result<(), AllocError> {
-    let is_everywhere = counter.valued.load(Ordering::SeqCst) == 0;
     for (filter, part) in counter.parts.iter().enumerate() {
         let mut counts = Vec::new(alloc);
         part.push_into(alloc, &mut counts)?;
@@ -282,7 +325,7 @@ fn push_tallies(
                 filter,
                 cause,
                 rows,
-                is_everywhere,
+                is_everywhere: !part.is_valued(),
             })?;
         }
     }

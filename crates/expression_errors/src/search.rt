@@ -14,6 +14,9 @@ use std::alloc::{AllocError, Global};
 /// be true. The latter is so for `=` of two literals that look different: `?x = "a"` is an error
 /// where `?x` is `"b"@en`, and no query means to find that row.
 ///
+/// An operand of `&&` that is meant to leave the row out does so whatever the others are. So the
+/// cause is that of the first operand with a common cause, or else of the first one.
+///
 /// # Errors
 /// `AllocError` if an allocation fails.
 pub fn condition_cause<R: Lookup>(
@@ -26,7 +29,50 @@ pub fn condition_cause<R: Lookup>(
 {
     match truth_value(alloc, condition, row)? {
         Some(_) => Ok(None),
-        None => search(alloc, condition, row, Sense::Positive),
+        None => cause_of_chain(alloc, condition, row),
+    }
+}
+
+/// Returns why a chain of `&&` is an error.
+fn cause_of_chain<R: Lookup>(
+    alloc: Global,
+    chain: &Expr,
+    row: &R,
+) -> Result<Option<Cause>, AllocError> {
+    let mut found = None;
+    let mut rest = chain;
+    for _ in 0..u64::MAX {
+        let Some((left, right)) = sides(rest, false) else {
+            break;
+        };
+        if truth_value(alloc, right, row)?.is_none() {
+            let Some(cause) = search(alloc, right, row, Sense::Positive)? else {
+                return Ok(None);
+            };
+            found = Some(lighter(cause, found));
+        }
+        rest = left;
+    }
+    if truth_value(alloc, rest, row)?.is_none() {
+        let Some(cause) = search(alloc, rest, row, Sense::Positive)? else {
+            return Ok(None);
+        };
+        found = Some(lighter(cause, found));
+    }
+    Ok(found)
+}
+
+/// Returns the cause of two operands of `&&`: a common one if there is one, or else the first.
+fn lighter(first: Cause, second: Option<Cause>) -> Cause {
+    match second {
+        Some(cause) => {
+            if cause.is_common() && !first.is_common() {
+                cause
+            } else {
+                first
+            }
+        }
+        None => first,
     }
 }
 
@@ -59,38 +105,77 @@ enum Sense {
     Unknown,
 }
 
-/// What to do next in a search.
-enum Step<'a> {
-    /// This part is an error, and makes the whole one an error.
-    Into(&'a Expr, Sense),
-    /// The comparison of two values is an error.
-    Compared(Comparison, Term, Term),
-    /// A part without an inner cause.
-    Found(Cause),
-}
+/// A part of an expression that is an error, or whose value has no effective boolean value.
+type Wrong<'a> = (&'a Expr, Sense);
 
-/// Goes down an expression that is an error, to the part that causes it.
+/// Goes down an expression that is an error, to a part that causes it: the first one whose cause is
+/// not common, or else the first one. An error of `=` whose writer expects it has no cause.
 fn search<R: Lookup>(
     alloc: Global,
     expr: &Expr,
     row: &R,
     sense: Sense,
 ) -> Result<Option<Cause>, AllocError> {
-    let mut part = expr;
-    let mut sense = sense;
+    let mut common = None;
+    let mut rest = Vec::new(alloc);
+    rest.push((expr, sense))?;
     for _ in 0..u64::MAX {
-        match next_step(alloc, part, row, sense)? {
-            Step::Into(inner, inner_sense) => {
-                part = inner;
-                sense = inner_sense;
+        let Some((part, sense)) = rest.pop() else {
+            break;
+        };
+        if let Some(cause) = cause_of_part(alloc, part, row, sense, &mut rest)? {
+            if !cause.is_common() {
+                return Ok(Some(cause));
             }
-            Step::Compared(operator, left, right) => {
-                return judged(alloc, operator, &left, &right, sense);
-            }
-            Step::Found(cause) => return Ok(Some(cause)),
+            common = Some(common.unwrap_or(cause));
         }
     }
-    Ok(None)
+    Ok(common)
+}
+
+/// Returns the cause that is in a part itself, or adds the operands that are wrong.
+fn cause_of_part<'a, R: Lookup>(
+    alloc: Global,
+    part: &'a Expr,
+    row: &R,
+    sense: Sense,
+    rest: &mut Vec<Wrong<'a>>,
+) -> Result<Option<Cause>, AllocError> {
+    if let Some(term) = operand(alloc, part, row)? {
+        return Ok(Some(truth_cause(alloc, &term)?));
+    }
+    match part {
+        Expr::Variable(variable) => Ok(Some(Cause::Unbound(*variable))),
+        Expr::Or { .. } => {
+            add_sides(alloc, part, true, row, sense, rest)?;
+            Ok(None)
+        }
+        Expr::And { .. } => {
+            add_sides(alloc, part, false, row, sense, rest)?;
+            Ok(None)
+        }
+        Expr::Not(inner) => {
+            rest.push((inner, opposite(sense)))?;
+            Ok(None)
+        }
+        Expr::Compare {
+            operator,
+            left,
+            right,
+        } => {
+            let Some((one, other)) = operands(alloc, left, right, row, rest)? else {
+                return Ok(None);
+            };
+            judged(alloc, *operator, &one, &other, sense)
+        }
+        Expr::In { item, list } => cause_of_member(alloc, item, list, row, sense, rest),
+        Expr::Call { argument, .. } => cause_of_call(alloc, argument, row, rest),
+        Expr::SameTerm { left, right } => {
+            operands(alloc, left, right, row, rest)?;
+            Ok(None)
+        }
+        Expr::Constant(_) | Expr::Bound(_) => Ok(Some(Cause::Call)),
+    }
 }
 
 /// Returns the cause of a comparison's error, or None if the writer expects the row to be left out.
@@ -125,32 +210,23 @@ fn operand<R: Lookup>(alloc: Global, part: &Expr, row: &R) -> Result<Option<Term
     }
 }
 
-/// Takes one step down from a part that is an error, or whose value has no effective boolean value.
-fn next_step<'a, R: Lookup>(
+/// Returns the values of two operands, or adds the first one that is an error.
+fn operands<'a, R: Lookup>(
     alloc: Global,
-    part: &'a Expr,
+    left: &'a Expr,
+    right: &'a Expr,
     row: &R,
-    sense: Sense,
-) -> Result<Step<'a>, AllocError> {
-    if let Some(term) = operand(alloc, part, row)? {
-        return Ok(Step::Found(truth_cause(alloc, &term)?));
-    }
-    match part {
-        Expr::Variable(variable) => Ok(Step::Found(Cause::Unbound(*variable))),
-        Expr::Or { left, right } | Expr::And { left, right } => {
-            step_of_logic(alloc, left, right, row, sense)
-        }
-        Expr::Not(inner) => Ok(Step::Into(inner, opposite(sense))),
-        Expr::Compare {
-            operator,
-            left,
-            right,
-        } => step_of_comparison(alloc, *operator, left, right, row),
-        Expr::In { item, list } => step_of_member(alloc, item, list, row),
-        Expr::Call { argument, .. } => step_of_call(alloc, argument, row),
-        Expr::SameTerm { left, right } => step_of_pair(alloc, left, right, row),
-        Expr::Constant(_) | Expr::Bound(_) => Ok(Step::Found(Cause::Call)),
-    }
+    rest: &mut Vec<Wrong<'a>>,
+) -> Result<Option<(Term, Term)>, AllocError> {
+    let Some(one) = operand(alloc, left, row)? else {
+        rest.push((left, Sense::Unknown))?;
+        return Ok(None);
+    };
+    let Some(other) = operand(alloc, right, row)? else {
+        rest.push((right, Sense::Unknown))?;
+        return Ok(None);
+    };
+    Ok(Some((one, other)))
 }
 
 fn opposite(sense: Sense) -> Sense {
@@ -161,77 +237,87 @@ fn opposite(sense: Sense) -> Sense {
     }
 }
 
-/// Goes into the side of `||` or `&&` that is an error, the right one first: a long chain is on the
-/// left.
-fn step_of_logic<'a, R: Lookup>(
+/// Returns the two sides of `||`, or of `&&`.
+fn sides<'a>(part: &'a Expr, is_or: bool) -> Option<(&'a Expr, &'a Expr)> {
+    match part {
+        Expr::Or { left, right } if is_or => Some((left, right)),
+        Expr::And { left, right } if !is_or => Some((left, right)),
+        _ => None,
+    }
+}
+
+/// Adds the operands of a chain of `||`, or of `&&`, that are errors, the last one first. Each operand
+/// is evaluated once, however long the chain is.
+fn add_sides<'a, R: Lookup>(
     alloc: Global,
-    left: &'a Expr,
-    right: &'a Expr,
+    chain: &'a Expr,
+    is_or: bool,
     row: &R,
     sense: Sense,
-) -> Result<Step<'a>, AllocError> {
-    match truth_value(alloc, right, row)? {
-        None => Ok(Step::Into(right, sense)),
-        Some(_) => Ok(Step::Into(left, sense)),
+    rest: &mut Vec<Wrong<'a>>,
+) -> Result<(), AllocError> {
+    let mut part = chain;
+    for _ in 0..u64::MAX {
+        let Some((left, right)) = sides(part, is_or) else {
+            break;
+        };
+        add_error(alloc, right, row, sense, rest)?;
+        part = left;
     }
+    add_error(alloc, part, row, sense, rest)
 }
 
-fn step_of_comparison<'a, R: Lookup>(
+/// Adds an operand of `||` or `&&` if it is an error.
+fn add_error<'a, R: Lookup>(
     alloc: Global,
-    operator: Comparison,
-    left: &'a Expr,
-    right: &'a Expr,
+    part: &'a Expr,
     row: &R,
-) -> Result<Step<'a>, AllocError> {
-    let Some(one) = operand(alloc, left, row)? else {
-        return Ok(Step::Into(left, Sense::Unknown));
-    };
-    let Some(other) = operand(alloc, right, row)? else {
-        return Ok(Step::Into(right, Sense::Unknown));
-    };
-    Ok(Step::Compared(operator, one, other))
-}
-
-fn step_of_pair<'a, R: Lookup>(
-    alloc: Global,
-    left: &'a Expr,
-    right: &'a Expr,
-    row: &R,
-) -> Result<Step<'a>, AllocError> {
-    match operand(alloc, left, row)? {
-        None => Ok(Step::Into(left, Sense::Unknown)),
-        Some(_) => Ok(Step::Into(right, Sense::Unknown)),
+    sense: Sense,
+    rest: &mut Vec<Wrong<'a>>,
+) -> Result<(), AllocError> {
+    if truth_value(alloc, part, row)?.is_none() {
+        rest.push((part, sense))?;
     }
+    Ok(())
 }
 
-fn step_of_call<'a, R: Lookup>(
+fn cause_of_call<'a, R: Lookup>(
     alloc: Global,
     argument: &'a Expr,
     row: &R,
-) -> Result<Step<'a>, AllocError> {
-    match operand(alloc, argument, row)? {
-        None => Ok(Step::Into(argument, Sense::Unknown)),
-        Some(_) => Ok(Step::Found(Cause::Call)),
+    rest: &mut Vec<Wrong<'a>>,
+) -> Result<Option<Cause>, AllocError> {
+    if operand(alloc, argument, row)?.is_some() {
+        return Ok(Some(Cause::Call));
     }
+    rest.push((argument, Sense::Unknown))?;
+    Ok(None)
 }
 
-/// Goes to the first member of IN whose comparison with the item is an error.
-fn step_of_member<'a, R: Lookup>(
+/// Returns the cause of the first member of IN whose comparison with the item has one, or adds the item
+/// or the members that are errors.
+fn cause_of_member<'a, R: Lookup>(
     alloc: Global,
     item: &'a Expr,
     list: &'a [Expr],
     row: &R,
-) -> Result<Step<'a>, AllocError> {
+    sense: Sense,
+    rest: &mut Vec<Wrong<'a>>,
+) -> Result<Option<Cause>, AllocError> {
     let Some(one) = operand(alloc, item, row)? else {
-        return Ok(Step::Into(item, Sense::Unknown));
+        rest.push((item, Sense::Unknown))?;
+        return Ok(None);
     };
     for member in list {
         let Some(other) = operand(alloc, member, row)? else {
-            return Ok(Step::Into(member, Sense::Unknown));
+            rest.push((member, Sense::Unknown))?;
+            continue;
         };
         if compare(Comparison::Equal, &one, &other).is_none() {
-            return Ok(Step::Compared(Comparison::Equal, one, other));
+            if let Some(cause) = judged(alloc, Comparison::Equal, &one, &other, sense)? {
+                return Ok(Some(cause));
+            }
         }
     }
-    Ok(Step::Found(Cause::Call))
+    Ok(None)
 }

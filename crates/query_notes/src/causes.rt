@@ -26,12 +26,19 @@ fn push_consequence(
     alloc: Global,
     text: &Text<'_>,
     site: &Site,
-    rows: u64,
+    tally: &Tally,
+    is_mixed: bool,
 ) -> Result<(), AllocError> {
+    let rows = tally.rows;
     let is_one = rows == 1;
     let noun = if is_one { "row" } else { "rows" };
     write!(out, "{rows} {noun} ")?;
     match site.kind {
+        SiteKind::Filter | SiteKind::Removal if is_mixed => out.push_str(if is_one {
+            "is left out, or removes nothing in MINUS"
+        } else {
+            "are left out, or remove nothing in MINUS"
+        }),
         SiteKind::Filter => out.push_str(if is_one {
             "is left out"
         } else {
@@ -65,6 +72,19 @@ fn push_datatype(out: &mut String, iri: &str) -> Result<(), AllocError> {
     }
 }
 
+/// Appends the variable with this number in the plan.
+fn push_variable(
+    out: &mut String,
+    alloc: Global,
+    text: &Text<'_>,
+    number: usize,
+) -> Result<(), AllocError> {
+    match text.variable(alloc, number)? {
+        Some(at) => text.push_token(out, alloc, at),
+        None => Ok(()),
+    }
+}
+
 /// Appends the cause, as a reason.
 fn push_cause(
     out: &mut String,
@@ -74,10 +94,12 @@ fn push_cause(
 ) -> Result<(), AllocError> {
     match cause {
         Cause::Unbound(number) => {
-            if let Some(at) = text.variable(alloc, *number)? {
-                text.push_token(out, alloc, at)?;
-            }
+            push_variable(out, alloc, text, *number)?;
             out.push_str(" is unbound")
+        }
+        Cause::SomeUnbound(number) => {
+            push_variable(out, alloc, text, *number)?;
+            out.push_str(" or another variable is unbound")
         }
         Cause::Call => out.push_str(
             "LANG and DATATYPE have a value only for literals, and STR has none for blank nodes",
@@ -142,23 +164,32 @@ fn keyword_of(site: &Site) -> &'static str {
     }
 }
 
-/// Appends the note for a tally.
+/// Returns whether some of a tally's expressions are FILTERs in MINUS, and others are not.
+fn is_mixed(outline: &Outline, tally: &Tally, first: &Site) -> bool {
+    tally.expressions.iter().any(|number| match outline.sites.get(*number) {
+        Some(site) => site.kind != first.kind,
+        None => false,
+    })
+}
+
+/// Returns the note for a tally, or an empty text if its place is not known.
 ///
 /// # Errors
 /// `AllocError` if an allocation fails.
-pub fn push_tally(
-    out: &mut String,
+pub fn note_of(
     alloc: Global,
     text: &Text<'_>,
     outline: &Outline,
     tally: &Tally,
-) -> Result<(), AllocError> {
-    if let Some(site) = push_places(out, text, outline, tally)? {
+) -> Result<String, AllocError> {
+    let mut out = String::new(alloc);
+    if let Some(site) = push_places(&mut out, text, outline, tally)? {
         out.push_str(": ")?;
-        push_consequence(out, alloc, text, site, tally.rows)?;
+        let is_mixed = is_mixed(outline, tally, site);
+        push_consequence(&mut out, alloc, text, site, tally, is_mixed)?;
         out.push_str(", since ")?;
-        push_cause(out, alloc, text, &tally.cause)?;
+        push_cause(&mut out, alloc, text, &tally.cause)?;
         out.push_str("\n")?;
     }
-    Ok(())
+    Ok(out)
 }

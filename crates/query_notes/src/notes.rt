@@ -1,9 +1,9 @@
 //! All notes on a query that was evaluated.
-use crate::causes::{push_tally, speaks};
+use crate::causes::{note_of, speaks};
 use crate::features::{push_graphs, push_tags, push_variables};
 use crate::outline::{Outline, outline_of_tokens};
 use crate::texts::Text;
-use expression_errors::{ErrorCounts, Tally};
+use expression_errors::ErrorCounts;
 use sparql_lexer::{characters_of, scan_text};
 use std::alloc::{AllocError, Global};
 
@@ -39,7 +39,7 @@ pub fn notes_on(
     Ok(out)
 }
 
-/// Appends the notes on rows, most rows first.
+/// Appends the notes on rows, most rows first, those with equal numbers in the order of the text.
 fn push_rows(
     out: &mut String,
     alloc: Global,
@@ -48,24 +48,17 @@ fn push_rows(
     counts: &ErrorCounts,
 ) -> Result<(), AllocError> {
     let tallies = counts.tallies(alloc)?;
-    let order = by_rows(alloc, &tallies)?;
-    for (_, place) in order.iter().take(MOST_NOTES) {
-        if let Some(tally) = tallies.get(*place) {
-            push_tally(out, alloc, text, outline, tally)?;
+    let mut notes = Vec::new(alloc);
+    for tally in &tallies {
+        if speaks(tally) {
+            let note = note_of(alloc, text, outline, tally)?;
+            let first = tally.expressions.first().copied();
+            notes.push((u64::MAX - tally.rows, first, tally.filter, note))?;
         }
+    }
+    notes.sort()?;
+    for (_, _, _, note) in notes.iter().take(MOST_NOTES) {
+        out.push_str(note.as_str())?;
     }
     Ok(())
-}
-
-/// Returns the places of the tallies that are worth a note, those with most rows first. Each is
-/// after a number that gets smaller with the rows.
-fn by_rows(alloc: Global, tallies: &[Tally]) -> Result<Vec<(u64, usize)>, AllocError> {
-    let mut order = Vec::new(alloc);
-    for i in 0..tallies.len() {
-        if speaks(&tallies[i]) {
-            order.push((u64::MAX - tallies[i].rows, i))?;
-        }
-    }
-    order.sort()?;
-    Ok(order)
 }
