@@ -13,9 +13,11 @@ import functools
 import os
 import re
 import resource
+import select
 import subprocess
 import sys
 import tempfile
+import termios
 import time
 
 import terminal
@@ -96,7 +98,7 @@ BYTES = [
      "if the input is Latin-1, convert it: iconv -f LATIN1 -t UTF-8 FILE | spq check"),
     (b"\xef\xbb\xbf<a:s> <a:p> <a:o> .\n", "column 1", "a byte order mark (U+FEFF) at the beginning of a line",
      "\ufffd<a:s> <a:p> <a:o> .\n^", "leave the mark out: tail -c +4 FILE | spq check"),
-    (b"\xff\xfe<\0a\0:\0s\0>\0\n\0", "byte 1", "the input looks like UTF-16; N-Quads is UTF-8",
+    (b"\xff\xfe<\0a\0:\0s\0>\0\n", "byte 1", "the input looks like UTF-16; N-Quads is UTF-8",
      "\ufffd\ufffd<\u2400a\u2400:\u2400s\u2400>\u2400\n^", "convert it: iconv -f UTF-16 -t UTF-8 FILE | spq check"),
     (b"\x1f\x8b\x08\0\n", "byte 1", "the input looks like gzip", "\u241f\ufffd\u2408\u2400\n^", "unpack it: zcat FILE | spq check"),
     (b"\xfd7zXZ\0\n", "byte 1", "the input looks like xz", "\ufffd7zXZ\u2400\n^", "unpack it: xzcat FILE | spq check"),
@@ -196,7 +198,8 @@ def lines():
         yield failed(
             f"a malformed line in blocks of {piece}", ["terms", "--piece", piece], STATEMENT * 500 + b"\r\n\r. y\nz", 1,
             "error: line 503",
-            "spq: line 503, column 1: expected a subject (an IRI or a blank node), found '.'\n. y\n^\n")
+            f"spq: line 503, column 1: {NO_SUBJECT}'.'\n. y\n^\nspq: line 504, column 1: {NO_SUBJECT}'z'\nz\n^\n"
+            "spq: 2 malformed lines\n  2  expected a subject (an IRI or a blank node) (first: line 503, column 1)\n")
     yield failed(
         "a document that is cut off", ["check"], STATEMENT + b"<http://e/a> <http://e/p> <http://e/b", 1, "error: line 2",
         "spq: line 2, column 38: the IRI is not closed: expected '>', found the end of the line\n"
@@ -247,6 +250,48 @@ def reasons_of_queries():
         "query, line 1, column 110", "brackets are nested over 100 deep at '{'", "\u2026" + "{" * 40 + "}" * 38 + "\u2026\n" + " " * 40 + "^", None))
 
 
+SPACE = "a space is not allowed in an IRI"
+OBJECT = "a predicate must be an IRI, found "
+
+
+def spaced(number):
+    """A malformed line with this number in it, and its message without the hint."""
+    line = f"<http://e/a {number}> <a:p> <a:o> ."
+    return line, lambda at: message(f"line {at}, column 12", SPACE, under(line, 12), None)
+
+
+def several_lines():
+    """Documents with several malformed lines: each message of the first twenty, a hint once for each reason, and the summary."""
+    def listed(count):
+        """A document whose odd lines are malformed, this many of them, and the messages of the first twenty."""
+        found = [spaced(number) for number in range(count)]
+        document = "".join(line + "\n" + STATEMENT.decode() for line, _ in found)
+        said = [about(2 * at + 1) + ("hint: write a space in an IRI as %20\n" if at == 0 else "") for at, (_, about) in enumerate(found[:20])]
+        return document.encode(), "".join(said)
+    for count in (2, 20, 21, 1000):
+        document, said = listed(count)
+        shown = f"{count:,}"
+        for words in (["check"], ["terms", "--workers", "1"], ["select", "--piece", "1", "--query", "SELECT * { ?s ?p ?o }"]):
+            yield failed(f"{count} malformed lines, {words[0]}", words, document, 1, "error: line 1",
+                         said + f"spq: {shown} malformed lines\n  {shown}  {SPACE} (first: line 1, column 12)\n")
+    # Three reasons, of which the most frequent one comes last. What was found does not count.
+    literal = '"x" <a:p> <a:o> .'
+    other = [("<a:s> <a:p> <a:o>", 18, NO_DOT), ('<a:s> "x" <a:o> .', 7, OBJECT + "a literal"), ("<a:s> _:b <a:o> .", 7, OBJECT + "a blank node")]
+    said = "".join(message(f"line {at}, column {column}", reason, under(line, column), None) for at, (line, column, reason) in enumerate(other, 2))
+    document = STATEMENT.decode() + "".join(line + "\n" for line, _, _ in other) + STATEMENT.decode() * 1000 + (literal + "\n") * 1001
+    said += "".join(message(f"line {at}, column 1", "a subject must be an IRI or a blank node, found a literal", under(literal, 1), None) for at in range(1005, 1022))
+    yield failed("several reasons", ["check", "--piece", "100"], document.encode(), 1, "error: line 2", said
+                 + "spq: 1,004 malformed lines\n"
+                 "  1,001  a subject must be an IRI or a blank node (first: line 1005, column 1)\n"
+                 "      2  a predicate must be an IRI (first: line 3, column 7)\n"
+                 "      1  missing '.' at the end of the statement (first: line 2, column 18)\n")
+    # A byte that is not UTF-8 counts bytes, and its hint depends on the lines before.
+    yield failed("several lines that are not UTF-8", ["check"], b"<a:s> <a:p> \"\xe9\" .\n" * 2, 1, "error: line 1",
+                 message("line 1, byte 14", "invalid UTF-8: byte 0xE9", '<a:s> <a:p> "\ufffd" .\n             ^', LATIN1)
+                 + message("line 2, byte 14", "invalid UTF-8: byte 0xE9", '<a:s> <a:p> "\ufffd" .\n             ^', None)
+                 + "spq: 2 malformed lines\n  2  invalid UTF-8 (first: line 1, byte 14)\n")
+
+
 def queries():
     """Rejected queries."""
     yield query("syntax", "SELECT * { ?s }", "error: query syntax",
@@ -295,10 +340,13 @@ def memory():
     many = b"".join(b"<http://e/%d> <http://e/p> \"%d\" .\n" % (n, n) for n in range(200000))
     yield failed("memory while a document is read", ["check", "--workers", "1"], many, 4, line,
                  "spq: out of memory while reading the document\n" + cost, memory=20 << 20)
-    # Threads have stacks, which count.
+    # Threads have stacks, which count. The first thread writes to standard error: without it, messages come at the end.
+    yield failed("no thread for messages", ["check", "--workers", "1"], b".\n" + STATEMENT + b"x\n", 1, "error: line 1",
+                 message("line 1, column 1", NO_SUBJECT + "'.'", ".\n^", None) + message("line 3, column 1", NO_SUBJECT + "'x'", "x\n^", None)
+                 + "spq: 2 malformed lines\n  2  expected a subject (an IRI or a blank node) (first: line 1, column 1)\n", start=1)
     yield failed("a worker", ["check", "--workers", "64", "--piece", "1"], STATEMENT * 200, 4, "error: worker",
-                 "spq: a thread could not be started: 64 workers were asked for\nhint: use --workers 1\n", start=1)
-    yield Case("the thread of a query", ["select", "--workers", "1", "--query", "SELECT * {}"], STATEMENT, 4, "error: worker\n", NO_QUERY_THREAD, start=1)
+                 "spq: a thread could not be started: 64 workers were asked for\nhint: use --workers 1\n", start=2)
+    yield Case("the thread of a query", ["select", "--workers", "1", "--query", "SELECT * {}"], STATEMENT, 4, "error: worker\n", NO_QUERY_THREAD, start=2)
     yield failed("a rejected query where no thread starts", ["select", "--query", "SELECT"], STATEMENT, 2, "error: query syntax", None, start=1)
 
 
@@ -319,6 +367,10 @@ def notes():
         yield warned(f"a number and xsd:{kind}", compared, literal("1", kind), about("1 row is", kinds))
     yield warned("two causes, most rows first", compared, literal("1", "double") + literal("1", "date") + literal("2", "date"),
                  about("2 rows are", kinds) + about("1 row is", floats % "double"))
+    twelve = "SELECT ?o { " + " UNION ".join("{ ?s ?p ?o FILTER(?o < %d) }" % n for n in range(12)) + " }"
+    places = [found.start() + 1 for found in re.finditer("FILTER", twelve)]
+    yield warned("at most ten notes on rows", twelve, literal("1", "double"), "".join(
+        f"spq: note: FILTER at line 1, column {place}: 1 row is left out, since {floats % 'double'}\n" for place in places[:10]))
     yield warned("an equality of other kinds", "SELECT ?o { ?s ?p ?o FILTER(?o IN (1)) }", literal("2", "date"), "")
     yield warned("an integer", compared, literal("1", "integer"), "")
     yield warned("a variable that is nowhere", "SELECT ?o ?x { ?s ?p ?o }", STATEMENT,
@@ -345,6 +397,25 @@ def silent():
     yield Case("a query", ["select", "--query", "SELECT ?o { ?s ?p ?o }"], STATEMENT * 5, 0, None, "")
 
 
+ROWS = '{"head":{"vars":["o"]},"results":{"bindings":[{"o":{"type":"uri","value":"http://e/b"}}]}}\n'
+MALFORMED = b".\n" * 3
+SELECT = ["select", "--query", "SELECT ?o { ?s ?p ?o }"]
+
+
+def errors():
+    """Standard error that is closed, full or read by nobody, and standard output in trouble with a message due: output and status are
+    right."""
+    for name, words, given, status, printed in (
+        ("a query", SELECT, STATEMENT, 0, ROWS), ("a note", ["select", "--query", "SELECT ?o ?x { ?s ?p ?o }"], STATEMENT, 0, None),
+        ("malformed lines", ["check"], MALFORMED, 1, "error: line 1\n"), ("a rejected query", ["select", "--query", "SELECT"], b"", 2, "error: query syntax\n"),
+        ("no command", [], b"", 3, "error: command line\n"), ("no UTF-8", [b"\xff"], b"", 3, "error: command line\n")):
+        for kind in ("/dev/full", "closed", "none", "unread"):
+            yield Case(f"standard error is {kind}, {name}", words, given, status, printed, "", error=kind)
+        if status:
+            for kind in ("/dev/full", "closed", "none"):
+                yield Case(f"standard output is {kind}, {name}", words, given, status, "", None, output=kind, has=f"{printed}")
+
+
 class Runner:
     def __init__(self, program, room):
         self.program, self.room = os.path.abspath(program), room
@@ -360,30 +431,37 @@ class Runner:
         return os.open(path, os.O_RDONLY)
 
     def run(self, case):
-        how, read = dict(case.how), None
+        how = dict(case.how)
         words = dict(os.environ)
         if "start" in how:
             words.update(LD_PRELOAD=self.refusals, REFUSE_START=str(how["start"]))
         if "growth" in how:
             words.update(LD_PRELOAD=self.refusals, REFUSE_GROWTH=str(how["growth"]))
-        output = subprocess.PIPE
-        if how.get("output") == "closed":
-            read, output = os.pipe()
-            os.close(read)
-        elif how.get("output") == "none":
-            output = subprocess.DEVNULL
-        elif "output" in how:
-            output = os.open(how["output"], os.O_WRONLY)
+        output, error = self.device(how.get("output")), self.device(how.get("error"))
 
         def before():
             if "memory" in how:
                 resource.setrlimit(resource.RLIMIT_AS, (how["memory"], how["memory"]))
-            if how.get("output") == "none":
-                os.close(1)
-        ran = subprocess.run([self.program, *case.words], stdin=self.source(case), stdout=output, stderr=subprocess.PIPE,
-                             env=words, preexec_fn=before, timeout=LIMIT)
-        self.has_failed = "LD_PRELOAD" in words and b"refused\n" in ran.stderr
-        return ran.returncode, ran.stdout or b"", ran.stderr.replace(b"refused\n", b"", 1) if self.has_failed else ran.stderr
+            for name, number in (("output", 1), ("error", 2)):
+                if how.get(name) == "none":
+                    os.close(number)
+        ran = subprocess.run([self.program, *case.words], stdin=self.source(case), stdout=output, stderr=error, env=words, preexec_fn=before, timeout=LIMIT)
+        said = ran.stderr or b""
+        self.has_failed = "LD_PRELOAD" in words and b"refused\n" in said
+        return ran.returncode, ran.stdout or b"", said.replace(b"refused\n", b"", 1) if self.has_failed else said
+
+    def device(self, kind):
+        """A device to write to: a pipe that is read, or one that is `closed` or `unread`, no device (`none`), or a file."""
+        if kind is None:
+            return subprocess.PIPE
+        if kind == "none":
+            return subprocess.DEVNULL
+        if kind not in ("closed", "unread"):
+            return os.open(kind, os.O_WRONLY)
+        read, written = os.pipe()
+        if kind == "closed":
+            os.close(read)
+        return written
 
     def wrong_of_allocations(self, case):
         """What is wrong if the allocations of a run fail, one by one, until none is left to fail. (A run ends with status 0
@@ -423,14 +501,23 @@ def begins_with(text):
     return re.escape(text) + ".*"
 
 
+DOT = "spq: line 1, column 1: expected a subject (an IRI or a blank node), found '.'\n.\n^\n"
+
+
+def in_any_order(one, other):
+    """The pattern of two texts, of which the one or the other is first. (A machine that is busy may be late with a message.)"""
+    one, other = re.escape(one), re.escape(other)
+    return f"({one}{other}|{other}{one})"
+
+
 def at_the_keyboard(program):
     """Runs with all three devices at a terminal: the name, the words, what is typed, the status, and the pattern of
     what is shown."""
     notice = "spq: N-Quads is read from the terminal; end it with Ctrl-D\n"
     cases = [
         ("a check", ["check"], STATEMENT + b"\x04", 0, begins_with(notice + "ok 1 quads 3 terms 0 graphs\n")),
-        ("a malformed line", ["check"], b".\n\x04", 1, begins_with(
-            notice + "error: line 1\nspq: line 1, column 1: expected a subject (an IRI or a blank node), found '.'\n.\n^\n")),
+        ("a malformed line", ["check"], b".\n\x04", 1, re.escape(notice) + in_any_order(
+            "error: line 1\n", DOT)),
         ("a rejected query", ["select", "--query", "SELECT"], b"", 2, begins_with("error: query syntax\nspq: query, line 1, column 7: ")),
     ]
     for name, words, typed, status, pattern in cases:
@@ -448,6 +535,20 @@ def slow(document):
     return give
 
 
+def before_the_end(source, screen):
+    """Gives a document whose first line is malformed, and its end once that is shown. If it is not, a second line is malformed."""
+    source.write(b".\n" + STATEMENT * 500_000)
+    source.flush()
+    screen.wait_for(b"spq: line 1, column 1", LIMIT)
+    if b"spq: line 1, column 1" not in screen.shown:
+        source.write(b".\n")
+
+
+def one_dot(source, _screen):
+    """Gives a malformed line."""
+    source.write(b".\n")
+
+
 def at_once(source, _screen):
     """Gives a document and its end."""
     source.write(STATEMENT)
@@ -462,9 +563,15 @@ def slow_unseen(source, _screen):
 
 
 def progress(stages):
-    """The pattern of lines of progress that show these stages, and are cleared."""
-    lines = (f"({re.escape(terminal.CLEAR)}spq: 0 MB read, [0-9]+ statements a second, {stage})+" for stage in stages)
-    return "".join(lines) + re.escape(terminal.CLEAR)
+    """The pattern of lines of progress that show these stages, and are cleared. A stage after the first may be too short."""
+    def lines(stage, count):
+        return f"({re.escape(terminal.CLEAR)}spq: 0 MB read, [0-9]+ statements a second, {stage}){count}"
+    return lines(stages[0], "+") + "".join(lines(stage, "*") for stage in stages[1:]) + re.escape(terminal.CLEAR)
+
+
+def progress_or_nothing():
+    """The pattern of lines of progress that are cleared, or of nothing."""
+    return f"(({re.escape(terminal.CLEAR)}spq: [^\n\r]*, [a-z]+)*{re.escape(terminal.CLEAR)})?"
 
 
 def with_progress(program):
@@ -481,11 +588,17 @@ def with_progress(program):
         ("a query that is shown at the terminal", select, slow(STATEMENT), both, 0, four + re.escape(rows), {}),
         ("a check", ["check"], slow(STATEMENT), error, 0, three, {"output": counts}),
         ("a check that is shown at the terminal", ["check"], slow(STATEMENT), both, 0, three + re.escape(counts), {}),
-        ("a malformed line", ["check"], slow(STATEMENT + b".\n"), both, 1,
-         progress(["reading", "indexing"]) + begins_with("error: line 2\nspq: line 2, column 1: "), {}),
+        ("a malformed line", ["check"], slow(STATEMENT + b".\n"), both, 1, progress(["reading", "indexing"]) + in_any_order(
+            "error: line 2\n", "spq: line 2, column 1: expected a subject (an IRI or a blank node), found '.'\n.\n^\n"), {}),
+        ("a malformed line before the end of the document", ["check"], before_the_end, error, 1, progress_or_nothing() + re.escape("error: line 1\n" + DOT) + progress_or_nothing(),
+         {"output": "error: line 1\n"}),
         ("a note", ["select", "--query", "SELECT ?o ?x { ?s ?p ?o }"], slow(STATEMENT), error, 0,
          four + re.escape("spq: note: ?x at line 1, column 11 is selected and occurs nowhere in the pattern\n"), {}),
         ("a rejected query", ["select", "--query", "SELECT"], at_once, both, 2, begins_with("error: query syntax\nspq: query, "), {}),
+        ("standard error alone", ["check"], one_dot, error, 1, progress_or_nothing() + re.escape("error: line 1\n" + DOT) + progress_or_nothing(), {"output": "error: line 1\n"}),
+        ("standard output alone", ["check"], one_dot, ("output",), 1, re.escape("error: line 1\n"), {"error": DOT}),
+        ("standard error alone, a rejected query", ["select", "--query", "SELECT"], at_once, error, 2, begins_with("error: query syntax\nspq: query, "),
+         {"output": "error: query syntax\n"}),
         ("standard error is no terminal", select, slow_unseen, ("output",), 0, re.escape(rows), {"error": ""}),
     ]
     for name, words, give, at, status, pattern, pipes in cases:
@@ -517,14 +630,83 @@ def wrong_at_a_terminal(run, status, pattern, pipes):
     return ""
 
 
+def output_of(process, output):
+    """Reads the output of a run until this has come, or all of it."""
+    came = b""
+    while len(came) < len(output) and select.select([process.stdout], [], [], LIMIT)[0]:
+        part = os.read(process.stdout.fileno(), 65536)
+        if not part:
+            return came
+        came += part
+    return came
+
+
+def wrong_when_stopped(program, words, document, output, status, pattern):
+    """What is wrong of a run if standard error is a terminal that is stopped (Ctrl-S) until the output has come, or nothing."""
+    screen = terminal.Terminal()
+    termios.tcflow(screen.follower, termios.TCOOFF)
+    process = subprocess.Popen([program, *words], stdin=subprocess.PIPE, stdout=subprocess.PIPE, stderr=screen.follower)
+    process.stdin.write(document)
+    process.stdin.flush()
+    # Time for a line of progress, which the terminal does not take.
+    time.sleep(1.5)
+    process.stdin.close()
+    came = output_of(process, output)
+    is_right = came == output and not select.select([screen.leader], [], [], 0)[0]
+    termios.tcflow(screen.follower, termios.TCOON)
+    os.close(screen.follower)
+    screen.read_all(LIMIT)
+    came += process.stdout.read()
+    ended, shown = process.wait(timeout=LIMIT), screen.shown.decode()
+    os.close(screen.leader)
+    if not is_right or (ended, came) != (status, output):
+        return f"status {ended}, standard output {came!r}, complete while the terminal was stopped: {is_right}"
+    return "" if re.fullmatch(pattern, shown, re.S) else f"shown\n{shown!r}\nnot\n{pattern!r}"
+
+
+def wrong_when_full(program, words, document, output, status):
+    """What is wrong of a run if standard error is a full pipe that nobody reads, and that is closed when the output has come."""
+    read, written = os.pipe()
+    os.set_blocking(written, False)
+    try:
+        while os.write(written, b"x" * 512):
+            pass
+    except BlockingIOError:
+        os.set_blocking(written, True)
+    process = subprocess.Popen([program, *words], stdin=subprocess.PIPE, stdout=subprocess.PIPE, stderr=written)
+    os.close(written)
+    process.stdin.write(document)
+    process.stdin.close()
+    came = output_of(process, output)
+    is_right = came == output
+    os.close(read)
+    came += process.stdout.read()
+    ended = process.wait(timeout=LIMIT)
+    if not is_right or (ended, came) != (status, output):
+        return f"status {ended}, standard output {came!r}, complete while the pipe was full: {is_right}"
+    return ""
+
+
+def stopped(program):
+    """Runs whose standard error takes nothing: the name, and a function that returns what is wrong, or nothing."""
+    cases = (("a query", SELECT, STATEMENT, ROWS.encode(), 0, progress(["reading", "indexing", "evaluating", "printing"])),
+             ("terms", ["terms"], STATEMENT, b"<http://e/a>\n<http://e/p>\n<http://e/b>\n", 0, progress(["reading", "indexing", "printing"])),
+             ("a malformed line", ["check"], b".\n", b"error: line 1\n", 1, progress(["reading", "indexing"]) + re.escape("error: line 1\n" + DOT)),
+             ("a rejected query", ["select", "--query", "SELECT"], b"", b"error: query syntax\n", 2, begins_with("error: query syntax\nspq: query, ")))
+    for name, *case in cases:
+        yield f"a stopped terminal, {name}", functools.partial(wrong_when_stopped, program, *case)
+        yield f"a full pipe, {name}", functools.partial(wrong_when_full, program, *case[:4])
+
+
 def cases(runner):
     """The name of each case, and a function that returns what is wrong of it, or nothing."""
-    for kind in (lines, reasons_of_lines, queries, reasons_of_queries, command_lines, devices, memory, notes, silent):
+    for kind in (lines, several_lines, reasons_of_lines, queries, reasons_of_queries, command_lines, devices, errors, memory, notes, silent):
         for case in kind():
             yield case.name, functools.partial(runner.wrong, case)
     for kind in (at_the_keyboard, with_progress):
         for name, *case in kind(runner.program):
             yield name, functools.partial(wrong_at_a_terminal, *case)
+    yield from stopped(runner.program)
 
 
 def tried(found, only):

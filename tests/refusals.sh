@@ -35,7 +35,7 @@ refuse_each() {
             return 1
         fi
         if ! grep -qx refused "$room/told"; then
-            if grep -qE '(memory|a worker) failed' "$room/said"; then
+            if grep -qE '(memory|a worker|the list) failed' "$room/said"; then
                 printf '%s: a failure is reported, but no call failed\n' "$2"
                 return 1
             fi
@@ -50,7 +50,7 @@ refuse_each() {
         if [ "$3" = GROWTH ] && grep -qx 'a worker failed' "$room/said"; then
             inside=$((inside + 1))
         fi
-        if [ "$3" = START ] && ! grep -qx 'a worker failed' "$room/said"; then
+        if [ "$3" = START ] && ! grep -qxE '(a worker|the list) failed' "$room/said"; then
             printf '%s: the failed start %s is not reported\n' "$2" "$n"
             return 1
         fi

@@ -1,8 +1,9 @@
 //! What a terminal shows of a run.
 
-use spq_core::{Progress, Stage};
+use malformed_lines::MalformedLine;
+use spq_core::{LoadListener, Progress, Stage};
 use spq_report::{Console, Meter, Terminals};
-use std::alloc::Global;
+use std::alloc::{AllocError, Global};
 use std::cell::Cell;
 use std::io;
 use std::io::Write;
@@ -27,41 +28,67 @@ impl Clock for Steps {
     }
 }
 
-/// Reads nine lines.
-fn read<R: Wait, C: Clock, W: Write>(console: &Console<R, C, W>) {
+/// Returns the malformed line that is found.
+fn malformed(alloc: Global) -> Result<MalformedLine, AllocError> {
+    Ok(MalformedLine {
+        number: 2,
+        bytes: Vec::from_slice(alloc, b".")?,
+        is_whole: true,
+        is_cut: false,
+    })
+}
+
+/// Reads nine lines, of which one is malformed.
+fn read<R: Wait + Clock, C: Clock, W: Write>(
+    console: &Console<R, C, W>,
+    alloc: Global,
+) -> Result<(), AllocError> {
     console.begin(Stage::Reading);
     console.begins();
     console.gave(b"a\nb\nc\nd\ne\nf\n");
+    console.show();
+    console.show();
+    console.found(&malformed(alloc)?, false);
     console.show();
     console.begins();
     console.gave(b"g\nh\ni\n");
     console.begins();
     console.gave(b"");
+    console.show();
+    Ok(())
 }
 
 /// Evaluates and prints. Nothing is shown after the end.
-fn evaluate<R: Wait, C: Clock, W: Write, T: Wait + Clock>(console: &Console<R, C, W>, rt: &T) {
+fn evaluate<R: Wait + Clock, C: Clock, W: Write, T: Wait + Clock>(
+    console: &Console<R, C, W>,
+    rt: &T,
+) {
     console.begin(Stage::Joining);
+    console.show();
     console.begin(Stage::Printing);
-    console.writes();
     console.show();
     console.end();
-    console.show();
+    console.writes();
     console.watch(rt);
+    console.show();
 }
 
-/// Returns what is written for a run with these terminals. The clock advances when a stage begins and when a line may be
+/// Returns what is written for a run with these terminals. The clock advances when the document ends and when a line may be
 /// shown.
-fn shown<R: Wait + Clock>(rt: &R, alloc: Global, terminals: Terminals) -> Vec<u8> {
+fn shown<R: Wait + Clock>(
+    rt: &R,
+    alloc: Global,
+    terminals: Terminals,
+) -> Result<Vec<u8>, AllocError> {
     let clock = Steps {
         looks: Cell::new(0),
     };
     let mut out = Vec::new(alloc);
-    let console = Console::new(rt, &clock, &mut out, terminals);
-    read(&console);
+    let console = Console::new(rt, &clock, alloc, &mut out, terminals);
+    read(&console, alloc)?;
     evaluate(&console, rt);
     drop(console);
-    out
+    Ok(out)
 }
 
 /// Standard error is a terminal.
@@ -92,31 +119,34 @@ const ALL: Terminals = Terminals {
     error: true,
 };
 
-/// Which devices are terminals, and what is shown. The line of progress is cleared before the first output at the
-/// terminal. Nothing is shown if standard error is no terminal. If standard input is a terminal, it is read from the
-/// keyboard.
+/// Which devices are terminals, and what is shown. The message about the first malformed line replaces the line of progress,
+/// and has the line of standard output before it if that is not at a terminal. No progress is shown if standard error is
+/// no terminal. If standard input is a terminal, it is read from the keyboard.
 const SHOWN: &[(Terminals, &str)] = &[
     (
         ERROR,
-        "\r\x1b[Kspq: 0 MB read, 5 statements a second, reading\r\x1b[Kspq: 0 MB read, 5 statements a second, indexing\r\x1b[Kspq: 0 MB read, 5 statements a second, evaluating\r\x1b[Kspq: 0 MB read, 5 statements a second, printing\r\x1b[Kspq: 0 MB read, 5 statements a second, printing\r\x1b[K",
+        "\r\x1b[Kspq: 0 MB read, 5 statements a second, reading\r\x1b[Kerror: line 2\nspq: line 2, column 1: expected a subject (an IRI or a blank node), found '.'\n.\n^\n\r\x1b[Kspq: 0 MB read, 3 statements a second, indexing\r\x1b[Kspq: 0 MB read, 3 statements a second, evaluating\r\x1b[Kspq: 0 MB read, 3 statements a second, printing\r\x1b[K",
     ),
     (
         OUTPUT_AND_ERROR,
-        "\r\x1b[Kspq: 0 MB read, 5 statements a second, reading\r\x1b[Kspq: 0 MB read, 5 statements a second, indexing\r\x1b[Kspq: 0 MB read, 5 statements a second, evaluating\r\x1b[Kspq: 0 MB read, 5 statements a second, printing\r\x1b[K",
+        "\r\x1b[Kspq: 0 MB read, 5 statements a second, reading\r\x1b[Kspq: line 2, column 1: expected a subject (an IRI or a blank node), found '.'\n.\n^\n\r\x1b[Kspq: 0 MB read, 3 statements a second, indexing\r\x1b[Kspq: 0 MB read, 3 statements a second, evaluating\r\x1b[Kspq: 0 MB read, 3 statements a second, printing\r\x1b[K",
     ),
-    (OUTPUT, ""),
+    (
+        OUTPUT,
+        "spq: line 2, column 1: expected a subject (an IRI or a blank node), found '.'\n.\n^\n",
+    ),
     (
         ALL,
-        "spq: N-Quads is read from the terminal; end it with Ctrl-D\n",
+        "spq: N-Quads is read from the terminal; end it with Ctrl-D\nspq: line 2, column 1: expected a subject (an IRI or a blank node), found '.'\n.\n^\n",
     ),
 ];
 
 /// Returns whether each case of the table is shown.
 fn are_shown<R: Wait + Clock>(rt: &R, alloc: Global) -> bool {
     for case in SHOWN {
-        let shown = shown(rt, alloc, case.0);
-        if shown.as_slice() != case.1.as_bytes() {
-            return false;
+        match shown(rt, alloc, case.0) {
+            Ok(shown) if shown.as_slice() == case.1.as_bytes() => {}
+            _ => return false,
         }
     }
     true

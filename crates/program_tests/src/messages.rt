@@ -27,6 +27,7 @@ pub(crate) fn written<R: Threads + Wait + RandomSource + Sync>(
         read_error: ran.reader.error,
         write_error: ran.writer.error,
         is_repeated: false,
+        is_first_told: false,
     };
     let mut out: Vec<u8> = Vec::new(alloc);
     let _written = report(&mut out, alloc, &ran.done, &account);
@@ -57,10 +58,20 @@ spq: line 2, column 14: a predicate must be an IRI, found a literal
 <http://e/a> "x" <http://e/b> .
              ^
 
-spq|terms|--piece|1 -- <http://e/a> <http://e/p> <http://e/b> .‹0A›‹0A›.‹0A›x‹0A›
+spq|terms|--piece|1 -- <http://e/a> <http://e/p> <http://e/b> .‹0A›‹0A›.‹0A›<a:b c> <a:p> <a:o> .‹0A›<a:d e> <a:p> <a:o> .‹0A›
 spq: line 3, column 1: expected a subject (an IRI or a blank node), found '.'
 .
 ^
+spq: line 4, column 5: a space is not allowed in an IRI
+<a:b c> <a:p> <a:o> .
+    ^
+hint: write a space in an IRI as %20
+spq: line 5, column 5: a space is not allowed in an IRI
+<a:d e> <a:p> <a:o> .
+    ^
+spq: 3 malformed lines
+  2  a space is not allowed in an IRI (first: line 4, column 5)
+  1  expected a subject (an IRI or a blank node) (first: line 3, column 1)
 
 spq|select|--query|SELECT * { ?s e:p ?o } -- x‹0A›
 spq: query, line 1, column 15: the prefix 'e:' is not declared

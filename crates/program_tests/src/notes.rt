@@ -34,6 +34,12 @@ no message
 SELECT * { ?s :label ?l FILTER(?l != "") }
 spq: note: FILTER at line 2, column 25: 2 rows are left out, since a literal with a language tag has no order and no inequality by value (compare STR(..), or LANG(..))
 
+SELECT * { :c :label ?t FILTER(?t != "") }
+no message
+
+SELECT * { ?s :knows ?t FILTER(?t IN (:a, :b)) }
+no message
+
 SELECT * { ?s :label ?l FILTER(?l = "z") }
 no message
 
@@ -99,7 +105,7 @@ spq: note: FILTER at line 2, column 50: 1 row is left out, since two literals of
 
 SELECT * { ?s :size ?n FILTER(?n > 0) FILTER(?n < 1e3) }
 spq: note: FILTER at line 2, column 39: 2 rows are left out, since values of xsd:double are not compared (compare STR(..), if the order of the texts is that of the values)
-spq: note: FILTER at line 2, column 39: 1 row is left out, since the text of a literal is no xsd:integer
+spq: note: FILTER at line 2, column 24: 1 row is left out, since the text of a literal is no xsd:integer
 
 SELECT * { ?s :size ?n FILTER(?n > 0) FILTER(true) }
 spq: note: FILTER at line 2, column 24: 1 row is left out, since the text of a literal is no xsd:integer
@@ -129,6 +135,24 @@ spq: note: "en-US" at line 2, column 44 is never a value of LANG: tags are in lo
 
 SELECT * { { ?s :label ?l FILTER(?l != "") } UNION { ?s :label ?l FILTER(?l != "") } }
 spq: note: FILTER at line 2, column 27, line 2, column 67: 4 rows are left out, since a literal with a language tag has no order and no inequality by value (compare STR(..), or LANG(..))
+
+SELECT * { ?s :label ?l FILTER(?l = "x" || ?l = "q") }
+spq: note: FILTER at line 2, column 25: 1 row is left out, since a literal with a language tag has no order and no inequality by value (compare STR(..), or LANG(..))
+
+SELECT * { ?s :label ?l FILTER(?l IN ("q", "x")) }
+spq: note: FILTER at line 2, column 25: 1 row is left out, since a literal with a language tag has no order and no inequality by value (compare STR(..), or LANG(..))
+
+SELECT * { ?s :knows ?o FILTER(?s != :a) FILTER(LANG(?o) = "en") }
+spq: note: FILTER at line 2, column 42: 1 row is left out, since LANG and DATATYPE have a value only for literals, and STR has none for blank nodes
+
+SELECT * { ?s :label ?l OPTIONAL { ?s :none ?x } OPTIONAL { ?s :none ?y } FILTER(?x = 1 || BOUND(?y) && ?y = 1) }
+spq: note: FILTER at line 2, column 75: 3 rows are left out, since ?x is unbound
+
+SELECT * { ?s :label ?l OPTIONAL { ?s :code ?x } OPTIONAL { ?s :none ?y } FILTER(?x = 7 && ?y = 1) }
+spq: note: FILTER at line 2, column 75: 3 rows are left out, since ?x or another variable is unbound
+
+SELECT * { ?s :size ?n FILTER(?n >= 0) MINUS { ?s :size ?n FILTER(?n >= 0) } }
+spq: note: FILTER at line 2, column 60, line 2, column 24: 2 rows are left out, or remove nothing in MINUS, since the text of a literal is no xsd:integer
 
 SELECT ?x { ?s :label ?l }
 spq: note: ?x at line 2, column 8 is selected and occurs nowhere in the pattern

@@ -3,12 +3,16 @@
 //! The document is read from standard input. The output, or the line of a fault, is written to standard output.
 //! The exit status is 0, or that of the fault. The contracts are those of `run_words` and `finish` of
 //! `spq_core`, which this crate calls with the arguments and the two devices.
-//! Then `report` of `spq_report` writes to standard error why a run failed and where. At a terminal, another
-//! thread shows the progress of a long run.
+//! Another thread writes to standard error while the run goes on: the first malformed line, and at a terminal the
+//! progress of a long run. Then `report` of `spq_report` writes why the run failed and where. The output is complete
+//! before the program waits for standard error.
 //!
 //! Tests: `tests/tour.py`, `tests/hostile.py` and `tests/messages.py` run the executable; the crate
 //! program_tests tests `run_words`.
 #![tactic(auto)]
+
+ghost use Rattle.std.specs.Prelude.{◌≡◌};
+ghost use Rattle.spq_core.specs.Report.{exit_status, status_of};
 
 use nquads_core::{Sink, Source};
 use spq_core::{Notes, Ran, RunFault, finish, run_words};
@@ -18,9 +22,12 @@ use std::io::{ErrorKind, IsTerminal, Stderr, Stdin, Stdout};
 use std::process::ExitCode;
 use std::random::RandomSource;
 use std::sync::Wait;
-use std::thread::Threads;
+use std::thread::{Builder, Threads};
 use std::time::Clock;
 use std::{env, thread};
+
+/// The bytes of stack of the thread that writes to standard error while a run goes on.
+const WATCH_STACK: usize = 256 * 1024;
 
 /// Returns the words of the command line.
 fn words_of(rt: &HostRuntime) -> Result<Vec<String>, RunFault> {
@@ -47,8 +54,10 @@ fn terminals_of(rt: &HostRuntime) -> Terminals {
     }
 }
 
-/// Ends a program whose words could not be read.
-fn end_without_words(rt: &HostRuntime, fault: RunFault, terminals: Terminals) -> u8 {
+/// Ends a program whose words could not be read. Returns the exit status.
+fn end_without_words(rt: &HostRuntime, fault: RunFault, terminals: Terminals) -> u8
+    ensures status { result ≡ status_of fault }
+{
     let mut writer = Output::new(rt.stdout(), &NoMeter);
     let done = Err(fault);
     let status = finish(&done, &mut writer);
@@ -58,32 +67,30 @@ fn end_without_words(rt: &HostRuntime, fault: RunFault, terminals: Terminals) ->
         read_error: None,
         write_error: None,
         is_repeated: !terminals.output,
+        is_first_told: false,
     };
     let _reported = report(&mut rt.stderr(), rt.alloc(), &done, &account);
     status
 }
 
-/// Ends a program whose words were run.
-fn end<M: Meter>(
-    rt: &HostRuntime,
-    words: &[String],
-    ran: &mut Ran<Input<'_, Stdin, M>, Output<'_, Stdout, M>>,
-    terminals: Terminals,
-) -> u8 {
-    let write_error = ran.writer.error;
-    let status = finish(&ran.done, &mut ran.writer);
-    let account = Account {
-        words: Some(words),
-        notes: &ran.notes,
-        read_error: ran.reader.error,
-        write_error,
-        is_repeated: !terminals.output,
-    };
-    let _reported = report(&mut rt.stderr(), rt.alloc(), &ran.done, &account);
-    status
+/// A run whose output is complete, and its exit status.
+#[derive(Drop)]
+struct Ended<S, K> {
+    ran: Ran<S, K>,
+    status: u8,
 }
 
-/// Runs the words of a command line. At a terminal, another thread shows the progress, if it can be started.
+/// Ends the output of a run: writes the line of its fault, if it has one.
+fn end<S, K: Sink>(ran: Ran<S, K>) -> Ended<S, K>
+    ensures ran { result.ran.done ≡ ran.done }
+    ensures status { result.status ≡ exit_status ran.done }
+{
+    let mut ran = ran;
+    let status = finish(&ran.done, &mut ran.writer);
+    Ended { ran, status }
+}
+
+/// Runs the words of a command line. Another thread, if it can be started, writes to standard error meanwhile.
 fn run_watched<
     'r,
     R: Threads + Wait + RandomSource + Clock + Sync,
@@ -96,15 +103,46 @@ fn run_watched<
     reader: S,
     writer: K,
     console: &Console<&'r R, &'r R, Stderr>,
-) -> Ran<S, K> {
-    thread::scope(thread::scope_env(), rt, move |scope| {
-        if console.is_watched() {
-            let _watch = scope.spawn(move || console.watch(rt));
-        }
-        let ran = run_words(rt, alloc, words, reader, writer, console);
-        console.end();
-        ran
-    })
+) -> Ended<S, K>
+    ensures status { result.status ≡ exit_status result.ran.done }
+{
+    thread::scope(
+        thread::scope_env(),
+        rt,
+        move |scope| -> Ended<S, K>
+            ensures status { result.status ≡ exit_status result.ran.done }
+        {
+            let watch = Builder::new().stack_size(WATCH_STACK);
+            if watch
+                .spawn_scoped(scope, move || console.watch(rt))
+                .is_err()
+            {
+                console.end();
+            }
+            let ended = end(run_words(rt, alloc, words, reader, writer, console));
+            console.end();
+            ended
+        },
+    )
+}
+
+/// Writes the messages about a run whose output is complete to standard error.
+fn explain<M: Meter>(
+    rt: &HostRuntime,
+    words: &[String],
+    ran: &Ran<Input<'_, Stdin, M>, Output<'_, Stdout, M>>,
+    terminals: Terminals,
+    is_first_told: bool,
+) {
+    let account = Account {
+        words: Some(words),
+        notes: &ran.notes,
+        read_error: ran.reader.error,
+        write_error: ran.writer.error,
+        is_repeated: !terminals.output,
+        is_first_told,
+    };
+    let _reported = report(&mut rt.stderr(), rt.alloc(), &ran.done, &account);
 }
 
 fn main(rt: HostRuntime) -> ExitCode {
@@ -113,9 +151,10 @@ fn main(rt: HostRuntime) -> ExitCode {
         Ok(words) => words,
         Err(fault) => return ExitCode::from(end_without_words(&rt, fault, terminals)),
     };
-    let console = Console::new(&rt, &rt, rt.stderr(), terminals);
+    let console = Console::new(&rt, &rt, rt.alloc(), rt.stderr(), terminals);
     let reader = Input::new(rt.stdin(), &console);
     let writer = Output::new(rt.stdout(), &console);
-    let mut ran = run_watched(&rt, rt.alloc(), &words, reader, writer, &console);
-    ExitCode::from(end(&rt, &words, &mut ran, terminals))
+    let ended = run_watched(&rt, rt.alloc(), &words, reader, writer, &console);
+    explain(&rt, &words, &ended.ran, terminals, console.is_first_told());
+    ExitCode::from(ended.status)
 }

@@ -128,8 +128,7 @@ fn answer_plan<R: Threads + Wait + RandomSource, G: Gate + Sync, P: Progress>(
     drop(index);
     match evaluated {
         Ok((rows, dict)) => {
-            let printed = print_solutions(rt, alloc, query, plan, &rows, &dict, how, gate, log);
-            drop(rows);
+            let printed = print_solutions(rt, alloc, query, plan, rows, &dict, how, gate, log);
             match printed {
                 Ok(blocks) => Ok((blocks, dict)),
                 Err(fault) => {
@@ -148,30 +147,29 @@ fn print_solutions<R: Threads + Wait, G: Gate + Sync, P: Progress>(
     alloc: Global,
     query: &Query,
     plan: &Plan,
-    found: &Rows,
+    found: Rows,
     dict: &Dict,
     how: &How,
     gate: &G,
     log: &mut Log<'_, P>,
 ) -> Result<Vec<Vec<u8>>, EvalFault>
-    requires known { AreKnown dict.now found.now }
+    requires known { AreKnown dict.now found }
     requires how { IsRunnable how.now }
     ensures json { IfOk result (λ blocks. joined_blocks blocks.items
         ≡ json (listed_names plan.now.names.items (projected (algebra_of plan.now.tree)))
         (slice (unwrap_or (query_of query.now).offset 0) (query_of query.now).limit
-        (sorted_rows (projected (algebra_of plan.now.tree)) (solutions_of dict.now found.now)))) }
+        (sorted_rows (projected (algebra_of plan.now.tree)) (solutions_of dict.now found)))) }
     ensures one_worker { HasOneWorker how.now → IfErr result (λ fault. fault ≡ Memory) }
 {
     log.begin(Stage::Printing);
     let table = Table {
         names: &plan.names,
         listed: plan.projected(),
-        rows: found,
         dict,
         offset: query.offset.unwrap_or(0),
         limit: query.limit,
     };
-    print_rows(rt, alloc, &table, how, gate)
+    print_rows(rt, alloc, &table, found, how, gate)
 }
 
 /// Returns the number of bytes of the blocks, or `usize::MAX` if there are more.

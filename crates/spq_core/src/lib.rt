@@ -45,6 +45,10 @@ pub use words::{Ran, run_words};
 
 /// Why a document was not loaded.
 pub use dataset_load::LoadFault;
+/// The malformed lines of a document.
+pub use dataset_load::Listing;
+/// Is called when the first malformed line of a document is known.
+pub use dataset_load::LoadListener;
 /// A loaded dataset: its terms, and an index of its quads.
 pub use dataset_load::Store;
 /// Loads a document that is cut into pieces.

@@ -1,7 +1,8 @@
 //! Notes that a run takes for messages to the user. No clause and no output depends on them.
 
-use dataset_load::{Line, LoadNotes, Store};
+use dataset_load::{Listing, LoadListener, LoadNotes, Store};
 use expression_errors::ErrorCounts;
+use malformed_lines::MalformedLine;
 use query_notes::{Outline, counts_of, outline_of};
 use sparql_algebra::Plan;
 use std::alloc::Global;
@@ -21,8 +22,8 @@ pub enum Stage {
     Printing,
 }
 
-/// Callbacks of a run at the beginning of its stages.
-pub trait Progress {
+/// Callbacks of a run at the beginning of its stages, and when the first malformed line is known.
+pub trait Progress: LoadListener {
     /// Runs when this stage begins. A run does not call this for `Sorting`, which begins at the end of the reader.
     fn begin(&self, stage: Stage);
 }
@@ -30,6 +31,10 @@ pub trait Progress {
 /// A `Progress` that does nothing.
 #[derive(Clone, Copy)]
 pub struct NoProgress;
+
+impl LoadListener for NoProgress {
+    fn found(&self, _line: &MalformedLine, _is_after_utf8: bool) {}
+}
 
 impl Progress for NoProgress {
     fn begin(&self, _stage: Stage) {}
@@ -40,8 +45,8 @@ impl Progress for NoProgress {
 pub struct Notes {
     /// The last stage that began.
     pub stage: Stage,
-    /// The malformed line whose number was returned, if there was memory for it.
-    pub line: Option<Line>,
+    /// The malformed lines of the document, if the number of the first one was returned and there was memory for them.
+    pub malformed: Option<Listing>,
     /// The rows over which expressions of its query were errors, if there was memory to count them.
     pub counts: Option<ErrorCounts>,
     /// Whether all quads are in named graphs, and some are.
@@ -53,7 +58,7 @@ impl Notes {
     pub fn new() -> Notes {
         Notes {
             stage: Stage::Checking,
-            line: None,
+            malformed: None,
             counts: None,
             is_named_only: false,
         }
@@ -100,6 +105,11 @@ impl<'p, P: Progress> Log<'p, P> {
         notes
     }
 
+    /// Returns the progress that the log calls.
+    pub(crate) fn progress(&self) -> &'p P {
+        self.progress
+    }
+
     /// Notes that a stage begins.
     pub(crate) fn begin(&mut self, stage: Stage) {
         self.notes.stage = stage;
@@ -108,11 +118,11 @@ impl<'p, P: Progress> Log<'p, P> {
 
     /// Adds the notes of loading the document.
     pub(crate) fn loaded(&mut self, loading: LoadNotes) {
-        let LoadNotes { line, is_read } = loading;
+        let LoadNotes { malformed, is_read } = loading;
         if is_read {
             self.notes.stage = Stage::Sorting;
         }
-        self.notes.line = line;
+        self.notes.malformed = malformed;
     }
 
     /// Notes the query that is evaluated, and whether all quads are in named graphs.

@@ -27,48 +27,38 @@ use sparql_read::QueryFault;
 use sparql_tree::Query;
 use spq_command::{Command, CommandFault, ReadOptions};
 use std::alloc::{AllocError, Global};
-use std::error::Error;
+use std::mem;
 use std::random::RandomSource;
 use std::sync::Wait;
 use std::thread::Threads;
-use std::{fmt, mem};
 use text_dict::TextDict;
+use thiserror::Error;
 
 /// Why a command was not done.
-#[derive(Clone, Copy, Debug, Drop, PartialEq, Eq)]
+#[derive(Clone, Copy, Debug, Drop, Error, PartialEq, Eq)]
 pub enum RunFault {
     /// The first rule that rejects the query. `run` never returns its `Memory`.
+    #[error("the query is rejected")]
     Query(QueryFault),
     /// The line of the document, counted from 1, is the first malformed line.
+    #[error("line {0} is malformed")]
     BadLine(u128),
     /// A worker thread could not be started. Those that were started have been joined.
+    #[error("a worker thread could not be started")]
     WorkerRefused,
     /// Out of memory.
+    #[error("out of memory")]
     Memory,
     /// The reader failed.
+    #[error("the reader failed")]
     Read,
     /// The writer failed, or took no byte of a text that was not empty.
+    #[error("the writer failed")]
     Write,
     /// The words are not a valid command line. `run` never returns this.
+    #[error("the command line is not valid")]
     Line,
 }
-
-impl fmt::Display for RunFault {
-    fn fmt<W: fmt::Write>(&self, f: &mut fmt::Formatter<W>) -> fmt::Result {
-        let words = match self {
-            RunFault::Query(_) => "the query is rejected",
-            RunFault::BadLine(line) => return write!(f, "line {line} is malformed"),
-            RunFault::WorkerRefused => "a worker thread could not be started",
-            RunFault::Memory => "out of memory",
-            RunFault::Read => "the reader failed",
-            RunFault::Write => "the writer failed",
-            RunFault::Line => "the command line is not valid",
-        };
-        f.write_str(words)
-    }
-}
-
-impl Error for RunFault {}
 
 impl From<Fault> for RunFault {
     ghost use Rattle.std.specs.Prelude.{◌≡◌};
@@ -143,7 +133,16 @@ fn load_document<R: Threads + Wait + RandomSource, S: Source, P: Progress>(
     log.begin(Stage::Reading);
     let (size, workers) = (reading.piece, reading.workers);
     let mut loading = LoadNotes::new();
-    let loaded = load_reader(rt, alloc, size, reader, workers, &OpenGate, &mut loading);
+    let loaded = load_reader(
+        rt,
+        alloc,
+        size,
+        reader,
+        workers,
+        &OpenGate,
+        &mut loading,
+        log.progress(),
+    );
     finished(log, loading, loaded)
 }
 
@@ -161,7 +160,16 @@ fn count_document<R: Threads + Wait + RandomSource, S: Source, P: Progress>(
     log.begin(Stage::Reading);
     let (size, workers) = (reading.piece, reading.workers);
     let mut loading = LoadNotes::new();
-    let counted = count_reader(rt, alloc, size, reader, workers, &OpenGate, &mut loading);
+    let counted = count_reader(
+        rt,
+        alloc,
+        size,
+        reader,
+        workers,
+        &OpenGate,
+        &mut loading,
+        log.progress(),
+    );
     finished(log, loading, counted)
 }
 
@@ -179,7 +187,16 @@ fn load_document_terms<R: Threads + Wait + RandomSource, S: Source, P: Progress>
     log.begin(Stage::Reading);
     let (size, workers) = (reading.piece, reading.workers);
     let mut loading = LoadNotes::new();
-    let loaded = load_terms(rt, alloc, size, reader, workers, &OpenGate, &mut loading);
+    let loaded = load_terms(
+        rt,
+        alloc,
+        size,
+        reader,
+        workers,
+        &OpenGate,
+        &mut loading,
+        log.progress(),
+    );
     finished(log, loading, loaded)
 }
 

@@ -18,6 +18,9 @@ pub struct Account<'a> {
     /// Whether the line of standard output is repeated, because standard output is not a terminal and the user
     /// may not see it.
     pub is_repeated: bool,
+    /// Whether the message about the first malformed line was written during the run, after the line of standard
+    /// output if that is repeated.
+    pub is_first_told: bool,
 }
 
 impl<'a> Account<'a> {

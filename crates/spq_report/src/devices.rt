@@ -1,5 +1,5 @@
 //! The devices of a run, which keep the system's errors.
-ghost use Rattle.std.specs.Prelude.{◌≡◌, None, false};
+ghost use Rattle.std.specs.Prelude.{◌≡◌, None, Some, false, unwrap_or};
 
 use nquads_core::{DeviceFailed, Sink, Source};
 use std::io::{Error, Read, Write};
@@ -26,6 +26,13 @@ impl Meter for NoMeter {
     fn gave(&self, _bytes: &[u8]) {}
 
     fn writes(&self) {}
+}
+
+/// Returns the first error: the one that is known, or else this one.
+fn first(known: Option<Error>, error: Error) -> Option<Error>
+    ensures first { result ≡ Some (unwrap_or known error) }
+{
+    Some(known.unwrap_or(error))
 }
 
 /// A reader of std as a source. It keeps the first error of the reader, and calls a meter. After the end was read it
@@ -77,7 +84,7 @@ impl<'m, T: Read, M: Meter> Source for Input<'m, T, M> {
                 Ok(count)
             }
             Err(error) => {
-                self.error = Some(self.error.unwrap_or(error));
+                self.error = first(self.error, error);
                 Err(DeviceFailed)
             }
         }
@@ -110,17 +117,20 @@ impl<'m, T, M> Output<'m, T, M> {
 
 impl<'m, T: Write, M: Meter> Sink for Output<'m, T, M> {
     ghost use Rattle.std.specs.Prelude.{None};
+    ghost use Rattle.spq_report.specs.Devices.{KeepsFirst};
 
     ghost held = { λ d. T.contents d.inner };
 
     ghost failures = { λ _. None };
+
+    ghost write_gives = { λ d _ result e. KeepsFirst d.error result e.error };
 
     fn write(&mut self, bytes: &[u8]) -> Result<usize, DeviceFailed> {
         self.meter.writes();
         match self.inner.write(bytes) {
             Ok(count) => Ok(count),
             Err(error) => {
-                self.error = Some(self.error.unwrap_or(error));
+                self.error = first(self.error, error);
                 Err(DeviceFailed)
             }
         }

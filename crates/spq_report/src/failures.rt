@@ -2,8 +2,6 @@
 
 use crate::account::Account;
 use command_help::message;
-use dataset_load::Line;
-use line_diagnosis::{LineContext, diagnose};
 use nquads_core::Device;
 use spq_core::{Command, RunFault, Stage, write_fault};
 use std::alloc::{AllocError, Global};
@@ -14,51 +12,6 @@ use std::io::{Error, Write};
 pub fn repeat<W: Write>(out: &mut W, fault: &RunFault) {
     let mut device = Device { inner: out };
     let _tried = write_fault(fault, &mut device);
-}
-
-/// Returns whether the place in a malformed line is known. It is known if all bytes of the line are, or if it is in
-/// the first bytes.
-///
-/// A place at the end of the first bytes does not count, because the line continues there.
-fn has_place(alloc: Global, line: &Line) -> Result<bool, AllocError> {
-    if line.is_whole {
-        return Ok(true);
-    }
-    match diagnose(alloc, &line.bytes)? {
-        Some(diagnosis) => Ok(diagnosis.offset.saturating_add(4) < line.bytes.len()),
-        None => Ok(false),
-    }
-}
-
-/// Returns the message about a malformed line, or None if the place in it is not known.
-fn line_text(alloc: Global, number: u128, line: &Line) -> Result<Option<String>, AllocError> {
-    if !has_place(alloc, line)? {
-        return Ok(None);
-    }
-    let context = LineContext {
-        number,
-        is_cut: line.is_cut,
-        is_after_utf8: line.is_after_utf8,
-    };
-    line_diagnosis::report(alloc, &line.bytes, &context)
-}
-
-/// Returns the message about a malformed line, if the line and the place in it are known.
-fn known_line_text(alloc: Global, number: u128, line: Option<&Line>) -> Option<String> {
-    line_text(alloc, number, line?).ok().flatten()
-}
-
-/// Writes the message about a malformed line.
-pub fn bad_line<W: Write>(
-    out: &mut W,
-    alloc: Global,
-    number: u128,
-    line: Option<&Line>,
-) -> io::Result<()> {
-    match known_line_text(alloc, number, line) {
-        Some(text) => out.write_all(text.as_bytes()),
-        None => writeln!(out, "spq: line {number}: this is not a line of N-Quads"),
-    }
 }
 
 /// Returns the message about the query of a command, if the command has a query.

@@ -1,12 +1,30 @@
 //! The message about a run.
 
 use crate::account::Account;
-use crate::failures::{bad_line, no_command, no_device, no_memory, no_worker, rejected, repeat};
+use crate::failures::{no_command, no_device, no_memory, no_worker, rejected, repeat};
+use crate::malformed::write_malformed;
 use crate::warnings::warnings;
 use spq_core::RunFault;
 use std::alloc::Global;
 use std::io;
 use std::io::Write;
+
+/// Writes the messages about malformed lines, of which the first one has this number.
+fn bad_lines<W: Write>(
+    out: &mut W,
+    alloc: Global,
+    number: u128,
+    account: &Account<'_>,
+) -> io::Result<()> {
+    let listing = account.notes.malformed.as_ref();
+    write_malformed(out, alloc, number, listing, account.is_first_told)
+}
+
+/// Returns whether the line of a fault is repeated now. It is before the message about the first malformed line.
+fn is_repeated(fault: &RunFault, account: &Account<'_>) -> bool {
+    let is_told = account.is_first_told && matches!(fault, RunFault::BadLine(_));
+    account.is_repeated && !is_told
+}
 
 /// Writes the message for a fault.
 fn failure<W: Write>(
@@ -15,11 +33,11 @@ fn failure<W: Write>(
     fault: &RunFault,
     account: &Account<'_>,
 ) -> io::Result<()> {
-    if account.is_repeated {
+    if is_repeated(fault, account) {
         repeat(out, fault);
     }
     match fault {
-        RunFault::BadLine(number) => bad_line(out, alloc, *number, account.notes.line.as_ref()),
+        RunFault::BadLine(number) => bad_lines(out, alloc, *number, account),
         RunFault::Query(_) => rejected(out, alloc, account),
         RunFault::Line => no_command(out, alloc, account.words),
         RunFault::Memory => no_memory(out, account.notes.stage),
