@@ -9,36 +9,37 @@ import tempfile
 import time
 import warnings
 import zipfile
-import zlib
-from hashlib import sha256
+from concurrent.futures import CancelledError
 from typing import Any, Iterator, Optional
 
 import dask
 from dask.delayed import Delayed
-from distributed import Client, Future, LocalCluster, progress
+from distributed import Client, Future, LocalCluster, TimeoutError, progress
 from distributed.comm import CommClosedError, get_address_host
 from distributed.diagnostics.plugin import UploadFile
 from distributed.scheduler import KilledWorker
 
-from .cutting import Source
-from .program import DEVICE, MALLOC, MEMORY, Failed, Malformed, Spq, versions
+from .cutting import DEVICE, Failed, Source
+from .program import MALLOC, MALFORMED, MEMORY, Malformed, Spq, versions
+
+SILENCE = 60  # seconds without a worker until a line says so
+POLL = 5  # seconds between two looks for workers
 
 
 @contextlib.contextmanager
-def connected(scheduler: Optional[str], processes: Optional[int]) -> Iterator[Client]:
+def connected(scheduler: Optional[str], processes: Optional[int], debug: bool = False) -> Iterator[Client]:
     """Connects to a scheduler, or starts one here with this number of worker processes, each with one thread.
 
     Without an address the scheduler is the one that Dask's configuration names.
     Workers elsewhere get this package from here. Raises `Failed` if there is no scheduler at the address.
     """
-    for name in ("asyncio", "distributed", "tornado"):  # failures are reported in one line
-        logging.getLogger(name).setLevel(logging.CRITICAL + 1)
+    level = logging.WARNING if debug else logging.CRITICAL  # failures are reported in one line
+    for name in ("asyncio", "distributed", "distributed.client", "tornado", "tornado.application"):
+        logging.getLogger(name).setLevel(level)
     warnings.filterwarnings("ignore", "Port .* is already in use", UserWarning)  # another port is taken then
-    # Dask would look for the Python code that starts tasks, to show it in the dashboard. That takes 0.05 seconds.
-    dask.config.set({"distributed.diagnostics.computations.ignore-modules": [""]})
     scheduler = scheduler or dask.config.get("scheduler-address", None)
     if not scheduler:
-        options = {"n_workers": processes, "threads_per_worker": 1, "silence_logs": logging.CRITICAL}
+        options = {"n_workers": processes, "threads_per_worker": 1, "silence_logs": level}
         memory = {"GLIBC_TUNABLES": MALLOC, "MALLOC_TRIM_THRESHOLD_": 1 << 40}
         # On one machine compression takes longer than what it saves. Dask samples what a worker does, a hundred times a second.
         settings = {"comm.compression": None, "nanny.pre-spawn-environ": memory, "worker.profile.interval": "1s"}
@@ -48,52 +49,48 @@ def connected(scheduler: Optional[str], processes: Optional[int]) -> Iterator[Cl
         return
     try:
         client = Client(scheduler)
-    except (OSError, ValueError) as error:
+    except (OSError, ValueError, ImportError) as error:
         raise Failed(MEMORY, "error: worker", f"no scheduler at {scheduler}: {error}") from None
     with client:
         upload_package(client)
         yield client
 
 
-# The end of `__init__.py` on a worker. Dask loads only this module again if the worker has an earlier version of the package.
-LOADED_AGAIN = """
-import sys
-
-if globals().get("digest") != {digest!r}:
-    for name in [name for name in sys.modules if name.startswith("spq_dask.")]:
-        del sys.modules[name]
-        globals().pop(name.removeprefix("spq_dask."), None)
-digest = {digest!r}
-"""
-
-
 def upload_package(client: Client, folder: str = os.path.dirname(os.path.abspath(__file__))) -> None:
-    """Gives this package to the workers, also to those that join later."""
-    texts = {}
-    for name in sorted(os.listdir(folder)):
-        if name.endswith((".py", ".lua")):
-            with open(os.path.join(folder, name)) as file:
-                texts[name] = file.read()
-    texts["__init__.py"] += LOADED_AGAIN.format(digest=sha256(repr(texts).encode()).hexdigest())
+    """Gives this package to the workers, also to those that join later. Those that have loaded another version keep it."""
     with tempfile.TemporaryDirectory() as place:
         path = os.path.join(place, "spq_dask.zip")
         with zipfile.ZipFile(path, "w") as archive:
-            for name, text in texts.items():
-                archive.writestr(f"spq_dask/{name}", text)
-        # By the name a worker that joins later gets what was uploaded last, and nothing else.
+            for name in sorted(os.listdir(folder)):
+                if name.endswith(".py"):
+                    archive.write(os.path.join(folder, name), f"spq_dask/{name}")
         client.register_worker_plugin(UploadFile(path), name="spq_dask")
 
 
+class Waiting:
+    """Waits for workers: with a line on standard error after a minute, and not longer than `seconds`."""
+
+    def __init__(self, client: Client, seconds: float) -> None:
+        self.client, self.seconds, self.since, self.told = client, seconds, time.monotonic(), False
+
+    def look(self) -> bool:
+        """Returns whether there is a worker. Raises `Failed` if there was none for too long."""
+        if self.client.ncores():
+            self.since, self.told = time.monotonic(), False
+            return True
+        waited, address = time.monotonic() - self.since, self.client.scheduler.address
+        if waited >= self.seconds:
+            raise Failed(MEMORY, "error: worker", f"no worker for {self.seconds:g} seconds at {address}")
+        if waited >= SILENCE and not self.told:
+            print(f"spq-dask: no worker for {SILENCE} seconds at {address}", file=sys.stderr, flush=True)
+            self.told = True
+        return False
+
+
 def wait_for_workers(client: Client, seconds: float) -> None:
-    """Waits until there is a worker, with a line on standard error after a minute. Raises `Failed` after this time."""
-    start, told = time.monotonic(), False
-    while not client.ncores():
-        waited = time.monotonic() - start
-        if waited >= seconds:
-            raise Failed(MEMORY, "error: worker", f"no worker for {seconds:g} seconds at {client.scheduler.address}")
-        if waited >= 60 and not told:
-            print(f"spq-dask: no worker for 60 seconds at {client.scheduler.address}", file=sys.stderr, flush=True)
-            told = True
+    """Waits until there is a worker. Raises `Failed` after this time."""
+    waiting = Waiting(client, seconds)
+    while not waiting.look():
         time.sleep(0.1)
 
 
@@ -103,8 +100,10 @@ def compare_versions(client: Client, spq: Spq) -> None:
     for address, version in client.run(versions, spq, on_error="return").items():
         if isinstance(version, Failed):
             raise version
-        if isinstance(version, Exception):  # the worker is gone
+        if isinstance(version, OSError):  # the worker is gone
             continue
+        if isinstance(version, Exception):
+            raise Failed(MEMORY, "error: worker", f"{get_address_host(address)}: {one_line(version)}")
         if wanted is None:
             first, wanted = get_address_host(address), version
         elif version != wanted:
@@ -116,39 +115,44 @@ def shown(path: str) -> str:
     return os.path.relpath(path) if path.startswith(os.getcwd() + os.sep) else path
 
 
+def one_line(error: BaseException) -> str:
+    """Returns the kind and the message of an exception, in one line."""
+    return f"{type(error).__name__}: {error}".partition("\n")[0]
+
+
 class Run:
     """Runs tasks for one command, with or without a progress bar on standard error."""
 
-    def __init__(self, client: Client, quiet: bool) -> None:
-        self.client, self.quiet = client, quiet
-        self.threads = client.ncores()  # by the address of the worker
-
-    def workers(self) -> int:
-        """Returns how many tasks run at a time."""
-        return sum(self.threads.values())
-
-    def on_one_machine(self) -> bool:
-        """Returns whether all workers have the same host in their addresses."""
-        return len(set(map(get_address_host, self.threads))) < 2
-
-    def addresses(self) -> list[str]:
-        """Returns the address of each worker, once for each task that it runs at a time."""
-        return [address for address, threads in self.threads.items() for _ in range(threads)]
+    def __init__(self, client: Client, quiet: bool, seconds: float = 300) -> None:
+        self.client, self.quiet, self.seconds = client, quiet, seconds
+        self.workers = sum(client.ncores().values())
 
     def partitions(self, blocks: int) -> int:
         """Returns how many partitions what is smaller than the blocks is spread over. There are not more than blocks."""
-        return min(blocks, max(1, self.workers(), blocks // 8))
+        return max(1, min(blocks, max(self.workers, blocks // 8)))
 
     def start(self, tasks: list[Delayed]) -> list[Delayed]:
         """Starts tasks, and returns the tasks, whose results stay on the workers."""
         return self.client.persist(tasks)
+
+    def result(self, future: Future) -> Any:
+        """Returns the result of a task. Raises `Failed` if there is no worker for too long, or no scheduler."""
+        waiting = Waiting(self.client, self.seconds)
+        while True:
+            try:
+                return future.result(timeout=POLL)
+            except TimeoutError:
+                if future.done():  # it ended meanwhile, or this is the failure of the task
+                    return future.result()
+            with failures():
+                waiting.look()
 
     def results(self, tasks: list[Delayed]) -> list[Any]:
         """Runs tasks and returns their results, which are small. Raises `Failed` for the first task that fails."""
         futures = self.client.compute(tasks)
         self.show(futures)
         with failures():
-            return [future.result() for future in futures]
+            return [self.result(future) for future in futures]
 
     def checked(self, sources: list[Source], tasks: list[Delayed]) -> list[Any]:
         """Runs a task for each block, which returns a `Checked`, and returns the results.
@@ -163,10 +167,10 @@ class Run:
                 if source is not file:
                     file, before = source, lines
                 try:
-                    found.append(future.result())
+                    found.append(self.result(future))
                 except Malformed as malformed:
                     line = lines + malformed.number
-                    raise Failed(1, f"error: line {line}", f"{shown(source.path)}: line {line - before}") from None
+                    raise Failed(MALFORMED, f"error: line {line}", f"{shown(source.path)}: line {line - before}") from None
                 lines += found[-1].lines
         sizes = iter(found)
         for source in sources:
@@ -176,7 +180,7 @@ class Run:
         return found
 
     def show(self, futures: list[Future]) -> None:
-        """Waits for tasks with a progress bar, until all are done or one fails."""
+        """Shows a progress bar, until all tasks are done or one fails."""
         if not self.quiet and futures:
             with contextlib.redirect_stdout(sys.stderr):
                 progress(futures, notebook=False)
@@ -184,14 +188,10 @@ class Run:
 
 @contextlib.contextmanager
 def failures() -> Iterator[None]:
-    """Raises `Failed` in place of what Dask and the readers of files raise."""
+    """Raises `Failed` in place of what Dask raises."""
     try:
         yield
-    except Failed:
-        raise
     except KilledWorker as error:
         raise Failed(MEMORY, "error: worker", f"workers die of this task: {error}") from None
-    except CommClosedError as error:
-        raise Failed(MEMORY, "error: worker", f"the connection was lost: {error}") from None
-    except (OSError, EOFError, ImportError, zlib.error) as error:
-        raise Failed(DEVICE, "error: input", str(error)) from None
+    except (CommClosedError, CancelledError) as error:
+        raise Failed(MEMORY, "error: worker", f"the connection to the scheduler was lost: {one_line(error)}") from None

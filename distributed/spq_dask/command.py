@@ -4,19 +4,20 @@ from __future__ import annotations
 import argparse
 import contextlib
 import io
-import os
 import sys
 import traceback
-from typing import BinaryIO, Iterable, NoReturn, Optional
+from concurrent.futures import CancelledError
+from typing import Any, BinaryIO, Callable, Iterable, NoReturn, Optional
 
-from . import quick  # noqa: F401  (imports Dask)
 from dask.utils import parse_bytes
 from distributed import Client
 
-from .cluster import Run, compare_versions, connected, failures, wait_for_workers
+from .cluster import Run, compare_versions, connected, failures, one_line, wait_for_workers
 from .counting import check, terms
-from .cutting import sources
-from .program import COMMAND_LINE, DEVICE, MEMORY, Failed, Spq
+from .cutting import DEVICE, Failed, sources
+from .outline import CONDITIONS
+from .program import COMMAND_LINE, MEMORY, Spq
+from .selecting import select
 
 CONDITION_TEXT = """\
 A query may be split where its condition holds (docs/PARTS.md gives the reasons):
@@ -41,8 +42,6 @@ class Parser(argparse.ArgumentParser):
 
     def format_help(self) -> str:
         if self.conditions:
-            from .outline import CONDITIONS  # takes a while, as the import of `selecting`
-
             self.epilog = CONDITION_TEXT.format_map(CONDITIONS)
         return super().format_help()
 
@@ -95,23 +94,18 @@ def parser() -> Parser:
 
 
 def output(given: argparse.Namespace, client: Client) -> Iterable[bytes]:
-    """Runs a command, and returns what it prints."""
+    """Runs a command, and yields what it prints."""
     spq = Spq(given.spq, given.workers, given.spq_part)
     wait_for_workers(client, given.wait)
     compare_versions(client, spq)
-    run = Run(client, given.quiet)
-    try:
-        with failures():
-            found = sources(given.files, given.blocksize, run.workers())
-    except ValueError as error:  # fsspec raises it for an unknown protocol
-        raise Failed(DEVICE, "error: input", str(error)) from None
+    run = Run(client, given.quiet, given.wait)
+    found = sources(given.files, given.blocksize, run.workers)
     if given.command == "check":
-        return [check(run, found, spq)]
-    if given.command == "terms":
-        return terms(run, found, spq)
-    from .selecting import select
-
-    return select(run, found, spq, given.query, given.split, given.replicate_default_graph)
+        yield check(run, found, spq)
+    elif given.command == "terms":
+        yield from terms(run, found, spq)
+    else:
+        yield from select(run, found, spq, given.query, given.split, given.replicate_default_graph)
 
 
 def run_words(words: list[str], out: BinaryIO, client: Optional[Client] = None) -> int:
@@ -123,16 +117,16 @@ def run_words(words: list[str], out: BinaryIO, client: Optional[Client] = None) 
         if client is not None:
             write(output(given, client), out)
         else:
-            with connected(given.scheduler, given.processes) as own:
+            with connected(given.scheduler, given.processes, given.debug) as own:
                 if not given.quiet:
                     print(f"dashboard: {own.dashboard_link}", file=sys.stderr)
                 write(output(given, own), out)
     except Failed as failed:
         return report(failed, out)
-    except Exception as error:
+    except (Exception, CancelledError) as error:
         if "--debug" in words:
             traceback.print_exc()
-        return report(Failed(MEMORY, "error: worker", f"{type(error).__name__}: {error}".partition("\n")[0]), out)
+        return report(Failed(MEMORY, "error: worker", one_line(error)), out)
     return 0
 
 
@@ -148,21 +142,22 @@ def report(failed: Failed, out: BinaryIO) -> int:
 
 def write(texts: Iterable[bytes], out: BinaryIO) -> None:
     """Writes texts, one after the other. Raises `Failed` if they cannot be written."""
-    for text in texts:
-        try:
-            out.write(text)
-        except OSError as error:
-            raise Failed(DEVICE, "error: output", str(error)) from None
+    with failures():
+        for text in texts:
+            written(out.write, text)
+    written(out.flush)
+
+
+def written(write: Callable[..., Any], *words: bytes) -> None:
+    """Calls a function of a file. Raises `Failed` if that fails."""
     try:
-        out.flush()
-    except OSError as error:
+        write(*words)
+    except (OSError, ValueError) as error:
         raise Failed(DEVICE, "error: output", str(error)) from None
 
 
 def main() -> None:
-    """Runs the program, and ends with its status, at once: Python takes 0.1 seconds to free what the program used."""
+    """Runs the program, and ends with its status."""
     if sys.stdout is None:
         sys.exit(report(Failed(DEVICE, "error: output", "standard output is closed"), io.BytesIO()))
-    status = run_words(sys.argv[1:], sys.stdout.buffer)
-    sys.stderr.flush()
-    os._exit(status)
+    sys.exit(run_words(sys.argv[1:], sys.stdout.buffer))

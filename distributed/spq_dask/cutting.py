@@ -5,14 +5,13 @@ and at the end of a file. So the lines of a document are the lines of its blocks
 """
 from __future__ import annotations
 
+import socket
 from dataclasses import dataclass
-from functools import partial
-from typing import Callable, Iterable, Iterator, Optional
+from typing import Any, Iterator, Optional
 
 import dask
 import numpy
 from dask.bytes import read_bytes
-from dask.delayed import Delayed
 from fsspec.core import get_fs_token_paths
 from fsspec.utils import infer_compression
 
@@ -20,8 +19,33 @@ from fsspec.utils import infer_compression
 # Without a block size: the blocks of a worker, and the bytes of a block.
 BLOCKS, SMALLEST, LARGEST = 4, 1 << 20, 256 << 20
 
-# A function that reads a block, on the worker that needs it.
-Reader = Callable[[], bytes]
+DEVICE = 5
+# What these file names end with is compressed, also where Python cannot unpack it.
+COMPRESSED = (".bz2", ".gz", ".lz4", ".snappy", ".xz", ".zip", ".zst")
+
+
+class Failed(Exception):
+    """A command without a result: its status, its first line, and a message for the user."""
+
+    def __init__(self, status: int, line: str, reason: str = "") -> None:
+        super().__init__(status, line, reason)
+        self.status, self.line, self.reason = status, line, reason
+
+
+@dataclass(frozen=True)
+class Block:
+    """A block of a file, which the worker that needs it reads. It is a part of the task, so no block is sent."""
+
+    path: str
+    graph: dict[Any, Any]
+    key: Any
+
+    def read(self) -> bytes:
+        """Reads the block. Raises `Failed` if that fails."""
+        try:
+            return dask.get(self.graph, self.key)
+        except Exception as error:
+            raise Failed(DEVICE, "error: input", f"{socket.gethostname()}: {self.path}: {error}") from None
 
 
 @dataclass(frozen=True)
@@ -30,23 +54,57 @@ class Source:
 
     path: str
     size: Optional[int]
-    blocks: list[Reader]
+    blocks: list[Block]
 
 
 def sources(urls: list[str], blocksize: Optional[int], workers: int) -> list[Source]:
     """Returns the files that the URLs name, in order. A compressed file is one block.
 
-    Without a block size, each worker gets several blocks, if the document is large enough. Raises `OSError` if a file
-    does not exist or its size cannot be found.
+    Without a block size, each worker gets several blocks, if the document is large enough. Raises `Failed` if a file does
+    not exist or cannot be read, or needs a Python package that is missing.
     """
-    files = [(url, infer_compression(url) is not None, *get_fs_token_paths(url, mode="rb")) for url in urls]
-    sizes = [[None if compressed else filesystem.info(path)["size"] for path in paths] for _, compressed, filesystem, _, paths in files]
+    return [source for url in urls for source in files(url, blocksize, workers, sum(map(size_of, urls)))]
+
+
+def opened(url: str) -> tuple[Any, list[str]]:
+    """Returns the file system of a URL, and the paths that it names."""
+    try:
+        filesystem, _, paths = get_fs_token_paths(url, mode="rb")
+        return filesystem, paths
+    except Exception as error:
+        raise Failed(DEVICE, "error: input", f"{url}: {error}") from None
+
+
+def is_compressed(url: str) -> bool:
+    """Returns whether a file is compressed. Raises `Failed` if it cannot be unpacked."""
+    if infer_compression(url) is not None:
+        return True
+    if url.endswith(COMPRESSED):
+        raise Failed(DEVICE, "error: input", f"{url}: a Python package that unpacks it is missing")
+    return False
+
+
+def sizes(url: str) -> list[int]:
+    """Returns the sizes of the files that a URL names."""
+    filesystem, paths = opened(url)
+    try:
+        return [filesystem.info(path)["size"] for path in paths]
+    except Exception as error:
+        raise Failed(DEVICE, "error: input", f"{url}: {error}") from None
+
+
+def size_of(url: str) -> int:
+    """Returns the size of the plain files that a URL names."""
+    return 0 if is_compressed(url) else sum(size or 0 for size in sizes(url))
+
+
+def files(url: str, blocksize: Optional[int], workers: int, total: int) -> list[Source]:
+    """Returns the files that a URL names, cut into blocks."""
+    compressed = is_compressed(url)
     if blocksize is None:
-        total = sum(size or 0 for those in sizes for size in those)
         blocksize = min(LARGEST, max(SMALLEST, total // max(1, BLOCKS * workers)))
-    found = []
-    for url, compressed, *_ in files:
-        _, blocks, paths = read_bytes(
+    try:
+        _, found, paths = read_bytes(
             url,
             delimiter=None if compressed else b"\n",
             blocksize=None if compressed else blocksize,
@@ -54,27 +112,30 @@ def sources(urls: list[str], blocksize: Optional[int], workers: int) -> list[Sou
             sample=False,
             include_path=True,
         )
-        found += zip(paths, blocks)
-    every = [size for those in sizes for size in those]
-    return [Source(path, size, list(map(reader, blocks))) for (path, blocks), size in zip(found, every)]
-
-
-def reader(block: Delayed) -> Reader:
-    """Returns a function that reads a block. It is a part of the task that needs the block, so no block is sent."""
-    return partial(dask.get, dict(block.dask), block.key)
+    except Exception as error:
+        raise Failed(DEVICE, "error: input", f"{url}: {error}") from None
+    every = [None] * len(paths) if compressed else sizes(url)
+    return [
+        Source(path, size, [Block(path, dict(block.dask), block.key) for block in blocks])
+        for path, size, blocks in zip(paths, every, found)
+    ]
 
 
 def count_lines(text: bytes) -> int:
     """Returns the number of lines of a text."""
-    ends = sum(map(line_feeds, pieces(text, 1 << 20)))
+    ends = line_feeds(text)
     if b"\r" in text:
         ends += text.count(b"\r") - text.count(b"\r\n")
     return ends if not text or text.endswith((b"\n", b"\r")) else ends + 1
 
 
-def line_feeds(text: memoryview) -> int:
+def line_feeds(text: bytes) -> int:
     """Returns the number of line feeds of a text."""
-    return int(numpy.count_nonzero(numpy.frombuffer(text, numpy.uint8) == ord("\n")))
+    ends, size = 0, 1 << 20
+    for start in range(0, len(text), size):
+        piece = numpy.frombuffer(text, numpy.uint8, min(size, len(text) - start), start)
+        ends += int(numpy.count_nonzero(piece == ord("\n")))
+    return ends
 
 
 def halves(text: bytes) -> Optional[tuple[bytes, bytes]]:
@@ -82,17 +143,3 @@ def halves(text: bytes) -> Optional[tuple[bytes, bytes]]:
     middle = len(text) // 2
     cut = text.rfind(b"\n", 0, middle) + 1 or text.find(b"\n", middle) + 1
     return (text[:cut], text[cut:]) if 0 < cut < len(text) else None
-
-
-def pieces(text: bytes, size: int) -> Iterator[memoryview]:
-    """Cuts a text after line feeds into pieces of at least `size` bytes each, except the last."""
-    view, start = memoryview(text), 0
-    while start < len(text):
-        end = text.find(b"\n", start + size - 1) + 1 or len(text)
-        yield view[start:end]
-        start = end
-
-
-def ended(lines: Iterable[bytes]) -> bytes:
-    """Returns the lines as one text, in which each line ends with a line feed."""
-    return b"\n".join([*lines, b""])

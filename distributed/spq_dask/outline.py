@@ -9,7 +9,8 @@ import re
 from dataclasses import dataclass
 from typing import Optional, Union
 
-from .program import COMMAND_LINE, Failed
+from .cutting import Failed
+from .program import COMMAND_LINE
 
 LARGEST = 18446744073709551615  # LIMIT and OFFSET are capped at this number
 

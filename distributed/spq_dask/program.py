@@ -1,17 +1,17 @@
-"""Runs `spq` over one text on its standard input."""
+"""Runs a program over a text on its standard input."""
 from __future__ import annotations
 
-import contextlib
 import io
 import os
+import pkgutil
 import signal
 import socket
 import subprocess
-from contextlib import nullcontext
 from dataclasses import dataclass
-from typing import Any, Iterator, Optional, Union
+from hashlib import sha256
+from typing import Any, Iterable, Iterator, Union
 
-from .cutting import count_lines, halves
+from .cutting import DEVICE, Failed, count_lines, halves
 
 # How the C library gives memory to a process: many pages at a time, large ones where the system has them, and free memory
 # stays with the process. This saves a tenth of the time.
@@ -19,16 +19,12 @@ MALLOC = "glibc.malloc.hugetlb=1:glibc.malloc.top_pad=67108864:glibc.malloc.trim
 
 Text = Union[bytes, memoryview]
 
-MALFORMED, QUERY, COMMAND_LINE, MEMORY, DEVICE = 1, 2, 3, 4, 5
+MALFORMED, QUERY, COMMAND_LINE, MEMORY = 1, 2, 3, 4
 PIECE = 1 << 18  # the least size of a block that a thread of `spq` reads; best where it has one
+MODULES = ("cutting", "program", "parts", "shuffle", "counting", "outline", "rows", "selecting", "cluster", "command")
 
-
-class Failed(Exception):
-    """A run without a result: its status, its first line, and a message for the user."""
-
-    def __init__(self, status: int, line: str, reason: str = "") -> None:
-        super().__init__(status, line, reason)
-        self.status, self.line, self.reason = status, line, reason
+# The version of this package: a worker may have got another one from another client.
+VERSION = sha256(b"".join(pkgutil.get_data(__package__, f"{name}.py") or b"" for name in MODULES)).hexdigest()[:12]
 
 
 class Malformed(Exception):
@@ -39,6 +35,37 @@ class Malformed(Exception):
         self.number = number
 
 
+@dataclass(frozen=True)
+class Spq:
+    """The paths of `spq` and `spq-part` on the workers, and the number of threads of each run of `spq`.
+
+    Each task takes one. A worker that has another version of this package cannot unpack it: the task fails.
+    """
+
+    path: str = "spq"
+    threads: int = 1
+    part: str = "spq-part"
+
+    def select(self, query: str) -> list[str]:
+        """Returns the command line that evaluates a query."""
+        return [self.path, "select", "--workers", str(self.threads), "--piece", str(PIECE), "--query", query]
+
+    def __reduce__(self) -> tuple[Any, ...]:
+        return unpacked, (VERSION, self.path, self.threads, self.part)
+
+
+def unpacked(version: str, *fields: Any) -> Spq:
+    """Returns an `Spq` that was sent. Raises `Failed` if it comes from another version of this package."""
+    if version != VERSION:
+        raise here(MEMORY, "error: worker", f"has version {VERSION} of spq-dask, but {version} is running: restart the workers")
+    return Spq(*fields)
+
+
+def here(status: int, line: str, reason: str) -> Failed:
+    """Returns a failure whose reason begins with the name of this machine."""
+    return Failed(status, line, f"{socket.gethostname()}: {reason}")
+
+
 def versions(spq: Spq) -> str:
     """Returns what the programs of this worker print for `--version`, in one line. Raises `Failed` if one cannot be started."""
     said = []
@@ -46,112 +73,36 @@ def versions(spq: Spq) -> str:
         try:
             ran = subprocess.run([path, "--version"], stdin=subprocess.DEVNULL, capture_output=True)
         except OSError as error:
-            raise Failed(MEMORY, "error: worker", f"{socket.gethostname()}: {path} cannot be started: {error.strerror}") from None
+            raise here(MEMORY, "error: worker", f"{path} cannot be started: {error.strerror}") from None
         said.append(" ".join((ran.stdout + ran.stderr).decode(errors="replace").replace("error: command line", "").split()))
     return ", ".join(said)
 
 
-@dataclass(frozen=True)
-class Spq:
-    """The programs: the paths of `spq` and `spq-part` on the workers, and the number of threads of each run of `spq`."""
+def run(command: list[str], texts: Iterable[Text]) -> tuple[int, bytes]:
+    """Runs a program over texts, one after the other. Returns the status and the standard output.
 
-    path: str = "spq"
-    threads: int = 1
-    part: str = "spq-part"
-
-    def run(self, words: list[str], text: Text, file: Optional[io.FileIO] = None) -> tuple[int, bytes]:
-        """Runs a command over a text, which may be in a file in memory already. Returns the status and the standard output.
-
-        Raises `Failed` if the program cannot be started, or ends with a status that it does not have.
-        """
-        with nullcontext(file) if file else in_memory(text) as source, in_memory(b"") as output:
-            status = self.run_into(output, words, source)
-            return self.told(status, output)
-
-    def run_into(self, output: io.FileIO, words: list[str], source: io.FileIO) -> int:
-        """Runs a command whose standard input and output are files in memory. Returns the status, also of a kill.
-
-        Raises `Failed` as `run`.
-        """
-        command = [self.path, words[0], "--workers", str(self.threads), "--piece", str(PIECE), *words[1:]]
+    Raises `Failed` if the program cannot be started, or ends with a status that it does not have.
+    """
+    with in_memory() as source, in_memory() as output:
+        for text in texts:
+            write(source, text)
         source.seek(0)
-        status = ended(command, source, output, env=dict(os.environ, GLIBC_TUNABLES=MALLOC))
-        if status != -signal.SIGKILL and not 0 <= status <= DEVICE:
-            raise Failed(MEMORY, "error: worker", f"{self.path} ended with status {status}")
-        return status
-
-    def told(self, status: int, output: io.FileIO) -> tuple[int, bytes]:
-        """Returns the status and the output of a run. The system kills a program when memory is short."""
-        return (status, read(output)) if status != -signal.SIGKILL else (MEMORY, b"error: memory\n")
-
-    def run_in_halves(
-        self, words: list[str], text: Text, file: Optional[io.FileIO] = None, first: Optional[tuple[int, bytes]] = None
-    ) -> Iterator[tuple[Text, int, bytes]]:
-        """Runs a command over a text. A text that needs too much memory is cut in two, as often as needed.
-
-        Yields each part with its status, 0 or 1, and its output. Raises `Failed` on any other status. `first` is what the
-        command returned for the whole text, if it ran before.
-        """
-        status, output = first or self.run(words, text, file)
-        both = halves(bytes(text)) if status == MEMORY else None
-        if both:
-            for half in both:
-                yield from self.run_in_halves(words, half)
-        elif status in (0, MALFORMED):
-            yield text, status, output
-        else:
-            raise Failed(status, output.decode().strip())
-
-    def outputs(
-        self, words: list[str], text: Text, file: Optional[io.FileIO] = None, first: Optional[tuple[int, bytes]] = None
-    ) -> list[bytes]:
-        """Runs a command over a text. Returns the output, or the outputs of its parts if it was cut.
-
-        Raises `Malformed` if the text has a malformed line. `first` is as in `run_in_halves`.
-        """
-        parts, found = [], []
-        for part, status, output in self.run_in_halves(words, text, file, first):
-            if status == MALFORMED:
-                raise Malformed(sum(map(count_lines, parts)) + int(output.split()[-1]))
-            parts.append(part)
-            found.append(output)
-        return found
+        environment = dict(os.environ, GLIBC_TUNABLES=MALLOC)
+        try:
+            ran = subprocess.run(command, stdin=source, stdout=output, stderr=subprocess.DEVNULL, env=environment)
+        except OSError as error:
+            raise here(MEMORY, "error: worker", f"{command[0]} cannot be started: {error.strerror}") from None
+        if ran.returncode == -signal.SIGKILL:  # the system kills a program when memory is short
+            return MEMORY, b"error: memory\n"
+        if not 0 <= ran.returncode <= DEVICE:
+            raise here(MEMORY, "error: worker", f"{command[0]} ended with status {ran.returncode}")
+        output.seek(0)
+        return ran.returncode, output.read()
 
 
-def printed(command: list[str], source: io.FileIO, **options: Any) -> tuple[int, bytes]:
-    """Runs a program over a file. Returns the status and the standard output.
-
-    Raises `Failed` if the program cannot be started.
-    """
-    with in_memory(b"") as output:
-        status = ended(command, source, output, **options)
-        return status, read(output)
-
-
-def ended(command: list[str], source: io.FileIO, output: io.FileIO, **options: Any) -> int:
-    """Runs a program over a file. Its standard output is a file in memory. (A pipe takes more time.) Returns the status.
-
-    Raises `Failed` if the program cannot be started.
-    """
-    try:
-        return subprocess.run(command, stdin=source, stdout=output, stderr=subprocess.DEVNULL, **options).returncode
-    except OSError as error:
-        raise Failed(MEMORY, "error: worker", f"{command[0]} cannot be started: {error.strerror}") from None
-
-
-@contextlib.contextmanager
-def in_memory(text: Text) -> Iterator[io.FileIO]:
-    """Makes a file in memory of a text. (Programs read it with less effort than a pipe.)"""
-    with os.fdopen(os.memfd_create("spq-dask"), "w+b", buffering=0) as file:
-        write(file, text)
-        file.seek(0)
-        yield file
-
-
-def read(file: io.FileIO) -> bytes:
-    """Returns the text of a file in memory."""
-    file.seek(0)
-    return file.read()
+def in_memory() -> io.FileIO:
+    """Returns a file in memory, which has no buffer. (Programs read and write it with less effort than a pipe.)"""
+    return io.FileIO(os.memfd_create("spq-dask"), "r+b")
 
 
 def write(file: io.FileIO, text: Text) -> None:
@@ -159,3 +110,44 @@ def write(file: io.FileIO, text: Text) -> None:
     view = memoryview(text)
     while view:
         view = view[file.write(view) :]
+
+
+def failed(command: list[str], status: int, said: bytes) -> Failed:
+    """Returns the failure of a program that ended with this status."""
+    line = said.decode(errors="replace").strip()
+    if line in REASONS:
+        return here(MEMORY, "error: worker", REASONS[line])
+    return here(status, line, f"{command[0]} ended with {line!r}")
+
+
+# Why spq-part does not accept what another worker sent.
+REASONS = {"error: version": "another worker has another version of spq-part", "error: damaged": "a text was damaged on its way to this worker"}
+
+
+def output(command: list[str], texts: Iterable[Text]) -> bytes:
+    """Returns the output of a program. Raises `Failed` if it ends with another status than 0."""
+    status, said = run(command, texts)
+    if status:
+        raise failed(command, status, said)
+    return said
+
+
+def outputs(command: list[str], block: Text, before: Iterable[Text] = ()) -> Iterator[bytes]:
+    """Yields the output of a program over a block. A block that needs too much memory is cut in two, as often as needed.
+
+    Raises `Malformed` if the block has a malformed line, and `Failed` on any other status.
+    """
+    lines, rest = 0, [block]
+    while rest:
+        status, said = run(command, [*before, rest[-1]])
+        both = halves(bytes(rest[-1])) if status == MEMORY else None
+        if both:
+            rest[-1:] = reversed(both)
+        elif status == MALFORMED:
+            raise Malformed(lines + int(said.split()[-1]))
+        elif status:
+            raise failed(command, status, said)
+        else:
+            yield said
+            done = rest.pop()
+            lines += count_lines(bytes(done)) if rest else 0

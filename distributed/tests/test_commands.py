@@ -4,11 +4,14 @@ import os
 import random
 import re
 import shutil
+import signal
 import subprocess
 import unittest
 import urllib.request
+from unittest import mock
 
 import testing
+from spq_dask import shuffle
 from spq_dask.cluster import upload_package
 from testing import ROOT, file, script, spq, spq_dask
 
@@ -73,24 +76,31 @@ class Catalogue(unittest.TestCase):
         self.assertEqual(ran.stdout.split(mark)[:-1], [shown for _, shown in commands])
 
     def test_other_version(self):
-        """A worker that has another version of the package loads this one."""
-        def version():
-            import spq_dask.program
-            from spq_dask import program
-
-            assert program is spq_dask.program
-            return getattr(program, "VERSION", "this")
-
+        """A worker that has another version of the package is named; no block is read."""
         folder = os.path.join(ROOT, "distributed", "spq_dask")
         other = os.path.join(os.path.dirname(file(b"")), "other")
         shutil.copytree(folder, other)
-        with open(os.path.join(other, "program.py"), "a") as program:
-            program.write('VERSION = "other"\n')
-        for place, expected in [(folder, "this"), (other, "other"), (folder, "this")]:
-            upload_package(testing.CLIENT, place)
-            self.assertEqual(set(testing.CLIENT.run(version).values()), {expected})
-            with open(CATALOGUE, "rb") as source:
-                self.assertEqual(spq_dask(["check", "--blocksize", "2KiB"], CATALOGUE)[:2], spq(["check"], source.read()))
+        with open(os.path.join(other, "program.py"), "a") as source:
+            source.write("# another version\n")
+        every = [["check"], ["terms"], ["select", "--split", "subject", "--query", "SELECT * { ?s ?p ?o }"]]
+        for words in every:  # the workers load this version
+            self.assertEqual(spq_dask(words, CATALOGUE)[0], 0)
+        before = testing.workers()
+        upload_package(testing.CLIENT, other)
+        try:
+            testing.start_worker()
+            testing.CLIENT.wait_for_workers(4, timeout=60)
+            status, said, told = spq_dask(["check"], CATALOGUE)
+            self.assertEqual((status, said), (4, b"error: worker\n"))
+            self.assertIn("restart the workers", told)
+        finally:
+            for address, process in testing.workers().items():
+                if address not in before:
+                    os.kill(process, signal.SIGKILL)
+            testing.wait_for(lambda: len(testing.CLIENT.ncores()) == 3)
+            upload_package(testing.CLIENT, folder)
+        for words in every:
+            self.assertEqual(spq_dask(words, CATALOGUE)[0], 0)
 
     def test_dashboard(self):
         link = testing.CLIENT.dashboard_link.removesuffix("/status")
@@ -145,7 +155,7 @@ class Forms(unittest.TestCase):
         """Quads that are in several blocks, once or more in each."""
         dice = random.Random(6)
         text = b"".join(b'<a:s%d> <a:p> "%d" .\n' % (dice.randrange(9), dice.randrange(9)) for _ in range(300))
-        self.same(text, file(text), sizes=["60", "500", "3KiB"])
+        self.same(text, file(text), sizes=["200", "700", "3KiB"])
 
     def test_large_block(self):
         """A block of more than 8 MiB, with and without a malformed last line."""
@@ -153,6 +163,21 @@ class Forms(unittest.TestCase):
         for document in [text, text + b"x"]:
             for command in ["check", "terms"]:
                 self.assertEqual(spq_dask([command, "--blocksize", "64MiB"], file(document))[:2], spq([command], document))
+
+    def test_many_rows(self):
+        """A part of more rows than are sent at once, and limits beyond 64 bits."""
+        text = b"".join(b'<a:s%d> <a:p> "%d" .\n' % (k, k % 99) for k in range(12_000))
+        for query in ["SELECT * { ?s ?p ?o }", "SELECT ?o { ?s ?p ?o } LIMIT 9223372036854775808 OFFSET 11000", "SELECT DISTINCT ?o { ?s ?p ?o } LIMIT 99999999999999999999999"]:
+            asked = ["select", "--query", query]
+            for split in ["lines", "subject"]:
+                self.assertEqual(spq_dask([*asked, "--split", split, "--blocksize", "1MiB"], file(text))[:2], spq(asked, text))
+
+    def test_many_partitions(self):
+        """More pairs of blocks and partitions than there are tasks for."""
+        query = "SELECT * { GRAPH ?g { ?s ?p ?o } }"
+        with mock.patch.object(shuffle, "MOST_TASKS", 3):
+            for words, options in [(["check"], []), (["terms"], []), (["select", "--query", query], ["--split", "subject"])]:
+                self.assertEqual(spq_dask([*words, *options, "--blocksize", "200"], file(self.TEXT))[:2], spq(words, self.TEXT))
 
     def test_no_line_feed(self):
         text = self.TEXT.replace(b"\n", b"\r")

@@ -1,7 +1,10 @@
 """What fails: files, queries, the program, and workers."""
 import gzip
+import json
 import os
 import signal
+import socket
+import subprocess
 import threading
 import unittest
 from typing import Any
@@ -9,8 +12,8 @@ from typing import Any
 import testing
 from spq_dask import counting
 from spq_dask.cluster import Run
-from spq_dask.cutting import sources
-from spq_dask.program import Failed, Spq
+from spq_dask.cutting import Failed, sources
+from spq_dask.program import Spq
 from testing import file, script, spq, spq_dask
 
 TEXT = b"".join(b"<a:s%d> <a:p> _:b%d .\n" % (k % 50, k) for k in range(400))
@@ -48,6 +51,17 @@ class Files(unittest.TestCase):
     def test_is_of_no_protocol(self):
         for url in ["nowhere://x/y.nq", "http://127.0.0.1:9/x.nq"]:
             self.assertEqual(spq_dask(["check"], url)[:2], (5, b"error: input\n"))
+
+    def test_cannot_be_unpacked(self):
+        status, said, told = spq_dask(["check"], file(b"x", "x.nq.zst"))
+        self.assertEqual((status, said), (5, b"error: input\n"))
+        self.assertRegex(told, r"x.nq.zst: .*package")
+
+    def test_names_the_host_and_the_file(self):
+        status, said, told = spq_dask(["terms"], file(b"no gzip", "x.gz"))
+        self.assertEqual((status, said, told.count("\n")), (5, b"error: input\n", 1))
+        self.assertIn("x.gz", told)
+        self.assertIn(socket.gethostname(), told)
 
     def test_damaged_gzip(self):
         packed = bytearray(gzip.compress(TEXT))
@@ -108,6 +122,49 @@ class Programs(unittest.TestCase):
     def test_ends_in_another_way(self):
         self.assertEqual(spq_dask(["check"], file(TEXT), part=script("exit 77"))[:2], (4, b"error: worker\n"))
         self.assertEqual(spq_dask(["check"], file(TEXT), part=script("echo 'error: input'; exit 5"))[:2], (5, b"error: input\n"))
+
+
+    def test_output_is_partial(self):
+        """The terms that were printed before a failure are followed by its line."""
+        stops = script('[ "$1" = keep ] || exec "$PART" "$@"; t=$(mktemp); cat > $t; grep -q "_:b399 " $t && exit 77; exec "$PART" "$@" < $t')
+        status, said, told = spq_dask(["terms", "--blocksize", "1KiB"], file(TEXT), part=stops)
+        self.assertEqual(status, 4)
+        terms, line = said[: -len(b"error: worker\n")], said[-len(b"error: worker\n") :]
+        self.assertEqual(line, b"error: worker\n")
+        self.assertGreater(len(terms), 1000)
+        self.assertTrue(spq(["terms"], TEXT)[1].startswith(terms))
+        self.assertRegex(told, r"^spq-dask: .*: ended with status 77\n$|ended with status 77")
+
+
+class Output(unittest.TestCase):
+    def test_is_closed_or_full(self):
+        program = os.path.join(testing.ROOT, "distributed", "spq-dask")
+        words = [program, "check", "--quiet", "--scheduler", testing.ADDRESS, "--spq", testing.SPQ, "--spq-part", testing.PART, file(TEXT)]
+        for place in ["&-", "/dev/full"]:
+            ran = subprocess.run(["bash", "-c", f'"$@" >{place}', "bash", *words], stderr=subprocess.PIPE)
+            self.assertEqual(ran.returncode, 5, ran.stderr)
+            self.assertNotIn(b"Traceback", ran.stderr)
+
+
+class Scheduler(unittest.TestCase):
+    def test_dies(self):
+        """The scheduler dies while a command runs."""
+        place = os.path.join(os.path.dirname(file(b"")), "scheduler.json")
+        scheduler = testing.start_scheduler(place)
+        testing.wait_for(lambda: os.path.exists(place) and os.path.getsize(place) > 0)
+        with open(place) as source:
+            address = json.load(source)["address"]
+        testing.start_worker(address)
+        started = file(b"", "started")
+        slow = script(f'[ "$1" = split ] || exec "$PART" "$@"; echo >> {started}; sleep 30; exec "$PART" "$@"')
+        program = os.path.join(testing.ROOT, "distributed", "spq-dask")
+        words = [program, "check", "--quiet", "--scheduler", address, "--spq", testing.SPQ, "--spq-part", slow, file(TEXT)]
+        ran = subprocess.Popen(words, stdout=subprocess.PIPE, stderr=subprocess.PIPE)
+        testing.wait_for(lambda: os.path.getsize(started) > 0, 60)
+        scheduler.kill()
+        said, told = ran.communicate(timeout=90)
+        self.assertEqual((ran.returncode, said), (4, b"error: worker\n"), told)
+        self.assertEqual(told.count(b"\n"), 1, told)
 
 
 class Workers(unittest.TestCase):

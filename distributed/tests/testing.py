@@ -22,11 +22,18 @@ FOLDER = ""
 _processes: list[subprocess.Popen] = []
 
 
-def start(*words: str) -> None:
+def start(*words: str) -> subprocess.Popen:
     """Starts a process of Dask in a folder from which it cannot import this package."""
     with open(os.path.join(FOLDER, "log"), "ab") as log:
         ran = subprocess.Popen([sys.executable, "-m", *words], cwd=FOLDER, env=environment(), stdout=log, stderr=log)
     _processes.append(ran)
+    return ran
+
+
+def start_scheduler(place: str) -> subprocess.Popen:
+    """Starts a scheduler, which writes its address to a file."""
+    return start("distributed.cli.dask_scheduler", "--host", "127.0.0.1", "--port", "0", "--dashboard-address", "127.0.0.1:0",
+                 "--scheduler-file", place)
 
 
 def environment() -> dict[str, str]:
@@ -40,9 +47,9 @@ def environment() -> dict[str, str]:
     return dict(os.environ, PATH=place + os.pathsep + os.environ["PATH"], DASK_SCHEDULER_ADDRESS=ADDRESS)
 
 
-def start_worker() -> None:
+def start_worker(address: str = "") -> None:
     """Starts a worker with one thread, which is not started again if it dies."""
-    start("distributed.cli.dask_worker", ADDRESS, "--host", "127.0.0.1", "--nthreads", "1", "--no-nanny",
+    start("distributed.cli.dask_worker", address or ADDRESS, "--host", "127.0.0.1", "--nthreads", "1", "--no-nanny",
           "--memory-limit", "1GiB", "--no-dashboard", "--local-directory", FOLDER)
 
 
@@ -52,8 +59,7 @@ def cluster() -> Iterator[None]:
     global CLIENT, ADDRESS, FOLDER
     with tempfile.TemporaryDirectory() as FOLDER:
         place = os.path.join(FOLDER, "scheduler.json")
-        start("distributed.cli.dask_scheduler", "--host", "127.0.0.1", "--port", "0", "--dashboard-address", "127.0.0.1:0",
-              "--scheduler-file", place)
+        start_scheduler(place)
         try:
             with Client(scheduler_file=place, timeout=60) as CLIENT:
                 ADDRESS = CLIENT.scheduler.address

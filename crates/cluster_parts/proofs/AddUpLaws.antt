@@ -1,12 +1,11 @@
 -- The counts of the partitions are those of the document.
-use Rattle.std.proofs.Common.{◌≡◌, ℕ, zero, suc, ◌+◌, ◌<◌, ◌%◌, Bool, true, false, cond, eqb, not, ◌&&◌, ◌||◌, List, [], ◌∷◌, ◌++◌, length, map, filter, Option, Some, None, Decides, refl, sym, ap, subst, ◌∙◌, ⊎_elim, inl, inr, arith}
-use Rattle.std.proofs.lemmas.List.{length-map, map-append}
+use Rattle.std.proofs.Common.{◌≡◌, ℕ, ◌<◌, ◌%◌, Bool, true, false, cond, not, ◌&&◌, ◌||◌, List, [], ◌∷◌, ◌++◌, length, map, filter, Option, Some, None, refl, sym, ap, subst, ◌∙◌, inr}
+use Rattle.std.proofs.lemmas.List.{length-map}
 use Rattle.std.specs.Prelude.{codes, filter_map}
 use Rattle.std.specs.List.{flat_map, list_any, cons_option}
-use Rattle.std.proofs.lemmas.Bool.{cases_Bool, false≢true, eqb-true}
 use Rattle.std.proofs.lemmas.Nat.{mod_below}
 use Rattle.std.proofs.lemmas.Grind.{flat_map-append}
-use Rattle.std.proofs.lemmas.List.Elements.{filter-append, filter_map-append}
+use Rattle.std.proofs.lemmas.List.Elements.{filter_map-append}
 use Rattle.std.proofs.lemmas.List.Folds.{list_any-append}
 use Rattle.rdf_core.specs.declared.term.Term.{Term}
 use Rattle.rdf_core.specs.declared.term.Term.TheVariants.{Iri}
@@ -18,16 +17,15 @@ use Rattle.nquads_core.specs.Laws.{IsNQuadsTerm, with_object}
 use Rattle.dict_core.specs.Appearances.{terms_of, terms_of_quad, first_appearances, differs_from}
 use Rattle.dict_core.specs.Numbered.{joined}
 use Rattle.algebra_model.specs.Bag.{without_repeats}
-use Rattle.algebra_model.specs.Dataset.{names}
 use Rattle.algebra_model.proofs.RepeatLaws.{any-without_repeats_is}
 use Rattle.quad_index.specs.Laws.{same_parts}
 use Rattle.cluster_parts.specs.Hash.{term_hash}
 use Rattle.cluster_parts.specs.Seal.{joined_texts}
 use Rattle.cluster_parts.specs.Parts.{is_in, term_document, term_statement, terms_in}
 use Rattle.cluster_parts.specs.Output.{IsCountOf}
-use Rattle.cluster_parts.specs.Laws.{AreBlocks, NamesAddUp, TermsAddUp}
+use Rattle.cluster_parts.specs.Laws.{NamesAddUp, TermsAddUp}
 use Rattle.cluster_parts.specs.Sums.{sum_below}
-use Rattle.cluster_parts.proofs.Each.{Each, Each-append, Each-filter, Each-flat_map, Each-without_repeats}
+use Rattle.cluster_parts.proofs.Each.{Each, Each-filter, Each-flat_map, Each-without_repeats}
 use Rattle.cluster_parts.proofs.DocumentLaws.{IsOfLine, block_quads, one_reading, terms_of_lines, terms_read}
 use Rattle.cluster_parts.proofs.SetCounts.{any-filter_is, parts_add_up, sum_below-same}
 

@@ -1,14 +1,14 @@
 -- Documents of statements: their lines, and what these hold.
-use Rattle.std.proofs.Common.{◌≡◌, ◌⊎◌, ℕ, suc, ◌<◌, eqb, false, List, [], ◌∷◌, ◌++◌, length, map, get_or, Option, None, Some, refl, sym, ap, subst, ◌∙◌, inl, inr, append_assoc, append-nil, arith}
-use Rattle.std.specs.Prelude.{codes, option_to_list, slice_index, ◌≢◌}
-use Rattle.std.specs.List.{flat_map, AllZip}
+use Rattle.std.proofs.Common.{◌≡◌, ◌⊎◌, ℕ, suc, ◌<◌, List, [], ◌∷◌, ◌++◌, length, map, Option, None, Some, refl, sym, ap, subst, ◌∙◌, inl, inr, append_assoc, append-nil, arith}
+use Rattle.std.specs.Prelude.{option_to_list, slice_index, ◌≢◌}
+use Rattle.std.specs.List.{AllZip}
 use Rattle.rdf_core.specs.declared.term.Term.{Term}
 use Rattle.rdf_core.specs.QuadParts.{QuadParts}
 use Rattle.rdf_core.proofs.EscapeSteps.{eqb_no}
 use Rattle.nquads_core.specs.Grammar.{HasStatement}
 use Rattle.nquads_core.specs.Lines.{lines, EndsLine}
 use Rattle.nquads_core.specs.Pieces.{HaveStatements}
-use Rattle.nquads_core.specs.Laws.{Occurs, object_line, quad_line, with_object, IsNQuadsTerm}
+use Rattle.nquads_core.specs.Laws.{object_line, quad_line, with_object, IsNQuadsTerm}
 use Rattle.nquads_core.proofs.PieceLaws.{NoEnds, line_lf, lines_nil}
 use Rattle.nquads_core.proofs.LineEnds.{lines_join}
 use Rattle.nquads_core.proofs.Meaning.{one_meaning}
@@ -16,8 +16,8 @@ use Rattle.nquads_core.proofs.Again.{lines_round_trip, terms_round_trip}
 use Rattle.dict_core.specs.Appearances.{terms_of, terms_of_quad}
 use Rattle.dict_core.specs.Numbered.{joined}
 use Rattle.cluster_parts.specs.Seal.{joined_texts}
-use Rattle.cluster_parts.specs.Parts.{quad_document, quad_statement, term_document, term_statement}
-use Rattle.cluster_parts.specs.Laws.{AreBlocks, AreWholeLines, BlocksJoin}
+use Rattle.cluster_parts.specs.Parts.{quad_document, term_document}
+use Rattle.cluster_parts.specs.Laws.{AreWholeLines, BlocksJoin}
 use Rattle.cluster_parts.proofs.Each.{Each, Each-append}
 
 -- ---- one line

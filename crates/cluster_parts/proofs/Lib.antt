@@ -4,3 +4,5 @@ pub mod DocumentLaws
 pub mod AddUpLaws
 pub mod PartSteps
 pub mod QuadLaws
+pub mod TermListLaws
+pub mod TermSteps

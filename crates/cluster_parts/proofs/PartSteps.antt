@@ -1,10 +1,10 @@
 -- Steps of the loops that make the parts of a block.
-use Rattle.std.proofs.Common.{◌≡◌, ℕ, zero, suc, ◌+◌, ◌<◌, ◌%◌, Bool, true, false, cond, nat_eq, ◌&&◌, ◌||◌, if◌then◌else◌, List, [], ◌∷◌, ◌++◌, length, map, filter, get_or, take, drop, slice_get, Option, Some, None, refl, sym, ap, subst, ◌∙◌, append_assoc, append-nil, length-append, ⊎_elim, arith}
+use Rattle.std.proofs.Common.{◌≡◌, ℕ, zero, suc, ◌+◌, ◌<◌, Bool, true, false, cond, nat_eq, ◌&&◌, ◌||◌, if◌then◌else◌, List, [], ◌∷◌, ◌++◌, length, map, filter, get_or, take, drop, slice_get, Option, Some, None, refl, sym, ap, subst, ◌∙◌, append_assoc, append-nil, length-append, arith}
 use Rattle.std.proofs.lemmas.List.{length-map, map-append}
 use Rattle.std.specs.Prelude.{filter_map, option_to_list}
 use Rattle.std.specs.Option.{option_map, unwrap_or}
-use Rattle.std.specs.List.{flat_map, list_any, cons_option}
-use Rattle.std.proofs.lemmas.Bool.{cases_Bool, eqb-true}
+use Rattle.std.specs.List.{flat_map, cons_option}
+use Rattle.std.proofs.lemmas.Bool.{eqb-true}
 use Rattle.std.proofs.lemmas.List.{take_more, get_or-map, take-append-drop}
 use Rattle.std.proofs.lemmas.Nat.{le_bytes_8}
 use Rattle.std.specs.Int.{w64, from_le_bytes, to_le_bytes}
@@ -23,7 +23,6 @@ use Rattle.dict_core.specs.declared.num_quad.NumQuad.{NumQuad}
 use Rattle.dict_core.specs.Dict.{term_at}
 use Rattle.dict_core.specs.NumQuad.{quad_at, quads_at, AreBelow, IsBelow}
 use Rattle.dict_core.specs.Numbered.{IsNumbered}
-use Rattle.dict_core.specs.Appearances.{first_appearances}
 use Rattle.dict_core.proofs.DictLaws.{insert_known}
 use Rattle.dict_core.proofs.InsertLaws.{insert_all-append}
 use Rattle.dict_core.proofs.AppearanceLaws.{appearances}
@@ -32,8 +31,8 @@ use Rattle.algebra_model.specs.Dataset.{names}
 use Rattle.quad_index.specs.Counting.{IsCountOf}
 use Rattle.quad_index.specs.declared.counting.IndexCounts.{IndexCounts}
 use Rattle.quad_index.specs.Laws.{IndexCountsTheQuads, same_parts}
-use Rattle.cluster_parts.specs.Hash.{graph_hash, hash, hash_numbers, number_bytes, quad_hash, term_hash}
-use Rattle.cluster_parts.specs.Parts.{has_key, number_list, quad_document, quad_statement, quads_in}
+use Rattle.cluster_parts.specs.Hash.{graph_hash, graph_key, hash, hash_numbers, number_bytes, quad_hash, subject_key, term_hash}
+use Rattle.cluster_parts.specs.Parts.{number_list, quad_document, quad_statement}
 use Rattle.cluster_parts.specs.Output.{hash_among}
 use Rattle.cluster_parts.specs.NumberedHash.{hash_by_numbers, name_hash_by_number}
 use Rattle.cluster_parts.specs.Repeated.{has, is_repeated}
@@ -202,22 +201,49 @@ all_numbers bytes rest numbers all none = all ∙ ap (λ l. number_list numbers 
 taken_at : {X : Type 0} (xs : List X) (n : ℕ) (x : X) → n < length xs → get_or xs n x ≡ x → take (n + 1) xs ≡ take n xs ++ x ∷ []
 taken_at xs n x low is = take_more xs n x low ∙ ap (λ y. take n xs ++ y ∷ []) is
 
-pub keyed_more : (key : QuadParts → Option ℕ) (partitions number : ℕ) (dict : List Term) (quads : List NumQuad) (keys : List (Option ℕ)) (i : ℕ) (d : NumQuad) (text text' : List ℕ)
+pub keyed_more : (p : Option ℕ → Bool) (key : QuadParts → Option ℕ) (dict : List Term) (quads : List NumQuad) (keys : List (Option ℕ)) (i : ℕ) (d : NumQuad) (text text' : List ℕ)
     → i < length quads → keys ≡ map key (quads_at dict quads)
-    → text ≡ quad_document (quads_in key partitions number (take i (quads_at dict quads)))
-    → text' ≡ text ++ (if has_key partitions number (get_or keys i None) then quad_statement (quad_at dict (get_or quads i d)) else [])
-    → text' ≡ quad_document (quads_in key partitions number (take (i + 1) (quads_at dict quads)))
-keyed_more key partitions number dict quads keys i d text text' low are was wrote =
+    → text ≡ quad_document (filter (λ q. p (key q)) (take i (quads_at dict quads)))
+    → text' ≡ text ++ (if p (get_or keys i None) then quad_statement (quad_at dict (get_or quads i d)) else [])
+    → text' ≡ quad_document (filter (λ q. p (key q)) (take (i + 1) (quads_at dict quads)))
+keyed_more p key dict quads keys i d text text' low are was wrote =
     let xs = quads_at dict quads in
     let x = quad_at dict (get_or quads i d) in
     let inside : i < length xs = omega (arith, low, length-map quads (quad_at dict)) in
     let here : get_or xs i x ≡ x = get_or-map (quad_at dict) quads i d x low in
     let keyed : get_or keys i None ≡ key x = ap (λ l. get_or l i None) are ∙ get_or-map key xs i x None inside ∙ ap key here in
-    let p : QuadParts → Bool = λ y. has_key partitions number (key y) in
-    wrote ∙ (λ j. was j ++ (if has_key partitions number (keyed j) then quad_statement x else []))
-    ∙ ap (λ l. quad_document (filter p (take i xs)) ++ l) (one_kept quad_statement x (p x))
-    ∙ sym (flat_map-append quad_statement (filter p (take i xs)) (filter p (x ∷ [])))
-    ∙ ap (flat_map quad_statement) (sym (filter-append p (take i xs) (x ∷ [])) ∙ ap (filter p) (sym (taken_at xs i x inside here)))
+    let chosen : QuadParts → Bool = λ y. p (key y) in
+    wrote ∙ (λ j. was j ++ (if p (keyed j) then quad_statement x else []))
+    ∙ ap (λ l. quad_document (filter chosen (take i xs)) ++ l) (one_kept quad_statement x (chosen x))
+    ∙ sym (flat_map-append quad_statement (filter chosen (take i xs)) (filter chosen (x ∷ [])))
+    ∙ ap (flat_map quad_statement) (sym (filter-append chosen (take i xs) (x ∷ [])) ∙ ap (filter chosen) (sym (taken_at xs i x inside here)))
+
+-- ---- the keys of quads
+
+subject_key_is : (dict : List Term) (q : NumQuad) → IsBelow (length dict) q → Some (get_or (map term_hash dict) q.s 0) ≡ subject_key (quad_at dict q)
+subject_key_is dict q below = ap Some (term_hash_at dict q.s below.0)
+
+graph_key_is : (dict : List Term) (g : Option ℕ) → ((n : ℕ) → g ≡ Some n → n < length dict) → option_map (λ n. get_or (map term_hash dict) n 0) g ≡ option_map term_hash (option_map (term_at dict) g)
+graph_key_is dict None below = refl
+graph_key_is dict (Some n) below = ap Some (term_hash_at dict n (below n refl))
+
+-- a key of numbers, mapped over quads
+keys_at : (f : NumQuad → Option ℕ) (key : QuadParts → Option ℕ) (dict : List Term) → ((q : NumQuad) → IsBelow (length dict) q → f q ≡ key (quad_at dict q)) → (numbered : List NumQuad)
+    → AreBelow (length dict) numbered → map f numbered ≡ map key (quads_at dict numbered)
+keys_at f key dict is [] below = refl
+keys_at f key dict is (q ∷ qs) below = λ i. is q (below 0 q (omega arith)) i ∷ keys_at f key dict is qs (λ k d low. below (suc k) d (omega arith)) i
+
+pub subject_keys_are : (quads : List QuadParts) (dict : List Term) (numbered : List NumQuad) (hashes : List ℕ) (keys : List (Option ℕ)) → IsNumbered quads dict numbered → hashes ≡ map term_hash dict
+    → keys ≡ map (λ q. Some (get_or hashes q.s 0)) numbered → keys ≡ map subject_key quads
+subject_keys_are quads dict numbered hashes keys h are made =
+    made ∙ ap (λ l. map (λ q. Some (get_or l q.s 0)) numbered) are
+    ∙ keys_at (λ q. Some (get_or (map term_hash dict) q.s 0)) subject_key dict (subject_key_is dict) numbered h.1 ∙ ap (map subject_key) h.2
+
+pub graph_keys_are : (quads : List QuadParts) (dict : List Term) (numbered : List NumQuad) (hashes : List ℕ) (keys : List (Option ℕ)) → IsNumbered quads dict numbered → hashes ≡ map term_hash dict
+    → keys ≡ map (λ q. option_map (λ n. get_or hashes n 0) q.g) numbered → keys ≡ map graph_key quads
+graph_keys_are quads dict numbered hashes keys h are made =
+    made ∙ ap (λ l. map (λ q. option_map (λ n. get_or l n 0) q.g) numbered) are
+    ∙ keys_at (λ q. option_map (λ n. get_or (map term_hash dict) n 0) q.g) graph_key dict (λ q below. graph_key_is dict q.g below.3) numbered h.1 ∙ ap (map graph_key) h.2
 
 -- ---- the hashes that are looked for
 
@@ -269,3 +295,9 @@ not_false false e = sym e
 pub not_true : (a : Bool) → not a ≡ true → a ≡ false
 not_true true e = sym e
 not_true false e = refl
+
+-- ---- three texts, one after the other
+
+pub three_texts : (out0 out1 out2 out3 a b c : List ℕ) → out0 ≡ [] → out1 ≡ out0 ++ a → out2 ≡ out1 ++ b → out3 ≡ out2 ++ c → out3 ≡ a ++ (b ++ c)
+three_texts out0 out1 out2 out3 a b c none first second third =
+    third ∙ ap (λ l. l ++ c) (second ∙ ap (λ l. l ++ b) (first ∙ ap (λ l. l ++ a) none)) ∙ append_assoc a b c

@@ -1,5 +1,5 @@
 -- The distinct quads of the partitions are those of the document.
-use Rattle.std.proofs.Common.{◌≡◌, ℕ, zero, suc, ◌+◌, ◌<◌, ◌≤◌, ◌%◌, Bool, true, false, cond, eqb, nat_eq, not, ◌&&◌, ◌||◌, if◌then◌else◌, List, [], ◌∷◌, ◌++◌, length, map, filter, Option, Some, None, Decides, refl, sym, ap, subst, ◌∙◌, ⊎_elim, arith, eq-eqb, ne_eqb}
+use Rattle.std.proofs.Common.{◌≡◌, ℕ, zero, suc, ◌+◌, ◌<◌, ◌≤◌, ◌%◌, Bool, true, false, cond, eqb, nat_eq, not, ◌&&◌, ◌||◌, if◌then◌else◌, List, [], ◌∷◌, ◌++◌, length, map, filter, Some, None, refl, sym, ap, subst, ◌∙◌, ⊎_elim, arith, eq-eqb, ne_eqb}
 use Rattle.std.proofs.lemmas.List.{length-map, map-append}
 use Rattle.std.specs.List.{flat_map, list_any}
 use Rattle.std.proofs.lemmas.Bool.{cases_Bool, false≢true, eqb-true}
@@ -17,11 +17,10 @@ use Rattle.algebra_model.proofs.RepeatLaws.{IsWithoutRepeats-filter, IsWithoutRe
 use Rattle.quad_index.specs.Laws.{same_parts}
 use Rattle.quad_index.proofs.ReadingLaws.{parts_decides}
 use Rattle.cluster_parts.specs.Hash.{quad_hash}
-use Rattle.cluster_parts.specs.Seal.{joined_texts}
 use Rattle.cluster_parts.specs.Parts.{has_key, hashes_in, is_in, quad_document, quad_statement, quads_in, texts_below}
 use Rattle.cluster_parts.specs.Repeated.{has, is_repeated, single}
 use Rattle.cluster_parts.specs.Output.{AreRepeated, IsCountOf, hash_among}
-use Rattle.cluster_parts.specs.Laws.{AreBlocks, QuadsAddUp, hashes_gathered, quads_gathered}
+use Rattle.cluster_parts.specs.Laws.{QuadsAddUp, hashes_gathered, quads_gathered}
 use Rattle.cluster_parts.specs.Sums.{sum_below}
 use Rattle.cluster_parts.proofs.Each.{Each, Each-filter, Each-flat_map}
 use Rattle.cluster_parts.proofs.DocumentLaws.{IsOfLine, block_quads, one_reading, quads_read}

@@ -1,6 +1,7 @@
 -- The hash of a text, which chooses its partition (a choice of this project). It has no key, so that all workers
 -- agree: someone who chooses the terms can make partitions unequal in size, but cannot change a result.
 use Rattle.std.specs.Prelude.{ℕ, List, [], ◌∷◌, fold, Option, Some, None}
+use Rattle.std.specs.Option.{option_map}
 use Rattle.std.specs.Int.{w64, to_le_bytes}
 use Rattle.core.specs.Hash.{u64}
 use Rattle.core.specs.Hash.FoldHasher.{initial, write, finish}
@@ -37,3 +38,11 @@ graph_hash (Some t) = term_hash t
 -- a quad has the hash of the hashes of its terms
 abbrev pub quad_hash : QuadParts → ℕ
 quad_hash q = hash_numbers (term_hash q.s ∷ term_hash q.p ∷ term_hash q.o ∷ graph_hash q.g ∷ [])
+
+-- quads with the same subject have the same key
+abbrev pub subject_key : QuadParts → Option ℕ
+subject_key q = Some (term_hash q.s)
+
+-- quads of the same named graph have the same key; those of the default graph have none
+abbrev pub graph_key : QuadParts → Option ℕ
+graph_key q = option_map term_hash q.g

@@ -1,7 +1,6 @@
 -- What the laws of this crate say: the counts of the partitions are those of the whole document (laws of this project).
-use Rattle.std.specs.Prelude.{◌≡◌, ◌⊎◌, ℕ, ◌+◌, ◌<◌, List, [], ◌∷◌, map, length, ⊤}
-use Rattle.std.specs.List.{flat_map, AllZip}
-use Rattle.rdf_core.specs.declared.term.Term.{Term}
+use Rattle.std.specs.Prelude.{◌≡◌, ◌⊎◌, ℕ, ◌+◌, ◌<◌, List, [], ◌∷◌, map, length, get_or, ⊤}
+use Rattle.std.specs.List.{AllZip}
 use Rattle.rdf_core.specs.QuadParts.{QuadParts}
 use Rattle.nquads_core.specs.Lines.{lines, EndsLine}
 use Rattle.nquads_core.specs.Pieces.{HaveStatements}
@@ -14,7 +13,8 @@ use Rattle.cluster_parts.specs.Hash.{quad_hash}
 use Rattle.cluster_parts.specs.Seal.{joined_texts}
 use Rattle.cluster_parts.specs.Parts.{hashes_in, quad_document, quads_in, term_document, terms_in, texts_below}
 use Rattle.cluster_parts.specs.Repeated.{single}
-use Rattle.cluster_parts.specs.Output.{AreRepeated, IsCountOf, hash_among}
+use Rattle.cluster_parts.specs.Terms.{term_lines}
+use Rattle.cluster_parts.specs.Output.{AreFirst, AreRepeated, IsCountOf, IsKept, hash_among}
 use Rattle.cluster_parts.specs.Sums.{sum_below}
 
 -- each text but the last ends a line
@@ -77,3 +77,25 @@ QuadsAddUp =
     → ((n : ℕ) → IsCountOf (quads_gathered (texts_below repeated partitions) partitions quads n) (counts n))
     → sum_below (λ n. length (single (hashes_gathered partitions quads n)) + counts n) partitions
     ≡ length (without_repeats same_parts (joined quads))
+
+-- the document of the terms of a block
+abbrev pub block_terms : List QuadParts → List ℕ
+block_terms qs = term_document (first_appearances (terms_of qs))
+
+-- the documents of terms that the blocks have for a partition
+abbrev pub partition_terms : ℕ → List (List QuadParts) → ℕ → List (List ℕ)
+partition_terms partitions quads n = map (λ qs. term_document (terms_in partitions n (first_appearances (terms_of qs)))) quads
+
+-- the new terms of a block in all partitions, if these are its new terms in each
+abbrev pub news_of : ℕ → (ℕ → List (List ℕ)) → ℕ → List ℕ
+news_of partitions firsts block = texts_below (λ n. get_or (firsts n) block []) partitions
+
+-- What `keep` writes for the blocks, one after the other, are the terms of the document by first appearance.
+abbrev pub TermsAreKept : Type 0
+TermsAreKept =
+    (partitions : ℕ) (blocks : List (List ℕ)) (quads : List (List QuadParts)) (firsts : ℕ → List (List ℕ)) (kept : List (List ℕ))
+    → 0 < partitions → AreBlocks blocks quads
+    → ((n : ℕ) → AreFirst (partition_terms partitions quads n) (firsts n))
+    → length kept ≡ length quads
+    → ((b : ℕ) → b < length quads → IsKept (block_terms (get_or quads b [])) (news_of partitions firsts b) (get_or kept b []))
+    → joined_texts kept ≡ term_lines (first_appearances (terms_of (joined quads)))

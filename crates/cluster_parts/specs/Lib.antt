@@ -2,6 +2,8 @@ pub mod Hash
 pub mod Seal
 pub mod Parts
 pub mod Repeated
+pub mod Terms
+pub mod Keys
 pub mod Output
 pub mod NumberedHash
 pub mod Sums

@@ -1,5 +1,6 @@
 -- What the commands write (choices of this project).
-use Rattle.std.specs.Prelude.{◌≡◌, ℕ, Bool, List, ◌++◌, Option, Some, None, map, length, decimal, codes, if◌then◌else◌}
+use Rattle.std.specs.Prelude.{◌≡◌, ℕ, List, [], ◌++◌, Option, Some, None, is_none, map, filter, length, if◌then◌else◌}
+use Rattle.std.specs.List.{AllZip}
 use Rattle.rdf_core.specs.declared.term.Term.{Term}
 use Rattle.rdf_core.specs.QuadParts.{QuadParts}
 use Rattle.nquads_core.specs.Lines.{lines}
@@ -9,9 +10,10 @@ use Rattle.algebra_model.specs.Bag.{without_repeats}
 use Rattle.algebra_model.specs.Dataset.{names}
 use Rattle.quad_index.specs.Laws.{same_parts}
 use Rattle.cluster_parts.specs.Hash.{number_bytes, quad_hash}
-use Rattle.cluster_parts.specs.Seal.{sealed, all_sealed, joined_texts}
+use Rattle.cluster_parts.specs.Seal.{sealed}
 use Rattle.cluster_parts.specs.Parts.{term_document, terms_in, hashes_in, number_list, quad_document, quads_in, texts_below}
-use Rattle.cluster_parts.specs.Repeated.{has, is_repeated, single}
+use Rattle.cluster_parts.specs.Repeated.{has, is_repeated}
+use Rattle.cluster_parts.specs.Terms.{HaveObjects, has_term, new_in_turn, term_lines}
 
 -- three sealed texts: terms and graph names of a partition, and its hashes
 abbrev pub counting_part : ℕ → List Term → List Term → List ℕ → ℕ → List ℕ
@@ -39,6 +41,12 @@ quads_part key partitions quads number = sealed (quad_document (quads_in key par
 abbrev pub again_parts : List ℕ → ℕ → List QuadParts → List ℕ
 again_parts hashes partitions quads = texts_below (quads_part (hash_among hashes) partitions quads) partitions
 
+-- `split subject` and `split graph`: the number of lines, the quads without a key, and those of each partition
+abbrev pub keyed_parts : (QuadParts → Option ℕ) → ℕ → ℕ → List QuadParts → List ℕ
+keyed_parts key partitions count quads =
+    sealed (number_bytes count)
+    ++ (sealed (quad_document (filter (λ q. is_none (key q)) quads)) ++ texts_below (quads_part key partitions quads) partitions)
+
 -- the number of distinct quads of a document
 pub record IsCountOf (document : List ℕ) (count : ℕ) : Type 0 where
   pub quads : List QuadParts
@@ -48,3 +56,26 @@ pub record IsCountOf (document : List ℕ) (count : ℕ) : Type 0 where
 -- the hashes that are in a list at two places or more
 abbrev pub AreRepeated : List ℕ → List ℕ → Type 0
 AreRepeated hashes repeated = (h : ℕ) → has repeated h ≡ is_repeated hashes h
+
+-- the sealed terms of a partition
+abbrev pub terms_part : ℕ → List Term → ℕ → List ℕ
+terms_part partitions terms number = sealed (term_document (terms_in partitions number terms))
+
+-- `split terms`: the number of lines, the distinct terms, and those of each partition
+abbrev pub terms_parts : ℕ → ℕ → List Term → List ℕ
+terms_parts partitions count terms =
+    sealed (number_bytes count) ++ (sealed (term_document terms) ++ texts_below (terms_part partitions terms) partitions)
+
+-- `first`: of each document the terms that no document before it has, as a document
+pub record AreFirst (documents firsts : List (List ℕ)) : Type 0 where
+  pub lists : List (List Term)
+  pub objects : AllZip HaveObjects documents lists
+  pub new : firsts ≡ map term_document (new_in_turn [] lists)
+
+-- `keep`: the terms of a document that another one has, too, each on a line of its own
+pub record IsKept (document news output : List ℕ) : Type 0 where
+  pub terms : List Term
+  pub new : List Term
+  pub objects : HaveObjects document terms
+  pub new_objects : HaveObjects news new
+  pub kept : output ≡ term_lines (filter (has_term new) terms)

@@ -1,5 +1,5 @@
 -- Partitions of terms, quads and hashes, and how they are written (choices of this project).
-use Rattle.std.specs.Prelude.{ℕ, zero, suc, Bool, true, false, ◌%◌, ◌++◌, ◌==◌, List, [], ◌∷◌, Option, Some, None, filter, codes}
+use Rattle.std.specs.Prelude.{ℕ, zero, suc, Bool, false, ◌%◌, ◌++◌, ◌==◌, List, [], Option, Some, None, filter, codes}
 use Rattle.std.specs.List.{flat_map}
 use Rattle.rdf_core.specs.declared.term.Term.{Term}
 use Rattle.rdf_core.specs.QuadParts.{QuadParts}

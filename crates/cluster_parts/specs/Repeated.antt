@@ -1,5 +1,5 @@
 -- Hashes that a list has at two places.
-use Rattle.std.specs.Prelude.{ℕ, Bool, false, not, ◌==◌, List, [], ◌∷◌, filter, nat_eq, if◌then◌else◌}
+use Rattle.std.specs.Prelude.{ℕ, Bool, false, not, List, [], ◌∷◌, filter, nat_eq, if◌then◌else◌}
 use Rattle.std.specs.List.{list_any}
 
 -- the number is in the list

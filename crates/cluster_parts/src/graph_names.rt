@@ -22,8 +22,8 @@ fn number_name(known: &mut Dict, name: Term) -> Result<u64, AllocError>
     }
 }
 
-/// Adds a name, if it is not known.
-fn add_name(alloc: Global, known: &mut Dict, name: &Term) -> Result<(), AllocError>
+/// Adds a term, if it is not known.
+pub(crate) fn add_name(alloc: Global, known: &mut Dict, name: &Term) -> Result<(), AllocError>
     ensures names { OnOk result (known.new ≡ insert_key term_eq known.old name.now) }
 {
     match known.number_of(name) {

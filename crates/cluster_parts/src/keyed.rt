@@ -1,5 +1,5 @@
 //! The quads of a block by partition, by a key of each quad.
-ghost use Rattle.std.specs.Prelude.{◌≡◌, ◌<◌, ◌++◌, [], ℕ, Option, codes, option_map, if◌then◌else◌, length, map, IfOk, OnOk};
+ghost use Rattle.std.specs.Prelude.{◌≡◌, ◌<◌, ◌++◌, [], ℕ, Option, codes, filter, is_none, option_map, if◌then◌else◌, length, map, IfOk, OnOk};
 ghost use Rattle.std.specs.Option.{ForSome};
 ghost use Rattle.rdf_core.specs.QuadParts.{QuadParts};
 ghost use Rattle.rdf_core.specs.Serialization.{serialization};
@@ -80,6 +80,57 @@ fn push_if_keyed(
         push_quad(out, dict, quad)?;
     }
     Ok(())
+}
+
+/// Appends a quad if it has no key.
+fn push_if_unkeyed(
+    out: &mut Vec<u8>,
+    dict: &Dict,
+    quad: &NumQuad,
+    key: Option<u64>,
+) -> Result<(), AllocError>
+    requires below { IsBelow (length dict.now) quad.now }
+    ensures appended { OnOk result (out.new.items ≡ out.old.items
+        ++ (if is_none key then quad_statement (quad_at dict.now quad.now) else [])) }
+{
+    if key.is_none() {
+        push_quad(out, dict, quad)?;
+    }
+    Ok(())
+}
+
+/// Returns the quads of numbers that have no key as a document.
+fn unkeyed_at(
+    alloc: Global,
+    dict: &Dict,
+    quads: &[NumQuad],
+    keys: &[Option<u64>],
+) -> Result<Vec<u8>, AllocError>
+    requires below { AreBelow (length dict.now) quads.now }
+    requires all { length keys.now ≡ length quads.now }
+    ensures part { IfOk result (λ text. (key : QuadParts → Option ℕ)
+        → keys.now ≡ map key (quads_at dict.now quads.now)
+        → text.items ≡ quad_document (filter (λ q. is_none (key q)) (quads_at dict.now quads.now))) }
+{
+    let mut text = Vec::new(alloc);
+    for i in 0..quads.len() {
+        push_if_unkeyed(&mut text, dict, &quads[i], keys[i])?;
+    }
+    Ok(text)
+}
+
+/// Returns the quads that have no key as a document.
+pub(crate) fn unkeyed_part(
+    alloc: Global,
+    piece: &LocalPiece,
+    keys: &[Option<u64>],
+) -> Result<Vec<u8>, AllocError>
+    requires all { length keys.now ≡ length piece.now }
+    ensures part { IfOk result (λ text. (key : QuadParts → Option ℕ) → keys.now ≡ map key piece.now
+        → text.items ≡ quad_document (filter (λ q. is_none (key q)) piece.now)) }
+{
+    let text = unkeyed_at(alloc, piece.dict(), piece.quads(), keys)?;
+    Ok(text)
 }
 
 /// Returns the quads of a partition as a document, by the key of each.

@@ -1,6 +1,6 @@
-//! Laws: the counts of the partitions are those of the whole document. Each is the contract of a function that does
-//! nothing.
-ghost use Rattle.cluster_parts.specs.Laws.{BlocksJoin, NamesAddUp, QuadsAddUp, TermsAddUp};
+//! Laws: the counts of the partitions, and the terms that are kept of the blocks, are those of the whole document. Each
+//! law is the contract of a function that does nothing.
+ghost use Rattle.cluster_parts.specs.Laws.{BlocksJoin, NamesAddUp, QuadsAddUp, TermsAddUp, TermsAreKept};
 
 /// The quads of the blocks, one block after the other, are the quads of the document.
 pub fn blocks_join()
@@ -16,4 +16,9 @@ pub fn terms_add_up()
 /// The hashes that occur once, and the quads with the other hashes, add up to the number of distinct quads.
 pub fn quads_add_up()
     ensures law { QuadsAddUp }
+{}
+
+/// The terms that are kept of the blocks, one block after the other, are those of the document, by first appearance.
+pub fn terms_are_kept()
+    ensures law { TermsAreKept }
 {}

@@ -22,7 +22,7 @@ use std::alloc::{AllocError, Global};
 use std::hash::RandomState;
 
 /// Appends a term as the object of a statement.
-fn push_statement(out: &mut Vec<u8>, term: &Term) -> Result<(), AllocError>
+pub(crate) fn push_statement(out: &mut Vec<u8>, term: &Term) -> Result<(), AllocError>
     ensures appended { OnOk result (out.new.items ≡ out.old.items ++ term_statement term.now) }
 {
     out.extend_from_slice(b"<a:> <a:> ")?;
@@ -49,7 +49,7 @@ fn push_if_in(
 }
 
 /// Returns the terms of a partition as a document, in the order of the dictionary.
-fn terms_part(
+pub(crate) fn terms_part(
     alloc: Global,
     dict: &Dict,
     hashes: &[u64],

@@ -7,9 +7,12 @@ use Rattle.cluster_parts.specs.Hash.{number_bytes}
 use Rattle.cluster_parts.specs.Seal.{all_sealed, joined_texts, sealed}
 use Rattle.cluster_parts.specs.Parts.{number_list}
 use Rattle.cluster_parts.specs.Repeated.{single}
-use Rattle.cluster_parts.specs.Output.{AreRepeated, IsCountOf, again_parts, check_parts}
+use Rattle.dict_core.specs.Appearances.{terms_of, first_appearances}
+use Rattle.cluster_parts.specs.Output.{AreFirst, AreRepeated, IsCountOf, IsKept, again_parts, check_parts, keyed_parts, terms_parts}
+use Rattle.cluster_parts.specs.Keys.{key_of}
+use Rattle.cluster_parts.specs.declared.key_splits.QuadKey.{QuadKey}
 use Rattle.part_core.specs.declared.command.Command.{Command}
-use Rattle.part_core.specs.declared.command.Command.TheVariants.{SplitCheck, Count, Repeated, Join, Again}
+use Rattle.part_core.specs.declared.command.Command.TheVariants.{SplitCheck, Count, Repeated, Join, Again, SplitTerms, First, Keep, SplitQuads, Unseal}
 
 -- `split check`: the parts of a block
 pub record IsSplit (partitions : ℕ) (input output : List ℕ) : Type 0 where
@@ -50,6 +53,39 @@ pub record IsAgain (partitions : ℕ) (input output : List ℕ) : Type 0 where
   pub statements : HaveStatements (lines block) quads
   pub parts : output ≡ again_parts hashes partitions quads
 
+-- `unseal`: the sealed texts as one, not sealed
+pub record IsUnsealed (input output : List ℕ) : Type 0 where
+  pub texts : List (List ℕ)
+  pub unsealed : input ≡ all_sealed texts
+  pub joined : output ≡ joined_texts texts
+
+-- `split subject` and `split graph`: the quads of a block by partition
+pub record IsQuadSplit (key : QuadKey) (partitions : ℕ) (input output : List ℕ) : Type 0 where
+  pub quads : List QuadParts
+  pub statements : HaveStatements (lines input) quads
+  pub parts : output ≡ keyed_parts (key_of key) partitions (length (lines input)) quads
+
+-- `split terms`: the terms of a block, in order and by partition
+pub record IsTermSplit (partitions : ℕ) (input output : List ℕ) : Type 0 where
+  pub quads : List QuadParts
+  pub statements : HaveStatements (lines input) quads
+  pub parts : output ≡ terms_parts partitions (length (lines input)) (first_appearances (terms_of quads))
+
+-- `first`: for each of the sealed documents of a partition, in order, the terms that no document before it has
+pub record IsFirstOf (input output : List ℕ) : Type 0 where
+  pub texts : List (List ℕ)
+  pub firsts : List (List ℕ)
+  pub unsealed : input ≡ all_sealed texts
+  pub new : AreFirst texts firsts
+  pub sealed_again : output ≡ all_sealed firsts
+
+-- `keep`: after the sealed terms of a block those that are new in it, in any order; the new ones in the order of the block
+pub record IsKeptOf (input output : List ℕ) : Type 0 where
+  pub document : List ℕ
+  pub texts : List (List ℕ)
+  pub unsealed : input ≡ sealed document ++ all_sealed texts
+  pub listed : IsKept document (joined_texts texts) output
+
 -- what a command writes
 abbrev pub IsOutput : Command → List ℕ → List ℕ → Type 0
 IsOutput (SplitCheck partitions) input output = IsSplit partitions input output
@@ -57,6 +93,11 @@ IsOutput Count input output = IsCounted input output
 IsOutput Repeated input output = IsRepeatedIn input output
 IsOutput Join input output = IsJoined input output
 IsOutput (Again partitions) input output = IsAgain partitions input output
+IsOutput (SplitTerms partitions) input output = IsTermSplit partitions input output
+IsOutput First input output = IsFirstOf input output
+IsOutput Keep input output = IsKeptOf input output
+IsOutput (SplitQuads key partitions) input output = IsQuadSplit key partitions input output
+IsOutput Unseal input output = IsUnsealed input output
 
 -- the documents that are joined have a first malformed line
 pub record IsBadDocument (input : List ℕ) (k : ℕ) : Type 0 where
@@ -78,6 +119,11 @@ IsBadInput Count input k = IsBadDocument input k
 IsBadInput Repeated input k = ⊥
 IsBadInput Join input k = ⊥
 IsBadInput (Again partitions) input k = IsBadBlock input k
+IsBadInput (SplitTerms partitions) input k = IsFirstMalformed (lines input) k
+IsBadInput First input k = ⊥
+IsBadInput Keep input k = ⊥
+IsBadInput (SplitQuads key partitions) input k = IsFirstMalformed (lines input) k
+IsBadInput Unseal input k = ⊥
 
 -- a command has at least one partition
 abbrev pub HasPartitions : Command → Type 0
@@ -86,3 +132,8 @@ HasPartitions Count = ⊤
 HasPartitions Repeated = ⊤
 HasPartitions Join = ⊤
 HasPartitions (Again partitions) = 0 < partitions
+HasPartitions (SplitTerms partitions) = 0 < partitions
+HasPartitions First = ⊤
+HasPartitions Keep = ⊤
+HasPartitions (SplitQuads key partitions) = 0 < partitions
+HasPartitions Unseal = ⊤

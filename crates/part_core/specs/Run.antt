@@ -1,5 +1,5 @@
 -- What a run did to its reader and its writer.
-use Rattle.std.specs.Prelude.{◌≡◌, ℕ, List, Option}
+use Rattle.std.specs.Prelude.{ℕ, List, Option}
 use Rattle.std.specs.Io.KnownBytes.{Appends, Consumes, IsAtEnd}
 use Rattle.part_core.specs.declared.command.Command.{Command}
 use Rattle.part_core.specs.Output.{IsBadInput, IsOutput}

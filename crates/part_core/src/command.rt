@@ -3,6 +3,7 @@ ghost use Rattle.std.specs.Prelude.{◌≡◌, ◌<◌, IfOk};
 ghost use Rattle.part_core.specs.Output.{HasPartitions};
 
 use crate::fault::PartFault;
+use cluster_parts::QuadKey;
 
 /// The largest number of partitions.
 const MOST_PARTITIONS: u64 = 65536;
@@ -20,6 +21,16 @@ pub enum Command {
     Join,
     /// `again P`: splits the quads of a block that have one of the given hashes into P partitions.
     Again(u64),
+    /// `split terms P`: splits the terms of a block into P partitions.
+    SplitTerms(u64),
+    /// `first`: finds which terms are new in each of the sealed documents of a partition.
+    First,
+    /// `keep`: lists the new terms of a block.
+    Keep,
+    /// `split subject P` and `split graph P`: splits the quads of a block into P partitions.
+    SplitQuads(QuadKey, u64),
+    /// `unseal`: joins sealed texts into one text that is not sealed.
+    Unseal,
 }
 
 /// Returns a word of a command line, or an empty text if there are fewer words.
@@ -40,6 +51,34 @@ fn partitions_of(word: &str) -> Result<u64, PartFault>
     }
 }
 
+/// Returns the command of a word that stands alone.
+fn command_of(word: &str) -> Result<Command, PartFault>
+    ensures partitions { IfOk result HasPartitions }
+{
+    match word {
+        "count" => Ok(Command::Count),
+        "repeated" => Ok(Command::Repeated),
+        "join" => Ok(Command::Join),
+        "first" => Ok(Command::First),
+        "keep" => Ok(Command::Keep),
+        "unseal" => Ok(Command::Unseal),
+        _ => Err(PartFault::Line),
+    }
+}
+
+/// Returns the command `split` of a word and a number of partitions.
+fn split_of(word: &str, partitions: &str) -> Result<Command, PartFault>
+    ensures partitions { IfOk result HasPartitions }
+{
+    match word {
+        "check" => Ok(Command::SplitCheck(partitions_of(partitions)?)),
+        "terms" => Ok(Command::SplitTerms(partitions_of(partitions)?)),
+        "subject" => Ok(Command::SplitQuads(QuadKey::Subject, partitions_of(partitions)?)),
+        "graph" => Ok(Command::SplitQuads(QuadKey::Graph, partitions_of(partitions)?)),
+        _ => Err(PartFault::Line),
+    }
+}
+
 /// Reads the words of a command line, of which the first is the program's name.
 ///
 /// # Errors
@@ -48,20 +87,10 @@ pub fn read_command(words: &[String]) -> Result<Command, PartFault>
     ensures partitions { IfOk result HasPartitions }
 {
     let (first, second, third) = (word_at(words, 1), word_at(words, 2), word_at(words, 3));
-    if words.len() == 2 && first == "count" {
-        return Ok(Command::Count);
+    match words.len() {
+        2 => command_of(first),
+        3 if first == "again" => Ok(Command::Again(partitions_of(second)?)),
+        4 if first == "split" => split_of(second, third),
+        _ => Err(PartFault::Line),
     }
-    if words.len() == 2 && first == "repeated" {
-        return Ok(Command::Repeated);
-    }
-    if words.len() == 2 && first == "join" {
-        return Ok(Command::Join);
-    }
-    if words.len() == 3 && first == "again" {
-        return Ok(Command::Again(partitions_of(second)?));
-    }
-    if words.len() == 4 && first == "split" && second == "check" {
-        return Ok(Command::SplitCheck(partitions_of(third)?));
-    }
-    Err(PartFault::Line)
 }

@@ -8,14 +8,15 @@ ghost use Rattle.cluster_parts.specs.Seal.{all_sealed, joined_texts, sealed};
 ghost use Rattle.cluster_parts.specs.Parts.{number_list};
 ghost use Rattle.cluster_parts.specs.Output.{AreRepeated, IsCountOf, again_parts};
 ghost use Rattle.cluster_parts.specs.Repeated.{single};
-ghost use Rattle.part_core.specs.Output.{HasPartitions, IsAgain, IsBadBlock, IsBadDocument, IsBadInput, IsCounted, IsJoined, IsOutput, IsRepeatedIn, IsSplit};
+ghost use Rattle.part_core.specs.Output.{HasPartitions, IsAgain, IsBadBlock, IsBadDocument, IsBadInput, IsCounted, IsFirstOf, IsJoined, IsKeptOf, IsOutput, IsRepeatedIn, IsQuadSplit, IsSplit, IsTermSplit, IsUnsealed};
 ghost use Rattle.part_core.specs.declared.fault.PartFault.TheVariants.{BadLine};
 
 use crate::command::Command;
 use crate::fault::PartFault;
 use cluster_parts::{
-    count_single, count_statements, first_sealed, join_sealed, numbers_of, push_sealed,
-    push_sealed_list, push_sealed_number, repeated_hashes, split_again, split_for_check,
+    QuadKey, count_single, count_statements, first_sealed, first_terms, join_sealed, keep_terms,
+    numbers_of, push_sealed, push_sealed_list, push_sealed_number, repeated_hashes, split_again,
+    split_for_check, split_for_terms, split_quads,
 };
 use itoa::Buffer;
 use nquads_core::PieceFault;
@@ -220,6 +221,76 @@ fn split(
     }
 }
 
+/// Composes the output of `split terms`.
+fn split_terms(
+    alloc: Global,
+    state: RandomState,
+    input: &[u8],
+    partitions: u64,
+) -> Result<Vec<u8>, PartFault>
+    requires some { 0 < partitions }
+    ensures output { IfOk result (λ output. IsTermSplit partitions input.now output.items) }
+    ensures bad_line { IfErr result
+        (λ fault. (k : ℕ) → fault ≡ BadLine k → IsFirstMalformed (lines input.now) k) }
+{
+    match split_for_terms(alloc, state, input, partitions) {
+        Ok(out) => Ok(out),
+        Err(PieceFault::BadLine(line)) => Err(PartFault::BadLine(line)),
+        Err(PieceFault::Memory) => Err(PartFault::Memory),
+    }
+}
+
+/// Composes the output of `split subject` and `split graph`.
+fn split_by_key(
+    alloc: Global,
+    state: RandomState,
+    input: &[u8],
+    key: &QuadKey,
+    partitions: u64,
+) -> Result<Vec<u8>, PartFault>
+    requires some { 0 < partitions }
+    ensures output { IfOk result (λ output. IsQuadSplit key.now partitions input.now output.items) }
+    ensures bad_line { IfErr result
+        (λ fault. (k : ℕ) → fault ≡ BadLine k → IsFirstMalformed (lines input.now) k) }
+{
+    match split_quads(alloc, state, input, key, partitions) {
+        Ok(out) => Ok(out),
+        Err(PieceFault::BadLine(line)) => Err(PartFault::BadLine(line)),
+        Err(PieceFault::Memory) => Err(PartFault::Memory),
+    }
+}
+
+/// Composes the output of `unseal`.
+fn unsealed_text(alloc: Global, input: &[u8]) -> Result<Vec<u8>, PartFault>
+    ensures output { IfOk result (λ output. IsUnsealed input.now output.items) }
+    ensures no_line { IfErr result (λ fault. (k : ℕ) → fault ≡ BadLine k → ⊥) }
+{
+    let text = unsealed(alloc, input)?;
+    Ok(text)
+}
+
+/// Composes the output of `first`.
+fn firsts(alloc: Global, state: RandomState, input: &[u8]) -> Result<Vec<u8>, PartFault>
+    ensures output { IfOk result (λ output. IsFirstOf input.now output.items) }
+    ensures no_line { IfErr result (λ fault. (k : ℕ) → fault ≡ BadLine k → ⊥) }
+{
+    match first_terms(alloc, state, input) {
+        Ok(out) => Ok(out),
+        Err(fault) => Err(PartFault::of_seal(fault)),
+    }
+}
+
+/// Composes the output of `keep`.
+fn kept(alloc: Global, state: RandomState, input: &[u8]) -> Result<Vec<u8>, PartFault>
+    ensures output { IfOk result (λ output. IsKeptOf input.now output.items) }
+    ensures no_line { IfErr result (λ fault. (k : ℕ) → fault ≡ BadLine k → ⊥) }
+{
+    match keep_terms(alloc, state, input) {
+        Ok(out) => Ok(out),
+        Err(fault) => Err(PartFault::of_seal(fault)),
+    }
+}
+
 /// Composes the output of a command for its input.
 ///
 /// # Requires
@@ -228,7 +299,7 @@ fn split(
 /// # Errors
 /// - `BadLine(k)` if line k of the block or of the joined documents, counted from 0, is the first that is malformed.
 /// - `Version` if another version of the program wrote the input.
-/// - `Damaged` if the input was damaged.
+/// - `Damaged` if the input was damaged, or a sealed document of terms has a malformed line.
 /// - `Memory` if an allocation fails.
 pub fn compose(
     alloc: Global,
@@ -247,5 +318,12 @@ pub fn compose(
         Command::Repeated => repeated(alloc, state, input),
         Command::Join => joined(alloc, input),
         Command::Again(partitions) => again(alloc, state, input, *partitions),
+        Command::SplitTerms(partitions) => split_terms(alloc, state, input, *partitions),
+        Command::SplitQuads(key, partitions) => {
+            split_by_key(alloc, state, input, key, *partitions)
+        }
+        Command::Unseal => unsealed_text(alloc, input),
+        Command::First => firsts(alloc, state, input),
+        Command::Keep => kept(alloc, state, input),
     }
 }

@@ -1,8 +1,9 @@
 use Rattle.std.proofs.Common.{arith}
+use Rattle.cluster_parts.specs.Parts.{has_key}
 use Rattle.cluster_parts.proofs.PartSteps.{keyed_more}
 use Rattle.cluster_parts.proofs.keyed.keyed_part.Goals as goal
 
 pub loop-i-preserved : goal.loop-i-preserved
 loop-i-preserved c = λ key are.
-    keyed_more key c.args.partitions c.args.number c.args.dict.now c.args.quads.now c.args.keys.now c.loop-i.i _ c.loop-i.text.items c.push_if_keyed.new.out.items
+    keyed_more (has_key c.args.partitions c.args.number) key c.args.dict.now c.args.quads.now c.args.keys.now c.loop-i.i _ c.loop-i.text.items c.push_if_keyed.new.out.items
     (omega (arith, c.loop-i-test.true)) are (c.loop-i.invariant key are) c.in_ok-push_if_keyed.ensures.appended

@@ -1,4 +1,4 @@
-use Rattle.std.proofs.Common.{◌++◌, ap, subst, ◌∙◌}
+use Rattle.std.proofs.Common.{◌++◌, ap, ◌∙◌}
 use Rattle.cluster_parts.specs.Seal.{sealed}
 use Rattle.cluster_parts.specs.Output.{again_parts}
 use Rattle.part_core.proofs.composing.again.Goals as goal

@@ -1,5 +1,5 @@
 use Rattle.part_core.proofs.composing.repeated_of.Goals as goal
-use Rattle.std.proofs.Common.{ap, ◌++◌, ◌∙◌, length}
+use Rattle.std.proofs.Common.{ap, ◌++◌, ◌∙◌}
 use Rattle.cluster_parts.specs.Hash.{number_bytes}
 use Rattle.cluster_parts.specs.Repeated.{has}
 use Rattle.cluster_parts.specs.Seal.{sealed}

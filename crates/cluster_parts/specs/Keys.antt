@@ -1,0 +1,10 @@
+-- The key by which quads are split (choices of this project).
+use Rattle.std.specs.Prelude.{ℕ, Option}
+use Rattle.rdf_core.specs.QuadParts.{QuadParts}
+use Rattle.cluster_parts.specs.Hash.{graph_key, subject_key}
+use Rattle.cluster_parts.specs.declared.key_splits.QuadKey.{QuadKey}
+use Rattle.cluster_parts.specs.declared.key_splits.QuadKey.TheVariants.{Subject, Graph}
+
+abbrev pub key_of : QuadKey → QuadParts → Option ℕ
+key_of Subject q = subject_key q
+key_of Graph q = graph_key q

@@ -1,0 +1,162 @@
+//! The quads of a block by subject or by graph name.
+ghost use Rattle.std.specs.Prelude.{◌≡◌, ◌<◌, ◌++◌, ℕ, List, Option, Some, get_or, length, map, IfErr, IfOk, OnOk};
+ghost use Rattle.std.specs.Option.{option_map, ForSome};
+ghost use Rattle.rdf_core.specs.QuadParts.{QuadParts};
+ghost use Rattle.nquads_core.specs.Lines.{lines};
+ghost use Rattle.nquads_core.specs.Pieces.{HaveStatements, IsFirstMalformed};
+ghost use Rattle.nquads_core.specs.declared.fault.PieceFault.TheVariants.{BadLine};
+ghost use Rattle.dict_core.specs.NumQuad.{AreBelow, IsBelow};
+ghost use Rattle.dict_core.specs.Appearances.{first_appearances, terms_of};
+ghost use Rattle.cluster_parts.specs.Hash.{graph_key, subject_key, term_hash};
+ghost use Rattle.cluster_parts.specs.Keys.{key_of};
+ghost use Rattle.cluster_parts.specs.Output.{keyed_parts};
+
+use crate::hashing::hashes_of;
+use crate::keyed::{push_keyed_parts, unkeyed_part};
+use crate::sealing::{push_sealed, push_sealed_number};
+use dict_core::{LocalPiece, NumQuad, number_lines};
+use nquads_core::PieceFault;
+use std::alloc::{AllocError, Global};
+use std::hash::RandomState;
+
+/// What decides the partition of a quad.
+#[derive(Clone, Copy, Debug, Drop, PartialEq, Eq)]
+pub enum QuadKey {
+    /// The subject.
+    Subject,
+    /// The graph name. Quads of the default graph are in no partition.
+    Graph,
+}
+
+/// Returns the hash of the graph name with this number, if there is one.
+fn name_key(hashes: &[u64], name: Option<u64>) -> Option<u64>
+    requires below { ForSome name (λ n. n < length hashes.now) }
+    ensures value { result ≡ option_map (λ n. get_or hashes.now n 0) name }
+{
+    match name {
+        Some(name) => Some(hashes[name as usize]),
+        None => None,
+    }
+}
+
+/// Returns the hashes of the graph names of quads.
+fn graph_keys(
+    alloc: Global,
+    hashes: &[u64],
+    quads: &[NumQuad],
+) -> Result<Vec<Option<u64>>, AllocError>
+    requires below { AreBelow (length hashes.now) quads.now }
+    ensures keys { IfOk result
+        (λ keys. keys.items ≡ map (λ q. option_map (λ n. get_or hashes.now n 0) q.g) quads.now) }
+{
+    let mut keys = Vec::with_capacity(alloc, quads.len())?;
+    for quad in quads {
+        keys.push(name_key(hashes, quad.g))?;
+    }
+    Ok(keys)
+}
+
+/// Returns the hashes of the subjects of quads.
+fn subject_keys(
+    alloc: Global,
+    hashes: &[u64],
+    quads: &[NumQuad],
+) -> Result<Vec<Option<u64>>, AllocError>
+    requires below { AreBelow (length hashes.now) quads.now }
+    ensures keys { IfOk result (λ keys. keys.items ≡ map (λ q. Some (get_or hashes.now q.s 0)) quads.now) }
+{
+    let mut keys = Vec::with_capacity(alloc, quads.len())?;
+    for quad in quads {
+        keys.push(Some(hashes[quad.s as usize]))?;
+    }
+    Ok(keys)
+}
+
+/// Returns the keys of the quads of a block by graph name. `hashes` are those of its terms.
+fn keys_by_graph(
+    alloc: Global,
+    hashes: &[u64],
+    piece: &LocalPiece,
+) -> Result<Vec<Option<u64>>, AllocError>
+    requires hashed { hashes.now ≡ map term_hash (first_appearances (terms_of piece.now)) }
+    ensures keys { IfOk result (λ keys. keys.items ≡ map graph_key piece.now) }
+{
+    let keys = graph_keys(alloc, hashes, piece.quads())?;
+    Ok(keys)
+}
+
+/// Returns the keys of the quads of a block by subject. `hashes` are those of its terms.
+fn keys_by_subject(
+    alloc: Global,
+    hashes: &[u64],
+    piece: &LocalPiece,
+) -> Result<Vec<Option<u64>>, AllocError>
+    requires hashed { hashes.now ≡ map term_hash (first_appearances (terms_of piece.now)) }
+    ensures keys { IfOk result (λ keys. keys.items ≡ map subject_key piece.now) }
+{
+    let keys = subject_keys(alloc, hashes, piece.quads())?;
+    Ok(keys)
+}
+
+/// Returns the keys of the quads of a block.
+fn keys_of(alloc: Global, piece: &LocalPiece, key: &QuadKey) -> Result<Vec<Option<u64>>, AllocError>
+    ensures keys { IfOk result (λ keys. keys.items ≡ map (key_of key.now) piece.now) }
+{
+    let hashes = hashes_of(alloc, piece.dict())?;
+    match key {
+        QuadKey::Subject => keys_by_subject(alloc, hashes.as_slice(), piece),
+        QuadKey::Graph => keys_by_graph(alloc, hashes.as_slice(), piece),
+    }
+}
+
+/// Returns the parts of a block that has been read.
+fn parts_by_key(
+    alloc: Global,
+    piece: &LocalPiece,
+    key: &QuadKey,
+    count: u64,
+    partitions: u64,
+) -> Result<Vec<u8>, AllocError>
+    requires some { 0 < partitions }
+    ensures parts { IfOk result
+        (λ out. out.items ≡ keyed_parts (key_of key.now) partitions count piece.now) }
+{
+    let keys = keys_of(alloc, piece, key)?;
+    let unkeyed = unkeyed_part(alloc, piece, keys.as_slice())?;
+    let mut out = Vec::new(alloc);
+    push_sealed_number(alloc, &mut out, count)?;
+    push_sealed(&mut out, unkeyed.as_slice())?;
+    push_keyed_parts(alloc, &mut out, piece, keys.as_slice(), partitions)?;
+    Ok(out)
+}
+
+/// Reads a block of whole lines, and splits its quads by partition (`keyed_parts`).
+///
+/// The first sealed text is the number of lines, as eight bytes. Then come the quads without a key, as a document of
+/// canonical N-Quads, and then such a document for each partition.
+///
+/// # Requires
+/// There is at least one partition.
+///
+/// # Errors
+/// - `BadLine(k)` if line k of the block, counted from 0, is the first that is malformed.
+/// - `Memory` if an allocation fails.
+pub fn split_quads(
+    alloc: Global,
+    state: RandomState,
+    block: &[u8],
+    key: &QuadKey,
+    partitions: u64,
+) -> Result<Vec<u8>, PieceFault>
+    requires some { 0 < partitions }
+    ensures parts { IfOk result (λ out. (quads : List QuadParts) × HaveStatements (lines block.now) quads
+        × (out.items ≡ keyed_parts (key_of key.now) partitions (length (lines block.now)) quads)) }
+    ensures bad_line { IfErr result
+        (λ fault. (k : ℕ) → fault ≡ BadLine k → IsFirstMalformed (lines block.now) k) }
+{
+    let numbered = number_lines(alloc, state, block)?;
+    match parts_by_key(alloc, &numbered.piece, key, numbered.lines, partitions) {
+        Ok(out) => Ok(out),
+        Err(_) => Err(PieceFault::Memory),
+    }
+}

@@ -1,0 +1,106 @@
+"""The commands of `spq-part`, without Dask: what blocks give together is what one `spq` gives."""
+import random
+import subprocess
+import unittest
+
+import documents
+import testing
+from spq_dask import parts
+from testing import spq
+
+PARTITIONS = 3
+FORMS = ['"chat"', '"chat"@fr', '"chat"^^<http://www.w3.org/2001/XMLSchema#string>', '"a\\u005Cb"', '"a\\\\b"', '"a\\b"', '"\\u0078"', '"x"', '"x"@EN', '"x"@en', "<a:>", "_:b"]
+
+
+def part(*words: str, text: bytes = b"") -> tuple[int, bytes]:
+    """Runs `spq-part`."""
+    ran = subprocess.run([testing.PART, *words], input=text, stdout=subprocess.PIPE)
+    return ran.returncode, ran.stdout
+
+
+def texts(*words: str, text: bytes = b"") -> list[bytes]:
+    """Returns the sealed texts that `spq-part` writes."""
+    status, said = part(*words, text=text)
+    assert status == 0, said
+    return list(map(bytes, parts.sealed(said)))
+
+
+def blocks(dice: random.Random, text: bytes) -> list[bytes]:
+    """Cuts a document into blocks of whole lines."""
+    lines = text.splitlines(True)
+    cuts = sorted(dice.sample(range(len(lines) + 1), min(len(lines), dice.randrange(5))))
+    return [b"".join(lines[start:end]) for start, end in zip([0, *cuts], [*cuts, len(lines)])]
+
+
+def terms(cut: list[bytes]) -> bytes:
+    """Composes the terms of a document from those of its blocks."""
+    splits = [texts("split", "terms", str(PARTITIONS), text=block)[1:] for block in cut]
+    firsts = [texts("first", text=b"".join(split[1 + number] for split in splits)) for number in range(PARTITIONS)]
+    return b"".join(part("keep", text=b"".join([split[0], *new]))[1] for split, *new in zip(splits, *firsts))
+
+
+def check(cut: list[bytes]) -> bytes:
+    """Composes the counts of a document from those of its blocks."""
+    splits = [texts("split", "check", str(PARTITIONS), text=block)[1:] for block in cut]
+    columns = [b"".join(split[place] for split in splits) for place in range(3 * PARTITIONS)]
+    pairs = [texts("repeated", text=columns[place]) for place in range(2, 3 * PARTITIONS, 3)]
+    repeated = part("join", text=b"".join(again for _, again in pairs))[1]
+    again = [texts("again", str(PARTITIONS), text=repeated + block) for block in cut]
+    count = lambda some: sum(int(part("count", text=text)[1]) for text in some)
+    quads = sum(parts.number(memoryview(single)) for single, _ in pairs) + count(b"".join(those) for those in zip(*again))
+    return b"ok %d quads %d terms %d graphs\n" % (quads, count(columns[0::3]), count(columns[1::3]))
+
+
+class Part(unittest.TestCase):
+    def test_documents(self):
+        """Random documents, at random cuts: both commands, and the quads by subject and by graph name."""
+        for seed in range(40):
+            dice = random.Random(f"part:{seed}")
+            _, statements, _ = documents.case(dice)
+            text = documents.document(dice, statements, True, ["\n"])
+            cut = blocks(dice, text)
+            with self.subTest(seed=seed, text=text):
+                self.assertEqual((0, terms(cut)), spq(["terms"], text))
+                self.assertEqual((0, check(cut)), spq(["check"], text))
+                for key in ["subject", "graph"]:
+                    split = texts("split", key, str(PARTITIONS), text=text)
+                    again = [part("unseal", text=one)[1] for one in split[1:]]
+                    self.assertEqual(spq(["check"], b"".join(again)), spq(["check"], text))
+                    firsts = [{line.split(b" ")[0] for line in one.splitlines()} for one in again[1:]]
+                    if key == "subject":
+                        self.assertEqual(len(set().union(*firsts)), sum(map(len, firsts)))
+
+    def test_forms(self):
+        """A tag, an escape, an xsd:string or a capital alone, in different blocks; each term of the statements of terms."""
+        text = "".join(f"<a:> <a:> {o} {g} .\n" for g in ["", "<a:g>", "<a:\\u0067>", "_:g"] for o in FORMS).encode()
+        text = text.replace(b'"a\\b"', b'"a\\u0008"')
+        cut = text.splitlines(True)
+        self.assertEqual((0, terms(cut)), spq(["terms"], text))
+        self.assertEqual((0, check(cut)), spq(["check"], text))
+
+    def test_numbers_of_lines(self):
+        for text, count in [(b"", 0), (b"\n", 1), (b"# c\r\n\r# d", 3)]:
+            for what in ["check", "terms", "subject", "graph"]:
+                self.assertEqual(parts.number(memoryview(texts("split", what, "1", text=text)[0])), count)
+
+    def test_faults(self):
+        sealed = part("split", "terms", "1", text=b"<a:b> <a:b> <a:b> .\n")[1]
+        damaged = sealed[:-2] + b"x" + sealed[-1:]
+        for words, text, status, line in [
+            (["split", "terms", "2"], b"\nx\n", 1, b"error: line 2\n"),
+            (["split", "subject", "2"], b"x", 1, b"error: line 1\n"),
+            (["split", "check", "0"], b"", 3, b"error: command line\n"),
+            (["split", "check", "65537"], b"", 3, b"error: command line\n"),
+            (["split", "object", "2"], b"", 3, b"error: command line\n"),
+            ([], b"", 3, b"error: command line\n"),
+            (["keep"], b"", 5, b"error: version\n"),
+            (["first"], b"spq-part 1 9.9.9\n", 5, b"error: version\n"),
+            (["first"], damaged, 5, b"error: damaged\n"),
+            (["first"], sealed, 5, b"error: damaged\n"),  # the number of lines is no document
+            (["unseal"], sealed[:-1], 5, b"error: damaged\n"),
+            (["first"], b"", 0, b""),
+            (["split", "graph", "65536"], b"", 0, None),
+        ]:
+            with self.subTest(words=words):
+                ran = part(*words, text=text)
+                self.assertEqual(ran, (status, ran[1] if line is None else line))
