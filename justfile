@@ -70,9 +70,14 @@ refusals:
 bench quads='100000':
     bench/compare.py --tables loading --quads {{quads}}
 
-# measure everything with the built program, keep the figures in bench/results.json, and put them into the pages
-measure oxigraph='oxigraph':
-    bench/compare.py --oxigraph {{oxigraph}} --runs 10 --budget 30 --write bench
+# measure loading, shapes of document, queries and memory with a built program, keep the figures in bench/results.json, and put them into the pages
+measure program='crates/spq/out/spq':
+    bench/compare.py --spq {{program}} --tables memory,loading,shapes,queries,growth --growth 100000,1000000,3000000 --runs 10 --budget 12 --write bench
+    tests/pages.py --write
+
+# measure the queries with other engines, and keep the figures
+measure-engines oxigraph='oxigraph' program='crates/spq/out/spq':
+    bench/compare.py --spq {{program}} --oxigraph {{oxigraph}} --tables engines --runs 5 --budget 30 --write bench
     tests/pages.py --write
 
 # run the test suites of the W3C with the built program, fetching them from Debian's source package of rdflib first

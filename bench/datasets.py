@@ -1,15 +1,19 @@
 #!/usr/bin/env python3
-"""Writes an N-Quads dataset of a given size to standard output: the catalogue of a library.
+"""Writes an N-Quads dataset of a given size to standard output: the catalogue of a library, or another shape.
 
-    datasets.py QUADS [SEED]
+    datasets.py [--shape NAME] QUADS [SEED]
 
-The same arguments give the same bytes. Works, persons and places are in the default graph. The records of each branch
-library are in a named graph; a blank node names every fifth graph.
-The dataset has plain, typed and language-tagged literals, blank nodes, escapes and non-ASCII text.
+The same arguments give the same bytes. In the catalogue, works, persons and places are in the default graph. The records of each
+branch library are in a named graph; a blank node names every fifth graph. It has plain, typed and language-tagged literals, blank
+nodes, escapes and non-ASCII text. The other shapes are those of shapes.py; SEED is for the catalogue alone.
 Python 3 standard library only.
 """
+import argparse
+import itertools
 import random
 import sys
+
+import shapes
 
 BASE = "http://library.example/"
 XSD = "http://www.w3.org/2001/XMLSchema#"
@@ -102,15 +106,20 @@ def statements(dice):
         n += 1
 
 
+def catalogue(seed):
+    """Yields the lines of a catalogue without an end."""
+    return (f"{s} {p} {o} {g}{' ' if g else ''}.\n" for s, p, o, g in statements(random.Random(seed)))
+
+
 def main():
-    count = int(sys.argv[1])
-    dice = random.Random(int(sys.argv[2]) if len(sys.argv) > 2 else 1)
-    out = sys.stdout.buffer
-    lines = statements(dice)
-    while count > 0:
-        block = [next(lines) for _ in range(min(count, 10000))]
-        count -= len(block)
-        out.write("".join(f"{s} {p} {o} {g}{' ' if g else ''}.\n" for s, p, o, g in block).encode())
+    parser = argparse.ArgumentParser(description=__doc__.split("\n")[0])
+    parser.add_argument("--shape", choices=["catalogue", *shapes.SHAPES], default="catalogue")
+    parser.add_argument("quads", type=int, metavar="QUADS")
+    parser.add_argument("seed", type=int, nargs="?", default=1, metavar="SEED")
+    given = parser.parse_args()
+    lines = itertools.islice(catalogue(given.seed), given.quads) if given.shape == "catalogue" else shapes.lines(given.shape, given.quads)
+    while block := "".join(itertools.islice(lines, 10000)):
+        sys.stdout.buffer.write(block.encode())
 
 
 if __name__ == "__main__":

@@ -10,7 +10,10 @@ import os
 import re
 
 import report
+import targets
 from measure import Measurement, markdown, ratio
+from report import SERDI
+from targets import MANY, ONE, Figures, highest, without
 
 HERE = os.path.dirname(os.path.abspath(__file__))
 PAGES = ["README.md", "docs/COST.md", "docs/COMPARISON.md", "docs/USAGE.md", "bench/RESULTS.md"]
@@ -21,7 +24,7 @@ FIGURE = re.compile(rf"\b\d[\d.,]*(?:(?: to | and |, | or |-)\d[\d.,]*)*[  ]?{UN
 PHRASE = re.compile(r"(<!-- figure: ([\w-]+) -->).*?(<!-- end -->)", re.S)
 HIDDEN = re.compile(r"<!-- generated: .*?<!-- end of the generated part -->|<!-- figure: .*?<!-- end -->|^ *```.*?^ *```|`[^`\n]*`", re.S | re.M)
 LARGEST = "path of four"
-OTHERS = {"serdi": "serdi, parse and print", "serd": "serd's library, parse", "rapper": "rapper, parse", "riot": "riot, parse", "Oxigraph": "Oxigraph, load into its store"}
+OTHERS = {"serdi": SERDI, "serd": "serd's library, parse", "rapper": "rapper, parse", "riot": "riot, parse", "Oxigraph": "Oxigraph, load into its store"}
 # Gigabytes of memory (10^9 bytes) for which the table says how many statements fit. A tenth is left to the system.
 SIZES, SHARE = (8, 16, 64, 256), 0.9
 
@@ -54,7 +57,14 @@ def loads():
 
 @functools.lru_cache(maxsize=None)
 def answers():
-    return {query: measured(it) for query, it in largest("queries")[1].items()}
+    """Returns the results of spq by query, without those of `check`."""
+    return {query: measured(it) for query, it in largest("queries")[1].items() if query != "check"}
+
+
+@functools.lru_cache(maxsize=None)
+def engines():
+    """Returns the results of the engines by query."""
+    return {query: measured(it) for query, it in largest("engines")[1].items()} if "engines" in results() else {}
 
 
 @functools.lru_cache(maxsize=None)
@@ -85,48 +95,69 @@ def megabytes(quads):
 
 
 def readme_speed():
-    """The table of README.md: the quickest first."""
+    """The table of README.md, the quickest first, and how spq compares with serdi on other shapes of document."""
     rows = [
-        ("`spq check`, 4 workers: parse, number the terms, sort", loads().get("spq check, 4 workers")),
+        ("`spq check`, 4 workers: parse, number the terms, sort", loads().get(MANY)),
         (f"`spq select`, 4 workers: index, a join of {answers()[LARGEST]['spq, 4 workers'].rows:,} rows", answers()[LARGEST]["spq, 4 workers"]),
-        ("`spq check`, 1 worker", loads().get("spq check, 1 worker")),
+        ("`spq check`, 1 worker", loads().get(ONE)),
         ("serd's library: parse", loads().get(OTHERS["serd"])),
-        ("serdi: parse and print", loads().get(OTHERS["serdi"])),
-        ("Oxigraph: load, the same join", answers()[LARGEST].get("Oxigraph")),
+        ("serdi: parse and print", loads().get(SERDI)),
     ]
     found = sorted(((text, it) for text, it in rows if it), key=lambda row: row[1].seconds)
-    quads = largest("loading")[0]
-    runs = max(it.runs for it in loads().values())
-    return [f"{quads:,} statements, {megabytes(quads)}, 4 cores, best of {runs} (Oxigraph: {loads()[OTHERS['Oxigraph']].runs}), one run ([all](bench/RESULTS.md)):" if OTHERS["Oxigraph"] in loads()
-            else f"{quads:,} statements, {megabytes(quads)}, 4 cores, best of {runs}, one run ([all](bench/RESULTS.md)):", "",
-            *markdown(["", "seconds", "peak MiB"], [[text, f"{it.seconds:.2f}", report.peak(it)] for text, it in found]).splitlines()]
+    quads, runs = largest("loading")[0], max(it.runs for it in loads().values())
+    return [f"{quads:,} statements of a catalogue, {megabytes(quads)}, 4 cores, best of {runs}, one run ([all](bench/RESULTS.md)):", "",
+            *markdown(["", "seconds", "peak MiB"], [[text, f"{it.seconds:.2f}", report.peak(it)] for text, it in found]).splitlines(), "",
+            "Time relative to serdi on the same document, for the catalogue and for the slowest other [shapes](bench/RESULTS.md#shapes-of-document):", "",
+            *against_serdi()]
+
+
+def against_serdi():
+    """The time of `check` relative to serdi: the catalogue, the worst shape, and the worst but one."""
+    lines = []
+    for name in (ONE, MANY):
+        ratios = Figures(results()).shape_ratios(name)
+        others = sorted(without(ratios, ("catalogue",)).items(), key=lambda pair: -pair[1])
+        lines.append([f"`{name.split(',')[0]}`,{name.split(',')[1]}", f"{ratios['catalogue']:.2f}", *(f"{it:.2f} ({shape})" for shape, it in others[:2])])
+    return markdown(["", "catalogue", "slowest", "next"], lines).splitlines()
 
 
 def comparison_loading():
-    names = {"spq check, 4 workers": "`spq check`, 4 workers", OTHERS["serd"]: "serd's library, parse only", "spq check, 1 worker": "`spq check`, 1 worker",
-             OTHERS["serdi"]: "`serdi`, parse and print", OTHERS["rapper"]: "`rapper`, parse only", OTHERS["riot"]: "`riot`, parse only", OTHERS["Oxigraph"]: "Oxigraph, load into its store on disk"}
+    names = {MANY: "`spq check`, 4 workers", OTHERS["serd"]: "serd's library, parse only", ONE: "`spq check`, 1 worker",
+             SERDI: "`serdi`, parse and print", OTHERS["rapper"]: "`rapper`, parse only", OTHERS["riot"]: "`riot`, parse only", OTHERS["Oxigraph"]: "Oxigraph, load into its store on disk"}
     found = sorted(((text, loads()[name]) for name, text in names.items() if name in loads()), key=lambda row: row[1].seconds)
     quads = largest("loading")[0]
-    one, many, serd = loads()["spq check, 1 worker"], loads()["spq check, 4 workers"], loads().get(OTHERS["serd"])
-    lines = [f"{quads:,} quads, {megabytes(quads)}, one run:", "",
+    one, many, serd = loads()[ONE], loads()[MANY], loads().get(OTHERS["serd"])
+    lines = [f"{quads:,} quads of a catalogue, {megabytes(quads)}, one run:", "",
              *markdown(["command", "seconds", "CPU seconds", "peak MiB"], [[text, f"{it.seconds:.2f}", f"{it.cpu:.2f}", report.peak(it)] for text, it in found]).splitlines(), ""]
     if serd:
         lines.append(f"With one worker `spq check` takes {ratio(one.seconds, serd.seconds)} times as long as serd's library, with four workers {ratio(many.seconds, serd.seconds)} times.")
+    worst = highest(Figures(results()).shape_ratios(ONE))
+    if worst:
+        lines.append(f"Of twelve shapes of document, spq is slowest in comparison where the shape is `{worst[1]}`: with one worker {worst[0]:.2f} of serdi's time.")
     return lines
 
 
 def comparison_queries():
-    """What the other engines need for the queries, relative to spq with four workers."""
-    quads, found = largest("queries")[0], answers()
-    lines = [f"{len(found)} queries over {quads:,} quads, each from the bytes of the document to the JSON:", ""]
-    rows = [["spq, 4 workers", between([it.seconds for it in spq(4)], "{:.2f}"), between([it.peak for it in spq(4)], "{:.0f}"), "1"]]
+    """What the other engines need for the queries, relative to spq with four workers in the same run."""
+    if not engines():
+        return ["Not measured."]
+    quads, found = largest("engines")[0], engines()
+    lines = [*other_run("engines"), f"{len(found)} queries over {quads:,} quads, each from the bytes of the document to the JSON:", ""]
+    rows = [["spq, 4 workers", *spans([it["spq, 4 workers"] for it in found.values()]), "1"]]
     for engine in ("Oxigraph", "arq", "rdflib"):
         pairs = [(it[engine], it["spq, 4 workers"]) for it in found.values() if engine in it]
         if pairs:
-            name = "Oxigraph, load and query" if engine == "Oxigraph" else engine
-            rows.append([name, between([it.seconds for it, _ in pairs], "{:.1f}"), between([it.peak for it, _ in pairs], "{:.0f}"),
-                         between([it.seconds / own.seconds for it, own in pairs], "{:.0f}")])
+            rows.append([report.column(engine), *spans([it for it, _ in pairs]), between([it.seconds / own.seconds for it, own in pairs], "{:.0f}")])
     return lines + markdown(["engine", "seconds", "peak MiB", "times as long as spq"], rows).splitlines()
+
+
+def spans(found):
+    return between([it.seconds for it in found], "{:.2f}"), between([it.peak for it in found], "{:.0f}")
+
+
+def other_run(name):
+    """Returns a paragraph on the run of a section, if it is another one than that of loading."""
+    return [] if heading(name) == heading("loading") else ["From another run, in which spq can be an earlier build:", "", heading(name), ""]
 
 
 def cost_memory():
@@ -142,13 +173,11 @@ def cost_memory():
     return lines + markdown(["document: `check` / `select`", *(f"{size} GB" for size in SIZES)], sizes).splitlines()
 
 
-def results_summary():
-    quads, found = largest("loading")
-    return report.summary({quads: loads(), **growths()}, answers(), quads, 1, 4).splitlines()
-
-
-def growths():
-    return {quads: measured(it) for quads, it in section("growth").items() if quads not in section("loading")} if "growth" in results() else {}
+def results_targets():
+    lines = targets.table(results()).splitlines()
+    if "engines" in results() and other_run("engines"):
+        lines += ["", "The rows on Oxigraph are from [another run](#queries-compared-with-other-engines), in which spq can be an earlier build."]
+    return lines
 
 
 def results_loading():
@@ -157,24 +186,34 @@ def results_loading():
             "![load time](load-time.svg)", "", "![peak memory](peak-memory.svg)"]
 
 
+def results_shapes():
+    quads, found = largest("shapes")
+    return [*other_run("shapes"), f"{quads:,} quads of each shape:", "", *report.shapes({shape: measured(it) for shape, it in found.items()}, quads).splitlines()]
+
+
 def results_queries():
-    quads = largest("queries")[0]
-    same = "" if heading("queries") == heading("loading") else heading("queries") + "\n\n"
-    return [f"{same}{quads:,} quads, {megabytes(quads)}:", "", *report.queries(answers(), quads).splitlines()]
+    quads, found = largest("queries")
+    return [*other_run("queries"), f"{quads:,} quads, {megabytes(quads)}:", "", *report.queries({query: measured(it) for query, it in found.items()}, quads).splitlines()]
+
+
+def results_engines():
+    if not engines():
+        return ["Not measured."]
+    quads = largest("engines")[0]
+    return [*other_run("engines"), f"{quads:,} quads, {megabytes(quads)}:", "", *report.engines(engines()).splitlines()]
 
 
 def results_growth():
     if "growth" not in results():
         return ["Not measured."]
-    same = "" if heading("growth") == heading("loading") else heading("growth") + "\n\n"
     sizes = {quads: measured(it) for quads, it in section("growth").items()}
-    return [f"{same}Loading by size:", "", *report.growth(sizes).splitlines(), "", "![growth](growth.svg)"]
+    return [*other_run("growth"), "Loading by size:", "", *report.growth(sizes).splitlines(), "", "![growth](growth.svg)"]
 
 
 PARTS = {
     "readme_speed": readme_speed, "comparison_loading": comparison_loading, "comparison_queries": comparison_queries,
-    "cost_memory": cost_memory, "results_summary": results_summary, "results_loading": results_loading,
-    "results_queries": results_queries, "results_growth": results_growth,
+    "cost_memory": cost_memory, "results_targets": results_targets, "results_loading": results_loading, "results_shapes": results_shapes,
+    "results_queries": results_queries, "results_engines": results_engines, "results_growth": results_growth,
 }
 
 
@@ -199,7 +238,7 @@ PHRASES = {
     "check-memory": lambda: memory_range("check"),
     "install-minutes": lambda: minutes("install minutes"),
     "gate-minutes": lambda: minutes("gate minutes"),
-    "serdi-memory": lambda: report.peak(loads()[OTHERS["serdi"]]) + " MiB",
+    "serdi-memory": lambda: report.peak(loads()[SERDI]) + " MiB",
     "rapper-memory": lambda: report.peak(loads()[OTHERS["rapper"]]) + " MiB",
     "document-size": lambda: megabytes(largest("loading")[0]),
 }

@@ -128,13 +128,13 @@ def rows(output):
     return int(counted.stdout)
 
 
-def dataset(folder, quads):
+def dataset(folder, quads, shape="catalogue"):
     """Returns the path of a dataset of `datasets.py` in a folder. Writes the dataset if it does not exist."""
-    path = os.path.join(folder, f"{quads}.nq")
+    path = os.path.join(folder, f"{shape}-{quads}.nq")
     if not os.path.exists(path):
         part = f"{path}.part"
         with open(part, "wb") as out:
-            subprocess.run([sys.executable, os.path.join(HERE, "datasets.py"), str(quads)], stdout=out, check=True)
+            subprocess.run([sys.executable, os.path.join(HERE, "datasets.py"), "--shape", shape, str(quads)], stdout=out, check=True)
         os.rename(part, path)
         os.sync()
     return path

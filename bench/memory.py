@@ -10,44 +10,14 @@ import measure
 from measure import Failed
 
 WORKERS = "4"
-
-
-def iri(number):
-    return f"<http://e.example/{number:07}>"
-
-
-def links(n):
-    """Returns statement n of links between 2,000 things: nearly no term is new."""
-    return f"{iri(n // 2000 % 2000)} {iri(2000 + n // 4000000)} {iri(n % 2000)} .\n"
-
-
-def literals(n):
-    return f"{iri(n % 1000)} {iri(1000)} \"value {n}\" .\n"
-
-
-def resources(n):
-    return f"{iri(2 * n)} {iri(1)} {iri(2 * n + 3)} .\n"
-
-
-# Each kind: how pages call it, and its statement of a number. The first is the catalogue of datasets.py.
+# Each kind: how pages call it, and its shape (datasets.py).
 KINDS = {
-    "a catalogue: half of the statements have a new term": None,
-    "links between 2,000 things: no new terms": links,
-    "a new short literal in each statement": literals,
-    "a new short subject and a new short object in each statement": resources,
+    "a catalogue: half of the statements have a new term": "catalogue",
+    "links between 2,000 things: no new terms": "links",
+    "a new short literal in each statement": "literals",
+    "a new short subject and a new short object in each statement": "resources",
+    "four new terms in each statement": "new",
 }
-
-
-def document(folder, kind, quads):
-    """Returns the path of a document of a kind. Writes it if it does not exist."""
-    statement = KINDS[kind]
-    if statement is None:
-        return measure.dataset(folder, quads)
-    path = os.path.join(folder, f"{statement.__name__}-{quads}.nq")
-    if not os.path.exists(path):
-        with open(path, "w") as out:
-            out.writelines(statement(n) for n in range(quads))
-    return path
 
 
 def one_row(path):
@@ -60,9 +30,9 @@ def one_row(path):
 def peaks(spq, quads, folder):
     """Returns for each kind the size of the document and the peak of each command, in bytes for each statement."""
     found = {}
-    for kind in KINDS:
+    for kind, shape in KINDS.items():
         print(f"{quads:,} quads: memory, {kind}", file=sys.stderr)
-        path = document(folder, kind, quads)
+        path = measure.dataset(folder, quads, shape)
         commands = {"check": ["check"], "select": ["select", "--query", one_row(path)]}
         found[kind] = {"document": os.path.getsize(path) / quads}
         for name, words in commands.items():

@@ -15,6 +15,8 @@ import zipfile
 from measure import HERE, Command
 
 OXIGRAPH_LOAD = "Oxigraph, load into its store"
+# The tools that evaluate queries.
+ENGINES = ("Oxigraph", "arq", "rdflib")
 JARS = "/usr/share/java"
 JAR_NAMES = (
     "jena-arq jena-base jena-cmds jena-core jena-iri jena-rdfconnection jena-shacl jena-shex commons-cli commons-codec "

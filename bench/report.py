@@ -1,4 +1,4 @@
-"""The tables of compare.py, as Markdown, and the file of results that it writes.
+"""The tables of compare.py, as Markdown, and the file of results that it writes. targets.py has the table of targets.
 
 A result is the measurement of a command or its failure. Results are kept in dictionaries by the name of the command.
 Python 3 standard library only; the plots need matplotlib.
@@ -12,14 +12,16 @@ import subprocess
 import measure
 import peers
 from measure import Failed, Measurement
+from shapes import EACH
 
+SERDI = "serdi, parse and print"
 # How the names of commands begin: those of spq and the baseline, and those in the table of growth.
 OWN = ("spq", "baseline")
 GROWTH = ("lower bound", "serdi", "Oxigraph", "spq check", "baseline check")
 
 
 class Report:
-    """Prints the tables of a run and keeps its figures, by section: memory, loading, queries, growth."""
+    """Prints the tables of a run and keeps its figures, by section: memory, loading, shapes, queries, engines, growth."""
 
     def __init__(self, heading):
         print(f"{heading}\n")
@@ -109,20 +111,40 @@ def loading_row(name, it, first, quads):
 
 
 def queries(answers, quads):
-    """Time and memory of queries. `answers` has for each query the results of the engines.
+    """Time and memory of the queries with spq. `answers` has the results by query, and those of `check`."""
+    check, names = answers.get("check", {}), list(next(iter(answers.values())))
+    own = [name for name in names if name.startswith("spq")]
+    head = ["query", "rows", *own, *(f"{name} / check" for name in own), *(f"peak bytes per quad, {name}" for name in own[-1:])]
+    return measure.markdown(head, [
+        [query, "" if query == "check" else row_counts(it), *(query_cell(it[name]) for name in own),
+         *(seconds_ratio(it[name], check.get(name)) for name in own), *(per_quad(it[name], quads) for name in own[-1:])]
+        for query, it in answers.items()])
 
-    The last command of spq is compared with the other engines.
-    """
-    names = list(next(iter(answers.values())))
+
+def engines(answers):
+    """Time and memory of the queries with spq and other engines, in seconds and MiB."""
+    names = list(dict.fromkeys(name for it in answers.values() for name in it if not name.startswith("baseline")))
     spq = [name for name in names if name.startswith("spq")][-1:]
     others = [name for name in names if not name.startswith(OWN)]
     head = ["query", "rows", *map(column, names), *(f"{own} / {column(other)}" for own in spq for other in others)]
-    head += [f"peak bytes per quad, {own}" for own in spq]
     return measure.markdown(head, [
-        [query, row_counts(it), *map(query_cell, it.values()),
-         *(seconds_ratio(it[own], it[other]) for own in spq for other in others),
-         *(per_quad(it[own], quads) for own in spq)]
+        [query, row_counts(it), *(query_cell(it[name]) if name in it else "" for name in names),
+         *(seconds_ratio(it[own], it.get(other)) for own in spq for other in others)]
         for query, it in answers.items()])
+
+
+def shapes(found, quads):
+    """Time of `spq check` relative to serdi, and its peak memory, by shape of document."""
+    own = list(dict.fromkeys(name for it in found.values() for name in it if name.startswith("spq")))
+    head = ["shape", "serdi, seconds", *(f"{name}, seconds" for name in own), *(f"{name} / serdi" for name in own)]
+    head += [f"peak bytes per quad, {name}" for name in own[-1:]]
+    return measure.markdown(head, [shape_row(shape, it, own, quads) for shape, it in found.items()])
+
+
+def shape_row(shape, it, own, quads):
+    serdi, count = it.get(SERDI), -(-quads // EACH.get(shape, 1))
+    cells = [growth_cell(it[name]) if name in it else "" for name in [SERDI, *own]]
+    return [shape, *cells, *(seconds_ratio(it.get(name), serdi) for name in own), *(per_quad(it.get(name), count) for name in own[-1:])]
 
 
 def column(engine):
@@ -176,38 +198,6 @@ def growth(loads):
 
 def growth_cell(it):
     return f"failed: {it}" if isinstance(it, Failed) else f"{it.seconds:.3f}"
-
-
-def summary(loads, answers, quads, least, most):
-    """The ratios and sizes for which there are targets. `least` and `most` are numbers of workers.
-
-    `loads` has the results of loading by number of quads, `answers` those of the queries on `quads` quads.
-    """
-    load, largest = loads[quads], max(loads)
-    one, many = (load.get(f"spq check, {workers(n)}") for n in (least, most))
-    serdi, serd = load.get("serdi, parse and print"), load.get("serd's library, parse")
-    select = [results.get(f"spq, {workers(most)}") for results in answers.values()]
-    oxigraph = [results.get("Oxigraph") for results in answers.values()]
-    checks = [it for name, it in loads[largest].items() if name.startswith("spq check")]
-    lines = [
-        (f"spq check, {workers(most)} / serdi", seconds_ratio(many, serdi), "at most 0.30"),
-        (f"spq check, {workers(least)} / serdi", seconds_ratio(one, serdi), "at most 0.65"),
-        (f"spq check, {workers(most)} / serd's library", seconds_ratio(many, serd), "at most 0.55"),
-        (f"spq check, {workers(least)} / {workers(most)}", seconds_ratio(one, many), "at least 2.2"),
-        (f"spq select, {workers(most)} / Oxigraph's load and query, highest of the queries",
-         highest(map(seconds_ratio, select, oxigraph)), "at most 0.05"),
-        ("peak bytes per quad: spq check", highest(per_quad(it, quads) for it in (one, many)), "at most 200"),
-        (f"peak bytes per quad: spq check, {largest:,} quads",
-         highest(per_quad(it, largest) for it in checks), "at most 260"),
-        (f"peak bytes per quad: spq select, {workers(most)}, highest of the queries",
-         highest(per_quad(it, quads) for it in select), "at most 260"),
-    ]
-    return measure.markdown(["", "measured", "target"],
-                            [[what, it or "not measured", target] for what, it, target in lines])
-
-
-def highest(cells):
-    return max(filter(None, cells), key=float, default="")
 
 
 def peak(it):

@@ -1,7 +1,7 @@
 """The quotes and lists of docs/THEOREM.md, and the check that the page explains each quoted line.
 
-A quote is generated. The explanations are rows of tables that a person writes: the first cell of a row is a line of
-a quote. A quoted line without a row, and a row whose line is in no quote, is reported.
+A quote is generated. The explanations are rows of tables that a person writes: the first cell of a row is how a line of
+a quote begins. A quoted line without a row, and a row that does not begin exactly one quoted line, are reported.
 """
 import functools
 import os
@@ -44,7 +44,9 @@ def quote(name):
 
 
 def outcome_part():
-    return [f"From [{OUTCOME}](../{OUTCOME}):", "", "```text", *read(OUTCOME).rstrip("\n").split("\n"), "```", ""]
+    """Returns the definition of a result as it is in the source, without its imports."""
+    lines = [it for it in read(OUTCOME).rstrip("\n").split("\n") if not it.startswith("use ")]
+    return [f"From [{OUTCOME}](../{OUTCOME}), without its imports:", "", "```text", *lines, "```", ""]
 
 
 def logical_lines(lines, deepest):
@@ -173,7 +175,7 @@ def faults(hand_written):
 
     `hand_written` is the page without its generated parts.
     """
-    rows = [it[0] for it in ROW.findall(hand_written)]
-    lines = explained_lines()
-    found = [f"{PAGE}: no row explains the line `{it}`" for it in lines if it not in rows]
-    return found + [f"{PAGE}: the row for `{it}` explains no quoted line" for it in rows if it not in lines]
+    rows, lines = [it[0] for it in ROW.findall(hand_written)], explained_lines()
+    begun = {row: [it for it in lines if it.startswith(row)] for row in rows}
+    found = [f"{PAGE}: no row explains the line `{it}`" for it in lines if not any(it in begun[row] for row in rows)]
+    return found + [f"{PAGE}: {len(begun[it])} quoted lines begin with `{it}`, and not one" for it in rows if len(begun[it]) != 1]

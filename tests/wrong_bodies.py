@@ -11,7 +11,7 @@ the functions that it changes. They must be proved without the edit, and must no
 A function is proved from the contracts of those that it calls, not from their bodies. So mutants of different functions
 are checked in one run, and each needs an error of its own: one in a function that it changes, or in the proof of
 one. A mutant with no such error is checked alone, and then over the whole crate. So is a mutant that changes something other
-than functions.
+than functions. An error that only says that a proof file names what the edit took away does not count.
 
 The libraries below a crate are those that `rt ci` left in crates/*/out, if they are newer than their sources.
 Otherwise the script builds them in a temporary folder, which takes as long as a proof of these crates.
@@ -44,6 +44,10 @@ ERROR = re.compile(r"^(?P<goal>note: )?(?:\./)?(?P<file>(?:src|specs|proofs)/\S+
 UNREADABLE = re.compile(r"is not in scope|has no field|has no `|is no name|was not admitted|operand is missing|expected the end|cannot continue")
 
 
+# Why a mutant shows nothing: a right body with these names would be rejected, too.
+ONLY_NAMES = "it is rejected only because a proof file names what the edit took away"
+
+
 def kit():
     """Returns the folder of the Rattle kit."""
     return os.path.dirname(subprocess.run(["rt", "doc"], check=True, capture_output=True, text=True).stdout.strip())
@@ -64,6 +68,11 @@ def newest_source(crate):
     return max(os.path.getmtime(file) for file in files)
 
 
+def root_of(crate):
+    """Returns the root file of a library or a program."""
+    return next(it for it in ("src/lib.rt", "src/main.rt") if os.path.isfile(f"{ROOT}/crates/{crate}/{it}"))
+
+
 class Prover:
     """Runs the prover on copies of crates, over libraries that were built before."""
 
@@ -74,7 +83,7 @@ class Prover:
     def words(self, crate):
         """Returns the words that name a crate, its libraries and the kit's logic."""
         uses, kits = crates()[crate], f"{self.kit}/rlibs"
-        found = ["--crate-name", crate, "src/lib.rt", "--extern", f"std={kits}/std.rlib"]
+        found = ["--crate-name", crate, root_of(crate), "--extern", f"std={kits}/std.rlib"]
         for used in uses:
             found += ["--extern", f"{used}={self.folders.get(used, kits)}/{used}.rlib"]
         for folder in [self.folders[it] for it in sorted(below(crate))] + [kits]:
@@ -164,9 +173,9 @@ class Crate:
         errors, fault = errors_in(status, said)
         found = {}
         for mutant in batch if not fault else []:
-            own = [it for it in errors if is_of(it, mutant, batch)]
-            if own:
-                found[mutant] = first_goal(own)
+            goal = first_goal([it for it in errors if is_of(it, mutant, batch)])
+            if goal:
+                found[mutant] = goal
         return found
 
     def rejection_of(self, mutant):
@@ -178,7 +187,8 @@ class Crate:
         if status == 0 and not is_whole:
             status, said = self.check([mutant], True)
         errors, fault = errors_in(status, said)
-        return (None, fault) if fault else (first_goal(errors), "")
+        goal = None if fault else first_goal(errors)
+        return goal, fault or (ONLY_NAMES if errors else "the prover's output names no place")
 
 
 def batches(named):
@@ -245,10 +255,8 @@ def is_of(error, mutant, batch):
 
 
 def first_goal(errors):
-    """Returns the first error that is more than a name that the edit took away, or else the first one."""
-    goals = [it[0] for it in errors if not UNREADABLE.search(it[0])]
-    names = [f"(only because a proof file names what the edit took away) {it[0]}" for it in errors[:1]]
-    return (goals or names or ["the prover's output names no place"])[0]
+    """Returns the first error that is more than a name that the edit took away, or None."""
+    return next((it[0] for it in errors if not UNREADABLE.search(it[0])), None)
 
 
 def checksum(folder):

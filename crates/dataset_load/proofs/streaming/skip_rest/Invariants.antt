@@ -1,9 +1,0 @@
-use Rattle.nquads_core.specs.Device.{Stays}
-use Rattle.nquads_core.specs.Transfer.{IsReadInPart}
-use Rattle.dataset_load.proofs.streaming.skip_rest.Given as goal
-
-abbrev pub invariant-loop : goal.invariant-loop
-invariant-loop g l = record {
-  part : IsReadInPart (g.S.Source.left l.fn.reader) (g.S.Source.left l.reader);
-  failures : Stays (g.S.Source.failures l.fn.reader) (g.S.Source.failures l.reader);
-}
