@@ -8,7 +8,7 @@ use Rattle.nquads_core.specs.Transfer.{IsReadInPart}
 use Rattle.nquads_core.specs.declared.transfer.ReadFault.{ReadFault}
 use Rattle.malformed_lines.specs.Malformed.{IsListed}
 use Rattle.malformed_lines.specs.declared.document_list.MalformedLines.{MalformedLines}
-use Rattle.dataset_load.specs.declared.reader.FilledRound.{FilledRound}
+use Rattle.dataset_load.specs.declared.reader.RoundBlocks.{RoundBlocks}
 use Rattle.dataset_load.specs.Limits.{most_pieces_of_a_round}
 use Rattle.dataset_load.specs.Lines.{all_lines}
 use Rattle.dataset_load.specs.Ahead.{IsAhead, IsNextRound, texts_of}
@@ -24,34 +24,34 @@ pub bad_more : (xs ys : List (List ℕ)) (n : ℕ) → IsBadLine xs n → IsBadL
 bad_more xs ys n bad = (bad.0, bad_before xs ys bad.0 bad.1, bad.2)
 
 -- the list of a round is added to that of the lines before
-abbrev pub ListsRound : MalformedLines → MalformedLines → FilledRound → Type 0
+abbrev pub ListsRound : MalformedLines → MalformedLines → RoundBlocks → Type 0
 ListsRound old new round = (before : List (List ℕ)) → IsListed before old → IsListed (before ++ all_lines (texts_of round)) new
 
-pub adds_list : {T E : Type 0} (n : ℕ) (old new : MalformedLines) (round : FilledRound) (listed : Result T E)
+pub adds_list : {T E : Type 0} (n : ℕ) (old new : MalformedLines) (round : RoundBlocks) (listed : Result T E)
     → OnOk listed (ListsRound old new round) → OnOk listed (AddsLines (IsBadList n old) (IsBadList n new) round)
 adds_list n old new round (Err e) h = tt
 adds_list n old new round (Ok x) h = λ before was. record { bad = bad_more before (all_lines (texts_of round)) n was.bad; listed = h before was.listed }
 
 -- the first malformed line is known, although the list stops
-pub stopped : (n : ℕ) (b c : Option (List ℕ)) (kept : List ℕ) (list : MalformedLines) (round : FilledRound)
+pub stopped : (n : ℕ) (b c : Option (List ℕ)) (kept : List ℕ) (list : MalformedLines) (round : RoundBlocks)
     → (round.is_last ≡ true → c ≡ b) → (round.is_last ≡ false → TakesPart b c kept)
     → (start : Option (List ℕ)) → IsAhead (IsBadList n list) start b kept round → IsBadSoFar start c n
 stopped n b c kept list round ended taken start was =
     bad_ahead (IsBadList n list) start b c kept round was n ended taken (λ before h. bad_more before (all_lines (texts_of round)) n h.bad)
 
-pub stopped_round : {T E : Type 0} (n : ℕ) (b c : Option (List ℕ)) (kept : List ℕ) (list : MalformedLines) (round : FilledRound) (r : Result T E)
+pub stopped_round : {T E : Type 0} (n : ℕ) (b c : Option (List ℕ)) (kept : List ℕ) (list : MalformedLines) (round : RoundBlocks) (r : Result T E)
     → (round.is_last ≡ true → c ≡ b) → (round.is_last ≡ false → TakesPart b c kept)
     → OnErr r ((start : Option (List ℕ)) → IsAhead (IsBadList n list) start b kept round → IsBadSoFar start c n)
 stopped_round n b c kept list round (Ok x) ended taken = tt
 stopped_round n b c kept list round (Err e) ended taken = stopped n b c kept list round ended taken
 
 -- nothing is read after the round that is ahead
-pub stopped_here : (n : ℕ) (b : Option (List ℕ)) (kept : List ℕ) (list : MalformedLines) (round : FilledRound)
+pub stopped_here : (n : ℕ) (b : Option (List ℕ)) (kept : List ℕ) (list : MalformedLines) (round : RoundBlocks)
     → (start : Option (List ℕ)) → IsAhead (IsBadList n list) start b kept round → IsBadSoFar start b n
 stopped_here n b kept list round =
     stopped n b b kept list round (λ _. refl) (λ is start done h. record { taken = done ++ kept; consumed = read_front start b done kept h })
 
-pub few_next : {E : Type 0} (b c : Option (List ℕ)) (kept kept' : List ℕ) (round : FilledRound) (next : Result (Option FilledRound) ReadFault) (r : Result (Option FilledRound) E)
+pub few_next : {E : Type 0} (b c : Option (List ℕ)) (kept kept' : List ℕ) (round : RoundBlocks) (next : Result (Option RoundBlocks) ReadFault) (r : Result (Option RoundBlocks) E)
     → (round.is_last ≡ true → (next ≡ Ok None) × (c ≡ b)) → (round.is_last ≡ false → IfOk next (λ n. IsSomeAnd n (IsNextRound b c kept kept')))
     → IfOk r (λ n. next ≡ Ok n) → IfOk r (λ n. IfSome n (λ x. length x.blocks.items ≤ most_pieces_of_a_round))
 few_next b c kept kept' round next (Err e) ended filled is = tt

@@ -29,7 +29,7 @@ use Rattle.dataset_load.specs.Store.{StoreView}
 use Rattle.dataset_load.specs.Rounds.{HasRead}
 use Rattle.dataset_load.specs.ReaderFault.{CountsLoading, IfBadLineRead, fault_of_load, fault_of_read}
 use Rattle.dataset_load.specs.Streaming.{IsBadLineFrom, IsBadSoFar, IsLoadedFrom, IsReadFrom, IsReadIn, IsReadUpTo, IsToEnd, IsUpTo, TakesRest, TakesRound}
-use Rattle.dataset_load.specs.declared.reader.FilledRound.{FilledRound}
+use Rattle.dataset_load.specs.declared.reader.RoundBlocks.{RoundBlocks}
 use Rattle.dataset_load.specs.Ahead.{IsAhead, IsNextRound, IsReadAhead, texts_of}
 use Rattle.dataset_load.proofs.LineLaws.{bad_before, lines_of_pieces}
 use Rattle.dataset_load.proofs.ReaderSteps.{nothing_after, read_front, read_start}
@@ -114,7 +114,7 @@ ends_joined x (p ∷ ps) h each =
 -- ---- a round that is added after the next one was read
 
 -- the round that was read after the lines before it
-pub ahead : (P : List (List ℕ) → Type 0) (a b c : Option (List ℕ)) (kept kept' : List ℕ) (round : FilledRound) → IsUpTo P a b kept → IsNextRound b c kept kept' round
+pub ahead : (P : List (List ℕ) → Type 0) (a b c : Option (List ℕ)) (kept kept' : List ℕ) (round : RoundBlocks) → IsUpTo P a b kept → IsNextRound b c kept kept' round
     → IsAhead P a c kept' round
 ahead P a b c kept kept' round was filled = record {
   done = was.done;
@@ -146,7 +146,7 @@ abbrev pub TakesPart : Option (List ℕ) → Option (List ℕ) → List ℕ → 
 TakesPart b c kept = (start : Option (List ℕ)) (done : List ℕ) → IsReadIn start b done kept → IsReadInPart start c
 
 -- what the next round takes
-pub part_of_next : (b c : Option (List ℕ)) (kept kept' : List ℕ) (round : FilledRound) → IsNextRound b c kept kept' round → TakesPart b c kept
+pub part_of_next : (b c : Option (List ℕ)) (kept kept' : List ℕ) (round : RoundBlocks) → IsNextRound b c kept kept' round → TakesPart b c kept
 part_of_next b c kept kept' round filled = by round.is_last refl
   where
     by : (is_last : Bool) → round.is_last ≡ is_last → TakesPart b c kept
@@ -154,14 +154,14 @@ part_of_next b c kept kept' round filled = by round.is_last refl
     by true is = part_of_rest b c kept (joined (texts_of round)) (filled.last is).0
 
 -- Q holds of lines with those of a round after them, if P holds of these lines
-abbrev pub AddsLines : (P Q : List (List ℕ) → Type 0) → FilledRound → Type 0
+abbrev pub AddsLines : (P Q : List (List ℕ) → Type 0) → RoundBlocks → Type 0
 AddsLines P Q round = (before : List (List ℕ)) → P before → Q (before ++ all_lines (texts_of round))
 
 -- this line of those before and of a round is the first that is malformed
-abbrev pub HasBadLine : Numbered → FilledRound → ℕ → Type 0
+abbrev pub HasBadLine : Numbered → RoundBlocks → ℕ → Type 0
 HasBadLine so_far round n = AddsLines (HasRead so_far) (λ ls. IsBadLine ls n) round
 
-module _ (P : List (List ℕ) → Type 0) (a b c : Option (List ℕ)) (kept : List ℕ) (round : FilledRound) (was : IsAhead P a b kept round) where
+module _ (P : List (List ℕ) → Type 0) (a b c : Option (List ℕ)) (kept : List ℕ) (round : RoundBlocks) (was : IsAhead P a b kept round) where
   abbrev done_now : List ℕ
   done_now = was.done ++ joined (texts_of round)
 
@@ -185,12 +185,12 @@ module _ (P : List (List ℕ) → Type 0) (a b c : Option (List ℕ)) (kept : Li
     subst (λ (x : Option (List ℕ)). IsAtEnd x) (sym same) (was.last is).1,
   )
 
-  pub read_round : (Q : List (List ℕ) → Type 0) (kept' : List ℕ) (next : Option FilledRound) → (round.is_last ≡ true → (next ≡ None) × (c ≡ b))
+  pub read_round : (Q : List (List ℕ) → Type 0) (kept' : List ℕ) (next : Option RoundBlocks) → (round.is_last ≡ true → (next ≡ None) × (c ≡ b))
       → (round.is_last ≡ false → IsSomeAnd next (IsNextRound b c kept kept')) → AddsLines P Q round
       → MatchOption next (IsToEnd Q a c) (IsAhead Q a c kept')
   read_round Q kept' next ended filled read = by round.is_last refl
     where
-      some : (r : Option FilledRound) → round.is_last ≡ false → IsSomeAnd r (IsNextRound b c kept kept') → MatchOption r (IsToEnd Q a c) (IsAhead Q a c kept')
+      some : (r : Option RoundBlocks) → round.is_last ≡ false → IsSomeAnd r (IsNextRound b c kept kept') → MatchOption r (IsToEnd Q a c) (IsAhead Q a c kept')
       some None is f = absurd f
       some (Some r) is f = ahead Q a b c kept kept' r (up_to_now Q is read) f
 
@@ -199,7 +199,7 @@ module _ (P : List (List ℕ) → Type 0) (a b c : Option (List ℕ)) (kept : Li
       by true is =
           let e = ended is in
           let last = at_last e.1 is in
-          subst (λ (r : Option FilledRound). MatchOption r (IsToEnd Q a c) (IsAhead Q a c kept')) (sym e.0)
+          subst (λ (r : Option RoundBlocks). MatchOption r (IsToEnd Q a c) (IsAhead Q a c kept')) (sym e.0)
           record { doc = done_now; consumed = last.0; at_end = last.1; read = read_now Q read }
 
   pub part_ahead : (round.is_last ≡ true → c ≡ b) → (round.is_last ≡ false → TakesPart b c kept) → IsReadInPart a c
@@ -210,7 +210,7 @@ module _ (P : List (List ℕ) → Type 0) (a b c : Option (List ℕ)) (kept : Li
       by true is = record { taken = done_now; consumed = (at_last (ended is) is).0 }
 
 -- a line of those before and of a round is the first that is malformed
-pub bad_ahead : (P : List (List ℕ) → Type 0) (a b c : Option (List ℕ)) (kept : List ℕ) (round : FilledRound) (was : IsAhead P a b kept round) (n : ℕ)
+pub bad_ahead : (P : List (List ℕ) → Type 0) (a b c : Option (List ℕ)) (kept : List ℕ) (round : RoundBlocks) (was : IsAhead P a b kept round) (n : ℕ)
     → (round.is_last ≡ true → c ≡ b) → (round.is_last ≡ false → TakesPart b c kept) → AddsLines P (λ ls. IsBadLine ls n) round → IsBadSoFar a c n
 bad_ahead P a b c kept round was n ended taken bad = record {
   done = done_now P a b c kept round was;
@@ -227,21 +227,21 @@ bad_ahead P a b c kept round was n ended taken bad = record {
     by true is = inr (at_last P a b c kept round was (ended is) is)
 
 -- what was read of the reader, up to the end of a round and what is kept after it
-pub part_so_far : (P : List (List ℕ) → Type 0) (a b : Option (List ℕ)) (kept : List ℕ) (round : FilledRound) → IsAhead P a b kept round → IsReadInPart a b
+pub part_so_far : (P : List (List ℕ) → Type 0) (a b : Option (List ℕ)) (kept : List ℕ) (round : RoundBlocks) → IsAhead P a b kept round → IsReadInPart a b
 part_so_far P a b kept round was = part_ahead P a b b kept round was (λ _. refl) (λ is start done h. record { taken = done ++ kept; consumed = read_front start b done kept h })
 
 -- what was read after a round, if the read succeeded
 same_Ok : {T E : Type 0} (x y : T) → (a b : Result T E) → a ≡ Ok x → a ≡ Ok y → b ≡ a → x ≡ y
 same_Ok x y a b e f g = cc
 
-after_last : (b c : Option (List ℕ)) (round : FilledRound) (next : Result (Option FilledRound) ReadFault) (n : Option FilledRound)
+after_last : (b c : Option (List ℕ)) (round : RoundBlocks) (next : Result (Option RoundBlocks) ReadFault) (n : Option RoundBlocks)
     → (round.is_last ≡ true → (next ≡ Ok None) × (c ≡ b)) → next ≡ Ok n → round.is_last ≡ true → (n ≡ None) × (c ≡ b)
 after_last b c round next n ended is last = let e = ended last in (same_Ok n None next next is e.0 refl, e.1)
 
-after_more : (b c : Option (List ℕ)) (kept kept' : List ℕ) (round : FilledRound) (next : Result (Option FilledRound) ReadFault) (n : Option FilledRound)
+after_more : (b c : Option (List ℕ)) (kept kept' : List ℕ) (round : RoundBlocks) (next : Result (Option RoundBlocks) ReadFault) (n : Option RoundBlocks)
     → (round.is_last ≡ false → IfOk next (λ n. IsSomeAnd n (IsNextRound b c kept kept'))) → next ≡ Ok n → round.is_last ≡ false → IsSomeAnd n (IsNextRound b c kept kept')
 after_more b c kept kept' round next n filled is more =
-    subst (λ (r : Result (Option FilledRound) ReadFault). IfOk r (λ n. IsSomeAnd n (IsNextRound b c kept kept'))) is (filled more)
+    subst (λ (r : Result (Option RoundBlocks) ReadFault). IfOk r (λ n. IsSomeAnd n (IsNextRound b c kept kept'))) is (filled more)
 
 -- P of the result of one fallible step, if another one succeeds with it
 pub taken_ok : {T E F : Type 0} (r : Result T F) (next : Result T E) (P : T → Type 0) → IfOk r (λ x. next ≡ Ok x) → IfOk next P → IfOk r P
@@ -254,8 +254,8 @@ both_ok (Ok x) (Err e) P is h = absurd (true≢false (sym is))
 both_ok (Err e) added P is h = tt
 
 -- a round was added while the next one was read
-pub round_done : {T E F : Type 0} (P Q : List (List ℕ) → Type 0) (b c : Option (List ℕ)) (kept kept' : List ℕ) (round : FilledRound) (added : Result T F)
-    (next : Result (Option FilledRound) ReadFault) (r : Result (Option FilledRound) E)
+pub round_done : {T E F : Type 0} (P Q : List (List ℕ) → Type 0) (b c : Option (List ℕ)) (kept kept' : List ℕ) (round : RoundBlocks) (added : Result T F)
+    (next : Result (Option RoundBlocks) ReadFault) (r : Result (Option RoundBlocks) E)
     → (round.is_last ≡ true → (next ≡ Ok None) × (c ≡ b)) → (round.is_last ≡ false → IfOk next (λ n. IsSomeAnd n (IsNextRound b c kept kept')))
     → OnOk added (AddsLines P Q round) → IfOk r (λ n. next ≡ Ok n) → OnOk r (IsOk added)
     → IfOk r (λ n. (start : Option (List ℕ)) → IsAhead P start b kept round → MatchOption n (IsToEnd Q start c) (IsAhead Q start c kept'))
@@ -264,19 +264,19 @@ round_done P Q b c kept kept' round (Err fault) next (Ok n) ended filled read is
 round_done P Q b c kept kept' round (Ok x) next (Ok n) ended filled read is both = λ start was.
     read_round P start b c kept round was Q kept' n (after_last b c round next n ended is) (after_more b c kept kept' round next n filled is) read
 
-pub part_done : (b c : Option (List ℕ)) (kept : List ℕ) (so_far : Numbered) (round : FilledRound) (r : Result (Option FilledRound) ReaderFault)
+pub part_done : (b c : Option (List ℕ)) (kept : List ℕ) (so_far : Numbered) (round : RoundBlocks) (r : Result (Option RoundBlocks) ReaderFault)
     → (round.is_last ≡ true → c ≡ b) → (round.is_last ≡ false → TakesPart b c kept)
     → OnErr r ((start : Option (List ℕ)) → IsReadAhead start b kept so_far round → IsReadInPart start c)
 part_done b c kept so_far round (Ok n) ended taken = tt
 part_done b c kept so_far round (Err fault) ended taken = λ start was. part_ahead (HasRead so_far) start b c kept round was ended taken
 
 -- the next round is not too long
-pub few_after : (b c : Option (List ℕ)) (kept kept' : List ℕ) (round : FilledRound) (next : Result (Option FilledRound) ReadFault) (n : Option FilledRound)
+pub few_after : (b c : Option (List ℕ)) (kept kept' : List ℕ) (round : RoundBlocks) (next : Result (Option RoundBlocks) ReadFault) (n : Option RoundBlocks)
     → (round.is_last ≡ true → (next ≡ Ok None) × (c ≡ b)) → (round.is_last ≡ false → IfOk next (λ n. IsSomeAnd n (IsNextRound b c kept kept'))) → next ≡ Ok n
     → IfSome n (λ r. length r.blocks.items ≤ most_pieces_of_a_round)
 few_after b c kept kept' round next n ended filled is = by round.is_last refl
   where
-    some : (m : Option FilledRound) → IsSomeAnd m (IsNextRound b c kept kept') → IfSome m (λ r. length r.blocks.items ≤ most_pieces_of_a_round)
+    some : (m : Option RoundBlocks) → IsSomeAnd m (IsNextRound b c kept kept') → IfSome m (λ r. length r.blocks.items ≤ most_pieces_of_a_round)
     some None h = tt
     some (Some r) h = h.few
 
@@ -287,12 +287,12 @@ few_after b c kept kept' round next n ended filled is = by round.is_last refl
 -- ---- a round with the first malformed line
 
 -- the same lines are before the round
-these_ahead : (P : List (List ℕ) → Type 0) (a b : Option (List ℕ)) (kept : List ℕ) (round : FilledRound) (was : IsAhead P a b kept round)
+these_ahead : (P : List (List ℕ) → Type 0) (a b : Option (List ℕ)) (kept : List ℕ) (round : RoundBlocks) (was : IsAhead P a b kept round)
     → IsAhead (λ ls. ls ≡ lines was.done) a b kept round
 these_ahead P a b kept round was =
     record { done = was.done; whole = was.whole; read = refl; few = was.few; whole_lines = was.whole_lines; more = was.more; last = was.last }
 
-module _ (b c : Option (List ℕ)) (kept kept' : List ℕ) (so_far : Numbered) (round : FilledRound) (next : Result (Option FilledRound) ReadFault)
+module _ (b c : Option (List ℕ)) (kept kept' : List ℕ) (so_far : Numbered) (round : RoundBlocks) (next : Result (Option RoundBlocks) ReadFault)
     (ended : round.is_last ≡ true → (next ≡ Ok None) × (c ≡ b)) (filled : round.is_last ≡ false → IfOk next (λ n. IsSomeAnd n (IsNextRound b c kept kept')))
     (taken : round.is_last ≡ false → TakesPart b c kept) where
   bad_round : (n : ℕ) (bad : BadRound) → bad.before ≡ so_far.lines → bad.round ≡ round → next ≡ Ok bad.next → HasBadLine so_far round n
@@ -306,7 +306,7 @@ module _ (b c : Option (List ℕ)) (kept kept' : List ℕ) (so_far : Numbered) (
         statements = was.read.numbered.statements;
         count = before_is ∙ was.read.count;
         next = λ list listed.
-            let now = subst (λ (r : FilledRound). IsListed (lines was.done ++ all_lines (texts_of r)) list) round_is listed in
+            let now = subst (λ (r : RoundBlocks). IsListed (lines was.done ++ all_lines (texts_of r)) list) round_is listed in
             read_round (λ ls. ls ≡ lines was.done) start b c kept round (these_ahead (HasRead so_far) start b kept round was) (IsBadList n list) kept' bad.next
             (after_last b c round next bad.next ended next_is) (after_more b c kept kept' round next bad.next filled next_is)
             (λ before e. subst (λ (ls : List (List ℕ)). IsBadList n list (ls ++ all_lines (texts_of round))) (sym e) (record { bad = is_bad; listed = now }));
@@ -317,13 +317,13 @@ module _ (b c : Option (List ℕ)) (kept kept' : List ℕ) (so_far : Numbered) (
       → bad.before ≡ so_far.lines → bad.round ≡ round → next ≡ Ok bad.next → IsReady blocks bad
   ready blocks bad countable few reading before_is round_is next_is = record {
     countable = omega (arith, before_is, countable);
-    few = subst (λ (r : FilledRound). length r.blocks.items ≤ most_pieces_of_a_round) (sym round_is) few;
+    few = subst (λ (r : RoundBlocks). length r.blocks.items ≤ most_pieces_of_a_round) (sym round_is) few;
     few_next = few_after b c kept kept' round next bad.next ended filled next_is;
-    reading = subst (λ (r : Result (Option FilledRound) ReadFault). IfOk r (λ n. IfSome n (λ r. r.is_last ≡ false → blocks.state ≡ Reading))) next_is reading;
+    reading = subst (λ (r : Result (Option RoundBlocks) ReadFault). IfOk r (λ n. IfSome n (λ r. r.is_last ≡ false → blocks.state ≡ Reading))) next_is reading;
   }
 
   -- what is kept of a round, if it has a malformed line
-  pub bad_done : {T : Type 0} (blocks : BlocksView) (added : Result T LoadFault) (r : Result (Option FilledRound) ReaderFault) (held : Option BadRound)
+  pub bad_done : {T : Type 0} (blocks : BlocksView) (added : Result T LoadFault) (r : Result (Option RoundBlocks) ReaderFault) (held : Option BadRound)
       → so_far.lines ≤ 2 ^ 124 → length round.blocks.items ≤ most_pieces_of_a_round
       → IfOk next (λ n. IfSome n (λ r. r.is_last ≡ false → blocks.state ≡ Reading))
       → IfErr added (IfBadLine (HasBadLine so_far round))

@@ -3,19 +3,19 @@ use Rattle.std.specs.Prelude.{◌≡◌, ℕ, ◌≤◌, List, ◌++◌, length,
 use Rattle.std.specs.Io.KnownBytes.{Consumes, IsAtEnd}
 use Rattle.nquads_core.specs.Lines.{lines, EndsLine}
 use Rattle.dataset_load.specs.declared.numbered.Numbered.{Numbered}
-use Rattle.dataset_load.specs.declared.reader.FilledRound.{FilledRound}
+use Rattle.dataset_load.specs.declared.reader.RoundBlocks.{RoundBlocks}
 use Rattle.dataset_load.specs.Limits.{most_pieces_of_a_round}
 use Rattle.dataset_load.specs.Lines.{AreWholeLines, EachEnds, block_texts, joined}
 use Rattle.dataset_load.specs.Rounds.{HasRead}
 use Rattle.dataset_load.specs.Streaming.{IsReadIn, TakesRest, TakesRound}
 
 -- the texts of the blocks of a round
-abbrev pub texts_of : FilledRound → List (List ℕ)
+abbrev pub texts_of : RoundBlocks → List (List ℕ)
 texts_of round = block_texts round.blocks.items
 
 -- The blocks are whole lines. They are the front of what was kept and left, and what is kept and left now follows; or
 -- they are all of it, and the reader is at its end.
-pub record IsNextRound (left left' : Option (List ℕ)) (kept kept' : List ℕ) (round : FilledRound) : Type 0 where
+pub record IsNextRound (left left' : Option (List ℕ)) (kept kept' : List ℕ) (round : RoundBlocks) : Type 0 where
   pub few : length round.blocks.items ≤ most_pieces_of_a_round
   pub whole_lines : AreWholeLines (texts_of round)
   pub more : round.is_last ≡ false → EachEnds (texts_of round) × TakesRound left left' kept kept' (joined (texts_of round))
@@ -23,7 +23,7 @@ pub record IsNextRound (left left' : Option (List ℕ)) (kept kept' : List ℕ) 
 
 -- P holds of the lines before this round. What is kept and left now follows its blocks; or nothing does, and the
 -- reader is at its end.
-pub record IsAhead (P : List (List ℕ) → Type 0) (left left' : Option (List ℕ)) (kept : List ℕ) (round : FilledRound) : Type 0 where
+pub record IsAhead (P : List (List ℕ) → Type 0) (left left' : Option (List ℕ)) (kept : List ℕ) (round : RoundBlocks) : Type 0 where
   pub done : List ℕ
   pub whole : EndsLine done
   pub read : P (lines done)
@@ -33,5 +33,5 @@ pub record IsAhead (P : List (List ℕ) → Type 0) (left left' : Option (List �
   pub last : round.is_last ≡ true → Consumes left left' (done ++ joined (texts_of round)) × IsAtEnd left'
 
 -- The lines before this round are numbered.
-abbrev pub IsReadAhead : Option (List ℕ) → Option (List ℕ) → List ℕ → Numbered → FilledRound → Type 0
+abbrev pub IsReadAhead : Option (List ℕ) → Option (List ℕ) → List ℕ → Numbered → RoundBlocks → Type 0
 IsReadAhead left left' kept so_far round = IsAhead (HasRead so_far) left left' kept round

@@ -1,6 +1,6 @@
-//! The rounds of a reader, and the one that has the first malformed line.
+//! The state of a read, and the round that has the first malformed line.
 
-use crate::reader::FilledRound;
+use crate::reader::RoundBlocks;
 use nquads_core::{count_lines, first_line};
 use piece_pool::OffsetGate;
 use text_dict::TextDict;
@@ -10,9 +10,9 @@ use text_dict::TextDict;
 pub(crate) struct BadRound {
     /// The number of lines before the round.
     pub(crate) before: u128,
-    pub(crate) round: FilledRound,
+    pub(crate) round: RoundBlocks,
     /// The round after it, which was read meanwhile, or None if the reader is at its end.
-    pub(crate) next: Option<FilledRound>,
+    pub(crate) next: Option<RoundBlocks>,
 }
 
 impl BadRound {
@@ -24,18 +24,17 @@ impl BadRound {
     }
 }
 
-/// The rounds of a reader: the gate of all pieces, the number of pieces so far, and the round that has the first malformed
-/// line.
+/// The state of a read: the gate of all pieces, the number of pieces so far, and the round that has the first malformed line.
 #[derive(Drop)]
-pub(crate) struct Rounds<'g, G> {
+pub(crate) struct ReadState<'g, G> {
     pub(crate) gate: &'g G,
     pub(crate) pieces: u64,
     pub(crate) bad: Option<BadRound>,
 }
 
-impl<'g, G> Rounds<'g, G> {
-    pub(crate) fn new(gate: &'g G) -> Rounds<'g, G> {
-        Rounds {
+impl<'g, G> ReadState<'g, G> {
+    pub(crate) fn new(gate: &'g G) -> ReadState<'g, G> {
+        ReadState {
             gate,
             pieces: 0,
             bad: None,

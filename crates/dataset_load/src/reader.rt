@@ -85,7 +85,7 @@ fn append_blocks<S: Source>(
 
 /// The blocks of a round.
 #[derive(Drop)]
-pub(crate) struct FilledRound {
+pub(crate) struct RoundBlocks {
     pub(crate) blocks: Vec<Vec<u8>>,
     /// Whether the reader is at its end.
     pub(crate) is_last: bool,
@@ -101,7 +101,7 @@ pub(crate) fn next_round<S: Source>(
     blocks: &mut Blocks,
     reader: &mut S,
     workers: usize,
-) -> Result<FilledRound, ReadFault>
+) -> Result<RoundBlocks, ReadFault>
     requires workers { (1 ≤ workers) × (workers ≤ most_workers) }
     requires reading { blocks.old.state ≡ BlockState.Reading }
     ensures round { IfOk result (IsNextRound (S.left reader.old) (S.left reader.new)
@@ -114,7 +114,7 @@ pub(crate) fn next_round<S: Source>(
 {
     let mut round = Vec::new(alloc);
     let is_last = fill_round(&mut round, blocks, reader, workers)?;
-    Ok(FilledRound {
+    Ok(RoundBlocks {
         blocks: round,
         is_last,
     })
@@ -130,7 +130,7 @@ pub(crate) fn round_after<S: Source>(
     blocks: &mut Blocks,
     reader: &mut S,
     workers: usize,
-) -> Result<Option<FilledRound>, ReadFault>
+) -> Result<Option<RoundBlocks>, ReadFault>
     requires workers { (1 ≤ workers) × (workers ≤ most_workers) }
     requires reading { is_last ≡ false → blocks.old.state ≡ BlockState.Reading }
     ensures none { is_last ≡ true → (result ≡ Ok None) × (reader.new ≡ reader.old) }

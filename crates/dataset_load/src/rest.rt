@@ -14,7 +14,7 @@ ghost use Rattle.dataset_load.specs.Streaming.{IsBadLineFrom, IsBadSoFar, IsToEn
 use crate::bad_round::BadRound;
 use crate::listing::list_blocks;
 use crate::load_notes::{Listing, LoadListener, LoadNotes};
-use crate::reader::{FilledRound, round_after};
+use crate::reader::{RoundBlocks, round_after};
 use malformed_lines::MalformedLines;
 use nquads_core::{ReadFault, Source};
 use piece_cuts::{BlockState, Blocks};
@@ -156,7 +156,7 @@ fn list_rounds<R: Threads + Wait, S: Source>(
     blocks: &mut Blocks,
     reader: &mut S,
     workers: usize,
-    first: FilledRound,
+    first: RoundBlocks,
 ) -> Result<(), ReadFault>
     requires workers { (1 ≤ workers) × (workers ≤ most_workers) }
     requires few { length first.blocks.items ≤ most_pieces_of_a_round }
@@ -193,8 +193,8 @@ fn list_round<R: Threads + Wait, S: Source>(
     blocks: &mut Blocks,
     reader: &mut S,
     workers: usize,
-    round: FilledRound,
-) -> Result<Option<FilledRound>, ReadFault>
+    round: RoundBlocks,
+) -> Result<Option<RoundBlocks>, ReadFault>
     requires workers { (1 ≤ workers) × (workers ≤ most_workers) }
     requires few { length round.blocks.items ≤ most_pieces_of_a_round }
     requires reading { round.is_last ≡ false → blocks.old.state ≡ BlockState.Reading }
@@ -231,8 +231,8 @@ fn list_round<R: Threads + Wait, S: Source>(
 /// read failed.
 fn next_if_listed(
     listed: Result<(), PoolFault>,
-    next: Result<Option<FilledRound>, ReadFault>,
-) -> Result<Option<FilledRound>, ReadFault>
+    next: Result<Option<RoundBlocks>, ReadFault>,
+) -> Result<Option<RoundBlocks>, ReadFault>
     ensures next { IfOk result (λ round. next ≡ Ok round) }
     ensures listed { OnOk result (IsOk listed) }
     ensures count { (old : _) (new : _) → CountsRead old new next → CountsRead old new result }

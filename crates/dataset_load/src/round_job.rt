@@ -15,13 +15,13 @@ use text_pieces::{TextPiece, read_lines};
 
 /// The pieces of a round, each to be read and looked up in the dictionary of the rounds before.
 #[derive(Drop)]
-pub(crate) struct Round<'d> {
+pub(crate) struct RoundJob<'d> {
     pub(crate) pieces: &'d [&'d [u8]],
     pub(crate) dict: &'d TextDict,
     pub(crate) state: RandomState,
 }
 
-impl<'d> Job for Round<'d> {
+impl<'d> Job for RoundJob<'d> {
     ghost use Rattle.nquads_core.specs.Lines.{lines};
     ghost use Rattle.nquads_core.specs.Pieces.{IsFirstMalformed};
     ghost use Rattle.dataset_load.specs.Lines.{text_at};

@@ -19,7 +19,7 @@ ghost use Rattle.dataset_load.specs.Rounds.{ArePiecesOf, HasRead, line_total};
 
 use crate::fault::LoadFault;
 use crate::numbered::Numbered;
-use crate::round_job::Round;
+use crate::round_job::RoundJob;
 use dict_core::NumQuad;
 use nquads_core::count_lines;
 use piece_pool::{Gate, OffsetGate, Outcome, PoolFault, run_all_with};
@@ -139,7 +139,7 @@ fn read_round<R: Threads + Wait, G: Gate + Sync, F: FnMut() -> T, T>(
     ensures one_worker { workers ≡ 1 → IfErr result.0 (λ fault. fault ≡ Memory) }
     ensures task { F.step task.old result.1 task.new }
 {
-    let job = Round {
+    let job = RoundJob {
         pieces,
         dict,
         state,

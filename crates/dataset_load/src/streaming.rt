@@ -14,13 +14,13 @@ ghost use Rattle.dataset_load.specs.Streaming.{IsBadLineFrom, IsLoadedFrom, IsRe
 ghost use Rattle.dataset_load.specs.Ahead.{IsReadAhead};
 ghost use Rattle.dataset_load.specs.Listing.{IsBadRound, IsListing, IsReady};
 
-use crate::bad_round::{BadRound, Rounds};
+use crate::bad_round::{BadRound, ReadState};
 use crate::counted::{Counted, counted_of};
 use crate::fault::LoadFault;
 use crate::load_notes::{LoadListener, LoadNotes};
 use crate::loading::{borrowed_blocks, hash_state, store_of};
 use crate::numbered::Numbered;
-use crate::reader::{FilledRound, next_round, round_after};
+use crate::reader::{RoundBlocks, next_round, round_after};
 use crate::reader_fault::ReaderFault;
 use crate::rest::{MOST_ROUNDS, list_rest};
 use crate::rounds::add_round;
@@ -168,7 +168,7 @@ fn read_reader<R: Threads + Wait + RandomSource, S: Source, G: Gate + Sync, L: L
     let state = hash_state(rt)?;
     let mut so_far = Numbered::new(alloc, state)?;
     let mut blocks = Blocks::new(alloc, size)?;
-    let mut rounds = Rounds::new(gate);
+    let mut rounds = ReadState::new(gate);
     match number_rounds(
         rt,
         alloc,
@@ -217,7 +217,7 @@ fn number_rounds<R: Threads + Wait, S: Source, G: Gate + Sync>(
     blocks: &mut Blocks,
     reader: &mut S,
     workers: usize,
-    rounds: &mut Rounds<'_, G>,
+    rounds: &mut ReadState<'_, G>,
 ) -> Result<(), ReaderFault>
     requires workers { (1 ≤ workers) × (workers ≤ most_workers) }
     requires reading { blocks.old.state ≡ BlockState.Reading }
@@ -254,9 +254,9 @@ fn number_round<R: Threads + Wait, S: Source, G: Gate + Sync>(
     blocks: &mut Blocks,
     reader: &mut S,
     workers: usize,
-    rounds: &mut Rounds<'_, G>,
-    round: FilledRound,
-) -> Result<Option<FilledRound>, ReaderFault>
+    rounds: &mut ReadState<'_, G>,
+    round: RoundBlocks,
+) -> Result<Option<RoundBlocks>, ReaderFault>
     requires workers { (1 ≤ workers) × (workers ≤ most_workers) }
     requires few { length round.blocks.items ≤ most_pieces_of_a_round }
     requires reading { round.is_last ≡ false → blocks.old.state ≡ BlockState.Reading }
@@ -297,13 +297,13 @@ fn number_round<R: Threads + Wait, S: Source, G: Gate + Sync>(
 /// precedence, except over a worker that could not be started, where the read ran out of memory. A round with a malformed
 /// line is kept to be listed; otherwise the memory of its blocks is used again.
 fn end_round<G>(
-    rounds: &mut Rounds<'_, G>,
+    rounds: &mut ReadState<'_, G>,
     blocks: &mut Blocks,
     before: u128,
-    round: FilledRound,
+    round: RoundBlocks,
     added: Result<(), LoadFault>,
-    next: Result<Option<FilledRound>, ReadFault>,
-) -> Result<Option<FilledRound>, ReaderFault>
+    next: Result<Option<RoundBlocks>, ReadFault>,
+) -> Result<Option<RoundBlocks>, ReaderFault>
     ensures blocks { blocks.new ≡ blocks.old }
     ensures next { IfOk result (λ round. next ≡ Ok round) }
     ensures added { OnOk result (IsOk added) }
@@ -346,7 +346,7 @@ fn add_blocks<R: Threads + Wait, G: Gate + Sync, F: FnMut() -> T, T>(
     so_far: &mut Numbered,
     blocks: &[Vec<u8>],
     workers: usize,
-    rounds: &mut Rounds<'_, G>,
+    rounds: &mut ReadState<'_, G>,
     task: &mut F,
 ) -> (Result<(), LoadFault>, T)
     requires workers { (1 ≤ workers) × (workers ≤ most_workers) }

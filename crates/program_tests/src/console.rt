@@ -63,7 +63,7 @@ fn evaluate<R: Wait + Clock, C: Clock, W: Write, T: Wait + Clock>(
     console: &Console<R, C, W>,
     rt: &T,
 ) {
-    console.begin(Stage::Joining);
+    console.begin(Stage::Evaluating);
     console.show();
     console.begin(Stage::Printing);
     console.show();

@@ -1,8 +1,8 @@
 -- The basic graph patterns of a plan are the runs of triples of its group.
 use Rattle.std.proofs.Common.{◌≡◌, Bool, true, false, List, [], ◌∷◌, ◌++◌, Option, Some, None, refl, sym, ap, ◌∙◌, append_assoc, append-nil}
 use Rattle.std.specs.List.{flat_map}
-use Rattle.sparql_tree.specs.declared.group.PatternTerm.{PatternTerm}
-use Rattle.sparql_tree.specs.declared.group.PatternTerm.TheVariants as place
+use Rattle.sparql_tree.specs.declared.group.VarOrTerm.{VarOrTerm}
+use Rattle.sparql_tree.specs.declared.group.VarOrTerm.TheVariants as place
 use Rattle.sparql_tree.specs.declared.group.Triple.{Triple}
 use Rattle.sparql_tree.specs.GroupTree.{GroupTree, ElementTree, none, then, triples, group, union, optional, minus, graph, filter, bind, values}
 use Rattle.sparql_tree.specs.QueryTree.{QueryTree}
@@ -140,7 +140,7 @@ same_patterns q h =
 
 -- ---- labels
 
-place_same : (t : PatternTerm) → translation.blank_names t ≡ reuse.place_labels t
+place_same : (t : VarOrTerm) → translation.blank_names t ≡ reuse.place_labels t
 place_same (place.Variable x) = refl
 place_same (place.Blank l) = refl
 place_same (place.Term t) = refl

@@ -4,7 +4,7 @@ use Rattle.sparql_tree.specs.ExpressionTree as expression
 use Rattle.sparql_tree.specs.ExpressionTree.{ExpressionTree, expression_of, expressions_of, expression_step}
 use Rattle.sparql_tree.specs.GroupTree as element
 use Rattle.sparql_tree.specs.GroupTree.{ElementTree, element_of, element_step, group_of}
-use Rattle.sparql_tree.specs.declared.group.GraphName.{GraphName}
+use Rattle.sparql_tree.specs.declared.group.VarOrIri.{VarOrIri}
 use Rattle.sparql_tree.specs.declared.group.Element.{Element}
 use Rattle.sparql_tree.specs.declared.group.Element.TheFolds.{fold-roll-Element}
 use Rattle.sparql_tree.specs.declared.group.Element.TheOpen.{Element-F}
@@ -28,7 +28,7 @@ optional_stands_for es = ap element_of (sym (variants.rolls-Optional es)) ∙ fo
 pub minus_stands_for : (es : Vec Element Global) → element_of (views.Minus es) ≡ element.minus (group_of es.items)
 minus_stands_for es = ap element_of (sym (variants.rolls-Minus es)) ∙ fold-roll-Element ElementTree element_step (Element-F.Minus es)
 
-pub graph_stands_for : (name : GraphName) (es : Vec Element Global) → element_of (views.Graph name es) ≡ element.graph name (group_of es.items)
+pub graph_stands_for : (name : VarOrIri) (es : Vec Element Global) → element_of (views.Graph name es) ≡ element.graph name (group_of es.items)
 graph_stands_for name es = ap element_of (sym (variants.rolls-Graph name es)) ∙ fold-roll-Element ElementTree element_step (Element-F.Graph name es)
 
 pub member_stands_for : (item : Box Expression Global) (es : Vec Expression Global) → expression_of (expression_views.In item es) ≡ expression.member (expression_of item.value) (expressions_of es.items)

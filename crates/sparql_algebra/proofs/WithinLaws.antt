@@ -7,10 +7,10 @@ use Rattle.std.proofs.lemmas.List.{append-nil}
 use Rattle.std.proofs.lemmas.List.Folds.{list_any-append, list_all-append}
 use Rattle.std.proofs.lemmas.Slice.Eq.{bytes_eq-Decides}
 use Rattle.rdf_core.specs.declared.term.Term.{Term}
-use Rattle.sparql_tree.specs.declared.group.GraphName.{GraphName}
-use Rattle.sparql_tree.specs.declared.group.GraphName.TheVariants as graph
-use Rattle.sparql_tree.specs.declared.group.PatternTerm.{PatternTerm}
-use Rattle.sparql_tree.specs.declared.group.PatternTerm.TheVariants as place
+use Rattle.sparql_tree.specs.declared.group.VarOrIri.{VarOrIri}
+use Rattle.sparql_tree.specs.declared.group.VarOrIri.TheVariants as graph
+use Rattle.sparql_tree.specs.declared.group.VarOrTerm.{VarOrTerm}
+use Rattle.sparql_tree.specs.declared.group.VarOrTerm.TheVariants as place
 use Rattle.sparql_tree.specs.declared.group.Triple.{Triple}
 use Rattle.sparql_tree.specs.GroupTree as element
 use Rattle.sparql_tree.specs.GroupTree.{GroupTree, ElementTree}
@@ -111,7 +111,7 @@ all-without_repeats same p (x ∷ xs) h =
     (all-filter p (λ y. not (same x y)) (without_repeats same xs) (all-without_repeats same p xs (right (p x) (list_all p xs) h)))
 
 module _ (names : List Name) where
-  place_below : (labels : List Name) (t : PatternTerm) → are_among names (place_names t) ≡ true → are_among labels (blank_names t) ≡ true
+  place_below : (labels : List Name) (t : VarOrTerm) → are_among names (place_names t) ≡ true → are_among labels (blank_names t) ≡ true
       → is_below (length names) (length labels) (translate_place names labels t) ≡ true
   place_below labels (place.Variable x) bound blank = number_below names x (first_of_one names x bound)
   place_below labels (place.Blank l) bound blank =
@@ -150,7 +150,7 @@ module _ (names : List Name) where
       triples_below (labels_of ts) ts bound
       (among_distinct (flat_map triple_blanks ts) (flat_map triple_blanks ts) (among_itself (flat_map triple_blanks ts)))
 
-  graph_within : (i : GraphName) → are_among names (graph_names i) ≡ true → is_name_below (length names) (translate_graph_name names i) ≡ true
+  graph_within : (i : VarOrIri) → are_among names (graph_names i) ≡ true → is_name_below (length names) (translate_graph_name names i) ≡ true
   graph_within (graph.Variable x) h = number_below names x (first_of_one names x h)
   graph_within (graph.Iri t) h = refl
 

@@ -4,10 +4,10 @@ use Rattle.std.specs.Prelude.{ℕ, zero, suc, ◌+◌, Bool, true, false, List, 
 use Rattle.std.specs.Str.{bytes_eq}
 use Rattle.rdf_core.specs.declared.term.Term.{Term}
 use Rattle.rdf_core.specs.declared.term.Term.TheVariants.{Iri}
-use Rattle.sparql_tree.specs.declared.group.GraphName.{GraphName}
-use Rattle.sparql_tree.specs.declared.group.GraphName.TheVariants as graph
-use Rattle.sparql_tree.specs.declared.group.PatternTerm.{PatternTerm}
-use Rattle.sparql_tree.specs.declared.group.PatternTerm.TheVariants as place
+use Rattle.sparql_tree.specs.declared.group.VarOrIri.{VarOrIri}
+use Rattle.sparql_tree.specs.declared.group.VarOrIri.TheVariants as graph
+use Rattle.sparql_tree.specs.declared.group.VarOrTerm.{VarOrTerm}
+use Rattle.sparql_tree.specs.declared.group.VarOrTerm.TheVariants as place
 use Rattle.sparql_tree.specs.declared.group.Triple.{Triple}
 use Rattle.sparql_tree.specs.ExpressionTree as tree
 use Rattle.sparql_tree.specs.ExpressionTree.{ExpressionTree, Expressions}
@@ -52,7 +52,7 @@ closed_as p A = record { before = A; triples = []; filters = p.filters }
 
 -- The blank node labels of a basic graph pattern are numbered in the order of their first
 -- occurrence.
-abbrev pub blank_names : PatternTerm → List Name
+abbrev pub blank_names : VarOrTerm → List Name
 blank_names (place.Variable x) = []
 blank_names (place.Blank l) = l ∷ []
 blank_names (place.Term t) = []
@@ -84,7 +84,7 @@ module _ (names : List Name) where
     translate_members tree.none = []
     translate_members (tree.then es e) = translate_members es ++ translate_expression e ∷ []
 
-  abbrev pub translate_place : List Name → PatternTerm → bgp.PatternTerm Term
+  abbrev pub translate_place : List Name → VarOrTerm → bgp.PatternTerm Term
   translate_place labels (place.Variable x) = bgp.variable (number_of names x)
   translate_place labels (place.Blank l) = bgp.label (number_of labels l)
   translate_place labels (place.Term t) = bgp.constant t
@@ -99,7 +99,7 @@ module _ (names : List Name) where
   abbrev pub translate_pattern : List Triple → Algebra
   translate_pattern ts = algebra.Pattern (length (labels_of ts)) (map (translate_triple (labels_of ts)) ts)
 
-  abbrev pub translate_graph_name : GraphName → algebra.GraphName
+  abbrev pub translate_graph_name : VarOrIri → algebra.GraphName
   translate_graph_name (graph.Variable x) = each_graph (number_of names x)
   translate_graph_name (graph.Iri t) = one_graph (Iri t)
 

@@ -17,7 +17,7 @@ use crate::operator::{self, Operator};
 use crate::part::Part;
 use crate::table::convert_table;
 use rdf_core::Term;
-use sparql_tree::{Element, GraphName};
+use sparql_tree::{Element, VarOrIri};
 use std::alloc::{AllocError, Global};
 
 /// Translates a group ([53] `GroupGraphPattern`) into its operator.
@@ -149,7 +149,7 @@ fn convert_union(
 fn convert_graph(
     alloc: Global,
     names: &Names,
-    name: &GraphName,
+    name: &VarOrIri,
     group: &[Element],
 ) -> Result<Box<Operator>, AllocError>
     ensures operator { IfOk result (λ made. algebra_of made.value
@@ -163,15 +163,15 @@ fn convert_graph(
 fn convert_graph_name(
     alloc: Global,
     names: &Names,
-    name: &GraphName,
+    name: &VarOrIri,
 ) -> Result<operator::GraphName, AllocError>
     ensures name { IfOk result
         (λ made. graph_name_of made ≡ translate_graph_name names.now name.now) }
 {
     match name {
-        GraphName::Variable(variable) => {
+        VarOrIri::Variable(variable) => {
             Ok(operator::GraphName::Variable(names.number(variable)))
         }
-        GraphName::Iri(iri) => Ok(operator::GraphName::Iri(Term::Iri(iri.copy(alloc)?))),
+        VarOrIri::Iri(iri) => Ok(operator::GraphName::Iri(Term::Iri(iri.copy(alloc)?))),
     }
 }

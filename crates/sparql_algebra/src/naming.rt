@@ -11,7 +11,7 @@ ghost use Rattle.sparql_algebra.specs.Names.{IsNotedInPart, listed_names, names_
 
 use crate::names::Names;
 use rdf_core::Text;
-use sparql_tree::{Element, GraphName, PatternTerm, Query, Selection, Triple};
+use sparql_tree::{Element, Query, Selection, Triple, VarOrIri, VarOrTerm};
 use std::alloc::{AllocError, Global};
 
 /// Returns the names of a query by their numbers. First come the names in the order in which the
@@ -114,13 +114,13 @@ fn note_element(names: &mut Names, all: bool, element: &Element) -> Result<(), A
     }
 }
 
-fn note_graph_name(names: &mut Names, name: &GraphName) -> Result<(), AllocError>
+fn note_graph_name(names: &mut Names, name: &VarOrIri) -> Result<(), AllocError>
     ensures noted { OnOk result (names.new ≡ insert_all bytes_eq names.old (graph_names name.now)) }
     ensures in_part { OnErr result (IsNotedInPart names.old (graph_names name.now) names.new) }
 {
     match name {
-        GraphName::Variable(variable) => names.note(variable),
-        GraphName::Iri(_) => Ok(()),
+        VarOrIri::Variable(variable) => names.note(variable),
+        VarOrIri::Iri(_) => Ok(()),
     }
 }
 
@@ -145,12 +145,12 @@ fn note_triple(names: &mut Names, triple: &Triple) -> Result<(), AllocError>
     note_place(names, &triple.object)
 }
 
-fn note_place(names: &mut Names, place: &PatternTerm) -> Result<(), AllocError>
+fn note_place(names: &mut Names, place: &VarOrTerm) -> Result<(), AllocError>
     ensures noted { OnOk result (names.new ≡ insert_all bytes_eq names.old (place_names place.now)) }
     ensures in_part { OnErr result (IsNotedInPart names.old (place_names place.now) names.new) }
 {
     match place {
-        PatternTerm::Variable(variable) => names.note(variable),
-        PatternTerm::Blank(_) | PatternTerm::Term(_) => Ok(()),
+        VarOrTerm::Variable(variable) => names.note(variable),
+        VarOrTerm::Blank(_) | VarOrTerm::Term(_) => Ok(()),
     }
 }

@@ -8,7 +8,7 @@ ghost use Rattle.sparql_algebra.specs.Translation.{blank_names, labels_of, trans
 use crate::constructors::boxed;
 use crate::names::Names;
 use crate::operator::{self, Operator};
-use sparql_tree::{PatternTerm, Triple};
+use sparql_tree::{Triple, VarOrTerm};
 use std::alloc::{AllocError, Global};
 
 /// Translates triples ([55] `TriplesBlock`) into a basic graph pattern. Its blank node labels are
@@ -52,12 +52,12 @@ fn note_blanks(labels: &mut Names, triple: &Triple) -> Result<(), AllocError>
     note_blank(labels, &triple.object)
 }
 
-fn note_blank(labels: &mut Names, place: &PatternTerm) -> Result<(), AllocError>
+fn note_blank(labels: &mut Names, place: &VarOrTerm) -> Result<(), AllocError>
     ensures noted { OnOk result (labels.new ≡ insert_all bytes_eq labels.old (blank_names place.now)) }
 {
     match place {
-        PatternTerm::Blank(label) => labels.note(label),
-        PatternTerm::Variable(_) | PatternTerm::Term(_) => Ok(()),
+        VarOrTerm::Blank(label) => labels.note(label),
+        VarOrTerm::Variable(_) | VarOrTerm::Term(_) => Ok(()),
     }
 }
 
@@ -98,16 +98,16 @@ fn convert_place(
     alloc: Global,
     names: &Names,
     labels: &Names,
-    place: &PatternTerm,
+    place: &VarOrTerm,
 ) -> Result<operator::PatternTerm, AllocError>
     ensures place { IfOk result (λ term.
         pattern_term_of term ≡ translate_place names.now labels.now place.now) }
 {
     match place {
-        PatternTerm::Variable(variable) => {
+        VarOrTerm::Variable(variable) => {
             Ok(operator::PatternTerm::Variable(names.number(variable)))
         }
-        PatternTerm::Blank(label) => Ok(operator::PatternTerm::Label(labels.number(label))),
-        PatternTerm::Term(term) => Ok(operator::PatternTerm::Term(term.copy(alloc)?)),
+        VarOrTerm::Blank(label) => Ok(operator::PatternTerm::Label(labels.number(label))),
+        VarOrTerm::Term(term) => Ok(operator::PatternTerm::Term(term.copy(alloc)?)),
     }
 }

@@ -11,9 +11,9 @@ use Rattle.rdf_core.specs.declared.term.Term.TheVariants as rdf
 use Rattle.sparql_lexer.specs.declared.token.Kind.TheVariants as kind
 use Rattle.sparql_lexer.specs.declared.token.Keyword.TheVariants as w
 use Rattle.sparql_lexer.specs.declared.token.Sign.TheVariants as s
-use Rattle.sparql_tree.specs.declared.group.GraphName.TheVariants as graph_name
-use Rattle.sparql_tree.specs.declared.group.PatternTerm.{PatternTerm}
-use Rattle.sparql_tree.specs.declared.group.PatternTerm.TheVariants as place
+use Rattle.sparql_tree.specs.declared.group.VarOrIri.TheVariants as graph_name
+use Rattle.sparql_tree.specs.declared.group.VarOrTerm.{VarOrTerm}
+use Rattle.sparql_tree.specs.declared.group.VarOrTerm.TheVariants as place
 use Rattle.sparql_tree.specs.declared.group.Triple.{Triple}
 use Rattle.sparql_tree.specs.ExpressionTree as x
 use Rattle.sparql_tree.specs.GroupTree as g
@@ -24,7 +24,7 @@ use Rattle.sparql_grammar.specs.Symbol as the
 use Rattle.sparql_grammar.specs.Form.{Form, give, count_following, take, part, last, choice, when, this, sign, word}
 
 -- the triples before, and one more
-abbrev pub and_triple : List Triple → PatternTerm → PatternTerm → PatternTerm → List Triple
+abbrev pub and_triple : List Triple → VarOrTerm → VarOrTerm → VarOrTerm → List Triple
 and_triple ts a b c = ts ++ record { subject = a; predicate = b; object = c } ∷ []
 
 -- a literal without a language tag, and one with a tag

@@ -2,8 +2,8 @@
 -- a chain has the part before it as an argument.
 use Rattle.std.specs.Prelude.{ℕ, List, Bool, Option}
 use Rattle.rdf_core.specs.declared.term.Term.{Term}
-use Rattle.sparql_tree.specs.declared.group.GraphName.{GraphName}
-use Rattle.sparql_tree.specs.declared.group.PatternTerm.{PatternTerm}
+use Rattle.sparql_tree.specs.declared.group.VarOrIri.{VarOrIri}
+use Rattle.sparql_tree.specs.declared.group.VarOrTerm.{VarOrTerm}
 use Rattle.sparql_tree.specs.declared.group.Triple.{Triple}
 use Rattle.sparql_tree.specs.ExpressionTree.{ExpressionTree, Expressions}
 use Rattle.sparql_tree.specs.GroupTree.{GroupTree, ElementTree}
@@ -39,11 +39,11 @@ pub data Symbol : Type 0 where
   pattern_term : Symbol
   verb : Symbol
   -- triples
-  objects : PatternTerm → PatternTerm → List Triple → Symbol
-  more_objects : PatternTerm → PatternTerm → List Triple → Symbol
-  property : PatternTerm → List Triple → Symbol
-  after_semicolon : PatternTerm → List Triple → Symbol
-  more_properties : PatternTerm → List Triple → Symbol
+  objects : VarOrTerm → VarOrTerm → List Triple → Symbol
+  more_objects : VarOrTerm → VarOrTerm → List Triple → Symbol
+  property : VarOrTerm → List Triple → Symbol
+  after_semicolon : VarOrTerm → List Triple → Symbol
+  more_properties : VarOrTerm → List Triple → Symbol
   same_subject : List Triple → Symbol
   triples : List Triple → Symbol
   after_subject : List Triple → Symbol
@@ -101,8 +101,8 @@ Value members = Expressions
 Value (more_members es) = Expressions
 Value term = Term
 Value (literal v) = Term
-Value pattern_term = PatternTerm
-Value verb = PatternTerm
+Value pattern_term = VarOrTerm
+Value verb = VarOrTerm
 Value (objects s v ts) = List Triple
 Value (more_objects s v ts) = List Triple
 Value (property s ts) = List Triple
@@ -121,7 +121,7 @@ Value unions = ElementTree
 Value simple = ElementTree
 Value (more_union e) = ElementTree
 Value named_graph = ElementTree
-Value graph_name = GraphName
+Value graph_name = VarOrIri
 Value condition = ExpressionTree
 Value binding = ElementTree
 Value data_block = ElementTree

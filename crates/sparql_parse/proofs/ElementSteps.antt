@@ -11,7 +11,7 @@ use Rattle.sparql_tree.specs.declared.group.Element.TheFolds.{fold-roll-Element}
 use Rattle.sparql_tree.specs.declared.group.Element.TheOpen.{Element-F}
 use Rattle.sparql_tree.specs.declared.group.Element.TheVariants as variants
 use Rattle.sparql_tree.specs.declared.group.Element.TheViews as views
-use Rattle.sparql_tree.specs.declared.group.GraphName.{GraphName}
+use Rattle.sparql_tree.specs.declared.group.VarOrIri.{VarOrIri}
 use Rattle.sparql_tree.specs.declared.group.Triple.{Triple}
 
 pub triples_seen : (ts : Vec Triple Global) → element_of (variants.Triples ts) ≡ g.triples ts.items
@@ -29,7 +29,7 @@ optional_seen es = ap element_of (sym (variants.rolls-Optional es)) ∙ fold-rol
 pub minus_seen : (es : Vec Element Global) → element_of (views.Minus es) ≡ g.minus (group_of es.items)
 minus_seen es = ap element_of (sym (variants.rolls-Minus es)) ∙ fold-roll-Element ElementTree element_step (Element-F.Minus es)
 
-pub graph_seen : (n : GraphName) (es : Vec Element Global) → element_of (views.Graph n es) ≡ g.graph n (group_of es.items)
+pub graph_seen : (n : VarOrIri) (es : Vec Element Global) → element_of (views.Graph n es) ≡ g.graph n (group_of es.items)
 graph_seen n es = ap element_of (sym (variants.rolls-Graph n es)) ∙ fold-roll-Element ElementTree element_step (Element-F.Graph n es)
 
 pub filter_seen : (e : Expression) → element_of (variants.Filter e) ≡ g.filter (expression_of e)

@@ -14,7 +14,7 @@ use sparql_expression::tokens::{accept, accept_name, accept_variable, accept_wor
 use sparql_expression::{ParseFault, read_bracket, read_call, read_disjunction};
 use sparql_grammar::Declarations;
 use sparql_lexer::{Keyword, Sign, Token};
-use sparql_tree::{Element, Expression, GraphName};
+use sparql_tree::{Element, Expression, VarOrIri};
 use std::alloc::Global;
 
 /// Reads a [53] GroupGraphPattern. Returns its elements and the tokens after it.
@@ -139,17 +139,17 @@ fn read_graph_name<'t, 'a>(
     alloc: Global,
     names: &Declarations,
     tokens: &'t [Token<'a>],
-) -> Result<(GraphName, &'t [Token<'a>]), ParseFault>
+) -> Result<(VarOrIri, &'t [Token<'a>]), ParseFault>
     ensures reads { Parses names.now the.graph_name (terminals tokens.now) (seen (λ v. v) result) }
     ensures shorter { IfOk result (λ p. length p.1.now < length tokens.now) }
 {
     if let Some((name, after)) = accept_variable(alloc, tokens)? {
-        return Ok((GraphName::Variable(name), after));
+        return Ok((VarOrIri::Variable(name), after));
     }
     let Some((iri, after)) = accept_name(alloc, names, tokens)? else {
         return Err(ParseFault::Syntax);
     };
-    Ok((GraphName::Iri(iri), after))
+    Ok((VarOrIri::Iri(iri), after))
 }
 
 /// Reads a [68] Filter, [60] Bind or [61] InlineData.

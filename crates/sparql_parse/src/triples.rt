@@ -18,17 +18,17 @@ use sparql_expression::tokens::{
 use sparql_expression::{ParseFault, read_term};
 use sparql_grammar::Declarations;
 use sparql_lexer::{Keyword, Kind, Sign, Token};
-use sparql_tree::{PatternTerm, Triple};
+use sparql_tree::{Triple, VarOrTerm};
 use std::alloc::{AllocError, Global};
 
 /// Returns an equal term or variable that owns its texts.
-fn copy_place(alloc: Global, place: &PatternTerm) -> Result<PatternTerm, AllocError>
+fn copy_place(alloc: Global, place: &VarOrTerm) -> Result<VarOrTerm, AllocError>
     ensures equal { IfOk result (λ copy. copy ≡ place.now) }
 {
     match place {
-        PatternTerm::Variable(name) => Ok(PatternTerm::Variable(name.copy(alloc)?)),
-        PatternTerm::Blank(label) => Ok(PatternTerm::Blank(label.copy(alloc)?)),
-        PatternTerm::Term(term) => Ok(PatternTerm::Term(term.copy(alloc)?)),
+        VarOrTerm::Variable(name) => Ok(VarOrTerm::Variable(name.copy(alloc)?)),
+        VarOrTerm::Blank(label) => Ok(VarOrTerm::Blank(label.copy(alloc)?)),
+        VarOrTerm::Term(term) => Ok(VarOrTerm::Term(term.copy(alloc)?)),
     }
 }
 
@@ -86,22 +86,22 @@ fn read_pattern_term<'t, 'a>(
     alloc: Global,
     names: &Declarations,
     tokens: &'t [Token<'a>],
-) -> Result<(PatternTerm, &'t [Token<'a>]), ParseFault>
+) -> Result<(VarOrTerm, &'t [Token<'a>]), ParseFault>
     ensures reads { Parses names.now the.pattern_term (terminals tokens.now) (seen (λ v. v) result) }
     ensures shorter { IfOk result (λ p. length p.1.now < length tokens.now) }
 {
     if let Some((name, after)) = accept_variable(alloc, tokens)? {
-        return Ok((PatternTerm::Variable(name), after));
+        return Ok((VarOrTerm::Variable(name), after));
     }
     if let Some((label, after)) = accept_blank(alloc, tokens)? {
-        return Ok((PatternTerm::Blank(label), after));
+        return Ok((VarOrTerm::Blank(label), after));
     }
     if let Some(after) = accept_anonymous(tokens) {
         let made = anonymous_label(alloc, after.len())?;
-        return Ok((PatternTerm::Blank(made), after));
+        return Ok((VarOrTerm::Blank(made), after));
     }
     let (term, after) = read_term(alloc, names, tokens)?;
-    Ok((PatternTerm::Term(term), after))
+    Ok((VarOrTerm::Term(term), after))
 }
 
 /// Reads a [78] Verb.
@@ -109,29 +109,29 @@ fn read_verb<'t, 'a>(
     alloc: Global,
     names: &Declarations,
     tokens: &'t [Token<'a>],
-) -> Result<(PatternTerm, &'t [Token<'a>]), ParseFault>
+) -> Result<(VarOrTerm, &'t [Token<'a>]), ParseFault>
     ensures reads { Parses names.now the.verb (terminals tokens.now) (seen (λ v. v) result) }
     ensures shorter { IfOk result (λ p. length p.1.now < length tokens.now) }
 {
     if let Some((name, after)) = accept_variable(alloc, tokens)? {
-        return Ok((PatternTerm::Variable(name), after));
+        return Ok((VarOrTerm::Variable(name), after));
     }
     if let Some((iri, after)) = accept_name(alloc, names, tokens)? {
-        return Ok((PatternTerm::Term(Term::Iri(iri)), after));
+        return Ok((VarOrTerm::Term(Term::Iri(iri)), after));
     }
     let Some(after) = accept_word(tokens, Keyword::A) else {
         return Err(ParseFault::Syntax);
     };
     let iri = Text::from_string(String::from_str(alloc, RDF_TYPE)?);
-    Ok((PatternTerm::Term(Term::Iri(iri)), after))
+    Ok((VarOrTerm::Term(Term::Iri(iri)), after))
 }
 
 /// Reads an [79] ObjectList of one subject and verb, and appends its triples.
 fn read_objects<'t, 'a>(
     alloc: Global,
     names: &Declarations,
-    subject: &PatternTerm,
-    verb: &PatternTerm,
+    subject: &VarOrTerm,
+    verb: &VarOrTerm,
     triples: &mut Vec<Triple>,
     tokens: &'t [Token<'a>],
 ) -> Result<&'t [Token<'a>], ParseFault>
@@ -149,8 +149,8 @@ fn read_objects<'t, 'a>(
 fn read_object<'t, 'a>(
     alloc: Global,
     names: &Declarations,
-    subject: &PatternTerm,
-    verb: &PatternTerm,
+    subject: &VarOrTerm,
+    verb: &VarOrTerm,
     triples: &mut Vec<Triple>,
     tokens: &'t [Token<'a>],
 ) -> Result<&'t [Token<'a>], ParseFault>
@@ -170,7 +170,7 @@ fn read_object<'t, 'a>(
 fn read_property<'t, 'a>(
     alloc: Global,
     names: &Declarations,
-    subject: &PatternTerm,
+    subject: &VarOrTerm,
     triples: &mut Vec<Triple>,
     tokens: &'t [Token<'a>],
 ) -> Result<&'t [Token<'a>], ParseFault>
@@ -185,7 +185,7 @@ fn read_property<'t, 'a>(
 fn read_other_property<'t, 'a>(
     alloc: Global,
     names: &Declarations,
-    subject: &PatternTerm,
+    subject: &VarOrTerm,
     triples: &mut Vec<Triple>,
     tokens: &'t [Token<'a>],
 ) -> Result<&'t [Token<'a>], ParseFault>

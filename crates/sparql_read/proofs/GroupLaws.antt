@@ -7,7 +7,7 @@ use Rattle.sparql_tree.specs.declared.group.Element.TheFolds.{fold-roll-Element}
 use Rattle.sparql_tree.specs.declared.group.Element.TheOpen.{Element-F}
 use Rattle.sparql_tree.specs.declared.group.Element.TheVariants as variants
 use Rattle.sparql_tree.specs.declared.group.Element.TheViews as views
-use Rattle.sparql_tree.specs.declared.group.GraphName.{GraphName}
+use Rattle.sparql_tree.specs.declared.group.VarOrIri.{VarOrIri}
 use Rattle.sparql_tree.specs.GroupTree.{GroupTree, ElementTree, none, then, onto, union, graph, element_of, element_step, group_of}
 
 pub onto_append : (g : GroupTree) (xs ys : List ElementTree) → onto g (xs ++ ys) ≡ onto (onto g xs) ys
@@ -30,7 +30,7 @@ group_rest es i = ap group_of (sym (take-append-drop i es)) ∙ group_append (ta
 pub union_denotes : (left : Box Element Global) (es : Vec Element Global) → element_of (views.Union left es) ≡ union (element_of left.value) (group_of es.items)
 union_denotes left es = ap element_of (sym (variants.rolls-Union left es)) ∙ fold-roll-Element ElementTree element_step (Element-F.Union left es)
 
-pub graph_denotes : (name : GraphName) (es : Vec Element Global) → element_of (views.Graph name es) ≡ graph name (group_of es.items)
+pub graph_denotes : (name : VarOrIri) (es : Vec Element Global) → element_of (views.Graph name es) ≡ graph name (group_of es.items)
 graph_denotes name es = ap element_of (sym (variants.rolls-Graph name es)) ∙ fold-roll-Element ElementTree element_step (Element-F.Graph name es)
 
 -- the left side is no larger than the whole

@@ -1,7 +1,7 @@
 -- The functions that collect the variables in scope.
 use Rattle.std.proofs.Common.{◌≡◌, ◌+◌, ◌<◌, ℕ, List, [], ◌∷◌, ◌++◌, Bool, true, false, ◌||◌, Some, length, take, drop, map, get_or, refl, sym, ap, ◌∙◌, subst}
 use Rattle.sparql_tree.specs.declared.group.Element.{Element}
-use Rattle.sparql_tree.specs.declared.group.GraphName.{GraphName}
+use Rattle.sparql_tree.specs.declared.group.VarOrIri.{VarOrIri}
 use Rattle.sparql_tree.specs.GroupTree.{GroupTree, ElementTree, then, onto, triples, group, union, optional, minus, graph, filter, bind, values, element_of, group_of}
 use Rattle.sparql_tree.specs.Scope.{Name, element_names, graph_names}
 use Rattle.sparql_read.specs.NameSet.{HaveSame}
@@ -82,7 +82,7 @@ scope_before false e g xs ys zs h k = first (breaks_inside e) _ k
 pub scope_after_broken : (e : ElementTree) (g : GroupTree) → breaks_bind_scope g ≡ true → breaks_inside (union e g) ≡ true
 scope_after_broken e g h = either_true (breaks_inside e) h
 
-pub scope_named : (b : Bool) (i : GraphName) (g : GroupTree) (xs ys zs : List Name) → HaveSame ys (xs ++ graph_names i) → AddsScope (group g) b ys zs → AddsScope (graph i g) b xs zs
+pub scope_named : (b : Bool) (i : VarOrIri) (g : GroupTree) (xs ys zs : List Name) → HaveSame ys (xs ++ graph_names i) → AddsScope (group g) b ys zs → AddsScope (graph i g) b xs zs
 scope_named true i g xs ys zs h k = (k.0, same_then xs (graph_names i) (element_names false (group g)) h k.1)
 scope_named false i g xs ys zs h k = k
 

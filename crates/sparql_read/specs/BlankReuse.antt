@@ -3,13 +3,13 @@
 use Rattle.std.specs.Prelude.{ℕ, List, [], ◌∷◌, ◌++◌, Bool, true, false, ◌||◌, flat_map, cond}
 use Rattle.std.specs.List.{list_any}
 use Rattle.std.specs.Str.{bytes_eq}
-use Rattle.sparql_tree.specs.declared.group.PatternTerm.{PatternTerm}
-use Rattle.sparql_tree.specs.declared.group.PatternTerm.TheVariants as place
+use Rattle.sparql_tree.specs.declared.group.VarOrTerm.{VarOrTerm}
+use Rattle.sparql_tree.specs.declared.group.VarOrTerm.TheVariants as place
 use Rattle.sparql_tree.specs.declared.group.Triple.{Triple}
 use Rattle.sparql_tree.specs.GroupTree.{GroupTree, ElementTree, none, then, triples, group, union, optional, minus, graph, filter, bind, values}
 
 -- a `[]` has a label that occurs only in its own triples
-abbrev pub place_labels : PatternTerm → List (List ℕ)
+abbrev pub place_labels : VarOrTerm → List (List ℕ)
 place_labels (place.Variable x) = []
 place_labels (place.Blank l) = l ∷ []
 place_labels (place.Term t) = []

@@ -7,7 +7,7 @@ ghost use Rattle.sparql_read.specs.BlankReuse.{basic_patterns, ends_run, labels_
 ghost use Rattle.sparql_read.specs.LabelSteps.{AddsElement, AddsLabels, AddsPatterns, run_of};
 
 use crate::name_set::NameSet;
-use sparql_tree::{Element, PatternTerm, Triple};
+use sparql_tree::{Element, Triple, VarOrTerm};
 use std::alloc::{AllocError, Global};
 use std::mem::replace;
 
@@ -17,12 +17,12 @@ fn add_place(
     alloc: Global,
     earlier: &NameSet,
     labels: &mut NameSet,
-    place: &PatternTerm,
+    place: &VarOrTerm,
 ) -> Result<bool, AllocError>
     ensures labels { IfOk result (λ fits. AddsLabels earlier.now (place_labels place.now) fits labels.old labels.new) }
 {
     match place {
-        PatternTerm::Blank(label) => {
+        VarOrTerm::Blank(label) => {
             if earlier.has(label) {
                 return Ok(false);
             }

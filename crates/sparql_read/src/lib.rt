@@ -68,10 +68,10 @@ pub use sparql_tree::Element;
 pub use sparql_tree::Triple;
 
 /// A variable, a blank node label or an RDF term in a triple pattern.
-pub use sparql_tree::PatternTerm;
+pub use sparql_tree::VarOrTerm;
 
 /// The variable or the IRI after GRAPH.
-pub use sparql_tree::GraphName;
+pub use sparql_tree::VarOrIri;
 
 /// An expression of FILTER or BIND.
 pub use sparql_tree::Expression;

@@ -9,15 +9,15 @@ ghost use Rattle.sparql_read.specs.ScopeSteps.{AddsScope, IsScopeOf};
 
 use crate::name_set::NameSet;
 use rdf_core::Text;
-use sparql_tree::{Element, GraphName, PatternTerm, Triple};
+use sparql_tree::{Element, Triple, VarOrIri, VarOrTerm};
 use std::alloc::{AllocError, Global};
 
 /// Adds the variable at one position of a triple.
-fn add_place(alloc: Global, scope: &mut NameSet, place: &PatternTerm) -> Result<(), AllocError>
+fn add_place(alloc: Global, scope: &mut NameSet, place: &VarOrTerm) -> Result<(), AllocError>
     ensures names { OnOk result (HaveSame scope.new (scope.old ++ place_names place.now)) }
 {
     match place {
-        PatternTerm::Variable(name) => scope.add(name.copy(alloc)?),
+        VarOrTerm::Variable(name) => scope.add(name.copy(alloc)?),
         _ => Ok(()),
     }
 }
@@ -39,12 +39,12 @@ fn add_triples(alloc: Global, scope: &mut NameSet, triples: &[Triple]) -> Result
     Ok(())
 }
 
-fn add_graph_name(alloc: Global, scope: &mut NameSet, name: &GraphName) -> Result<(), AllocError>
+fn add_graph_name(alloc: Global, scope: &mut NameSet, name: &VarOrIri) -> Result<(), AllocError>
     ensures names { OnOk result (HaveSame scope.new (scope.old ++ graph_names name.now)) }
 {
     match name {
-        GraphName::Variable(name) => scope.add(name.copy(alloc)?),
-        GraphName::Iri(_) => Ok(()),
+        VarOrIri::Variable(name) => scope.add(name.copy(alloc)?),
+        VarOrIri::Iri(_) => Ok(()),
     }
 }
 

@@ -3,7 +3,7 @@
 use Rattle.std.specs.Prelude.{ℕ, List, [], ◌∷◌, map, Option}
 use Rattle.rdf_core.specs.declared.term.Term.{Term}
 use Rattle.sparql_tree.specs.declared.group.Triple.{Triple}
-use Rattle.sparql_tree.specs.declared.group.GraphName.{GraphName}
+use Rattle.sparql_tree.specs.declared.group.VarOrIri.{VarOrIri}
 use Rattle.sparql_tree.specs.declared.group.Element.{Element}
 use Rattle.sparql_tree.specs.declared.group.Element.TheFolds.{fold-Element}
 use Rattle.sparql_tree.specs.declared.group.Element.TheOpen.{Element-F}
@@ -17,7 +17,7 @@ mutual
     union : ElementTree → GroupTree → ElementTree
     optional : GroupTree → ElementTree
     minus : GroupTree → ElementTree
-    graph : GraphName → GroupTree → ElementTree
+    graph : VarOrIri → GroupTree → ElementTree
     filter : ExpressionTree → ElementTree
     -- to a variable, by its name
     bind : ExpressionTree → List ℕ → ElementTree

@@ -1,10 +1,10 @@
 -- The variables of a group, and those of them that are in scope (SPARQL 1.1 Query Language, section
 -- 18.2.1, variable scope). A name is a list of bytes, without `?` or `$`.
 use Rattle.std.specs.Prelude.{ℕ, Bool, false, List, [], ◌∷◌, ◌++◌, flat_map, cond}
-use Rattle.sparql_tree.specs.declared.group.GraphName.{GraphName}
-use Rattle.sparql_tree.specs.declared.group.GraphName.TheVariants as graph
-use Rattle.sparql_tree.specs.declared.group.PatternTerm.{PatternTerm}
-use Rattle.sparql_tree.specs.declared.group.PatternTerm.TheVariants as place
+use Rattle.sparql_tree.specs.declared.group.VarOrIri.{VarOrIri}
+use Rattle.sparql_tree.specs.declared.group.VarOrIri.TheVariants as graph
+use Rattle.sparql_tree.specs.declared.group.VarOrTerm.{VarOrTerm}
+use Rattle.sparql_tree.specs.declared.group.VarOrTerm.TheVariants as place
 use Rattle.sparql_tree.specs.declared.group.Triple.{Triple}
 use Rattle.sparql_tree.specs.GroupTree.{GroupTree, ElementTree, none, then, triples, group, union, optional, minus, graph, filter, bind, values}
 
@@ -13,7 +13,7 @@ abbrev pub Name : Type 0
 Name = List ℕ
 
 -- the variable of one position of a triple, if it has one
-abbrev pub place_names : PatternTerm → List Name
+abbrev pub place_names : VarOrTerm → List Name
 place_names (place.Variable x) = x ∷ []
 place_names (place.Blank l) = []
 place_names (place.Term t) = []
@@ -23,7 +23,7 @@ abbrev pub triple_names : Triple → List Name
 triple_names t = place_names t.subject ++ (place_names t.predicate ++ place_names t.object)
 
 -- the variable of [58] GraphGraphPattern, if it has one
-abbrev pub graph_names : GraphName → List Name
+abbrev pub graph_names : VarOrIri → List Name
 graph_names (graph.Variable x) = x ∷ []
 graph_names (graph.Iri t) = []
 

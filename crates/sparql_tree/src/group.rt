@@ -6,7 +6,7 @@ use rdf_core::{Term, Text};
 
 /// One position of a triple pattern ([106] `VarOrTerm`).
 #[derive(Debug)]
-pub enum PatternTerm {
+pub enum VarOrTerm {
     /// `?name` or `$name`, by the name without its first character
     Variable(Text),
     /// `_:label`, by the label without `_:`, or `[]`, by a label that occurs nowhere in the text
@@ -15,11 +15,11 @@ pub enum PatternTerm {
     Term(Term),
 }
 
-impl Drop for PatternTerm {
+impl Drop for VarOrTerm {
     /// Implemented by hand. A proof then meets one call at each exit that drops a value.
     fn drop(self) {
         match self {
-            PatternTerm::Variable(_) | PatternTerm::Blank(_) | PatternTerm::Term(_) => {}
+            VarOrTerm::Variable(_) | VarOrTerm::Blank(_) | VarOrTerm::Term(_) => {}
         }
     }
 }
@@ -28,27 +28,27 @@ impl Drop for PatternTerm {
 #[derive(Debug, Drop)]
 pub struct Triple {
     /// The subject.
-    pub subject: PatternTerm,
+    pub subject: VarOrTerm,
     /// The predicate.
-    pub predicate: PatternTerm,
+    pub predicate: VarOrTerm,
     /// The object.
-    pub object: PatternTerm,
+    pub object: VarOrTerm,
 }
 
 /// The name after GRAPH ([107] `VarOrIri`).
 #[derive(Debug)]
-pub enum GraphName {
+pub enum VarOrIri {
     /// By the name without `?` or `$`
     Variable(Text),
     /// By its text
     Iri(Text),
 }
 
-impl Drop for GraphName {
-    /// Implemented by hand, like the `Drop` of [`PatternTerm`].
+impl Drop for VarOrIri {
+    /// Implemented by hand, like the `Drop` of [`VarOrTerm`].
     fn drop(self) {
         match self {
-            GraphName::Variable(_) | GraphName::Iri(_) => {}
+            VarOrIri::Variable(_) | VarOrIri::Iri(_) => {}
         }
     }
 }
@@ -69,7 +69,7 @@ pub enum Element {
     /// `MINUS { .. }` ([66] `MinusGraphPattern`)
     Minus(Vec<Element>),
     /// `GRAPH name { .. }` ([58] `GraphGraphPattern`)
-    Graph(GraphName, Vec<Element>),
+    Graph(VarOrIri, Vec<Element>),
     /// `FILTER (..)`, or a call without parentheses around it ([68] `Filter`)
     Filter(Expression),
     /// `BIND (.. AS ?name)` ([60] `Bind`)

@@ -8,7 +8,7 @@
 //! All fields are public. Contracts use plain models of the types, without boxes and vectors:
 //! `expression_of` an [`Expression`] (specs/ExpressionTree.antt), `element_of` an [`Element`]
 //! (specs/GroupTree.antt) and `query_of` a [`Query`] (specs/QueryTree.antt). A [`Triple`] and a
-//! [`PatternTerm`] are their own models.
+//! [`VarOrTerm`] are their own models.
 //!
 //! Standard: SPARQL 1.1 Query Language, section 19.8 (grammar).
 //!
@@ -23,5 +23,5 @@ mod group;
 mod query;
 
 pub use expression::{Comparison, Expression, Function};
-pub use group::{Element, GraphName, PatternTerm, Triple};
+pub use group::{Element, Triple, VarOrIri, VarOrTerm};
 pub use query::{Query, Selection};

@@ -84,7 +84,7 @@ pub fn answer_query<R: Threads + Wait + RandomSource, G: Gate + Sync, P: Progres
         (rows (query_of query.now) (quads_at store.dict store.index))) }
     ensures one_worker { HasOneWorker how.now → IfErr result (λ fault. fault ≡ Memory) }
 {
-    log.begin(Stage::Joining);
+    log.begin(Stage::Evaluating);
     match translate(alloc, query) {
         Ok(plan) => {
             let made = answer_plan(rt, alloc, store, query, &plan, how, gate, log);

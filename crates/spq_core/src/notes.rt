@@ -15,16 +15,16 @@ pub enum Stage {
     /// Reading the document and its lines.
     Reading,
     /// Numbering the terms and sorting the quads.
-    Sorting,
+    Indexing,
     /// Evaluating the query.
-    Joining,
+    Evaluating,
     /// Composing the output, and writing it.
     Printing,
 }
 
 /// Callbacks of a run at the beginning of its stages, and when the first malformed line is known.
 pub trait Progress: LoadListener {
-    /// Runs when this stage begins. A run does not call this for `Sorting`, which begins at the end of the reader.
+    /// Runs when this stage begins. A run does not call this for `Indexing`, which begins at the end of the reader.
     fn begin(&self, stage: Stage);
 }
 
@@ -120,7 +120,7 @@ impl<'p, P: Progress> Log<'p, P> {
     pub(crate) fn loaded(&mut self, loading: LoadNotes) {
         let LoadNotes { malformed, is_read } = loading;
         if is_read {
-            self.notes.stage = Stage::Sorting;
+            self.notes.stage = Stage::Indexing;
         }
         self.notes.malformed = malformed;
     }

@@ -112,8 +112,8 @@ fn name_of(stage: Stage) -> Option<&'static str> {
     match stage {
         Stage::Checking => None,
         Stage::Reading => Some("reading"),
-        Stage::Sorting => Some("indexing"),
-        Stage::Joining => Some("evaluating"),
+        Stage::Indexing => Some("indexing"),
+        Stage::Evaluating => Some("evaluating"),
         Stage::Printing => Some("printing"),
     }
 }
@@ -367,7 +367,7 @@ impl<R: Wait + Clock, C: Clock, W: Write> Meter for Console<R, C, W> {
         let counts = &mut state.counts;
         if bytes.is_empty() {
             counts.read_in = end;
-            counts.stage = Stage::Sorting;
+            counts.stage = Stage::Indexing;
         }
         counts.bytes = counts.bytes.saturating_add(bytes.len() as u64);
         counts.lines = counts.lines.saturating_add(lines);

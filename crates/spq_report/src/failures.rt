@@ -60,8 +60,8 @@ pub fn no_memory<W: Write>(out: &mut W, stage: Stage) -> io::Result<()> {
     let doing = match stage {
         Stage::Checking => "reading the command line",
         Stage::Reading => "reading the document",
-        Stage::Sorting => "sorting the document",
-        Stage::Joining => "joining the rows of the query",
+        Stage::Indexing => "indexing the document",
+        Stage::Evaluating => "evaluating the query",
         Stage::Printing => "printing the result",
     };
     writeln!(out, "spq: out of memory while {doing}")?;

@@ -14,7 +14,7 @@ use text_dict::TextDict;
 #[derive(Clone, Copy, Debug, PartialEq, Eq)]
 pub(crate) enum NamingFault {
     /// A slice denotes no term, or none that is allowed at its place. This decides nothing.
-    Doubt,
+    NeedsFullReader,
     /// Out of memory.
     Memory,
 }
@@ -138,7 +138,7 @@ fn number_new(
     match canonical(alloc, raw, form)? {
         Some(Form::Same) => Ok(number_lacking(dict, new, hash, raw.as_bytes())?),
         Some(Form::Other) => Ok(number_text(dict, new, form.as_slice())?),
-        None => Err(NamingFault::Doubt),
+        None => Err(NamingFault::NeedsFullReader),
     }
 }
 
@@ -180,7 +180,7 @@ pub(crate) fn number_node(
 {
     let n = number_slice(alloc, dict, new, form, guess, raw)?;
     if first_byte(text_at(dict, new, n)) == b'"' {
-        return Err(NamingFault::Doubt);
+        return Err(NamingFault::NeedsFullReader);
     }
     Ok(n)
 }
@@ -201,7 +201,7 @@ pub(crate) fn number_iri(
 {
     let n = number_slice(alloc, dict, new, form, guess, raw)?;
     if first_byte(text_at(dict, new, n)) != b'<' {
-        return Err(NamingFault::Doubt);
+        return Err(NamingFault::NeedsFullReader);
     }
     Ok(n)
 }

@@ -43,7 +43,7 @@ pub fn read_lines(
 {
     match read_split(alloc, dict, bytes) {
         Ok(piece) => Ok(piece),
-        Err(NamingFault::Doubt) => read_quads(alloc, state, dict, bytes),
+        Err(NamingFault::NeedsFullReader) => read_quads(alloc, state, dict, bytes),
         Err(NamingFault::Memory) => Err(PieceFault::Memory),
     }
 }
@@ -53,7 +53,7 @@ fn read_split(alloc: Global, dict: &TextDict, bytes: &[u8]) -> Result<TextPiece,
     ensures read { IfOk result (IsRead dict.now.texts bytes.now) }
 {
     let Some(split) = split_piece(alloc, bytes)? else {
-        return Err(NamingFault::Doubt);
+        return Err(NamingFault::NeedsFullReader);
     };
     let mut new = TextDict::with_state(alloc, dict.state());
     let quads = number_statements(alloc, dict, &mut new, split.statements.as_slice())?;

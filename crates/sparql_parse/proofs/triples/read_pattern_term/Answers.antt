@@ -2,7 +2,7 @@ use Rattle.std.proofs.Common.{◌≡◌, length, refl, sym, ap, ◌∙◌}
 use Rattle.std.proofs.lemmas.List.{length-map}
 use Rattle.std.proofs.lemmas.Result.{err_from_is_err_and}
 use Rattle.sparql_lexer.specs.Terminal.{terminal_of, terminals}
-use Rattle.sparql_tree.specs.declared.group.PatternTerm.TheVariants as place
+use Rattle.sparql_tree.specs.declared.group.VarOrTerm.TheVariants as place
 use Rattle.sparql_grammar.specs.Values.{anonymous_label}
 use Rattle.sparql_grammar.specs.Class.{variable, blank}
 use Rattle.sparql_grammar.specs.Symbol as the

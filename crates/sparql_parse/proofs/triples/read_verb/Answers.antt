@@ -5,7 +5,7 @@ use Rattle.sparql_grammar.specs.Class.{variable, name}
 use Rattle.sparql_grammar.specs.Symbol as the
 use Rattle.sparql_expression.proofs.Steps.{begin, took, done, take_fails, here, left, took_branch, skipped, out_of_memory}
 use Rattle.sparql_parse.proofs.FrontSteps.{some_taken, none_untaken}
-use Rattle.sparql_tree.specs.declared.group.PatternTerm.TheVariants as place
+use Rattle.sparql_tree.specs.declared.group.VarOrTerm.TheVariants as place
 use Rattle.rdf_core.specs.declared.term.Term.TheVariants as rdf
 use Rattle.sparql_parse.proofs.triples.read_verb.Goals as goal
 
