@@ -121,22 +121,6 @@ def against_serdi():
     return markdown(["", "catalogue", "slowest", "next"], lines).splitlines()
 
 
-def comparison_loading():
-    names = {MANY: "`spq check`, 4 workers", OTHERS["serd"]: "serd's library, parse only", ONE: "`spq check`, 1 worker",
-             SERDI: "`serdi`, parse and print", OTHERS["rapper"]: "`rapper`, parse only", OTHERS["riot"]: "`riot`, parse only", OTHERS["Oxigraph"]: "Oxigraph, load into its store on disk"}
-    found = sorted(((text, loads()[name]) for name, text in names.items() if name in loads()), key=lambda row: row[1].seconds)
-    quads = largest("loading")[0]
-    one, many, serd = loads()[ONE], loads()[MANY], loads().get(OTHERS["serd"])
-    lines = [f"{quads:,} quads of a catalogue, {megabytes(quads)}, one run:", "",
-             *markdown(["command", "seconds", "CPU seconds", "peak MiB"], [[text, f"{it.seconds:.2f}", f"{it.cpu:.2f}", report.peak(it)] for text, it in found]).splitlines(), ""]
-    if serd:
-        lines.append(f"With one worker `spq check` takes {ratio(one.seconds, serd.seconds)} times as long as serd's library, with four workers {ratio(many.seconds, serd.seconds)} times.")
-    worst = highest(Figures(results()).shape_ratios(ONE))
-    if worst:
-        lines.append(f"Of twelve shapes of document, spq is slowest in comparison where the shape is `{worst[1]}`: with one worker {worst[0]:.2f} of serdi's time.")
-    return lines
-
-
 def comparison_queries():
     """What the other engines need for the queries, relative to spq with four workers in the same run."""
     if not engines():
@@ -211,7 +195,7 @@ def results_growth():
 
 
 PARTS = {
-    "readme_speed": readme_speed, "comparison_loading": comparison_loading, "comparison_queries": comparison_queries,
+    "readme_speed": readme_speed, "comparison_queries": comparison_queries,
     "cost_memory": cost_memory, "results_targets": results_targets, "results_loading": results_loading, "results_shapes": results_shapes,
     "results_queries": results_queries, "results_engines": results_engines, "results_growth": results_growth,
 }

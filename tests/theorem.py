@@ -1,7 +1,8 @@
 """The quotes and lists of docs/THEOREM.md, and the check that the page explains each quoted line.
 
-A quote is generated. The explanations are rows of tables that a person writes: the first cell of a row is how a line of
-a quote begins. A quoted line without a row, and a row that does not begin exactly one quoted line, are reported.
+A quote is generated. The explanations are rows of tables that a person writes: the first cell of a row says how one or more lines
+of a quote begin. A quoted line without a row, and such a beginning that is not of exactly one quoted line, are reported.
+Parameters, the type of a result, and the fields of a record need no row.
 """
 import functools
 import os
@@ -14,7 +15,11 @@ OUTCOME = "crates/spq_core/specs/Outcome.antt"
 # The two calls of the theorem.
 CALLS = {"answer": "src/answering.rt", "run_words": "src/words.rt"}
 USE = re.compile(r"^(?:pub )?use Rattle\.([\w.'-]+?)(?:\.\{[^}]*\}| as \w+)?$", re.M)
-ROW = re.compile(r"^\| `(.+?)` \| (.+) \|$", re.M)
+ROW = re.compile(r"^\| (`.+?`(?:, `.+?`)*) \| (.+) \|$", re.M)
+# A parameter of a call, or the end of its parameters.
+PARAMETER = re.compile(r"[a-z_]+: [^{}]*,$|>?\(.*\) ->|\) ->")
+# A field of a record, or a constructor.
+FIELD = re.compile(r"  (?:pub )?\w+ : ")
 
 
 def read(path):
@@ -67,8 +72,8 @@ def explained_lines():
     """Returns the lines that the page has to explain."""
     found = []
     for name in CALLS:
-        found += logical_lines(contract(name), 4)
-    return found + logical_lines(read(OUTCOME).split("\n"), 2)
+        found += [it for it in logical_lines(contract(name), 4) if not PARAMETER.match(it)]
+    return found + logical_lines([it for it in read(OUTCOME).split("\n") if not FIELD.match(it)], 2)
 
 
 # The definition files.
@@ -145,7 +150,7 @@ def table_of(paths):
     for crate in sorted(layer, key=lambda it: (layer[it], it)):
         own = sorted((it for it in paths if crate_of(it) == crate), key=lambda it: (height(it), it))
         names = [name_of(it) + ("" if it in of_answer else "*") for it in own]
-        lines.append(f"| {layer[crate]} | [{crate}](../crates/{crate}/specs) | {', '.join(names)} | {sum(map(count_lines, own)):,} |")
+        lines.append(f"| {layer[crate]} | {crate} | {', '.join(names)} | {sum(map(count_lines, own)):,} |")
     return lines
 
 
@@ -175,7 +180,8 @@ def faults(hand_written):
 
     `hand_written` is the page without its generated parts.
     """
-    rows, lines = [it[0] for it in ROW.findall(hand_written)], explained_lines()
+    tables = re.sub(r"^\| name \|.*?(?=^[^|]|\Z)", "", hand_written, flags=re.S | re.M)  # (the table of names explains no line)
+    rows, lines = [it for cell, _ in ROW.findall(tables) for it in re.findall(r"`([^`]+)`", cell)], explained_lines()
     begun = {row: [it for it in lines if it.startswith(row)] for row in rows}
     found = [f"{PAGE}: no row explains the line `{it}`" for it in lines if not any(it in begun[row] for row in rows)]
     return found + [f"{PAGE}: {len(begun[it])} quoted lines begin with `{it}`, and not one" for it in rows if len(begun[it]) != 1]

@@ -7,7 +7,7 @@
 PROGRAM is the program (crates/spq/out/spq where none is given). The commands are those of the blocks that begin with
 ```console in the pages, which are all files *.md: a line `$ COMMAND`, which lines `> REST` continue, and below it what it
 prints at a terminal, on standard output and on standard error. The commands of a page run in one shell, in a folder with the
-files of docs/tour and with the program on the PATH as `spq`. They need jq, gzip, xz, zstd, pv, GNU parallel and serdi.
+files of docs/tour and with the program on the PATH as `spq`. They need jq, gzip, xz, zstd, GNU parallel and serdi.
 `--write` puts what was printed into the pages.
 
 A block to paste begins with ```sh, and a block ```text right after it has what it prints. It runs in a shell of its own, in a
@@ -46,7 +46,7 @@ NOT_RUN = [
     ("distributed/README.md", "dask-scheduler --host", "needs Dask and other machines"),
     ("distributed/README.md", "spq-dask check --scheduler", "needs Dask and other machines"),
     ("distributed/README.md", "distributed/tests/run out/spq out/spq-part", "the tests of spq-dask"),
-    ("docs/PARTS.md", "spq-dask terms --quiet", "distributed/tests/test_commands.py runs them; needs Dask"),
+    ("docs/PARTS.md", "spq-dask check --quiet", "distributed/tests/test_commands.py runs them; needs Dask"),
     ("docs/GUIDE.md", "systemd-run --user", "needs systemd"),
 ]
 # A block of commands and what it holds. It may be in a list.

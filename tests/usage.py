@@ -105,7 +105,7 @@ def status_faults(page):
 
 
 def query_faults(page):
-    grammar = re.search(r"```ebnf\n(.*?)```", page, re.S)[1]
+    grammar = re.search(r"^## The query language\n(.*?)^## ", page, re.S | re.M)[1]
     words = {it.upper() for it in re.findall(r"'([A-Za-z]+)'", grammar)}
     faults = [f"{PAGE}: the grammar lacks the keyword {it} of {WORDS}" for it in sorted(keywords() - words)]
     return faults + [f"{PAGE}: {it} of the grammar is no keyword of {WORDS}" for it in sorted(words - keywords())]

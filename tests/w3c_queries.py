@@ -174,7 +174,7 @@ def without_order(query):
 
 
 def with_values_inside(query):
-    """Moves VALUES (or BINDINGS, as a draft of SPARQL 1.1 called it) from behind the group into it."""
+    """Moves VALUES (or BINDINGS, as a draft of SPARQL 1.1 called it) from after the group into it."""
     found = tokens(query)
     group = group_of(found)
     after = found[group[1] + 1 :] if group else []

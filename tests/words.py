@@ -24,7 +24,7 @@ WORDS = {
     r"by (?:one |all )?workers?(?! thread)": "with one worker; in parallel",
     r"reads? back": "round-trip",
     r"our own|own choices?": "a choice of this project",
-    r"never comes?": "cannot occur",
+    r"never come(?:s)?": "cannot occur",
     r"dear|dearer|dearest": "expensive",
 }
 PATTERN = re.compile("|".join(rf"(?<![\w-])(?P<w{place}>{word})(?![\w-])" for place, word in enumerate(WORDS)), re.I)
