@@ -217,6 +217,26 @@ def lines():
     yield failed(
         "a long line with a late mistake", ["check"], long + b"\n", 1, "error: line 1",
         "spq: line 1: this is not a line of N-Quads\n")
+    yield from longest_lines()
+
+
+def longest_lines():
+    """Lines about as long as the part of a line that is kept: 1,048,576 bytes."""
+    kept = 1 << 20
+    whole = b'<a:s> <a:p> "'.ljust(kept, b"a")
+    yield bad_line("a line of 1,048,576 bytes", whole + b"\n", f"column {kept + 1}", OPEN_LITERAL,
+                   "\u2026" + "a" * 78 + "\n" + " " * 79 + "^", "write a line break inside a literal as \\n")
+    unknown = "spq: line 1: this is not a line of N-Quads\n"
+    yield failed("a line of 1,048,577 bytes", ["check"], whole + b"a\n", 1, "error: line 1", unknown)
+    # A place is shown only if four bytes that are kept follow it.
+    for after in (5, 3):
+        line = b'<a:s> <a:p> "'.ljust(kept - after - 2, b"a") + b'" ,' + b"a" * 100
+        shown = "\u2026" + line[kept - 78:kept].decode() + "\n" + " " * (79 - after) + "^"
+        said = message(f"line 1, column {kept - after + 1}", "expected '.' or a graph name (an IRI or a blank node), found ','", shown, TURTLE)
+        yield failed(f"a place {after} bytes before the last one that is kept", ["check"], line + b"\n", 1, "error: line 1", said if after == 5 else unknown)
+    # The part that is kept ends inside a character, so it is no text.
+    yield bad_line("a line that is cut inside a character", b'<a:s> "' + "\u00e9".encode() * kept + b"\n", "byte 7", OBJECT + "a literal",
+                   '<a:s> "' + "\u00e9" * 72 + "\u2026\n" + " " * 6 + "^", None)
 
 
 def reasons_of_lines():

@@ -122,7 +122,7 @@ all_copies before after n (f ∷ found) (s ∷ copies) e z h =
       number = omega (arith, z.0.number, e);
       line = f.bytes.now;
       at_place = after_all before after f.place f.bytes.now (h 0 f (omega arith));
-      bytes = z.0.bytes;
+      kept = z.0.kept;
     } in
     All-append (IsShown (before ++ after)) (s ∷ []) copies (single (IsShown (before ++ after)) s one) (all_copies before after n found copies e z.1 (λ k d l. h (suc k) d (omega (arith, l))))
 
@@ -132,7 +132,7 @@ still_shown a b shown h = λ k d l. let s = h k d l in record {
   number = s.number;
   line = s.line;
   at_place = still_at a b s.place s.line s.at_place;
-  bytes = s.bytes;
+  kept = s.kept;
 }
 
 -- the list of a piece, added to that of the lines before

@@ -1,6 +1,6 @@
 -- The malformed lines of a document (RDF 1.1 N-Quads, grammar). That they are listed, and how many, is a choice of this
 -- project.
-use Rattle.std.specs.Prelude.{◌≡◌, ◌⊎◌, ◌++◌, ℕ, ◌+◌, ◌<◌, ◌≤◌, List, [], ◌∷◌, length, map, take, Option, Some}
+use Rattle.std.specs.Prelude.{◌≡◌, ◌⊎◌, ◌++◌, ℕ, ◌+◌, ◌<◌, ◌≤◌, List, [], ◌∷◌, length, map, take, nat_le, Option, Some}
 use Rattle.std.specs.List.{All, AllZip, slice_get}
 use Rattle.rdf_core.specs.QuadParts.{QuadParts}
 use Rattle.nquads_core.specs.Grammar.{HasStatement, IsMalformed}
@@ -42,13 +42,18 @@ pub record IsListOf (lines : List (List ℕ)) (list : PieceList) : Type 0 where
   pub total : list.total ≡ length places
   pub count : list.lines ≡ length lines
 
+-- These are the line's bytes, or the first of them, and it is whole if they are all.
+pub record IsKeptOf (line : List ℕ) (kept : MalformedLine) : Type 0 where
+  pub bytes : kept.bytes.items ≡ take most_kept line
+  pub whole : kept.is_whole ≡ nat_le (length line) most_kept
+
 -- the line with this number, counted from 1, or its first bytes
 pub record IsShown (lines : List (List ℕ)) (shown : MalformedLine) : Type 0 where
   pub place : ℕ
   pub number : shown.number ≡ place + 1
   pub line : List ℕ
   pub at_place : slice_get lines place ≡ Some line
-  pub bytes : shown.bytes.items ≡ take most_kept line
+  pub kept : IsKeptOf line shown
 
 -- the list of a document with these lines: the first twenty malformed ones by their numbers, and how many there are
 pub record IsListed (lines : List (List ℕ)) (list : MalformedLines) : Type 0 where
@@ -59,18 +64,11 @@ pub record IsListed (lines : List (List ℕ)) (list : MalformedLines) : Type 0 w
   pub total : list.total ≡ length numbers
   pub count : list.lines ≡ length lines
 
--- Words that only private clauses cite.
-
--- the line with this place is kept after the others, unless twenty are kept
-abbrev pub IsKept : List FoundLine → ℕ → List ℕ → List FoundLine → Type 0
-IsKept old place bytes new =
-    ((length old < most_shown) × ((found : FoundLine) × (new ≡ old ++ found ∷ []) × (found.place ≡ place) × (found.bytes.now ≡ bytes)))
-    ⊎ ((most_shown ≤ length old) × (new ≡ old))
-
 -- the line of a document that a malformed line of a piece is, if this many lines are before the piece
 pub record IsCopy (before : ℕ) (found : FoundLine) (shown : MalformedLine) : Type 0 where
   pub number : shown.number ≡ before + (found.place + 1)
-  pub bytes : shown.bytes.items ≡ take most_kept found.bytes.now
+  pub kept : IsKeptOf found.bytes.now shown
+  pub cut : shown.is_cut ≡ found.is_cut
 
 -- copies of the first of these lines come after the others, until twenty are kept
 pub record AreKept (before : ℕ) (found : List FoundLine) (old new : List MalformedLine) : Type 0 where
@@ -79,3 +77,11 @@ pub record AreKept (before : ℕ) (found : List FoundLine) (old new : List Malfo
   pub each : AllZip (IsCopy before) (take (length copies) found) copies
   pub all : (length copies ≡ length found) ⊎ (most_shown ≤ length new)
   pub few : (length new ≤ most_shown) ⊎ (new ≡ old)
+
+-- Words that only private clauses cite.
+
+-- the line with this place is kept after the others, unless twenty are kept
+abbrev pub IsKept : List FoundLine → ℕ → List ℕ → List FoundLine → Type 0
+IsKept old place bytes new =
+    ((length old < most_shown) × ((found : FoundLine) × (new ≡ old ++ found ∷ []) × (found.place ≡ place) × (found.bytes.now ≡ bytes)))
+    ⊎ ((most_shown ≤ length old) × (new ≡ old))

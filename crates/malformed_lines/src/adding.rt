@@ -82,6 +82,8 @@ impl MalformedLines {
         requires countable { self.old.lines ≤ 2 ^ 127 }
         ensures listed { OnOk result ((before after : List (List ℕ)) → IsListed before self.old
             → IsListOf after piece.now → IsListed (before ++ after) self.new) }
+        ensures copied { OnOk result (AreKept self.old.lines piece.now.shown.items
+            self.old.shown.items self.new.shown.items) }
         ensures lines { OnOk result (self.new.lines ≤ self.old.lines + (2 ^ 64 - 1)) }
     {
         let (before, lines, total) = (self.lines, piece.lines, piece.total);

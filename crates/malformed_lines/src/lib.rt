@@ -2,12 +2,13 @@
 //!
 //! [`list_piece`] lists the malformed lines of a piece. [`MalformedLines::add`] appends the list of the next piece to
 //! that of the pieces before. So the list of a document is that of its lines (`IsListed` in specs/Malformed.antt),
-//! however it is split into pieces.
+//! however it is split into pieces. [`MalformedLine::diagnosis`] returns the place in a line, of which only the first
+//! bytes may be kept, and the reason.
 //!
 //! A malformed line is one that holds no statement and is not blank and no comment (RDF 1.1 N-Quads, grammar). That
 //! twenty of them are kept, and the counts by reason, are choices of this project.
 //!
-//! Reading order: `reason_counts`, `piece_list` and `listing` (one piece), `document_list` and `adding` (all pieces).
+//! Reading order: `reason_counts`, `piece_list` and `listing` (one piece), `document_list` and `adding` (all pieces), `placing`.
 //!
 //! Tests: `lines` of the crate program_tests.
 //!
@@ -18,6 +19,7 @@ mod adding;
 mod document_list;
 mod listing;
 mod piece_list;
+mod placing;
 mod reason_counts;
 
 pub use document_list::{MalformedLine, MalformedLines};

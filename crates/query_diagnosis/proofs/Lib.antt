@@ -1,1 +1,4 @@
-pub mod PrefixLaws
+mod PrefixLaws
+mod PlaceSteps
+mod RuleSteps
+mod ReportSteps

@@ -1,2 +1,6 @@
 pub mod QueryPrefix
 pub mod Accepted
+pub mod Position
+pub mod TerminalPlace
+pub mod Place
+pub mod Report

@@ -1,20 +1,26 @@
 //! The place of a rejected query, and the reason.
 
-ghost use Rattle.std.specs.Prelude.{◌≡◌, IfOk, IfNone, IfSome};
+ghost use Rattle.std.specs.Prelude.{◌≡◌, IfOk, OnOk, IfNone, IfSome};
 ghost use Rattle.std.specs.Str.{chars};
+ghost use Rattle.sparql_lexer.specs.Scan.{Scans};
+ghost use Rattle.sparql_lexer.specs.Terminal.{terminals};
 ghost use Rattle.sparql_read.specs.Rejection.{IsRejectedBy};
+ghost use Rattle.sparql_read.specs.declared.fault.QueryFault.TheVariants.{Syntax};
 ghost use Rattle.query_diagnosis.specs.Accepted.{IsAcceptedText};
+ghost use Rattle.query_diagnosis.specs.Place.{IsExplained, IsPlace, IsRejectedAt, Rejects, terminal_of};
 
 use crate::expected::push_expected;
 use crate::hint::Hint;
 use crate::hints::{hint_at, hint_at_char};
 use crate::machine::{Cause, Stop, stop_of};
 use crate::places::{Position, offset_of, position_of};
-use crate::rules::{Breach, bound_twice, deepest, relative_iri, reused_blank, undefined_prefix};
+use crate::rules::{
+    Breach, bound_twice, deepest, prefix_of, relative_iri, reused_blank, undefined_prefix,
+};
 use excerpt::visible;
 use rdf_core::lexical::echar;
-use sparql_lexer::{Token, characters_of, scan_text};
-use sparql_read::{QueryFault, declarations_of, read_query};
+use sparql_lexer::{Token, characters_of, one_scan, scan_text};
+use sparql_read::{QueryFault, read_query};
 use std::alloc::{AllocError, Global};
 
 /// The maximum number of characters of a terminal that a reason shows.
@@ -56,16 +62,8 @@ struct Found {
 }
 
 impl<'a> Text<'a> {
-    /// Returns the number of characters before a terminal.
-    fn offset(self, at: usize) -> usize {
-        if at >= self.tokens.len() && !self.rest.is_empty() {
-            return self.characters.len().saturating_sub(self.rest.len());
-        }
-        offset_of(self.characters, self.tokens, at)
-    }
-
     /// Returns the character that begins no terminal, if the machine stopped there.
-    fn unread(self, stop: &Stop) -> Option<char> {
+    fn unread(&self, stop: &Stop) -> Option<char> {
         if stop.at < self.tokens.len() {
             None
         } else {
@@ -123,7 +121,7 @@ fn push_unexpected(
 
 /// Appends the reason for a terminal whose kind is not allowed, or for a character that begins no
 /// terminal.
-fn push_misplaced(out: &mut String, text: Text<'_>, stop: &Stop) -> Result<(), AllocError> {
+fn push_misplaced(out: &mut String, text: &Text<'_>, stop: &Stop) -> Result<(), AllocError> {
     match text.unread(stop) {
         Some(c) if c == '"' || c == '\'' => out.push_str(no_string(text.rest, c)),
         Some(c) => push_unexpected(out, stop, Some(&[c])),
@@ -135,7 +133,7 @@ fn push_misplaced(out: &mut String, text: Text<'_>, stop: &Stop) -> Result<(), A
 }
 
 /// Appends the reason for the place where the machine stopped.
-fn push_reason(out: &mut String, text: Text<'_>, stop: &Stop) -> Result<(), AllocError> {
+fn push_reason(out: &mut String, text: &Text<'_>, stop: &Stop) -> Result<(), AllocError> {
     let words = match stop.cause {
         Cause::Kind => return push_misplaced(out, text, stop),
         Cause::Escape =>
@@ -149,7 +147,7 @@ fn push_reason(out: &mut String, text: Text<'_>, stop: &Stop) -> Result<(), Allo
 }
 
 /// Returns the hint for the place where the machine stopped.
-fn hint_for(text: Text<'_>, stop: &Stop) -> Option<Hint> {
+fn hint_for(text: &Text<'_>, stop: &Stop) -> Option<Hint> {
     if !matches!(stop.cause, Cause::Kind) {
         return None;
     }
@@ -164,13 +162,19 @@ fn breach_of(
     alloc: Global,
     tokens: &[Token<'_>],
     fault: QueryFault,
-) -> Result<Option<Breach>, AllocError> {
+) -> Result<Option<Breach>, AllocError>
+    requires rejects { Rejects fault (terminals tokens.now) }
+    ensures first { IfOk result
+        (λ found. IsRejectedAt fault (terminals tokens.now) (terminal_of found)) }
+{
     match fault {
-        QueryFault::RelativeIri => relative_iri(alloc, tokens),
+        QueryFault::UndefinedPrefix => Ok(undefined_prefix(alloc, tokens)?.map(Breach::alone)),
+        QueryFault::RelativeIri => Ok(relative_iri(alloc, tokens)?.map(Breach::alone)),
+        QueryFault::TooDeep => Ok(deepest(tokens).map(Breach::alone)),
         QueryFault::BindScope => bound_twice(alloc, tokens),
         QueryFault::BlankReuse => reused_blank(alloc, tokens),
-        QueryFault::TooDeep => Ok(deepest(tokens)),
-        _ => Ok(None),
+        QueryFault::Syntax => Ok(None),
+        QueryFault::Memory => Ok(None),
     }
 }
 
@@ -190,29 +194,11 @@ fn words_around(fault: QueryFault) -> (&'static str, &'static str) {
 /// Returns the hint for the rule of a fault.
 fn hint_of(fault: QueryFault) -> Option<Hint> {
     match fault {
+        QueryFault::UndefinedPrefix => Some(Hint::Declare),
         QueryFault::RelativeIri => Some(Hint::WholeIri),
         QueryFault::BindScope => Some(Hint::OtherVariable),
         QueryFault::BlankReuse => Some(Hint::VariableForBlank),
         _ => None,
-    }
-}
-
-/// Appends the reason for a terminal that breaks the rule of a fault.
-fn push_breach(
-    out: &mut String,
-    text: Text<'_>,
-    breach: Breach,
-    fault: QueryFault,
-) -> Result<(), AllocError> {
-    let (before, after) = words_around(fault);
-    out.push_str(before)?;
-    if let Some(token) = text.tokens.get(breach.at) {
-        push_quoted(out, token.text)?;
-    }
-    out.push_str(after)?;
-    match breach.earlier {
-        Some(at) => write!(out, "{}", position_of(text.characters, text.offset(at))),
-        None => Ok(()),
     }
 }
 
@@ -225,13 +211,54 @@ fn push_prefix(out: &mut String, prefix: &[char]) -> Result<(), AllocError> {
     out.push_str(":' is not declared")
 }
 
-/// Returns the first prefixed name without a declaration.
-fn undeclared<'a>(
-    alloc: Global,
-    tokens: &[Token<'a>],
-) -> Result<Option<(usize, &'a [char])>, AllocError> {
-    let names = declarations_of(alloc, tokens)?;
-    undefined_prefix(alloc, &names, tokens)
+/// Appends the reason for a terminal that breaks the rule of a fault.
+fn push_breach(
+    out: &mut String,
+    text: &Text<'_>,
+    breach: Breach,
+    fault: QueryFault,
+) -> Result<(), AllocError> {
+    let found = match text.tokens.get(breach.at) {
+        Some(token) => token.text,
+        None => &[],
+    };
+    if fault == QueryFault::UndefinedPrefix {
+        return push_prefix(out, prefix_of(found));
+    }
+    let (before, after) = words_around(fault);
+    out.push_str(before)?;
+    push_quoted(out, found)?;
+    out.push_str(after)?;
+    match breach.earlier {
+        Some(at) => {
+            let offset = offset_of(text.characters, text.tokens, at);
+            write!(out, "{}", position_of(text.characters, offset))
+        }
+        None => Ok(()),
+    }
+}
+
+/// Appends the reason for what breaks the rule of a fault, if it is known.
+fn push_broken(
+    out: &mut String,
+    text: &Text<'_>,
+    found: Option<Breach>,
+    fault: QueryFault,
+) -> Result<(), AllocError> {
+    match found {
+        Some(breach) => push_breach(out, text, breach, fault),
+        None => out.push_str(NO_QUERY),
+    }
+}
+
+/// Returns the place of the terminal of a breach, or of the first one if none is known.
+fn terminal_of(found: Option<Breach>) -> usize
+    ensures { result ≡ terminal_of found }
+{
+    match found {
+        Some(breach) => breach.at,
+        None => 0,
+    }
 }
 
 /// The functions that find a place fill in a `Found` that their caller owns, so that none of them
@@ -247,46 +274,49 @@ impl Found {
     }
 
     /// Finds the first terminal after which no query continues.
-    fn find_stop(&mut self, alloc: Global, text: Text<'_>) -> Result<(), AllocError> {
+    fn find_stop(&mut self, alloc: Global, text: &Text<'_>) -> Result<(), AllocError>
+        requires scans { Scans text.now.characters.now (terminals text.now.tokens.now)
+            text.now.rest.now }
+        ensures place { OnOk result (IsPlace text.now.characters.now Syntax self.new.offset) }
+    {
         let stop = stop_of(alloc, text.tokens)?;
-        self.offset = text.offset(stop.at);
+        push_reason(&mut self.reason, text, &stop)?;
         self.hint = hint_for(text, &stop);
-        push_reason(&mut self.reason, text, &stop)
+        self.offset = offset_of(text.characters, text.tokens, stop.at);
+        Ok(())
     }
 
-    /// Finds the first terminal that breaks the rule of a fault.
+    /// Finds the first terminal that breaks the rule of a fault. If none is found, it is the first
+    /// terminal of the text.
     fn find_breach(
         &mut self,
         alloc: Global,
-        text: Text<'_>,
+        text: &Text<'_>,
         fault: QueryFault,
-    ) -> Result<(), AllocError> {
-        let Some(breach) = breach_of(alloc, text.tokens, fault)? else {
-            return self.reason.push_str(NO_QUERY);
-        };
-        self.offset = text.offset(breach.at);
+    ) -> Result<(), AllocError>
+        requires scans { Scans text.now.characters.now (terminals text.now.tokens.now)
+            text.now.rest.now }
+        requires rejects { Rejects fault (terminals text.now.tokens.now) }
+        ensures place { OnOk result (IsPlace text.now.characters.now fault self.new.offset) }
+    {
+        let found = breach_of(alloc, text.tokens, fault)?;
+        push_broken(&mut self.reason, text, found, fault)?;
         self.hint = hint_of(fault);
-        push_breach(&mut self.reason, text, breach, fault)
+        self.offset = offset_of(text.characters, text.tokens, terminal_of(found));
+        Ok(())
     }
 
-    /// Finds the first prefixed name without a declaration.
-    fn find_prefix(&mut self, alloc: Global, text: Text<'_>) -> Result<(), AllocError> {
-        let Some((at, prefix)) = undeclared(alloc, text.tokens)? else {
-            return self.reason.push_str(NO_QUERY);
-        };
-        self.offset = text.offset(at);
-        self.hint = Some(Hint::Declare);
-        push_prefix(&mut self.reason, prefix)
-    }
-
-    /// Finds the place and the reason of a fault of these characters. If no place is found, it is
-    /// the beginning of the text.
+    /// Finds the place and the reason of a fault of these characters.
     fn find(
         &mut self,
         alloc: Global,
         characters: &[char],
         fault: QueryFault,
-    ) -> Result<(), AllocError> {
+    ) -> Result<(), AllocError>
+        requires rejected { IsRejectedBy characters.now fault }
+        ensures place { OnOk result (IsPlace characters.now fault self.new.offset) }
+    {
+        one_scan();
         let scan = scan_text(alloc, characters)?;
         let text = Text {
             characters,
@@ -294,16 +324,17 @@ impl Found {
             rest: scan.rest,
         };
         match fault {
-            QueryFault::Syntax => self.find_stop(alloc, text),
-            QueryFault::UndefinedPrefix => self.find_prefix(alloc, text),
-            _ => self.find_breach(alloc, text, fault),
+            QueryFault::Syntax => self.find_stop(alloc, &text),
+            _ => self.find_breach(alloc, &text, fault),
         }
     }
 }
 
 /// Returns the diagnosis of a fault of a text.
 fn explain(alloc: Global, text: &str, fault: QueryFault) -> Result<Diagnosis, AllocError>
+    requires rejected { IsRejectedBy (chars text.now) fault }
     ensures fault { IfOk result (λ d. d.fault ≡ fault) }
+    ensures explained { IfOk result (IsExplained (chars text.now)) }
 {
     let characters = characters_of(alloc, text)?;
     let mut found = Found::new(alloc);
@@ -332,12 +363,17 @@ fn fault_of(alloc: Global, text: &str) -> Result<Option<QueryFault>, AllocError>
 /// Returns the place and the reason for which the text of a query is rejected. Returns None for a
 /// text that `read_query` reads.
 ///
+/// The place of a syntax error is a terminal, or the place where no terminal begins, such that some
+/// query begins with the terminals before it. For the other rules it is the first terminal that
+/// breaks the rule. At the end of the text it is the end of the last terminal.
+///
 /// # Errors
 /// `AllocError` if an allocation fails.
 pub fn diagnose(alloc: Global, text: &str) -> Result<Option<Diagnosis>, AllocError>
     ensures read { IfOk result (λ found. IfNone found (IsAcceptedText (chars text.now))) }
     ensures rejected { IfOk result
         (λ found. IfSome found (λ d. IsRejectedBy (chars text.now) d.fault)) }
+    ensures explained { IfOk result (λ found. IfSome found (IsExplained (chars text.now))) }
 {
     let Some(fault) = fault_of(alloc, text)? else {
         return Ok(None);

@@ -1,10 +1,17 @@
 //! The places at which a query that the grammar derives breaks one of the other rules. Each
 //! function returns the first terminal that breaks the rule, or None if there is none.
 
+ghost use Rattle.std.specs.Prelude.{◌≡◌, ◌≤◌, ◌+◌, false, IfOk, MatchOption};
+ghost use Rattle.sparql_lexer.specs.Terminal.{terminals};
+ghost use Rattle.sparql_read.specs.Depth.{is_too_deep, open_after};
+ghost use Rattle.sparql_read.specs.Prologue.{declarations, has_undefined_prefix, lacks_declaration};
+ghost use Rattle.sparql_read.specs.RelativeIri.{has_relative_iri};
+ghost use Rattle.query_diagnosis.specs.Place.{IsFirst};
+
 use crate::machine::{is_same_name, kind_at};
-use rdf_core::lexical::has_scheme;
 use sparql_grammar::Declarations;
-use sparql_lexer::{Keyword, Kind, Sign, Token, iri_value, text_of};
+use sparql_lexer::{Keyword, Kind, Sign, Token, text_of};
+use sparql_read::{declarations_of, has_relative_iri, has_undefined_prefix};
 use std::alloc::{AllocError, Global};
 use std::collections::BTreeMap;
 
@@ -20,8 +27,17 @@ pub struct Breach {
     pub earlier: Option<usize>,
 }
 
+impl Breach {
+    /// Returns the breach of a rule that is about one terminal.
+    pub fn alone(at: usize) -> Breach
+        ensures { result.at ≡ at }
+    {
+        Breach { at, earlier: None }
+    }
+}
+
 /// Returns the part of a prefixed name before its first colon.
-fn prefix_of<'a>(name: &'a [char]) -> &'a [char] {
+pub fn prefix_of<'a>(name: &'a [char]) -> &'a [char] {
     for i in 0..name.len() {
         if name[i] == ':' {
             return &name[..i];
@@ -30,78 +46,78 @@ fn prefix_of<'a>(name: &'a [char]) -> &'a [char] {
     name
 }
 
-/// Returns whether a prefix is declared.
-fn is_declared(alloc: Global, names: &Declarations, prefix: &[char]) -> Result<bool, AllocError> {
-    let prefix = text_of(alloc, prefix)?;
-    Ok(names.find(prefix.as_str()).is_some())
-}
-
-/// Returns the place and the prefix of the first prefixed name without a declaration (SPARQL 1.1
-/// Query Language, section 4.1.1).
-///
-/// # Errors
-/// `AllocError` if an allocation fails.
-pub fn undefined_prefix<'a>(
+/// Returns the place of the first prefixed name without a declaration among these.
+fn undeclared(
     alloc: Global,
     names: &Declarations,
-    tokens: &[Token<'a>],
-) -> Result<Option<(usize, &'a [char])>, AllocError> {
+    tokens: &[Token<'_>],
+) -> Result<Option<usize>, AllocError>
+    ensures first { IfOk result (λ found. MatchOption found
+        (lacks_declaration names.now (terminals tokens.now) ≡ false)
+        (IsFirst (lacks_declaration names.now) (terminals tokens.now))) }
+{
     for i in 0..tokens.len() {
-        if matches!(tokens[i].kind, Kind::PrefixedName | Kind::PrefixedNamespace) {
-            let prefix = prefix_of(tokens[i].text);
-            if !is_declared(alloc, names, prefix)? {
-                return Ok(Some((i, prefix)));
-            }
+        if has_undefined_prefix(alloc, names, &tokens[i..i + 1])? {
+            return Ok(Some(i));
         }
     }
     Ok(None)
 }
 
-/// Returns whether a terminal is an IRI without a scheme.
-fn is_relative(alloc: Global, token: Token<'_>) -> Result<bool, AllocError> {
-    if token.kind != Kind::IriRef {
-        return Ok(false);
-    }
-    match iri_value(alloc, token.text)? {
-        Some(iri) => Ok(!has_scheme(iri.as_str())),
-        None => Ok(false),
-    }
+/// Returns the place of the first prefixed name without a declaration (SPARQL 1.1 Query Language,
+/// section 4.1.1).
+///
+/// # Errors
+/// `AllocError` if an allocation fails.
+pub fn undefined_prefix(alloc: Global, tokens: &[Token<'_>]) -> Result<Option<usize>, AllocError>
+    ensures first { IfOk result (λ found. MatchOption found
+        (has_undefined_prefix (terminals tokens.now) ≡ false)
+        (IsFirst (lacks_declaration (declarations (terminals tokens.now)))
+        (terminals tokens.now))) }
+{
+    let names = declarations_of(alloc, tokens)?;
+    undeclared(alloc, &names, tokens)
 }
 
 /// Returns the place of the first [139] IRIREF without a scheme.
 ///
 /// # Errors
 /// `AllocError` if an allocation fails.
-pub fn relative_iri(alloc: Global, tokens: &[Token<'_>]) -> Result<Option<Breach>, AllocError> {
+pub fn relative_iri(alloc: Global, tokens: &[Token<'_>]) -> Result<Option<usize>, AllocError>
+    ensures first { IfOk result (λ found. MatchOption found
+        (has_relative_iri (terminals tokens.now) ≡ false)
+        (IsFirst has_relative_iri (terminals tokens.now))) }
+{
     for i in 0..tokens.len() {
-        if is_relative(alloc, tokens[i])? {
-            return Ok(Some(Breach {
-                at: i,
-                earlier: None,
-            }));
+        if has_relative_iri(alloc, &tokens[i..i + 1])? {
+            return Ok(Some(i));
         }
     }
     Ok(None)
 }
 
+/// Returns the number of open brackets after a terminal, given the number before it.
+fn open_after(kind: Kind, depth: usize) -> usize
+    requires few { depth ≤ 100 }
+    ensures value { result ≡ open_after kind depth }
+{
+    match kind {
+        Kind::Sign(Sign::OpenBrace | Sign::OpenParenthesis) => depth + 1,
+        Kind::Sign(Sign::CloseBrace | Sign::CloseParenthesis) => depth.saturating_sub(1),
+        _ => depth,
+    }
+}
+
 /// Returns the place of the first bracket after which more than 100 are open.
-pub fn deepest(tokens: &[Token<'_>]) -> Option<Breach> {
-    let mut depth = 0usize;
+pub fn deepest(tokens: &[Token<'_>]) -> Option<usize>
+    ensures first { MatchOption result (is_too_deep (terminals tokens.now) ≡ false)
+        (IsFirst is_too_deep (terminals tokens.now)) }
+{
+    let mut depth = 0;
     for i in 0..tokens.len() {
-        match tokens[i].kind {
-            Kind::Sign(Sign::OpenBrace | Sign::OpenParenthesis) => {
-                depth = depth.saturating_add(1);
-            }
-            Kind::Sign(Sign::CloseBrace | Sign::CloseParenthesis) => {
-                depth = depth.saturating_sub(1);
-            }
-            _ => {}
-        }
+        depth = open_after(tokens[i].kind, depth);
         if depth > MAX_DEPTH {
-            return Some(Breach {
-                at: i,
-                earlier: None,
-            });
+            return Some(i);
         }
     }
     None

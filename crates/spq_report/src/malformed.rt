@@ -7,7 +7,7 @@
 use crate::failures::repeat;
 use crate::grouped::grouped;
 use dataset_load::Listing;
-use line_diagnosis::{Counted, LineContext, Summary, diagnose, report, report_without_hint};
+use line_diagnosis::{Counted, LineContext, Summary, report, report_without_hint};
 use malformed_lines::{MalformedLine, ReasonCount};
 use spq_core::RunFault;
 use std::alloc::{AllocError, Global};
@@ -43,20 +43,14 @@ impl Before {
     }
 
     /// Returns the message about the next line. Returns None if the place in it is not known.
-    ///
-    /// The place is known if all bytes of the line are, or if it is in the first bytes. A place at the end of the first
-    /// bytes does not count, because the line continues there.
     fn message(
         &mut self,
         alloc: Global,
         line: &MalformedLine,
     ) -> Result<Option<String>, AllocError> {
-        let Some(diagnosis) = diagnose(alloc, &line.bytes)? else {
+        let Some(diagnosis) = line.diagnosis(alloc)? else {
             return Ok(None);
         };
-        if !line.is_whole && diagnosis.offset.saturating_add(4) >= line.bytes.len() {
-            return Ok(None);
-        }
         let reason = diagnosis.reason.summary();
         let context = LineContext {
             number: line.number,
@@ -91,7 +85,7 @@ fn write_line<W: Write>(
 }
 
 /// Returns the message about the first malformed line, after the line of standard output if that is repeated.
-pub fn first_message(
+pub(crate) fn first_message(
     alloc: Global,
     line: &MalformedLine,
     is_after_utf8: bool,
@@ -189,7 +183,7 @@ fn write_lines<W: Write>(
 
 /// Writes the messages about the malformed lines of a document, of which the first one has this number. The message
 /// about the first one is left out if it is told already. If an allocation fails, messages are shorter.
-pub fn write_malformed<W: Write>(
+pub(crate) fn write_malformed<W: Write>(
     out: &mut W,
     alloc: Global,
     number: u128,

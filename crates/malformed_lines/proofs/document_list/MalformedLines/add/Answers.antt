@@ -9,6 +9,9 @@ add_all-requires c = record {
   countable = omega (arith, ap total_of c.as_slice-2.ensures.value, c.args.self.now.counted, c.args.piece.now.counted, c.args.self.now.few, c.requires.countable);
 }
 
+pub returns-clause-copied : goal.returns-clause-copied
+returns-clause-copied c = subst (λ f. AreKept c.args.self.now.lines f c.args.self.now.shown.items c.keep_all.new.shown.items) c.as_slice.ensures.value c.in_ok-keep_all.ensures.kept
+
 pub returns-clause-listed : goal.returns-clause-listed
 returns-clause-listed c = λ before after h p.
     doc_join before after c.args.self.now _ c.args.piece.now h p (subst (λ f. AreKept c.args.self.now.lines f c.args.self.now.shown.items c.keep_all.new.shown.items) c.as_slice.ensures.value c.in_ok-keep_all.ensures.kept) refl refl
