@@ -1,8 +1,8 @@
 -- Terms that are read in parts.
-use Rattle.std.proofs.Common.{◌≡◌, ℕ, zero, suc, ◌+◌, ◌-◌, ◌*◌, ◌<◌, ◌≤◌, ◌⊎◌, inl, inr, min, List, [], ◌∷◌, ◌++◌, length, take, drop, Result, Ok, Err, refl, sym, ap, ◌∙◌, subst, append_assoc, arith}
+use Rattle.std.proofs.Common.{◌≡◌, ℕ, zero, suc, ◌+◌, ◌-◌, ◌*◌, ◌/◌, ◌<◌, ◌≤◌, ◌⊎◌, inl, inr, min, List, [], ◌∷◌, ◌++◌, length, take, drop, Result, Ok, Err, refl, sym, ap, ◌∙◌, subst, arith, take-add}
 use Rattle.std.specs.List.{slice_index_or, slice_range}
 use Rattle.std.proofs.lemmas.Bool.{cases_lt}
-use Rattle.std.proofs.lemmas.List.{append-nil, drop-drop, drop_all, length-drop, nil_from_length, take-append-drop, take_all, take_min}
+use Rattle.std.proofs.lemmas.List.{drop_all, length-drop, take_all, take_min}
 use Rattle.rdf_core.specs.declared.term.Term.{Term}
 use Rattle.dict_core.specs.Appearances.{first_appearances}
 use Rattle.dict_core.proofs.AppearanceLaws.{appearances_again}
@@ -38,43 +38,52 @@ part_read texts i from to len (Ok dict) len_is from_is to_is h =
     λ terms forms. h terms forms ∙ ap first_appearances (part_between terms len i from to (len_is ∙ length_forms terms texts forms) from_is to_is)
 part_read texts i from to len (Err e) len_is from_is to_is h = tt
 
--- all parts
-pub parts_of : (dicts : List (List Term)) (terms : List Term) → length terms ≤ length dicts * terms_of_a_part
-    → ((i : ℕ) (d : List Term) → i < length dicts → slice_index_or dicts i d ≡ first_appearances (take terms_of_a_part (drop (i * terms_of_a_part) terms)))
-    → AreTermParts terms dicts
-parts_of [] terms few h = omega (arith, few)
-parts_of (dict ∷ dicts) terms few h = (
-  h 0 dict (omega arith),
-  parts_of dicts (drop terms_of_a_part terms) (omega (arith, few, length-drop terms_of_a_part terms)) (λ i d low.
-      let e : terms_of_a_part + i * terms_of_a_part ≡ suc i * terms_of_a_part = omega arith in
-      h (suc i) d (omega (arith, low))
-      ∙ ap (λ l. first_appearances (take terms_of_a_part l)) (ap (λ n. drop n terms) (sym e) ∙ sym (drop-drop (i * terms_of_a_part) terms_of_a_part terms))),
-)
+-- these parts
+pub parts_of : (dicts : List (List Term)) (terms : List Term) (first : ℕ)
+    → ((i : ℕ) (d : List Term) → i < length dicts → slice_index_or dicts i d ≡ first_appearances (take terms_of_a_part (drop ((first + i) * terms_of_a_part) terms)))
+    → AreTermParts terms first dicts
+parts_of [] terms first h = tt
+parts_of (dict ∷ dicts) terms first h =
+    let here : first + 0 ≡ first = omega arith in (
+      h 0 dict (omega arith) ∙ ap (λ n. first_appearances (take terms_of_a_part (drop (n * terms_of_a_part) terms))) here,
+      parts_of dicts terms (suc first) (λ i d low.
+          let next : first + suc i ≡ suc first + i = omega arith in
+          h (suc i) d (omega (arith, low)) ∙ ap (λ n. first_appearances (take terms_of_a_part (drop (n * terms_of_a_part) terms))) next),
+    )
 
--- the terms so far, and the parts that are left
-pub record AreJoined (terms dict : List Term) (left : List (List Term)) : Type 0 where
-  pub done : List Term
-  pub rest : List Term
-  pub parts : terms ≡ done ++ rest
-  pub first : dict ≡ first_appearances done
-  pub later : AreTermParts rest left
+-- the terms of the parts before one, and the parts that are left up to another
+pub record AreJoined (terms dict : List Term) (left : List (List Term)) (end : ℕ) : Type 0 where
+  pub at : ℕ
+  pub first : dict ≡ first_appearances (take (at * terms_of_a_part) terms)
+  pub later : AreTermParts terms at left
+  pub ends : at + length left ≡ end
 
-pub joined_none : (terms dict : List Term) (left : List (List Term)) → dict ≡ [] → AreTermParts terms left → AreJoined terms dict left
-joined_none terms dict left none parts = record { done = []; rest = terms; parts = refl; first = none; later = parts }
+pub joined_none : (terms dict : List Term) (left : List (List Term)) (at : ℕ) → dict ≡ first_appearances (take (at * terms_of_a_part) terms) → AreTermParts terms at left
+    → AreJoined terms dict left (at + length left)
+joined_none terms dict left at first parts = record { at = at; first = first; later = parts; ends = refl }
 
-pub joined_more : (terms dict more part : List Term) (left rest : List (List Term)) → AreJoined terms dict left → left ≡ part ∷ rest
-    → more ≡ first_appearances (dict ++ part) → AreJoined terms more rest
-joined_more terms dict more part left rest was left_is more_is =
-    let h = subst (AreTermParts was.rest) left_is was.later in
-    let front = take terms_of_a_part was.rest in record {
-      done = was.done ++ front;
-      rest = drop terms_of_a_part was.rest;
-      parts = was.parts ∙ ap (λ l. was.done ++ l) (sym (take-append-drop terms_of_a_part was.rest)) ∙ sym (append_assoc was.done front (drop terms_of_a_part was.rest));
-      first = more_is ∙ (λ k. first_appearances (was.first k ++ h.0 k)) ∙ appearances_again was.done front;
+pub joined_more : (terms dict more part : List Term) (left rest : List (List Term)) (end : ℕ) → AreJoined terms dict left end → left ≡ part ∷ rest
+    → more ≡ first_appearances (dict ++ part) → AreJoined terms more rest end
+joined_more terms dict more part left rest end was left_is more_is =
+    let from = was.at * terms_of_a_part in
+    let h = subst (AreTermParts terms was.at) left_is was.later in
+    let next : from + terms_of_a_part ≡ suc was.at * terms_of_a_part = omega arith in record {
+      at = suc was.at;
+      first = more_is ∙ (λ k. first_appearances (was.first k ++ h.0 k)) ∙ appearances_again (take from terms) (take terms_of_a_part (drop from terms))
+          ∙ ap first_appearances (sym (take-add from terms_of_a_part terms)) ∙ ap (λ n. first_appearances (take n terms)) next;
       later = h.1;
+      ends = omega (arith, was.ends, ap length left_is);
     }
 
-pub joined_all : (terms dict : List Term) (left : List (List Term)) → AreJoined terms dict left → length left ≡ 0 → dict ≡ first_appearances terms
-joined_all terms dict (part ∷ left) was none = absurd (omega (arith, none))
-joined_all terms dict [] was none =
-    was.first ∙ ap first_appearances (sym (append-nil was.done) ∙ ap (λ l. was.done ++ l) (sym (nil_from_length was.rest was.later)) ∙ sym was.parts)
+pub joined_all : (terms dict : List Term) (left : List (List Term)) (end : ℕ) → AreJoined terms dict left end → length left ≡ 0
+    → dict ≡ first_appearances (take (end * terms_of_a_part) terms)
+joined_all terms dict left end was none =
+    let last : was.at ≡ end = omega (arith, was.ends, none) in
+    was.first ∙ ap (λ n. first_appearances (take (n * terms_of_a_part) terms)) last
+
+-- all terms
+pub all_joined : (texts : List (List ℕ)) (terms dict : List Term) (len from : ℕ) → AreFormsOf terms texts → len ≡ length texts → len / terms_of_a_part + 1 ≤ from
+    → dict ≡ first_appearances (take (from * terms_of_a_part) terms) → dict ≡ first_appearances terms
+all_joined texts terms dict len from forms len_is high h =
+    let same = length_forms terms texts forms in
+    h ∙ ap first_appearances (take_all (from * terms_of_a_part) terms (omega (arith, same, len_is, high)))

@@ -1,20 +1,20 @@
 -- The terms of a dictionary of texts, read in parts. Only private clauses use these definitions.
-use Rattle.std.specs.Prelude.{◌≡◌, ℕ, ◌*◌, List, [], ◌∷◌, length, take, drop}
+use Rattle.std.specs.Prelude.{◌≡◌, ℕ, suc, ◌*◌, List, [], ◌∷◌, take, drop}
 use Rattle.rdf_core.specs.declared.term.Term.{Term}
 use Rattle.dict_core.specs.Appearances.{first_appearances}
 use Rattle.text_pieces.specs.Forms.{AreFormsOf}
 
--- the number of terms of a part: 2^14
+-- the number of terms of a part: 2^12
 abbrev pub terms_of_a_part : ℕ
-terms_of_a_part = 16384
+terms_of_a_part = 4096
 
 -- the dictionary has the terms of part i
 abbrev pub IsTermPart : List (List ℕ) → ℕ → List Term → Type 0
 IsTermPart texts i dict =
     (terms : List Term) → AreFormsOf terms texts → dict ≡ first_appearances (take terms_of_a_part (drop (i * terms_of_a_part) terms))
 
--- the dictionaries have the terms, part by part
-abbrev pub AreTermParts : List Term → List (List Term) → Type 0
-AreTermParts terms [] = length terms ≡ 0
-AreTermParts terms (dict ∷ dicts) =
-    (dict ≡ first_appearances (take terms_of_a_part terms)) × AreTermParts (drop terms_of_a_part terms) dicts
+-- the dictionaries have the terms of part i and the parts after it
+abbrev pub AreTermParts : List Term → ℕ → List (List Term) → Type 0
+AreTermParts terms i [] = Unit {0}
+AreTermParts terms i (dict ∷ dicts) =
+    (dict ≡ first_appearances (take terms_of_a_part (drop (i * terms_of_a_part) terms))) × AreTermParts terms (suc i) dicts

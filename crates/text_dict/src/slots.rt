@@ -92,22 +92,6 @@ pub(crate) fn find(texts: &Texts, slots: &[u64], hash: u64, text: &[u8]) -> Sear
     }
 }
 
-/// Returns the number that a text with this hash is likely to have. If that is unknown, returns a number that no text has. No
-/// text is compared, so no clause speaks of the result.
-#[inline(always)]
-pub(crate) fn likely_number(slots: &[u64], hash: u64) -> u64 {
-    if slots.is_empty() {
-        return MOST_NUMBERS;
-    }
-    let wanted = hash / MOST_NUMBERS;
-    for slot in &slots[start_of(slots, hash)..] {
-        if *slot == 0 || *slot / MOST_NUMBERS == wanted {
-            return (*slot % MOST_NUMBERS).wrapping_sub(1);
-        }
-    }
-    MOST_NUMBERS
-}
-
 /// Returns the first slot that is not in use.
 fn first_empty(slots: &[u64]) -> Option<usize>
     ensures empty { MatchOption result (AreUsed slots.now)

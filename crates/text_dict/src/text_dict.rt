@@ -1,16 +1,19 @@
 //! The dictionary of texts.
-ghost use Rattle.std.specs.Prelude.{◌≡◌, ◌<◌, ◌≤◌, ◌^◌, ◌++◌, ◌∷◌, [], length, take, slice_get, Some, IfOk, IfSome, MatchOption, OnOk, OnErr};
+ghost use Rattle.std.specs.Prelude.{◌≡◌, ◌<◌, ◌^◌, ◌++◌, ◌∷◌, [], length, take, slice_get, Some, IfOk, IfSome, MatchOption, OnOk, OnErr};
 ghost use Rattle.keyed_hash.specs.Hashing.{hash_of};
 ghost use Rattle.text_dict.specs.Forms.{AreForms, IsForm};
 ghost use Rattle.text_dict.specs.Slots.{IsPlace};
 ghost use Rattle.text_dict.specs.TextDict.{Has, IsAdded, IsTable};
 
-use crate::slots::{MOST_NUMBERS, Search, find, likely_number, slot_of, table_of};
+use crate::slots::{MOST_NUMBERS, Search, find, slot_of, table_of};
 use crate::texts::Texts;
 use keyed_hash::HashState;
 use std::alloc::{AllocError, Global};
 use std::hash::RandomState;
 use std::marker::Model;
+
+/// The most texts for which a new dictionary makes room.
+const MOST_ROOM: usize = 1 << 20;
 
 /// The N-Quads forms of distinct terms, numbered from 0 in the order in which they were added. In contracts this type
 /// is the list of these texts, and the state of the hash function.
@@ -61,6 +64,25 @@ impl TextDict {
             slots: Vec::new(alloc),
             state,
         }
+    }
+
+    /// Creates an empty dictionary with this state of the hash function, and with a table that need not grow before it has
+    /// `n` texts, or 2^20 if `n` is more.
+    ///
+    /// # Errors
+    /// `AllocError` if an allocation fails.
+    pub fn with_room(alloc: Global, state: HashState, n: usize) -> Result<TextDict, AllocError>
+        ensures empty { IfOk result (λ dict. dict.texts ≡ []) }
+        ensures state { IfOk result (λ dict. dict.state ≡ state) }
+    {
+        let texts = Texts::new(alloc);
+        let len = (2 * n.min(MOST_ROOM)).next_power_of_two();
+        let slots = table_of(alloc, &texts, state, len)?;
+        Ok(TextDict {
+            texts,
+            slots,
+            state,
+        })
     }
 
     /// Returns the number of texts.
@@ -119,16 +141,6 @@ impl TextDict {
         }
     }
 
-    /// Returns the number that a text is likely to have, or `len`. The text is not compared, so the caller has to do that. Who
-    /// asks for several texts first, and compares them then, lets the processor overlap the reads of the table.
-    #[inline]
-    pub fn guess(&self, text: &[u8]) -> u64
-        ensures within { result ≤ length self.now.texts }
-    {
-        let n = likely_number(self.slots.as_slice(), self.state.hash_of(text));
-        n.min(self.texts.len() as u64)
-    }
-
     /// Returns the number of a text. A new text is appended.
     ///
     /// # Requires
@@ -146,27 +158,6 @@ impl TextDict {
     {
         let hash = self.state.hash_of(text);
         self.intern_hashed(hash, text)
-    }
-
-    /// Returns the number of a text. A new text is appended. The text with the number `guess` is compared first, if there is
-    /// one.
-    ///
-    /// # Requires
-    /// The text is the N-Quads form of a term.
-    ///
-    /// # Errors
-    /// As `intern`.
-    pub fn intern_guessed(&mut self, guess: u64, text: &[u8]) -> Result<u64, AllocError>
-        requires form { IsForm text.now }
-        ensures number { IfOk result (λ n. slice_get self.new.texts n ≡ Some text.now) }
-        ensures added { OnOk result (IsAdded self.old.texts text.now self.new.texts) }
-        ensures unchanged { OnErr result (self.new.texts ≡ self.old.texts) }
-        ensures state { self.new.state ≡ self.old.state }
-    {
-        if guess < self.texts.len() as u64 && self.texts.text(guess as usize) == text {
-            return Ok(guess);
-        }
-        self.intern(text)
     }
 
     /// Returns the number of a text with this hash. A new text is appended.

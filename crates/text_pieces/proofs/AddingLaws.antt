@@ -55,7 +55,7 @@ pub record AreParts (us vs : List (List ℕ)) (terms : List Term) : Type 0 where
   pub front_forms : AreFormsOf front us
   pub back_forms : AreFormsOf back vs
 
-split_forms : (us vs : List (List ℕ)) (terms : List Term) → AreFormsOf terms (us ++ vs) → AreParts us vs terms
+pub split_forms : (us vs : List (List ℕ)) (terms : List Term) → AreFormsOf terms (us ++ vs) → AreParts us vs terms
 split_forms [] vs terms h = record {
   front = [];
   back = terms;
@@ -80,7 +80,7 @@ split_forms (u ∷ us) vs (t ∷ terms) h =
     }
 
 -- texts are the forms of one list of terms
-forms_unique : (texts : List (List ℕ)) (xs ys : List Term) → AreFormsOf xs texts → AreFormsOf ys texts → xs ≡ ys
+pub forms_unique : (texts : List (List ℕ)) (xs ys : List Term) → AreFormsOf xs texts → AreFormsOf ys texts → xs ≡ ys
 forms_unique texts [] [] h k = refl
 forms_unique texts [] (y ∷ ys) h k = let e = ap length (sym h.forms ∙ k.forms) in absurd (omega (arith, e))
 forms_unique texts (x ∷ xs) [] h k = let e = ap length (sym h.forms ∙ k.forms) in absurd (omega (arith, e))
@@ -177,7 +177,7 @@ insert_present ks [] h = refl
 insert_present ks (e ∷ es) h =
     ap (λ l. insert_all term_eq l es) (insert_key-present ks e (h 0 e refl)) ∙ insert_present ks es (λ n t at. h (suc n) t at)
 
-get-front : (E R : List Term) → Keeps E (E ++ R)
+pub get-front : (E R : List Term) → Keeps E (E ++ R)
 get-front [] R n t at = let w = slice_get_within [] n t at in absurd (omega (arith, w))
 get-front (e ∷ E) R zero t at = at
 get-front (e ∷ E) R (suc n) t at = get-front E R n t at

@@ -2,3 +2,4 @@ pub mod FormLaws
 pub mod NamingLaws
 pub mod StatementSteps
 pub mod AddingLaws
+pub mod KnownLaws

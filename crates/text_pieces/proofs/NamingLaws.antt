@@ -1,6 +1,7 @@
 -- The numbers of slices.
 use Rattle.std.proofs.Common.{◌≡◌, ◌≢◌, ◌⊎◌, inl, inr, ℕ, zero, suc, ◌+◌, true, List, [], ◌∷◌, ◌++◌, length, get_or, Some, slice_get, refl, sym, ap, ◌∙◌, subst, arith, append_assoc}
 use Rattle.std.specs.Prelude.{⊤}
+use Rattle.std.proofs.lemmas.List.{append-nil}
 use Rattle.std.proofs.lemmas.Option.{slice_get_within}
 use Rattle.indexmap.specs.IndexSet.{insert_key}
 use Rattle.rdf_core.specs.declared.term.Term.{Term}
@@ -14,6 +15,7 @@ use Rattle.nquads_scan.specs.Canonical.{HasForm}
 use Rattle.text_dict.specs.Forms.{IsForm}
 use Rattle.text_dict.specs.TextDict.{Has, IsAdded}
 use Rattle.text_pieces.specs.Forms.{AreFormsOf}
+use Rattle.text_pieces.specs.Pieces.{AreGrown}
 use Rattle.text_pieces.specs.Slices.{IsNumberOf, IsPlaced}
 use Rattle.text_pieces.proofs.FormLaws.{inserted_form, number_of_term, text_of_term}
 
@@ -59,6 +61,11 @@ placed_new dict old new text m n lacks added at m_is = record { at = get-right d
         on (inl y) = lacks y
         on (inr y) = x.0 y
 
+-- a text that is added makes the list longer
+grown_added : (texts : List (List ℕ)) (text : List ℕ) (later : List (List ℕ)) → IsAdded texts text later → AreGrown texts later
+grown_added texts text later (inl x) = ([], x.1 ∙ sym (append-nil texts))
+grown_added texts text later (inr x) = (text ∷ [], x.1)
+
 -- ---- the term of a slice
 
 pub form_of_slice : (raw text : List ℕ) → HasForm raw text → IsForm text
@@ -72,6 +79,7 @@ pub numbered_slice : (dict old new : List (List ℕ)) (raw text : List ℕ) (n :
 numbered_slice dict old new raw text n h placed =
     let occurs = slices_denote_terms raw h.term h.denotes in record {
       within = slice_get_within (dict ++ new) n text placed.at;
+      grown = grown_added (dict ++ old) text (dict ++ new) placed.added;
       terms = λ earlier forms.
           let later : List Term = insert_key term_eq earlier h.term in
           let later_forms : AreFormsOf later (dict ++ new) = inserted_form earlier (dict ++ old) (dict ++ new) h.term text forms occurs h.form placed.added in (
@@ -104,6 +112,7 @@ pub number_of_kind : (P : Term → Type 0) (dict old new : List (List ℕ)) (raw
     → ((t : Term) → text ≡ serialization t → P t) → IsNumberOf P dict old new raw n
 number_of_kind P dict old new raw text n h at kind = record {
   within = h.within;
+  grown = h.grown;
   terms = λ earlier forms.
       let r = h.terms earlier forms in (
         r.0,

@@ -1,9 +1,11 @@
 -- Slices of a piece, and the numbers of the terms that they denote. The numbers are places in the list of the texts of
 -- the dictionary and, after them, the texts that are new in the piece. Only private clauses use these definitions.
-use Rattle.std.specs.Prelude.{◌≡◌, ℕ, ◌<◌, List, ◌++◌, length, slice_get, Some}
+use Rattle.std.specs.Prelude.{◌≡◌, ℕ, ◌<◌, true, List, ◌++◌, Option, length, slice_get, Some}
+use Rattle.std.specs.Borrow.{Bor}
 use Rattle.indexmap.specs.IndexSet.{insert_key, insert_all}
 use Rattle.rdf_core.specs.declared.term.Term.{Term}
 use Rattle.rdf_core.specs.QuadParts.{QuadParts}
+use Rattle.rdf_core.specs.QuadFacts.{is_node}
 use Rattle.rdf_core.specs.Equality.{term_eq}
 use Rattle.nquads_core.specs.Slices.{Denotes}
 use Rattle.nquads_core.specs.Splitting.{DenotesQuad, DenoteAll}
@@ -14,7 +16,7 @@ use Rattle.dict_core.specs.Dict.{AreNumbersOf}
 use Rattle.dict_core.specs.Appearances.{terms_of_quad}
 use Rattle.text_dict.specs.TextDict.{IsAdded}
 use Rattle.text_pieces.specs.Forms.{AreFormsOf}
-use Rattle.text_pieces.specs.Pieces.{IsNumberedFrom}
+use Rattle.text_pieces.specs.Pieces.{AreGrown, IsNumberedFrom}
 
 -- the slice denotes a term that P holds of; the term was inserted, and this is its number
 pub record IsTermNumber (P : Term → Type 0) (old new : List Term) (raw : List ℕ) (n : ℕ) : Type 0 where
@@ -46,8 +48,29 @@ pub record IsPlaced (dict old new : List (List ℕ)) (text : List ℕ) (n : ℕ)
 -- the slice denotes a term that P holds of, and this is its number
 pub record IsNumberOf (P : Term → Type 0) (dict old new : List (List ℕ)) (raw : List ℕ) (n : ℕ) : Type 0 where
   pub within : n < length (dict ++ new)
+  pub grown : AreGrown (dict ++ old) (dict ++ new)
   pub terms : (earlier : List Term) → AreFormsOf earlier (dict ++ old)
       → (later : List Term) × AreFormsOf later (dict ++ new) × IsTermNumber P earlier later raw n
+
+-- the slice denotes a term that P holds of, which has this number among these terms
+pub record IsNumbered (P : Term → Type 0) (terms : List Term) (raw : List ℕ) (n : ℕ) : Type 0 where
+  pub term : Term
+  pub denotes : Denotes raw term
+  pub allowed : P term
+  pub at : slice_get terms n ≡ Some term
+
+-- the same, of the terms of these texts
+pub record IsKnown (P : Term → Type 0) (dict new : List (List ℕ)) (raw : List ℕ) (n : ℕ) : Type 0 where
+  pub within : n < length (dict ++ new)
+  pub terms : (all : List Term) → AreFormsOf all (dict ++ new) → IsNumbered P all raw n
+
+-- the slice of a subject or graph name has this number
+abbrev pub IsKnownNode : List (List ℕ) → List (List ℕ) → List ℕ → ℕ → Type 0
+IsKnownNode dict new raw n = IsKnown (λ t. is_node t ≡ true) dict new raw n
+
+-- the same of the graph label, if there is one
+abbrev pub IsKnownName : List (List ℕ) → List (List ℕ) → Option (Bor (List ℕ)) → ℕ → Type 0
+IsKnownName dict new graph n = (name : Bor (List ℕ)) → graph ≡ Some name → IsKnownNode dict new name.now n
 
 -- the statement denotes a quad, and these are its numbers
 abbrev pub AreNumbersOfQuad : List (List ℕ) → List (List ℕ) → List (List ℕ) → RawStatement → NumQuad → Type 0

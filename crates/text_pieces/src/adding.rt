@@ -4,7 +4,6 @@ ghost use Rattle.rdf_core.specs.QuadParts.{QuadParts};
 ghost use Rattle.text_pieces.specs.Forms.{AreNumberedBy};
 ghost use Rattle.text_pieces.specs.Pieces.{AreAdded, AreGrown, IsPieceOf};
 
-use crate::guesses::guess_text;
 use crate::renumbering::append_renumbered;
 use crate::text_piece::TextPiece;
 use dict_core::NumQuad;
@@ -67,10 +66,8 @@ fn add_texts(alloc: Global, dict: &mut TextDict, new: &TextDict) -> Result<Vec<u
         (λ v. AreAdded dict.old.texts new.now.texts dict.new.texts v.items) }
 {
     let mut numbers = Vec::with_capacity(alloc, new.len())?;
-    let mut guesses = Vec::new(alloc);
     for n in 0..new.len() as u64 {
-        let guess = guess_text(dict, new, n, &mut guesses)?;
-        numbers.push_reserved(dict.intern_guessed(guess, new.text(n))?);
+        numbers.push_reserved(dict.intern(new.text(n))?);
     }
     Ok(numbers)
 }

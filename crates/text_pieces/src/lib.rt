@@ -10,11 +10,10 @@
 //! Standard: RDF 1.1 N-Quads, grammar; RDF 1.1 Concepts and Abstract Syntax, section 3 (when two terms are the same).
 //! The numbers are a choice of this project.
 //!
-//! Reading order: `text_piece`, `guesses`, `naming` (one slice), `statements`, `reading` (a piece), `adding`, `terms`.
+//! Reading order: `text_piece`, `naming` (one slice), `statements`, `reading` (a piece), `adding`, `terms`.
 #![tactic(auto)]
 
 mod adding;
-mod guesses;
 mod naming;
 mod reading;
 mod renumbering;

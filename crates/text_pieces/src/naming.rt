@@ -1,11 +1,12 @@
 //! The number of the term that a slice denotes.
-ghost use Rattle.std.specs.Prelude.{◌≡◌, ◌<◌, ◌++◌, ⊤, true, IfOk, MatchOption, get_or, length, slice_get, Some};
+ghost use Rattle.std.specs.Prelude.{◌≡◌, ◌<◌, ◌++◌, ⊤, true, IfOk, IfSome, MatchOption, get_or, length, slice_get, Some};
 ghost use Rattle.rdf_core.specs.QuadFacts.{is_iri, is_node};
 ghost use Rattle.keyed_hash.specs.Hashing.{hash_of};
 ghost use Rattle.text_dict.specs.Forms.{IsForm};
 ghost use Rattle.text_dict.specs.TextDict.{Has};
-ghost use Rattle.text_pieces.specs.Slices.{IsNumberOf, IsPlaced};
+ghost use Rattle.text_pieces.specs.Slices.{IsKnownName, IsKnownNode, IsNumberOf, IsPlaced};
 
+use nquads_core::RawStatement;
 use nquads_scan::{Form, canonical};
 use std::alloc::{AllocError, AllocFailed, Global};
 use text_dict::TextDict;
@@ -84,23 +85,13 @@ pub(crate) fn number_text(
     }
 }
 
-/// Returns whether a text has this number, in the dictionary or among the new texts.
-#[inline(always)]
-fn has_number(dict: &TextDict, new: &TextDict, n: u64, text: &[u8]) -> bool
-    ensures number { result ≡ true
-        → (slice_get (dict.now.texts ++ new.now.texts) n ≡ Some text.now) × IsForm text.now }
-{
-    n < (dict.len() + new.len()) as u64 && text_at(dict, new, n) == text
-}
-
 /// Returns the number of the term that a slice denotes. A slice that has no number is checked, and rewritten to the
-/// N-Quads form of its term. `form` is a buffer for that. The text with the number `guess` is compared first.
+/// N-Quads form of its term. `form` is a buffer for that.
 pub(crate) fn number_slice(
     alloc: Global,
     dict: &TextDict,
     new: &mut TextDict,
     form: &mut Vec<u8>,
-    guess: u64,
     raw: &str,
 ) -> Result<u64, NamingFault>
     requires state { new.old.state ≡ dict.now.state }
@@ -108,9 +99,6 @@ pub(crate) fn number_slice(
     ensures number { IfOk result
         (IsNumberOf (λ _. ⊤) dict.now.texts new.old.texts new.new.texts raw.now) }
 {
-    if has_number(dict, new, guess, raw.as_bytes()) {
-        return Ok(guess);
-    }
     let hash = dict.state().hash_of(raw.as_bytes());
     match known(dict, new, hash, raw.as_bytes()) {
         Some(n) => Ok(n),
@@ -170,7 +158,6 @@ pub(crate) fn number_node(
     dict: &TextDict,
     new: &mut TextDict,
     form: &mut Vec<u8>,
-    guess: u64,
     raw: &str,
 ) -> Result<u64, NamingFault>
     requires state { new.old.state ≡ dict.now.state }
@@ -178,11 +165,67 @@ pub(crate) fn number_node(
     ensures number { IfOk result (IsNumberOf (λ t. is_node t ≡ true)
         dict.now.texts new.old.texts new.new.texts raw.now) }
 {
-    let n = number_slice(alloc, dict, new, form, guess, raw)?;
+    let n = number_slice(alloc, dict, new, form, raw)?;
     if first_byte(text_at(dict, new, n)) == b'"' {
         return Err(NamingFault::NeedsFullReader);
     }
     Ok(n)
+}
+
+/// Returns whether two slices are the same text.
+#[inline(always)]
+fn is_same(a: &str, b: &str) -> bool
+    ensures same { result ≡ true → a.now ≡ b.now }
+{
+    a == b
+}
+
+/// Returns the number of the IRI or blank node that a slice denotes. `last` is the number of the slice `before`. If both slices
+/// are the same, nothing is looked up.
+pub(crate) fn number_again(
+    alloc: Global,
+    dict: &TextDict,
+    new: &mut TextDict,
+    form: &mut Vec<u8>,
+    before: &str,
+    last: Option<u64>,
+    raw: &str,
+) -> Result<u64, NamingFault>
+    requires state { new.old.state ≡ dict.now.state }
+    requires known { IfSome last (IsKnownNode dict.now.texts new.old.texts before.now) }
+    ensures state { new.new.state ≡ dict.now.state }
+    ensures number { IfOk result (IsNumberOf (λ t. is_node t ≡ true)
+        dict.now.texts new.old.texts new.new.texts raw.now) }
+{
+    if let Some(n) = last {
+        if is_same(before, raw) {
+            return Ok(n);
+        }
+    }
+    number_node(alloc, dict, new, form, raw)
+}
+
+/// Returns the number of the graph name that a slice denotes. `last` is the number of the graph label of the statement before.
+pub(crate) fn number_name(
+    alloc: Global,
+    dict: &TextDict,
+    new: &mut TextDict,
+    form: &mut Vec<u8>,
+    before: &RawStatement<'_>,
+    last: Option<u64>,
+    name: &str,
+) -> Result<u64, NamingFault>
+    requires state { new.old.state ≡ dict.now.state }
+    requires known { IfSome last
+        (IsKnownName dict.now.texts new.old.texts before.now.graph) }
+    ensures state { new.new.state ≡ dict.now.state }
+    ensures number { IfOk result (IsNumberOf (λ t. is_node t ≡ true)
+        dict.now.texts new.old.texts new.new.texts name.now) }
+{
+    match before.graph {
+        Some(label) => number_again(alloc, dict, new, form, label, last, name),
+        None => number_node(alloc, dict, new, form, name),
+    }
 }
 
 /// Returns the number of the IRI that a slice denotes.
@@ -191,7 +234,6 @@ pub(crate) fn number_iri(
     dict: &TextDict,
     new: &mut TextDict,
     form: &mut Vec<u8>,
-    guess: u64,
     raw: &str,
 ) -> Result<u64, NamingFault>
     requires state { new.old.state ≡ dict.now.state }
@@ -199,7 +241,7 @@ pub(crate) fn number_iri(
     ensures number { IfOk result (IsNumberOf (λ t. is_iri t ≡ true)
         dict.now.texts new.old.texts new.new.texts raw.now) }
 {
-    let n = number_slice(alloc, dict, new, form, guess, raw)?;
+    let n = number_slice(alloc, dict, new, form, raw)?;
     if first_byte(text_at(dict, new, n)) != b'<' {
         return Err(NamingFault::NeedsFullReader);
     }

@@ -55,7 +55,7 @@ fn read_split(alloc: Global, dict: &TextDict, bytes: &[u8]) -> Result<TextPiece,
     let Some(split) = split_piece(alloc, bytes)? else {
         return Err(NamingFault::NeedsFullReader);
     };
-    let mut new = TextDict::with_state(alloc, dict.state());
+    let mut new = TextDict::with_room(alloc, dict.state(), split.statements.len())?;
     let quads = number_statements(alloc, dict, &mut new, split.statements.as_slice())?;
     Ok(TextPiece {
         base: dict.len(),

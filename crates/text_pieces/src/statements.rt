@@ -1,9 +1,8 @@
 //! The statements of a piece as numbers.
-ghost use Rattle.std.specs.Prelude.{◌≡◌, ◌≤◌, [], length, vec_capacity, IfOk, OnOk};
-ghost use Rattle.text_pieces.specs.Slices.{AreNumbersOfAll, AreNumbersOfQuad};
+ghost use Rattle.std.specs.Prelude.{◌≡◌, ◌≤◌, [], length, vec_capacity, IfOk, IfSome};
+ghost use Rattle.text_pieces.specs.Slices.{AreNumbersOfAll, AreNumbersOfQuad, IsKnownName, IsKnownNode};
 
-use crate::guesses::{Guess, Guesses};
-use crate::naming::{NamingFault, number_iri, number_node, number_slice};
+use crate::naming::{NamingFault, number_again, number_iri, number_name, number_slice};
 use dict_core::NumQuad;
 use nquads_core::RawStatement;
 use std::alloc::Global;
@@ -23,35 +22,54 @@ pub(crate) fn number_statements(
 {
     let mut quads = Vec::with_capacity(alloc, raws.len())?;
     let mut form = Vec::new(alloc);
-    let mut guesses = Guesses::new(alloc)?;
+    let mut before = RawStatement {
+        subject: "",
+        predicate: "",
+        object: "",
+        graph: None,
+    };
+    let mut subject = None;
+    let mut graph = None;
     for raw in raws {
-        let guess = guesses.next(dict, raws)?;
-        let quad = number_statement(alloc, dict, new, &mut form, guess, raw)?;
-        guesses.add(&quad);
+        let quad = number_statement(alloc, dict, new, &mut form, &before, subject, graph, raw)?;
         quads.push_reserved(quad);
+        before = *raw;
+        subject = Some(quad.s);
+        graph = quad.g;
     }
     Ok(quads)
 }
 
-/// Returns the numbers of a statement's terms.
+/// Returns the numbers of a statement's terms. `before` is the statement before, if it has numbers: those of its subject and of
+/// its graph label.
 fn number_statement(
     alloc: Global,
     dict: &TextDict,
     new: &mut TextDict,
     form: &mut Vec<u8>,
-    guess: Guess,
+    before: &RawStatement<'_>,
+    subject: Option<u64>,
+    graph: Option<u64>,
     raw: &RawStatement<'_>,
 ) -> Result<NumQuad, NamingFault>
     requires state { new.old.state ≡ dict.now.state }
+    requires subject { IfSome subject
+        (IsKnownNode dict.now.texts new.old.texts before.now.subject.now) }
+    requires graph { IfSome graph
+        (IsKnownName dict.now.texts new.old.texts before.now.graph) }
     ensures state { new.new.state ≡ dict.now.state }
     ensures number { IfOk result
         (AreNumbersOfQuad dict.now.texts new.old.texts new.new.texts raw.now) }
+    ensures subject { IfOk result (λ quad.
+        IsKnownNode dict.now.texts new.new.texts raw.now.subject.now quad.s) }
+    ensures graph { IfOk result (λ quad.
+        IfSome quad.g (IsKnownName dict.now.texts new.new.texts raw.now.graph)) }
 {
-    let s = number_node(alloc, dict, new, form, guess.s, raw.subject)?;
-    let p = number_iri(alloc, dict, new, form, guess.p, raw.predicate)?;
-    let o = number_slice(alloc, dict, new, form, guess.o, raw.object)?;
+    let s = number_again(alloc, dict, new, form, before.subject, subject, raw.subject)?;
+    let p = number_iri(alloc, dict, new, form, raw.predicate)?;
+    let o = number_slice(alloc, dict, new, form, raw.object)?;
     let g = match raw.graph {
-        Some(name) => Some(number_node(alloc, dict, new, form, guess.g, name)?),
+        Some(name) => Some(number_name(alloc, dict, new, form, before, graph, name)?),
         None => None,
     };
     Ok(NumQuad { g, s, p, o })

@@ -17,7 +17,7 @@ loop-n-preserved c =
     let was = c.loop-n.invariant in record {
       room = omega (arith, was.room, c.push_reserved.ensures.capacity);
       count = omega (arith, was.count, c.push_reserved.ensures.len);
-      grown = grown_more c.args.dict.now.texts c.loop-n.dict.texts c.intern_guessed.new.self.texts c.text.result.now was.grown c.in_ok-intern_guessed.ensures.added;
-      added = added_more c.args.dict.now.texts c.args.new.now.texts c.loop-n.dict.texts c.intern_guessed.new.self.texts c.loop-n.n c.in_ok-intern_guessed.field-0 c.text.result.now
-          c.loop-n.numbers.items c.push_reserved.new.self.items was.added c.text.ensures.value c.in_ok-intern_guessed.ensures.added c.in_ok-intern_guessed.ensures.number c.push_reserved.ensures.items;
+      grown = grown_more c.args.dict.now.texts c.loop-n.dict.texts c.intern.new.self.texts c.text.result.now was.grown c.in_ok-intern.ensures.added;
+      added = added_more c.args.dict.now.texts c.args.new.now.texts c.loop-n.dict.texts c.intern.new.self.texts c.loop-n.n c.in_ok-intern.field-0 c.text.result.now
+          c.loop-n.numbers.items c.push_reserved.new.self.items was.added c.text.ensures.value c.in_ok-intern.ensures.added c.in_ok-intern.ensures.number c.push_reserved.ensures.items;
     }

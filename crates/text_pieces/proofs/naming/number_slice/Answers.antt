@@ -1,17 +1,7 @@
-use Rattle.std.proofs.Common.{◌≡◌, ◌++◌, Some, slice_get, subst, refl}
+use Rattle.std.proofs.Common.{◌≡◌, ◌++◌, Some, slice_get, subst}
 use Rattle.text_dict.specs.Forms.{IsForm}
 use Rattle.text_pieces.proofs.NamingLaws.{numbered_slice, placed_known, slice_of_form}
 use Rattle.text_pieces.proofs.naming.number_slice.Goals as goal
-
-pub returns-then-has_number-clause-number : goal.returns-then-has_number-clause-number
-returns-then-has_number-clause-number c =
-    let dict = c.args.dict.now.texts in
-    let new = c.args.new.now.texts in
-    let raw = c.args.raw.now in
-    let n = c.args.guess in
-    let h = c.if-has_number.ensures.number refl in
-    let at : slice_get (dict ++ new) n ≡ Some raw = subst (λ t. slice_get (dict ++ new) n ≡ Some t) c.as_bytes.ensures.value h.0 in
-    numbered_slice dict new new raw raw n (slice_of_form raw (subst IsForm c.as_bytes.ensures.value h.1)) (placed_known dict new raw n at)
 
 pub returns-in-Some-clause-number : goal.returns-in-Some-clause-number
 returns-in-Some-clause-number c =
@@ -19,5 +9,5 @@ returns-in-Some-clause-number c =
     let new = c.args.new.now.texts in
     let raw = c.args.raw.now in
     let n = c.in-Some.n in
-    let at : slice_get (dict ++ new) n ≡ Some raw = subst (λ t. slice_get (dict ++ new) n ≡ Some t) c.as_bytes-3.ensures.value c.in-Some.ensures.number.0 in
-    numbered_slice dict new new raw raw n (slice_of_form raw (subst IsForm c.as_bytes-3.ensures.value c.in-Some.ensures.number.1)) (placed_known dict new raw n at)
+    let at : slice_get (dict ++ new) n ≡ Some raw = subst (λ t. slice_get (dict ++ new) n ≡ Some t) c.as_bytes-2.ensures.value c.in-Some.ensures.number.0 in
+    numbered_slice dict new new raw raw n (slice_of_form raw (subst IsForm c.as_bytes-2.ensures.value c.in-Some.ensures.number.1)) (placed_known dict new raw n at)

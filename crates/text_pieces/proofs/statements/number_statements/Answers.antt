@@ -8,6 +8,8 @@ loop-raw-preserved c =
       room = omega (arith, was.room, c.push_reserved.ensures.capacity);
       count = omega (arith, was.count, c.push_reserved.ensures.len);
       state = c.number_statement.ensures.state;
+      subject = c.in_ok-quad.ensures.subject;
+      graph = c.in_ok-quad.ensures.graph;
       numbered = statements_more c.args.dict.now.texts c.loop-raw.new.texts c.number_statement.new.new.texts c.args.raws.now c.loop-raw.raw-index c.loop-raw.quads.items c.push_reserved.new.self.items _
           c.in_ok-quad.quad (omega arith) was.numbered c.in_ok-quad.ensures.number c.push_reserved.ensures.items;
     }
