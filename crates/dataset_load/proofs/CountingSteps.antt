@@ -9,10 +9,11 @@ use Rattle.quad_index.specs.declared.counting.IndexCounts.{IndexCounts}
 use Rattle.quad_index.specs.Counting.{IsCountOf as IndexHasCounts}
 use Rattle.dataset_load.specs.declared.numbered.Numbered.{Numbered}
 use Rattle.dataset_load.specs.declared.counted.Counted.{Counted}
-use Rattle.dataset_load.specs.Counted.{AreTermsFrom, IsCounted, IsCountedFrom}
+use Rattle.dataset_load.specs.Counted.{AreTermsFrom, IsCountedFrom}
+use Rattle.dataset_load.specs.Counting.{IsCounted}
 use Rattle.dataset_load.specs.Loaded.{IsLoaded}
 use Rattle.dataset_load.specs.Rounds.{AreNumbered, HasRead}
-use Rattle.dataset_load.specs.Streaming.{IsReadFrom}
+use Rattle.dataset_load.specs.ReadSoFar.{IsReadFrom}
 use Rattle.dataset_load.proofs.LoadingSteps.{loaded, same_slice}
 
 -- with every quad in it once, there is a store of the lines

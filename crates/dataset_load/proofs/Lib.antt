@@ -8,3 +8,4 @@ mod CountingSteps
 pub mod TermSteps
 pub mod ListingSteps
 mod RestSteps
+mod LimitSteps

@@ -13,7 +13,7 @@ use Rattle.nquads_core.proofs.TransferSteps.{Stays-rises, Stays-stays}
 use Rattle.piece_cuts.specs.Blocks.{BothKnown, GivesKnownBlock, IsFirstPiece, IsWhole}
 use Rattle.piece_cuts.specs.Laws.{EndsWithLineFeed, FirstPieceThenTheRest}
 use Rattle.dataset_load.specs.Lines.{AreBlocksOf, AreWholeLines, EachEnds, block_texts, joined, texts}
-use Rattle.dataset_load.specs.Streaming.{IsReadIn}
+use Rattle.dataset_load.specs.ReadSoFar.{IsReadIn}
 
 pub whole_from_last : (bytes : List ℕ) → 0 < length bytes → get_or bytes (length bytes - 1) 0 ≡ 10 → EndsWithLineFeed bytes
 whole_from_last bytes some last =

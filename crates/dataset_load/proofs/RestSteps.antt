@@ -1,5 +1,5 @@
 -- The rounds of a reader that are listed.
-use Rattle.std.proofs.Common.{◌≡◌, ℕ, List, ◌++◌, Bool, true, false, Option, Some, None, IfOk, IfSome, IsSomeAnd, MatchOption, OnErr, OnOk, Result, Ok, Err, refl, subst, inl, inr, ◌⊎◌, ◌≤◌, length}
+use Rattle.std.proofs.Common.{◌≡◌, ℕ, List, ◌++◌, true, false, Option, Some, None, IfOk, IfSome, IsSomeAnd, MatchOption, OnErr, OnOk, Result, Ok, Err, refl, subst, inl, inr, ◌⊎◌, ◌≤◌, length}
 use Rattle.std.specs.Io.KnownBytes.{Consumes, IsAtEnd}
 use Rattle.nquads_core.specs.Lines.{EndsLine}
 use Rattle.rdf_core.specs.QuadParts.{QuadParts}
@@ -13,8 +13,10 @@ use Rattle.dataset_load.specs.Limits.{most_pieces_of_a_round}
 use Rattle.dataset_load.specs.Lines.{all_lines}
 use Rattle.dataset_load.specs.Ahead.{IsAhead, IsNextRound, texts_of}
 use Rattle.dataset_load.specs.declared.bad_round.BadRound.{BadRound}
-use Rattle.dataset_load.specs.Listing.{IsBadList, IsBadRound, IsListedFrom}
-use Rattle.dataset_load.specs.Streaming.{IsBadLineFrom, IsBadSoFar, IsReadIn, IsToEnd}
+use Rattle.dataset_load.specs.Listing.{IsListedFrom}
+use Rattle.dataset_load.specs.BadRounds.{IsBadList, IsBadRound}
+use Rattle.dataset_load.specs.Streaming.{IsBadLineFrom}
+use Rattle.dataset_load.specs.ReadSoFar.{IsBadSoFar, IsReadIn, IsToEnd}
 use Rattle.dataset_load.proofs.LineLaws.{bad_before}
 use Rattle.dataset_load.proofs.ReaderSteps.{read_front}
 use Rattle.dataset_load.proofs.StreamingSteps.{AddsLines, TakesPart, bad_ahead, few_after}

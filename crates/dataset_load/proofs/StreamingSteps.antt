@@ -23,14 +23,17 @@ use Rattle.malformed_lines.specs.Malformed.{IsListed}
 use Rattle.dataset_load.specs.Limits.{most_pieces_of_a_round}
 use Rattle.dataset_load.specs.Lines.{AreWholeLines, EachEnds, all_lines, joined}
 use Rattle.dataset_load.specs.declared.bad_round.BadRound.{BadRound}
-use Rattle.dataset_load.specs.Listing.{IsBadList, IsBadRound, IsReady}
+use Rattle.dataset_load.specs.BadRounds.{IsBadList, IsBadRound, IsReady}
 use Rattle.dataset_load.specs.Loaded.{IsLoaded}
 use Rattle.dataset_load.specs.Store.{StoreView}
 use Rattle.dataset_load.specs.Rounds.{HasRead}
-use Rattle.dataset_load.specs.ReaderFault.{CountsLoading, IfBadLineRead, fault_of_load, fault_of_read}
-use Rattle.dataset_load.specs.Streaming.{IsBadLineFrom, IsBadSoFar, IsLoadedFrom, IsReadFrom, IsReadIn, IsReadUpTo, IsToEnd, IsUpTo, TakesRest, TakesRound}
+use Rattle.dataset_load.specs.ReaderFault.{CountsLoading, IfBadLineRead}
+use Rattle.dataset_load.specs.FaultNames.{fault_of_load, fault_of_read}
+use Rattle.dataset_load.specs.Streaming.{IsBadLineFrom, IsLoadedFrom}
+use Rattle.dataset_load.specs.ReadSoFar.{IsBadSoFar, IsReadFrom, IsReadIn, IsReadUpTo, IsToEnd, IsUpTo, TakesRest, TakesRound}
 use Rattle.dataset_load.specs.declared.reader.RoundBlocks.{RoundBlocks}
-use Rattle.dataset_load.specs.Ahead.{IsAhead, IsNextRound, IsReadAhead, texts_of}
+use Rattle.dataset_load.specs.Ahead.{IsAhead, IsNextRound, IsReadAhead, IsSpent, Spends, texts_of}
+use Rattle.dataset_load.proofs.LimitSteps.{spent_any, spent_in, spent_round}
 use Rattle.dataset_load.proofs.LineLaws.{bad_before, lines_of_pieces}
 use Rattle.dataset_load.proofs.ReaderSteps.{nothing_after, read_front, read_start}
 
@@ -284,6 +287,26 @@ few_after b c kept kept' round next n ended filled is = by round.is_last refl
     by false more = some n (after_more b c kept kept' round next n filled is more)
     by true last = rw (after_last b c round next n ended is last).0 tt
 
+-- what the next round takes, if there is one
+pub spent_after : (b c : Option (List ℕ)) (kept kept' : List ℕ) (round : RoundBlocks) (next : Result (Option RoundBlocks) ReadFault) (n : Option RoundBlocks)
+    → (round.is_last ≡ true → (next ≡ Ok None) × (c ≡ b)) → (round.is_last ≡ false → IfOk next (λ n. IsSomeAnd n (IsNextRound b c kept kept'))) → next ≡ Ok n
+    → IfSome n (Spends b c kept kept' round)
+spent_after b c kept kept' round next n ended filled is = by round.is_last refl
+  where
+    some : (m : Option RoundBlocks) → round.is_last ≡ false → IsSomeAnd m (IsNextRound b c kept kept') → IfSome m (Spends b c kept kept' round)
+    some None more h = tt
+    some (Some r) more h = (more, λ is n start was. spent_round start b c kept kept' r h is n was)
+
+    by : (is_last : Bool) → round.is_last ≡ is_last → IfSome n (Spends b c kept kept' round)
+    by false more = some n more (after_more b c kept kept' round next n filled is more)
+    by true last = rw (after_last b c round next n ended is last).0 tt
+
+pub spent_next : {E : Type 0} (b c : Option (List ℕ)) (kept kept' : List ℕ) (round : RoundBlocks) (next : Result (Option RoundBlocks) ReadFault) (r : Result (Option RoundBlocks) E)
+    → (round.is_last ≡ true → (next ≡ Ok None) × (c ≡ b)) → (round.is_last ≡ false → IfOk next (λ n. IsSomeAnd n (IsNextRound b c kept kept')))
+    → IfOk r (λ n. next ≡ Ok n) → IfOk r (λ n. IfSome n (Spends b c kept kept' round))
+spent_next b c kept kept' round next (Err e) ended filled is = tt
+spent_next b c kept kept' round next (Ok n) ended filled is = spent_after b c kept kept' round next n ended filled is
+
 -- ---- a round with the first malformed line
 
 -- the same lines are before the round
@@ -295,6 +318,12 @@ these_ahead P a b kept round was =
 module _ (b c : Option (List ℕ)) (kept kept' : List ℕ) (so_far : Numbered) (round : RoundBlocks) (next : Result (Option RoundBlocks) ReadFault)
     (ended : round.is_last ≡ true → (next ≡ Ok None) × (c ≡ b)) (filled : round.is_last ≡ false → IfOk next (λ n. IsSomeAnd n (IsNextRound b c kept kept')))
     (taken : round.is_last ≡ false → TakesPart b c kept) where
+  -- what is kept and left after the next round is a part of what there was
+  within : (start : Option (List ℕ)) → IsReadAhead start b kept so_far round → (n : Option RoundBlocks) → IfSome n (Spends b c kept kept' round)
+      → IfSome n (λ r. r.is_last ≡ false → IsSpent 0 start c kept')
+  within start was None h = tt
+  within start was (Some r) h = λ is. spent_any _ start c kept' (h.1 is 0 start (spent_in start b (was.done ++ joined (texts_of round)) kept (was.more h.0).1))
+
   bad_round : (n : ℕ) (bad : BadRound) → bad.before ≡ so_far.lines → bad.round ≡ round → next ≡ Ok bad.next → HasBadLine so_far round n
       → (start : Option (List ℕ)) → IsReadAhead start b kept so_far round → IsBadRound start c kept' n bad
   bad_round n bad before_is round_is next_is has_bad start was =
@@ -305,6 +334,7 @@ module _ (b c : Option (List ℕ)) (kept kept' : List ℕ) (so_far : Numbered) (
         quads = was.read.numbered.quads;
         statements = was.read.numbered.statements;
         count = before_is ∙ was.read.count;
+        within = within start was bad.next (spent_after b c kept kept' round next bad.next ended filled next_is);
         next = λ list listed.
             let now = subst (λ (r : RoundBlocks). IsListed (lines was.done ++ all_lines (texts_of r)) list) round_is listed in
             read_round (λ ls. ls ≡ lines was.done) start b c kept round (these_ahead (HasRead so_far) start b kept round was) (IsBadList n list) kept' bad.next

@@ -4,7 +4,6 @@ use Rattle.rdf_core.specs.Serialization.{serialization}
 use Rattle.text_dict.specs.TextDict.{TextDictView}
 use Rattle.dataset_load.specs.declared.counted.Counted.{Counted}
 use Rattle.dataset_load.specs.Store.{StoreView, names_in}
-use Rattle.dataset_load.specs.Loaded.{IsLoaded}
 use Rattle.dataset_load.specs.Streaming.{IsLoadedFrom}
 
 -- the N-Quads forms of the terms of a dataset, and the numbers of its quads and graph names
@@ -24,11 +23,3 @@ pub record AreTermsFrom (left left' : Option (List ℕ)) (dict : TextDictView) :
   pub store : StoreView
   pub loaded : IsLoadedFrom left left' store
   pub same : dict.texts ≡ map serialization store.dict
-
--- Words that only private clauses cite.
-
--- the terms and the counts of the dataset of these lines
-pub record IsCounted (lines : List (List ℕ)) (counted : Counted) : Type 0 where
-  pub store : StoreView
-  pub loaded : IsLoaded lines store
-  pub counts : IsCountOf store counted

@@ -6,7 +6,12 @@ pub mod Fault
 pub mod Rounds
 pub mod ReaderFault
 pub mod Streaming
+pub mod ReadSoFar
 pub mod Listing
+pub mod BadRounds
 pub mod Counted
+pub mod Counting
 pub mod Ahead
 pub mod Terms
+pub mod Causes
+pub mod FaultNames

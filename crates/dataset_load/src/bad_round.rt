@@ -24,18 +24,21 @@ impl BadRound {
     }
 }
 
-/// The state of a read: the gate of all pieces, the number of pieces so far, and the round that has the first malformed line.
+/// The state of a read: the gate of all pieces, who is told of failures, the number of pieces so far, and the round that has the
+/// first malformed line.
 #[derive(Drop)]
-pub(crate) struct ReadState<'g, G> {
+pub(crate) struct ReadState<'g, G, L> {
     pub(crate) gate: &'g G,
+    pub(crate) listener: &'g L,
     pub(crate) pieces: u64,
     pub(crate) bad: Option<BadRound>,
 }
 
-impl<'g, G> ReadState<'g, G> {
-    pub(crate) fn new(gate: &'g G) -> ReadState<'g, G> {
+impl<'g, G, L> ReadState<'g, G, L> {
+    pub(crate) fn new(gate: &'g G, listener: &'g L) -> ReadState<'g, G, L> {
         ReadState {
             gate,
+            listener,
             pieces: 0,
             bad: None,
         }

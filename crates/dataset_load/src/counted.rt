@@ -1,7 +1,7 @@
 //! The counts of a dataset of which no index is built.
 ghost use Rattle.std.specs.Prelude.{IfOk};
 ghost use Rattle.dataset_load.specs.Rounds.{HasRead};
-ghost use Rattle.dataset_load.specs.Counted.{IsCounted};
+ghost use Rattle.dataset_load.specs.Counting.{IsCounted};
 
 use crate::numbered::Numbered;
 use quad_index::count_quads;

@@ -1,13 +1,16 @@
-//! Notes that loading takes for the messages about a failure, and who is told of the first malformed line.
+//! Notes that loading takes for the messages about a failure, and who is told of the first malformed line and of failures.
+ghost use Rattle.piece_pool.specs.declared.pool.PoolFault.{PoolFault};
 
 use malformed_lines::{MalformedLine, MalformedLines};
+use piece_pool::PoolFault;
 
 /// The malformed lines of what was read.
 #[derive(Drop)]
 pub struct Listing {
     /// The malformed lines.
     pub list: MalformedLines,
-    /// Whether these are all of them. If not, an allocation failed before the end, or a worker could not be started.
+    /// Whether these are all of them. If not, an allocation failed before the end, a worker could not be started, or the
+    /// document has more than 2^40 rounds.
     pub is_complete: bool,
     /// Whether a line before the first malformed one is known to have a character beyond ASCII. The lines before it
     /// are UTF-8.
@@ -33,12 +36,23 @@ impl LoadNotes {
     }
 }
 
-/// A callback of loading, for the message about the first malformed line. No contract mentions it, so it changes
-/// no result.
+/// Callbacks of loading: for the message about the first malformed line, and for failures.
+///
+/// Any code can make the error of an allocation, so no contract can say that an allocation failed. What a contract can say is
+/// that the listener was told of it: only a call of [`failed`](LoadListener::failed) makes `fails` known. The clauses of
+/// loading hold for every listener, so `Memory` and `WorkerRefused` are returned only after such a call.
 pub trait LoadListener {
+    /// What is known of a failure once the listener was told of it. Not exposed: nothing.
+    ghost fails: { PoolFault → Type 0 } = { λ _. Unit {0} };
+
     /// Runs at most once, on the thread of the caller: with the first malformed line of the document, before the rest
     /// of the reader is listed. `is_after_utf8` is as in [`Listing`].
     fn found(&self, line: &MalformedLine, is_after_utf8: bool);
+
+    /// Runs on the thread of the caller when a call that loading made has failed: an allocation failed or the runtime
+    /// provided no random numbers (`Memory`), or a worker thread could not be started (`WorkerRefused`).
+    fn failed(&self, cause: PoolFault)
+        ensures known { fails cause };
 }
 
 /// The listener that does nothing.
@@ -47,4 +61,6 @@ pub struct NoListener;
 
 impl LoadListener for NoListener {
     fn found(&self, _line: &MalformedLine, _is_after_utf8: bool) {}
+
+    fn failed(&self, _cause: PoolFault) {}
 }

@@ -1,18 +1,22 @@
 //! A document that is read in blocks of whole lines.
-ghost use Rattle.std.specs.Prelude.{◌≡◌, ◌≤◌, ◌^◌, [], false, length, true, IfOk, IfSome, IsSomeAnd, None, Ok, OnErr, OnOk};
+ghost use Rattle.std.specs.Prelude.{◌≡◌, ◌≤◌, ◌^◌, [], false, length, true, IfErr, IfOk, IfSome, IsSomeAnd, None, Ok, OnErr, OnOk};
 ghost use Rattle.std.specs.Io.KnownBytes.{Consumes, IsAtEnd};
 ghost use Rattle.nquads_core.specs.Transfer.{CountsRead, IsReadInPart};
 ghost use Rattle.piece_pool.specs.Limits.{most_workers};
 ghost use Rattle.piece_cuts.specs.Laws.{EndsWithLineFeed};
-ghost use Rattle.dataset_load.specs.Limits.{most_pieces_of_a_round};
+ghost use Rattle.dataset_load.specs.Limits.{least_bytes_of_a_round, most_pieces_of_a_round};
 ghost use Rattle.dataset_load.specs.Lines.{AreBlocksOf, AreWholeLines, EachEnds, block_texts, joined};
-ghost use Rattle.dataset_load.specs.Streaming.{IsReadIn, TakesRest, TakesRound};
+ghost use Rattle.dataset_load.specs.ReadSoFar.{IsReadIn, TakesRest, TakesRound};
 ghost use Rattle.dataset_load.specs.Ahead.{IsNextRound};
+ghost use Rattle.dataset_load.specs.FaultNames.{IsReadFailed};
 
+use crate::causes::tell_read;
+use crate::load_notes::LoadListener;
 use crate::rounds::{PIECES_A_ROUND, is_full};
 use nquads_core::{ReadFault, Source};
 use piece_cuts::laws::first_piece_then_the_rest;
 use piece_cuts::{BlockState, Blocks};
+use piece_pool::PoolFault;
 use std::alloc::Global;
 
 /// Reads all bytes that a reader has left, in blocks of whole lines. The blocks are the pieces of `Cuts::every`
@@ -96,11 +100,12 @@ pub(crate) struct RoundBlocks {
 /// # Errors
 /// - `Read` if the reader fails. Bytes before that may have been taken from it.
 /// - `Memory` if an allocation fails. Bytes may have been taken from the reader.
-pub(crate) fn next_round<S: Source>(
+pub(crate) fn next_round<S: Source, L: LoadListener>(
     alloc: Global,
     blocks: &mut Blocks,
     reader: &mut S,
     workers: usize,
+    listener: &L,
 ) -> Result<RoundBlocks, ReadFault>
     requires workers { (1 ≤ workers) × (workers ≤ most_workers) }
     requires reading { blocks.old.state ≡ BlockState.Reading }
@@ -111,9 +116,10 @@ pub(crate) fn next_round<S: Source>(
     ensures taken { (start : _) (done : _) → IsReadIn start (S.left reader.old) done blocks.old.kept
         → IsReadInPart start (S.left reader.new) }
     ensures count { CountsRead (S.failures reader.old) (S.failures reader.new) result }
+    ensures cause { IfErr result (IsReadFailed L.fails) }
 {
     let mut round = Vec::new(alloc);
-    let is_last = fill_round(&mut round, blocks, reader, workers)?;
+    let is_last = fill_round(&mut round, blocks, reader, workers, listener)?;
     Ok(RoundBlocks {
         blocks: round,
         is_last,
@@ -124,12 +130,13 @@ pub(crate) fn next_round<S: Source>(
 ///
 /// # Errors
 /// As `next_round`.
-pub(crate) fn round_after<S: Source>(
+pub(crate) fn round_after<S: Source, L: LoadListener>(
     alloc: Global,
     is_last: bool,
     blocks: &mut Blocks,
     reader: &mut S,
     workers: usize,
+    listener: &L,
 ) -> Result<Option<RoundBlocks>, ReadFault>
     requires workers { (1 ≤ workers) × (workers ≤ most_workers) }
     requires reading { is_last ≡ false → blocks.old.state ≡ BlockState.Reading }
@@ -142,11 +149,12 @@ pub(crate) fn round_after<S: Source>(
         → IsReadIn start (S.left reader.old) done blocks.old.kept
         → IsReadInPart start (S.left reader.new) }
     ensures count { CountsRead (S.failures reader.old) (S.failures reader.new) result }
+    ensures cause { IfErr result (IsReadFailed L.fails) }
 {
     if is_last {
         return Ok(None);
     }
-    Ok(Some(next_round(alloc, blocks, reader, workers)?))
+    Ok(Some(next_round(alloc, blocks, reader, workers, listener)?))
 }
 
 /// Reads the blocks of a round, and returns whether the reader is at its end.
@@ -154,16 +162,19 @@ pub(crate) fn round_after<S: Source>(
 /// # Errors
 /// - `Read` if the reader fails. Bytes before that may have been taken from it.
 /// - `Memory` if an allocation fails. Bytes may have been taken from the reader.
-fn fill_round<S: Source>(
+fn fill_round<S: Source, L: LoadListener>(
     round: &mut Vec<Vec<u8>>,
     blocks: &mut Blocks,
     reader: &mut S,
     workers: usize,
+    listener: &L,
 ) -> Result<bool, ReadFault>
     requires empty { round.old.items ≡ [] }
     requires workers { (1 ≤ workers) × (workers ≤ most_workers) }
     requires reading { blocks.old.state ≡ BlockState.Reading }
     ensures few { OnOk result (length round.new.items ≤ most_pieces_of_a_round) }
+    ensures long { IfOk result (λ is_last. is_last ≡ false
+        → least_bytes_of_a_round ≤ length (joined (block_texts round.new.items))) }
     ensures whole_lines { OnOk result (AreWholeLines (block_texts round.new.items)) }
     ensures reading { IfOk result
         (λ is_last. is_last ≡ false → blocks.new.state ≡ BlockState.Reading) }
@@ -177,6 +188,7 @@ fn fill_round<S: Source>(
         → IsReadIn start (S.left reader.old) done blocks.old.kept
         → IsReadInPart start (S.left reader.new)) }
     ensures count { CountsRead (S.failures reader.old) (S.failures reader.new) result }
+    ensures cause { IfErr result (IsReadFailed L.fails) }
 {
     let mut bytes = 0usize;
     for len in 0..PIECES_A_ROUND {
@@ -186,11 +198,15 @@ fn fill_round<S: Source>(
         let block = match blocks.next(reader) {
             Ok(Some(block)) => block,
             Ok(None) => return Ok(true),
-            Err(fault) => return Err(fault),
+            Err(fault) => {
+                tell_read(listener, fault);
+                return Err(fault);
+            }
         };
         bytes = bytes.saturating_add(block.len());
         let is_whole = ends_with_line_feed(block.as_slice());
         let Ok(()) = round.push(block) else {
+            listener.failed(PoolFault::Memory);
             return Err(ReadFault::Memory);
         };
         if !is_whole {

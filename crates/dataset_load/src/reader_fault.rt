@@ -29,7 +29,7 @@ impl From<AllocError> for ReaderFault {
 
 impl From<LoadFault> for ReaderFault {
     ghost use Rattle.std.specs.Prelude.{◌≡◌};
-    ghost use Rattle.dataset_load.specs.ReaderFault.{fault_of_load};
+    ghost use Rattle.dataset_load.specs.FaultNames.{fault_of_load};
 
     ghost from_gives = { λ failed fault. fault ≡ fault_of_load failed };
 
@@ -44,7 +44,7 @@ impl From<LoadFault> for ReaderFault {
 
 impl From<ReadFault> for ReaderFault {
     ghost use Rattle.std.specs.Prelude.{◌≡◌};
-    ghost use Rattle.dataset_load.specs.ReaderFault.{fault_of_read};
+    ghost use Rattle.dataset_load.specs.FaultNames.{fault_of_read};
 
     ghost from_gives = { λ failed fault. fault ≡ fault_of_read failed };
 

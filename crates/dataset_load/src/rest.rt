@@ -1,5 +1,5 @@
 //! The malformed lines of the rest of a reader, after the first of them is known.
-ghost use Rattle.std.specs.Prelude.{◌≡◌, ◌+◌, ◌≤◌, ◌^◌, List, ℕ, false, length, IfErr, IfOk, IfSome, IsOk, MatchOption, OnErr, OnOk, Ok};
+ghost use Rattle.std.specs.Prelude.{◌≡◌, ◌+◌, ◌≤◌, ◌⊎◌, ◌^◌, List, ℕ, false, length, Err, IfErr, IfOk, IfSome, IsOk, MatchOption, OnErr, OnOk, Ok};
 ghost use Rattle.std.specs.Io.KnownBytes.{IsAtEnd};
 ghost use Rattle.rdf_core.specs.QuadParts.{QuadParts};
 ghost use Rattle.nquads_core.specs.Pieces.{HaveStatements};
@@ -7,9 +7,14 @@ ghost use Rattle.nquads_core.specs.Transfer.{CountsRead, IsReadInPart};
 ghost use Rattle.malformed_lines.specs.Malformed.{IsListed};
 ghost use Rattle.piece_pool.specs.Limits.{most_workers};
 ghost use Rattle.dataset_load.specs.Limits.{most_pieces_of_a_round};
-ghost use Rattle.dataset_load.specs.Ahead.{IsAhead};
-ghost use Rattle.dataset_load.specs.Listing.{IsBadList, IsBadRound, IsListing, IsReady};
-ghost use Rattle.dataset_load.specs.Streaming.{IsBadLineFrom, IsBadSoFar, IsToEnd};
+ghost use Rattle.nquads_core.specs.declared.transfer.ReadFault.TheVariants.{Memory};
+ghost use Rattle.dataset_load.specs.Ahead.{IsAhead, IsSpent, Spends};
+ghost use Rattle.dataset_load.specs.Causes.{HasFailed, IsStopped, IsTooLong};
+ghost use Rattle.dataset_load.specs.FaultNames.{IsReadFailed};
+ghost use Rattle.dataset_load.specs.Listing.{IsListing};
+ghost use Rattle.dataset_load.specs.BadRounds.{IsBadList, IsBadRound, IsReady};
+ghost use Rattle.dataset_load.specs.Streaming.{IsBadLineFrom};
+ghost use Rattle.dataset_load.specs.ReadSoFar.{IsBadSoFar, IsToEnd};
 
 use crate::bad_round::BadRound;
 use crate::listing::list_blocks;
@@ -51,6 +56,11 @@ pub(crate) fn list_rest<R: Threads + Wait, S: Source, L: LoadListener>(
     ensures listed { OnOk result ((start : _) (n : ℕ)
         → IsBadRound start (S.left reader.old) blocks.old.kept n bad
         → IsListing start (S.left reader.new) notes.new.malformed) }
+    ensures stopped { OnOk result ((start : _) (n : ℕ)
+        → IsBadRound start (S.left reader.old) blocks.old.kept n bad
+        → IsStopped L.fails start notes.new.malformed) }
+    ensures limit { result ≡ Err Memory → (start : _) (n : ℕ)
+        → IsBadRound start (S.left reader.old) blocks.old.kept n bad → IsTooLong start }
     ensures taken { OnErr result ((start : _) (n : ℕ)
         → IsBadRound start (S.left reader.old) blocks.old.kept n bad
         → IsReadInPart start (S.left reader.new)) }
@@ -115,6 +125,9 @@ fn list_lines<R: Threads + Wait, S: Source, L: LoadListener>(
     ensures stopped { OnErr result ((start : _) (n : ℕ)
         → IsBadRound start (S.left reader.old) blocks.old.kept n bad
         → IsBadSoFar start (S.left reader.new) n) }
+    ensures cause { result ≡ Err Memory → (start : _) (n : ℕ)
+        → IsBadRound start (S.left reader.old) blocks.old.kept n bad
+        → HasFailed L.fails ⊎ IsTooLong start }
     ensures count { CountsRead (S.failures reader.old) (S.failures reader.new) result }
 {
     let BadRound { round, next, .. } = bad;
@@ -127,13 +140,20 @@ fn list_lines<R: Threads + Wait, S: Source, L: LoadListener>(
         &OpenGate,
         &mut || (),
     );
-    let Ok(()) = listed else {
-        return Err(ReadFault::Memory);
-    };
-    tell(listener, list, is_after_utf8);
-    match next {
-        Some(next) => list_rounds(rt, alloc, list, blocks, reader, workers, next),
-        None => Ok(()),
+    match listed {
+        Ok(()) => {
+            tell(listener, list, is_after_utf8);
+            match next {
+                Some(next) => {
+                    list_rounds(rt, alloc, list, blocks, reader, workers, listener, next)
+                }
+                None => Ok(()),
+            }
+        }
+        Err(fault) => {
+            listener.failed(fault);
+            Err(ReadFault::Memory)
+        }
     }
 }
 
@@ -149,13 +169,14 @@ fn tell<L: LoadListener>(listener: &L, list: &MalformedLines, is_after_utf8: boo
 ///
 /// # Errors
 /// As `list_lines`.
-fn list_rounds<R: Threads + Wait, S: Source>(
+fn list_rounds<R: Threads + Wait, S: Source, L: LoadListener>(
     rt: &R,
     alloc: Global,
     list: &mut MalformedLines,
     blocks: &mut Blocks,
     reader: &mut S,
     workers: usize,
+    listener: &L,
     first: RoundBlocks,
 ) -> Result<(), ReadFault>
     requires workers { (1 ≤ workers) × (workers ≤ most_workers) }
@@ -168,11 +189,14 @@ fn list_rounds<R: Threads + Wait, S: Source>(
     ensures stopped { OnErr result ((start : _) (n : ℕ)
         → IsAhead (IsBadList n list.old) start (S.left reader.old) blocks.old.kept first
         → IsBadSoFar start (S.left reader.new) n) }
+    ensures cause { result ≡ Err Memory → HasFailed L.fails ⊎ ((start : _)
+        → (first.is_last ≡ false → IsSpent 0 start (S.left reader.old) blocks.old.kept)
+        → IsTooLong start) }
     ensures count { CountsRead (S.failures reader.old) (S.failures reader.new) result }
 {
     let mut round = first;
     for _ in 0..MOST_ROUNDS {
-        let next = list_round(rt, alloc, list, blocks, reader, workers, round)?;
+        let next = list_round(rt, alloc, list, blocks, reader, workers, listener, round)?;
         let Some(next) = next else {
             return Ok(());
         };
@@ -186,13 +210,14 @@ fn list_rounds<R: Threads + Wait, S: Source>(
 ///
 /// # Errors
 /// As `list_lines`.
-fn list_round<R: Threads + Wait, S: Source>(
+fn list_round<R: Threads + Wait, S: Source, L: LoadListener>(
     rt: &R,
     alloc: Global,
     list: &mut MalformedLines,
     blocks: &mut Blocks,
     reader: &mut S,
     workers: usize,
+    listener: &L,
     round: RoundBlocks,
 ) -> Result<Option<RoundBlocks>, ReadFault>
     requires workers { (1 ≤ workers) × (workers ≤ most_workers) }
@@ -211,6 +236,9 @@ fn list_round<R: Threads + Wait, S: Source>(
     ensures stopped { (n : ℕ) → OnErr result ((start : _)
         → IsAhead (IsBadList n list.old) start (S.left reader.old) blocks.old.kept round
         → IsBadSoFar start (S.left reader.new) n) }
+    ensures cause { result ≡ Err Memory → HasFailed L.fails }
+    ensures spent { IfOk result (λ next. IfSome next
+        (Spends (S.left reader.old) (S.left reader.new) blocks.old.kept blocks.new.kept round)) }
     ensures count { CountsRead (S.failures reader.old) (S.failures reader.new) result }
 {
     let is_last = round.is_last;
@@ -221,29 +249,34 @@ fn list_round<R: Threads + Wait, S: Source>(
         round.blocks.as_slice(),
         workers,
         &OpenGate,
-        &mut || round_after(alloc, is_last, blocks, reader, workers),
+        &mut || round_after(alloc, is_last, blocks, reader, workers, listener),
     );
     blocks.reuse(round.blocks);
-    next_if_listed(listed, next)
+    next_if_listed(listener, listed, next)
 }
 
 /// Returns the round that was read while another was listed. If that one was not listed, returns `Memory`, unless the
 /// read failed.
-fn next_if_listed(
+fn next_if_listed<L: LoadListener>(
+    listener: &L,
     listed: Result<(), PoolFault>,
     next: Result<Option<RoundBlocks>, ReadFault>,
 ) -> Result<Option<RoundBlocks>, ReadFault>
+    requires next { IfErr next (IsReadFailed L.fails) }
     ensures next { IfOk result (λ round. next ≡ Ok round) }
     ensures listed { OnOk result (IsOk listed) }
     ensures count { (old : _) (new : _) → CountsRead old new next → CountsRead old new result }
+    ensures cause { result ≡ Err Memory → HasFailed L.fails }
 {
-    let next = match next {
-        Ok(next) => next,
-        Err(fault) => return Err(fault),
-    };
-    match listed {
-        Ok(()) => Ok(next),
-        Err(_) => Err(ReadFault::Memory),
+    match next {
+        Ok(next) => match listed {
+            Ok(()) => Ok(next),
+            Err(fault) => {
+                listener.failed(fault);
+                Err(ReadFault::Memory)
+            }
+        },
+        Err(fault) => Err(fault),
     }
 }
 
@@ -255,6 +288,7 @@ fn next_if_listed(
 fn skip_rest<S: Source>(reader: &mut S) -> Result<(), ReadFault>
     ensures part { IsReadInPart (S.left reader.old) (S.left reader.new) }
     ensures at_end { OnOk result (IsAtEnd (S.left reader.new)) }
+    ensures limit { result ≡ Err Memory → IsTooLong (S.left reader.old) }
     ensures count { CountsRead (S.failures reader.old) (S.failures reader.new) result }
 {
     let mut chunk = [0u8; 8192];

@@ -2,7 +2,7 @@
 //!
 //! In a round each piece is read by itself and looked up in the dictionary of the rounds before,
 //! which all workers borrow. Then one thread adds, in order, only what is new.
-ghost use Rattle.std.specs.Prelude.{◌≡◌, ◌+◌, ◌-◌, ◌*◌, ◌<◌, ◌≤◌, ◌^◌, ◌++◌, List, length, true, slice_range, take, IfOk, IfErr, OnOk};
+ghost use Rattle.std.specs.Prelude.{◌≡◌, ◌+◌, ◌-◌, ◌*◌, ◌<◌, ◌≤◌, ◌^◌, ◌++◌, List, length, true, slice_range, take, Err, IfOk, IfErr, OnOk};
 ghost use Rattle.rdf_core.specs.QuadParts.{QuadParts};
 ghost use Rattle.nquads_core.specs.Lines.{lines};
 ghost use Rattle.nquads_core.specs.Pieces.{IsFirstMalformed, IsBadLine};
@@ -12,12 +12,15 @@ ghost use Rattle.piece_pool.specs.declared.pool.PoolFault.TheVariants.{Memory};
 ghost use Rattle.dict_core.specs.Numbered.{joined};
 ghost use Rattle.text_pieces.specs.Forms.{AreNumberedBy};
 ghost use Rattle.text_pieces.specs.Pieces.{IsRead};
-ghost use Rattle.dataset_load.specs.Fault.{IfBadLine, IsOneWorkerLoadFault};
-ghost use Rattle.dataset_load.specs.Limits.{most_pieces_of_a_round};
+ghost use Rattle.dataset_load.specs.Fault.{IfBadLine, IsOneWorkerLoadFault, load_fault_of};
+ghost use Rattle.dataset_load.specs.FaultNames.{IsLoadFailed};
+ghost use Rattle.dataset_load.specs.Limits.{least_bytes_of_a_round, most_pieces_of_a_round};
 ghost use Rattle.dataset_load.specs.Lines.{all_lines, text_at, texts};
 ghost use Rattle.dataset_load.specs.Rounds.{ArePiecesOf, HasRead, line_total};
 
+use crate::causes::pool_failed;
 use crate::fault::LoadFault;
+use crate::load_notes::{LoadListener, NoListener};
 use crate::numbered::Numbered;
 use crate::round_job::RoundJob;
 use dict_core::NumQuad;
@@ -78,6 +81,7 @@ pub(crate) fn number_pieces<R: Threads + Wait, G: Gate + Sync>(
             round,
             workers,
             &gate,
+            &NoListener,
             &mut || (),
         );
         added?;
@@ -91,7 +95,7 @@ pub(crate) fn number_pieces<R: Threads + Wait, G: Gate + Sync>(
 ///
 /// # Errors
 /// As `number_pieces`, of the lines before and these. They do not stop the task.
-pub(crate) fn add_round<R: Threads + Wait, G: Gate + Sync, F: FnMut() -> T, T>(
+pub(crate) fn add_round<R: Threads + Wait, G: Gate + Sync, L: LoadListener, F: FnMut() -> T, T>(
     rt: &R,
     alloc: Global,
     state: RandomState,
@@ -99,6 +103,7 @@ pub(crate) fn add_round<R: Threads + Wait, G: Gate + Sync, F: FnMut() -> T, T>(
     pieces: &[&[u8]],
     workers: usize,
     gate: &G,
+    listener: &L,
     task: &mut F,
 ) -> (Result<(), LoadFault>, T)
     requires workers { (1 ≤ workers) × (workers ≤ most_workers) }
@@ -112,10 +117,11 @@ pub(crate) fn add_round<R: Threads + Wait, G: Gate + Sync, F: FnMut() -> T, T>(
     ensures bad_line { IfErr result.0 (IfBadLine (λ n. (before : _) → HasRead so_far.old before
         → IsBadLine (before ++ all_lines (texts pieces.now)) n)) }
     ensures one_worker { workers ≡ 1 → IfErr result.0 IsOneWorkerLoadFault }
+    ensures cause { IfErr result.0 (IsLoadFailed L.fails) }
     ensures task { F.step task.old result.1 task.new }
 {
     let (outcome, given) = read_round(rt, alloc, state, pieces, &so_far.dict, workers, gate, task);
-    (add_outcome(alloc, so_far, pieces, outcome), given)
+    (add_outcome(alloc, listener, so_far, pieces, outcome), given)
 }
 
 /// Reads the pieces of a round against the dictionary of the rounds before. The caller's thread runs the task,
@@ -148,8 +154,9 @@ fn read_round<R: Threads + Wait, G: Gate + Sync, F: FnMut() -> T, T>(
 }
 
 /// Adds the pieces of a round that were read, or finds the number of the first malformed line.
-fn add_outcome(
+fn add_outcome<L: LoadListener>(
     alloc: Global,
+    listener: &L,
     so_far: &mut Numbered,
     pieces: &[&[u8]],
     outcome: Result<Outcome<TextPiece, u64>, PoolFault>,
@@ -167,13 +174,22 @@ fn add_outcome(
         → IsBadLine (before ++ all_lines (texts pieces.now)) n)) }
     ensures one_worker { IfErr outcome (λ fault. fault ≡ Memory)
         → IfErr result IsOneWorkerLoadFault }
+    ensures same { IfErr outcome (λ fault. result ≡ Err (load_fault_of fault)) }
+    ensures cause { IfErr result (IsLoadFailed L.fails) }
 {
-    match outcome? {
-        Outcome::All(read) => Ok(add_read_pieces(alloc, so_far, read)?),
-        Outcome::First { piece, fault } => {
+    match outcome {
+        Ok(Outcome::All(read)) => match add_read_pieces(alloc, so_far, read) {
+            Ok(()) => Ok(()),
+            Err(_) => {
+                listener.failed(PoolFault::Memory);
+                Err(LoadFault::Memory)
+            }
+        },
+        Ok(Outcome::First { piece, fault }) => {
             let line = so_far.lines + line_number(pieces, piece as usize, fault);
             Err(LoadFault::BadLine(line))
         }
+        Err(fault) => Err(pool_failed(listener, fault)),
     }
 }
 
@@ -200,6 +216,7 @@ fn round_end(pieces: &[&[u8]], from: usize, workers: usize) -> usize
 pub(crate) fn is_full(pieces: usize, bytes: usize, workers: usize) -> bool
     requires workers { (1 ≤ workers) × (workers ≤ most_workers) }
     ensures some { result ≡ true → 1 ≤ pieces }
+    ensures bytes { result ≡ true → least_bytes_of_a_round ≤ bytes }
 {
     if workers == 1 {
         pieces >= 1 && bytes >= BYTES_OF_ONE_WORKER

@@ -1,5 +1,5 @@
 //! Loading the rest of a reader, round by round, so that the document is never held as a whole.
-ghost use Rattle.std.specs.Prelude.{◌≡◌, ◌+◌, ◌≤◌, ◌^◌, ◌++◌, false, length, Err, IfErr, IfOk, IfSome, IsOk, IsSomeAnd, MatchOption, Ok, OnErr, OnOk};
+ghost use Rattle.std.specs.Prelude.{◌≡◌, ◌+◌, ◌≤◌, ◌^◌, ◌++◌, [], false, length, Err, IfErr, IfOk, IfSome, IsOk, IsSomeAnd, MatchOption, Ok, OnErr, OnOk};
 ghost use Rattle.nquads_core.specs.Transfer.{CountsRead, IsReadInPart};
 ghost use Rattle.nquads_core.specs.Pieces.{IsBadLine};
 ghost use Rattle.piece_pool.specs.Limits.{most_workers};
@@ -10,11 +10,17 @@ ghost use Rattle.dataset_load.specs.Limits.{most_pieces_of_a_round};
 ghost use Rattle.dataset_load.specs.Lines.{all_lines, block_texts};
 ghost use Rattle.dataset_load.specs.Rounds.{HasRead};
 ghost use Rattle.dataset_load.specs.ReaderFault.{CountsLoading, IfBadLineRead, IsOneWorkerReaderFault};
-ghost use Rattle.dataset_load.specs.Streaming.{IsBadLineFrom, IsLoadedFrom, IsReadFrom, IsReadUpTo};
-ghost use Rattle.dataset_load.specs.Ahead.{IsReadAhead};
-ghost use Rattle.dataset_load.specs.Listing.{IsBadRound, IsListing, IsReady};
+ghost use Rattle.dataset_load.specs.FaultNames.{fault_of_load};
+ghost use Rattle.dataset_load.specs.Streaming.{IsBadLineFrom, IsLoadedFrom};
+ghost use Rattle.dataset_load.specs.ReadSoFar.{IsReadFrom, IsReadUpTo};
+ghost use Rattle.dataset_load.specs.Ahead.{IsReadAhead, Spends};
+ghost use Rattle.dataset_load.specs.Causes.{IsCaused, IsStopped};
+ghost use Rattle.dataset_load.specs.FaultNames.{IsFailed, IsLoadFailed, IsReadFailed};
+ghost use Rattle.dataset_load.specs.Listing.{IsListing};
+ghost use Rattle.dataset_load.specs.BadRounds.{IsBadRound, IsReady};
 
 use crate::bad_round::{BadRound, ReadState};
+use crate::causes::load_failed;
 use crate::counted::{Counted, counted_of};
 use crate::fault::LoadFault;
 use crate::load_notes::{LoadListener, LoadNotes};
@@ -27,13 +33,21 @@ use crate::rounds::add_round;
 use crate::store::Store;
 use nquads_core::{ReadFault, Source};
 use piece_cuts::{BlockState, Blocks};
-use piece_pool::Gate;
-use std::alloc::Global;
+use piece_pool::{Gate, PoolFault};
+use std::alloc::{AllocError, Global};
 use std::hash::RandomState;
 use std::random::RandomSource;
 use std::sync::Wait;
 use std::thread::Threads;
 use text_dict::TextDict;
+
+/// What reading begins with.
+#[derive(Drop)]
+struct Fresh {
+    state: RandomState,
+    so_far: Numbered,
+    blocks: Blocks,
+}
 
 /// Loads the rest of a reader, as `load_blocks` does after `read_blocks`. Only the blocks of two rounds are in
 /// memory at a time: one that is parsed, and the next one. `notes` gets what a message about a failure shows.
@@ -71,9 +85,15 @@ pub fn load_reader<R: Threads + Wait + RandomSource, S: Source, G: Gate + Sync, 
     ensures taken { OnErr result (IsReadInPart (S.left reader.old) (S.left reader.new)) }
     ensures count { CountsLoading (S.failures reader.old) (S.failures reader.new) result }
     ensures one_worker { workers ≡ 1 → IfErr result IsOneWorkerReaderFault }
+    ensures cause { IfErr result (IsCaused L.fails (S.left reader.old)) }
+    ensures stopped { IfErr result (IfBadLineRead
+        (λ _. IsStopped L.fails (S.left reader.old) notes.new.malformed)) }
 {
     let so_far = read_reader(rt, alloc, size, reader, workers, gate, notes, listener)?;
-    Ok(store_of(rt, alloc, so_far, workers)?)
+    match store_of(rt, alloc, so_far, workers) {
+        Ok(store) => Ok(store),
+        Err(fault) => Err(load_failed(listener, fault)),
+    }
 }
 
 /// Counts the distinct quads and graph names of the rest of a reader, and returns its terms. It reads as
@@ -104,9 +124,16 @@ pub fn count_reader<R: Threads + Wait + RandomSource, S: Source, G: Gate + Sync,
     ensures taken { OnErr result (IsReadInPart (S.left reader.old) (S.left reader.new)) }
     ensures count { CountsLoading (S.failures reader.old) (S.failures reader.new) result }
     ensures one_worker { workers ≡ 1 → IfErr result IsOneWorkerReaderFault }
+    ensures cause { IfErr result (IsCaused L.fails (S.left reader.old)) }
+    ensures stopped { IfErr result (IfBadLineRead
+        (λ _. IsStopped L.fails (S.left reader.old) notes.new.malformed)) }
 {
     let so_far = read_reader(rt, alloc, size, reader, workers, gate, notes, listener)?;
-    Ok(counted_of(alloc, so_far)?)
+    let Ok(counted) = counted_of(alloc, so_far) else {
+        listener.failed(PoolFault::Memory);
+        return Err(ReaderFault::Memory);
+    };
+    Ok(counted)
 }
 
 /// Returns the terms of the rest of a reader as texts. It reads as [`load_reader`] does. No quads are sorted.
@@ -136,6 +163,9 @@ pub fn load_terms<R: Threads + Wait + RandomSource, S: Source, G: Gate + Sync, L
     ensures taken { OnErr result (IsReadInPart (S.left reader.old) (S.left reader.new)) }
     ensures count { CountsLoading (S.failures reader.old) (S.failures reader.new) result }
     ensures one_worker { workers ≡ 1 → IfErr result IsOneWorkerReaderFault }
+    ensures cause { IfErr result (IsCaused L.fails (S.left reader.old)) }
+    ensures stopped { IfErr result (IfBadLineRead
+        (λ _. IsStopped L.fails (S.left reader.old) notes.new.malformed)) }
 {
     let so_far = read_reader(rt, alloc, size, reader, workers, gate, notes, listener)?;
     let Numbered { dict, .. } = so_far;
@@ -164,11 +194,20 @@ fn read_reader<R: Threads + Wait + RandomSource, S: Source, G: Gate + Sync, L: L
     ensures taken { OnErr result (IsReadInPart (S.left reader.old) (S.left reader.new)) }
     ensures count { CountsLoading (S.failures reader.old) (S.failures reader.new) result }
     ensures one_worker { workers ≡ 1 → IfErr result IsOneWorkerReaderFault }
+    ensures cause { IfErr result (IsCaused L.fails (S.left reader.old)) }
+    ensures stopped { IfErr result (IfBadLineRead
+        (λ _. IsStopped L.fails (S.left reader.old) notes.new.malformed)) }
 {
-    let state = hash_state(rt)?;
-    let mut so_far = Numbered::new(alloc, state)?;
-    let mut blocks = Blocks::new(alloc, size)?;
-    let mut rounds = ReadState::new(gate);
+    let Ok(fresh) = nothing_read(rt, alloc, size) else {
+        listener.failed(PoolFault::Memory);
+        return Err(ReaderFault::Memory);
+    };
+    let Fresh {
+        state,
+        mut so_far,
+        mut blocks,
+    } = fresh;
+    let mut rounds = ReadState::new(gate, listener);
     match number_rounds(
         rt,
         alloc,
@@ -208,8 +247,26 @@ fn read_reader<R: Threads + Wait + RandomSource, S: Source, G: Gate + Sync, L: L
     }
 }
 
+/// Creates the state in which nothing is read.
+fn nothing_read<R: RandomSource>(rt: &R, alloc: Global, size: usize) -> Result<Fresh, AllocError>
+    requires some { 1 ≤ size }
+    ensures none { IfOk result (λ fresh. HasRead fresh.so_far []) }
+    ensures no_lines { IfOk result (λ fresh. fresh.so_far.lines ≡ 0) }
+    ensures blocks { IfOk result (λ fresh.
+        fresh.blocks ≡ record { size = size; kept = []; state = BlockState.Reading }) }
+{
+    let state = hash_state(rt)?;
+    let so_far = Numbered::new(alloc, state)?;
+    let blocks = Blocks::new(alloc, size)?;
+    Ok(Fresh {
+        state,
+        so_far,
+        blocks,
+    })
+}
+
 /// Reads the rounds of a reader. Each round is read while the one before is parsed.
-fn number_rounds<R: Threads + Wait, S: Source, G: Gate + Sync>(
+fn number_rounds<R: Threads + Wait, S: Source, G: Gate + Sync, L: LoadListener>(
     rt: &R,
     alloc: Global,
     state: RandomState,
@@ -217,7 +274,7 @@ fn number_rounds<R: Threads + Wait, S: Source, G: Gate + Sync>(
     blocks: &mut Blocks,
     reader: &mut S,
     workers: usize,
-    rounds: &mut ReadState<'_, G>,
+    rounds: &mut ReadState<'_, G, L>,
 ) -> Result<(), ReaderFault>
     requires workers { (1 ≤ workers) × (workers ≤ most_workers) }
     requires reading { blocks.old.state ≡ BlockState.Reading }
@@ -230,8 +287,9 @@ fn number_rounds<R: Threads + Wait, S: Source, G: Gate + Sync>(
     ensures taken { OnErr result (IsReadInPart (S.left reader.old) (S.left reader.new)) }
     ensures count { CountsLoading (S.failures reader.old) (S.failures reader.new) result }
     ensures one_worker { workers ≡ 1 → IfErr result IsOneWorkerReaderFault }
+    ensures cause { IfErr result (IsCaused L.fails (S.left reader.old)) }
 {
-    let mut round = next_round(alloc, blocks, reader, workers)?;
+    let mut round = next_round(alloc, blocks, reader, workers, rounds.listener)?;
     for _ in 0..MOST_ROUNDS {
         let next = number_round(
             rt, alloc, state, so_far, blocks, reader, workers, rounds, round,
@@ -246,7 +304,7 @@ fn number_rounds<R: Threads + Wait, S: Source, G: Gate + Sync>(
 
 /// Adds the quads of a round to those of the rounds before, and returns the next round, or None after the last
 /// one. The caller's thread reads the next round while the workers parse this one.
-fn number_round<R: Threads + Wait, S: Source, G: Gate + Sync>(
+fn number_round<R: Threads + Wait, S: Source, G: Gate + Sync, L: LoadListener>(
     rt: &R,
     alloc: Global,
     state: RandomState,
@@ -254,7 +312,7 @@ fn number_round<R: Threads + Wait, S: Source, G: Gate + Sync>(
     blocks: &mut Blocks,
     reader: &mut S,
     workers: usize,
-    rounds: &mut ReadState<'_, G>,
+    rounds: &mut ReadState<'_, G, L>,
     round: RoundBlocks,
 ) -> Result<Option<RoundBlocks>, ReaderFault>
     requires workers { (1 ≤ workers) × (workers ≤ most_workers) }
@@ -277,9 +335,13 @@ fn number_round<R: Threads + Wait, S: Source, G: Gate + Sync>(
         → IsReadInPart start (S.left reader.new)) }
     ensures count { CountsLoading (S.failures reader.old) (S.failures reader.new) result }
     ensures one_worker { workers ≡ 1 → IfErr result IsOneWorkerReaderFault }
+    ensures cause { IfErr result (IsFailed L.fails) }
+    ensures spent { IfOk result (λ next. IfSome next
+        (Spends (S.left reader.old) (S.left reader.new) blocks.old.kept blocks.new.kept round)) }
 {
     let before = so_far.lines;
     let is_last = round.is_last;
+    let listener = rounds.listener;
     let (added, next) = add_blocks(
         rt,
         alloc,
@@ -288,7 +350,7 @@ fn number_round<R: Threads + Wait, S: Source, G: Gate + Sync>(
         round.blocks.as_slice(),
         workers,
         rounds,
-        &mut || round_after(alloc, is_last, blocks, reader, workers),
+        &mut || round_after(alloc, is_last, blocks, reader, workers, listener),
     );
     end_round(rounds, blocks, before, round, added, next)
 }
@@ -296,14 +358,16 @@ fn number_round<R: Threads + Wait, S: Source, G: Gate + Sync>(
 /// Returns the round that was read while another was added, or the fault of one of the two. That of the read takes
 /// precedence, except over a worker that could not be started, where the read ran out of memory. A round with a malformed
 /// line is kept to be listed; otherwise the memory of its blocks is used again.
-fn end_round<G>(
-    rounds: &mut ReadState<'_, G>,
+fn end_round<G, L: LoadListener>(
+    rounds: &mut ReadState<'_, G, L>,
     blocks: &mut Blocks,
     before: u128,
     round: RoundBlocks,
     added: Result<(), LoadFault>,
     next: Result<Option<RoundBlocks>, ReadFault>,
 ) -> Result<Option<RoundBlocks>, ReaderFault>
+    requires added { IfErr added (IsLoadFailed L.fails) }
+    requires next { IfErr next (IsReadFailed L.fails) }
     ensures blocks { blocks.new ≡ blocks.old }
     ensures next { IfOk result (λ round. next ≡ Ok round) }
     ensures added { OnOk result (IsOk added) }
@@ -312,6 +376,8 @@ fn end_round<G>(
         (λ bad. (bad.before ≡ before) × (bad.round ≡ round) × (next ≡ Ok bad.next)))) }
     ensures count { (old : _) (new : _) → CountsRead old new next → CountsLoading old new result }
     ensures one_worker { IfErr added IsOneWorkerLoadFault → IfErr result IsOneWorkerReaderFault }
+    ensures cause { IfErr result (IsFailed L.fails) }
+    ensures same { IsOk next → IfErr added (λ fault. result ≡ Err (fault_of_load fault)) }
 {
     match next {
         Ok(next) => match added {
@@ -339,14 +405,14 @@ fn end_round<G>(
 
 /// Adds the quads of blocks to those of the rounds before. The caller's thread runs the task while the workers
 /// parse the blocks.
-fn add_blocks<R: Threads + Wait, G: Gate + Sync, F: FnMut() -> T, T>(
+fn add_blocks<R: Threads + Wait, G: Gate + Sync, L: LoadListener, F: FnMut() -> T, T>(
     rt: &R,
     alloc: Global,
     state: RandomState,
     so_far: &mut Numbered,
     blocks: &[Vec<u8>],
     workers: usize,
-    rounds: &mut ReadState<'_, G>,
+    rounds: &mut ReadState<'_, G, L>,
     task: &mut F,
 ) -> (Result<(), LoadFault>, T)
     requires workers { (1 ≤ workers) × (workers ≤ most_workers) }
@@ -359,9 +425,11 @@ fn add_blocks<R: Threads + Wait, G: Gate + Sync, F: FnMut() -> T, T>(
     ensures bad_line { IfErr result.0 (IfBadLine (λ n. (before : _) → HasRead so_far.old before
         → IsBadLine (before ++ all_lines (block_texts blocks.now)) n)) }
     ensures one_worker { workers ≡ 1 → IfErr result.0 IsOneWorkerLoadFault }
+    ensures cause { IfErr result.0 (IsLoadFailed L.fails) }
     ensures task { F.step task.old result.1 task.new }
 {
     let Ok(pieces) = borrowed_blocks(alloc, blocks) else {
+        rounds.listener.failed(PoolFault::Memory);
         return (Err(LoadFault::Memory), task());
     };
     let gate = rounds.offset_gate();
@@ -373,6 +441,7 @@ fn add_blocks<R: Threads + Wait, G: Gate + Sync, F: FnMut() -> T, T>(
         pieces.as_slice(),
         workers,
         &gate,
+        rounds.listener,
         task,
     );
     rounds.pieces = rounds.pieces.saturating_add(blocks.len() as u64);

@@ -49,6 +49,8 @@ pub use dataset_load::LoadFault;
 pub use dataset_load::Listing;
 /// Is called when the first malformed line of a document is known.
 pub use dataset_load::LoadListener;
+/// Why a call failed, as a progress is told.
+pub use piece_pool::PoolFault;
 /// A loaded dataset: its terms, and an index of its quads.
 pub use dataset_load::Store;
 /// Loads a document that is cut into pieces.

@@ -3,6 +3,7 @@
 use dataset_load::{Listing, LoadListener, LoadNotes, Store};
 use expression_errors::ErrorCounts;
 use malformed_lines::MalformedLine;
+use piece_pool::PoolFault;
 use query_notes::{Outline, counts_of, outline_of};
 use sparql_algebra::Plan;
 use std::alloc::Global;
@@ -34,6 +35,8 @@ pub struct NoProgress;
 
 impl LoadListener for NoProgress {
     fn found(&self, _line: &MalformedLine, _is_after_utf8: bool) {}
+
+    fn failed(&self, _cause: PoolFault) {}
 }
 
 impl Progress for NoProgress {

@@ -1,13 +1,13 @@
 //! Standard error while a run goes on: the message about the first malformed line as soon as it is known, and at a
 //! terminal the progress of a run that takes more than a second.
 //!
-//! A thread of its own writes both ([`Console::watch`]). The run only changes a state behind a lock that is never
+//! A thread of its own writes both ([`Console::watch`]). The run only changes a state, under a lock that is never
 //! held while something is written. So a terminal that is stopped, or a pipe that nobody reads, does not stop the run.
 
 use crate::devices::Meter;
 use crate::malformed::first_message;
 use malformed_lines::MalformedLine;
-use spq_core::{LoadListener, Progress, Stage};
+use spq_core::{LoadListener, PoolFault, Progress, Stage};
 use std::alloc::Global;
 use std::io::Write;
 use std::sync::{Condvar, Mutex, Wait};
@@ -330,6 +330,8 @@ impl<R: Wait, C: Clock, W: Write> LoadListener for Console<R, C, W> {
         drop(state);
         self.changed.notify_all();
     }
+
+    fn failed(&self, _cause: PoolFault) {}
 }
 
 impl<R: Wait, C: Clock, W: Write> Progress for Console<R, C, W> {

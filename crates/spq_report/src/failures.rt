@@ -9,7 +9,7 @@ use std::io;
 use std::io::{Error, Write};
 
 /// Writes the line of standard output again.
-pub fn repeat<W: Write>(out: &mut W, fault: &RunFault) {
+pub(crate) fn repeat<W: Write>(out: &mut W, fault: &RunFault) {
     let mut device = Device { inner: out };
     let _tried = write_fault(fault, &mut device);
 }
@@ -33,7 +33,11 @@ fn query_text(alloc: Global, account: &Account<'_>) -> Option<String> {
 }
 
 /// Writes the message about a rejected query.
-pub fn rejected<W: Write>(out: &mut W, alloc: Global, account: &Account<'_>) -> io::Result<()> {
+pub(crate) fn rejected<W: Write>(
+    out: &mut W,
+    alloc: Global,
+    account: &Account<'_>,
+) -> io::Result<()> {
     match query_text(alloc, account) {
         Some(text) => out.write_all(text.as_bytes()),
         None => out.write_all(b"spq: query: this is not a query of SPARQL as spq reads it\n"),
@@ -41,7 +45,7 @@ pub fn rejected<W: Write>(out: &mut W, alloc: Global, account: &Account<'_>) -> 
 }
 
 /// Writes the message about words that are not a valid command line, or the help that they request.
-pub fn no_command<W: Write>(
+pub(crate) fn no_command<W: Write>(
     out: &mut W,
     alloc: Global,
     words: Option<&[String]>,
@@ -56,7 +60,7 @@ pub fn no_command<W: Write>(
 }
 
 /// Writes what a run was doing when an allocation failed. Allocates nothing.
-pub fn no_memory<W: Write>(out: &mut W, stage: Stage) -> io::Result<()> {
+pub(crate) fn no_memory<W: Write>(out: &mut W, stage: Stage) -> io::Result<()> {
     let doing = match stage {
         Stage::Checking => "reading the command line",
         Stage::Reading => "reading the document",
@@ -83,7 +87,11 @@ fn workers(alloc: Global, account: &Account<'_>) -> Option<usize> {
 }
 
 /// Writes which thread could not be started.
-pub fn no_worker<W: Write>(out: &mut W, alloc: Global, account: &Account<'_>) -> io::Result<()> {
+pub(crate) fn no_worker<W: Write>(
+    out: &mut W,
+    alloc: Global,
+    account: &Account<'_>,
+) -> io::Result<()> {
     match workers(alloc, account) {
         None => out.write_all(b"spq: a thread could not be started\nhint: use --workers 1\n"),
         Some(1) => out.write_all(
@@ -111,7 +119,7 @@ fn known_error_text(alloc: Global, error: Option<Error>) -> Option<String> {
 }
 
 /// Writes why a device failed.
-pub fn no_device<W: Write>(
+pub(crate) fn no_device<W: Write>(
     out: &mut W,
     alloc: Global,
     what: &str,

@@ -3,7 +3,7 @@
 use std::alloc::{AllocError, Global};
 
 /// Returns a number in decimal, with a comma after each three digits from the right, as in `48,116`.
-pub fn grouped(alloc: Global, number: u128) -> Result<String, AllocError> {
+pub(crate) fn grouped(alloc: Global, number: u128) -> Result<String, AllocError> {
     let digits = format!(in alloc; "{number}")?;
     let count = digits.len();
     let mut text = String::new(alloc);

@@ -1,4 +1,4 @@
-//! Writes messages to standard error: why a run failed and where, and warnings after a run without a failure.
+//! Writes messages to standard error: why a run failed and where, and notes after a run without a failure.
 //!
 //! [`report`] writes the message for a failed run: a first line `spq: PLACE: REASON`, for text input the line
 //! with a caret, and at most one hint. For a malformed document it writes such a message for each of the first twenty
@@ -12,7 +12,7 @@
 //! of a run that takes more than a second. A run does not wait for standard error.
 //!
 //! Reading order: `devices`, `account` (what is known about a run), `failures` (a message for each fault), `malformed`
-//! (malformed lines), `console` (during a run), `warnings`, `reports`. The tests in program_tests run tables of messages.
+//! (malformed lines), `console` (during a run), `notes` (on a query), `reports`. The tests in program_tests run tables of messages.
 //!
 //! Not guaranteed: that standard error accepts the message.
 #![tactic(auto)]
@@ -23,8 +23,8 @@ mod devices;
 mod failures;
 mod grouped;
 mod malformed;
+mod notes;
 mod reports;
-mod warnings;
 
 pub use account::Account;
 pub use console::{Console, Terminals};

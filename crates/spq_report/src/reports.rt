@@ -3,7 +3,7 @@
 use crate::account::Account;
 use crate::failures::{no_command, no_device, no_memory, no_worker, rejected, repeat};
 use crate::malformed::write_malformed;
-use crate::warnings::warnings;
+use crate::notes::notes_after;
 use spq_core::RunFault;
 use std::alloc::Global;
 use std::io;
@@ -59,7 +59,7 @@ fn failure<W: Write>(
     }
 }
 
-/// Writes the message about a run with this result: the message for its fault, or its warnings.
+/// Writes the message about a run with this result: the message for its fault, or its notes.
 ///
 /// # Errors
 /// The error of the writer. A part of the message may have been written.
@@ -71,7 +71,7 @@ pub fn report<W: Write>(
 ) -> io::Result<()> {
     match done {
         Err(fault) => failure(out, alloc, fault, account),
-        Ok(()) => match warnings(alloc, account) {
+        Ok(()) => match notes_after(alloc, account) {
             Some(text) => out.write_all(text.as_bytes()),
             None => Ok(()),
         },

@@ -2,7 +2,7 @@ use Rattle.std.proofs.Common.{◌≡◌, ◌-◌, ◌^◌, vec_len}
 use Rattle.piece_cuts.specs.declared.blocks.BlockState.TheVariants.{Reading}
 use Rattle.nquads_core.specs.Device.{Stays}
 use Rattle.dataset_load.specs.Lines.{EachEnds, block_texts, joined}
-use Rattle.dataset_load.specs.Streaming.{IsReadIn}
+use Rattle.dataset_load.specs.ReadSoFar.{IsReadIn}
 use Rattle.dataset_load.proofs.ReaderSteps.{IsCutSo}
 use Rattle.dataset_load.proofs.reader.append_blocks.Given as goal
 

@@ -1,8 +1,8 @@
-use Rattle.std.proofs.Common.{ℕ, List, ◌++◌, true≢false, refl, ap, sym, ◌∙◌, subst, arith}
+use Rattle.std.proofs.Common.{ℕ, List, ◌++◌, length, length-append, true≢false, refl, ap, sym, ◌∙◌, subst, arith}
 use Rattle.nquads_core.proofs.TransferSteps.{Stays-stays}
 use Rattle.piece_cuts.specs.Laws.{EndsWithLineFeed}
 use Rattle.dataset_load.specs.Lines.{AreWholeLines, EachEnds, block_texts, joined}
-use Rattle.dataset_load.proofs.ReaderSteps.{at_the_end, ends_more, fault_counts, joined_more, none_at_end, pushed_length, texts_more, whole_all, whole_but_last}
+use Rattle.dataset_load.proofs.ReaderSteps.{at_the_end, ends_more, fault_counts, joined_more, last_of_whole, none_at_end, pushed_length, texts_more, whole_all, whole_but_last}
 use Rattle.dataset_load.proofs.StreamingSteps.{part_of_round, part_then, rest_last, rest_none, round_step}
 use Rattle.dataset_load.proofs.reader.fill_round.Goals as goal
 
@@ -31,9 +31,12 @@ loop-len-preserved g c =
     let e = ap joined t ∙ joined_more (block_texts c.loop-len.round.items) c.in-Ok-Some.block.items in
     let given = rw c.in-Ok-Some.field-0-is at (c.in-Ok-Some.ensures.block was.state) in
     let whole = subst (λ (bs : List ℕ). EndsWithLineFeed bs) c.as_slice.ensures.value (c.ends_with_line_feed-is_whole.ensures.yes c.if-not-is_whole.false) in
+    let more = ap length e ∙ length-append (joined (block_texts c.loop-len.round.items)) c.in-Ok-Some.block.items in
     let long = pushed_length c.loop-len.round.items c.push.new.self.items c.in-Ok-Some.block c.in-Ok.ensures.items in
     record {
       few = omega (arith, long, was.few);
+      pieces = omega (arith, was.pieces, more, (last_of_whole c.in-Ok-Some.block.items whole).0);
+      counted = omega (arith, was.counted, more, c.saturating_add-bytes.ensures, c.len.ensures);
       state = rw c.in-Ok-Some.field-0-is at (c.in-Ok-Some.ensures.state was.state);
       ends = subst (λ (ps : List (List ℕ)). EachEnds ps) (sym t) (ends_more (block_texts c.loop-len.round.items) c.in-Ok-Some.block.items was.ends whole);
       bytes = round_step _ _ _ c.args.blocks.now.kept c.loop-len.blocks.kept c.next.new.self.kept (joined (block_texts c.loop-len.round.items)) _ c.loop-len.blocks.size c.in-Ok-Some.block was.bytes given e;
@@ -117,3 +120,15 @@ returns-then-not-is_whole-clause-last g c = λ _.
       rest_last _ _ _ c.args.blocks.now.kept c.loop-len.blocks.kept c.next.new.self.kept (joined (block_texts c.loop-len.round.items)) _ c.loop-len.blocks.size c.in-Ok-Some.block was.bytes given e end unended,
       end,
     )
+
+pub returns-then-is_full-clause-long : goal.returns-then-is_full-clause-long
+returns-then-is_full-clause-long g c = λ _. omega (arith, c.loop-len.invariant.counted, c.is_full.ensures.bytes c.if-is_full.true)
+
+pub returns-clause-long : goal.returns-clause-long
+returns-clause-long g c = λ _. omega (arith, c.loop-len.invariant.pieces)
+
+pub returns-in-Ok-None-clause-long : goal.returns-in-Ok-None-clause-long
+returns-in-Ok-None-clause-long g c = λ is. absurd (true≢false is)
+
+pub returns-then-not-is_whole-clause-long : goal.returns-then-not-is_whole-clause-long
+returns-then-not-is_whole-clause-long g c = λ is. absurd (true≢false is)

@@ -6,11 +6,11 @@ use Rattle.dataset_load.proofs.rest.list_lines.Goals as goal
 ok_of : {T E : Type 0} (A : Type 0) (r : Result T E) (x : T) → r ≡ Ok x → OnOk r A → A
 ok_of {T = T} {E = E} A r x is h = subst (λ (s : Result T E). OnOk s A) is h
 
-pub returns-in_default-clause-stopped : goal.returns-in_default-clause-stopped
-returns-in_default-clause-stopped g c = λ start n was. was.so_far
+pub returns-clause-stopped : goal.returns-clause-stopped
+returns-clause-stopped g c = λ start n was. was.so_far
 
-pub returns-clause-listed : goal.returns-clause-listed
-returns-clause-listed g c = λ start n was.
+pub returns-in-Ok-clause-listed : goal.returns-in-Ok-clause-listed
+returns-in-Ok-clause-listed g c = λ start n was.
     none_of _ _ _ c.in-None.is
     (first_list start _ _ n c.args.bad c.args.list.now c.list_blocks-listed.new.list c.requires.before
     (rw c.as_slice.ensures.value at (ok_of _ c.list_blocks-listed.result.0 c.in-Ok.field-0 c.in-Ok.is c.list_blocks-listed.ensures.listed)) was)

@@ -2,8 +2,8 @@ use Rattle.std.proofs.Common.{◌≡◌, true, false, Ok, None, IfOk, IfSome, Is
 use Rattle.nquads_core.specs.Transfer.{CountsRead}
 use Rattle.piece_cuts.specs.declared.blocks.BlockState.TheVariants.{Reading}
 use Rattle.dataset_load.specs.Ahead.{IsNextRound}
-use Rattle.dataset_load.specs.Listing.{IsBadList}
-use Rattle.dataset_load.proofs.StreamingSteps.{TakesPart, both_ok, round_done, taken_ok}
+use Rattle.dataset_load.specs.BadRounds.{IsBadList}
+use Rattle.dataset_load.proofs.StreamingSteps.{TakesPart, both_ok, round_done, spent_next, taken_ok}
 use Rattle.dataset_load.proofs.RestSteps.{ListsRound, adds_list, few_next, stopped_round}
 use Rattle.dataset_load.proofs.rest.list_round.Given.{Over}
 use Rattle.dataset_load.proofs.rest.list_round.Goals as goal
@@ -47,3 +47,7 @@ returns-clause-listed g c = λ n.
 
 pub returns-clause-stopped : goal.returns-clause-stopped
 returns-clause-stopped g c = λ n. stopped_round n _ _ c.args.blocks.now.kept c.args.list.now c.args.round c.next_if_listed.result (λ last. (ended g c last).1) (taken g c)
+
+pub returns-clause-spent : goal.returns-clause-spent
+returns-clause-spent g c =
+    spent_next _ _ c.args.blocks.now.kept c.reuse.new.self.kept c.args.round c.list_blocks-listed.result.1 c.next_if_listed.result (ended g c) (filled g c) c.next_if_listed.ensures.next

@@ -1,14 +1,15 @@
+use Rattle.dataset_load.proofs.LimitSteps.{caused}
 use Rattle.dataset_load.proofs.StreamingSteps.{load_counts, loaded_from}
-use Rattle.std.proofs.lemmas.Result.{err_from_is_err_and}
 use Rattle.dataset_load.proofs.streaming.load_reader.Goals as goal
 
 pub store_of-requires-clause-read : goal.store_of-requires-clause-read
 store_of-requires-clause-read g c = (_, c.in_ok-so_far.ensures.read.read)
 
-pub returns-clause-loaded : goal.returns-clause-loaded
-returns-clause-loaded g c = loaded_from _ _ _ _ c.in_ok-so_far.ensures.read c.in_ok-store_of.ensures.loaded
+pub returns-in-Ok-clause-loaded : goal.returns-in-Ok-clause-loaded
+returns-in-Ok-clause-loaded g c = loaded_from _ _ _ _ c.in_ok-so_far.ensures.read c.in-Ok.ensures.loaded
 
-pub returns-in_err-store_of-clause-count : goal.returns-in_err-store_of-clause-count
-returns-in_err-store_of-clause-count g c =
-    let p = err_from_is_err_and c.from_residual-in_err-store_of.result c.from_residual-in_err-store_of.ensures.1 in
-    rw (p.1, p.2) (load_counts _ _ c.in_err-store_of.field-0.0 c.in_ok-so_far.ensures.count)
+pub returns-in-Err-clause-count : goal.returns-in-Err-clause-count
+returns-in-Err-clause-count g c = rw c.load_failed.ensures.same (load_counts _ _ c.in-Err.fault c.in_ok-so_far.ensures.count)
+
+pub returns-in-Err-clause-cause : goal.returns-in-Err-clause-cause
+returns-in-Err-clause-cause g c = caused g.L.LoadListener.fails (g.S.Source.left c.args.reader.now) c.load_failed.result c.load_failed.ensures.cause

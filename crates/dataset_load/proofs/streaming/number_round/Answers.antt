@@ -3,7 +3,7 @@ use Rattle.nquads_core.specs.Transfer.{CountsRead}
 use Rattle.piece_cuts.specs.declared.blocks.BlockState.TheVariants.{Reading}
 use Rattle.dataset_load.specs.Ahead.{IsNextRound}
 use Rattle.dataset_load.specs.Rounds.{HasRead}
-use Rattle.dataset_load.proofs.StreamingSteps.{TakesPart, bad_done, both_ok, part_done, round_done, taken_ok}
+use Rattle.dataset_load.proofs.StreamingSteps.{TakesPart, bad_done, both_ok, part_done, round_done, spent_next, taken_ok}
 use Rattle.dataset_load.proofs.streaming.number_round.Given.{Over}
 use Rattle.dataset_load.proofs.streaming.number_round.Goals as goal
 
@@ -49,3 +49,7 @@ returns-clause-bad_round g c =
     bad_done _ _ c.args.blocks.now.kept c.end_round.new.blocks.kept c.args.so_far.now c.args.round c.add_blocks-added.result.1 (ended g c) (filled g c) (taken g c)
     c.end_round.new.blocks c.add_blocks-added.result.0 c.end_round.result c.end_round.new.rounds.bad c.requires.countable c.requires.few (reading g c)
     (rw c.as_slice.ensures.value at c.add_blocks-added.ensures.bad_line) c.end_round.ensures.bad_line c.end_round.ensures.bad_round
+
+pub returns-clause-spent : goal.returns-clause-spent
+returns-clause-spent g c =
+    spent_next _ _ c.args.blocks.now.kept c.end_round.new.blocks.kept c.args.round c.add_blocks-added.result.1 c.end_round.result (ended g c) (filled g c) c.end_round.ensures.next

@@ -1,43 +1,19 @@
 use Rattle.std.proofs.Common.{ap}
 use Rattle.piece_cuts.specs.Blocks.{BlocksView}
-use Rattle.std.proofs.lemmas.Result.{err_from_is_err_and}
 use Rattle.nquads_core.proofs.TransferSteps.{Stays-stays, Stays-start, in-part-none}
 use Rattle.dataset_load.proofs.StreamingSteps.{up_to_start}
+use Rattle.dataset_load.proofs.LimitSteps.{limit_caused}
 use Rattle.dataset_load.proofs.RestSteps.{part_of_line, some_and}
 use Rattle.dataset_load.proofs.streaming.read_reader.Goals as goal
 
 pub number_rounds-requires-clause-start : goal.number_rounds-requires-clause-start
-number_rounds-requires-clause-start g c = λ _ _. up_to_start (g.S.Source.left c.args.reader.now) _ _ (ap (λ (b : BlocksView). b.kept) c.in_ok-blocks.ensures.fresh) c.in_ok-so_far.ensures.none
+number_rounds-requires-clause-start g c = λ _ _. up_to_start (g.S.Source.left c.args.reader.now) _ _ (ap (λ (b : BlocksView). b.kept) c.in-Ok.ensures.blocks) c.in-Ok.ensures.none
 
-pub returns-in_err-state-clause-count : goal.returns-in_err-state-clause-count
-returns-in_err-state-clause-count g c =
-    let p = err_from_is_err_and c.from_residual.result c.from_residual.ensures.1 in
-    rw (p.1, p.2) (Stays-start (g.S.Source.failures c.args.reader.now))
+pub returns-in_default-clause-count : goal.returns-in_default-clause-count
+returns-in_default-clause-count g c = Stays-start (g.S.Source.failures c.args.reader.now)
 
-pub returns-in_err-state-clause-taken : goal.returns-in_err-state-clause-taken
-returns-in_err-state-clause-taken g c =
-    let p = err_from_is_err_and c.from_residual.result c.from_residual.ensures.1 in
-    rw p.1 (in-part-none (g.S.Source.left c.args.reader.now))
-
-pub returns-in_err-so_far-clause-count : goal.returns-in_err-so_far-clause-count
-returns-in_err-so_far-clause-count g c =
-    let p = err_from_is_err_and c.from_residual-in_err-so_far.result c.from_residual-in_err-so_far.ensures.1 in
-    rw (p.1, p.2) (Stays-start (g.S.Source.failures c.args.reader.now))
-
-pub returns-in_err-so_far-clause-taken : goal.returns-in_err-so_far-clause-taken
-returns-in_err-so_far-clause-taken g c =
-    let p = err_from_is_err_and c.from_residual-in_err-so_far.result c.from_residual-in_err-so_far.ensures.1 in
-    rw p.1 (in-part-none (g.S.Source.left c.args.reader.now))
-
-pub returns-in_err-blocks-clause-count : goal.returns-in_err-blocks-clause-count
-returns-in_err-blocks-clause-count g c =
-    let p = err_from_is_err_and c.from_residual-in_err-blocks.result c.from_residual-in_err-blocks.ensures.1 in
-    rw (p.1, p.2) (Stays-start (g.S.Source.failures c.args.reader.now))
-
-pub returns-in_err-blocks-clause-taken : goal.returns-in_err-blocks-clause-taken
-returns-in_err-blocks-clause-taken g c =
-    let p = err_from_is_err_and c.from_residual-in_err-blocks.result c.from_residual-in_err-blocks.ensures.1 in
-    rw p.1 (in-part-none (g.S.Source.left c.args.reader.now))
+pub returns-in_default-clause-taken : goal.returns-in_default-clause-taken
+returns-in_default-clause-taken g c = in-part-none (g.S.Source.left c.args.reader.now)
 
 pub list_rest-requires-clause-ready : goal.list_rest-requires-clause-ready
 list_rest-requires-clause-ready g c = rw c.in-Some.is (some_and _ _ c.in-Some.bad c.in-Some.is (rw c.in-Err-BadLine.field-0-is at c.in-Err-BadLine.ensures.bad_round)).0
@@ -57,3 +33,11 @@ returns-in-Err-BadLine-clause-taken g c = c.in-Err-list_rest.ensures.taken (g.S.
 pub returns-in-Ok-list_rest-clause-count : goal.returns-in-Ok-list_rest-clause-count
 returns-in-Ok-list_rest-clause-count g c =
     Stays-stays _ _ _ (rw c.in-Err-BadLine.field-0-is at c.in-Err-BadLine.ensures.count) c.in-Ok-list_rest.ensures.count
+
+pub returns-in-Ok-list_rest-clause-stopped : goal.returns-in-Ok-list_rest-clause-stopped
+returns-in-Ok-list_rest-clause-stopped g c = c.in-Ok-list_rest.ensures.stopped (g.S.Source.left c.args.reader.now) c.in-Err-BadLine.line (rw c.in-Some.is (some_and _ _ c.in-Some.bad c.in-Some.is (rw c.in-Err-BadLine.field-0-is at c.in-Err-BadLine.ensures.bad_round)).1)
+
+pub returns-in-Err-BadLine-clause-cause : goal.returns-in-Err-BadLine-clause-cause
+returns-in-Err-BadLine-clause-cause g c =
+    rw c.from.ensures (limit_caused g.L.LoadListener.fails (g.S.Source.left c.args.reader.now) c.in-Err-list_rest.fault
+    (λ is. c.in-Err-list_rest.ensures.limit is (g.S.Source.left c.args.reader.now) c.in-Err-BadLine.line (rw c.in-Some.is (some_and _ _ c.in-Some.bad c.in-Some.is (rw c.in-Err-BadLine.field-0-is at c.in-Err-BadLine.ensures.bad_round)).1)))

@@ -1,4 +1,4 @@
-//! The notes after a run without a failure.
+//! The notes on the query of a run without a failure.
 
 use crate::account::Account;
 use query_notes::notes_on;
@@ -7,7 +7,7 @@ use std::alloc::Global;
 
 /// Returns the notes after a run without a failure, each on its own line. Returns None if the command has no
 /// query, or if an allocation fails.
-pub fn warnings(alloc: Global, account: &Account<'_>) -> Option<String> {
+pub(crate) fn notes_after(alloc: Global, account: &Account<'_>) -> Option<String> {
     let command = account.command(alloc)?;
     match &command {
         Command::Select { query, .. } => {
