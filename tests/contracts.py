@@ -8,6 +8,8 @@ import re
 PAGE, OUT = "docs/CONTRACTS.md", "out/CONTRACTS.md"
 HEAD, LONG_HEAD = "| promise | call | clauses |", "| promise | call | clauses | definitions | tests | mutants |"
 CALL = re.compile(r"`(\w+)::([\w:]+)`")
+# The beginning of a link to another page.
+PAGE_LINK = re.compile(r"\]\((?=[A-Z]|definitions)")
 # How many tests and mutants a row names; it counts the others.
 MOST = 2
 
@@ -35,7 +37,7 @@ def rewritten(page, lookup):
     for number, line in enumerate(page.split("\n"), 1):
         inside = line == HEAD or inside and line.startswith("|")
         if not inside or line == HEAD or line.startswith("|---"):
-            lines.append(LONG_HEAD if line == HEAD else line + "---|" * 3 if inside else re.sub(r"\]\((?=[A-Z]|definitions)", "](../docs/", line))
+            lines.append(LONG_HEAD if line == HEAD else line + "---|" * 3 if inside else PAGE_LINK.sub("](../docs/", line))
             continue
         promise, calls, clauses = cells_of(line)[:3]
         found = [(f"{crate}::{path}", lookup(crate, path)) for crate, path in CALL.findall(calls)]
@@ -51,6 +53,6 @@ def rewritten(page, lookup):
         definitions = unique(it for _, call in found for clause in named for it in call[0].get(clause, []))
         tests = unique(it for _, call in found for it in call[1])
         mutants = unique(it for _, call in found for it in call[2])
-        cells = [promise, calls, clauses, ", ".join(definitions) or "none", listed(tests) or "none", listed(mutants) or "none"]
+        cells = [PAGE_LINK.sub("](../docs/", promise), calls, clauses, ", ".join(definitions) or "none", listed(tests) or "none", listed(mutants) or "none"]
         lines.append("| " + " | ".join(cells) + " |")
     return "\n".join(lines), faults

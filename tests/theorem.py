@@ -180,7 +180,7 @@ def faults(hand_written):
 
     `hand_written` is the page without its generated parts.
     """
-    tables = re.sub(r"^\| name \|.*?(?=^[^|]|\Z)", "", hand_written, flags=re.S | re.M)  # (the table of names explains no line)
+    tables = re.sub(r"^\| crate \|.*?(?=^[^|]|\Z)", "", hand_written, flags=re.S | re.M)  # (the table of names explains no line)
     rows, lines = [it for cell, _ in ROW.findall(tables) for it in re.findall(r"`([^`]+)`", cell)], explained_lines()
     begun = {row: [it for it in lines if it.startswith(row)] for row in rows}
     found = [f"{PAGE}: no row explains the line `{it}`" for it in lines if not any(it in begun[row] for row in rows)]

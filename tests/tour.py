@@ -7,7 +7,7 @@
 PROGRAM is the program (crates/spq/out/spq where none is given). The commands are those of the blocks that begin with
 ```console in the pages, which are all files *.md: a line `$ COMMAND`, which lines `> REST` continue, and below it what it
 prints at a terminal, on standard output and on standard error. The commands of a page run in one shell, in a folder with the
-files of docs/tour and with the program on the PATH as `spq`. They need jq, gzip, xz, zstd, GNU parallel and serdi.
+files of docs/tour and with the program on the PATH as `spq`. They need jq, gzip, GNU parallel and serdi.
 `--write` puts what was printed into the pages.
 
 A block to paste begins with ```sh, and a block ```text right after it has what it prints. It runs in a shell of its own, in a

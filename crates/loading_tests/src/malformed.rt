@@ -6,7 +6,7 @@ use crate::readers::noted;
 use dataset_load::{LoadListener, LoadNotes, NoListener, count_reader, list_blocks, read_blocks};
 use malformed_lines::{MalformedLine, MalformedLines};
 use nquads_core::{Device, Source};
-use piece_pool::OpenGate;
+use piece_pool::{OpenGate, PoolFault};
 use std::alloc::{AllocError, Global};
 use std::process::Abort;
 use std::random::RandomSource;
@@ -130,6 +130,8 @@ impl LoadListener for Heard {
         let number = line.number.min(u64::MAX as u128);
         self.numbers.fetch_add(number as u64, Ordering::SeqCst);
     }
+
+    fn failed(&self, _cause: PoolFault) {}
 }
 
 /// Counts a reader, and prints the list of its malformed lines, or nothing if there is none.

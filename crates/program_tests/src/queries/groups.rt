@@ -112,6 +112,16 @@ spq: query, line 4, column 1: expected a term (an IRI, a prefixed name, a variab
 }
 ^
 
+SELECT * { ?s ?p ?o‹0A›# more‹0A›
+spq: query, line 1, column 20: expected '{', '}', '.', ';', ',' or a pattern (such as OPTIONAL or FILTER), found the end of the query
+SELECT * { ?s ?p ?o
+                   ^
+
+SELECT *‹0D›‹0A›‹0D›{ ?s ?p # more‹0D›"x
+spq: query, line 4, column 1: the string that begins here is not closed
+"x
+^
+
 SELECT * # all‹0D›‹0A›{ ?s }
 spq: query, line 2, column 6: expected a verb (an IRI, a prefixed name, a variable or 'a'), found '}'
 { ?s }
