@@ -15,7 +15,7 @@ MOST_TESTS = 6
 # The public calls and types, by the crate that offers them and by topic.
 SECTIONS = [
     ("rdf_core", "Terms, quads and their N-Quads form", ["equality_is_identity", "order_is_by_parts", "Term::copy", "Quad::of", "Quad::copy", "write_term"], ["Term", "Text", "Quad"]),
-    ("nquads_core", "Reading N-Quads", ["read_line", "read_piece", "split_piece", "read_term"], ["Piece", "RawStatement", "LineFault", "PieceFault"]),
+    ("nquads_core", "Reading N-Quads", ["read_line", "read_piece", "read_term"], ["Piece", "RawStatement", "LineFault", "PieceFault"]),
     ("nquads_core", "Readers and writers", ["Source::read", "Sink::write"], ["Source", "Sink", "Device", "DeviceFailed"]),
     ("piece_board", "The claim board of the workers",
      ["Board::open", "Board::seats", "Board::draw", "Board::report", "Board::least", "Pass::skip", "Pass::last", "Pass::seen", "Pass::is_finished", "Board::close"],

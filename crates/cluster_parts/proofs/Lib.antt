@@ -1,6 +1,7 @@
 pub mod Each
 pub mod SetCounts
 pub mod DocumentLaws
+pub mod NumberingSteps
 pub mod AddUpLaws
 pub mod PartSteps
 pub mod QuadLaws

@@ -9,7 +9,8 @@ ghost use Rattle.nquads_core.specs.declared.fault.PieceFault.TheVariants.{BadLin
 ghost use Rattle.cluster_parts.specs.Output.{AreRepeated, IsCountOf};
 ghost use Rattle.cluster_parts.specs.Repeated.{has, single};
 
-use dict_core::{LocalPiece, number_lines};
+use crate::numbering::number_lines;
+use dict_core::LocalPiece;
 use indexmap::IndexSet;
 use nquads_core::PieceFault;
 use quad_index::{count_quads, index_counts_the_quads};

@@ -13,8 +13,9 @@ ghost use Rattle.cluster_parts.specs.Output.{keyed_parts};
 
 use crate::hashing::hashes_of;
 use crate::keyed::{push_keyed_parts, unkeyed_part};
+use crate::numbering::number_lines;
 use crate::sealing::{push_sealed, push_sealed_number};
-use dict_core::{LocalPiece, NumQuad, number_lines};
+use dict_core::{LocalPiece, NumQuad};
 use nquads_core::PieceFault;
 use std::alloc::{AllocError, Global};
 use std::hash::RandomState;

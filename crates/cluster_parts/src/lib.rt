@@ -21,6 +21,7 @@ mod key_splits;
 mod keyed;
 pub mod laws;
 mod new_terms;
+mod numbering;
 mod quad_hashes;
 mod sealing;
 mod splitting;

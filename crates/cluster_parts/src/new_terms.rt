@@ -12,9 +12,10 @@ ghost use Rattle.cluster_parts.specs.Terms.{HaveObjects};
 ghost use Rattle.cluster_parts.specs.Output.{AreFirst};
 
 use crate::graph_names::add_name;
+use crate::numbering::number_lines;
 use crate::sealing::{SealFault, first_sealed, push_sealed};
 use crate::term_parts::terms_from;
-use dict_core::{Dict, LocalPiece, NumQuad, number_lines};
+use dict_core::{Dict, LocalPiece, NumQuad};
 use nquads_core::PieceFault;
 use std::alloc::{AllocError, Global};
 use std::hash::RandomState;

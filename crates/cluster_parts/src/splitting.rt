@@ -13,9 +13,10 @@ ghost use Rattle.cluster_parts.specs.Output.{check_parts, counting_part};
 
 use crate::graph_names::names_of;
 use crate::hashing::hashes_of;
+use crate::numbering::number_lines;
 use crate::quad_hashes::quad_hashes_of;
 use crate::sealing::{push_number, push_sealed, push_sealed_number};
-use dict_core::{Dict, LocalPiece, number_lines};
+use dict_core::{Dict, LocalPiece};
 use nquads_core::PieceFault;
 use rdf_core::{Term, write_term};
 use std::alloc::{AllocError, Global};

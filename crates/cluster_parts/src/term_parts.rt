@@ -10,9 +10,10 @@ ghost use Rattle.cluster_parts.specs.Parts.{term_document, texts_below};
 ghost use Rattle.cluster_parts.specs.Output.{terms_part, terms_parts};
 
 use crate::hashing::hashes_of;
+use crate::numbering::number_lines;
 use crate::sealing::{push_sealed, push_sealed_number};
 use crate::splitting::{push_statement, terms_part};
-use dict_core::{Dict, LocalPiece, number_lines};
+use dict_core::{Dict, LocalPiece};
 use nquads_core::PieceFault;
 use std::alloc::{AllocError, Global};
 use std::hash::RandomState;

@@ -6,7 +6,7 @@ use Rattle.std.specs.List.{AllPairs, list_any, position_or_len}
 use Rattle.indexmap.specs.IndexSet.{insert_key}
 use Rattle.rdf_core.specs.declared.term.Term.{Term}
 use Rattle.rdf_core.proofs.TermLaws.{term_eq}
-use Rattle.dict_core.specs.declared.hashing.HashState.{HashState}
+use Rattle.keyed_hash.specs.declared.HashState.{HashState}
 use Rattle.dict_core.specs.declared.hashed_term.HashedTerm.{HashedTerm}
 use Rattle.dict_core.specs.contracts.hashed_term.HashedTermPartialEq.TheImpl as equalities
 use Rattle.dict_core.specs.Dict.{AreDistinct}

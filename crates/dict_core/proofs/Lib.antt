@@ -6,4 +6,3 @@ pub mod HashedLaws
 pub mod PlaceLaws
 pub mod NumberingLaws
 pub mod MergingSteps
-pub mod NamingSteps

@@ -8,19 +8,16 @@ use Rattle.rdf_core.specs.declared.term.Term.{Term}
 use Rattle.rdf_core.specs.QuadParts.{QuadParts}
 use Rattle.rdf_core.proofs.TermLaws.{term_eq, term_decides, term_eq_laws}
 use Rattle.dict_core.specs.declared.num_quad.NumQuad.{NumQuad}
-use Rattle.dict_core.specs.declared.seen.Seen.{Seen}
-use Rattle.dict_core.specs.declared.seen.Seen.TheVariants.{Known, New}
-use Rattle.dict_core.specs.Dict.{AreDistinct, AreNumbersOf, IsGrown}
-use Rattle.dict_core.specs.NumQuad.{quad_at, quads_at, IsBelow, AreBelow}
-use Rattle.dict_core.specs.Appearances.{terms_of, first_appearances}
+use Rattle.dict_core.specs.Dict.{AreDistinct, AreNumbersOf}
+use Rattle.dict_core.specs.NumQuad.{quad_at, IsBelow}
+use Rattle.dict_core.specs.Appearances.{first_appearances}
 use Rattle.dict_core.specs.Numbered.{IsNumbered, joined, renamed}
-use Rattle.dict_core.specs.Seen.{hashed_of, new_of, IsSeen, IsNumberFor}
 use Rattle.std.specs.declared.alloc.AllocError.{AllocError}
 use Rattle.std.specs.Result.{OnOk, IfOk}
-use Rattle.dict_core.specs.Inserting.{places_in, places_of}
+use Rattle.dict_core.specs.Inserting.{places_in}
 use Rattle.dict_core.proofs.InsertLaws.{Keeps, insert_key-present, insert_key-absent, get-insert_key}
 use Rattle.dict_core.proofs.AppearanceLaws.{absorbed_terms}
-use Rattle.dict_core.proofs.PlaceLaws.{places_serve, places_are, places_are_for}
+use Rattle.dict_core.proofs.PlaceLaws.{places_are}
 use Rattle.dict_core.proofs.NumberingLaws.{number_reads, absorbed}
 
 -- what `intern` says is one insertion
@@ -112,23 +109,6 @@ merged_piece done back piece dict own grown all new mine numbers slice b back_is
     (subst (λ l. IsNumbered (done ++ piece) merged l) listed
     (subst (λ q. IsNumbered (done ++ q) merged (all ++ map (renamed numbers) mine)) back_is base))
 
--- a piece that was looked up and is added
-pub taken_in : (earlier dict grown : List Term) (done quads : List QuadParts) (all new mine : List NumQuad) (seen : List Seen) (numbers slice : List ℕ)
-    → AreDistinct dict → IsGrown earlier dict → AllZip (IsSeen earlier) (first_appearances (terms_of quads)) seen
-    → quads_at (first_appearances (terms_of quads)) mine ≡ quads → AreBelow (length seen) mine → IsNumbered done dict all
-    → grown ≡ insert_all term_eq dict (new_of seen) → numbers ≡ places_of dict seen → slice ≡ numbers
-    → new ≡ all ++ map (renamed slice) mine → IsNumbered (done ++ quads) grown new
-taken_in earlier dict grown done quads all new mine seen numbers slice apart since looked reads below h grown_is numbers_are slice_is new_is =
-    let own = first_appearances (terms_of quads) in
-    let merged : grown ≡ first_appearances (dict ++ new_of seen) = grown_is ∙ absorbed_terms dict (new_of seen) apart in
-    let serve = places_serve earlier dict own seen (places_of dict seen) apart since looked
-    (subst (λ d. AllZip (IsNumberFor d) seen (places_of dict seen)) (absorbed_terms dict (new_of seen) apart) (places_are_for dict seen)) in
-    merged_piece done quads quads dict own grown all new mine numbers slice
-    (refl, subst (λ n. AreBelow n mine) (sym (length_zipped (IsSeen earlier) own seen looked)) below, reads)
-    refl (merged ∙ serve.0)
-    (subst (λ d. AreNumbersOf d own numbers) (sym merged) (subst (λ l. AreNumbersOf (first_appearances (dict ++ new_of seen)) own l) (sym numbers_are) serve.1))
-    slice_is new_is h
-
 -- what `absorb` says, from what the insertions say of the fields
 pub absorbed_keys : (inside old more other new : List Term) (r : Result (Vec ℕ Global) AllocError)
     → inside ≡ old → more ≡ other → AreDistinct inside → OnOk r (new ≡ insert_all term_eq inside more) → OnOk r (new ≡ first_appearances (old ++ other))
@@ -141,19 +121,11 @@ absorbed_numbers inside old more other new (Ok v) old_is other_is keys places =
     subst (λ l. AreNumbersOf new l v.items) other_is (subst (λ d. AreNumbersOf d more v.items) (sym keys) (subst (λ l. AreNumbersOf (insert_all term_eq inside more) more l) (sym places) (places_are inside more)))
 absorbed_numbers inside old more other new (Err e) old_is other_is keys places = tt
 
-pub hashed_of-append : (xs ys : List Seen) → hashed_of (xs ++ ys) ≡ hashed_of xs ++ hashed_of ys
-hashed_of-append [] ys = refl
-hashed_of-append (Known n ∷ xs) ys = hashed_of-append xs ys
-hashed_of-append (New t ∷ xs) ys = ap (λ l. t ∷ l) (hashed_of-append xs ys)
-
 pub zipped-push : {A B : Type 0} (R : A → B → Type 0) (xs : List A) (ys : List B) (x : A) (y : B) → AllZip R xs ys → R x y → AllZip R (xs ++ x ∷ []) (ys ++ y ∷ [])
 zipped-push R [] [] x y h one = (one, tt)
 zipped-push R [] (b ∷ ys) x y h one = absurd h
 zipped-push R (a ∷ xs) [] x y h one = absurd h
 zipped-push R (a ∷ xs) (b ∷ ys) x y h one = (h.0, zipped-push R xs ys x y h.1 one)
-
-pub taken_one : {A : Type 0} (done left rest : List A) (x : A) (whole : List A) → left ≡ x ∷ rest → done ++ left ≡ whole → (done ++ x ∷ []) ++ rest ≡ whole
-taken_one done left rest x whole left_is was = append_assoc done (x ∷ []) rest ∙ ap (λ l. done ++ l) (sym left_is) ∙ was
 
 pub appended : {A : Type 0} (new reserved all more : List A) → new ≡ reserved ++ more → reserved ≡ all → new ≡ all ++ more
 appended new reserved all more new_is reserved_is = new_is ∙ ap (λ l. l ++ more) reserved_is

@@ -3,9 +3,9 @@ use Rattle.std.specs.Prelude.{◌≡◌, ℕ, List, fold, map}
 use Rattle.std.specs.List.{All}
 use Rattle.rdf_core.specs.declared.term.Term.{Term}
 use Rattle.rdf_core.specs.contracts.term.TermHash.TheImpl as hashes
-use Rattle.dict_core.specs.declared.hashing.HashState.{HashState}
+use Rattle.keyed_hash.specs.declared.HashState.{HashState}
+use Rattle.keyed_hash.specs.Hashing.{write, finish}
 use Rattle.dict_core.specs.declared.hashed_term.HashedTerm.{HashedTerm}
-use Rattle.dict_core.specs.Hashing.{write, finish}
 
 -- the hash of a term under a state
 abbrev pub hash_of : HashState → Term → ℕ

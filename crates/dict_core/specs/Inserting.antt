@@ -4,17 +4,8 @@ use Rattle.std.specs.List.{position_or_len}
 use Rattle.indexmap.specs.IndexSet.{insert_key}
 use Rattle.rdf_core.specs.declared.term.Term.{Term}
 use Rattle.rdf_core.specs.Equality.{term_eq}
-use Rattle.dict_core.specs.declared.seen.Seen.{Seen}
-use Rattle.dict_core.specs.declared.seen.Seen.TheVariants.{Known, New}
 
 -- the place of each term, as they are inserted in turn
 abbrev pub places_in : List Term → List Term → List ℕ
 places_in dict [] = []
 places_in dict (t ∷ ts) = position_or_len (term_eq t) dict ∷ places_in (insert_key term_eq dict t) ts
-
--- the same where only the new ones are inserted
-abbrev pub places_of : List Term → List Seen → List ℕ
-places_of dict [] = []
-places_of dict (Known n ∷ seen) = n ∷ places_of dict seen
-places_of dict (New t ∷ seen) =
-    position_or_len (term_eq t.term) dict ∷ places_of (insert_key term_eq dict t.term) seen

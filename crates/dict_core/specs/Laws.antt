@@ -1,15 +1,12 @@
 -- What the laws of this crate say.
 use Rattle.std.specs.Prelude.{◌≡◌, ◌↔◌, true, ℕ, List, ◌++◌, map}
-use Rattle.std.specs.List.{AllZip}
 use Rattle.rdf_core.specs.declared.term.Term.{Term}
 use Rattle.rdf_core.specs.QuadParts.{QuadParts}
 use Rattle.dict_core.specs.declared.num_quad.NumQuad.{NumQuad}
-use Rattle.dict_core.specs.declared.seen.Seen.{Seen}
-use Rattle.dict_core.specs.Dict.{AreDistinct, AreNumbersOf, IsGrown}
+use Rattle.dict_core.specs.Dict.{AreNumbersOf}
 use Rattle.dict_core.specs.Appearances.{first_appearances}
 use Rattle.dict_core.specs.Equality.{quad_eq}
 use Rattle.dict_core.specs.Numbered.{IsNumbered, renamed}
-use Rattle.dict_core.specs.Seen.{IsSeen, IsNumberFor, new_of}
 
 -- two quads of numbers are equal by `==` exactly if they are the same
 abbrev pub QuadEqualityIsIdentity : Type 0
@@ -24,13 +21,3 @@ AbsorbingKeepsTheNumbering =
     (numbers : List ℕ) → IsNumbered front dict numbered → IsNumbered back own mine
     → let merged = first_appearances (dict ++ own) in AreNumbersOf merged own numbers
     → IsNumbered (front ++ back) merged (numbered ++ map (renamed numbers) mine)
-
--- terms that were looked up in an earlier dictionary are taken into a later one as if they had
--- been looked up there: the new dictionary is the same, and so is each number
-abbrev pub EarlierPlacesServe : Type 0
-EarlierPlacesServe =
-    (earlier later terms : List Term) (seen : List Seen) (numbers : List ℕ)
-    → AreDistinct later → IsGrown earlier later → AllZip (IsSeen earlier) terms seen
-    → let merged = first_appearances (later ++ new_of seen) in
-    AllZip (IsNumberFor merged) seen numbers
-    → (merged ≡ first_appearances (later ++ terms)) × AreNumbersOf merged terms numbers

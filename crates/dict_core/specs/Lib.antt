@@ -3,11 +3,7 @@ pub mod NumQuad
 pub mod Equality
 pub mod Appearances
 pub mod Numbered
-pub mod Seen
-pub mod SeenPiece
 pub mod Laws
 pub mod Inserting
-pub mod SliceNumbers
-pub mod Hashing
 pub mod HashedTerms
 pub mod TermSet

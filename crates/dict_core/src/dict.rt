@@ -3,10 +3,10 @@ ghost use Rattle.std.specs.Prelude.{◌≡◌, ◌<◌, ◌^◌, [], ◌∷◌, 
 ghost use Rattle.dict_core.specs.Dict.{AreDistinct, AreNumbersOf};
 ghost use Rattle.dict_core.specs.Appearances.{first_appearances};
 
-use crate::hashed_term::HashedTerm;
-use crate::hashing::HashState;
+use crate::hashed_term::{HashedTerm, hash_of};
 use crate::inserting::insert_terms;
 use crate::term_set::TermSet;
+use keyed_hash::HashState;
 use rdf_core::Term;
 use std::alloc::{AllocError, Global};
 use std::hash::RandomState;
@@ -49,22 +49,6 @@ impl Dict {
         })
     }
 
-    /// Creates an empty dictionary with room for `n` terms.
-    ///
-    /// # Errors
-    /// `AllocError` if an allocation fails.
-    pub(crate) fn with_capacity(
-        alloc: Global,
-        state: HashState,
-        n: usize,
-    ) -> Result<Dict, AllocError>
-        ensures empty { IfOk result (λ dict. dict ≡ []) }
-    {
-        Ok(Dict {
-            terms: TermSet::with_capacity(alloc, n, state)?,
-        })
-    }
-
     /// Returns the number of terms.
     pub fn len(&self) -> usize
         ensures value { result ≡ length self.now }
@@ -86,7 +70,7 @@ impl Dict {
         ensures unchanged { OnErr result (self.new ≡ self.old) }
         ensures not_in_dict { OnErr result (¬ (Contains self.old term)) }
     {
-        let hash = self.terms.state().hash_of(&term);
+        let hash = hash_of(self.terms.state(), &term);
         match self.terms.insert(HashedTerm { hash, term }) {
             Ok(at) => Ok(at as u64),
             Err(term) => Err(term),
@@ -98,7 +82,7 @@ impl Dict {
         ensures value { MatchOption result (¬ (Contains self.now term.now))
             (λ n. slice_get self.now n ≡ Some term.now) }
     {
-        let hash = self.terms.state().hash_of(term);
+        let hash = hash_of(self.terms.state(), term);
         match self.terms.place(hash, term) {
             Some(at) => Some(at as u64),
             None => None,

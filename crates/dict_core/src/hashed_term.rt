@@ -1,5 +1,5 @@
 //! Terms with their hashes. The hash of a term is computed once, where the term gets its first number. A dictionary
-//! that gets the term later takes the hash over.
+//! that absorbs the term takes the hash over.
 ghost use Rattle.std.specs.Prelude.{◌≡◌, ◌==◌, ◌&&◌};
 ghost use Rattle.std.specs.Hash as fed;
 ghost use Rattle.std.specs.Cmp.Rules.{comparing, hashing};
@@ -7,12 +7,12 @@ ghost use borrow.Author.Rules.{rules};
 ghost use Rattle.rdf_core.specs.Equality.{term_eq};
 ghost use Rattle.dict_core.specs.HashedTerms.{hash_of, IsHashed};
 
-use crate::hashing::HashState;
 use indexmap::Equivalent;
+use keyed_hash::HashState;
 use rdf_core::Term;
 use std::hash::{BuildHasher, Hash, Hasher};
 
-/// A term with a hash. This crate makes it, and knows under which state of the hash function it has its hash.
+/// A term with a hash.
 #[derive(PartialEq, Eq)]
 pub struct HashedTerm {
     pub(crate) hash: u64,
@@ -28,13 +28,6 @@ impl Drop for HashedTerm {
 }
 
 impl HashedTerm {
-    /// Returns the term.
-    pub fn term(&self) -> &Term
-        ensures value { result.now ≡ self.now.term }
-    {
-        &self.term
-    }
-
     /// Returns the term without its hash.
     pub(crate) fn into_term(self) -> Term
         ensures value { result ≡ self.term }
@@ -86,28 +79,26 @@ impl<'a> Equivalent<HashedTerm> for HashedRef<'a> {
     }
 }
 
-impl HashState {
-    /// Returns the hash of a term.
-    pub(crate) fn hash_of(&self, term: &Term) -> u64
-        ensures { result ≡ hash_of self.now term.now }
-    {
-        self.hash_one(term)
-    }
+/// Returns the hash of a term under a state of the hash function.
+pub(crate) fn hash_of(state: HashState, term: &Term) -> u64
+    ensures { result ≡ hash_of state term.now }
+{
+    state.hash_one(term)
+}
 
-    /// Returns the term with its hash under this state. The hash is computed only if it was computed under
-    /// another state.
-    pub(crate) fn rehashed(&self, from: HashState, hashed: HashedTerm) -> HashedTerm
-        requires hashed { IsHashed from hashed }
-        ensures hashed { IsHashed self.now result }
-        ensures term { result.term ≡ hashed.term }
-    {
-        if *self == from {
-            return hashed;
-        }
-        let term = hashed.into_term();
-        HashedTerm {
-            hash: self.hash_of(&term),
-            term,
-        }
+/// Returns the term with its hash under the state `to`. The hash is computed only if that is another state than the one
+/// under which it was computed.
+pub(crate) fn rehashed(from: HashState, to: HashState, hashed: HashedTerm) -> HashedTerm
+    requires hashed { IsHashed from hashed }
+    ensures hashed { IsHashed to result }
+    ensures term { result.term ≡ hashed.term }
+{
+    if to == from {
+        return hashed;
+    }
+    let term = hashed.into_term();
+    HashedTerm {
+        hash: hash_of(to, &term),
+        term,
     }
 }

@@ -4,14 +4,12 @@ ghost use Rattle.std.specs.List.{position_or_len};
 ghost use Rattle.indexmap.specs.IndexSet.{insert_all, insert_key};
 ghost use Rattle.rdf_core.specs.Equality.{term_eq};
 ghost use Rattle.dict_core.specs.Dict.{AreDistinct};
-ghost use Rattle.dict_core.specs.HashedTerms.{AreHashed, IsHashed};
-ghost use Rattle.dict_core.specs.Inserting.{places_in, places_of};
-ghost use Rattle.dict_core.specs.Seen.{hashed_of, new_of};
+ghost use Rattle.dict_core.specs.HashedTerms.{IsHashed};
+ghost use Rattle.dict_core.specs.Inserting.{places_in};
 
-use crate::hashed_term::HashedTerm;
-use crate::hashing::HashState;
-use crate::seen::Seen;
+use crate::hashed_term::{HashedTerm, rehashed};
 use crate::term_set::TermSet;
+use keyed_hash::HashState;
 use std::alloc::{AllocError, Global};
 
 /// Inserts the terms in turn, and returns the place of each. On error the set is unchanged, because room for
@@ -36,32 +34,6 @@ pub(crate) fn insert_terms(
     Ok(places)
 }
 
-/// Inserts the new terms in turn, and returns the place of each term. The terms have their hashes under the state
-/// `from`. On error the set is unchanged, because room for all terms is allocated first.
-pub(crate) fn insert_new(
-    alloc: Global,
-    set: &mut TermSet,
-    from: HashState,
-    seen: Vec<Seen>,
-) -> Result<Vec<u64>, AllocError>
-    requires hashed { AreHashed from (hashed_of seen.items) }
-    ensures keys { OnOk result (set.new.keys ≡ insert_all term_eq set.old.keys (new_of seen.items)) }
-    ensures places { IfOk result (λ v. v.items ≡ places_of set.old.keys seen.items) }
-    ensures unchanged { OnErr result (set.new.keys ≡ set.old.keys) }
-    ensures distinct { AreDistinct set.new.keys }
-{
-    set.reserve(seen.len())?;
-    let mut places = Vec::with_capacity(alloc, seen.len())?;
-    for one in seen {
-        let place = match one {
-            Seen::Known(place) => place,
-            Seen::New(hashed) => insert_reserved(set, from, hashed) as u64,
-        };
-        places.push_reserved(place);
-    }
-    Ok(places)
-}
-
 /// Inserts a term into a set that has room for it, and returns its place. The term has its hash under the state
 /// `from`.
 fn insert_reserved(set: &mut TermSet, from: HashState, hashed: HashedTerm) -> usize
@@ -73,7 +45,7 @@ fn insert_reserved(set: &mut TermSet, from: HashState, hashed: HashedTerm) -> us
     ensures distinct { AreDistinct set.new.keys }
 {
     let state = set.state();
-    let Ok(place) = set.insert(state.rehashed(from, hashed)) else {
+    let Ok(place) = set.insert(rehashed(from, state, hashed)) else {
         unreachable!();
     };
     place

@@ -40,6 +40,17 @@ impl Model for LocalPiece {
 }
 
 impl LocalPiece {
+    /// Creates a piece of quads that are numbered by this dictionary.
+    ///
+    /// # Requires
+    /// The dictionary has the terms of the quads by first appearance, and no other (`IsNumbered`).
+    pub fn new(dict: Dict, quads: Vec<NumQuad>) -> LocalPiece
+        requires numbered { IsNumbered (quads_at dict quads.items) dict quads.items }
+        ensures quads { result ≡ quads_at dict quads.items }
+    {
+        LocalPiece { dict, quads }
+    }
+
     /// Returns the dictionary of the piece.
     pub fn dict(&self) -> &Dict
         ensures terms { result.now ≡ first_appearances (terms_of self.now) }
@@ -127,7 +138,8 @@ fn number_name(dict: &mut Dict, name: Option<Term>) -> Result<Option<u64>, Alloc
     }
 }
 
-pub(crate) fn number_term(dict: &mut Dict, term: Term) -> Result<u64, AllocError>
+/// Returns the number of a term. A new term is appended.
+fn number_term(dict: &mut Dict, term: Term) -> Result<u64, AllocError>
     ensures terms { OnOk result (dict.new ≡ insert_key term_eq dict.old term) }
     ensures number { IfOk result (λ n. slice_get dict.new n ≡ Some term) }
 {

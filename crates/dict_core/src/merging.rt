@@ -54,7 +54,7 @@ fn count_quads(pieces: &[LocalPiece]) -> usize {
 }
 
 /// Appends the quads, with each number `n` in them replaced by `numbers[n]`.
-pub(crate) fn append_renamed(all: &mut Vec<NumQuad>, numbers: &[u64], quads: Vec<NumQuad>)
+fn append_renamed(all: &mut Vec<NumQuad>, numbers: &[u64], quads: Vec<NumQuad>)
     requires below { AreBelow (length numbers.now) quads.items }
     requires room { vec_len all.old + vec_len quads ≤ vec_capacity all.old }
     ensures quads { all.new.items ≡ all.old.items ++ map (renamed numbers.now) quads.items }

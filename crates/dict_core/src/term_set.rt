@@ -9,8 +9,8 @@ ghost use Rattle.dict_core.specs.Dict.{AreDistinct};
 ghost use Rattle.dict_core.specs.HashedTerms.{hash_of, terms_in, AreHashed, IsHashed};
 
 use crate::hashed_term::{HashedRef, HashedTerm};
-use crate::hashing::HashState;
 use indexmap::IndexSet;
+use keyed_hash::HashState;
 use rdf_core::Term;
 use std::alloc::{AllocError, Global};
 use std::marker::Model;
@@ -49,22 +49,6 @@ impl TermSet {
         TermSet {
             hashed: IndexSet::with_hasher(alloc, state),
         }
-    }
-
-    /// Creates an empty set with room for `n` terms.
-    ///
-    /// # Errors
-    /// `AllocError` if an allocation fails.
-    pub(crate) fn with_capacity(
-        alloc: Global,
-        n: usize,
-        state: HashState,
-    ) -> Result<TermSet, AllocError>
-        ensures empty { IfOk result (λ set. set.keys ≡ []) }
-    {
-        Ok(TermSet {
-            hashed: IndexSet::with_capacity_and_hasher(alloc, n, state)?,
-        })
     }
 
     /// Returns the number of terms.

@@ -35,7 +35,7 @@ pub(crate) enum Reader {
     Quoted,
     /// Whether the text begins with a scheme.
     Scheme,
-    /// The slices of the statements of a piece.
+    /// The slices of the statements of a piece, and the number of its lines.
     Slices,
     /// The slices of the statements of a piece that is not UTF-8, in place of the text.
     SlicesNotUtf8,

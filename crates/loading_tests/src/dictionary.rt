@@ -3,11 +3,8 @@
 
 use crate::cases::{equal, gives, same_numbers};
 use crate::terms::text;
-use dict_core::{
-    Dict, LocalPiece, NumQuad, Seen, SeenPiece, absorbing_keeps_the_numbering, add_piece,
-    earlier_places_serve, look_up, merge, number_lines, number_piece,
-};
-use nquads_core::{PieceFault, read_piece};
+use dict_core::{Dict, LocalPiece, NumQuad, absorbing_keeps_the_numbering, merge, number_piece};
+use nquads_core::read_piece;
 use rdf_core::{Term, Text};
 use std::alloc::{AllocError, AllocGlobal, Global};
 use std::hash::RandomState;
@@ -124,52 +121,6 @@ fn check<R: Abort>(
     gives(rt, case, expected, printed(alloc, dict, quads));
 }
 
-/// Prints the number of lines of a text, and its dictionary and quads, or the number of the malformed line.
-fn printed_lines(alloc: Global, state: RandomState, text: &str) -> Result<String, AllocError> {
-    match number_lines(alloc, state, text.as_bytes()) {
-        Ok(read) => {
-            let found = printed(alloc, read.piece.dict(), read.piece.quads())?;
-            format!(in alloc; "{} lines: {found}", read.lines)
-        }
-        Err(PieceFault::BadLine(k)) => format!(in alloc; "malformed {k}"),
-        Err(PieceFault::Memory) => Err(AllocError),
-    }
-}
-
-/// Pieces, and what is numbered. Malformed lines are numbered from 0. The first three pieces are split into slices; two
-/// slices of the third one denote the same term. `read_piece` reads the others.
-const NUMBERED: &[(&str, &str)] = &[
-    ("\n# c\n", "2 lines: "),
-    (
-        "_:a <a:p> _:b .\n_:b <a:p> _:a <a:g> .\n",
-        "2 lines: Some(0) Blank(a); Some(1) Iri(a:p); Some(2) Blank(b); Some(3) Iri(a:g); Some(0) Some(1) Some(2) None Some(2) Some(1) Some(0) Some(3) ",
-    ),
-    (
-        "_:a <a:p> <a:b> .\n_:a <a:p> <a:\\u0062> .\n",
-        "2 lines: Some(0) Blank(a); Some(1) Iri(a:p); Some(2) Iri(a:b); Some(0) Some(1) Some(2) None Some(0) Some(1) Some(2) None ",
-    ),
-    (
-        "_:a<a:p>_:b.\r\n\r\n_:a <a:p> _:a .",
-        "3 lines: Some(0) Blank(a); Some(1) Iri(a:p); Some(2) Blank(b); Some(0) Some(1) Some(2) None Some(0) Some(1) Some(0) None ",
-    ),
-    ("_:a <a:p> _:b .\n\"a\" <a:p> _:b .\n", "malformed 1"),
-    ("_:a <a:p> _:b .\n_:a _:p _:b .\nx", "malformed 1"),
-    ("_:a <a:p> <b> .\n", "malformed 0"),
-];
-
-#[test]
-fn the_lines_of_a_piece_are_numbered(rt: HostRuntime) {
-    let state = RandomState::new(&rt).expect(&rt, "a hash state");
-    for (text, expected) in NUMBERED {
-        gives(
-            &rt,
-            *text,
-            *expected,
-            printed_lines(rt.alloc(), state, *text),
-        );
-    }
-}
-
 /// IRIs that are added in turn, and their numbers.
 const ADDED: &[(&str, u64)] = &[(A, 0), (B, 1), (A, 0), (C, 2), (B, 1)];
 
@@ -231,6 +182,7 @@ const EXCHANGED: &str =
 
 #[test]
 fn pieces_merge_in_order(rt: HostRuntime) {
+    absorbing_keeps_the_numbering();
     let state = RandomState::new(&rt).expect(&rt, "a hash state");
     check_merged(&rt, rt.alloc(), state, &[FIRST, SECOND, THIRD], MERGED);
     check_merged(&rt, rt.alloc(), state, &[SECOND, FIRST, THIRD], EXCHANGED);
@@ -276,85 +228,4 @@ fn absorbed_terms_go_last(rt: HostRuntime) {
         check_numbers(&rt, rt.alloc(), absorbed, &mut dict);
         check(&rt, rt.alloc(), "a b, b c", ABC, &dict, &[]);
     }
-}
-
-/// Returns the dictionary and the quads of the first piece.
-pub(crate) fn first_round(alloc: Global, state: RandomState) -> Option<(Dict, Vec<NumQuad>)> {
-    merge(alloc, state, pieces(alloc, state, &[FIRST])?).ok()
-}
-
-/// Looks the piece of a text up in the dictionary.
-pub(crate) fn looked_up(
-    alloc: Global,
-    state: RandomState,
-    dict: &Dict,
-    text: &str,
-) -> Option<SeenPiece> {
-    look_up(alloc, dict, numbered(alloc, state, text)?).ok()
-}
-
-/// Appends the numbers that the look-ups of a piece return, and the new terms.
-fn append_seen(out: &mut String, piece: &SeenPiece) -> Result<(), AllocError> {
-    for seen in &piece.seen {
-        match seen {
-            Seen::Known(number) => write!(out, "Some({number}) ")?,
-            Seen::New(hashed) => write!(out, "{:?} ", hashed.term())?,
-        }
-    }
-    Ok(())
-}
-
-/// Prints what the look-ups of two pieces return.
-fn seen_of(alloc: Global, second: &SeenPiece, third: &SeenPiece) -> Result<String, AllocError> {
-    let mut out = String::new(alloc);
-    append_seen(&mut out, second)?;
-    append_seen(&mut out, third)?;
-    Ok(out)
-}
-
-/// The numbers of the terms of the second and of the third piece in the dictionary of the first, and their new terms.
-const SEEN: &str = "Some(2) Some(1) Some(0) Some(0) Iri(http://e/q) Blank(x) Iri(http://e/g) ";
-
-/// Looks two pieces up in the dictionary, checks what is found, and then adds them in order.
-fn add_two<R: Abort>(
-    rt: &R,
-    alloc: Global,
-    state: RandomState,
-    dict: &mut Dict,
-    quads: &mut Vec<NumQuad>,
-) {
-    let second = looked_up(alloc, state, dict, SECOND).expect(rt, "the second piece");
-    let third = looked_up(alloc, state, dict, THIRD).expect(rt, "the third piece");
-    gives(
-        rt,
-        "second and third",
-        SEEN,
-        seen_of(alloc, &second, &third),
-    );
-    add_piece(alloc, dict, quads, second).expect(rt, "the second piece");
-    add_piece(alloc, dict, quads, third).expect(rt, "the third piece");
-}
-
-/// Checks that rounds give the result of `merge`, where the later pieces are numbered under the second hash state.
-fn check_rounds<R: Abort>(rt: &R, alloc: Global, first: RandomState, later: RandomState) {
-    let (mut dict, mut quads) = first_round(alloc, first).expect(rt, "the first piece");
-    add_two(rt, alloc, later, &mut dict, &mut quads);
-    check(rt, alloc, "all three", MERGED, &dict, quads.as_slice());
-}
-
-/// Two pieces are looked up in the dictionary of the first, and then added in order: the result is that of `merge`.
-#[test]
-fn rounds_come_to_the_same(rt: HostRuntime) {
-    let state = RandomState::new(&rt).expect(&rt, "a hash state");
-    check_rounds(&rt, rt.alloc(), state, state);
-    absorbing_keeps_the_numbering();
-    earlier_places_serve();
-}
-
-/// Hashes that were computed under the hash state of a piece are computed again under that of the dictionary.
-#[test]
-fn rounds_of_another_hash_state_come_to_the_same(rt: HostRuntime) {
-    let first = RandomState::new(&rt).expect(&rt, "a hash state");
-    let later = RandomState::new(&rt).expect(&rt, "another hash state");
-    check_rounds(&rt, rt.alloc(), first, later);
 }

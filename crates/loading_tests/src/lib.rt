@@ -1,11 +1,11 @@
 //! Tests of everything from bytes to a dataset:
 //!
 //! - `terms` and `lexical` of rdf_core;
-//! - `lines`, `slices` and `transfers` of nquads_core;
+//! - `lines` and `transfers` of nquads_core, and `slices` of nquads_scan;
 //! - `boards` of piece_board, `pools` of piece_pool, and `cutting` of piece_cuts;
 //! - `dictionary` of dict_core, and `index` of quad_index;
 //! - `texts` of text_dict and text_pieces;
-//! - `documents` and `readers` of dataset_load, and `malformed` of malformed_lines;
+//! - `documents`, `layouts` and `readers` of dataset_load, and `malformed` of malformed_lines;
 //! - `refusals`: what is left of each if an allocation fails or a worker thread cannot be started.
 //!
 //! `cases` prints cases that are wrong. The expected outputs of terms and lines are written from RDF 1.1 N-Quads, section 4, and
@@ -29,6 +29,8 @@ mod dictionary;
 mod documents;
 #[cfg(test)]
 mod index;
+#[cfg(test)]
+mod layouts;
 #[cfg(test)]
 mod lexical;
 #[cfg(test)]

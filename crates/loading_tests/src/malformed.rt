@@ -186,7 +186,7 @@ fn a_load_lists_the_same(rt: HostRuntime) {
     check_loads(&rt, alloc, 65536, 4);
 }
 
-/// Appends a line: a malformed one, or a comment of 65,999 bytes, so that a round of one worker has one or two of these.
+/// Appends a line: a malformed one, or a comment of 65,999 bytes, so that a round with one worker has one or two of these.
 fn append_line(doc: &mut Vec<u8>, is_malformed: bool) -> Result<(), AllocError> {
     if is_malformed {
         doc.extend_from_slice(b"x\n")?;

@@ -2,8 +2,8 @@
 //! and the term that a slice denotes.
 use crate::cases::{Case, Reader, all_hold};
 use crate::lines::append_term;
-use nquads_core::{RawStatement, read_term, split_piece};
-use nquads_scan::{is_plain_line, skip_plain_lines};
+use nquads_core::{RawStatement, read_term};
+use nquads_scan::{is_plain_line, skip_plain_lines, split_piece};
 use std::alloc::{AllocError, AllocGlobal, Global};
 
 /// Appends the slices of each statement in order, with `-` for the default graph.
@@ -19,10 +19,13 @@ fn append_all(out: &mut String, statements: &[RawStatement<'_>]) -> Result<(), A
     Ok(())
 }
 
-/// Appends the slices of the statements of a piece, or `not split`.
+/// Appends the slices of the statements of a piece and the number of its lines, or `not split`.
 pub(crate) fn slices(out: &mut String, alloc: Global, piece: &[u8]) -> Result<(), AllocError> {
     match split_piece(alloc, piece) {
-        Ok(Some(split)) => append_all(out, &split.statements),
+        Ok(Some(split)) => {
+            append_all(out, &split.statements)?;
+            write!(out, "{}", split.lines)
+        }
         Ok(None) => out.push_str("not split"),
         Err(fault) => Err(fault),
     }
@@ -30,42 +33,77 @@ pub(crate) fn slices(out: &mut String, alloc: Global, piece: &[u8]) -> Result<()
 
 /// Pieces, and the slices of their statements.
 const PIECES: &[Case] = &[
-    ("", ""),
-    ("\n\n", ""),
-    ("# c\n \t# c\n\t\n", ""),
-    ("<a:s> <a:p> <a:o> .", "<a:s>|<a:p>|<a:o>|-;"),
-    ("<a:s> <a:p> <a:o> .\n", "<a:s>|<a:p>|<a:o>|-;"),
+    ("", "0"),
+    ("\n\n", "2"),
+    ("# c\n \t# c\n\t\n", "3"),
+    ("<a:s> <a:p> <a:o> .", "<a:s>|<a:p>|<a:o>|-;1"),
+    ("<a:s> <a:p> <a:o> .\n", "<a:s>|<a:p>|<a:o>|-;1"),
     (
         "_:s <a:p> _:o.1 _:g .\n# c\n\n<a:s> <a:p> _:o <a:g> . # c\n",
-        "_:s|<a:p>|_:o.1|_:g;<a:s>|<a:p>|_:o|<a:g>;",
+        "_:s|<a:p>|_:o.1|_:g;<a:s>|<a:p>|_:o|<a:g>;4",
+    ),
+    // tabs, many blanks and none
+    ("<a:s>\t<a:p>\t\"o\"\t.\n", "<a:s>|<a:p>|\"o\"|-;1"),
+    (
+        " \t_:s  <a:p>\t \"o\"@en \t<a:g>  .\t \n",
+        "_:s|<a:p>|\"o\"@en|<a:g>;1",
+    ),
+    (
+        "<a:s><a:p><a:o>.\n_:s<a:p>_:o.\n_:s<a:p>\"o\"_:g.# c\n_:s<a:p>\"o\"@en<a:g>.\n_:s<a:p>\"o\"^^<a:d>_:g.",
+        "<a:s>|<a:p>|<a:o>|-;_:s|<a:p>|_:o|-;_:s|<a:p>|\"o\"|_:g;_:s|<a:p>|\"o\"@en|<a:g>;_:s|<a:p>|\"o\"^^<a:d>|_:g;5",
+    ),
+    // CR LF, a lone CR, and both with comments and blank lines
+    (
+        "_:s <a:p> _:o .\r\n_:s <a:p> _:q .\r\n",
+        "_:s|<a:p>|_:o|-;_:s|<a:p>|_:q|-;2",
+    ),
+    (
+        "_:s <a:p> _:o .\r_:s <a:p> _:q .\r",
+        "_:s|<a:p>|_:o|-;_:s|<a:p>|_:q|-;2",
+    ),
+    (
+        "# c\r\n\r\n\r# c\r_:s <a:p> _:o . # c\r\n\n\r",
+        "_:s|<a:p>|_:o|-;7",
     ),
     // a literal may hold spaces, `>`, dots, `#` and escaped quotes
     (
         "<a:s> <a:p> \"a b> . # c\" .\n",
-        "<a:s>|<a:p>|\"a b> . # c\"|-;",
+        "<a:s>|<a:p>|\"a b> . # c\"|-;1",
     ),
     (
         "<a:s> <a:p> \"a \\\" b\"@en-GB <a:g> .\n",
-        "<a:s>|<a:p>|\"a \\\" b\"@en-GB|<a:g>;",
+        "<a:s>|<a:p>|\"a \\\" b\"@en-GB|<a:g>;1",
     ),
     (
         "<a:s> <a:p> \"a\\\\\" .\n<a:s> <a:p> \"\\\\\\\"\"^^<a:d> .\n",
-        "<a:s>|<a:p>|\"a\\\\\"|-;<a:s>|<a:p>|\"\\\\\\\"\"^^<a:d>|-;",
+        "<a:s>|<a:p>|\"a\\\\\"|-;<a:s>|<a:p>|\"\\\\\\\"\"^^<a:d>|-;2",
     ),
     (
         "<a:\u{e9}> <a:p> \"\u{6771} \u{1f600}\"@ja .\n",
-        "<a:\u{e9}>|<a:p>|\"\u{6771} \u{1f600}\"@ja|-;",
+        "<a:\u{e9}>|<a:p>|\"\u{6771} \u{1f600}\"@ja|-;1",
     ),
-    ("<a:s> <a:p> \"\" .\n", "<a:s>|<a:p>|\"\"|-;"),
+    ("<a:s> <a:p> \"\" .\n", "<a:s>|<a:p>|\"\"|-;1"),
     // a slice that is not a term, or not allowed at its place, is split all the same
-    ("\"s\" _:p <o> \"g\" .\n", "\"s\"|_:p|<o>|\"g\";"),
-    // unusual layout, CR and malformed lines
-    ("<a:s> <a:p> <a:o>.\n", "not split"),
-    ("<a:s>\t<a:p>\t<a:o>\t.\n", "not split"),
-    ("<a:s> <a:p> <a:o> .\r\n", "not split"),
+    ("_:s _:p <o> \"g\" .\n", "_:s|_:p|<o>|\"g\";1"),
+    // a term that goes over a line end
     ("<a:s> <a:p> \"x .\n\" .\n", "not split"),
+    ("<a:s> <a:p> \"x\\\n\" .\n", "not split"),
+    ("<a:s> <a:p> \"x\ry\" .\n", "not split"),
+    (
+        "<a:s> <a:p> \"a literal of more than 32 bytes .. \r ..\" .\n",
+        "not split",
+    ),
+    (
+        "<a:s> <a:p> <a:an-iri-of-more-than-32-bytes-and-\n> .\n",
+        "not split",
+    ),
+    // a blank inside a literal, and malformed lines
+    ("<a:s> <a:p> \"x\" @en .\n", "not split"),
+    ("<a:s> <a:p> \"x\" ^^<a:d> .\n", "not split"),
+    ("\"s\" <a:p> <a:o> .\n", "not split"),
     ("<a:s> <a:p> \"x\\\" .\n", "not split"),
     ("<a:s> <a:p> .\n", "not split"),
+    ("<a:s> <a:p> <a:o>\n", "not split"),
     ("<a:s> <a:p> <a:o> <a:g> <a:x> .\n", "not split"),
     ("<a:s> <a:p> <a:o> . <a:x>\n", "not split"),
     ("x\n", "not split"),

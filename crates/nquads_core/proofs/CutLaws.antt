@@ -6,7 +6,7 @@ use Rattle.std.proofs.lemmas.List.{get_or-drop, get_or_past, get_or-take, length
 use Rattle.std.proofs.lemmas.Str.{IsCharBoundary-after_ascii}
 use Rattle.memchr.specs.Find.{is_byte, is_byte2, IsFirstByte}
 use Rattle.nquads_core.specs.Lines.{lines}
-use Rattle.nquads_core.specs.Layout.{HasNoCr, IsOneLine}
+use Rattle.nquads_core.specs.LineCuts.{HasNoCr, IsOneLine}
 use Rattle.nquads_core.proofs.RunLaws.{or_parts}
 use Rattle.nquads_core.proofs.Meaning.{none_ends}
 use Rattle.nquads_core.proofs.PieceLaws.{EndsAt, no_ends, one_line, lf_line, lines_nil}
@@ -17,11 +17,6 @@ inside text i b e p = elim (cases_lt i (length text)) [ inl l ↦ l | inr l ↦ 
 
 pub after_byte : (text : List ℕ) (i b : ℕ) → IsUtf8 text → get_or text i 0 ≡ b → 0 < b → b < 128 → IsCharBoundary text (i + 1)
 after_byte text i b u e p a = IsCharBoundary-after_ascii text i u (inside text i b e p) (omega (arith, e))
-
--- a space at k, counted from the place from
-pub space_at : (text bytes : List ℕ) (from k : ℕ) → bytes ≡ text → IsFirstByte (is_byte 32) (take (length bytes - from) (drop from bytes)) (Some k) → get_or text (from + k) 0 ≡ 32
-space_at text bytes from k same h =
-    sym (ap (λ (y : List ℕ). get_or y (from + k) 0) same) ∙ sym (get_or-drop from bytes k 0) ∙ sym (ap (λ (y : List ℕ). get_or y k 0) (take_rest bytes from)) ∙ eqb-true _ 32 h.1
 
 -- ---- line ends
 
@@ -49,7 +44,7 @@ only_line text bytes same n l h =
     let none = found_in text bytes None same n h in
     (one_line text l (λ k m. none k (omega arith) m) ∙ ap (λ (y : List (List ℕ)). text ∷ y) (sym lines_nil), none_ends text none)
 
-pub lf_at : (text bytes : List ℕ) (end : ℕ) → bytes ≡ text → IsFirstByte (is_byte 10) bytes (Some end) → get_or text end 0 ≡ 10
+lf_at : (text bytes : List ℕ) (end : ℕ) → bytes ≡ text → IsFirstByte (is_byte 10) bytes (Some end) → get_or text end 0 ≡ 10
 lf_at text bytes end same h = sym (ap (λ (y : List ℕ). get_or y end 0) same) ∙ eqb-true _ 10 h.1
 
 front : (text : List ℕ) (end : ℕ) → slice_range text 0 end ≡ take end text
@@ -65,6 +60,3 @@ cut_lf text bytes end line rest same n h f r =
       lf_line text end rest (ends_at text end found) (lf_at text bytes end same h) r ∙ ap (λ (y : List ℕ). y ∷ lines rest) (sym (f ∙ front text end)),
       subst IsOneLine (sym (f ∙ front text end)) clean,
     )
-
-pub no_cr_after : (text rest : List ℕ) (i : ℕ) → HasNoCr text → rest ≡ drop i text → HasNoCr rest
-no_cr_after text rest i n r = subst HasNoCr (sym r) (λ k l e. n (i + k) (omega (arith, l, length-drop i text)) (sym (get_or-drop i text k 0) ∙ e))

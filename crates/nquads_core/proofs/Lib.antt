@@ -8,8 +8,6 @@ pub mod LineLaws
 pub mod Meaning
 pub mod PieceLaws
 pub mod CutLaws
-pub mod SliceLaws
-pub mod SplitLaws
 pub mod TermReads
 pub mod GoodTerms
 pub mod Again

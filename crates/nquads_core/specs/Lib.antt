@@ -6,7 +6,7 @@ pub mod Slices
 pub mod Splitting
 pub mod Laws
 pub mod LineParser
-pub mod Layout
+pub mod LineCuts
 pub mod Views
 pub mod Device
 pub mod Transfer

@@ -2,8 +2,8 @@
 //!
 //! [`read_piece`] takes whole lines of a document and returns their quads in order, or the first malformed
 //! line. Other crates rely on its clauses `quads`, `lines` and `bad_line`.
-//! [`split_piece`] only splits the statements into slices of the document, and [`read_term`] reads the
-//! term of a slice. What these two return is right, but they do not accept all that `read_piece` reads.
+//! [`read_term`] reads the term of one slice of a document. The crate `nquads_scan` finds the slices of each statement
+//! ([`RawStatement`]).
 //!
 //! Standard: RDF 1.1 N-Quads (Recommendation of 2014), grammar, with four rules of this project: a CR that
 //! no LF follows ends a line too; an IRI has a scheme, and no escape in it names a character that may not
@@ -36,5 +36,5 @@ pub use fault::{LineFault, PieceFault};
 pub use line::read_line;
 pub use piece::{Piece, count_lines, first_line, read_piece};
 pub use raw_term::read_term;
-pub use slices::{RawStatement, SplitPiece, split_piece};
+pub use slices::RawStatement;
 pub use transfer::{ReadFault, read_more, read_to_end, write_all};

@@ -3,7 +3,7 @@
 ghost use Rattle.std.specs.Prelude.{◌≡◌, ◌<◌, ◌∷◌, ◌+◌, ◌++◌, ℕ, length, map, option_map, option_to_list, OnOk, IfOk, IfErr};
 ghost use Rattle.rdf_core.specs.QuadParts.{parts_of};
 ghost use Rattle.nquads_core.specs.Lines.{begins_with_lf, lines};
-ghost use Rattle.nquads_core.specs.Layout.{HasNoCr, IsLineAfter};
+ghost use Rattle.nquads_core.specs.LineCuts.{HasNoCr, IsLineAfter};
 ghost use Rattle.nquads_core.specs.Pieces.{HaveStatements, IsFirstMalformed};
 ghost use Rattle.nquads_core.specs.declared.fault.PieceFault.TheVariants.{BadLine};
 

@@ -9,10 +9,10 @@ use Rattle.memchr.specs.Find.{is_byte2, IsFirstByte}
 use Rattle.rdf_core.proofs.EscapeSteps.{eqb_no, which}
 use Rattle.rdf_core.proofs.EscapeLaws.{and_is}
 use Rattle.nquads_core.specs.Lines.{begins_with_lf}
-use Rattle.nquads_scan.specs.Ends.{EndsAt, IsApart}
+use Rattle.nquads_scan.specs.Ends.{EndsAt, HasNoEnd, HasNoEndIn, IsApart}
 use Rattle.nquads_scan.specs.Layout.{IsBlanksThen, IsComment, IsCommentThen, IsCut, IsLineEndThen, at_text_end, lf, cr, crlf}
 use Rattle.nquads_scan.proofs.LayoutSteps.{apart_at}
-use Rattle.nquads_scan.proofs.NoEnds.{HasNoEnd, no_end}
+use Rattle.nquads_scan.proofs.NoEnds.{no_end, take_kept}
 
 false_true : false ≡ true → ⊥
 false_true e = cc
@@ -87,12 +87,14 @@ too_short (b ∷ d ∷ text) l = absurd (omega (arith, l))
 front : (text : List ℕ) (end : ℕ) → slice_range text 0 end ≡ take end text
 front text end = ap (λ (n : ℕ). take n text) (omega arith)
 
-pub cut_is : (text bytes : List ℕ) (end : ℕ) (raw after rest : List ℕ) → bytes ≡ text → IsUtf8 text → EndsAt bytes end → raw ≡ slice_range text 0 end → after ≡ drop end text → IsBlanksThen after rest → IsCut text raw rest
-cut_is text bytes end raw after rest same u h f a b =
+pub cut_is : (text bytes : List ℕ) (end : ℕ) (raw after rest : List ℕ) → bytes ≡ text → IsUtf8 text → EndsAt bytes end → HasNoEndIn bytes 0 end → raw ≡ slice_range text 0 end → after ≡ drop end text
+    → IsBlanksThen after rest → IsCut text raw rest
+cut_is text bytes end raw after rest same u h k f a b =
     let is : raw ≡ take end text = f ∙ front text end in
     let apart = apart_at text end u (subst (λ (y : List ℕ). EndsAt y end) same h) in record {
       after = after;
       parts = sym (take-append-drop end text) ∙ ap (λ (y : List ℕ). y ++ drop end text) (sym is) ∙ ap (λ (y : List ℕ). raw ++ y) (sym a);
       apart = subst (λ (y : List ℕ). IsApart y after) (sym is) (subst (IsApart (take end text)) (sym a) apart);
+      kept = subst HasNoEnd (sym is) (take_kept text end (subst (λ (y : List ℕ). HasNoEndIn y 0 end) same k));
       blanks = b;
     }

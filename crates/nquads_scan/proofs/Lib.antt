@@ -2,6 +2,7 @@ pub mod EndLaws
 pub mod ByteLaws
 pub mod RunSteps
 pub mod NoEnds
+pub mod SearchLaws
 pub mod LayoutSteps
 pub mod BlankSteps
 pub mod LineSteps

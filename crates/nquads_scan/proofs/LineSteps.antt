@@ -23,11 +23,11 @@ use Rattle.nquads_core.proofs.Meaning.{OneLine}
 use Rattle.nquads_core.proofs.PieceLaws.{NoEnds, last_line, line_lf, line_cr, line_crlf, lines_nil}
 use Rattle.nquads_core.proofs.RunLaws.{or_parts}
 use Rattle.nquads_core.proofs.TerminalLaws.{at_dot}
-use Rattle.nquads_scan.specs.Ends.{IsApart}
+use Rattle.nquads_scan.specs.Ends.{HasNoEnd, IsApart}
 use Rattle.nquads_scan.specs.Layout.{IsBlanksThen, IsComment, IsCut, IsGraphCut, IsLaidOut, IsLineEndThen, at_text_end, lf, cr, crlf, IsTail, IsStatementThen}
 use Rattle.nquads_scan.specs.PlainLines.{FirstLine}
 use Rattle.nquads_scan.proofs.ByteLaws.{apart_front, apart_here, blank_ascii, chars_blanks, chars_cons, one_utf8, utf8_after}
-use Rattle.nquads_scan.proofs.NoEnds.{HasNoEnd, no_end, no_end_join, slice_kept}
+use Rattle.nquads_scan.proofs.NoEnds.{no_end, no_end_join}
 use Rattle.nquads_scan.proofs.RunSteps.{begins_with, object_runs}
 
 false_true : false ≡ true → ⊥
@@ -185,7 +185,7 @@ cut_in text raw rest l end c e =
     let b = blanks_in c.after rest l end c.blanks e in (
       raw ++ b.0,
       c.parts ∙ ap (λ (y : List ℕ). raw ++ y) b.1 ∙ sym (append_assoc raw b.0 end),
-      record { after = b.0; parts = refl; apart = apart_front raw b.0 end (subst (IsApart raw) b.1 c.apart); blanks = b.2 },
+      record { after = b.0; parts = refl; apart = apart_front raw b.0 end (subst (IsApart raw) b.1 c.apart); kept = c.kept; blanks = b.2 },
     )
 
 graph_in : (graph : Option (List ℕ)) (text rest l end : List ℕ) → IsGraphCut graph text rest → rest ≡ l ++ end → (line : List ℕ) × (text ≡ line ++ end) × IsGraphCut graph line l
@@ -211,24 +211,22 @@ blanks_kept (b ∷ blanks) h =
 before_kept : (text rest : List ℕ) → IsBlanksThen text rest → HasNoEnd rest → HasNoEnd text
 before_kept text rest b h = subst HasNoEnd (sym b.parts) (no_end_join b.blanks rest (blanks_kept b.blanks b.all_blank) h)
 
-cut_kept : (text raw rest : List ℕ) (t : Term) → Denotes raw t → IsCut text raw rest → HasNoEnd rest → HasNoEnd text
-cut_kept text raw rest t d c h = subst HasNoEnd (sym c.parts) (no_end_join raw c.after (slice_kept raw t d) (before_kept c.after rest c.blanks h))
+cut_kept : (text raw rest : List ℕ) → IsCut text raw rest → HasNoEnd rest → HasNoEnd text
+cut_kept text raw rest c h = subst HasNoEnd (sym c.parts) (no_end_join raw c.after c.kept (before_kept c.after rest c.blanks h))
 
 dot_kept : (tail : List ℕ) → HasNoEnd tail → HasNoEnd (46 ∷ tail)
 dot_kept tail h = no_end_join (46 ∷ []) tail refl h
 
-graph_kept : (graph : Option (List ℕ)) (name : Option Term) (text tail : List ℕ) → DenotesGraph graph name → IsGraphCut graph text tail → HasNoEnd tail → HasNoEnd text
-graph_kept None None text tail d c h = subst HasNoEnd (sym c) (dot_kept tail h)
-graph_kept None (Some name) text tail d c h = absurd d
-graph_kept (Some raw) None text tail d c h = absurd d
-graph_kept (Some raw) (Some name) text tail d c h = cut_kept text raw (46 ∷ tail) name d c (dot_kept tail h)
+graph_kept : (graph : Option (List ℕ)) (text tail : List ℕ) → IsGraphCut graph text tail → HasNoEnd tail → HasNoEnd text
+graph_kept None text tail c h = subst HasNoEnd (sym c) (dot_kept tail h)
+graph_kept (Some raw) text tail c h = cut_kept text raw (46 ∷ tail) c (dot_kept tail h)
 
-laid_out_kept : (text : List ℕ) (raw : RawStatement) (tail : List ℕ) (q : QuadParts) → DenotesQuad raw q → IsLaidOut text raw tail → HasNoEnd tail → HasNoEnd text
-laid_out_kept text raw tail q d h n =
-    let g = graph_kept (option_copied raw.graph) q.g h.graph tail d.graph h.g n in
-    let o = cut_kept h.object raw.object.now h.graph q.o d.object h.o g in
-    let p = cut_kept h.predicate raw.predicate.now h.object q.p d.predicate h.p o in
-    cut_kept text raw.subject.now h.predicate q.s d.subject h.s p
+laid_out_kept : (text : List ℕ) (raw : RawStatement) (tail : List ℕ) → IsLaidOut text raw tail → HasNoEnd tail → HasNoEnd text
+laid_out_kept text raw tail h n =
+    let g = graph_kept (option_copied raw.graph) h.graph tail h.g n in
+    let o = cut_kept h.object raw.object.now h.graph h.o g in
+    let p = cut_kept h.predicate raw.predicate.now h.object h.p o in
+    cut_kept text raw.subject.now h.predicate h.s p
 
 -- ---- the end of the line
 
@@ -310,16 +308,27 @@ blank_line text rest u l t =
       statement = record { utf8 = utf8; one_line = one_line_of e.line e.kept; terminals = []; splits = e.end; derives = refl };
     }
 
-pub statement_line : (text : List ℕ) (raw : RawStatement) (rest : List ℕ) (q : QuadParts) → IsUtf8 text → 0 < length text → IsStatementThen text raw rest → DenotesQuad raw q → FirstLine text rest (Some q)
-statement_line text raw rest q u l h d =
+-- the first line of the text, and what it holds if the slices denote terms
+pub record FirstStatement (text rest : List ℕ) (raw : RawStatement) : Type 0 where
+  pub line : List ℕ
+  pub parts : lines text ≡ line ∷ lines rest
+  pub statement : (q : QuadParts) → DenotesQuad raw q → HasStatement line (Some q)
+
+pub first_statement : (text : List ℕ) (raw : RawStatement) (rest : List ℕ) → IsUtf8 text → 0 < length text → IsStatementThen text raw rest → FirstStatement text rest raw
+first_statement text raw rest u l h =
     let e = tail_ends h.tail rest h.end in
     let s = laid_out_in h.start raw h.tail e.line e.eol h.layout e.parts in
     let b = blanks_in text h.start s.0 e.eol h.lead s.1 in
     let whole = subst IsUtf8 b.1 u in
     let utf8 = utf8_line b.0 e.eol rest e.closes whole in
-    let kept = before_kept b.0 s.0 b.2 (laid_out_kept s.0 raw e.line q d s.2 e.kept) in
+    let kept = before_kept b.0 s.0 b.2 (laid_out_kept s.0 raw e.line s.2 e.kept) in
     record {
       line = b.0;
       parts = ap lines b.1 ∙ lines_then b.0 e.eol rest kept e.closes (subst (λ (y : List ℕ). 0 < length y) b.1 l);
-      statement = laid_out_statement b.0 s.0 raw e.line q utf8 b.2 s.2 e.end kept d;
+      statement = λ q d. laid_out_statement b.0 s.0 raw e.line q utf8 b.2 s.2 e.end kept d;
     }
+
+pub statement_line : (text : List ℕ) (raw : RawStatement) (rest : List ℕ) (q : QuadParts) → IsUtf8 text → 0 < length text → IsStatementThen text raw rest → DenotesQuad raw q → FirstLine text rest (Some q)
+statement_line text raw rest q u l h d =
+    let f = first_statement text raw rest u l h in
+    record { line = f.line; parts = f.parts; statement = f.statement q d }

@@ -8,10 +8,9 @@ use Rattle.nquads_core.specs.Lines.{lines}
 use Rattle.nquads_core.specs.Pieces.{HaveStatements}
 use Rattle.nquads_core.specs.Splitting.{DenotesQuad, DenoteAll, AreStatements}
 use Rattle.nquads_core.proofs.PieceLaws.{statements_more, lines_nil}
-use Rattle.nquads_scan.specs.Counting.{AreCounted}
 use Rattle.nquads_scan.specs.Layout.{IsLineThen}
 use Rattle.nquads_scan.specs.PlainLines.{AreLinesBefore, FirstLine}
-use Rattle.nquads_scan.proofs.LineSteps.{blank_line, statement_line}
+use Rattle.nquads_scan.proofs.LineSteps.{blank_line, first_statement}
 
 record DenotesLast (raws : List RawStatement) (raw : RawStatement) (quads : List QuadParts) : Type 0 where
   front : List QuadParts
@@ -35,41 +34,53 @@ line_more quads q count rest all after h f =
       number = omega (arith, length-append h.before (f.line ∷ []), h.number);
     }
 
--- the lines before the rest are split into these statements, and are this many, if the slices denote terms
+-- the lines before the rest are this many, and hold what the slices of these statements denote
 pub record SplitLines (raws : List RawStatement) (count : ℕ) (rest all : List ℕ) : Type 0 where
   pub utf8 : IsUtf8 rest
   pub short : count + length rest ≤ length all
-  pub so_far : (quads : List QuadParts) → DenoteAll raws quads → AreLinesBefore quads count rest all
+  pub before : List (List ℕ)
+  pub parts : lines all ≡ before ++ lines rest
+  pub number : length before ≡ count
+  pub statements : AreStatements before raws
 
 all_left : (all : List ℕ) → IsUtf8 all → SplitLines [] 0 all all
-all_left all u = record { utf8 = u; short = omega arith; so_far = λ quads d. record { before = []; parts = refl; statements = d; number = refl } }
+all_left all u = record { utf8 = u; short = omega arith; before = []; parts = refl; number = refl; statements = λ quads d. d }
 
 pub split_none : (text all : List ℕ) → text ≡ all → IsUtf8 all → SplitLines [] 0 text all
 split_none text all e u = subst (λ (y : List ℕ). SplitLines [] 0 y all) (sym e) (all_left all u)
 
+-- one more line
+parts_more : (before : List (List ℕ)) (line rest after all : List ℕ) → lines all ≡ before ++ lines rest → lines rest ≡ line ∷ lines after → lines all ≡ (before ++ line ∷ []) ++ lines after
+parts_more before line rest after all e f = e ∙ ap (λ (y : List (List ℕ)). before ++ y) f ∙ sym (append_assoc before (line ∷ []) (lines after))
+
 pub split_more : (raws raws' : List RawStatement) (statement : Option RawStatement) (count : ℕ) (rest all after : List ℕ) → SplitLines raws count rest all → 0 < length rest → IsUtf8 after → length after < length rest
     → IsLineThen rest statement after → raws' ≡ raws ++ option_to_list statement → SplitLines raws' (count + 1) after all
-split_more raws raws' None count rest all after h l u s t e = record {
-  utf8 = u;
-  short = omega (arith, h.short);
-  so_far = λ quads d.
-      let old = h.so_far quads (subst (λ (y : List RawStatement). DenoteAll y quads) (e ∙ append-nil raws) d) in
-      subst (λ (y : List QuadParts). AreLinesBefore y (count + 1) after all) (append-nil quads) (line_more quads None count rest all after old (blank_line rest after h.utf8 l t));
-}
-split_more raws raws' (Some raw) count rest all after h l u s t e = record {
-  utf8 = u;
-  short = omega (arith, h.short);
-  so_far = λ quads d.
-      let p = denote_last raws raw quads (subst (λ (y : List RawStatement). DenoteAll y quads) e d) in
-      let old = h.so_far p.front p.others in
-      subst (λ (y : List QuadParts). AreLinesBefore y (count + 1) after all) (sym p.parts) (line_more p.front (Some p.q) count rest all after old (statement_line rest raw after p.q h.utf8 l t p.last));
-}
+split_more raws raws' None count rest all after h l u s t e =
+    let f = blank_line rest after h.utf8 l t in
+    record {
+      utf8 = u;
+      short = omega (arith, h.short, s);
+      before = h.before ++ f.line ∷ [];
+      parts = parts_more h.before f.line rest after all h.parts f.parts;
+      number = omega (arith, length-append h.before (f.line ∷ []), h.number);
+      statements = λ quads d.
+          let old = h.statements quads (subst (λ (y : List RawStatement). DenoteAll y quads) (e ∙ append-nil raws) d) in
+          subst (HaveStatements (h.before ++ f.line ∷ [])) (append-nil quads) (statements_more h.before quads f.line None old f.statement);
+    }
+split_more raws raws' (Some raw) count rest all after h l u s t e =
+    let f = first_statement rest raw after h.utf8 l t in
+    record {
+      utf8 = u;
+      short = omega (arith, h.short, s);
+      before = h.before ++ f.line ∷ [];
+      parts = parts_more h.before f.line rest after all h.parts f.parts;
+      number = omega (arith, length-append h.before (f.line ∷ []), h.number);
+      statements = λ quads d.
+          let p = denote_last raws raw quads (subst (λ (y : List RawStatement). DenoteAll y quads) e d) in
+          subst (HaveStatements (h.before ++ f.line ∷ [])) (sym p.parts) (statements_more h.before p.front f.line (Some p.q) (h.statements p.front p.others) (f.statement p.q p.last));
+    }
 
-before_all : (quads : List QuadParts) (count : ℕ) (rest all : List ℕ) → AreLinesBefore quads count rest all → rest ≡ [] → HaveStatements (lines all) quads × (count ≡ length (lines all))
-before_all quads count rest all h e =
-    let whole : lines all ≡ h.before = h.parts ∙ ap (λ (y : List (List ℕ)). h.before ++ y) (ap lines e ∙ lines_nil) ∙ append-nil h.before in
-    (subst (λ (y : List (List ℕ)). HaveStatements y quads) (sym whole) h.statements, sym h.number ∙ ap (λ (y : List (List ℕ)). length y) (sym whole))
-
-pub split_all : (raws : List RawStatement) (count : ℕ) (rest all : List ℕ) → SplitLines raws count rest all → rest ≡ [] → AreStatements (lines all) raws × AreCounted (lines all) raws count
+pub split_all : (raws : List RawStatement) (count : ℕ) (rest all : List ℕ) → SplitLines raws count rest all → rest ≡ [] → AreStatements (lines all) raws × (count ≡ length (lines all))
 split_all raws count rest all h e =
-    (λ quads d. (before_all quads count rest all (h.so_far quads d) e).0, λ quads d. (before_all quads count rest all (h.so_far quads d) e).1)
+    let whole : lines all ≡ h.before = h.parts ∙ ap (λ (y : List (List ℕ)). h.before ++ y) (ap lines e ∙ lines_nil) ∙ append-nil h.before in
+    (subst (λ (y : List (List ℕ)). AreStatements y raws) (sym whole) h.statements, sym h.number ∙ ap (λ (y : List (List ℕ)). length y) (sym whole))

@@ -1,9 +1,26 @@
 -- Where the slice of a term ends in a text of bytes, so that its last terminal does not go on. Only private clauses
 -- use these definitions; what is promised is in Splitting of nquads_core.
-use Rattle.std.specs.Prelude.{◌≡◌, ℕ, ◌-◌, ◌≤◌, ◌<◌, ◌⊎◌, Bool, true, not, ◌&&◌, ◌||◌, ◌==◌, nat_le, List, [], ◌∷◌, ◌++◌, length, drop, get_or}
+use Rattle.std.specs.Prelude.{◌≡◌, ℕ, ◌-◌, ◌≤◌, ◌<◌, ◌⊎◌, Bool, false, true, not, ◌&&◌, ◌||◌, ◌==◌, nat_le, List, [], ◌∷◌, ◌++◌, length, drop, get_or}
 use Rattle.std.specs.Char.{is_ascii_alphanumeric}
+use Rattle.std.specs.List.{list_all}
 use Rattle.std.specs.Str.{IsUtf8}
 use Rattle.rdf_core.specs.Characters.{begins}
+
+-- LF or CR
+abbrev pub is_line_end : ℕ → Bool
+is_line_end b = b == 10 || b == 13
+
+-- no byte is LF or CR
+abbrev pub HasNoEnd : List ℕ → Type 0
+HasNoEnd bytes = list_all (λ b. not (is_line_end b)) bytes ≡ true
+
+-- no byte from one place up to another is LF or CR
+pub record HasNoEndIn (bytes : List ℕ) (from to : ℕ) : Type 0 where
+  pub each : (k : ℕ) → from ≤ k → k < to → is_line_end (get_or bytes k 0) ≡ false
+
+-- a byte at which a search stops: one of two, LF or CR
+abbrev pub is_sought : ℕ → ℕ → ℕ → Bool
+is_sought a b c = (c == a || c == b) || is_line_end c
 
 -- a byte that a label or the dots after it may have; each byte of a character above 127 is taken for one
 abbrev pub is_label_byte : ℕ → Bool

@@ -1,11 +1,11 @@
 -- How a text begins with a line: blanks, the slices of a statement with blanks after each, a dot, and a comment up to
 -- the line end. Only private clauses use these definitions; what is promised is in Splitting of nquads_core.
-use Rattle.std.specs.Prelude.{◌≡◌, ℕ, ◌⊎◌, Bool, false, true, not, ◌||◌, ◌==◌, List, [], ◌∷◌, ◌++◌, Option, Some, None, option_copied}
+use Rattle.std.specs.Prelude.{◌≡◌, ℕ, ◌⊎◌, false, true, List, [], ◌∷◌, ◌++◌, Option, Some, None, option_copied}
 use Rattle.std.specs.List.{list_all}
 use Rattle.nquads_core.specs.Terminal.{is_blank}
 use Rattle.nquads_core.specs.Lines.{begins_with_lf}
 use Rattle.nquads_core.specs.declared.slices.RawStatement.{RawStatement}
-use Rattle.nquads_scan.specs.Ends.{IsApart}
+use Rattle.nquads_scan.specs.Ends.{HasNoEnd, IsApart}
 
 -- the text is blanks, and then the rest
 pub record IsBlanksThen (text rest : List ℕ) : Type 0 where
@@ -13,11 +13,12 @@ pub record IsBlanksThen (text rest : List ℕ) : Type 0 where
   pub parts : text ≡ blanks ++ rest
   pub all_blank : list_all is_blank blanks ≡ true
 
--- the text is the slice, blanks, and then the rest
+-- the text is the slice, which has no line end, blanks, and then the rest
 pub record IsCut (text raw rest : List ℕ) : Type 0 where
   pub after : List ℕ
   pub parts : text ≡ raw ++ after
   pub apart : IsApart raw after
+  pub kept : HasNoEnd raw
   pub blanks : IsBlanksThen after rest
 
 -- the text is the slice of a graph label, if there is one, blanks, and the dot, and then the rest
@@ -35,15 +36,11 @@ pub record IsLaidOut (text : List ℕ) (raw : RawStatement) (rest : List ℕ) : 
   pub o : IsCut object raw.object.now graph
   pub g : IsGraphCut (option_copied raw.graph) graph rest
 
--- LF or CR
-abbrev pub is_line_end : ℕ → Bool
-is_line_end b = b == 10 || b == 13
-
 -- a comment, which is # and all up to the line end, or nothing
 abbrev pub IsComment : List ℕ → Type 0
 IsComment comment =
     (comment ≡ [])
-    ⊎ ((words : List ℕ) × (comment ≡ 35 ∷ words) × (list_all (λ b. not (is_line_end b)) words ≡ true))
+    ⊎ ((words : List ℕ) × (comment ≡ 35 ∷ words) × HasNoEnd words)
 
 -- the text is a comment, or none, and then the rest
 pub record IsCommentThen (text rest : List ℕ) : Type 0 where

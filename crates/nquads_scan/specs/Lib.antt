@@ -1,6 +1,5 @@
 pub mod Ends
 pub mod Layout
-pub mod Counting
 pub mod Canonical
 pub mod Plain
 pub mod PlainLines

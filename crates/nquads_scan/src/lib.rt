@@ -23,5 +23,5 @@ mod search;
 mod statement;
 
 pub use canonical_text::{Form, canonical};
-pub use pieces::split_piece;
+pub use pieces::{SplitPiece, split_piece};
 pub use plain_lines::{is_plain_line, skip_plain_lines};

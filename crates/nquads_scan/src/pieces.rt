@@ -1,13 +1,21 @@
 //! The statements of a piece as slices of it.
 
-ghost use Rattle.std.specs.Prelude.{◌≡◌, ◌++◌, IfOk, IfSome, OnOk, option_to_list};
+ghost use Rattle.std.specs.Prelude.{◌≡◌, ◌++◌, length, IfOk, IfSome, OnOk, option_to_list};
 ghost use Rattle.nquads_core.specs.Lines.{lines};
 ghost use Rattle.nquads_core.specs.Splitting.{AreStatements};
-ghost use Rattle.nquads_scan.specs.Counting.{AreCounted};
 
 use crate::statement::cut_line;
-use nquads_core::{RawStatement, SplitPiece};
+use nquads_core::RawStatement;
 use std::alloc::{AllocError, Global};
+
+/// The statements of a piece as slices of it, and the number of its lines.
+#[derive(Drop)]
+pub struct SplitPiece<'a> {
+    /// The slices of its statements, in order, with repeats.
+    pub statements: Vec<RawStatement<'a>>,
+    /// The number of its lines, including those without a statement.
+    pub lines: u64,
+}
 
 /// Appends a statement, if there is one.
 #[inline(always)]
@@ -30,8 +38,7 @@ fn add_statement<'a>(
 /// lone CR as a line end. Only a blank inside a literal, before or after `^^` or before `@`, is not taken.
 ///
 /// The terms are not checked. If each slice denotes a term that is allowed at its place, the lines of the piece hold
-/// the quads of these terms, and there are as many lines as counted. `read_piece` of nquads_core would read the same
-/// quads.
+/// the quads of these terms. `read_piece` of nquads_core would read the same quads.
 ///
 /// Returns `None` if a line is not laid out as a statement, or the piece is not UTF-8. `read_piece` then decides.
 ///
@@ -41,7 +48,7 @@ pub fn split_piece(alloc: Global, bytes: &[u8]) -> Result<Option<SplitPiece<'_>>
     ensures statements { IfOk result (λ split. IfSome split
         (λ piece. AreStatements (lines bytes.now) piece.statements.items)) }
     ensures lines { IfOk result (λ split. IfSome split
-        (λ piece. AreCounted (lines bytes.now) piece.statements.items piece.lines)) }
+        (λ piece. piece.lines ≡ length (lines bytes.now))) }
 {
     let Ok(text) = simdutf8::basic::from_utf8(bytes) else {
         return Ok(None);

@@ -16,7 +16,6 @@ use Rattle.nquads_core.specs.Grammar.{HasStatement}
 use Rattle.nquads_core.specs.Lines.{lines}
 use Rattle.nquads_core.specs.Splitting.{AreStatements}
 use Rattle.nquads_core.specs.declared.slices.RawStatement.{RawStatement}
-use Rattle.nquads_scan.specs.Counting.{AreCounted}
 use Rattle.nquads_core.specs.Laws.{IsNQuadsTerm, Occurs}
 use Rattle.nquads_core.specs.Pieces.{HaveStatements}
 use Rattle.nquads_core.proofs.Forms.{forms_are_distinct}
@@ -316,7 +315,7 @@ range_more terms dict grown from n t was rising at grown_is =
 -- ---- a piece that was read
 
 pub read_by_slices : (dict : List (List ℕ)) (bytes : List ℕ) (raws : List RawStatement) (piece : TextPiece) → AreForms dict → AreStatements (lines bytes) raws
-    → AreCounted (lines bytes) raws piece.lines → AreNumbersOfAll dict piece.new.texts raws piece.quads.items → piece.base ≡ length dict → IsRead dict bytes piece
+    → piece.lines ≡ length (lines bytes) → AreNumbersOfAll dict piece.new.texts raws piece.quads.items → piece.base ≡ length dict → IsRead dict bytes piece
 read_by_slices dict bytes raws piece forms statements counted numbers base =
     let t = terms_of_forms dict forms in
     let r = numbers t.0 t.1 in record {
@@ -328,7 +327,7 @@ read_by_slices dict bytes raws piece forms statements counted numbers base =
             subst (λ (l : List Term). (all : List Term) × AreFormsOf all (dict ++ piece.new.texts) × IsNumberedFrom l r.2.quads all piece.quads.items) (forms_unique dict t.0 terms t.1 h)
             (r.0, r.1, r.2.numbered);
       };
-      count = counted r.2.quads r.2.denote;
+      count = counted;
     }
 
 pub read_by_quads : (dict : List (List ℕ)) (bytes : List ℕ) (quads : List QuadParts) (piece : TextPiece) → HaveStatements (lines bytes) quads

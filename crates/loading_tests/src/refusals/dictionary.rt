@@ -5,11 +5,9 @@
 //! so a second try must succeed. A test ends early if the failing allocation is one of the test itself.
 
 use crate::cases::{equal, same_numbers, same_quads};
-use crate::dictionary::{
-    A, B, C, FIRST, G, P, Q, SECOND, THIRD, dict_of, first_round, iri, looked_up, pieces,
-};
+use crate::dictionary::{A, B, C, FIRST, G, P, Q, SECOND, THIRD, dict_of, iri, pieces};
 use crate::index::quad;
-use dict_core::{Dict, NumQuad, add_piece, merge};
+use dict_core::{Dict, NumQuad, merge};
 use rdf_core::Term;
 use std::alloc::{AllocError, AllocGlobal, Global};
 use std::hash::RandomState;
@@ -162,50 +160,4 @@ fn a_failed_merge_drops_its_pieces(rt: HostRuntime) {
         return;
     };
     check_merge(&rt, rt.alloc(), state);
-}
-
-/// Checks that an error leaves dictionary and quads unchanged, and adds an equal piece.
-fn add_again<R: Abort>(
-    rt: &R,
-    alloc: Global,
-    state: RandomState,
-    dict: &mut Dict,
-    quads: &mut Vec<NumQuad>,
-) {
-    check_terms(rt, "terms after an error", dict, &[A, P, B]);
-    let before = [quad(None, 0, 1, 2)];
-    same_quads(rt, "quads after an error", &before, quads.as_slice());
-    let again = looked_up(alloc, state, dict, THIRD).expect(rt, "a second try");
-    add_piece(alloc, dict, quads, again).expect(rt, "a second try");
-}
-
-/// Adds the third piece, at the second try an equal one. Checks the result, and that an error leaves dictionary and
-/// quads unchanged.
-fn check_round<R: Abort>(
-    rt: &R,
-    alloc: Global,
-    state: RandomState,
-    dict: &mut Dict,
-    quads: &mut Vec<NumQuad>,
-) {
-    let Some(third) = looked_up(alloc, state, dict, THIRD) else {
-        return;
-    };
-    if add_piece(alloc, dict, quads, third).is_err() {
-        add_again(rt, alloc, state, dict, quads);
-    }
-    let expected = [quad(None, 0, 1, 2), quad(Some(5), 0, 3, 4)];
-    check_quads(rt, dict, quads.as_slice(), &expected);
-}
-
-/// `look_up` only borrows the dictionary. On error `add_piece` leaves dictionary and quads unchanged.
-#[test]
-fn a_failed_round_changes_nothing(rt: HostRuntime) {
-    let Ok(state) = RandomState::new(&rt) else {
-        return;
-    };
-    let Some((mut dict, mut quads)) = first_round(rt.alloc(), state) else {
-        return;
-    };
-    check_round(&rt, rt.alloc(), state, &mut dict, &mut quads);
 }

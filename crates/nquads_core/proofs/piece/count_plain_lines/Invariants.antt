@@ -1,5 +1,5 @@
 use Rattle.std.proofs.Common.{length}
-use Rattle.nquads_core.specs.Layout.{HasNoCr}
+use Rattle.nquads_core.specs.LineCuts.{HasNoCr}
 use Rattle.nquads_core.proofs.PieceLaws.{CountedLines}
 use Rattle.nquads_core.proofs.piece.count_plain_lines.Given as goal
 

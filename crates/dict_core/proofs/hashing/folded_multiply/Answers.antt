@@ -1,7 +1,0 @@
-use Rattle.std.proofs.Common.{refl}
-use Rattle.core.specs.Hash.FoldHasher.{folded_multiply}
-use Rattle.dict_core.proofs.hashing.folded_multiply.Goals as goal
-
-pub returns : goal.returns
-unfolding folded_multiply
-returns c = refl

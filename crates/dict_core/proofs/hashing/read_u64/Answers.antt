@@ -1,6 +1,0 @@
-use Rattle.core.specs.Hash.FoldHasher.{read_u64}
-use Rattle.dict_core.proofs.hashing.read_u64.Goals as goal
-
-pub returns : goal.returns
-unfolding read_u64
-returns c = rw (c.read_u32.ensures, c.read_u32-2.ensures)
