@@ -7,6 +7,8 @@
 //! succeed.
 ghost use Rattle.std.specs.Prelude.{◌≤◌};
 
+mod causes;
+
 use crate::tests::asking::json;
 use crate::tests::samples::{NUMBERED, TAGGED, TWO_LINES, TYPED};
 use crate::tests::workers::by_lines;

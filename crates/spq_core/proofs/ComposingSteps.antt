@@ -14,7 +14,8 @@ use Rattle.dataset_load.specs.Counted.{AreTermsFrom, IsCountedFrom}
 use Rattle.result_json.specs.Results.{joined_blocks}
 use Rattle.spq_core.specs.Output.{Request, select, check, terms}
 use Rattle.spq_core.specs.Listing.{counts_line, text_lines}
-use Rattle.spq_core.specs.Run.{IsAnswerable, IsBadLineFrom, IsBadLineOf, IsComposed, IsComposing, IsLoadedFrom, IsLoading, IsRun, WriterFailed}
+use Rattle.spq_core.specs.Run.{IsAnswerable, IsBadLineOf, IsComposed, IsRun, WriterFailed}
+use Rattle.spq_core.specs.Composing.{IsBadLineFrom, IsComposing, IsLoadedFrom, IsLoading}
 use Rattle.spq_core.proofs.DocumentSteps.{composed_check, composed_terms}
 use Rattle.spq_core.specs.declared.program.RunFault.{RunFault}
 use Rattle.spq_core.specs.declared.program.RunFault.TheVariants.{Memory, WorkerRefused, Write}

@@ -26,7 +26,8 @@ use Rattle.spq_core.specs.Output.{check, select, terms}
 use Rattle.result_json.specs.Results.{json}
 use Rattle.spq_core.proofs.AnsweringSteps.{json_of_store}
 use Rattle.spq_core.proofs.ListingSteps.{lines_of_forms}
-use Rattle.spq_core.specs.Run.{IsBadLineFrom, IsBadLineOf, IsComposed, IsLoadedFrom}
+use Rattle.spq_core.specs.Run.{IsBadLineOf, IsComposed}
+use Rattle.spq_core.specs.Composing.{IsBadLineFrom, IsLoadedFrom}
 
 pub counts_are : (ls : List (List ℕ)) (store : StoreView) (l : load.IsLoaded ls store)
     → counts_line (length store.index) (length store.dict) (length (names_in store.index)) ≡ counts_of l.quads

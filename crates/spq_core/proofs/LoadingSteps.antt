@@ -5,8 +5,11 @@ use Rattle.nquads_core.specs.Transfer.{IsReadInPart}
 use Rattle.dataset_load.specs.declared.reader_fault.ReaderFault.{ReaderFault}
 use Rattle.dataset_load.specs.declared.reader_fault.ReaderFault.TheVariants as reading
 use Rattle.dataset_load.specs.ReaderFault.{CountsLoading, IfBadLineRead, IsOneWorkerReaderFault}
-use Rattle.spq_core.specs.Run.{IsBadLineFrom, IsLoading, run_result_of}
+use Rattle.spq_core.specs.Composing.{IsBadLineFrom, IsLoading, run_result_of}
 use Rattle.spq_core.specs.declared.program.RunFault.{RunFault}
+use Rattle.dataset_load.specs.Causes.{IsCaused}
+use Rattle.spq_core.specs.Causes.{IsRunCaused}
+use Rattle.piece_pool.specs.declared.pool.PoolFault.{PoolFault}
 use Rattle.spq_core.specs.declared.program.RunFault.TheVariants.{BadLine}
 
 same_line : {T : Type 0} (n m : ℕ) → ◌≡◌ {A = Result T RunFault} (Err (BadLine n)) (Err (BadLine m)) → n ≡ m
@@ -77,3 +80,15 @@ module _ {S T : Type 0} (left : S → Option (List ℕ)) (failures : S → Optio
       → CountsLoading (failures reader) (failures reader') loaded → (alone → IfErr loaded IsOneWorkerReaderFault) → IsLoading left failures loads alone reader reader' result
   finished loaded result is all bad part count none =
       subst (λ (r : Result T RunFault). IsLoading left failures loads alone reader reader' r) (sym is) (loading_of loaded all bad part count none)
+
+-- the cause of a load is that of a run
+pub caused : {T : Type 0} (fails : PoolFault → Type 0) (left : Option (List ℕ)) (loaded : Result T ReaderFault) (result : Result T RunFault) → result ≡ run_result_of loaded
+    → IfErr loaded (IsCaused fails left) → IfErr result (IsRunCaused fails left)
+caused {T = T} fails left loaded result is h = subst (λ (r : Result T RunFault). IfErr r (IsRunCaused fails left)) (sym is) (by loaded h)
+  where
+    by : (loaded : Result T ReaderFault) → IfErr loaded (IsCaused fails left) → IfErr (run_result_of loaded) (IsRunCaused fails left)
+    by (Ok value) h = tt
+    by (Err (reading.BadLine n)) h = tt
+    by (Err reading.WorkerRefused) h = h
+    by (Err reading.Memory) h = h
+    by (Err reading.Read) h = tt

@@ -5,5 +5,7 @@ pub mod Faults
 pub mod Listing
 pub mod Output
 pub mod Run
+pub mod Composing
 pub mod Report
 pub mod Words
+pub mod Causes

@@ -8,8 +8,8 @@
 //!
 //! [`run`] states the same for a command over a reader and a writer, and what is left on each error. A command has
 //! at most one output for a document (`one_output`). [`run_words`] states it for the words of a command line, and
-//! [`finish`] states how the program ends. [`Notes`] and [`Progress`] are for messages to the user, and no clause
-//! depends on them.
+//! [`finish`] states how the program ends. [`Notes`] are for messages to the user, and no clause depends on
+//! them. A [`Progress`] is told of each failure that becomes `Memory` or `WorkerRefused` (clause `cause` of [`run_words`]).
 //!
 //! Standards: SPARQL 1.1 Query Language, sections 17 to 19; SPARQL 1.1 Query Results JSON Format;
 //! RDF 1.1 N-Quads.

@@ -23,7 +23,7 @@ pub enum Stage {
     Printing,
 }
 
-/// Callbacks of a run at the beginning of its stages, and when the first malformed line is known.
+/// Callbacks of a run at the beginning of its stages, when the first malformed line is known, and when a call has failed.
 pub trait Progress: LoadListener {
     /// Runs when this stage begins. A run does not call this for `Indexing`, which begins at the end of the reader.
     fn begin(&self, stage: Stage);
@@ -111,6 +111,13 @@ impl<'p, P: Progress> Log<'p, P> {
     /// Returns the progress that the log calls.
     pub(crate) fn progress(&self) -> &'p P {
         self.progress
+    }
+
+    /// Tells the progress that a call has failed.
+    pub(crate) fn failed(&self, cause: PoolFault)
+        ensures known { P.fails cause }
+    {
+        self.progress.failed(cause);
     }
 
     /// Notes that a stage begins.

@@ -10,9 +10,11 @@ ghost use Rattle.sparql_tree.specs.QueryTree.{query_of};
 ghost use Rattle.sparql_read.specs.Rejection.{IsValidQuery};
 ghost use Rattle.result_json.specs.Results.{joined_blocks};
 ghost use Rattle.spq_core.specs.Output.{check, request_of, select, terms};
+ghost use Rattle.spq_core.specs.Causes.{IsRunCaused};
 ghost use Rattle.spq_core.specs.Listing.{counts_line, text_lines};
-ghost use Rattle.spq_core.specs.Run.{IsAnswerable, IsByOneWorker, IsComposing, IsLoading, IsRun, WriterFailed, run_result_of};
-ghost use Rattle.spq_core.specs.declared.program.RunFault.TheVariants.{Memory, WorkerRefused};
+ghost use Rattle.spq_core.specs.Run.{IsAnswerable, IsByOneWorker, IsRun, WriterFailed};
+ghost use Rattle.spq_core.specs.Composing.{IsComposing, IsLoading, run_fault_of, run_result_of};
+ghost use Rattle.spq_core.specs.declared.program.RunFault.TheVariants.{WorkerRefused};
 
 use crate::answering::{answer_query, valid_query};
 use crate::fault::Fault;
@@ -21,11 +23,11 @@ use crate::notes::{Log, NoProgress, Progress, Stage};
 use algebra_model::laws::{a_bag_has_one_sorted_list, a_dataset_is_a_set};
 use dataset_load::{Counted, LoadNotes, ReaderFault, Store, count_reader, load_reader, load_terms};
 use nquads_core::{DeviceFailed, Sink, Source, write_all};
-use piece_pool::OpenGate;
+use piece_pool::{OpenGate, PoolFault};
 use row_pieces::{EvalFault, How};
 use sparql_read::QueryFault;
 use sparql_tree::Query;
-use spq_command::{Command, CommandFault, ReadOptions};
+use spq_command::{Command, ReadOptions};
 use std::alloc::{AllocError, Global};
 use std::mem;
 use std::random::RandomSource;
@@ -60,43 +62,21 @@ pub enum RunFault {
     Line,
 }
 
-impl From<Fault> for RunFault {
-    ghost use Rattle.std.specs.Prelude.{◌≡◌};
-    ghost use Rattle.spq_core.specs.Run.{run_fault_of};
-
-    ghost from_gives = { λ f e. e ≡ run_fault_of f };
-
-    fn from(fault: Fault) -> RunFault {
-        match fault {
-            Fault::Query(fault) => RunFault::Query(fault),
-            Fault::BadLine(line) => RunFault::BadLine(line),
-            Fault::WorkerRefused => RunFault::WorkerRefused,
-            Fault::Memory => RunFault::Memory,
+/// Returns the fault of a run under the same name. The progress is told of it, if memory or a worker was the cause.
+pub(crate) fn told<P: Progress>(progress: &P, failed: Fault) -> RunFault
+    ensures same { result ≡ run_fault_of failed }
+    ensures cause { (left : _) → IsRunCaused P.fails left result }
+{
+    match failed {
+        Fault::Query(fault) => RunFault::Query(fault),
+        Fault::BadLine(line) => RunFault::BadLine(line),
+        Fault::WorkerRefused => {
+            progress.failed(PoolFault::WorkerRefused);
+            RunFault::WorkerRefused
         }
-    }
-}
-
-impl From<AllocError> for RunFault {
-    ghost use Rattle.std.specs.Prelude.{◌≡◌};
-    ghost use Rattle.spq_core.specs.declared.program.RunFault.TheVariants.{Memory};
-
-    ghost from_gives = { λ _ e. e ≡ Memory };
-
-    fn from(_failed: AllocError) -> RunFault {
-        RunFault::Memory
-    }
-}
-
-impl From<CommandFault> for RunFault {
-    ghost use Rattle.std.specs.Prelude.{◌≡◌};
-    ghost use Rattle.spq_core.specs.Run.{fault_of_words};
-
-    ghost from_gives = { λ f e. e ≡ fault_of_words f };
-
-    fn from(fault: CommandFault) -> RunFault {
-        match fault {
-            CommandFault::Line => RunFault::Line,
-            CommandFault::Memory => RunFault::Memory,
+        Fault::Memory => {
+            progress.failed(PoolFault::Memory);
+            RunFault::Memory
         }
     }
 }
@@ -127,8 +107,9 @@ fn load_document<R: Threads + Wait + RandomSource, S: Source, P: Progress>(
     reader: &mut S,
     log: &mut Log<'_, P>,
 ) -> Result<Store, RunFault>
-    ensures { IsLoading S.left S.failures IsLoadedFrom (reading.workers ≡ 1)
+    ensures loading { IsLoading S.left S.failures IsLoadedFrom (reading.workers ≡ 1)
         reader.old reader.new result }
+    ensures cause { IfErr result (IsRunCaused P.fails (S.left reader.old)) }
 {
     log.begin(Stage::Reading);
     let (size, workers) = (reading.piece, reading.workers);
@@ -154,8 +135,9 @@ fn count_document<R: Threads + Wait + RandomSource, S: Source, P: Progress>(
     reader: &mut S,
     log: &mut Log<'_, P>,
 ) -> Result<Counted, RunFault>
-    ensures { IsLoading S.left S.failures IsCountedFrom (reading.workers ≡ 1)
+    ensures loading { IsLoading S.left S.failures IsCountedFrom (reading.workers ≡ 1)
         reader.old reader.new result }
+    ensures cause { IfErr result (IsRunCaused P.fails (S.left reader.old)) }
 {
     log.begin(Stage::Reading);
     let (size, workers) = (reading.piece, reading.workers);
@@ -181,8 +163,9 @@ fn load_document_terms<R: Threads + Wait + RandomSource, S: Source, P: Progress>
     reader: &mut S,
     log: &mut Log<'_, P>,
 ) -> Result<TextDict, RunFault>
-    ensures { IsLoading S.left S.failures AreTermsFrom (reading.workers ≡ 1)
+    ensures loading { IsLoading S.left S.failures AreTermsFrom (reading.workers ≡ 1)
         reader.old reader.new result }
+    ensures cause { IfErr result (IsRunCaused P.fails (S.left reader.old)) }
 {
     log.begin(Stage::Reading);
     let (size, workers) = (reading.piece, reading.workers);
@@ -211,12 +194,13 @@ fn selected<R: Threads + Wait + RandomSource, S: Source, P: Progress>(
     reader: &mut S,
     log: &mut Log<'_, P>,
 ) -> Result<Vec<Vec<u8>>, RunFault>
-    ensures { IsComposing S.left S.failures (select query.now) (reading.workers ≡ 1)
+    ensures composing { IsComposing S.left S.failures (select query.now) (reading.workers ≡ 1)
         reader.old reader.new result }
+    ensures cause { IfErr result (IsRunCaused P.fails (S.left reader.old)) }
 {
     let valid = match valid_query(alloc, query) {
         Ok(valid) => valid,
-        Err(fault) => return Err(RunFault::from(fault)),
+        Err(fault) => return Err(told(log.progress(), fault)),
     };
     let blocks = selected_by(rt, alloc, query, &valid, reading, rows, reader, log);
     drop(valid);
@@ -238,8 +222,9 @@ fn selected_by<R: Threads + Wait + RandomSource, S: Source, P: Progress>(
     log: &mut Log<'_, P>,
 ) -> Result<Vec<Vec<u8>>, RunFault>
     requires valid { IsValidQuery (chars text.now) (query_of query.now) }
-    ensures { IsComposing S.left S.failures (select text.now) (reading.workers ≡ 1)
+    ensures composing { IsComposing S.left S.failures (select text.now) (reading.workers ≡ 1)
         reader.old reader.new result }
+    ensures cause { IfErr result (IsRunCaused P.fails (S.left reader.old)) }
 {
     a_dataset_is_a_set();
     a_bag_has_one_sorted_list();
@@ -254,8 +239,14 @@ fn selected_by<R: Threads + Wait + RandomSource, S: Source, P: Progress>(
             mem::forget(dict);
             Ok(blocks)
         }
-        Err(EvalFault::WorkerRefused) => Err(RunFault::WorkerRefused),
-        Err(EvalFault::Memory) => Err(RunFault::Memory),
+        Err(EvalFault::WorkerRefused) => {
+            log.failed(PoolFault::WorkerRefused);
+            Err(RunFault::WorkerRefused)
+        }
+        Err(EvalFault::Memory) => {
+            log.failed(PoolFault::Memory);
+            Err(RunFault::Memory)
+        }
     }
 }
 
@@ -267,22 +258,20 @@ fn one_block(alloc: Global, text: Vec<u8>) -> Result<Vec<Vec<u8>>, AllocError>
 }
 
 /// Prints the counts of a dataset, as one block.
-fn counts_block(alloc: Global, counted: &Counted) -> Result<Vec<Vec<u8>>, RunFault>
+fn counts_block(alloc: Global, counted: &Counted) -> Result<Vec<Vec<u8>>, AllocError>
     ensures text { IfOk result (λ blocks. joined_blocks blocks.items ≡ counts_line
         counted.now.quads (length counted.now.dict.texts) counted.now.graphs) }
-    ensures memory { IfErr result (λ fault. fault ≡ Memory) }
 {
     let text = counts_text(alloc, counted)?;
-    Ok(one_block(alloc, text)?)
+    one_block(alloc, text)
 }
 
 /// Lists the terms of a dataset, as one block.
-fn terms_block(alloc: Global, dict: &TextDict) -> Result<Vec<Vec<u8>>, RunFault>
+fn terms_block(alloc: Global, dict: &TextDict) -> Result<Vec<Vec<u8>>, AllocError>
     ensures text { IfOk result (λ blocks. joined_blocks blocks.items ≡ text_lines dict.now.texts) }
-    ensures memory { IfErr result (λ fault. fault ≡ Memory) }
 {
     let text = terms_text(alloc, dict)?;
-    Ok(one_block(alloc, text)?)
+    one_block(alloc, text)
 }
 
 /// Counts the quads, terms and graphs of the document that is the rest of the reader.
@@ -296,14 +285,21 @@ fn checked<R: Threads + Wait + RandomSource, S: Source, P: Progress>(
     reader: &mut S,
     log: &mut Log<'_, P>,
 ) -> Result<Vec<Vec<u8>>, RunFault>
-    ensures { IsComposing S.left S.failures check (reading.workers ≡ 1)
+    ensures composing { IsComposing S.left S.failures check (reading.workers ≡ 1)
         reader.old reader.new result }
+    ensures cause { IfErr result (IsRunCaused P.fails (S.left reader.old)) }
 {
     let counted = count_document(rt, alloc, reading, reader, log)?;
     log.begin(Stage::Printing);
     let blocks = counts_block(alloc, &counted);
     mem::forget(counted);
-    blocks
+    match blocks {
+        Ok(blocks) => Ok(blocks),
+        Err(_) => {
+            log.failed(PoolFault::Memory);
+            Err(RunFault::Memory)
+        }
+    }
 }
 
 /// Lists the terms of the document that is the rest of the reader.
@@ -316,14 +312,21 @@ fn listed<R: Threads + Wait + RandomSource, S: Source, P: Progress>(
     reader: &mut S,
     log: &mut Log<'_, P>,
 ) -> Result<Vec<Vec<u8>>, RunFault>
-    ensures { IsComposing S.left S.failures terms (reading.workers ≡ 1)
+    ensures composing { IsComposing S.left S.failures terms (reading.workers ≡ 1)
         reader.old reader.new result }
+    ensures cause { IfErr result (IsRunCaused P.fails (S.left reader.old)) }
 {
     let dict = load_document_terms(rt, alloc, reading, reader, log)?;
     log.begin(Stage::Printing);
     let blocks = terms_block(alloc, &dict);
     mem::forget(dict);
-    blocks
+    match blocks {
+        Ok(blocks) => Ok(blocks),
+        Err(_) => {
+            log.failed(PoolFault::Memory);
+            Err(RunFault::Memory)
+        }
+    }
 }
 
 /// Composes the whole output of a command, before anything is written: blocks that follow each other.
@@ -335,8 +338,9 @@ fn composed<R: Threads + Wait + RandomSource, S: Source, P: Progress>(
     reader: &mut S,
     log: &mut Log<'_, P>,
 ) -> Result<Vec<Vec<u8>>, RunFault>
-    ensures { IsComposing S.left S.failures (request_of command.now) (IsByOneWorker command.now)
-        reader.old reader.new result }
+    ensures composing { IsComposing S.left S.failures (request_of command.now)
+        (IsByOneWorker command.now) reader.old reader.new result }
+    ensures cause { IfErr result (IsRunCaused P.fails (S.left reader.old)) }
 {
     match command {
         Command::Select {
@@ -390,6 +394,9 @@ fn write_blocks<K: Sink>(writer: &mut K, blocks: &[Vec<u8>]) -> Result<(), Devic
 /// Runs a command: checks its query, reads the document to its end, composes the whole output and
 /// then writes it.
 ///
+/// The memory of the document's terms is left to the end of the process (`mem::forget`): it is not freed, and each call takes
+/// more. A caller that stays calls [`answer`](crate::answer), which frees all memory.
+///
 /// # Errors
 /// - `Query(fault)` if the query of a `select` is rejected. Nothing is read.
 /// - `BadLine(n)` if line n of the document, counted from 1, is the first that is malformed. The
@@ -438,6 +445,7 @@ pub(crate) fn run_noted<R: Threads + Wait + RandomSource, S: Source, K: Sink, P:
         reader.old reader.new writer.old writer.new result }
     ensures answerable { result ≡ Err WorkerRefused → IsAnswerable (request_of command.now) }
     ensures one_worker { IsByOneWorker command.now → result ≡ Err WorkerRefused → ⊥ }
+    ensures cause { IfErr result (IsRunCaused P.fails (S.left reader.old)) }
 {
     let blocks = composed(rt, alloc, command, reader, log)?;
     match write_blocks(writer, &blocks) {

@@ -1,6 +1,7 @@
 //! Runs the words of a command line over a reader and a writer. A query runs on a stack that is as
 //! large as the query may need.
-ghost use Rattle.std.specs.Prelude.{◌≡◌, ◌⊎◌, ◌+◌, ◌*◌, ◌-◌, ◌^◌, Err, length, map, min, string_bytes};
+ghost use Rattle.std.specs.Prelude.{◌≡◌, ◌⊎◌, ◌+◌, ◌*◌, ◌-◌, ◌^◌, Err, IfErr, length, map, min, string_bytes};
+ghost use Rattle.spq_core.specs.Causes.{IsRunCaused};
 ghost use Rattle.spq_core.specs.QueryStack.{least_stack, stack_per_byte};
 ghost use Rattle.spq_core.specs.Output.{request_of, select};
 ghost use Rattle.spq_core.specs.Run.{IsAnswerable, IsByOneWorker, IsRun};
@@ -9,11 +10,13 @@ ghost use Rattle.spq_core.specs.declared.program.RunFault.TheVariants.{WorkerRef
 
 use crate::answering::check_query;
 use crate::notes::{Log, Notes, Progress};
-use crate::program::{RunFault, run_noted};
+use crate::program::{RunFault, run_noted, told};
 use core::thread::Stack;
 use nquads_core::{Sink, Source};
-use spq_command::{Command, read_command};
+use piece_pool::PoolFault;
+use spq_command::{Command, CommandFault, read_command};
 use std::alloc::Global;
+use std::marker::PhantomData;
 use std::random::RandomSource;
 use std::snapshot::Snapshot;
 use std::sync::Wait;
@@ -59,17 +62,19 @@ impl<S, K> Ran<S, K> {
 
 /// The claim that a thread runs this command over this reader and this writer.
 #[derive(Drop)]
-struct RunOver<S, K> {
+struct RunOver<S, K, P> {
     command: Snapshot<Command>,
     reader: Snapshot<S>,
     writer: Snapshot<K>,
+    progress: PhantomData<P>,
 }
 
-impl<S: Source, K: Sink> Promise<Ran<S, K>> for RunOver<S, K> {
+impl<S: Source, K: Sink, P: Progress> Promise<Ran<S, K>> for RunOver<S, K, P> {
     ghost kept_by = { λ p ran. IsRun S.left S.failures K.held K.failures K.write_gives
         (request_of p.command.value) p.reader.value ran.reader p.writer.value ran.writer ran.done
         × (IsByOneWorker p.command.value
-        → ran.done ≡ Err WorkerRefused → ran.reader ≡ p.reader.value) };
+        → ran.done ≡ Err WorkerRefused → ran.reader ≡ p.reader.value)
+        × IfErr ran.done (IsRunCaused P.fails (S.left p.reader.value)) };
 }
 
 /// Returns the number of bytes of stack that a query may need.
@@ -92,6 +97,7 @@ fn run_here<R: Threads + Wait + RandomSource, S: Source, K: Sink, P: Progress>(
         (request_of command.now) reader result.reader writer result.writer result.done }
     ensures unread { IsByOneWorker command.now
         → result.done ≡ Err WorkerRefused → result.reader ≡ reader }
+    ensures cause { IfErr result.done (IsRunCaused P.fails (S.left reader)) }
     ensures one_worker { IsByOneWorker command.now → result.done ≡ Err WorkerRefused → ⊥ }
 {
     let (mut left, mut held) = (reader, writer);
@@ -119,8 +125,10 @@ fn run_if_started<R: Threads + Wait + RandomSource, S: Source, K: Sink, P: Progr
         (request_of command.now) reader result.reader writer result.writer result.done }
     ensures unread { IsByOneWorker command.now
         → result.done ≡ Err WorkerRefused → result.reader ≡ reader }
+    ensures cause { IfErr result.done (IsRunCaused P.fails (S.left reader)) }
 {
     if not_started.load(Ordering::SeqCst) {
+        progress.failed(PoolFault::WorkerRefused);
         return Ran {
             done: Err(RunFault::WorkerRefused),
             reader,
@@ -155,11 +163,13 @@ fn start_and_join<
         (request_of command.now) reader result.reader writer result.writer result.done }
     ensures unread { IsByOneWorker command.now
         → result.done ≡ Err WorkerRefused → result.reader ≡ reader }
+    ensures cause { IfErr result.done (IsRunCaused P.fails (S.left reader)) }
 {
-    let promise = RunOver {
+    let promise: RunOver<S, K, P> = RunOver {
         command: Snapshot::of(command),
         reader: Snapshot::of(&reader),
         writer: Snapshot::of(&writer),
+        progress: PhantomData,
     };
     let stack = Stack::new().stack_size(stack);
     let worker = move || run_if_started(rt, alloc, command, not_started, reader, writer, progress);
@@ -191,6 +201,7 @@ fn run_apart<
         (request_of command.now) reader result.reader writer result.writer result.done }
     ensures unread { IsByOneWorker command.now
         → result.done ≡ Err WorkerRefused → result.reader ≡ reader }
+    ensures cause { IfErr result.done (IsRunCaused P.fails (S.left reader)) }
 {
     let not_started = AtomicBool::new(false);
     let not_started = &not_started;
@@ -203,6 +214,7 @@ fn run_apart<
                 result.done }
             ensures unread { IsByOneWorker command.entry.now
                 → result.done ≡ Err WorkerRefused → result.reader ≡ reader }
+            ensures cause { IfErr result.done (IsRunCaused P.fails (S.left reader)) }
         {
             start_and_join(
                 rt,
@@ -239,6 +251,7 @@ fn run_select<
         (request_of command.now) reader result.reader writer result.writer result.done }
     ensures unread { IsByOneWorker command.now
         → result.done ≡ Err WorkerRefused → result.reader ≡ reader }
+    ensures cause { IfErr result.done (IsRunCaused P.fails (S.left reader)) }
     ensures answerable { result.done ≡ Err WorkerRefused → IsAnswerable (select query.now) }
 {
     match check_query(alloc, query) {
@@ -251,7 +264,7 @@ fn run_select<
             writer,
             progress,
         ),
-        Err(rejected) => Ran::not_run(RunFault::from(rejected), reader, writer),
+        Err(rejected) => Ran::not_run(told(progress, rejected), reader, writer),
     }
 }
 
@@ -267,6 +280,7 @@ fn run_command<
     ensures alone { IsDoneAlone command.now → result.done ≡ Err WorkerRefused → ⊥ }
     ensures unread { IsByOneWorker command.now
         → result.done ≡ Err WorkerRefused → result.reader ≡ reader }
+    ensures cause { IfErr result.done (IsRunCaused P.fails (S.left reader)) }
     ensures answerable { result.done ≡ Err WorkerRefused → IsAnswerable (request_of command.now) }
 {
     match command {
@@ -282,6 +296,9 @@ fn run_command<
 /// Reads the words of a command line and runs their command. A query is checked on the caller's
 /// thread, and then runs on a thread of its own, whose stack grows with its text. `check` and `terms`
 /// run on the caller's thread.
+///
+/// The memory of the document's terms is left to the end of the process, as by [`run`](crate::run). The progress is told of each
+/// failure that becomes `WorkerRefused` or `Memory`.
 ///
 /// # Errors
 /// - `Line` if the words are not a valid command line. Nothing is read or written.
@@ -304,9 +321,14 @@ pub fn run_words<
         (map string_bytes words.now) reader result.reader writer result.writer result.done
         ⊎ IsNotRun (map string_bytes words.now) reader result.reader writer result.writer
         result.done }
+    ensures cause { IfErr result.done (IsRunCaused P.fails (S.left reader)) }
 {
     match read_command(alloc, words) {
         Ok(command) => run_command(rt, alloc, &command, reader, writer, progress),
-        Err(fault) => Ran::not_run(RunFault::from(fault), reader, writer),
+        Err(CommandFault::Line) => Ran::not_run(RunFault::Line, reader, writer),
+        Err(CommandFault::Memory) => {
+            progress.failed(PoolFault::Memory);
+            Ran::not_run(RunFault::Memory, reader, writer)
+        }
     }
 }

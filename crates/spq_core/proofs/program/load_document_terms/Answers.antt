@@ -1,10 +1,13 @@
 use Rattle.std.proofs.Common.{◌≡◌}
 use Rattle.dataset_load.specs.Counted.{AreTermsFrom}
-use Rattle.spq_core.proofs.LoadingSteps.{finished}
+use Rattle.spq_core.proofs.LoadingSteps.{caused, finished}
 use Rattle.spq_core.proofs.program.load_document_terms.Goals as goal
 
-pub returns : goal.returns
-returns g c =
+pub returns-clause-loading : goal.returns-clause-loading
+returns-clause-loading g c =
     let done = c.load_terms-loaded.ensures in
     finished g.S.Source.left g.S.Source.failures AreTermsFrom (c.args.reading.workers ≡ 1) c.args.reader.now c.load_terms-loaded.new.reader c.load_terms-loaded.result c.finished.result c.finished.ensures.loaded
     done.terms done.bad_line done.taken done.count done.one_worker
+
+pub returns-clause-cause : goal.returns-clause-cause
+returns-clause-cause g c = caused g.P.LoadListener.fails (g.S.Source.left c.args.reader.now) c.load_terms-loaded.result c.finished.result c.finished.ensures.loaded c.load_terms-loaded.ensures.cause
