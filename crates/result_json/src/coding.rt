@@ -59,8 +59,11 @@ pub(crate) fn listed_codes(
 {
     let count = dict.len() as u64;
     let mut codes = Vec::with_capacity(alloc, rows.len().saturating_mul(listed.len()))?;
+    let mut buffer = Vec::new(alloc);
     for i in 0..rows.len() {
-        put_codes(&mut codes, listed, rows.row(i), count)?;
+        rows.read(i, &mut buffer)?;
+        let row = buffer.as_slice();
+        put_codes(&mut codes, listed, row, count)?;
     }
     Ok(codes)
 }

@@ -1,3 +1,4 @@
 pub mod RowSteps
+pub mod CellSteps
 mod RestrictSteps
 pub mod TurnLaws

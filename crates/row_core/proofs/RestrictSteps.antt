@@ -2,7 +2,7 @@
 use Rattle.std.proofs.Common.{◌≡◌, ℕ, zero, suc, ◌+◌, ◌*◌, ◌<◌, ◌≤◌, Bool, true, false, List, [], ◌∷◌, ◌++◌, length, get_or, take, drop, set, map, Option, None, refl, sym, ap, ◌∙◌, arith, add-one, append-nil, subst, if◌then◌else◌}
 use Rattle.std.proofs.Math.Nat.{suc-mul, zero-mul}
 use Rattle.std.proofs.Math.Seq.{take-append_seam, drop-append_seam}
-use Rattle.std.proofs.lemmas.List.{take_all, drop_all, take-take, drop-take, drop-drop, length-take, length-drop, map-append}
+use Rattle.std.proofs.lemmas.List.{take_all, drop_all, take-take, drop-take, drop-drop, length-take, length-drop, length-append, map-append, set-append_left, set-append_right}
 use Rattle.std.proofs.lemmas.Slice.{take-put_mid_below, drop-put_mid}
 use borrow.Rule.Slice.PartMut.{put_mid}
 use Rattle.algebra_model.specs.Solution.{Solution}
@@ -40,6 +40,32 @@ restrict-whole keeps μ i h =
 length-restrict : (keeps : ℕ → Bool) (μ : Solution ℕ) → length (restrict keeps μ) ≡ length μ
 length-restrict keeps [] = refl
 length-restrict keeps (x ∷ μ) = let e = length-restrict (λ k. keeps (suc k)) μ in omega arith
+
+pub length-part : {X : Type 0} (a w : ℕ) (cells : List X) → a + w ≤ length cells → length (take w (drop a cells)) ≡ w
+length-part a w cells h =
+    let t = length-take w (drop a cells) in
+    let d = length-drop a cells in
+    omega arith
+
+-- a row whose first cells are restricted
+pub length-partly : (keeps : ℕ → Bool) (μ : Solution ℕ) (i : ℕ) → i ≤ length μ
+    → length (restrict keeps (take i μ) ++ drop i μ) ≡ length μ
+length-partly keeps μ i h =
+    let a = length-append (restrict keeps (take i μ)) (drop i μ) in
+    let r = length-restrict keeps (take i μ) in
+    let t = length-take i μ in
+    let d = length-drop i μ in
+    omega arith
+
+-- a cell of a part is set
+pub set-part : (a w i : ℕ) (cells row : List (Option ℕ)) → a ≤ length cells → i < length row
+    → set (put_mid a w cells row) (a + i) None ≡ put_mid a w cells (set row i None)
+set-part a w i cells row h low =
+    let t = length-take a cells in
+    let rest = drop w (drop a cells) in
+    set-append_right (take a cells) (row ++ rest) a (a + i) None (omega arith) (omega arith)
+    ∙ ap (λ (k : ℕ). take a cells ++ set (row ++ rest) k None) (omega arith)
+    ∙ ap (λ (r : List (Option ℕ)). take a cells ++ r) (set-append_left row rest i None low)
 
 -- the restriction of a row of the cells is as long as the row
 pub length-restricted : (keeps : ℕ → Bool) (w a k : ℕ) (cells row : List (Option ℕ)) → row ≡ restrict keeps (take k (drop a cells))

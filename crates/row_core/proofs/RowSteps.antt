@@ -1,7 +1,8 @@
 -- Rows in one list of cells.
-use Rattle.std.proofs.Common.{◌≡◌, ℕ, zero, suc, ◌+◌, ◌*◌, ◌<◌, ◌≤◌, List, [], ◌∷◌, ◌++◌, length, take, drop, slice_get, Option, None, Some, refl, sym, ap, ◌∙◌, arith, subst, All}
-use Rattle.std.proofs.Math.Nat.{suc-mul, zero-mul, mul-le-mul_right}
-use Rattle.std.proofs.lemmas.List.{take_all, length-take, length-drop, take-append-le, drop-append-le, drop-drop}
+use Rattle.std.proofs.Common.{◌≡◌, ℕ, zero, suc, ◌+◌, ◌*◌, ◌^◌, ◌<◌, ◌≤◌, List, [], ◌∷◌, ◌++◌, length, take, drop, slice_get, get_or, Option, None, Some, refl, sym, ap, ◌∙◌, arith, subst, All}
+use Rattle.std.proofs.Math.Nat.{suc-mul, zero-mul, mul-le-mul_right, le-mul_of_pos_right}
+use Rattle.std.proofs.lemmas.List.{take_all, length-take, length-drop, take-append-le, drop-append-le, drop-drop, get_or-take, get_or-drop}
+use Rattle.std.proofs.lemmas.Option.{get_or_from_slice_get}
 use Rattle.row_core.specs.RowList.{RowList, rows_in, stride, padded}
 
 module _ {X : Type 0} (w s : ℕ) where
@@ -59,6 +60,13 @@ row-inside w s n i k h l e =
     let d : suc i * s ≡ i * s + s = suc-mul i s in
     omega arith
 
+-- as many rows have their cells in one buffer
+pub few-rows : (n m s k : ℕ) → 0 < s → k ≡ n * s + m * s → k < 2 ^ 64 → n + m < 2 ^ 64
+few-rows n m s k p e low =
+    let a = le-mul_of_pos_right n p in
+    let b = le-mul_of_pos_right m p in
+    omega arith
+
 pub take-padded : (w : ℕ) (row : List (Option ℕ)) → length row ≡ w → take w (padded row) ≡ row
 take-padded w [] e = ap (λ k. take k (None ∷ [])) (sym e)
 take-padded w (x ∷ row) e = take_all w (x ∷ row) (omega arith)
@@ -78,6 +86,14 @@ module _ (w n : ℕ) (cells : List (Option ℕ)) (v : RowList) (is : record { wi
   row-shown i h =
       let n' = count-shown in
       ap (λ (r : RowList). slice_get r.rows i) (sym is) ∙ get-rows_in w (stride w) n i cells (omega arith)
+
+  pub cell-shown : (i j : ℕ) → i < length v.rows → j < v.width
+      → get_or cells (i * stride w + j) None ≡ get_or (get_or v.rows i []) j None
+  cell-shown i j h low =
+      let n' = width-shown in
+      sym (ap (λ (r : List (Option ℕ)). get_or r j None) (get_or_from_slice_get v.rows i (take w (drop (i * stride w) cells)) [] (row-shown i h))
+      ∙ get_or-take w (drop (i * stride w) cells) j None (omega arith)
+      ∙ get_or-drop (i * stride w) cells j None)
 
   pub inside-shown : (i : ℕ) → i < length v.rows → length cells ≡ n * stride w → i * stride w + w ≤ length cells
   inside-shown i h e =

@@ -1,1 +1,2 @@
 pub mod RowList
+pub mod Cells

@@ -1,8 +1,10 @@
 //! Lists of rows of optional numbers. All rows of a list have the same width.
+ghost use Rattle.row_core.specs.Cells.{cells_of};
 ghost use Rattle.row_core.specs.RowList.{stride, padded, rows_in};
 ghost use Rattle.algebra_model.specs.Operators.{restrict};
 ghost use Rattle.std.specs.Prelude.{◌≡◌, ◌+◌, ◌*◌, ◌<◌, ◌≤◌, take, drop, [], ◌∷◌, ◌++◌, length, false, map, Some, None, slice_get, get_or, All, OnOk, OnErr};
 
+use crate::cells::Cells;
 use std::alloc::{AllocError, Global};
 use std::marker::Model;
 
@@ -10,23 +12,36 @@ use std::marker::Model;
 /// None if the row leaves the variable unbound.
 ///
 /// In contracts this type is its width and the list of its rows. One buffer holds the cells of all
-/// rows, one row after another.
-#[derive(Drop)]
+/// rows, one row after another. A cell takes 4 bytes if every number is below 2^32 - 1, and 16 bytes
+/// otherwise.
 pub struct Rows {
     width: usize,
     count: usize,
-    cells: Vec<Option<u64>>,
+    cells: Cells,
+}
+
+impl Drop for Rows {
+    /// Frees the cells. It is written out and not derived, so that a proof meets one call at each exit
+    /// that drops rows.
+    fn drop(self) {
+        let Rows {
+            width: _,
+            count: _,
+            cells: _,
+        } = self;
+    }
 }
 
 impl Model for Rows {
     ghost use Rattle.std.specs.Prelude.{◌≡◌, ◌*◌, length};
+    ghost use Rattle.row_core.specs.Cells.{cells_of};
     ghost use Rattle.row_core.specs.RowList.{RowList, rows_in, stride};
 
     ghost Value = { RowList };
 
-    ghost view = { λ r. record { width = r.width; rows = rows_in r.width (stride r.width) r.count r.cells.items } };
+    ghost view = { λ r. record { width = r.width; rows = rows_in r.width (stride r.width) r.count (cells_of r.cells) } };
 
-    ghost invariant = { λ r. length r.cells.items ≡ r.count * stride r.width };
+    ghost invariant = { λ r. length (cells_of r.cells) ≡ r.count * stride r.width };
 }
 
 /// Returns the number of cells that one row takes. It is at least one, so that rows without
@@ -37,50 +52,54 @@ fn stride(width: usize) -> usize
     width.max(1)
 }
 
+/// Returns the place of the first cell of a row.
+fn start_of(cells: &Cells, width: usize, count: usize, row: usize) -> usize
+    requires whole { length (cells_of cells.now) ≡ count * stride width }
+    requires below { row < count }
+    ensures value { result ≡ row * stride width }
+    ensures inside { result + width ≤ length (cells_of cells.now) }
+{
+    let _long = cells.len();
+    row * stride(width)
+}
+
 /// Appends the cells of a row, or one empty cell if the row has none.
-fn add_cells(cells: &mut Vec<Option<u64>>, row: &[Option<u64>]) -> Result<(), AllocError>
-    ensures added { OnOk result (cells.new.items ≡ cells.old.items ++ padded row.now) }
-    ensures unchanged { OnErr result (cells.new.items ≡ cells.old.items) }
+fn add_cells(cells: &mut Cells, row: &[Option<u64>]) -> Result<(), AllocError>
+    ensures added { OnOk result (cells_of cells.new ≡ cells_of cells.old ++ padded row.now) }
+    ensures unchanged { OnErr result (cells_of cells.new ≡ cells_of cells.old) }
 {
     if row.is_empty() {
-        cells.push(None)?;
-        return Ok(());
+        return cells.extend(&[None]);
     }
-    cells.extend_from_slice(row)
+    cells.extend(row)
 }
 
-/// Returns the cells of one row.
-fn part(cells: &[Option<u64>], start: usize, width: usize) -> &[Option<u64>]
-    requires inside { start + width ≤ length cells.now }
-    ensures value { result.now ≡ take width (drop start cells.now) }
-{
-    &cells[start..start + width]
-}
-
-/// Unbinds the variables of a row that are not kept.
-fn restrict_row(row: &mut [Option<u64>], kept: &[bool])
-    requires wide { length kept.now ≡ length row.old }
-    ensures restricted { row.new ≡ restrict (λ k. get_or kept.now k false) row.old }
+/// Unbinds the variables of the row from a place on that are not kept.
+fn restrict_row(cells: &mut Cells, start: usize, kept: &[bool])
+    requires inside { start + length kept.now ≤ length (cells_of cells.old) }
+    ensures restricted { cells_of cells.new ≡ take start (cells_of cells.old)
+        ++ (restrict (λ k. get_or kept.now k false) (take (length kept.now) (drop start (cells_of cells.old)))
+        ++ drop (length kept.now) (drop start (cells_of cells.old))) }
 {
     for i in 0..kept.len() {
         if !kept[i] {
-            row[i] = None;
+            cells.unbind(start + i);
         }
     }
 }
 
 /// Unbinds, in the cells of consecutive rows, the variables that are not kept.
-fn restrict_cells(cells: &mut [Option<u64>], count: usize, kept: &[bool])
-    requires whole { length cells.old ≡ count * stride (length kept.now) }
-    ensures restricted { rows_in (length kept.now) (stride (length kept.now)) count cells.new
+fn restrict_cells(cells: &mut Cells, count: usize, kept: &[bool])
+    requires whole { length (cells_of cells.old) ≡ count * stride (length kept.now) }
+    ensures restricted { rows_in (length kept.now) (stride (length kept.now)) count (cells_of cells.new)
         ≡ map (restrict (λ k. get_or kept.now k false))
-        (rows_in (length kept.now) (stride (length kept.now)) count cells.old) }
-    ensures length { length cells.new ≡ length cells.old }
+        (rows_in (length kept.now) (stride (length kept.now)) count (cells_of cells.old)) }
+    ensures length { length (cells_of cells.new) ≡ length (cells_of cells.old) }
 {
+    let _long = cells.len();
     let step = stride(kept.len());
     for i in 0..count {
-        let start = i * step;
-        restrict_row(&mut cells[start..start + kept.len()], kept);
+        restrict_row(cells, i * step, kept);
     }
 }
 
@@ -92,7 +111,7 @@ impl Rows {
         Rows {
             width,
             count: 0,
-            cells: Vec::new(alloc),
+            cells: Cells::new(alloc),
         }
     }
 
@@ -111,16 +130,22 @@ impl Rows {
         self.count
     }
 
-    /// Returns a row as a borrowed slice.
+    /// Replaces the contents of `row` with a row of the list.
     ///
     /// # Requires
     /// `i` is below `len`.
-    pub fn row(&self, i: usize) -> &[Option<u64>]
+    ///
+    /// # Errors
+    /// `AllocError` if an allocation fails. The contents of `row` are then unspecified. If `row` has
+    /// room for a row, nothing is allocated.
+    pub fn read(&self, i: usize, row: &mut Vec<Option<u64>>) -> Result<(), AllocError>
         requires inside { i < length self.now.rows }
-        ensures found { slice_get self.now.rows i ≡ Some result.now }
-        ensures wide { length result.now ≡ self.now.width }
+        ensures found { OnOk result (slice_get self.now.rows i ≡ Some row.new.items) }
+        ensures wide { OnOk result (length row.new.items ≡ self.now.width) }
     {
-        part(&self.cells, i * stride(self.width), self.width)
+        let start = start_of(&self.cells, self.width, self.count, i);
+        self.cells.read(start, self.width, row)?;
+        Ok(())
     }
 
     /// Appends a row.
@@ -137,6 +162,7 @@ impl Rows {
         ensures width { self.new.width ≡ self.old.width }
     {
         add_cells(&mut self.cells, row)?;
+        let _long = self.cells.len();
         self.count += 1;
         Ok(())
     }
@@ -150,7 +176,8 @@ impl Rows {
         requires variable { variable < self.now.width }
         ensures value { result ≡ get_or (get_or self.now.rows row []) variable None }
     {
-        self.row(row)[variable]
+        let start = start_of(&self.cells, self.width, self.count, row);
+        self.cells.get(start + variable)
     }
 
     /// Unbinds the variables that are not kept, in every row (the restriction of a solution mapping
@@ -181,13 +208,25 @@ impl Rows {
         ensures unchanged { OnErr result (self.new.rows ≡ self.old.rows) }
         ensures width { self.new.width ≡ self.old.width }
     {
-        let Rows {
-            count,
-            mut cells,
-            ..
-        } = others;
-        self.cells.append(&mut cells)?;
-        self.count += count;
+        self.extend(&others)
+    }
+
+    /// Appends copies of the rows of another list.
+    ///
+    /// # Requires
+    /// The other list has the same width.
+    ///
+    /// # Errors
+    /// `AllocError` if an allocation fails. The rows are unchanged.
+    pub fn extend(&mut self, others: &Rows) -> Result<(), AllocError>
+        requires same_width { others.now.width ≡ self.old.width }
+        ensures added { OnOk result (self.new.rows ≡ self.old.rows ++ others.now.rows) }
+        ensures unchanged { OnErr result (self.new.rows ≡ self.old.rows) }
+        ensures width { self.new.width ≡ self.old.width }
+    {
+        self.cells.append(&others.cells)?;
+        let _long = self.cells.len();
+        self.count += others.count;
         Ok(())
     }
 }

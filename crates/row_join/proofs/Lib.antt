@@ -7,3 +7,4 @@ pub mod NumberLaws
 mod TurnLaws
 mod KnownLaws
 mod ShareLaws
+mod DistinctLaws

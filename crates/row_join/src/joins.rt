@@ -74,8 +74,8 @@ impl Pairing for Merges {
         made: &mut Rows,
     ) -> Result<(), AllocError> {
         let tried = right.tried(row, &mut buffers.numbers)?;
-        add_merges(row, right.rows, tried.first, &mut buffers.merged, made)?;
-        add_merges(row, right.rows, tried.second, &mut buffers.merged, made)?;
+        add_merges(row, right.rows, tried.first, buffers, made)?;
+        add_merges(row, right.rows, tried.second, buffers, made)?;
         Ok(())
     }
 }
@@ -85,7 +85,7 @@ fn add_merges(
     row: &[Option<u64>],
     right: &Rows,
     places: &[usize],
-    merged: &mut Vec<Option<u64>>,
+    buffers: &mut Buffers,
     made: &mut Rows,
 ) -> Result<(), AllocError>
     requires row_wide { length row.now ≡ right.now.width }
@@ -96,10 +96,11 @@ fn add_merges(
     ensures width { OnOk result (made.new.width ≡ made.old.width) }
 {
     for i in 0..places.len() {
-        let other = right.row(places[i]);
+        right.read(places[i], &mut buffers.other)?;
+        let other = buffers.other.as_slice();
         if is_compatible(row, other) {
-            merge_into(merged, row, other)?;
-            made.push(merged)?;
+            merge_into(&mut buffers.merged, row, other)?;
+            made.push(&buffers.merged)?;
         }
     }
     Ok(())

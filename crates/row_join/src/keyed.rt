@@ -50,8 +50,11 @@ impl Keyed {
         let mut groups = Groups::new(alloc, state, key.len(), rows.len())?;
         let mut apart = Vec::new(alloc);
         let mut numbers = Vec::new(alloc);
+        let mut buffer = Vec::new(alloc);
         for place in 0..rows.len() {
-            if read_key(rows.row(place), key, &mut numbers)? {
+            rows.read(place, &mut buffer)?;
+            let row = buffer.as_slice();
+            if read_key(row, key, &mut numbers)? {
                 groups.add(alloc, &numbers, place)?;
             } else {
                 apart.push(place)?;

@@ -107,15 +107,22 @@ impl<'t, T: RowTest> Pairing for MergesOrItself<'t, T> {
         made: &mut Rows,
     ) -> Result<(), AllocError> {
         let tried = right.tried(row, &mut buffers.numbers)?;
-        let merged = &mut buffers.merged;
-        let first = add_kept(alloc, self.test, row, right.rows, tried.first, merged, made)?;
+        let first = add_kept(
+            alloc,
+            self.test,
+            row,
+            right.rows,
+            tried.first,
+            buffers,
+            made,
+        )?;
         let second = add_kept(
             alloc,
             self.test,
             row,
             right.rows,
             tried.second,
-            merged,
+            buffers,
             made,
         )?;
         if first && second {
@@ -133,7 +140,7 @@ fn add_kept<T: RowTest>(
     row: &[Option<u64>],
     right: &Rows,
     places: &[usize],
-    merged: &mut Vec<Option<u64>>,
+    buffers: &mut Buffers,
     made: &mut Rows,
 ) -> Result<bool, AllocError>
     requires row_wide { length row.now ≡ right.now.width }
@@ -149,11 +156,12 @@ fn add_kept<T: RowTest>(
 {
     let mut alone = true;
     for i in 0..places.len() {
-        let other = right.row(places[i]);
+        right.read(places[i], &mut buffers.other)?;
+        let other = buffers.other.as_slice();
         if is_compatible(row, other) {
-            merge_into(merged, row, other)?;
-            if test.keeps(alloc, merged)? {
-                made.push(merged)?;
+            merge_into(&mut buffers.merged, row, other)?;
+            if test.keeps(alloc, &buffers.merged)? {
+                made.push(&buffers.merged)?;
                 alone = false;
             }
         }

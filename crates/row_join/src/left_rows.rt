@@ -18,7 +18,11 @@ use std::thread::Threads;
 /// Lists that are reused for each left row, so that a row needs no allocations for them.
 #[derive(Drop)]
 pub(crate) struct Buffers {
+    /// The numbers of the left row's key.
     pub(crate) numbers: Vec<u64>,
+    /// The right row.
+    pub(crate) other: Vec<Option<u64>>,
+    /// The merge of both rows.
     pub(crate) merged: Vec<Option<u64>>,
 }
 
@@ -78,10 +82,15 @@ impl<'w, 'r, P: Pairing> RowWork for LeftRows<'w, 'r, P> {
         let mut made = Rows::new(alloc, self.left.width());
         let mut buffers = Buffers {
             numbers: Vec::new(alloc),
+            other: Vec::new(alloc),
             merged: Vec::new(alloc),
         };
+        let mut buffer = Vec::new(alloc);
         for i in from..to {
-            self.pairing.add(alloc, self.left.row(i), self.right, &mut buffers, &mut made)?;
+            self.left.read(i, &mut buffer)?;
+            let row = buffer.as_slice();
+            self.pairing
+                .add(alloc, row, self.right, &mut buffers, &mut made)?;
         }
         Ok(made)
     }

@@ -1,8 +1,9 @@
-//! Join, LeftJoin and Minus over rows of numbers. The right side is hashed by a key, and the left
+//! Join, LeftJoin, Minus and Distinct over rows of numbers. The right side is hashed by a key, and the left
 //! rows are split into pieces.
 //!
-//! Each call takes two lists of rows of one width, a hash state, the number of workers and the rows
-//! of a piece. It returns the rows of the operator, as a multiset.
+//! Each of the first three takes two lists of rows of one width, a hash state, the number of workers and
+//! the rows of a piece. It returns the rows of the operator, as a multiset. [`distinct`] keeps the order
+//! of the rows.
 //!
 //! Callers rely on three clauses of [`join`], [`left_join`] and [`minus`]:
 //!
@@ -22,7 +23,7 @@
 //!
 //! Reading order: `keyed` (over `groups` and `keys`, the hash table), `key_choice` (the variables of the key),
 //! `right_side` (the keyed rows, and the candidates for a left row), `left_rows` (the loop over the
-//! left rows, in pieces), `joins`, `left_joins`, `minus_operator`.
+//! left rows, in pieces), `joins`, `left_joins`, `minus_operator`, `distinct_rows`.
 //!
 //! ```text
 //! join((?s: 1), (?s: 2) ; (?s: 1, ?o: 7), (?o: 9))
@@ -33,6 +34,7 @@
 //! Not guaranteed: the order of the rows, which variables make the key, how much memory is taken.
 #![tactic(auto)]
 
+mod distinct_rows;
 mod groups;
 mod joins;
 mod key_choice;
@@ -43,6 +45,7 @@ mod left_rows;
 mod minus_operator;
 mod right_side;
 
+pub use distinct_rows::distinct;
 pub use joins::join;
 pub use keyed::Keyed;
 pub use left_joins::{RowTest, left_join};

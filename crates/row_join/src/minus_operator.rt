@@ -76,7 +76,7 @@ impl Pairing for Remainder {
         buffers: &mut Buffers,
         made: &mut Rows,
     ) -> Result<(), AllocError> {
-        if stays(row, right, &mut buffers.numbers)? {
+        if stays(row, right, buffers)? {
             made.push(row)?;
         }
         Ok(())
@@ -88,29 +88,40 @@ impl Pairing for Remainder {
 ///
 /// # Errors
 /// `AllocError` if an allocation fails.
-fn stays(row: &[Option<u64>], right: &RightSide, numbers: &mut Vec<u64>) -> Result<bool, AllocError>
+fn stays(row: &[Option<u64>], right: &RightSide, buffers: &mut Buffers) -> Result<bool, AllocError>
     requires wide { length row.now ≡ right.now.rows.now.width }
     ensures value { IfOk result (λ answer. answer ≡ is_apart right.now.rows.now.rows row.now) }
 {
     if !right.shares(row) {
         return Ok(true);
     }
-    let tried = right.tried(row, numbers)?;
-    Ok(is_apart(row, right.rows, tried.first) && is_apart(row, right.rows, tried.second))
+    let tried = right.tried(row, &mut buffers.numbers)?;
+    let first = is_apart(row, right.rows, tried.first, &mut buffers.other)?;
+    let second = is_apart(row, right.rows, tried.second, &mut buffers.other)?;
+    Ok(first && second)
 }
 
 /// Returns whether each of the rows at these places is incompatible with the row, or shares no
 /// bound variable with it.
-fn is_apart(row: &[Option<u64>], right: &Rows, places: &[usize]) -> bool
+///
+/// # Errors
+/// `AllocError` if an allocation fails.
+fn is_apart(
+    row: &[Option<u64>],
+    right: &Rows,
+    places: &[usize],
+    other: &mut Vec<Option<u64>>,
+) -> Result<bool, AllocError>
     requires row_wide { length row.now ≡ right.now.width }
     requires inside { All (λ i. i < length right.now.rows) places.now }
-    ensures value { result ≡ is_apart (rows_at right.now.rows places.now) row.now }
+    ensures value { IfOk result (λ answer. answer ≡ is_apart (rows_at right.now.rows places.now) row.now) }
 {
     for i in 0..places.len() {
-        let other = right.row(places[i]);
+        right.read(places[i], other)?;
+        let other = other.as_slice();
         if is_compatible(row, other) && shares(row, other) {
-            return false;
+            return Ok(false);
         }
     }
-    true
+    Ok(true)
 }

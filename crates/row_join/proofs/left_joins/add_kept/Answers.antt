@@ -1,4 +1,4 @@
-use Rattle.std.proofs.Common.{◌≡◌, ◌++◌, ◌∷◌, [], ◌&&◌, not, true, false, Bool, List, ℕ, filter, nat_eq, sym, ap, ◌∙◌, refl, arith, true≢false}
+use Rattle.std.proofs.Common.{◌≡◌, ◌++◌, ◌∷◌, [], ◌&&◌, not, true, false, Bool, List, ℕ, filter, nat_eq, sym, ap, ◌∙◌, refl, arith, true≢false, Some}
 use Rattle.std.proofs.lemmas.List.{append-nil, take_all}
 use Rattle.algebra_model.specs.Operators.{merges}
 use Rattle.algebra_model.specs.Solution.{Solution, merge}
@@ -12,8 +12,8 @@ use Rattle.row_join.proofs.left_joins.add_kept.Goals.{then-is_compatible+in_ok-m
 
 pub keeps-requires : goal.keeps-requires
 keeps-requires g c = record {
-  known = merged_passes (g.T.RowTest.knows c.args.test.now) c.args.right.now.rows _ c.args.row.now c.row-other.result.now c.deref.result.now c.merge_into.new.row.items
-      c.requires.row_known c.requires.right_known c.row-other.ensures.found c.deref.ensures.value c.in_ok-merge_into.ensures.merged;
+  known = merged_passes (g.T.RowTest.knows c.args.test.now) c.args.right.now.rows _ c.args.row.now c.as_slice-other.result.now c.deref.result.now c.merge_into.new.row.items
+      c.requires.row_known c.requires.right_known (c.in_ok-read.ensures.found ∙ ap Some (sym c.as_slice-other.ensures.value)) c.deref.ensures.value c.in_ok-merge_into.ensures.merged;
 }
 
 and_true : (b : Bool) → b ≡ (b && true)
@@ -39,12 +39,12 @@ returns-clause-width g c = c.loop-i.invariant.width
 pub loop-i-preserved : goal.loop-i-preserved
 loop-i-preserved g c =
     let keeps = g.T.RowTest.keeps c.args.test.now in
-    let merged = merge c.args.row.now c.row-other.result.now in
+    let merged = merge c.args.row.now c.as_slice-other.result.now in
     let made = c.loop-i.made.rows in
     let yes = c.is_compatible.ensures.value in
-    let kept = kept-turn c.args.right.now.rows c.args.places.now c.loop-i.i c.args.row.now c.row-other.result.now (omega arith) c.row-other.ensures.found
+    let kept = kept-turn c.args.right.now.rows c.args.places.now c.loop-i.i c.args.row.now c.as_slice-other.result.now (omega arith) (c.in_ok-read.ensures.found ∙ ap Some (sym c.as_slice-other.ensures.value))
     keeps c.args.made.now.rows made c.if-is_compatible.made.rows c.is_compatible.result in
-    let lone = alone-turn c.args.right.now.rows c.args.places.now c.loop-i.i c.args.row.now c.row-other.result.now (omega arith) c.row-other.ensures.found
+    let lone = alone-turn c.args.right.now.rows c.args.places.now c.loop-i.i c.args.row.now c.as_slice-other.result.now (omega arith) (c.in_ok-read.ensures.found ∙ ap Some (sym c.as_slice-other.ensures.value))
     keeps c.loop-i.alone c.if-is_compatible.alone c.is_compatible.result in
     elim c.if-is_compatible.branch [
       | then-is_compatible+in_ok-merge_into+in_ok-keeps+then-branch+in_ok-push w ↦

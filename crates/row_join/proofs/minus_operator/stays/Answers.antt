@@ -10,24 +10,24 @@ returns-then-not-shares c = record {
   value = sym (unshared_apart c.args.row.now c.args.right.now.rows.now.rows (sym c.shares.ensures.value ∙ c.if-not-shares.true));
 }
 
-pub returns-then-is_apart : goal.returns-then-is_apart
-returns-then-is_apart c =
+pub returns-then-first : goal.returns-then-first
+returns-then-first c =
     let right = c.args.right.now in
     let row = c.args.row.now in
     let tried = c.in_ok-tried.tried in
     record {
-      value = c.is_apart-then-is_apart.ensures.value
-          ∙ ap (λ b. b && is_apart (rows_at right.rows.now.rows tried.second.now) row) (sym c.if-is_apart.true ∙ c.is_apart.ensures.value)
+      value = c.in_ok-second.ensures.value
+          ∙ ap (λ b. b && is_apart (rows_at right.rows.now.rows tried.second.now) row) (sym c.if-first.true ∙ c.in_ok-first.ensures.value)
           ∙ apart_both right.key.items row right.rows.now.rows tried.first.now tried.second.now c.in_ok-tried.ensures.tried;
     }
 
-pub returns-else-is_apart : goal.returns-else-is_apart
-returns-else-is_apart c =
+pub returns-else-first : goal.returns-else-first
+returns-else-first c =
     let right = c.args.right.now in
     let row = c.args.row.now in
     let tried = c.in_ok-tried.tried in
     record {
-      value = c.if-is_apart.false
-          ∙ ap (λ b. b && is_apart (rows_at right.rows.now.rows tried.second.now) row) (sym c.if-is_apart.false ∙ c.is_apart.ensures.value)
+      value = c.if-first.false
+          ∙ ap (λ b. b && is_apart (rows_at right.rows.now.rows tried.second.now) row) (sym c.if-first.false ∙ c.in_ok-first.ensures.value)
           ∙ apart_both right.key.items row right.rows.now.rows tried.first.now tried.second.now c.in_ok-tried.ensures.tried;
     }
