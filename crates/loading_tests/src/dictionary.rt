@@ -2,13 +2,13 @@
 //! predicate, object, graph name.
 
 use crate::cases::{equal, gives, same_numbers};
-use crate::terms::text;
 use dict_core::{Dict, LocalPiece, NumQuad, absorbing_keeps_the_numbering, merge, number_piece};
 use nquads_core::read_piece;
 use rdf_core::{Term, Text};
 use std::alloc::{AllocError, AllocGlobal, Global};
 use std::hash::RandomState;
 use std::process::Abort;
+use test_fixtures::text;
 
 /// The IRIs of the examples.
 pub(crate) const A: &str = "http://e/a";

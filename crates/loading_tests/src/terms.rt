@@ -6,6 +6,7 @@ use rdf_core::{Quad, Term, Text, is_iri, is_node};
 use std::alloc::{AllocError, AllocGlobal, Global};
 use std::cmp::Ordering;
 use std::process::Abort;
+use test_fixtures::text;
 
 /// The parts of a term.
 #[derive(Clone, Copy)]
@@ -14,12 +15,6 @@ enum Parts {
     Iri(&'static str),
     /// Lexical form, datatype IRI and language tag.
     Literal(&'static str, &'static str, Option<&'static str>),
-}
-
-/// Returns the text of these characters, or the empty one without memory. The tests have enough
-/// memory, and a function that owns a term is slow to prove if it has several exits.
-pub(crate) fn text(alloc: Global, characters: &str) -> Text {
-    Text::from_string(String::from_str(alloc, characters).unwrap_or(String::new(alloc)))
 }
 
 fn term(alloc: Global, parts: Parts) -> Term {

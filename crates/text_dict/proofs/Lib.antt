@@ -1,4 +1,5 @@
 pub mod TextLaws
 pub mod SlotLaws
+pub mod MoveLaws
 pub mod FormLaws
 pub mod TruncateLaws

@@ -6,28 +6,28 @@ use Rattle.std.specs.Prelude.{bit_and}
 use Rattle.std.specs.Option.{IfSome, MatchOption}
 use Rattle.text_dict.specs.declared.slots.Search.{Search}
 use Rattle.text_dict.specs.declared.slots.Search.TheVariants.{Found, Free, Full}
-use Rattle.text_dict.specs.Slots.{AreReached, AreUsed, ArePassed, IsNowhere, IsPlace, IsProbe, IsSearch, Leads, most_numbers, path, slot_of, start_of}
+use Rattle.text_dict.specs.Slots.{AreReached, AreUsed, ArePassed, IsNowhere, IsPlace, IsProbe, IsSearch, Leads, most_numbers, path, slot_of, start_of, tags}
 
 -- ---- a slot
 
-pub slot_tag : (h n : ℕ) → n + 1 < most_numbers → slot_of h n / most_numbers ≡ h / most_numbers
+pub slot_tag : (h n : ℕ) → n + 1 < most_numbers → slot_of h n / most_numbers ≡ h % tags
 slot_tag h n low = omega arith
 
 pub slot_place : (h n : ℕ) → n + 1 < most_numbers → slot_of h n % most_numbers ≡ n + 1
 slot_place h n low = omega arith
 
-slot_used : (h n : ℕ) → slot_of h n ≢ 0
+pub slot_used : (h n : ℕ) → slot_of h n ≢ 0
 slot_used h n e = omega (arith, e)
 
 -- ---- lists
 
-get-drop : (n i x : ℕ) (l : List ℕ) → slice_get (drop n l) i ≡ Some x → slice_get l (n + i) ≡ Some x
+pub get-drop : (n i x : ℕ) (l : List ℕ) → slice_get (drop n l) i ≡ Some x → slice_get l (n + i) ≡ Some x
 get-drop zero i x l h = let e : i ≡ 0 + i = omega arith in subst (λ k. slice_get l k ≡ Some x) e h
 get-drop (suc n) i x [] h = let w = slice_get_within [] i x h in absurd (omega (arith, w))
 get-drop (suc n) i x (y ∷ l) h =
     let e : suc (n + i) ≡ suc n + i = omega arith in subst (λ k. slice_get (y ∷ l) k ≡ Some x) e (get-drop n i x l h)
 
-get-take : (n i x : ℕ) (l : List ℕ) → slice_get (take n l) i ≡ Some x → slice_get l i ≡ Some x
+pub get-take : (n i x : ℕ) (l : List ℕ) → slice_get (take n l) i ≡ Some x → slice_get l i ≡ Some x
 get-take zero i x l h = let w = slice_get_within [] i x h in absurd (omega (arith, w))
 get-take (suc n) i x [] h = h
 get-take (suc n) zero x (y ∷ l) h = h
@@ -44,7 +44,7 @@ split_get [] i x h = let w = slice_get_within [] i x h in absurd (omega (arith, 
 split_get (y ∷ l) zero x h = let e : y ≡ x = cc in ap (λ z. z ∷ l) e
 split_get (y ∷ l) (suc i) x h = ap (λ t. y ∷ t) (split_get l i x h)
 
-pub get-push : (xs : List (List ℕ)) (y t : List ℕ) (m : ℕ) → slice_get (xs ++ y ∷ []) m ≡ Some t
+pub get-push : {A : Type 0} → (xs : List A) (y t : A) (m : ℕ) → slice_get (xs ++ y ∷ []) m ≡ Some t
     → (slice_get xs m ≡ Some t) ⊎ ((m ≡ length xs) × (t ≡ y))
 get-push [] y t zero h = let e : t ≡ y = cc in inr (refl, e)
 get-push [] y t (suc m) h = let w = slice_get_within [] m t h in absurd (omega (arith, w))
@@ -92,7 +92,7 @@ module _ (texts : List (List ℕ)) (text : List ℕ) (h : ℕ) where
       subst (ArePassed texts text h) (sym (take_more slots i 0 low)) (passed_push (take i slots) (get_or slots i 0) p used other)
 
   -- a slot with other bits of the hash
-  pub other_tag : length texts < most_numbers → (slot : ℕ) → slot / most_numbers ≢ h / most_numbers → (n : ℕ) → slice_get texts n ≡ Some text → slot ≢ slot_of h n
+  pub other_tag : length texts < most_numbers → (slot : ℕ) → slot / most_numbers ≢ h % tags → (n : ℕ) → slice_get texts n ≡ Some text → slot ≢ slot_of h n
   other_tag few slot apart n at e =
       let low = slice_get_within texts n text at in
       apart (ap (λ s. s / most_numbers) e ∙ slot_tag h n (omega (arith, low, few)))
@@ -253,13 +253,13 @@ leads_fills slot used (a ∷ xs) (b ∷ ys) h l = by h.0 l (leads_fills slot use
     by (inr e) (inl s) rest = absurd (used (sym s ∙ e))
     by (inr e) (inr q) rest = absurd (q.0 e)
 
-leads_set : (slots : List ℕ) (i x start slot : ℕ) → slice_get slots i ≡ Some 0 → slot ≢ 0 → Leads slot (path slots start) → Leads slot (path (set slots i x) start)
+pub leads_set : (slots : List ℕ) (i x start slot : ℕ) → slice_get slots i ≡ Some 0 → slot ≢ 0 → Leads slot (path slots start) → Leads slot (path (set slots i x) start)
 leads_set slots i x start slot at used l =
     let all = fills_set slots i x at in
     leads_fills slot used (path slots start) (path (set slots i x) start)
     (fills_append (drop start slots) (drop start (set slots i x)) (take start slots) (take start (set slots i x)) (fills_drop start slots (set slots i x) all) (fills_take start slots (set slots i x) all)) l
 
-start_kept : (h : ℕ) (slots : List ℕ) (i x : ℕ) → start_of h (set slots i x) ≡ start_of h slots
+pub start_kept : (h : ℕ) (slots : List ℕ) (i x : ℕ) → start_of h (set slots i x) ≡ start_of h slots
 start_kept h slots i x = ap (λ n. bit_and h (n - 1)) (length-set slots i x)
 
 -- a text more is found

@@ -1,16 +1,20 @@
--- A table with open addressing (a choice of this project). A slot is 0, or it has the upper bits of the hash of a text
+-- A table with open addressing (a choice of this project). A slot is 0, or it has the lower bits of the hash of a text
 -- and the number of the text. Only private clauses use these definitions.
-use Rattle.std.specs.Prelude.{◌≡◌, ◌≢◌, ◌⊎◌, ℕ, ◌+◌, ◌-◌, ◌*◌, ◌/◌, List, [], ◌∷◌, ◌++◌, length, take, drop, set, slice_get, Some, bit_and}
+use Rattle.std.specs.Prelude.{◌≡◌, ◌≢◌, ◌⊎◌, ℕ, ◌+◌, ◌-◌, ◌*◌, ◌/◌, ◌%◌, ◌<◌, ◌==◌, Bool, get_or, List, [], ◌∷◌, ◌++◌, length, take, drop, set, slice_get, Some, bit_and}
 use Rattle.text_dict.specs.declared.slots.Search.{Search}
 use Rattle.text_dict.specs.declared.slots.Search.TheVariants.{Found, Free, Full}
 
--- the numbers of a slot are below this: 2^40
+-- the numbers of a slot are below this: 2^34
 abbrev pub most_numbers : ℕ
-most_numbers = 1099511627776
+most_numbers = 17179869184
+
+-- the tag of a hash is its remainder by this number: 2^30
+abbrev pub tags : ℕ
+tags = 1073741824
 
 -- the slot of the text with number n and hash h
 abbrev pub slot_of : ℕ → ℕ → ℕ
-slot_of h n = h / most_numbers * most_numbers + (n + 1)
+slot_of h n = h % tags * most_numbers + (n + 1)
 
 -- where the search for a hash begins
 abbrev pub start_of : ℕ → List ℕ → ℕ
@@ -60,3 +64,18 @@ abbrev pub IsSearch : List (List ℕ) → List ℕ → ℕ → List ℕ → Sear
 IsSearch texts text h slots (Found n) = slice_get texts n ≡ Some text
 IsSearch texts text h slots (Free i) = IsPlace slots h i × IsNowhere texts text h slots
 IsSearch texts text h slots Full = IsNowhere texts text h slots
+
+-- the slot was put into the table: its text is found, and so is each that was found before
+pub record IsPut (earlier : List ℕ) (slot : ℕ) (later : List ℕ) : Type 0 where
+  pub len : length later ≡ length earlier
+  pub kept : (s start : ℕ) → s ≢ 0 → Leads s (path earlier start) → Leads s (path later start)
+  pub found : (h n : ℕ) → n + 1 < most_numbers → slot ≡ slot_of h n → Leads slot (path later (start_of h later))
+
+-- the slots of a table are found in another one
+abbrev pub AreMoved : List ℕ → List ℕ → Type 0
+AreMoved slots longer = (h n i : ℕ) → n + 1 < most_numbers → slice_get slots i ≡ Some (slot_of h n)
+    → Leads (slot_of h n) (path longer (start_of h longer))
+
+-- the search for a hash begins at a slot that has its tag
+abbrev pub begins_at_tag : List ℕ → ℕ → Bool
+begins_at_tag slots h = get_or slots (start_of h slots) 0 / most_numbers == h % tags

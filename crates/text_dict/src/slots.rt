@@ -1,18 +1,21 @@
 //! The table of a dictionary: where the number of a text is.
 //!
 //! Open addressing with linear probing. A search begins at a slot that the lower bits of the hash give. It goes on to
-//! the end of the table, and then from the front. A slot that is in use has the upper bits of the hash. So a text is
-//! compared only if these are equal.
-ghost use Rattle.std.specs.Prelude.{◌≡◌, ◌≢◌, ◌+◌, ◌-◌, ◌<◌, ◌≤◌, ℕ, true, false, List, length, take, slice_get, Some, IfOk, IfSome, MatchOption};
+//! the end of the table, and then from the front. A slot that is in use has the tag of the hash, its lower 30 bits. So a text is
+//! compared only if the tags are equal, and a longer table of up to 2^30 slots is made without reading a text.
+ghost use Rattle.std.specs.Prelude.{◌≡◌, ◌≢◌, ◌+◌, ◌-◌, ◌<◌, ◌≤◌, ℕ, true, false, List, length, take, slice_get, Some, IfOk, IfSome, MatchOption, OnOk};
 ghost use Rattle.keyed_hash.specs.Hashing.{hash_of};
-ghost use Rattle.text_dict.specs.Slots.{slot_of, start_of, most_numbers, AreReached, AreUsed, IsPlace, IsProbe, IsSearch};
+ghost use Rattle.text_dict.specs.Slots.{slot_of, start_of, most_numbers, tags, AreMoved, AreReached, AreUsed, IsPlace, IsProbe, IsPut, IsSearch, begins_at_tag};
 
 use crate::texts::Texts;
 use keyed_hash::HashState;
 use std::alloc::{AllocError, Global};
 
-/// The numbers of texts are below this, because a slot has 40 bits for a number.
-pub(crate) const MOST_NUMBERS: u64 = 1 << 40;
+/// The numbers of texts are below this, because a slot has 34 bits for a number.
+pub(crate) const MOST_NUMBERS: u64 = 1 << 34;
+
+/// The number of tags. The tag of a hash is its remainder by this number.
+const TAGS: u64 = 1 << 30;
 
 /// What a search for a text finds.
 #[derive(Clone, Copy)]
@@ -31,7 +34,7 @@ pub(crate) fn slot_of(hash: u64, n: usize) -> u64
     requires few { n + 1 < most_numbers }
     ensures value { result ≡ slot_of hash n }
 {
-    hash / MOST_NUMBERS * MOST_NUMBERS + (n as u64 + 1)
+    hash % TAGS * MOST_NUMBERS + (n as u64 + 1)
 }
 
 /// Returns whether the text before this place, counted from 0, is this one.
@@ -49,7 +52,7 @@ fn probe(texts: &Texts, slots: &[u64], hash: u64, text: &[u8]) -> Search
     requires few { length texts.now < most_numbers }
     ensures probe { IsProbe texts.now text.now hash slots.now result }
 {
-    let wanted = hash / MOST_NUMBERS;
+    let wanted = hash % TAGS;
     for i in 0..slots.len() {
         let slot = slots[i];
         if slot == 0 {
@@ -90,6 +93,15 @@ pub(crate) fn find(texts: &Texts, slots: &[u64], hash: u64, text: &[u8]) -> Sear
         Search::Free(i) => Search::Free(start + i),
         Search::Full => probe(texts, &slots[..start], hash, text),
     }
+}
+
+/// Returns whether the search for this hash begins at a slot that has its tag.
+#[inline(always)]
+pub(crate) fn begins_at_tag(slots: &[u64], hash: u64) -> bool
+    requires some { 0 < length slots.now }
+    ensures value { result ≡ begins_at_tag slots.now hash }
+{
+    slots[start_of(slots, hash)] / MOST_NUMBERS == hash % TAGS
 }
 
 /// Returns the first slot that is not in use.
@@ -141,4 +153,60 @@ pub(crate) fn table_of(
         slots[place] = slot_of(hash, n);
     }
     Ok(slots)
+}
+
+/// Puts a slot at its place. An empty slot is not put.
+///
+/// # Errors
+/// `AllocError` if no slot is free.
+fn put(slots: &mut Vec<u64>, slot: u64) -> Result<(), AllocError>
+    requires short { length slots.old.items ≤ tags }
+    ensures put { OnOk result (IsPut slots.old.items slot slots.new.items) }
+{
+    if slot == 0 {
+        return Ok(());
+    }
+    let Some(place) = empty_slot(slots.as_slice(), slot / MOST_NUMBERS) else {
+        return Err(AllocError);
+    };
+    slots[place] = slot;
+    Ok(())
+}
+
+/// Creates a table of this length with the slots of another one. Reads no text, because the tag gives the start of a
+/// search in a table that is not longer than the number of tags.
+///
+/// # Errors
+/// `AllocError` if an allocation fails, or if the table has no room for all slots.
+fn table_with(alloc: Global, slots: &[u64], len: usize) -> Result<Vec<u64>, AllocError>
+    requires short { len ≤ tags }
+    ensures moved { IfOk result (λ longer. AreMoved slots.now longer.items) }
+{
+    let mut longer = vec![in alloc; 0u64; len]?;
+    for i in 0..slots.len() {
+        put(&mut longer, slots[i])?;
+    }
+    Ok(longer)
+}
+
+/// Creates a longer table, of this length, for all texts. They are reached by these slots.
+///
+/// # Errors
+/// `AllocError` if an allocation fails, or if the table has no room for all texts.
+pub(crate) fn longer_table(
+    alloc: Global,
+    texts: &Texts,
+    slots: &[u64],
+    state: HashState,
+    len: usize,
+) -> Result<Vec<u64>, AllocError>
+    requires few { length texts.now < most_numbers }
+    requires reached { AreReached (hash_of state) texts.now slots.now }
+    ensures reached { IfOk result (λ longer. AreReached (hash_of state) texts.now longer.items) }
+{
+    if len as u64 <= TAGS {
+        let longer = table_with(alloc, slots, len)?;
+        return Ok(longer);
+    }
+    table_of(alloc, texts, state, len)
 }

@@ -5,7 +5,7 @@ ghost use Rattle.text_dict.specs.Forms.{AreForms, IsForm};
 ghost use Rattle.text_dict.specs.Slots.{IsPlace};
 ghost use Rattle.text_dict.specs.TextDict.{Has, IsAdded, IsTable};
 
-use crate::slots::{MOST_NUMBERS, Search, find, slot_of, table_of};
+use crate::slots::{MOST_NUMBERS, Search, begins_at_tag, find, longer_table, slot_of, table_of};
 use crate::texts::Texts;
 use keyed_hash::HashState;
 use std::alloc::{AllocError, Global};
@@ -141,13 +141,23 @@ impl TextDict {
         }
     }
 
+    /// Estimates whether the dictionary lacks the texts with this hash: returns whether the search for it begins at a slot that is
+    /// empty or has another tag. The estimate decides nothing.
+    ///
+    /// Reads one slot and no text. A caller with many hashes first calls this for each of them. Their slots are then in the cache
+    /// of the processor when the texts are looked up.
+    #[inline(always)]
+    pub fn may_lack(&self, hash: u64) -> bool {
+        self.slots.is_empty() || !begins_at_tag(self.slots.as_slice(), hash)
+    }
+
     /// Returns the number of a text. A new text is appended.
     ///
     /// # Requires
     /// The text is the N-Quads form of a term.
     ///
     /// # Errors
-    /// `AllocError` if the text is new, and an allocation fails or the dictionary has 2^40 - 2 texts. The dictionary
+    /// `AllocError` if the text is new, and an allocation fails or the dictionary has 2^34 - 2 texts. The dictionary
     /// is unchanged.
     pub fn intern(&mut self, text: &[u8]) -> Result<u64, AllocError>
         requires form { IsForm text.now }
@@ -176,7 +186,7 @@ impl TextDict {
         ensures state { self.new.state ≡ self.old.state }
         ensures small { IfOk result (λ n. n < 2 ^ 40) }
     {
-        make_room(&self.texts, &mut self.slots, self.state)?;
+        make_room(&self.texts, &mut self.slots, self.state, 0)?;
         match find(&self.texts, self.slots.as_slice(), hash, text) {
             Search::Found(n) => Ok(n as u64),
             Search::Free(place) => add(
@@ -191,6 +201,18 @@ impl TextDict {
         }
     }
 
+    /// Makes the table longer if it has no room for this many more texts. It is made twice as long at most, so it may have to
+    /// grow again.
+    ///
+    /// # Errors
+    /// `AllocError` if an allocation fails. The dictionary is unchanged.
+    pub fn reserve(&mut self, more: usize) -> Result<(), AllocError>
+        ensures texts { self.new.texts ≡ self.old.texts }
+        ensures state { self.new.state ≡ self.old.state }
+    {
+        make_room(&self.texts, &mut self.slots, self.state, more)
+    }
+
     /// Removes the texts from this number on. The other texts keep their numbers.
     ///
     /// The slots of the removed texts stay in the table. A search passes them: their numbers are those of no text, or of
@@ -203,16 +225,21 @@ impl TextDict {
     }
 }
 
-/// Makes the table longer if half of its slots are in use.
-fn make_room(texts: &Texts, slots: &mut Vec<u64>, state: HashState) -> Result<(), AllocError>
+/// Makes the table longer if with this many more texts half of its slots are in use.
+fn make_room(
+    texts: &Texts,
+    slots: &mut Vec<u64>,
+    state: HashState,
+    more: usize,
+) -> Result<(), AllocError>
     requires table { IsTable (hash_of state) texts.now slots.old.items }
     ensures table { IsTable (hash_of state) texts.now slots.new.items }
 {
-    if texts.len() < slots.len() / 2 {
+    if texts.len().saturating_add(more) < slots.len() / 2 {
         return Ok(());
     }
     let len = slots.len().saturating_mul(2).max(16);
-    let longer = table_of(*slots.allocator(), texts, state, len)?;
+    let longer = longer_table(*slots.allocator(), texts, slots.as_slice(), state, len)?;
     *slots = longer;
     Ok(())
 }

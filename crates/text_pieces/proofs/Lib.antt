@@ -1,4 +1,5 @@
 pub mod FormLaws
+pub mod HashLaws
 pub mod NamingLaws
 pub mod StatementSteps
 pub mod AddingLaws

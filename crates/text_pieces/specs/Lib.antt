@@ -1,3 +1,4 @@
 pub mod Forms
 pub mod Slices
+pub mod Hashes
 pub mod Pieces

@@ -4,6 +4,7 @@ ghost use Rattle.rdf_core.specs.QuadParts.{QuadParts};
 ghost use Rattle.text_pieces.specs.Forms.{AreNumberedBy};
 ghost use Rattle.text_pieces.specs.Pieces.{AreAdded, AreGrown, IsPieceOf};
 
+use crate::hashes::{count_lacking, text_hashes};
 use crate::renumbering::append_renumbered;
 use crate::text_piece::TextPiece;
 use dict_core::NumQuad;
@@ -65,9 +66,12 @@ fn add_texts(alloc: Global, dict: &mut TextDict, new: &TextDict) -> Result<Vec<u
     ensures added { IfOk result
         (λ v. AreAdded dict.old.texts new.now.texts dict.new.texts v.items) }
 {
+    let found = text_hashes(alloc, dict.state(), new)?;
+    let hashes = found.as_slice();
+    dict.reserve(count_lacking(dict, hashes))?;
     let mut numbers = Vec::with_capacity(alloc, new.len())?;
     for n in 0..new.len() as u64 {
-        numbers.push_reserved(dict.intern(new.text(n))?);
+        numbers.push_reserved(dict.intern_hashed(hashes[n as usize], new.text(n))?);
     }
     Ok(numbers)
 }

@@ -85,21 +85,22 @@ pub(crate) fn number_text(
     }
 }
 
-/// Returns the number of the term that a slice denotes. A slice that has no number is checked, and rewritten to the
-/// N-Quads form of its term. `form` is a buffer for that.
+/// Returns the number of the term that a slice with this hash denotes. A slice that has no number is checked, and rewritten
+/// to the N-Quads form of its term. `form` is a buffer for that.
 pub(crate) fn number_slice(
     alloc: Global,
     dict: &TextDict,
     new: &mut TextDict,
     form: &mut Vec<u8>,
+    hash: u64,
     raw: &str,
 ) -> Result<u64, NamingFault>
+    requires hashed { hash ≡ hash_of dict.now.state raw.now }
     requires state { new.old.state ≡ dict.now.state }
     ensures state { new.new.state ≡ dict.now.state }
     ensures number { IfOk result
         (IsNumberOf (λ _. ⊤) dict.now.texts new.old.texts new.new.texts raw.now) }
 {
-    let hash = dict.state().hash_of(raw.as_bytes());
     match known(dict, new, hash, raw.as_bytes()) {
         Some(n) => Ok(n),
         None => number_new(alloc, dict, new, form, hash, raw),
@@ -158,14 +159,16 @@ pub(crate) fn number_node(
     dict: &TextDict,
     new: &mut TextDict,
     form: &mut Vec<u8>,
+    hash: u64,
     raw: &str,
 ) -> Result<u64, NamingFault>
+    requires hashed { hash ≡ hash_of dict.now.state raw.now }
     requires state { new.old.state ≡ dict.now.state }
     ensures state { new.new.state ≡ dict.now.state }
     ensures number { IfOk result (IsNumberOf (λ t. is_node t ≡ true)
         dict.now.texts new.old.texts new.new.texts raw.now) }
 {
-    let n = number_slice(alloc, dict, new, form, raw)?;
+    let n = number_slice(alloc, dict, new, form, hash, raw)?;
     if first_byte(text_at(dict, new, n)) == b'"' {
         return Err(NamingFault::NeedsFullReader);
     }
@@ -189,8 +192,10 @@ pub(crate) fn number_again(
     form: &mut Vec<u8>,
     before: &str,
     last: Option<u64>,
+    hash: u64,
     raw: &str,
 ) -> Result<u64, NamingFault>
+    requires hashed { hash ≡ hash_of dict.now.state raw.now }
     requires state { new.old.state ≡ dict.now.state }
     requires known { IfSome last (IsKnownNode dict.now.texts new.old.texts before.now) }
     ensures state { new.new.state ≡ dict.now.state }
@@ -202,7 +207,7 @@ pub(crate) fn number_again(
             return Ok(n);
         }
     }
-    number_node(alloc, dict, new, form, raw)
+    number_node(alloc, dict, new, form, hash, raw)
 }
 
 /// Returns the number of the graph name that a slice denotes. `last` is the number of the graph label of the statement before.
@@ -213,8 +218,10 @@ pub(crate) fn number_name(
     form: &mut Vec<u8>,
     before: &RawStatement<'_>,
     last: Option<u64>,
+    hash: u64,
     name: &str,
 ) -> Result<u64, NamingFault>
+    requires hashed { hash ≡ hash_of dict.now.state name.now }
     requires state { new.old.state ≡ dict.now.state }
     requires known { IfSome last
         (IsKnownName dict.now.texts new.old.texts before.now.graph) }
@@ -223,8 +230,8 @@ pub(crate) fn number_name(
         dict.now.texts new.old.texts new.new.texts name.now) }
 {
     match before.graph {
-        Some(label) => number_again(alloc, dict, new, form, label, last, name),
-        None => number_node(alloc, dict, new, form, name),
+        Some(label) => number_again(alloc, dict, new, form, label, last, hash, name),
+        None => number_node(alloc, dict, new, form, hash, name),
     }
 }
 
@@ -234,14 +241,16 @@ pub(crate) fn number_iri(
     dict: &TextDict,
     new: &mut TextDict,
     form: &mut Vec<u8>,
+    hash: u64,
     raw: &str,
 ) -> Result<u64, NamingFault>
+    requires hashed { hash ≡ hash_of dict.now.state raw.now }
     requires state { new.old.state ≡ dict.now.state }
     ensures state { new.new.state ≡ dict.now.state }
     ensures number { IfOk result (IsNumberOf (λ t. is_iri t ≡ true)
         dict.now.texts new.old.texts new.new.texts raw.now) }
 {
-    let n = number_slice(alloc, dict, new, form, raw)?;
+    let n = number_slice(alloc, dict, new, form, hash, raw)?;
     if first_byte(text_at(dict, new, n)) != b'<' {
         return Err(NamingFault::NeedsFullReader);
     }

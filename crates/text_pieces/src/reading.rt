@@ -10,6 +10,7 @@ ghost use Rattle.dict_core.specs.Appearances.{terms_of};
 ghost use Rattle.text_pieces.specs.Pieces.{IsRead};
 ghost use Rattle.text_pieces.specs.Slices.{AreQuadsOf, AreTermNumbers};
 
+use crate::hashes::{count_lacking_slices, slice_hashes};
 use crate::naming::{NamingFault, number_text};
 use crate::renumbering::renumbered_quads;
 use crate::statements::number_statements;
@@ -55,8 +56,11 @@ fn read_split(alloc: Global, dict: &TextDict, bytes: &[u8]) -> Result<TextPiece,
     let Some(split) = split_piece(alloc, bytes)? else {
         return Err(NamingFault::NeedsFullReader);
     };
-    let mut new = TextDict::with_room(alloc, dict.state(), split.statements.len())?;
-    let quads = number_statements(alloc, dict, &mut new, split.statements.as_slice())?;
+    let raws = split.statements.as_slice();
+    let hashes = slice_hashes(alloc, dict.state(), raws)?;
+    let room = count_lacking_slices(dict, hashes.as_slice());
+    let mut new = TextDict::with_room(alloc, dict.state(), room)?;
+    let quads = number_statements(alloc, dict, &mut new, raws, hashes.as_slice())?;
     Ok(TextPiece {
         base: dict.len(),
         new,

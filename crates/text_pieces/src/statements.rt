@@ -1,7 +1,9 @@
 //! The statements of a piece as numbers.
-ghost use Rattle.std.specs.Prelude.{◌≡◌, ◌≤◌, [], length, vec_capacity, IfOk, IfSome};
+ghost use Rattle.std.specs.Prelude.{◌≡◌, ◌≤◌, [], length, map, vec_capacity, IfOk, IfSome};
+ghost use Rattle.text_pieces.specs.Hashes.{hashes_of};
 ghost use Rattle.text_pieces.specs.Slices.{AreNumbersOfAll, AreNumbersOfQuad, IsKnownName, IsKnownNode};
 
+use crate::hashes::SliceHashes;
 use crate::naming::{NamingFault, number_again, number_iri, number_name, number_slice};
 use dict_core::NumQuad;
 use nquads_core::RawStatement;
@@ -14,9 +16,11 @@ pub(crate) fn number_statements(
     dict: &TextDict,
     new: &mut TextDict,
     raws: &[RawStatement<'_>],
+    hashes: &[SliceHashes],
 ) -> Result<Vec<NumQuad>, NamingFault>
     requires state { new.old.state ≡ dict.now.state }
     requires no_texts { new.old.texts ≡ [] }
+    requires hashed { hashes.now ≡ map (hashes_of dict.now.state) raws.now }
     ensures numbered { IfOk result
         (λ v. AreNumbersOfAll dict.now.texts new.new.texts raws.now v.items) }
 {
@@ -30,8 +34,11 @@ pub(crate) fn number_statements(
     };
     let mut subject = None;
     let mut graph = None;
-    for raw in raws {
-        let quad = number_statement(alloc, dict, new, &mut form, &before, subject, graph, raw)?;
+    for i in 0..raws.len() {
+        let raw = &raws[i];
+        let quad = number_statement(
+            alloc, dict, new, &mut form, &before, subject, graph, raw, &hashes[i],
+        )?;
         quads.push_reserved(quad);
         before = *raw;
         subject = Some(quad.s);
@@ -51,12 +58,14 @@ fn number_statement(
     subject: Option<u64>,
     graph: Option<u64>,
     raw: &RawStatement<'_>,
+    hashes: &SliceHashes,
 ) -> Result<NumQuad, NamingFault>
     requires state { new.old.state ≡ dict.now.state }
     requires subject { IfSome subject
         (IsKnownNode dict.now.texts new.old.texts before.now.subject.now) }
     requires graph { IfSome graph
         (IsKnownName dict.now.texts new.old.texts before.now.graph) }
+    requires hashed { hashes.now ≡ hashes_of dict.now.state raw.now }
     ensures state { new.new.state ≡ dict.now.state }
     ensures number { IfOk result
         (AreNumbersOfQuad dict.now.texts new.old.texts new.new.texts raw.now) }
@@ -65,11 +74,20 @@ fn number_statement(
     ensures graph { IfOk result (λ quad.
         IfSome quad.g (IsKnownName dict.now.texts new.new.texts raw.now.graph)) }
 {
-    let s = number_again(alloc, dict, new, form, before.subject, subject, raw.subject)?;
-    let p = number_iri(alloc, dict, new, form, raw.predicate)?;
-    let o = number_slice(alloc, dict, new, form, raw.object)?;
+    let s = number_again(
+        alloc,
+        dict,
+        new,
+        form,
+        before.subject,
+        subject,
+        hashes.subject,
+        raw.subject,
+    )?;
+    let p = number_iri(alloc, dict, new, form, hashes.predicate, raw.predicate)?;
+    let o = number_slice(alloc, dict, new, form, hashes.object, raw.object)?;
     let g = match raw.graph {
-        Some(name) => Some(number_name(alloc, dict, new, form, before, graph, name)?),
+        Some(name) => Some(number_name(alloc, dict, new, form, before, graph, hashes.graph, name)?),
         None => None,
     };
     Ok(NumQuad { g, s, p, o })

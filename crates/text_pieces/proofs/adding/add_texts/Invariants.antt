@@ -6,6 +6,7 @@ abbrev pub invariant-loop-n : goal.invariant-loop-n
 invariant-loop-n l = record {
   room : length l.new.texts ≤ vec_capacity l.numbers;
   count : vec_len l.numbers ≡ l.n;
+  state : l.dict.state ≡ l.fn.dict.state;
   grown : AreGrown l.fn.dict.texts l.dict.texts;
   added : AreAdded l.fn.dict.texts (take l.n l.new.texts) l.dict.texts l.numbers.items;
 }

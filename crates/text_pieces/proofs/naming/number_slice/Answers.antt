@@ -9,5 +9,5 @@ returns-in-Some-clause-number c =
     let new = c.args.new.now.texts in
     let raw = c.args.raw.now in
     let n = c.in-Some.n in
-    let at : slice_get (dict ++ new) n ≡ Some raw = subst (λ t. slice_get (dict ++ new) n ≡ Some t) c.as_bytes-2.ensures.value c.in-Some.ensures.number.0 in
-    numbered_slice dict new new raw raw n (slice_of_form raw (subst IsForm c.as_bytes-2.ensures.value c.in-Some.ensures.number.1)) (placed_known dict new raw n at)
+    let at : slice_get (dict ++ new) n ≡ Some raw = subst (λ t. slice_get (dict ++ new) n ≡ Some t) c.as_bytes.ensures.value c.in-Some.ensures.number.0 in
+    numbered_slice dict new new raw raw n (slice_of_form raw (subst IsForm c.as_bytes.ensures.value c.in-Some.ensures.number.1)) (placed_known dict new raw n at)

@@ -5,8 +5,8 @@ use Rattle.text_pieces.proofs.reading.read_split.Goals as goal
 
 pub returns : goal.returns
 returns c = record {
-  read = read_by_slices c.args.dict.now.texts c.args.bytes.now c.in-Some.split.statements.items _ c.len-2.ensures.forms
+  read = read_by_slices c.args.dict.now.texts c.args.bytes.now c.in-Some.split.statements.items _ c.len.ensures.forms
       (rw c.in-Some.is at c.in_ok-split.ensures.statements) (rw c.in-Some.is at c.in_ok-split.ensures.lines)
-      (subst (λ raws. AreNumbersOfAll c.args.dict.now.texts c.number_statements.new.new.texts raws c.in_ok-quads.quads.items) c.as_slice.ensures.value c.in_ok-quads.ensures.numbered)
-      c.len-2.ensures.value;
+      (subst (λ raws. AreNumbersOfAll c.args.dict.now.texts c.number_statements.new.new.texts raws c.in_ok-quads.quads.items) c.as_slice-raws.ensures.value c.in_ok-quads.ensures.numbered)
+      c.len.ensures.value;
 }

@@ -3,12 +3,12 @@ use Rattle.std.specs.Option.{IfSome}
 use Rattle.text_pieces.specs.Slices.{AreNumbersOfAll, IsKnownName, IsKnownNode}
 use Rattle.text_pieces.proofs.statements.number_statements.Given as goal
 
-abbrev pub invariant-loop-raw : goal.invariant-loop-raw
-invariant-loop-raw l = record {
+abbrev pub invariant-loop-i : goal.invariant-loop-i
+invariant-loop-i l = record {
   room : length l.raws ≤ vec_capacity l.quads;
-  count : vec_len l.quads ≡ l.raw-index;
+  count : vec_len l.quads ≡ l.i;
   state : l.new.state ≡ l.dict.state;
   subject : IfSome l.subject (IsKnownNode l.dict.texts l.new.texts l.before.subject.now);
   graph : IfSome l.graph (IsKnownName l.dict.texts l.new.texts l.before.graph);
-  numbered : AreNumbersOfAll l.dict.texts l.new.texts (take l.raw-index l.raws) l.quads.items;
+  numbered : AreNumbersOfAll l.dict.texts l.new.texts (take l.i l.raws) l.quads.items;
 }
