@@ -100,6 +100,13 @@ QUERIES = {
     "filter in graphs": "GRAPH ?g { ?a :m ?c . ?b :m ?d FILTER(?a != ?b) }",
     "bind in graphs": "GRAPH ?g { ?a :m ?c BIND(STR(?c) AS ?t) }",
     "graph next to graph": "GRAPH ?g { ?a :m ?c } GRAPH ?h { ?a :m ?d }",
+    # a GRAPH below an operator below a GRAPH
+    "graph and filter in graph": "GRAPH ?g { ?a :m ?c " + IN_GRAPHS + " FILTER(?c != :c1) }",
+    "graph and bind in graph": "GRAPH ?g { ?a :m ?c " + IN_GRAPHS + " BIND(STR(?c) AS ?t) }",
+    "graph and equality in graph": "GRAPH ?g { ?a :m ?c GRAPH ?h { ?b :m ?d } FILTER(?a = ?b) }",
+    "graph and union in graph": "GRAPH ?g { { ?a :m ?c " + IN_GRAPHS + " } UNION { ?a :k ?c } }",
+    "graph in optional in graph": "GRAPH ?g { ?a :m ?c OPTIONAL { " + IN_GRAPHS + " } }",
+    "graph in minus in graph": "GRAPH ?g { ?a :m ?c MINUS { GRAPH ?h { ?a :m :c5 } } }",
     # blank nodes
     "blank node path": "_:a :k _:b . _:b :k _:c . _:c :n ?x",
     "blank node with properties": "_:a :n ?x ; :k _:b . _:b :n ?y ; :l ?l",

@@ -1,10 +1,11 @@
 #!/usr/bin/env python3
-"""Compares the notes on random queries over random documents with a plain model that counts errors.
+"""Compares the notes on queries of daily work, and on random queries over random documents, with a plain model that counts errors.
 
     notes.py [PROGRAM] [--count N] [--seed S]
 
 PROGRAM is the program (crates/spq/out/spq where none is given). Each case runs with 1 worker and with 8, and standard error
-has to be that of the model: the rows, the place, the cause and the consequence of each note, and their order. The model
+has to be that of the model: the rows, the place, the cause and the consequence of each note, and their order. If a FILTER with an
+equality is above a join with a FILTER of its own, notes may be missing, or say `at least` and a smaller number. The model
 evaluates SPARQL 1.1 Query Language, sections 17 and 18, over lists of dictionaries. docs/DIAGNOSTICS.md says when a note comes.
 Python 3 standard library.
 """
@@ -251,7 +252,7 @@ def causes_of_pair(sign, one, other, sense):
     return [("kinds", None)]
 
 
-# Elements of a group: ("triples", [(s, p, o), ..]), ("filter", e, site), ("bind", e, name, site), ("optional", group, site), ("minus", group),
+# Elements of a group: ("group", group), ("triples", [(s, p, o), ..]), ("filter", e, site), ("bind", e, name, site), ("optional", group, site), ("minus", group),
 # ("union", group, group), ("graph", name, group), ("values", name, [term, ..]). A site is filled when the query is written.
 
 
@@ -266,8 +267,12 @@ def filters(group):
     return [it for it in group if it[0] == "filter"]
 
 
+# Rows with which all rows are compatible.
+NO_OTHERS = [{}]
+
+
 class Model:
-    """An evaluation that counts errors."""
+    """An evaluation that counts errors. GRAPH with a variable that all rows bind with which it is joined goes over their names alone."""
 
     def __init__(self, quads):
         self.quads = quads
@@ -293,32 +298,38 @@ class Model:
         self.note(owner, conditions, row)
         return all(truth_or_none(it, row) for it in conditions)
 
-    def group(self, group, graph):
+    def group(self, group, graph, others=NO_OTHERS):
+        """Returns the rows of a group. Of a group without FILTER, only those are needed that are compatible with one of the others."""
         conditions = [it[1] for it in filters(group)]
-        return [it for it in self.patterns(group, graph) if not conditions or self.passes(("filter",), conditions, it)]
+        if not conditions:
+            return self.patterns(group, graph, others)
+        return [it for it in self.patterns(group, graph, is_filtered=True) if self.passes(("filter",), conditions, it)]
 
-    def patterns(self, group, graph):
+    def patterns(self, group, graph, others=NO_OTHERS, is_filtered=False):
         rows = [{}]
         for element in group:
-            rows = self.element(element, rows, graph)
+            if element[0] == "filter":
+                continue
+            rows = self.element(element, rows, graph, others, is_filtered)
+            others = rows
             if len(rows) > MOST_ROWS:
                 raise TooLarge
         return rows
 
-    def element(self, element, rows, graph):
+    def element(self, element, rows, graph, others, is_filtered):
         kind = element[0]
-        if kind == "filter":
-            return rows
         if kind == "bind":
             return [self.extended(row, element) for row in rows]
         if kind == "optional":
-            return self.left_joined(rows, self.patterns(element[1], graph), [it[1] for it in filters(element[1])])
+            return self.left_joined(rows, self.patterns(element[1], graph, rows), [it[1] for it in filters(element[1])])
         if kind == "minus":
-            others = self.group(element[1], graph)
-            return [row for row in rows if not any(row.keys() & it.keys() and is_compatible(row, it) for it in others)]
-        return joined(rows, self.solutions(element, graph))
+            right = self.group(element[1], graph, rows)
+            return [row for row in rows if not any(row.keys() & it.keys() and is_compatible(row, it) for it in right)]
+        if kind == "group" and is_filtered:
+            others = NO_OTHERS
+        return joined(rows, self.solutions(element, graph, others))
 
-    def solutions(self, element, graph):
+    def solutions(self, element, graph, others):
         kind = element[0]
         if kind == "triples":
             return self.matches(element[1], graph)
@@ -326,10 +337,15 @@ class Model:
             return [row for it in element[1:] for row in self.group(it, graph)]
         if kind == "values":
             return [{element[1]: it} for it in element[2]]
+        if kind == "group":
+            return self.group(element[1], graph, others)
         if element[1][0] != "var":
             return self.group(element[2], element[1]) if any(it[3] == element[1] for it in self.quads) else []
-        names = sorted({it[3] for it in self.quads} - {None})
-        return [row for name in names for row in joined(self.group(element[2], name), [{element[1][1]: name}])]
+        name = element[1][1]
+        names = {it[3] for it in self.quads} - {None}
+        if all(name in row for row in others):
+            names &= {row[name] for row in others}
+        return [row for it in sorted(names) for row in joined(self.group(element[2], it), [{name: it}])]
 
     def matches(self, triples, graph):
         rows = [{}]
@@ -536,6 +552,8 @@ class Writer:
             self.group(element[1], "", is_in_minus, is_in_graph)
             self.put("UNION")
             self.group(element[2], "", is_in_minus, is_in_graph)
+        elif kind == "group":
+            self.group(element[1], "", is_in_minus, is_in_graph)
         elif kind == "graph":
             self.put("GRAPH")
             self.term(element[1])
@@ -591,12 +609,8 @@ def drawn_expression(draw, quads, scope, depth=2):
     if depth and kind < 0.4:
         return ("not", drawn_expression(draw, quads, scope, depth - 1))
     if kind < 0.78:
-        # Not `?x = ?y`: an OPTIONAL with it tests only pairs that may be equal.
         left, right = drawn_operand(draw, quads, scope), drawn_operand(draw, quads, scope)
-        sign = draw.choice(["=", "=", "!=", "<", ">", "<=", ">="])
-        if sign == "=" and left[0] == right[0] == "var":
-            return ("not", ("compare", "!=", left, right))
-        return ("compare", sign, left, right)
+        return ("compare", draw.choice(["=", "=", "!=", "<", ">", "<=", ">="]), left, right)
     if kind < 0.88:
         return ("in", draw.random() < 0.4, drawn_operand(draw, quads, scope), [drawn_operand(draw, quads, scope) for _ in range(draw.randrange(1, 4))])
     if kind < 0.92:
@@ -612,7 +626,7 @@ class Drawer:
     """A random query. Each group has a triple pattern, so that none is the same in every graph."""
 
     def __init__(self, draw, quads):
-        self.draw, self.quads, self.fresh = draw, quads, 0
+        self.draw, self.quads, self.fresh, self.is_nested = draw, quads, 0, False
         self.expressions = []
 
     def new(self):
@@ -670,12 +684,38 @@ class Drawer:
         return group, scope
 
 
+    def paired(self):
+        """Returns a group that pairs the rows of two groups, or of a group and an OPTIONAL, by `?x = ?y`."""
+        draw = self.draw
+
+        def part(subject, item):
+            subject = draw.choice(["s", subject]) if draw.random() < 0.3 else subject
+            return ("triples", [(("var", subject), draw.choice(PREDICATES), ("var", item))])
+
+        equal = ("compare", "=", ("var", "x"), ("var", "y"))
+        more = drawn_expression(draw, self.quads, ["s", "t", "x", "y"], 1)
+        condition = draw.choice([equal, equal, ("and", equal, more), ("and", more, equal), ("and", equal, ("compare", "=", ("var", "y"), ("var", "x")))])
+        filters = [("filter", condition, Site())] + ([("filter", more, Site())] if draw.random() < 0.2 else [])
+        first, second, third = part("s", "x"), ("group", [part("t", "y")]), ("group", [part("u", "z")])
+        if draw.random() < 0.3:
+            return [first, ("optional", [part("t", "y"), *filters], None)]
+        if draw.random() < 0.2:
+            inner = draw.choice([more, ("compare", draw.choice(["=", "!=", "<"]), ("var", "x"), ("var", draw.choice(["y", "z"])))])
+            self.is_nested = True
+            below = ("group", draw.choice([[first, second], [first, third, second]]) + [("filter", inner, Site())])
+            return draw.choice([[below], [below, third], [third, below]]) + filters
+        if draw.random() < 0.2:
+            second = ("values", "y", draw.sample(LITERALS, 3))
+        return draw.choice([[first, second], [first, second], [first, second, third], [first, third, second]]) + filters
+
+
 def case(seed):
-    """Returns a random document, a query, and its notes."""
+    """Returns a random document, a query, its notes, and whether some of them may be missing."""
     while True:
         draw = random.Random(seed)
         quads = drawn_quads(draw)
-        group = Drawer(draw, quads).group(set(), 2, False)[0]
+        drawer = Drawer(draw, quads)
+        group = drawer.paired() if draw.random() < 0.2 else drawer.group(set(), 2, False)[0]
         writer, model = Writer(draw), Model(quads)
         writer.put("SELECT", "*")
         writer.group(group, "", False, False)
@@ -685,32 +725,158 @@ def case(seed):
             seed += 1_000_000_007
             continue
         document = "".join(" ".join(written(it) for it in quad if it) + " .\n" for quad in quads)
-        return document, writer.text, writer.notes(quads) + model.notes(writer.sites)
+        return document, writer.text, writer.notes(quads) + model.notes(writer.sites), drawer.is_nested
 
 
-def wrong(program, document, query, wanted):
+# Queries of daily work, over a small document in the shape of a catalogue of audio plugins and its ontologies.
+
+LV2, RDFS, OWL, TERMS = "http://lv2plug.in/ns/lv2core#", "http://www.w3.org/2000/01/rdf-schema#", "http://www.w3.org/2002/07/owl#", "http://purl.org/dc/terms/"
+TYPE = ("iri", "http://www.w3.org/1999/02/22-rdf-syntax-ns#type")
+LABEL, MINIMUM, DEFAULT = ("iri", RDFS + "label"), ("iri", LV2 + "minimum"), ("iri", LV2 + "default")
+CREATED, ISSUED, SEE = ("iri", TERMS + "created"), ("iri", TERMS + "issued"), ("iri", RDFS + "seeAlso")
+CLASSES = [("iri", OWL + "Class"), ("iri", RDFS + "Class")]
+
+
+def daily_quads():
+    """Returns 12 plugins in the default graph: a third of them with a label in English and French, a third with a plain label; numbers of
+    three datatypes; dates and years. Each of two named graphs has classes."""
+    numbers = [literal("0.5", DECIMAL), literal("1", XSD + "integer"), literal("0.5", XSD + "double"), literal("-10", XSD + "integer")]
+    quads = []
+    for i in range(12):
+        plugin = ("iri", f"http://e/plugin{i}")
+        labels = [[literal(f"Gain {i}", "", "en"), literal(f"Gain {i}", "", "fr")], [literal(f"Filter {i}", "", "en")], [literal(f"Delay {i}")]][i % 3]
+        quads += [(plugin, TYPE, ("iri", LV2 + "Plugin"), None), *((plugin, LABEL, it, None) for it in labels)]
+        quads += [(plugin, MINIMUM, numbers[i % 4], None), (plugin, DEFAULT, numbers[(i + i // 4) % 4], None)]
+        quads.append((plugin, CREATED, literal(f"20{10 + i}-01-01", XSD + "date"), None))
+        if i % 2:
+            quads += [(plugin, ISSUED, literal(f"{2000 + i}", XSD + "gYear"), None), (plugin, SEE, ("iri", f"http://e/home{i}"), None)]
+    for i in range(8):
+        name = ("iri", f"http://e/class{i}")
+        quads.append((name, TYPE, CLASSES[i % 2], GRAPHS[i % 2]))
+        if i % 4:
+            quads.append((name, LABEL, literal(f"Class {i}", "", "en"), GRAPHS[i % 2]))
+    return quads
+
+
+def var(name):
+    return ("var", name)
+
+
+def having(*pairs, subject="p"):
+    """Returns the triple patterns of a plugin with these predicates and variables."""
+    return ("triples", [(var(subject), predicate, var(name)) for predicate, name in pairs])
+
+
+def where(*e):
+    return ("filter", e, Site())
+
+
+def compare(sign, one, other):
+    return ("compare", sign, *(it if isinstance(it, tuple) else var(it) for it in (one, other)))
+
+
+def value_of(lexical, datatype=STRING):
+    return ("term", literal(lexical, datatype))
+
+
+def daily_queries():
+    """Yields queries, each with the number of its notes. A query without notes loses no row that its writer wants."""
+    labels, minima, dates = having((LABEL, "l")), having((MINIMUM, "n")), having((CREATED, "d"))
+    date, year = value_of("2015-01-01", XSD + "date"), value_of("2005", XSD + "gYear")
+    zero, one = value_of("0", XSD + "integer"), value_of("1", XSD + "integer")
+    yield [labels, where(*compare("=", ("LANG", var("l")), value_of("fr")))], 0
+    yield [labels, where(*compare("!=", "l", value_of("")))], 1
+    yield [labels, where(*compare("=", "l", value_of("Delay 2")))], 0
+    yield [labels, where(*compare("=", "l", value_of("Gain 3")))], 1
+    yield [labels, where(*compare("=", ("STR", var("l")), value_of("Gain 3")))], 0
+    yield [having((LABEL, "l"), (LABEL, "m")), where(*compare("!=", "l", "m"))], 1
+    yield [minima, where(*compare(">=", "n", zero))], 1
+    yield [minima, where(*compare("!=", ("DATATYPE", var("n")), ("term", ("iri", XSD + "integer"))))], 0
+    yield [minima, where(*compare("<", "n", value_of("1e3", XSD + "double")))], 1
+    yield [minima, where(*var("n"))], 1
+    yield [dates, where(*compare(">", "d", date))], 1
+    yield [dates, where(*compare("<", ("STR", var("d")), value_of("2015")))], 0
+    yield [having((ISSUED, "y")), where(*compare(">=", "y", year))], 1
+    yield [having((TYPE, "t")), where("in", False, var("t"), [("term", it) for it in CLASSES])], 0
+    yield [minima, ("minus", [minima, where(*compare(">=", "n", value_of("-1000000", XSD + "integer")))])], 1
+    yield [labels, ("optional", [minima, where(*compare(">", "n", zero))], None)], 1
+    yield [having((MINIMUM, "n"), (DEFAULT, "m")), ("bind", compare("<=", "n", "m"), "ok", Site())], 1
+    yield [labels, ("optional", [having((ISSUED, "y"))], None), where("bound", var("y"))], 0
+    yield [labels, ("optional", [having((SEE, "h"))], None), where(*compare("!=", "h", "p"))], 0
+    yield [labels, ("optional", [having((SEE, "h"))], None), where(*compare("=", "title", value_of("Gain 3")))], 2
+    yield [having((TYPE, "t"), (SEE, "h")), where(*compare("!=", "t", "h"))], 0
+    yield [("group", [having((MINIMUM, "n"))]), ("group", [having((DEFAULT, "m"), subject="q")]), where(*compare("=", "n", "m"))], 1
+    yield [("group", [labels]), ("group", [having((LABEL, "m"), subject="q")]), where(*compare("=", "l", "m"))], 1
+    yield [labels, where("and", compare("=", ("LANG", var("l")), value_of("en")), compare("!=", ("STR", var("l")), value_of("")))], 0
+    yield [minima, where("or", compare("<", "n", one), ("isLITERAL", var("n")))], 0
+    classes = ("triples", [(var("c"), TYPE, CLASSES[0])])
+    unlabelled = ("minus", [having((LABEL, "l"), subject="c")])
+    yield [("graph", var("g"), [classes, unlabelled])], 0
+    yield [("graph", var("g"), [classes]), ("graph", var("h"), [having((LABEL, "l"), subject="c")]), where(*compare("!=", "g", "h"))], 0
+    yield [("graph", var("g"), [classes]), unlabelled], 0, True
+    yield [("graph", var("g"), [classes]), unlabelled], 1, False
+
+
+def daily():
+    """Returns the cases of daily work: the document, a query, and the notes of the model."""
+    cases = []
+    for group, many, *kept in daily_queries():
+        quads = [it for it in daily_quads() if it[3] or kept != [False]]
+        writer, model = Writer(random.Random(len(cases))), Model(quads)
+        writer.put("SELECT", "*")
+        writer.group(group, "", False, False)
+        model.group(group, None)
+        notes = writer.notes(quads) + model.notes(writer.sites)
+        assert len(notes) == many, (writer.text, notes)
+        document = "".join(" ".join(written(it) for it in quad if it) + " .\n" for quad in quads)
+        cases.append((document, writer.text, notes))
+    return cases
+
+
+def large():
+    """Returns cases with 160,000 pairs of an xsd:double and an integer. All are counted, but below another join only the tested ones."""
+    document = '<http://e/c> <http://e/r> "z" .\n' + "".join(
+        f'<http://e/a{i}> <http://e/p> "{i}"^^<{XSD}double> .\n<http://e/b{i}> <http://e/q> "{i}"^^<{XSD}integer> .\n' for i in range(400))
+    pairs = "SELECT ?c { { ?a <http://e/p> ?x } { ?b <http://e/q> ?y } "
+    for more, rows in (("", "160000 rows"), ("{ ?c <http://e/r> ?z } ", "at least 400 rows")):
+        note = f"spq: note: FILTER at line 1, column {len(pairs + more) + 1}: {rows} are left out, since {reason('datatype', XSD + 'double', None)}"
+        missing = [] if more else ["spq: note: ?c at line 1, column 8 is selected and occurs nowhere in the pattern"]
+        yield document, f"{pairs}{more}FILTER(?x = ?y) }}", [*missing, note]
+
+
+def are_among(said, wanted):
+    """Returns whether each note is one of the others, with at most its number of rows."""
+    def split(note):
+        parts = re.fullmatch(r"(.*: )(?:at least )?(\d+) rows? (?:is |are )?(.*)", note)
+        return (parts[1] + re.sub("^(leave|treat|remove)s", r"\1", parts[3]), int(parts[2])) if parts else (note, 0)
+    most = dict(map(split, wanted))
+    return all(most.get(name, -1) >= rows for name, rows in map(split, said))
+
+
+def wrong(program, document, query, wanted, is_nested=False):
     """Returns what is wrong of a case, or nothing."""
     for words in (["--workers", "1"], ["--workers", "8", "--rows", "1"]):
         ran = subprocess.run([program, "select", *words, "--query", query], input=document.encode(), stdout=subprocess.DEVNULL, stderr=subprocess.PIPE, timeout=120)
         said = ran.stderr.decode().splitlines()
-        if ran.returncode or said != wanted:
-            return f"{' '.join(words)}: status {ran.returncode}\n{query}\n{document}" + "\n".join(["found:", *said, "expected:", *wanted])
+        if ran.returncode or not (are_among(said, wanted) if is_nested else said == wanted):
+            return f"{' '.join(words)}: status {ran.returncode}\n{query}\n{document[:4000]}" + "\n".join(["found:", *said, "expected:", *wanted])
     return ""
 
 
 def main():
     words = argparse.ArgumentParser(description=__doc__.partition("\n")[0])
     words.add_argument("program", nargs="?", default=f"{ROOT}/crates/spq/out/spq")
-    words.add_argument("--count", type=int, default=300, help="the number of cases")
+    words.add_argument("--count", type=int, default=300, help="the number of random cases")
     words.add_argument("--seed", type=int, default=1, help="the number of the first case")
     given = words.parse_args()
     if not os.path.exists(given.program):
         sys.exit(f"no program at {given.program}: build it first (see README)")
-    made = [case(seed) for seed in range(given.seed, given.seed + given.count)]
+    made = {f"query {at}": it for at, it in enumerate([*daily(), *large()], 1)}
+    made |= {f"case {seed}": case(seed) for seed in range(given.seed, given.seed + given.count)}
     with concurrent.futures.ThreadPoolExecutor(os.cpu_count()) as pool:
-        found = list(pool.map(lambda it: wrong(os.path.abspath(given.program), *it), made))
-    bad = [f"case {given.seed + at}: {it}" for at, it in enumerate(found) if it]
-    lines = sum(len(it[2]) for it in made)
+        found = list(pool.map(lambda it: wrong(os.path.abspath(given.program), *it), made.values()))
+    bad = [f"{name}: {it}" for name, it in zip(made, found) if it]
+    lines = sum(len(it[2]) for it in made.values())
     print("\n\n".join([*bad[:5], f"{len(made) - len(bad)} of {len(made)} queries have the notes of the model, {lines} in all"]))
     return 1 if bad else 0
 

@@ -90,7 +90,7 @@ enum Kind {
 fn kind_of_literal(term: &Term, datatype: &str) -> Kind {
     if datatype == XSD_STRING {
         Kind::Plain
-    } else if datatype == XSD_DOUBLE || datatype == XSD_FLOAT {
+    } else if is_float_type(datatype) {
         Kind::Float
     } else if truth(term).is_none() {
         Kind::Other
@@ -101,6 +101,53 @@ fn kind_of_literal(term: &Term, datatype: &str) -> Kind {
     } else {
         Kind::Number
     }
+}
+
+/// What the errors of a term's comparisons depend on: its kind, and the datatype of a literal without a
+/// language tag. Why `=` of two terms is an error follows from their classes.
+#[derive(Clone, Copy, PartialEq, Eq)]
+pub struct TermClass<'a> {
+    kind: Kind,
+    datatype: &'a str,
+}
+
+impl<'a> TermClass<'a> {
+    /// Returns the class of a term.
+    pub fn new(term: &'a Term) -> TermClass<'a> {
+        let kind = kind_of(term);
+        let datatype = match term {
+            Term::Literal {
+                datatype,
+                tag: None,
+                ..
+            } => datatype.as_str(),
+            Term::Literal { tag: Some(_), .. } | Term::Iri(_) | Term::Blank(_) => "",
+        };
+        TermClass { kind, datatype }
+    }
+
+    /// Returns whether `=` of different terms of these classes is an error that counts, whatever their
+    /// lexical forms are: one is an xsd:float or xsd:double, and the other is a literal.
+    pub fn is_error_with(self, other: TermClass<'_>) -> bool {
+        (self.kind == Kind::Float && other.kind != Kind::Name)
+            || (other.kind == Kind::Float && self.kind != Kind::Name)
+    }
+}
+
+/// Returns whether a term is an xsd:float or xsd:double.
+pub fn is_float(term: &Term) -> bool {
+    match term {
+        Term::Literal {
+            datatype,
+            tag: None,
+            ..
+        } => is_float_type(datatype.as_str()),
+        Term::Literal { tag: Some(_), .. } | Term::Iri(_) | Term::Blank(_) => false,
+    }
+}
+
+fn is_float_type(datatype: &str) -> bool {
+    datatype == XSD_DOUBLE || datatype == XSD_FLOAT
 }
 
 fn kind_of(term: &Term) -> Kind {
@@ -185,6 +232,7 @@ pub(crate) fn truth_cause(alloc: Global, term: &Term) -> Result<Cause, AllocErro
     }
 }
 
+/// Returns whether two literals have the same lexical form.
 fn has_same_form(left: &Term, right: &Term) -> bool {
     match left {
         Term::Literal { lexical: one, .. } => match right {
@@ -199,5 +247,5 @@ fn has_same_form(left: &Term, right: &Term) -> bool {
 /// their lexical forms differ, and neither is a float. So an error of `=` costs nothing that `false`
 /// would not cost.
 pub(crate) fn are_expected_to_differ(left: &Term, right: &Term) -> bool {
-    kind_of(left) != Kind::Float && kind_of(right) != Kind::Float && !has_same_form(left, right)
+    !is_float(left) && !is_float(right) && !has_same_form(left, right)
 }

@@ -30,9 +30,9 @@ impl<'a> Place<'a> {
         }
     }
 
-    /// Counts a row over which a condition is an error. Without memory for a second look at it, the
-    /// row is not counted.
-    fn count_condition<R: Lookup>(self, alloc: Global, condition: &Expr, row: &R) {
+    /// Counts rows like this one, over which a condition is an error. Without memory for a second look at
+    /// it, they are not counted.
+    fn count_condition<R: Lookup>(self, alloc: Global, condition: &Expr, row: &R, rows: u64) {
         if let Some(counter) = self.counter {
             if counter.parts.len() > 1 && !counter.is_valued() {
                 note_filters(alloc, counter, condition, row);
@@ -40,7 +40,7 @@ impl<'a> Place<'a> {
             let found = wrong_filter(alloc, condition, counter.parts.len(), row);
             if let Ok(Some((filter, cause))) = found {
                 if let Some(part) = counter.parts.get(filter) {
-                    part.add(alloc, &cause);
+                    part.add(alloc, &cause, rows);
                 }
             }
         }
@@ -51,7 +51,7 @@ impl<'a> Place<'a> {
         if let Some(counter) = self.counter {
             if let Ok(Some(cause)) = value_cause(alloc, expression, row) {
                 if let Some(part) = counter.parts.first() {
-                    part.add(alloc, &cause);
+                    part.add(alloc, &cause, 1);
                 }
             }
         }
@@ -156,10 +156,29 @@ pub fn test_counted<R: Lookup>(
             Ok(passes)
         }
         None => {
-            place.count_condition(alloc, condition, row);
+            place.count_condition(alloc, condition, row, 1);
             Ok(false)
         }
     }
+}
+
+/// Counts rows that no filter tests, if the condition is an error over them. It is so, with the same
+/// cause, over all of them or over none; `row` is one of them.
+///
+/// # Errors
+/// `AllocError` if an allocation of the evaluation fails. Then the rows are not counted.
+pub fn count_rows<R: Lookup>(
+    alloc: Global,
+    condition: &Expr,
+    row: &R,
+    rows: u64,
+    place: Place<'_>,
+) -> Result<(), AllocError> {
+    match truth_value(alloc, condition, row)? {
+        Some(_) => place.note_truth(alloc, condition, row),
+        None => place.count_condition(alloc, condition, row, rows),
+    }
+    Ok(())
 }
 
 /// Evaluates an expression over a row, as `value` of the crate expression_values does. If the

@@ -25,8 +25,8 @@ impl DatatypeCounter {
         }
     }
 
-    /// Counts a row if the counter is for this cause, or is free. Returns whether it was counted.
-    fn add(&self, alloc: Global, cause: &Cause) -> bool {
+    /// Counts rows if the counter is for this cause, or is free. Returns whether they were counted.
+    fn add(&self, alloc: Global, cause: &Cause, rows: u64) -> bool {
         if self.cause.get().is_none() {
             self.claim(alloc, cause);
         }
@@ -34,7 +34,7 @@ impl DatatypeCounter {
             Some(own) => {
                 let is_same = own == cause;
                 if is_same {
-                    self.rows.fetch_add(1, Ordering::SeqCst);
+                    self.rows.fetch_add(rows, Ordering::SeqCst);
                 }
                 is_same
             }
@@ -94,8 +94,8 @@ impl PartCounter {
         self.valued.store(1, Ordering::SeqCst);
     }
 
-    /// Counts a row.
-    pub(crate) fn add(&self, alloc: Global, cause: &Cause) {
+    /// Counts rows.
+    pub(crate) fn add(&self, alloc: Global, cause: &Cause, rows: u64) {
         let counter = match cause {
             Cause::Unbound(variable) | Cause::SomeUnbound(variable) => {
                 self.add_variable(*variable as u64);
@@ -106,10 +106,10 @@ impl PartCounter {
             Cause::Tagged => &self.tagged,
             Cause::Kinds => &self.kinds,
             Cause::Datatype(_) | Cause::IllFormed(_) | Cause::NoTruth(_) => {
-                return self.add_datatype(alloc, cause);
+                return self.add_datatype(alloc, cause, rows);
             }
         };
-        counter.fetch_add(1, Ordering::SeqCst);
+        counter.fetch_add(rows, Ordering::SeqCst);
     }
 
     fn add_variable(&self, variable: u64) {
@@ -127,9 +127,9 @@ impl PartCounter {
         }
     }
 
-    fn add_datatype(&self, alloc: Global, cause: &Cause) {
+    fn add_datatype(&self, alloc: Global, cause: &Cause, rows: u64) {
         for counter in &self.datatypes {
-            if counter.add(alloc, cause) {
+            if counter.add(alloc, cause, rows) {
                 return;
             }
         }
@@ -172,6 +172,8 @@ pub(crate) struct Counter {
     expressions: Vec<usize>,
     /// 1 if each of the parts was no error over some row.
     valued: AtomicU64,
+    /// 1 if not all rows were looked at.
+    partial: AtomicU64,
     /// A counter for each FILTER of the condition.
     pub(crate) parts: Vec<PartCounter>,
 }
@@ -186,12 +188,18 @@ impl Counter {
             digest: key.digest,
             expressions: Vec::new(alloc),
             valued: AtomicU64::new(0),
+            partial: AtomicU64::new(0),
             parts,
         })
     }
 
     pub(crate) fn is_valued(&self) -> bool {
         self.valued.load(Ordering::SeqCst) != 0
+    }
+
+    /// Notes that there are rows that nobody looked at.
+    pub(crate) fn note_partial(&self) {
+        self.partial.store(1, Ordering::SeqCst);
     }
 
     /// Notes that each part was no error over some row.
@@ -240,6 +248,8 @@ pub struct Tally {
     pub filter: usize,
     pub cause: Cause,
     pub rows: u64,
+    /// Whether there may be more rows than these.
+    pub is_partial: bool,
     /// Whether this FILTER or BIND was an error over every row.
     pub is_everywhere: bool,
 }
@@ -325,6 +335,7 @@ fn push_tallies(
                 filter,
                 cause,
                 rows,
+                is_partial: counter.partial.load(Ordering::SeqCst) != 0,
                 is_everywhere: !part.is_valued(),
             })?;
         }
@@ -342,5 +353,33 @@ impl<'a> Place<'a> {
     /// Returns a place where nothing is counted.
     pub fn none() -> Place<'a> {
         Place { counter: None }
+    }
+
+    /// Returns whether anything is counted here.
+    pub fn is_counted(self) -> bool {
+        self.counter.is_some()
+    }
+
+    /// Returns whether each FILTER of the condition was true or false over some row, or nothing is counted.
+    pub fn is_valued(self) -> bool {
+        match self.counter {
+            Some(counter) => counter.is_valued(),
+            None => true,
+        }
+    }
+
+    /// Notes that the expression may have a value over rows that nobody looked at.
+    pub fn note_unseen(self) {
+        if let Some(counter) = self.counter {
+            counter.note_values();
+        }
+    }
+
+    /// Notes that the expression may be an error over rows that nobody looked at. So the counts are the
+    /// least numbers.
+    pub fn note_partial(self) {
+        if let Some(counter) = self.counter {
+            counter.note_partial();
+        }
     }
 }

@@ -4,7 +4,8 @@
 //! if the condition or the value is an error, which their contracts state. [`test_counted`] and
 //! [`value_counted`] evaluate as `test` and `value` of the crate expression_values do, with the same
 //! clauses. They look a second time only at an error, and count its cause in [`ErrorCounts`]. So an
-//! evaluation without errors pays nothing.
+//! evaluation without errors pays nothing. [`count_rows`] counts rows that a join leaves out unseen: all of
+//! them are like one of them.
 //!
 //! Standard: SPARQL 1.1 Query Language, sections 17.2 and 17.3 (which operations are errors). What
 //! the causes are, and which of them count, is a choice of this project.
@@ -26,8 +27,8 @@ mod counts;
 mod digest;
 mod search;
 
-pub use cause::Cause;
-pub use counting::{test_counted, value_counted};
+pub use cause::{Cause, TermClass, is_float};
+pub use counting::{count_rows, test_counted, value_counted};
 pub use counts::{ErrorCounts, Key, Place, Tally};
 pub use digest::{Owner, digest_of};
 pub use search::{condition_cause, value_cause};

@@ -20,6 +20,14 @@ pub fn speaks(tally: &Tally) -> bool {
     !tally.cause.is_common() || tally.is_everywhere
 }
 
+/// Appends the number of rows.
+fn push_number(out: &mut String, tally: &Tally) -> Result<(), AllocError> {
+    let rows = tally.rows;
+    let least = if tally.is_partial { "at least " } else { "" };
+    let noun = if rows == 1 { "row" } else { "rows" };
+    write!(out, "{least}{rows} {noun} ")
+}
+
 /// Appends what the rows lose.
 fn push_consequence(
     out: &mut String,
@@ -29,10 +37,7 @@ fn push_consequence(
     tally: &Tally,
     is_mixed: bool,
 ) -> Result<(), AllocError> {
-    let rows = tally.rows;
-    let is_one = rows == 1;
-    let noun = if is_one { "row" } else { "rows" };
-    write!(out, "{rows} {noun} ")?;
+    let is_one = tally.rows == 1;
     match site.kind {
         SiteKind::Filter | SiteKind::Removal if is_mixed => out.push_str(if is_one {
             "is left out, or removes nothing in MINUS"
@@ -186,6 +191,7 @@ pub fn note_of(
     if let Some(site) = push_places(&mut out, text, outline, tally)? {
         out.push_str(": ")?;
         let is_mixed = is_mixed(outline, tally, site);
+        push_number(&mut out, tally)?;
         push_consequence(&mut out, alloc, text, site, tally, is_mixed)?;
         out.push_str(", since ")?;
         push_cause(&mut out, alloc, text, &tally.cause)?;

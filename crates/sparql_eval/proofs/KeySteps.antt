@@ -18,8 +18,8 @@ use Rattle.algebra_model.proofs.KeyLaws.{agree_at}
 use Rattle.algebra_model.proofs.ReadingLaws.{bound_at}
 use Rattle.algebra_model.proofs.TestLaws.{and_assoc}
 use Rattle.dict_core.specs.Dict.{AreDistinct, term_at}
-use Rattle.term_values.specs.EqualityKey.{HaveOneKey, equality_key}
-use Rattle.sparql_eval.specs.KeyedRows.{key_among, key_number, keys_of, with_keys}
+use Rattle.term_values.specs.EqualityKey.{HaveOneKey, equality_key, first_key}
+use Rattle.sparql_eval.specs.KeyedRows.{key_among, key_number, keys_of, pairing_key, text_key, with_keys}
 use Rattle.sparql_eval.specs.Numbered.{IsKnownAt, IsKnownCell}
 use Rattle.sparql_eval.specs.Fitting.{Requires, fits, have_one_key, meet}
 use Rattle.sparql_eval.specs.declared.equalities.Equality.{Equality}
@@ -86,11 +86,14 @@ has_one_key s t h =
     same (Some x) (Some y) h = ap Some ((Decides-eqb x y).0 h)
 
 module _ (terms : List Term) (once : AreDistinct terms) where
+  valued : (n key : ℕ) → equality_key (term_at terms n) ≡ Some key → pairing_key (term_at terms n) ≡ Some key
+  valued n key p = ap (λ k. first_key k (text_key (term_at terms n))) p
+
   keys_meet : (n m : ℕ) → n < length terms → m < length terms → HaveOneKey (term_at terms n) (term_at terms m) → key_number terms n ≡ key_number terms m
   keys_meet n m low high h = by (equality_key (term_at terms n)) refl
     where
       by : (k : Option ℕ) → equality_key (term_at terms n) ≡ k → key_number terms n ≡ key_number terms m
-      by (Some key) p = ap (key_among (length terms) n) p ∙ ap (key_among (length terms) m) (sym p ∙ h.0)
+      by (Some key) p = ap (key_among (length terms) n) (valued n key p) ∙ ap (key_among (length terms) m) (sym (valued m key (sym h.0 ∙ p)))
       by None p = ap (key_number terms) (apart terms once n m low high (h.1 p))
 
   module _ (μ ν : Solution ℕ) (knownL : Known terms μ) (knownR : Known terms ν) (c : is_compatible nat_eq μ ν ≡ true) where
@@ -260,7 +263,7 @@ each_of_all P (x ∷ xs) h = (All-head P x xs h, each_of_all P xs (All-tail P x 
 
 module _ (terms : List Term) where
   key_below : (n : ℕ) → n < length terms → key_number terms n < length terms
-  key_below n low = by (equality_key (term_at terms n))
+  key_below n low = by (pairing_key (term_at terms n))
     where
       by : (k : Option ℕ) → key_among (length terms) n k < length terms
       by None = low

@@ -20,4 +20,7 @@ mod WithinSteps
 mod ClosedSteps
 mod RequiredSteps
 mod KeySteps
+mod SeparatedSteps
 mod FittingSteps
+mod PossibleLaws
+mod PossibleSteps

@@ -1,7 +1,7 @@
 -- A join with the one solution that binds nothing is the other side.
-use Rattle.std.proofs.Common.{◌≡◌, ℕ, zero, suc, Bool, true, cond, List, [], ◌∷◌, length, map, filter, replicate, slice_get, Option, None, Some, is_some, not, All, refl, sym, ap, ◌∙◌, arith, append-nil}
+use Rattle.std.proofs.Common.{◌≡◌, ℕ, zero, suc, ◌+◌, ◌<◌, ◌≤◌, ◌&&◌, Bool, true, cond, List, [], ◌∷◌, length, drop, get_or, map, filter, replicate, slice_get, Option, None, Some, is_some, not, All, refl, sym, ap, ◌∙◌, arith, append-nil}
 use Rattle.std.specs.List.{list_all}
-use Rattle.std.proofs.lemmas.List.{length-map}
+use Rattle.std.proofs.lemmas.List.{length-map, drop_more, drop_all}
 use Rattle.rdf_core.specs.declared.term.Term.{Term}
 use Rattle.algebra_model.specs.Operators.{join, merges}
 use Rattle.algebra_model.specs.Renaming.{read_row}
@@ -60,6 +60,14 @@ unit_rows (r ∷ []) w row e g l h =
     let same : r ≡ row = cc in
     ap (λ (x : Solution ℕ). x ∷ []) (same ∙ none_each row h ∙ ap (λ n. replicate n None) l)
 unit_rows (r ∷ s ∷ rows) w row e g l h = absurd (omega arith)
+
+-- the cells of a row, one after another
+pub open-drop : (row : Solution ℕ) (i : ℕ) → i < length row
+    → list_all (λ cell. not (is_some cell)) (drop i row) ≡ (not (is_some (get_or row i None)) && list_all (λ cell. not (is_some cell)) (drop (i + 1) row))
+open-drop row i h = ap (list_all (λ (cell : Option ℕ). not (is_some cell))) (drop_more row i None h)
+
+pub open-end : (row : Solution ℕ) (i : ℕ) → length row ≤ i → list_all (λ cell. not (is_some cell)) (drop i row) ≡ true
+open-end row i h = ap (list_all (λ (cell : Option ℕ). not (is_some cell))) (drop_all i row h)
 
 -- the converse: a row without bound cells
 all_none : (w : ℕ) → list_all (λ (cell : Option ℕ). not (is_some cell)) (replicate w None) ≡ true

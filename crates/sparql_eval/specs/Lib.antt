@@ -9,3 +9,4 @@ pub mod Computed
 pub mod Required
 pub mod KeyedRows
 pub mod Fitting
+pub mod Possible

@@ -13,8 +13,5 @@ pub(crate) fn add_rows(made: &mut Rows, rows: &Rows) -> Result<(), AllocError>
         × (made.new.rows ≡ made.old.rows ++ take k rows.now.rows)) }
     ensures width { made.new.width ≡ made.old.width }
 {
-    for i in 0..rows.len() {
-        made.push(rows.row(i))?;
-    }
-    Ok(())
+    made.extend(rows)
 }

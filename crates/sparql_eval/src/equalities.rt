@@ -90,3 +90,20 @@ fn add_variables(left: &Expr, right: &Expr, found: &mut Vec<Equality>) -> Result
     }
     Ok(())
 }
+
+/// Returns whether a condition is the equality of two variables.
+pub(crate) fn is_equality(condition: &Expr) -> bool {
+    match condition {
+        Expr::Compare {
+            operator: Comparison::Equal,
+            left,
+            right,
+        } => is_variable(left) && is_variable(right),
+        Expr::SameTerm { left, right } => is_variable(left) && is_variable(right),
+        _ => false,
+    }
+}
+
+fn is_variable(operand: &Expr) -> bool {
+    matches!(operand, Expr::Variable(_))
+}

@@ -1,5 +1,5 @@
 //! The recursion over the tree of a plan: each operator is applied to the rows of its inputs.
-ghost use Rattle.std.specs.Prelude.{◌≡◌, ◌<◌, ◌++◌, None, true, filter, length, map, option_map, IfErr, IfOk};
+ghost use Rattle.std.specs.Prelude.{◌≡◌, ◌<◌, ◌++◌, [], None, true, filter, length, map, option_map, IfErr, IfOk};
 ghost use Rattle.std.specs.List.{list_all};
 ghost use Rattle.std.specs.Option.{ForSome};
 ghost use Rattle.rdf_core.specs.Equality.{term_eq};
@@ -18,6 +18,7 @@ ghost use Rattle.sparql_algebra.specs.AlgebraOf.{algebra_of, graph_name_of, trip
 ghost use Rattle.sparql_eval.specs.Computed.{InSomeGraph, IsComputed, TakesOnly};
 ghost use Rattle.sparql_eval.specs.Evaluated.{AreKnown, IsEvaluated, solutions_of};
 ghost use Rattle.sparql_eval.specs.Fitting.{IsEvaluatedWhere, fits};
+ghost use Rattle.sparql_eval.specs.Possible.{ArePossibleIn, may_join, meets_some};
 ghost use Rattle.sparql_eval.specs.TreeSolutions.{AreGraphs, Needed, NeededIn, graph_solutions, solutions_in, tree_solutions};
 
 use crate::closed::is_closed;
@@ -26,10 +27,13 @@ use crate::equalities::{Equality, with_equalities};
 use crate::extensions::extend_with;
 use crate::filters::filter_with;
 use crate::fitted_joins::join_where;
+use crate::forms::is_empty_pattern;
 use crate::graphs::{add_graph, graph_number, name_rows};
 use crate::joins::{join_of, left_join_with, minus_with};
 use crate::patterns::pattern_with;
+use crate::possible_graphs::possible_graphs;
 use crate::projections::project_of;
+use crate::separated::Tested;
 use crate::tables::table;
 use crate::unions::union_of;
 use dict_core::Dict;
@@ -154,7 +158,7 @@ impl<'c, 'i, 'e, R: Threads + Wait, G: Gate + Sync> Evaluator<'c, 'i, 'e, R, G> 
             (algebra_of right.now)) dict r.1) }
         ensures one_worker { HasOneWorker self.now.context.how.now → IfErr result (λ fault. fault ≡ Memory) }
     {
-        let (right, dict) = self.solve(dict, active, right)?;
+        let (right, dict) = self.solve_to_join(dict, active, &left, right)?;
         join_of(&self.context, self.state, dict, left, right)
     }
 
@@ -180,7 +184,7 @@ impl<'c, 'i, 'e, R: Threads + Wait, G: Gate + Sync> Evaluator<'c, 'i, 'e, R, G> 
             (algebra_of right.now)) dict r.1) }
         ensures one_worker { HasOneWorker self.now.context.how.now → IfErr result (λ fault. fault ≡ Memory) }
     {
-        let (right, dict) = self.solve(dict, active, right)?;
+        let (right, dict) = self.solve_to_join(dict, active, &left, right)?;
         let place = self.place(Owner::LeftJoin, condition);
         left_join_with(
             &self.context,
@@ -239,7 +243,7 @@ impl<'c, 'i, 'e, R: Threads + Wait, G: Gate + Sync> Evaluator<'c, 'i, 'e, R, G> 
             (algebra_of right.now)) dict r.1) }
         ensures one_worker { HasOneWorker self.now.context.how.now → IfErr result (λ fault. fault ≡ Memory) }
     {
-        let (right, dict) = self.solve(dict, active, right)?;
+        let (right, dict) = self.solve_to_join(dict, active, &left, right)?;
         minus_with(&self.context, self.state, dict, &left, &right)
     }
 
@@ -286,8 +290,14 @@ impl<'c, 'i, 'e, R: Threads + Wait, G: Gate + Sync> Evaluator<'c, 'i, 'e, R, G> 
         ensures one_worker { HasOneWorker self.now.context.how.now → IfErr result (λ fault. fault ≡ Memory) }
     {
         let all = with_equalities(self.context.alloc, condition, pairs)?;
-        let (rows, dict) = self.solve_where(dict, active, inner, all.as_slice())?;
         let place = self.place(Owner::Filter, condition);
+        let tested = Tested {
+            condition,
+            place,
+            is_last: pairs.is_empty(),
+        };
+        tested.note_filter(pairs, inner);
+        let (rows, dict) = self.solve_where(dict, active, inner, all.as_slice(), &tested)?;
         filter_with(&self.context, dict, &rows, condition, place)
     }
 
@@ -300,6 +310,7 @@ impl<'c, 'i, 'e, R: Threads + Wait, G: Gate + Sync> Evaluator<'c, 'i, 'e, R, G> 
         active: Option<u64>,
         tree: &Operator,
         pairs: &[Equality],
+        tested: &Tested<'_>,
     ) -> Result<(Rows, Dict), EvalFault>
         requires index { AreBelow (length dict) self.now.index.now }
         requires active { ForSome active (λ g. g < length dict) }
@@ -312,10 +323,17 @@ impl<'c, 'i, 'e, R: Threads + Wait, G: Gate + Sync> Evaluator<'c, 'i, 'e, R, G> 
     {
         match tree {
             Operator::Join { left, right } => {
-                let (left, dict) = self.solve_where(dict, active, left, pairs)?;
-                self.solve_join_where(dict, active, left, right, pairs)
+                let (left, dict) = self.solve_where(
+                    dict,
+                    active,
+                    left,
+                    pairs,
+                    &tested.after_a_join(),
+                )?;
+                self.solve_join_where(dict, active, left, right, pairs, tested)
             }
             Operator::Filter { condition, inner } => {
+                tested.note_filter(pairs, inner);
                 self.solve_filter_where(dict, active, inner, condition, pairs)
             }
             _ => self.solve(dict, active, tree),
@@ -331,6 +349,7 @@ impl<'c, 'i, 'e, R: Threads + Wait, G: Gate + Sync> Evaluator<'c, 'i, 'e, R, G> 
         left: Rows,
         right: &Operator,
         pairs: &[Equality],
+        tested: &Tested<'_>,
     ) -> Result<(Rows, Dict), EvalFault>
         requires index { AreBelow (length dict) self.now.index.now }
         requires active { ForSome active (λ g. g < length dict) }
@@ -344,8 +363,170 @@ impl<'c, 'i, 'e, R: Threads + Wait, G: Gate + Sync> Evaluator<'c, 'i, 'e, R, G> 
             (algebra_of right.now)) dict r.1) }
         ensures one_worker { HasOneWorker self.now.context.how.now → IfErr result (λ fault. fault ≡ Memory) }
     {
-        let (right, dict) = self.solve_where(dict, active, right, pairs)?;
-        join_where(&self.context, self.state, dict, left, right, pairs)
+        let (right, dict) = self.solve_right_where(
+            dict,
+            active,
+            &left,
+            right,
+            pairs,
+            &tested.after_a_join(),
+        )?;
+        join_where(&self.context, self.state, dict, left, right, pairs, tested)
+    }
+
+    /// Evaluates a tree that is then joined with these rows. Only the solutions are needed that fit,
+    /// and that are compatible with one of the rows.
+    #[cycle(solve)]
+    fn solve_right_where(
+        &self,
+        dict: Dict,
+        active: Option<u64>,
+        others: &Rows,
+        tree: &Operator,
+        pairs: &[Equality],
+        tested: &Tested<'_>,
+    ) -> Result<(Rows, Dict), EvalFault>
+        requires index { AreBelow (length dict) self.now.index.now }
+        requires active { ForSome active (λ g. g < length dict) }
+        requires known_others { AreKnown dict others.now }
+        requires within { is_within self.now.width (algebra_of tree.now) ≡ true }
+        ensures evaluated { IfOk result (λ r. IsEvaluatedWhere dict self.now.width
+            (may_join pairs.now (solutions_of dict others.now))
+            (tree_solutions dict self.now.index.now self.now.width active tree.now) r.0 r.1) }
+        ensures needed { IfOk result (λ r. TakesOnly (Needed dict self.now.index.now self.now.width active
+            (algebra_of tree.now)) dict r.1) }
+        ensures one_worker { HasOneWorker self.now.context.how.now → IfErr result (λ fault. fault ≡ Memory) }
+    {
+        match tree {
+            Operator::Graph { name, inner } => self.solve_possible(dict, others, name, inner),
+            _ => self.solve_where(dict, active, tree, pairs, tested),
+        }
+    }
+
+    /// Evaluates a tree that is then joined with these rows. Only the solutions are needed that are
+    /// compatible with one of the rows.
+    #[cycle(solve)]
+    fn solve_to_join(
+        &self,
+        dict: Dict,
+        active: Option<u64>,
+        others: &Rows,
+        tree: &Operator,
+    ) -> Result<(Rows, Dict), EvalFault>
+        requires index { AreBelow (length dict) self.now.index.now }
+        requires active { ForSome active (λ g. g < length dict) }
+        requires known_others { AreKnown dict others.now }
+        requires within { is_within self.now.width (algebra_of tree.now) ≡ true }
+        ensures evaluated { IfOk result (λ r. IsEvaluatedWhere dict self.now.width
+            (may_join [] (solutions_of dict others.now))
+            (tree_solutions dict self.now.index.now self.now.width active tree.now) r.0 r.1) }
+        ensures needed { IfOk result (λ r. TakesOnly (Needed dict self.now.index.now self.now.width active
+            (algebra_of tree.now)) dict r.1) }
+        ensures one_worker { HasOneWorker self.now.context.how.now → IfErr result (λ fault. fault ≡ Memory) }
+    {
+        match tree {
+            Operator::Graph { name, inner } => self.solve_possible(dict, others, name, inner),
+            Operator::Join { left, right } => {
+                let (rows, dict) = self.solve_to_join(dict, active, others, left)?;
+                if is_empty_pattern(left) {
+                    self.solve_join_next(dict, active, rows, others, right)
+                } else {
+                    self.solve_join(dict, active, rows, right)
+                }
+            }
+            _ => self.solve(dict, active, tree),
+        }
+    }
+
+    /// Joins rows with the solutions of a tree, which are then joined with other rows. Only the pairs
+    /// are needed that are compatible with one of the other rows.
+    #[cycle(solve)]
+    fn solve_join_next(
+        &self,
+        dict: Dict,
+        active: Option<u64>,
+        left: Rows,
+        others: &Rows,
+        right: &Operator,
+    ) -> Result<(Rows, Dict), EvalFault>
+        requires index { AreBelow (length dict) self.now.index.now }
+        requires active { ForSome active (λ g. g < length dict) }
+        requires same_width { left.width ≡ self.now.width }
+        requires known_left { AreKnown dict left }
+        requires known_others { AreKnown dict others.now }
+        requires within { is_within self.now.width (algebra_of right.now) ≡ true }
+        ensures evaluated { IfOk result (λ r. IsEvaluatedWhere dict left.width
+            (may_join [] (solutions_of dict others.now))
+            (join term_eq (solutions_of dict left)
+            (tree_solutions dict self.now.index.now self.now.width active right.now)) r.0 r.1) }
+        ensures needed { IfOk result (λ r. TakesOnly (Needed dict self.now.index.now self.now.width active
+            (algebra_of right.now)) dict r.1) }
+        ensures one_worker { HasOneWorker self.now.context.how.now → IfErr result (λ fault. fault ≡ Memory) }
+    {
+        let (right, dict) = self.solve_to_join(dict, active, others, right)?;
+        join_of(&self.context, self.state, dict, left, right)
+    }
+
+    /// Evaluates a GRAPH that is then joined with these rows. If its name is a variable that all rows
+    /// bind, only the graphs that they name are needed.
+    #[cycle(solve)]
+    fn solve_possible(
+        &self,
+        dict: Dict,
+        others: &Rows,
+        name: &GraphName,
+        inner: &Operator,
+    ) -> Result<(Rows, Dict), EvalFault>
+        requires index { AreBelow (length dict) self.now.index.now }
+        requires name { is_name_below self.now.width (graph_name_of name.now) ≡ true }
+        requires known_others { AreKnown dict others.now }
+        requires within { is_within self.now.width (algebra_of inner.now) ≡ true }
+        ensures evaluated { IfOk result (λ r. IsEvaluatedWhere dict self.now.width
+            (meets_some term_eq (solutions_of dict others.now))
+            (graph_solutions dict self.now.index.now self.now.width (graph_name_of name.now)
+            inner.now) r.0 r.1) }
+        ensures needed { IfOk result (λ r. TakesOnly
+            (NeededIn dict self.now.index.now self.now.width (graph_name_of name.now)
+            (algebra_of inner.now)) dict r.1) }
+        ensures one_worker { HasOneWorker self.now.context.how.now → IfErr result (λ fault. fault ≡ Memory) }
+    {
+        if let GraphName::Variable(variable) = name {
+            let graphs = self.index.graphs();
+            let found = possible_graphs(self.context.alloc, others, *variable, graphs)?;
+            if let Some(found) = found {
+                return self.solve_found(dict, others, *variable, found, inner);
+            }
+        }
+        self.solve_graph(dict, name, inner)
+    }
+
+    /// Evaluates a tree in the graphs that the rows name, and joins the rows of a graph with the
+    /// variable bound to its name.
+    #[cycle(solve)]
+    fn solve_found(
+        &self,
+        dict: Dict,
+        others: &Rows,
+        variable: usize,
+        found: Vec<u64>,
+        inner: &Operator,
+    ) -> Result<(Rows, Dict), EvalFault>
+        requires index { AreBelow (length dict) self.now.index.now }
+        requires variable { variable < self.now.width }
+        requires known_others { AreKnown dict others.now }
+        requires found { ArePossibleIn self.now.index.now others.now.rows variable found.items }
+        requires within { is_within self.now.width (algebra_of inner.now) ≡ true }
+        ensures evaluated { IfOk result (λ r. IsEvaluatedWhere dict self.now.width
+            (meets_some term_eq (solutions_of dict others.now))
+            (graph_solutions dict self.now.index.now self.now.width (each_graph variable)
+            inner.now) r.0 r.1) }
+        ensures needed { IfOk result (λ r. TakesOnly
+            (NeededIn dict self.now.index.now self.now.width (each_graph variable)
+            (algebra_of inner.now)) dict r.1) }
+        ensures one_worker { HasOneWorker self.now.context.how.now → IfErr result (λ fault. fault ≡ Memory) }
+    {
+        let _distinct = dict.len();
+        self.solve_each(dict, variable, found.as_slice(), inner)
     }
 
     /// Evaluates an Extend and its input.

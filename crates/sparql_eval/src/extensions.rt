@@ -143,10 +143,13 @@ fn extend_rows(
     ensures rows { IfOk result (λ made. made.rows ≡ bind_each variable numbers.now rows.now.rows) }
 {
     let mut made = Rows::new(alloc, rows.width());
-    let mut row = Vec::with_capacity(alloc, rows.width())?;
+    let mut buffer = Vec::new(alloc);
+    let mut extended = Vec::with_capacity(alloc, rows.width())?;
     for i in 0..rows.len() {
-        extend_row(&mut row, rows.row(i), variable, numbers[i])?;
-        made.push(row.as_slice())?;
+        rows.read(i, &mut buffer)?;
+        let row = buffer.as_slice();
+        extend_row(&mut extended, row, variable, numbers[i])?;
+        made.push(extended.as_slice())?;
     }
     Ok(made)
 }

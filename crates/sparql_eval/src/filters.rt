@@ -129,10 +129,13 @@ impl<'a> RowWork for FilterWork<'a> {
 
     fn run(&self, alloc: Global, from: usize, to: usize) -> Result<Rows, AllocError> {
         let mut made = Rows::new(alloc, self.rows.width());
+        let mut buffer = Vec::new(alloc);
         for i in from..to {
+            self.rows.read(i, &mut buffer)?;
+            let row = buffer.as_slice();
             let row = ReadRow {
                 dict: self.dict,
-                row: self.rows.row(i),
+                row,
             };
             if test_counted(alloc, self.condition, &row, self.place)? {
                 made.push(row.row)?;

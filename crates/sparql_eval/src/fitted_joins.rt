@@ -12,6 +12,7 @@ use crate::joins::join_of;
 use crate::keyed_joins::joined_by_keys;
 use crate::keyed_rows::join_keys;
 use crate::operator_result::with_dict;
+use crate::separated::{Tested, count_separated, is_joined_whole};
 use dict_core::Dict;
 use piece_pool::Gate;
 use row_core::Rows;
@@ -21,7 +22,8 @@ use std::sync::Wait;
 use std::thread::Threads;
 
 /// Joins rows of which only the pairs that fit are needed. If one of the equalities has a variable
-/// of each side, rows with different keys are not paired. The dictionary is returned unchanged.
+/// of each side, rows with different keys are not paired. The errors of the condition over these are
+/// counted. The dictionary is returned unchanged.
 pub(crate) fn join_where<R: Threads + Wait, G: Gate + Sync>(
     context: &Context<R, G>,
     state: RandomState,
@@ -29,6 +31,7 @@ pub(crate) fn join_where<R: Threads + Wait, G: Gate + Sync>(
     left: Rows,
     right: Rows,
     pairs: &[Equality],
+    tested: &Tested<'_>,
 ) -> Result<(Rows, Dict), EvalFault>
     requires same_width { left.width ≡ right.width }
     requires known_left { AreKnown dict left }
@@ -39,9 +42,11 @@ pub(crate) fn join_where<R: Threads + Wait, G: Gate + Sync>(
     ensures one_worker { HasOneWorker context.now.how.now → IfErr result (λ fault. fault ≡ Memory) }
 {
     let keys = join_keys(context.alloc, &left, &right, pairs)?;
-    if keys.is_empty() {
+    let keys = keys.as_slice();
+    if is_joined_whole(&dict, &left, &right, keys, tested) {
         return join_of(context, state, dict, left, right);
     }
-    let made = joined_by_keys(context, state, &dict, &left, &right, keys.as_slice());
+    count_separated(context.alloc, &dict, &left, &right, keys, tested);
+    let made = joined_by_keys(context, state, &dict, &left, &right, keys);
     with_dict(made, dict)
 }

@@ -81,9 +81,11 @@ fn add_named(
         ≡ made.old.rows ++ join nat_eq (take k rows.now.rows) (name.now ∷ []))) }
     ensures width { made.new.width ≡ made.old.width }
 {
+    let mut buffer = Vec::new(alloc);
     let mut merged = Vec::with_capacity(alloc, rows.width())?;
     for i in 0..rows.len() {
-        let row = rows.row(i);
+        rows.read(i, &mut buffer)?;
+        let row = buffer.as_slice();
         if is_compatible(row, name) {
             merge_into(&mut merged, row, name)?;
             made.push(merged.as_slice())?;

@@ -1,7 +1,7 @@
 //! Join, LeftJoin and Minus (SPARQL 1.1 Query Language, section 18.5).
 ghost use Rattle.std.specs.Bool.{OnTrue};
 ghost use Rattle.std.specs.List.{list_all};
-ghost use Rattle.std.specs.Prelude.{◌≡◌, ◌≤◌, ◌∷◌, [], is_some, length, not, replicate, true, None, IfErr, IfOk};
+ghost use Rattle.std.specs.Prelude.{◌≡◌, ◌<◌, ◌≤◌, ◌∷◌, [], get_or, is_some, length, not, replicate, true, None, IfErr, IfOk};
 ghost use Rattle.rdf_core.specs.Equality.{term_eq};
 ghost use Rattle.algebra_model.specs.Expression.{holds};
 ghost use Rattle.algebra_model.specs.Operators.{join, left_join, minus};
@@ -15,6 +15,7 @@ use crate::keyed_joins::left_joined_by_keys;
 use crate::keyed_rows::join_keys;
 use crate::operator_result::with_dict;
 use crate::read_row::ReadRow;
+use crate::separated::{Tested, count_separated};
 use dict_core::Dict;
 use expression_errors::{Place, test_counted};
 use piece_pool::Gate;
@@ -132,14 +133,21 @@ fn binds_nothing(rows: &Rows, width: usize) -> bool
     ensures unit { OnTrue result (rows.now.rows ≡ replicate width None ∷ []) }
     ensures seen { rows.now.rows ≡ replicate width None ∷ [] → result ≡ true }
 {
-    rows.len() == 1 && all_open(rows.row(0))
+    rows.len() == 1 && first_is_open(rows)
 }
 
-/// Returns whether the row binds no variable.
-fn all_open(row: &[Option<u64>]) -> bool
-    ensures value { result ≡ list_all (λ cell. not (is_some cell)) row.now }
+/// Returns whether the first row binds no variable.
+fn first_is_open(rows: &Rows) -> bool
+    requires some { 0 < length rows.now.rows }
+    ensures value { result ≡ list_all (λ cell. not (is_some cell)) (get_or rows.now.rows 0 []) }
+    ensures wide { length (get_or rows.now.rows 0 []) ≡ rows.now.width }
 {
-    row.iter().all(|cell| cell.is_none())
+    for variable in 0..rows.width() {
+        if rows.get(0, variable).is_some() {
+            return false;
+        }
+    }
+    true
 }
 
 /// Evaluates LeftJoin: returns the merges of the compatible pairs for which the condition is true,
@@ -237,6 +245,12 @@ fn left_joined<R: Threads + Wait, G: Gate + Sync>(
         return left_joined_by_rows(context, state, dict, left, right, condition, place);
     }
     let keys = keys.as_slice();
+    let tested = Tested {
+        condition,
+        place,
+        is_last: true,
+    };
+    count_separated(context.alloc, dict, left, right, keys, &tested);
     left_joined_by_keys(context, state, dict, left, right, condition, keys, place)
 }
 

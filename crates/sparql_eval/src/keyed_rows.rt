@@ -4,16 +4,17 @@ ghost use Rattle.rdf_core.specs.declared.term.Term.{Term};
 ghost use Rattle.algebra_model.specs.Solution.{Solution};
 ghost use Rattle.sparql_eval.specs.Evaluated.{AreKnown};
 ghost use Rattle.sparql_eval.specs.Fitting.{Requires, fits};
-ghost use Rattle.sparql_eval.specs.KeyedRows.{key_number, with_keys};
+ghost use Rattle.sparql_eval.specs.KeyedRows.{key_number, pairing_key, text_hash, text_key, with_keys};
 ghost use Rattle.sparql_eval.specs.Numbered.{IsKnownAt, IsKnownCell};
 ghost use Rattle.sparql_eval.specs.Required.{OnSomePair};
 
 use crate::equalities::{Equality, MOST_EQUALITIES};
 use crate::read_row::number_at;
 use dict_core::Dict;
+use rdf_core::Term;
 use row_core::Rows;
 use std::alloc::{AllocError, Global};
-use term_values::equality_key;
+use term_values::{equality_key, form_key};
 
 /// Returns the pairs of which one variable is bound on the left side and the other one on the right
 /// side. In each pair the variable of the left side is first.
@@ -61,10 +62,23 @@ fn oriented(left: &Rows, right: &Rows, pair: Equality) -> Option<Equality>
     None
 }
 
+/// Returns whether both sides bind some variable.
+pub(crate) fn bind_a_common_variable(left: &Rows, right: &Rows) -> bool {
+    for variable in 0..left.width() {
+        if binds(left, variable) && binds(right, variable) {
+            return true;
+        }
+    }
+    false
+}
+
 /// Returns whether some row binds the variable.
 fn binds(rows: &Rows, variable: usize) -> bool {
+    if variable >= rows.width() {
+        return false;
+    }
     for i in 0..rows.len() {
-        if number_at(rows.row(i), variable).is_some() {
+        if rows.get(i, variable).is_some() {
             return true;
         }
     }
@@ -87,9 +101,12 @@ pub(crate) fn keyed_rows(
         return Err(AllocError);
     };
     let mut made = Rows::new(alloc, width);
+    let mut buffer = Vec::new(alloc);
     let mut cells = Vec::new(alloc);
     for i in 0..rows.len() {
-        add_keys(dict, rows.row(i), variables, &mut cells)?;
+        rows.read(i, &mut buffer)?;
+        let row = buffer.as_slice();
+        add_keys(dict, row, variables, &mut cells)?;
         made.push(cells.as_slice())?;
     }
     Ok(made)
@@ -128,14 +145,50 @@ fn key_cell(dict: &Dict, cell: Option<u64>) -> Option<u64>
 
 /// Returns a number that depends only on the key of a term, or the term's own number if it has no
 /// key. It is below the length of the dictionary.
-fn key_number(dict: &Dict, number: u64) -> u64
+pub(crate) fn key_number(dict: &Dict, number: u64) -> u64
     requires known { number < length dict.now }
     ensures value { result ≡ key_number dict.now number }
 {
-    match equality_key(dict.term(number)) {
+    match pairing_key(dict.term(number)) {
         Some(key) => key % (dict.len() as u64),
         None => number,
     }
+}
+
+/// Returns the key by which terms are paired. Terms that are equal have one key. So have literals with
+/// one lexical form, such as `"1"` and `1`: their equality is an error, which is counted only if the
+/// condition is tested on them. An IRI or a blank node has none.
+fn pairing_key(term: &Term) -> Option<u64>
+    ensures value { result ≡ pairing_key term.now }
+{
+    match equality_key(term) {
+        Some(key) => Some(key),
+        None => text_key(term),
+    }
+}
+
+/// Returns the key of a literal's lexical form, whatever its datatype.
+fn text_key(term: &Term) -> Option<u64>
+    ensures value { result ≡ text_key term.now }
+{
+    match term {
+        Term::Literal { lexical, .. } => match form_key(lexical.as_str()) {
+            Some(key) => Some(key),
+            None => Some(text_hash(lexical.as_str().as_bytes())),
+        },
+        Term::Iri(_) | Term::Blank(_) => None,
+    }
+}
+
+/// Returns a number of the bytes of a text.
+fn text_hash(bytes: &[u8]) -> u64
+    ensures value { result ≡ text_hash bytes.now }
+{
+    let mut hash: u64 = 0;
+    for byte in bytes {
+        hash = hash.wrapping_mul(31).wrapping_add(u64::from(*byte));
+    }
+    hash
 }
 
 /// Returns the first cells of each row.
@@ -145,8 +198,10 @@ pub(crate) fn first_cells(alloc: Global, rows: &Rows, width: usize) -> Result<Ro
     ensures rows { IfOk result (λ made. made.rows ≡ map (take width) rows.now.rows) }
 {
     let mut made = Rows::new(alloc, width);
+    let mut buffer = Vec::new(alloc);
     for i in 0..rows.len() {
-        let row = rows.row(i);
+        rows.read(i, &mut buffer)?;
+        let row = buffer.as_slice();
         made.push(&row[..width])?;
     }
     Ok(made)

@@ -73,9 +73,12 @@ fn projected(alloc: Global, rows: &Rows, variables: &[usize]) -> Result<Rows, Ev
 {
     let kept = kept_variables(alloc, rows.width(), variables)?;
     let mut made = Rows::new(alloc, rows.width());
+    let mut buffer = Vec::new(alloc);
     let mut cells = Vec::with_capacity(alloc, rows.width())?;
     for i in 0..rows.len() {
-        restrict_into(&mut cells, rows.row(i), kept.as_slice())?;
+        rows.read(i, &mut buffer)?;
+        let row = buffer.as_slice();
+        restrict_into(&mut cells, row, kept.as_slice())?;
         made.push(cells.as_slice())?;
     }
     Ok(made)

@@ -135,10 +135,13 @@ impl<'a> ValueJob<'a> {
             (take (to - from) (drop from self.now.rows.now.rows)) values.items) }
     {
         let mut values = Vec::with_capacity(alloc, to - from)?;
+        let mut buffer = Vec::new(alloc);
         for i in from..to {
+            self.rows.read(i, &mut buffer)?;
+            let row = buffer.as_slice();
             let row = ReadRow {
                 dict: self.dict,
-                row: self.rows.row(i),
+                row,
             };
             values.push(value_at(alloc, own, self.expression, &row, self.place)?)?;
         }

@@ -1,10 +1,10 @@
 -- Keys of terms, under which terms that are equal by `=` are found together (SPARQL 1.1 Query
 -- Language, section 17.3). Different terms may have one key. The keys are a choice of this project;
 -- no definition of the algebra depends on them.
-use Rattle.std.specs.Prelude.{◌≡◌, ℕ, ◌/◌, ◌%◌, ◌^◌, true, Option, Some, None, if◌then◌else◌}
+use Rattle.std.specs.Prelude.{◌≡◌, ℕ, ◌/◌, ◌%◌, ◌^◌, true, List, Option, Some, None, if◌then◌else◌}
 use Rattle.rdf_core.specs.declared.term.Term.{Term}
-use Rattle.algebra_model.specs.Number.{Number}
-use Rattle.algebra_model.specs.LiteralValue.{LiteralValue, number, boolean, string, other}
+use Rattle.algebra_model.specs.Number.{Number, integer_number}
+use Rattle.algebra_model.specs.LiteralValue.{LiteralValue, number, boolean, string, other, boolean_value, number_or_other}
 use Rattle.algebra_model.specs.Comparison.{equals, value_of}
 
 -- the whole part of a number without its sign, modulo 2^64
@@ -21,6 +21,15 @@ value_key other = None
 -- the key of a term
 abbrev pub equality_key : Term → Option ℕ
 equality_key t = value_key (value_of t)
+
+-- the first key, or else the second
+abbrev pub first_key : Option ℕ → Option ℕ → Option ℕ
+first_key None second = second
+first_key (Some key) second = Some key
+
+-- the key of the integer or the boolean with this lexical form
+abbrev pub form_key : List ℕ → Option ℕ
+form_key form = first_key (value_key (number_or_other (integer_number form))) (value_key (boolean_value form))
 
 -- the keys are the same, and terms without a key are the same term
 abbrev pub HaveOneKey : Term → Term → Type 0

@@ -34,5 +34,5 @@ mod number;
 mod valued;
 
 pub use comparison::{compare, compare_valued, truth};
-pub use equality::{equal_terms_have_one_key, equality_key};
+pub use equality::{equal_terms_have_one_key, equality_key, form_key};
 pub use valued::Valued;

@@ -62,7 +62,7 @@ pub fn is_number_type(datatype: &str) -> bool
     is_same(datatype, XSD_DECIMAL) || is_integer_type(datatype)
 }
 
-fn number_or_other(digits: Option<Digits<'_>>) -> LiteralValue<'_>
+pub(crate) fn number_or_other(digits: Option<Digits<'_>>) -> LiteralValue<'_>
     ensures value { value_shown result ≡ number_or_other (option_map number_shown digits.entry) }
 {
     match digits {
@@ -71,7 +71,7 @@ fn number_or_other(digits: Option<Digits<'_>>) -> LiteralValue<'_>
     }
 }
 
-fn boolean_value(form: &str) -> LiteralValue<'_>
+pub(crate) fn boolean_value(form: &str) -> LiteralValue<'_>
     ensures value { value_shown result ≡ boolean_value form.now }
 {
     match form {

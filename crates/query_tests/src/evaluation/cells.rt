@@ -29,23 +29,25 @@ pub(crate) fn pairs(alloc: Global, text: &str) -> Result<Vec<Pair>, AllocError> 
 }
 
 /// Returns the multiplicity of a row.
-fn count(rows: &Rows, row: [Option<u64>; 2]) -> usize {
+fn count(alloc: Global, rows: &Rows, row: Pair) -> Result<usize, AllocError> {
     let mut count: usize = 0;
+    let mut cells = Vec::new(alloc);
     for i in 0..rows.len() {
-        if rows.row(i) == row.as_slice() {
+        rows.read(i, &mut cells)?;
+        if cells.as_slice() == row.as_slice() {
             count = count.saturating_add(1);
         }
     }
-    count
+    Ok(count)
 }
 
 const CELLS: &str = "-0123456789";
 
 /// Appends the rows in ascending order.
-fn append_sorted(text: &mut String, rows: &Rows) -> Result<(), AllocError> {
+fn append_sorted(alloc: Global, text: &mut String, rows: &Rows) -> Result<(), AllocError> {
     for a in CELLS.chars() {
         for b in CELLS.chars() {
-            for _ in 0..count(rows, [cell(a), cell(b)]) {
+            for _ in 0..count(alloc, rows, [cell(a), cell(b)])? {
                 write!(text, " {a}{b}")?;
             }
         }
@@ -56,7 +58,7 @@ fn append_sorted(text: &mut String, rows: &Rows) -> Result<(), AllocError> {
 /// Prints the number of rows, and the rows in ascending order.
 pub(crate) fn shown(alloc: Global, rows: &Rows) -> Result<String, AllocError> {
     let mut text = format!(in alloc; "{}:", rows.len())?;
-    append_sorted(&mut text, rows)?;
+    append_sorted(alloc, &mut text, rows)?;
     Ok(text)
 }
 

@@ -1,11 +1,12 @@
-//! Worked examples of the three operators, and of the places of a key.
+//! Worked examples of the four operators, and of the places of a key.
 ghost use Rattle.std.specs.Prelude.{◌≡◌, IfOk};
 ghost use Rattle.row_pieces.specs.How.{IsRunnable};
 
 use crate::evaluation::cells::{gives, pairs, shown};
+use crate::evaluation::merging::rows_text;
 use piece_pool::OpenGate;
 use row_core::Rows;
-use row_join::{Keyed, RowTest, join, left_join, minus};
+use row_join::{Keyed, RowTest, distinct, join, left_join, minus};
 use row_pieces::{EvalFault, How};
 use std::alloc::{AllocError, AllocGlobal, Global};
 use std::hash::RandomState;
@@ -212,6 +213,19 @@ const DIFFERENCES: [[&str; 4]; 4] = [
 #[test]
 fn minus_keeps_what_shares_nothing(rt: HostRuntime) {
     check_all(&rt, rt.alloc(), Operator::Minus, &DIFFERENCES);
+}
+
+/// Prints the distinct rows of a text, in their order.
+fn distinct_text(alloc: Global, state: RandomState, text: &str) -> Result<String, AllocError> {
+    let rows = rows_of(alloc, text)?;
+    rows_text(alloc, &distinct(alloc, state, &rows)?)
+}
+
+#[test]
+fn distinct_keeps_the_first_of_equal_rows(rt: HostRuntime) {
+    let state = RandomState::new(&rt).expect(&rt, "a hash state");
+    let found = distinct_text(rt.alloc(), state, "1- -- 17 1- 01 -1 -- 17");
+    gives(&rt, "distinct", "2: 1-=1- --=-- 17=17 01=01 -1=-1", found);
 }
 
 /// Prints the places under the keys 0 and 1, and the places without a key.

@@ -6,7 +6,6 @@ ghost use Rattle.row_pieces.specs.How.{IsRunnable};
 ghost use Rattle.algebra_model.specs.Renaming.{Each, EachBound};
 
 use crate::evaluation::rows::rows_of;
-use crate::evaluation::stores::text;
 use dict_core::Dict;
 use piece_pool::OpenGate;
 use rdf_core::vocabulary::{RDF_LANG_STRING, XSD_INTEGER, XSD_STRING};
@@ -20,6 +19,7 @@ use std::process::Abort;
 use std::random::RandomSource;
 use std::sync::Wait;
 use std::thread::Threads;
+use test_fixtures::text;
 
 /// A term of the dictionary.
 #[derive(Clone, Copy)]

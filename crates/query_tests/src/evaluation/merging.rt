@@ -1,5 +1,5 @@
 //! One call of each public function.
-ghost use Rattle.std.specs.Prelude.{◌≡◌, length};
+ghost use Rattle.std.specs.Prelude.{◌≡◌, IfOk, length};
 
 use crate::evaluation::cells::gives;
 use crate::evaluation::joins::rows_of;
@@ -16,10 +16,12 @@ fn symbol(cell: Option<u64>) -> char {
 }
 
 /// Appends for each row its cells, and after `=` the same cells one by one.
-fn append_rows(text: &mut String, rows: &Rows) -> Result<(), AllocError> {
+fn append_rows(alloc: Global, text: &mut String, rows: &Rows) -> Result<(), AllocError> {
+    let mut row = Vec::new(alloc);
     for i in 0..rows.len() {
+        rows.read(i, &mut row)?;
         text.push(' ')?;
-        for cell in rows.row(i) {
+        for cell in &row {
             text.push(symbol(*cell))?;
         }
         text.push('=')?;
@@ -33,7 +35,7 @@ fn append_rows(text: &mut String, rows: &Rows) -> Result<(), AllocError> {
 /// Prints the width, and for each row its cells and after `=` the same cells one by one.
 pub(crate) fn rows_text(alloc: Global, rows: &Rows) -> Result<String, AllocError> {
     let mut text = format!(in alloc; "{}:", rows.width())?;
-    append_rows(&mut text, rows)?;
+    append_rows(alloc, &mut text, rows)?;
     Ok(text)
 }
 
@@ -97,6 +99,60 @@ fn rows_of_no_width_are_counted(rt: HostRuntime) {
         "no width",
         "0: = =",
         empty_rows(rt.alloc()),
+    );
+}
+
+/// The largest number of a cell that takes 4 bytes, the next number, and the largest number.
+const LARGE: [u64; 3] = [4_294_967_294, 4_294_967_295, u64::MAX];
+
+/// Makes a row for each of these numbers, with an unbound cell after it.
+fn large_rows(alloc: Global) -> Result<Rows, AllocError>
+    ensures width { IfOk result (λ rows. rows.width ≡ 2) }
+{
+    let mut rows = Rows::new(alloc, 2);
+    for number in LARGE {
+        rows.push(&[Some(number), None])?;
+    }
+    Ok(rows)
+}
+
+/// Appends the rows of each list to the other one, and unbinds the first variable of one of them.
+fn large_and_small(alloc: Global) -> Result<Rows, AllocError> {
+    let mut rows = rows_of(alloc, "1-")?;
+    rows.extend(&large_rows(alloc)?)?;
+    let mut large = large_rows(alloc)?;
+    large.restrict(&[false, true]);
+    large.append(rows_of(alloc, "-7")?)?;
+    rows.append(large)?;
+    Ok(rows)
+}
+
+/// Appends the number of each cell, or `-`.
+fn append_numbers(alloc: Global, text: &mut String, rows: &Rows) -> Result<(), AllocError> {
+    let mut row = Vec::new(alloc);
+    for i in 0..rows.len() {
+        rows.read(i, &mut row)?;
+        write!(text, " {row:?}")?;
+    }
+    Ok(())
+}
+
+/// Prints the rows with the numbers of their cells.
+fn numbers_text(alloc: Global, rows: &Rows) -> Result<String, AllocError> {
+    let mut text = format!(in alloc; "{}:", rows.len())?;
+    append_numbers(alloc, &mut text, rows)?;
+    Ok(text)
+}
+
+#[test]
+fn no_number_stands_for_an_unbound_cell(rt: HostRuntime) {
+    let rows = large_and_small(rt.alloc()).expect(&rt, "rows");
+    gives(
+        &rt,
+        "large numbers",
+        "8: [Some(1), None] [Some(4294967294), None] [Some(4294967295), None] [Some(18446744073709551615), None] \
+         [None, None] [None, None] [None, None] [None, Some(7)]",
+        numbers_text(rt.alloc(), &rows),
     );
 }
 

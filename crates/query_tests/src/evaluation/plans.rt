@@ -288,6 +288,23 @@ SELECT * { GRAPH <a:g> { } }                => 1:
 SELECT * { GRAPH <a:none> { } }             => 0:
 "#;
 
+/// GRAPH ([58] `GraphGraphPattern`) that is joined with rows that bind its variable.
+const NAMED_BY_ROWS: &str = r#"
+# Only the graphs that the rows name have solutions. A name without a graph has none.
+SELECT * { VALUES ?g { <a:g> <a:none> <a:x> } GRAPH ?g { ?s <a:p> ?o } }            => 1: <a:g> <a:x> <a:y>
+SELECT * { VALUES ?g { <a:none> } GRAPH ?g { ?s <a:p> ?o } }                        => 0:
+SELECT * { VALUES (?g ?s) { (<a:g> <a:y>) } GRAPH ?g { ?s <a:p> ?o } }              => 0:
+# A name that is twice among the rows is joined twice.
+SELECT * { VALUES ?g { <a:g> <a:g> } GRAPH ?g { ?s <a:p> ?o } }                     => 2: <a:g> <a:x> <a:y>; <a:g> <a:x> <a:y>
+# A row that leaves the variable unbound is joined with every graph.
+SELECT * { VALUES ?g { <a:g> UNDEF } GRAPH ?g { ?s <a:p> ?o } }                     => 3: <a:g> <a:x> <a:y>; <a:g> <a:x> <a:y>; _:h <a:y> <a:x>
+# The same in a group, below a filter, and in OPTIONAL and MINUS.
+SELECT * { VALUES ?g { <a:g> } { GRAPH ?g { ?s <a:p> ?o } } FILTER(BOUND(?o)) }     => 1: <a:g> <a:x> <a:y>
+SELECT * { VALUES ?g { <a:g> <a:none> } OPTIONAL { GRAPH ?g { ?s <a:p> ?o } } }     => 2: <a:g> <a:x> <a:y>; <a:none> - -
+SELECT * { VALUES ?g { <a:g> <a:none> } MINUS { GRAPH ?g { ?s <a:p> ?o } } }        => 1: <a:none> - -
+SELECT * { GRAPH ?g { ?s <a:p> ?o GRAPH ?g { ?t <a:p> ?u } } }                      => 2: <a:g> <a:x> <a:y> <a:x> <a:y>; _:h <a:y> <a:x> <a:y> <a:x>
+"#;
+
 /// A computed term that the document has gets the number of that term. Another computed term is
 /// added to the dictionary.
 const ADDED: &str = "
@@ -381,6 +398,7 @@ const TABLES: &[(Reader, &str)] = &[
     (Reader::Rows(RowReader::Query), OPERATORS),
     (Reader::Rows(RowReader::Query), EQUALITIES),
     (Reader::Rows(RowReader::Query), NAMED_GRAPHS),
+    (Reader::Rows(RowReader::Query), NAMED_BY_ROWS),
     (Reader::Rows(RowReader::Added), ADDED),
     (Reader::Rows(RowReader::Graph), ALONE),
 ];

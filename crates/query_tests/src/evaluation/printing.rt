@@ -61,8 +61,10 @@ fn joined(alloc: Global, lines: &mut Vec<Vec<u8>>) -> Result<String, AllocError>
 /// Prints rows of numbers, read through the dictionary.
 pub(crate) fn text_of_rows(alloc: Global, dict: &Dict, rows: &Rows) -> Result<String, AllocError> {
     let mut lines = Vec::new(alloc);
+    let mut row = Vec::new(alloc);
     for i in 0..rows.len() {
-        lines.push(line_of_row(alloc, dict, rows.row(i))?)?;
+        rows.read(i, &mut row)?;
+        lines.push(line_of_row(alloc, dict, &row)?)?;
     }
     joined(alloc, &mut lines)
 }

@@ -5,10 +5,11 @@ ghost use Rattle.dict_core.specs.NumQuad.{AreBelow};
 use dict_core::{Dict, LocalPiece, merge, number_piece};
 use nquads_core::read_piece;
 use quad_index::{Index, index_reads_the_quads};
-use rdf_core::{Term, Text};
+use rdf_core::Term;
 use std::alloc::{AllocError, Global};
 use std::hash::RandomState;
 use std::random::RandomSource;
+use test_fixtures::text;
 
 /// A document with three graphs. The default graph has x p y, y p z and x q "5". The graph g has x
 /// p y and x r g. The graph of a blank node has y p x.
@@ -50,12 +51,6 @@ pub(crate) fn store<R: RandomSource>(
     let (dict, quads) = merge(alloc, state, pieces)?;
     let index = Index::build(alloc, quads)?;
     Ok((dict, index))
-}
-
-/// Returns a text, or the empty one without memory. The tests have enough memory, and a function
-/// that owns a term is slow to prove if it has several exits.
-pub(crate) fn text(alloc: Global, text: &str) -> Text {
-    Text::from_string(String::from_str(alloc, text).unwrap_or(String::new(alloc)))
 }
 
 /// Returns the IRI of a text.

@@ -1,4 +1,4 @@
-use Rattle.std.proofs.Common.{[], ◌∷◌, ◌++◌, length, get_or, None, sym, ap, ◌∙◌, arith}
+use Rattle.std.proofs.Common.{[], ◌∷◌, ◌++◌, length, get_or, None, sym, ap, ◌∙◌, arith, Some}
 use Rattle.std.proofs.lemmas.Option.{slice_get-get_or}
 use Rattle.sparql_eval.specs.Values.{bind_each}
 use Rattle.sparql_eval.proofs.ReadingLaws.{all_taken}
@@ -9,9 +9,9 @@ pub push-requires : goal.push-requires
 push-requires c =
     let v = c.args.variable in
     let n = get_or c.args.numbers.now c.loop-i.i None in
-    let row = c.row.result.now in
+    let row = c.as_slice-row.result.now in
     record {
-      wide = ap length (c.as_slice.ensures.value ∙ c.in_ok-extend_row.ensures.bound) ∙ bind_long v n row ∙ c.row.ensures.wide ∙ sym c.loop-i.invariant.width;
+      wide = ap length (c.as_slice.ensures.value ∙ c.in_ok-extend_row.ensures.bound) ∙ bind_long v n row ∙ (ap length c.as_slice-row.ensures.value ∙ c.in_ok-read.ensures.wide) ∙ sym c.loop-i.invariant.width;
     }
 
 pub loop-i-preserved : goal.loop-i-preserved
@@ -22,13 +22,13 @@ loop-i-preserved c =
     let rows = c.args.rows.now.rows in
     let i = c.loop-i.i in
     let n = get_or ns i None in
-    let row = c.row.result.now in
+    let row = c.as_slice-row.result.now in
     let extended = c.as_slice.ensures.value ∙ c.in_ok-extend_row.ensures.bound in
     record {
       width = c.in_ok-push.ensures.width ∙ was.width;
       made =
           c.in_ok-push.ensures.added ∙ (λ k. was.made k ++ extended k ∷ [])
-          ∙ sym (bind_more v ns rows i n row (slice_get-get_or ns i None (omega arith)) c.row.ensures.found);
+          ∙ sym (bind_more v ns rows i n row (slice_get-get_or ns i None (omega arith)) (c.in_ok-read.ensures.found ∙ ap Some (sym c.as_slice-row.ensures.value)));
     }
 
 pub returns-clause-rows : goal.returns-clause-rows

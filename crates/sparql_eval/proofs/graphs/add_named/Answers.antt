@@ -1,4 +1,4 @@
-use Rattle.std.proofs.Common.{◌≡◌, ◌++◌, ◌∷◌, [], ℕ, Bool, List, cond, nat_eq, Result, Ok, Err, OnErr, sym, ap, ◌∙◌, subst, arith}
+use Rattle.std.proofs.Common.{◌≡◌, ◌++◌, ◌∷◌, [], ℕ, Bool, List, cond, nat_eq, Result, Ok, Err, OnErr, sym, ap, ◌∙◌, subst, arith, Some}
 use Rattle.std.proofs.lemmas.List.{append-nil}
 use Rattle.algebra_model.specs.Operators.{join}
 use Rattle.algebra_model.specs.Solution.{Solution, merge}
@@ -12,9 +12,9 @@ pub loop-i-preserved : goal.loop-i-preserved
 loop-i-preserved c =
     let was = c.loop-i.invariant in
     let made = c.loop-i.made.rows in
-    let μ = c.row-row.result.now in
+    let μ = c.as_slice-row.result.now in
     let ν = c.args.name.now in
-    let turn = named_turn c.args.rows.now.rows ν c.loop-i.i μ c.row-row.ensures.found c.args.made.now.rows made c.if-is_compatible.made.rows c.is_compatible.result c.is_compatible.ensures.value was.added in
+    let turn = named_turn c.args.rows.now.rows ν c.loop-i.i μ (c.in_ok-read.ensures.found ∙ ap Some (sym c.as_slice-row.ensures.value)) c.args.made.now.rows made c.if-is_compatible.made.rows c.is_compatible.result c.is_compatible.ensures.value was.added in
     elim c.if-is_compatible.branch [
       | then-is_compatible+in_ok-merge_into+in_ok-push w ↦ record {
         width = ap (λ (r : RowList). r.width) w.made-is ∙ w.in_ok-push.ensures.width ∙ was.width;
@@ -36,6 +36,9 @@ on_error (Err e) p = p
 
 pub returns-in_err-merged-clause-in_part : goal.returns-in_err-merged-clause-in_part
 returns-in_err-merged-clause-in_part c = on_error c.from_residual.result (0, sym (append-nil c.args.made.now.rows))
+
+pub returns-in_err-read-clause-in_part : goal.returns-in_err-read-clause-in_part
+returns-in_err-read-clause-in_part c = on_error c.from_residual-in_err-read.result (c.loop-i.i, c.loop-i.invariant.added)
 
 pub returns-in_err-merge_into-clause-in_part : goal.returns-in_err-merge_into-clause-in_part
 returns-in_err-merge_into-clause-in_part c = on_error c.from_residual-in_err-merge_into.result (c.loop-i.i, c.loop-i.invariant.added)

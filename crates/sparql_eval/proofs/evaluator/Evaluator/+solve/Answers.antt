@@ -1,4 +1,4 @@
-use Rattle.std.proofs.Common.{◌≡◌, ℕ, ◌<◌, List, [], ◌∷◌, ◌++◌, true, length, map, filter, flat_map, get_or, slice_get, nat_eq, nat_lt, replicate, set, None, Some, IfOk, refl, sym, ap, subst, ◌∙◌, arith}
+use Rattle.std.proofs.Common.{◌≡◌, ℕ, ◌<◌, Bool, List, [], ◌∷◌, ◌++◌, true, length, map, filter, flat_map, get_or, slice_get, nat_eq, nat_lt, replicate, set, None, Some, IfOk, refl, sym, ap, subst, ◌∙◌, arith}
 use Rattle.std.specs.List.{list_all}
 use Rattle.std.proofs.lemmas.List.Sorted.{IsPermutation-refl}
 use Rattle.std.proofs.lemmas.Option.{slice_get-get_or}
@@ -22,13 +22,15 @@ use Rattle.sparql_algebra.specs.AlgebraOf.{algebra_of, graph_name_of}
 use Rattle.sparql_algebra.specs.declared.operator.GraphName.{GraphName}
 use Rattle.sparql_algebra.specs.declared.operator.Operator.{Operator}
 use Rattle.sparql_eval.specs.Computed.{TakesOnly}
-use Rattle.sparql_eval.specs.Evaluated.{IsEvaluated}
+use Rattle.sparql_eval.specs.Evaluated.{IsEvaluated, solutions_of}
 use Rattle.sparql_eval.specs.Fitting.{IsEvaluatedWhere, fits}
+use Rattle.sparql_eval.specs.Possible.{may_join, meets_some}
 use Rattle.sparql_eval.specs.declared.equalities.Equality.{Equality}
-use Rattle.sparql_eval.specs.TreeSolutions.{Needed, NeededIn, graph_solutions, solutions_in, tree_solutions}
+use Rattle.sparql_eval.specs.TreeSolutions.{AreGraphs, Needed, NeededIn, graph_solutions, solutions_in, tree_solutions}
 use Rattle.sparql_eval.proofs.NamedSteps.{all_named, each_more}
 use Rattle.sparql_eval.proofs.ClosedSteps.{as_bag, closed_in, joined_in, joined_left, names_evaluated, no_graphs, none_in, some_graphs, takes_as_each, takes_closed, takes_then, takes_turned}
-use Rattle.sparql_eval.proofs.FittingSteps.{where_all, where_any_ok, where_filtered, where_joined, where_right, where_whole}
+use Rattle.sparql_eval.proofs.FittingSteps.{where_all, where_any, where_any_ok, where_filtered, where_joined, where_whole}
+use Rattle.sparql_eval.proofs.PossibleSteps.{after_possible, fits_may_join, join_drops, left_join_drops, meets_may_join, minus_drops, next_left, next_right, possible_are, possible_suffice, where_possible}
 use Rattle.sparql_eval.proofs.ReadingLaws.{Known, all_taken, grown_itself, grown_twice, read_by, rows_kept}
 use Rattle.sparql_eval.proofs.EvaluateSteps.{active_kept, after_left, after_one, after_right, all_below, as_whole, index_kept, tree_kept, join_keeps, left_join_keeps, union_keeps, minus_keeps, filter_keeps, extend_keeps, project_keeps, distinct_keeps}
 use Rattle.sparql_eval.proofs.TreeSteps.{distinct_denotes, distinct_tree, extend_denotes, extend_tree, filter_denotes, filter_tree, graph_denotes, graph_tree, join_denotes, join_tree, left_join_denotes, left_join_tree, minus_denotes, minus_tree, project_denotes, project_tree, table_denotes, table_tree, union_denotes, union_tree}
@@ -233,7 +235,7 @@ pub solve_join-returns-clause-evaluated : goal.solve_join-returns-clause-evaluat
 solve_join-returns-clause-evaluated g t c =
     let s = c.args.self.now in
     let S : Operator → List (Solution Term) = λ tree. tree_solutions c.args.dict s.index.now s.width c.args.active tree in
-    after_right c.args.dict c.in_ok-right.dict s.width c.join_of.result (join term_eq) (join_keeps) (S c.args.right.now) c.args.left c.in_ok-right.right c.requires.same_width c.requires.known_left c.in_ok-right.ensures.evaluated c.join_of.ensures.evaluated
+    after_possible c.args.dict c.in_ok-right.dict s.width c.join_of.result (join term_eq) join_keeps join_drops (S c.args.right.now) c.args.left c.in_ok-right.right c.requires.known_left c.in_ok-right.ensures.evaluated c.join_of.ensures.evaluated
 
 pub solve_join-returns-clause-needed : goal.solve_join-returns-clause-needed
 solve_join-returns-clause-needed g t c =
@@ -247,7 +249,7 @@ pub solve_left_join-returns-clause-evaluated : goal.solve_left_join-returns-clau
 solve_left_join-returns-clause-evaluated g t c =
     let s = c.args.self.now in
     let S : Operator → List (Solution Term) = λ tree. tree_solutions c.args.dict s.index.now s.width c.args.active tree in
-    after_right c.args.dict c.in_ok-right.dict s.width c.left_join_with.result (left_join term_eq (holds (expression_of c.args.condition.now))) (left_join_keeps (holds (expression_of c.args.condition.now))) (S c.args.right.now) c.args.left c.in_ok-right.right c.requires.same_width c.requires.known_left c.in_ok-right.ensures.evaluated c.left_join_with.ensures.evaluated
+    after_possible c.args.dict c.in_ok-right.dict s.width c.left_join_with.result (left_join term_eq (holds (expression_of c.args.condition.now))) (left_join_keeps (holds (expression_of c.args.condition.now))) (left_join_drops (holds (expression_of c.args.condition.now))) (S c.args.right.now) c.args.left c.in_ok-right.right c.requires.known_left c.in_ok-right.ensures.evaluated c.left_join_with.ensures.evaluated
 
 pub solve_left_join-returns-clause-needed : goal.solve_left_join-returns-clause-needed
 solve_left_join-returns-clause-needed g t c =
@@ -275,7 +277,7 @@ pub solve_minus-returns-clause-evaluated : goal.solve_minus-returns-clause-evalu
 solve_minus-returns-clause-evaluated g t c =
     let s = c.args.self.now in
     let S : Operator → List (Solution Term) = λ tree. tree_solutions c.args.dict s.index.now s.width c.args.active tree in
-    after_right c.args.dict c.in_ok-right.dict s.width c.minus_with.result (minus term_eq) (minus_keeps) (S c.args.right.now) c.args.left c.in_ok-right.right c.requires.same_width c.requires.known_left c.in_ok-right.ensures.evaluated c.minus_with.ensures.evaluated
+    after_possible c.args.dict c.in_ok-right.dict s.width c.minus_with.result (minus term_eq) minus_keeps minus_drops (S c.args.right.now) c.args.left c.in_ok-right.right c.requires.known_left c.in_ok-right.ensures.evaluated c.minus_with.ensures.evaluated
 
 pub solve_minus-returns-clause-needed : goal.solve_minus-returns-clause-needed
 solve_minus-returns-clause-needed g t c =
@@ -408,6 +410,10 @@ solve_each-returns-then-is_empty-clause-evaluated g t c =
 pub solve_each-solve_join-requires-clause-index : goal.solve_each-solve_join-requires-clause-index
 solve_each-solve_join-requires-clause-index g t c κs within = (index_kept c.args.dict c.in_ok-rows.dict c.in_ok-rows.ensures.evaluated.grown c.args.self.now.index.now c.requires.index).0
 
+pub solve_each-solve_join-requires-clause-within : goal.solve_each-solve_join-requires-clause-within
+solve_each-solve_join-requires-clause-within g t c κs within =
+    subst (λ (T : Operator). is_within c.args.self.now.width (algebra_of T) ≡ true) (sym c.deref-then-is_closed-2-2.ensures) (join_within c.args.self.now.width c.in-Join.left c.in-Join.right c.args.inner.now c.in-Join.is c.requires.within).1
+
 pub solve_each-returns-then-is_closed-2-clause-evaluated : goal.solve_each-returns-then-is_closed-2-clause-evaluated
 solve_each-returns-then-is_closed-2-clause-evaluated g t c =
     let s = c.args.self.now in
@@ -443,6 +449,10 @@ solve_each-returns-then-is_closed-2-clause-needed g t c =
 
 pub solve_each-solve_join-requires-then-is_closed-3-clause-index : goal.solve_each-solve_join-requires-then-is_closed-3-clause-index
 solve_each-solve_join-requires-then-is_closed-3-clause-index g t c κs within = (index_kept c.args.dict c.in_ok-others.dict c.in_ok-others.ensures.evaluated.grown c.args.self.now.index.now c.requires.index).0
+
+pub solve_each-solve_join-requires-then-is_closed-3-clause-within : goal.solve_each-solve_join-requires-then-is_closed-3-clause-within
+solve_each-solve_join-requires-then-is_closed-3-clause-within g t c κs within =
+    subst (λ (T : Operator). is_within c.args.self.now.width (algebra_of T) ≡ true) (sym c.deref-then-is_closed-3-2.ensures) (join_within c.args.self.now.width c.in-Join.left c.in-Join.right c.args.inner.now c.in-Join.is c.requires.within).0
 
 pub solve_each-returns-then-is_closed-3-clause-evaluated : goal.solve_each-returns-then-is_closed-3-clause-evaluated
 solve_each-returns-then-is_closed-3-clause-evaluated g t c =
@@ -610,23 +620,23 @@ solve-solve_distinct-requires-clause-active g t c κs within = c.requires.active
 pub solve-solve_graph-requires-clause-index : goal.solve-solve_graph-requires-clause-index
 solve-solve_graph-requires-clause-index g t c κs within = c.requires.index
 
-pub solve_join-solve-requires-clause-index : goal.solve_join-solve-requires-clause-index
-solve_join-solve-requires-clause-index g t c κs within = c.requires.index
+pub solve_join-solve_to_join-requires-clause-index : goal.solve_join-solve_to_join-requires-clause-index
+solve_join-solve_to_join-requires-clause-index g t c κs within = c.requires.index
 
-pub solve_join-solve-requires-clause-active : goal.solve_join-solve-requires-clause-active
-solve_join-solve-requires-clause-active g t c κs within = c.requires.active
+pub solve_join-solve_to_join-requires-clause-active : goal.solve_join-solve_to_join-requires-clause-active
+solve_join-solve_to_join-requires-clause-active g t c κs within = c.requires.active
 
-pub solve_join-solve-requires-clause-within : goal.solve_join-solve-requires-clause-within
-solve_join-solve-requires-clause-within g t c κs within = c.requires.within
+pub solve_join-solve_to_join-requires-clause-within : goal.solve_join-solve_to_join-requires-clause-within
+solve_join-solve_to_join-requires-clause-within g t c κs within = c.requires.within
 
-pub solve_left_join-solve-requires-clause-index : goal.solve_left_join-solve-requires-clause-index
-solve_left_join-solve-requires-clause-index g t c κs within = c.requires.index
+pub solve_left_join-solve_to_join-requires-clause-index : goal.solve_left_join-solve_to_join-requires-clause-index
+solve_left_join-solve_to_join-requires-clause-index g t c κs within = c.requires.index
 
-pub solve_left_join-solve-requires-clause-active : goal.solve_left_join-solve-requires-clause-active
-solve_left_join-solve-requires-clause-active g t c κs within = c.requires.active
+pub solve_left_join-solve_to_join-requires-clause-active : goal.solve_left_join-solve_to_join-requires-clause-active
+solve_left_join-solve_to_join-requires-clause-active g t c κs within = c.requires.active
 
-pub solve_left_join-solve-requires-clause-within : goal.solve_left_join-solve-requires-clause-within
-solve_left_join-solve-requires-clause-within g t c κs within = c.requires.within
+pub solve_left_join-solve_to_join-requires-clause-within : goal.solve_left_join-solve_to_join-requires-clause-within
+solve_left_join-solve_to_join-requires-clause-within g t c κs within = c.requires.within
 
 pub solve_union-solve-requires-clause-index : goal.solve_union-solve-requires-clause-index
 solve_union-solve-requires-clause-index g t c κs within = c.requires.index
@@ -637,14 +647,14 @@ solve_union-solve-requires-clause-active g t c κs within = c.requires.active
 pub solve_union-solve-requires-clause-within : goal.solve_union-solve-requires-clause-within
 solve_union-solve-requires-clause-within g t c κs within = c.requires.within
 
-pub solve_minus-solve-requires-clause-index : goal.solve_minus-solve-requires-clause-index
-solve_minus-solve-requires-clause-index g t c κs within = c.requires.index
+pub solve_minus-solve_to_join-requires-clause-index : goal.solve_minus-solve_to_join-requires-clause-index
+solve_minus-solve_to_join-requires-clause-index g t c κs within = c.requires.index
 
-pub solve_minus-solve-requires-clause-active : goal.solve_minus-solve-requires-clause-active
-solve_minus-solve-requires-clause-active g t c κs within = c.requires.active
+pub solve_minus-solve_to_join-requires-clause-active : goal.solve_minus-solve_to_join-requires-clause-active
+solve_minus-solve_to_join-requires-clause-active g t c κs within = c.requires.active
 
-pub solve_minus-solve-requires-clause-within : goal.solve_minus-solve-requires-clause-within
-solve_minus-solve-requires-clause-within g t c κs within = c.requires.within
+pub solve_minus-solve_to_join-requires-clause-within : goal.solve_minus-solve_to_join-requires-clause-within
+solve_minus-solve_to_join-requires-clause-within g t c κs within = c.requires.within
 
 pub solve_extend-solve-requires-clause-index : goal.solve_extend-solve-requires-clause-index
 solve_extend-solve-requires-clause-index g t c κs within = c.requires.index
@@ -935,7 +945,7 @@ solve_where-solve_filter_where-requires-clause-active g t c κs within = c.requi
 
 pub solve_where-solve_filter_where-requires-clause-within : goal.solve_where-solve_filter_where-requires-clause-within
 solve_where-solve_filter_where-requires-clause-within g t c κs within =
-    subst (λ (T : Operator). is_within c.args.self.now.width (algebra_of T) ≡ true) (sym c.deref-in-Filter.ensures) (filter_within c.args.self.now.width c.in-Filter.condition c.in-Filter.inner c.args.tree.now c.in-Filter.is c.requires.within)
+    subst (λ (T : Operator). is_within c.args.self.now.width (algebra_of T) ≡ true) (sym c.deref-in-Filter-2.ensures) (filter_within c.args.self.now.width c.in-Filter.condition c.in-Filter.inner c.args.tree.now c.in-Filter.is c.requires.within)
 
 pub solve_where-solve-requires-clause-index : goal.solve_where-solve-requires-clause-index
 solve_where-solve-requires-clause-index g t c κs within = c.requires.index
@@ -973,15 +983,15 @@ pub solve_where-returns-in-Filter-clause-evaluated : goal.solve_where-returns-in
 solve_where-returns-in-Filter-clause-evaluated g t c =
     let s = c.args.self.now in
     let S : Operator → List (Solution Term) = λ tree. tree_solutions c.args.dict s.index.now s.width c.args.active tree in
-    where_whole c.args.pairs.now c.args.dict s.width c.solve_filter_where.result (filter (holds (expression_of c.in-Filter.condition)) (S c.deref-in-Filter.result.now)) (S c.args.tree.now)
-    (ap S c.in-Filter.is ∙ filter_tree c.args.dict s.index.now s.width c.args.active c.in-Filter.condition c.in-Filter.inner ∙ (λ i. filter (holds (expression_of c.in-Filter.condition)) (S ((sym c.deref-in-Filter.ensures) i))))
+    where_whole c.args.pairs.now c.args.dict s.width c.solve_filter_where.result (filter (holds (expression_of c.in-Filter.condition)) (S c.deref-in-Filter-2.result.now)) (S c.args.tree.now)
+    (ap S c.in-Filter.is ∙ filter_tree c.args.dict s.index.now s.width c.args.active c.in-Filter.condition c.in-Filter.inner ∙ (λ i. filter (holds (expression_of c.in-Filter.condition)) (S ((sym c.deref-in-Filter-2.ensures) i))))
     c.solve_filter_where.ensures.evaluated
 
 pub solve_where-returns-in-Filter-clause-needed : goal.solve_where-returns-in-Filter-clause-needed
 solve_where-returns-in-Filter-clause-needed g t c =
     let s = c.args.self.now in
-    takes_as c.args.dict s.index.now s.width c.args.active c.solve_filter_where.result (algebra_of c.args.tree.now) (algebra.Filter (expression_of c.in-Filter.condition) (algebra_of c.deref-in-Filter.result.now))
-    (ap algebra_of c.in-Filter.is ∙ filter_denotes c.in-Filter.condition c.in-Filter.inner ∙ (λ i. algebra.Filter (expression_of c.in-Filter.condition) (algebra_of ((sym c.deref-in-Filter.ensures) i))))
+    takes_as c.args.dict s.index.now s.width c.args.active c.solve_filter_where.result (algebra_of c.args.tree.now) (algebra.Filter (expression_of c.in-Filter.condition) (algebra_of c.deref-in-Filter-2.result.now))
+    (ap algebra_of c.in-Filter.is ∙ filter_denotes c.in-Filter.condition c.in-Filter.inner ∙ (λ i. algebra.Filter (expression_of c.in-Filter.condition) (algebra_of ((sym c.deref-in-Filter-2.ensures) i))))
     c.solve_filter_where.ensures.needed
 
 pub solve_where-returns-in-Filter-clause-one_worker : goal.solve_where-returns-in-Filter-clause-one_worker
@@ -998,14 +1008,14 @@ solve_where-returns-in_default-clause-needed g t c = c.solve.ensures.needed
 pub solve_where-returns-in_default-clause-one_worker : goal.solve_where-returns-in_default-clause-one_worker
 solve_where-returns-in_default-clause-one_worker g t c = c.solve.ensures.one_worker
 
-pub solve_join_where-solve_where-requires-clause-index : goal.solve_join_where-solve_where-requires-clause-index
-solve_join_where-solve_where-requires-clause-index g t c κs within = c.requires.index
+pub solve_join_where-solve_right_where-requires-clause-index : goal.solve_join_where-solve_right_where-requires-clause-index
+solve_join_where-solve_right_where-requires-clause-index g t c κs within = c.requires.index
 
-pub solve_join_where-solve_where-requires-clause-active : goal.solve_join_where-solve_where-requires-clause-active
-solve_join_where-solve_where-requires-clause-active g t c κs within = c.requires.active
+pub solve_join_where-solve_right_where-requires-clause-active : goal.solve_join_where-solve_right_where-requires-clause-active
+solve_join_where-solve_right_where-requires-clause-active g t c κs within = c.requires.active
 
-pub solve_join_where-solve_where-requires-clause-within : goal.solve_join_where-solve_where-requires-clause-within
-solve_join_where-solve_where-requires-clause-within g t c κs within = c.requires.within
+pub solve_join_where-solve_right_where-requires-clause-within : goal.solve_join_where-solve_right_where-requires-clause-within
+solve_join_where-solve_right_where-requires-clause-within g t c κs within = c.requires.within
 
 pub solve_join_where-join_where-requires-clause-same_width : goal.solve_join_where-join_where-requires-clause-same_width
 solve_join_where-join_where-requires-clause-same_width g t c κs within = c.requires.same_width ∙ sym c.in_ok-right.ensures.evaluated.wide
@@ -1020,7 +1030,7 @@ pub solve_join_where-returns-clause-evaluated : goal.solve_join_where-returns-cl
 solve_join_where-returns-clause-evaluated g t c =
     let s = c.args.self.now in
     let S : Operator → List (Solution Term) = λ tree. tree_solutions c.args.dict s.index.now s.width c.args.active tree in
-    where_right c.args.pairs.now c.args.dict c.in_ok-right.dict s.width c.join_where.result (S c.args.right.now) c.args.left c.in_ok-right.right c.requires.known_left c.in_ok-right.ensures.evaluated c.join_where.ensures.evaluated
+    where_possible c.args.pairs.now c.args.dict c.in_ok-right.dict s.width c.join_where.result (S c.args.right.now) c.args.left c.in_ok-right.right c.requires.known_left c.in_ok-right.ensures.evaluated c.join_where.ensures.evaluated
 
 pub solve_join_where-returns-clause-needed : goal.solve_join_where-returns-clause-needed
 solve_join_where-returns-clause-needed g t c =
@@ -1029,3 +1039,342 @@ solve_join_where-returns-clause-needed g t c =
 
 pub solve_join_where-returns-clause-one_worker : goal.solve_join_where-returns-clause-one_worker
 solve_join_where-returns-clause-one_worker g t c = c.join_where.ensures.one_worker
+
+pub solve_join-solve_to_join-requires-clause-known_others : goal.solve_join-solve_to_join-requires-clause-known_others
+solve_join-solve_to_join-requires-clause-known_others g t c κs within = c.requires.known_left
+
+pub solve_left_join-solve_to_join-requires-clause-known_others : goal.solve_left_join-solve_to_join-requires-clause-known_others
+solve_left_join-solve_to_join-requires-clause-known_others g t c κs within = c.requires.known_left
+
+pub solve_minus-solve_to_join-requires-clause-known_others : goal.solve_minus-solve_to_join-requires-clause-known_others
+solve_minus-solve_to_join-requires-clause-known_others g t c κs within = c.requires.known_left
+
+pub solve_join_where-solve_right_where-requires-clause-known_others : goal.solve_join_where-solve_right_where-requires-clause-known_others
+solve_join_where-solve_right_where-requires-clause-known_others g t c κs within = c.requires.known_left
+
+-- ---- a tree that is joined with rows
+
+pub solve_to_join-solve_possible-requires-clause-index : goal.solve_to_join-solve_possible-requires-clause-index
+solve_to_join-solve_possible-requires-clause-index g t c κs within = c.requires.index
+
+pub solve_to_join-solve_possible-requires-clause-known_others : goal.solve_to_join-solve_possible-requires-clause-known_others
+solve_to_join-solve_possible-requires-clause-known_others g t c κs within = c.requires.known_others
+
+pub solve_to_join-solve_possible-requires-clause-within : goal.solve_to_join-solve_possible-requires-clause-within
+solve_to_join-solve_possible-requires-clause-within g t c κs within =
+    subst (λ (T : Operator). is_within c.args.self.now.width (algebra_of T) ≡ true) (sym c.deref.ensures) (graph_within c.args.self.now.width c.in-Graph.name c.in-Graph.inner c.args.tree.now c.in-Graph.is c.requires.within)
+
+pub solve_to_join-solve_to_join-requires-clause-index : goal.solve_to_join-solve_to_join-requires-clause-index
+solve_to_join-solve_to_join-requires-clause-index g t c κs within = c.requires.index
+
+pub solve_to_join-solve_to_join-requires-clause-active : goal.solve_to_join-solve_to_join-requires-clause-active
+solve_to_join-solve_to_join-requires-clause-active g t c κs within = c.requires.active
+
+pub solve_to_join-solve_to_join-requires-clause-known_others : goal.solve_to_join-solve_to_join-requires-clause-known_others
+solve_to_join-solve_to_join-requires-clause-known_others g t c κs within = c.requires.known_others
+
+pub solve_to_join-solve_to_join-requires-clause-within : goal.solve_to_join-solve_to_join-requires-clause-within
+solve_to_join-solve_to_join-requires-clause-within g t c κs within =
+    subst (λ (T : Operator). is_within c.args.self.now.width (algebra_of T) ≡ true) (sym c.deref-in-Join.ensures) (join_within c.args.self.now.width c.in-Join.left c.in-Join.right c.args.tree.now c.in-Join.is c.requires.within).0
+
+pub solve_to_join-solve-requires-clause-index : goal.solve_to_join-solve-requires-clause-index
+solve_to_join-solve-requires-clause-index g t c κs within = c.requires.index
+
+pub solve_to_join-solve-requires-clause-active : goal.solve_to_join-solve-requires-clause-active
+solve_to_join-solve-requires-clause-active g t c κs within = c.requires.active
+
+pub solve_to_join-solve-requires-clause-within : goal.solve_to_join-solve-requires-clause-within
+solve_to_join-solve-requires-clause-within g t c κs within = c.requires.within
+
+pub solve_to_join-solve_join_next-requires-clause-index : goal.solve_to_join-solve_join_next-requires-clause-index
+solve_to_join-solve_join_next-requires-clause-index g t c κs within = (index_kept c.args.dict c.in_ok-rows-in-Join.dict c.in_ok-rows-in-Join.ensures.evaluated.grown c.args.self.now.index.now c.requires.index).0
+
+pub solve_to_join-solve_join_next-requires-clause-active : goal.solve_to_join-solve_join_next-requires-clause-active
+solve_to_join-solve_join_next-requires-clause-active g t c κs within = (active_kept c.args.dict c.in_ok-rows-in-Join.dict c.in_ok-rows-in-Join.ensures.evaluated.grown c.args.active c.requires.active).0
+
+pub solve_to_join-solve_join_next-requires-clause-same_width : goal.solve_to_join-solve_join_next-requires-clause-same_width
+solve_to_join-solve_join_next-requires-clause-same_width g t c κs within = c.in_ok-rows-in-Join.ensures.evaluated.wide
+
+pub solve_to_join-solve_join_next-requires-clause-known_left : goal.solve_to_join-solve_join_next-requires-clause-known_left
+solve_to_join-solve_join_next-requires-clause-known_left g t c κs within = c.in_ok-rows-in-Join.ensures.evaluated.known
+
+pub solve_to_join-solve_join_next-requires-clause-within : goal.solve_to_join-solve_join_next-requires-clause-within
+solve_to_join-solve_join_next-requires-clause-within g t c κs within =
+    subst (λ (T : Operator). is_within c.args.self.now.width (algebra_of T) ≡ true) (sym c.deref-then-is_empty_pattern.ensures) (join_within c.args.self.now.width c.in-Join.left c.in-Join.right c.args.tree.now c.in-Join.is c.requires.within).1
+
+pub solve_to_join-solve_join-requires-clause-index : goal.solve_to_join-solve_join-requires-clause-index
+solve_to_join-solve_join-requires-clause-index g t c κs within = (index_kept c.args.dict c.in_ok-rows-in-Join.dict c.in_ok-rows-in-Join.ensures.evaluated.grown c.args.self.now.index.now c.requires.index).0
+
+pub solve_to_join-solve_join-requires-clause-active : goal.solve_to_join-solve_join-requires-clause-active
+solve_to_join-solve_join-requires-clause-active g t c κs within = (active_kept c.args.dict c.in_ok-rows-in-Join.dict c.in_ok-rows-in-Join.ensures.evaluated.grown c.args.active c.requires.active).0
+
+pub solve_to_join-solve_join-requires-clause-same_width : goal.solve_to_join-solve_join-requires-clause-same_width
+solve_to_join-solve_join-requires-clause-same_width g t c κs within = c.in_ok-rows-in-Join.ensures.evaluated.wide
+
+pub solve_to_join-solve_join-requires-clause-known_left : goal.solve_to_join-solve_join-requires-clause-known_left
+solve_to_join-solve_join-requires-clause-known_left g t c κs within = c.in_ok-rows-in-Join.ensures.evaluated.known
+
+pub solve_to_join-solve_join-requires-clause-within : goal.solve_to_join-solve_join-requires-clause-within
+solve_to_join-solve_join-requires-clause-within g t c κs within =
+    subst (λ (T : Operator). is_within c.args.self.now.width (algebra_of T) ≡ true) (sym c.deref-else-is_empty_pattern.ensures) (join_within c.args.self.now.width c.in-Join.left c.in-Join.right c.args.tree.now c.in-Join.is c.requires.within).1
+
+pub solve_to_join-solve_join_next-requires-clause-known_others : goal.solve_to_join-solve_join_next-requires-clause-known_others
+solve_to_join-solve_join_next-requires-clause-known_others g t c κs within = (rows_kept c.args.dict c.in_ok-rows-in-Join.dict c.in_ok-rows-in-Join.ensures.evaluated.grown c.args.others.now.rows c.requires.known_others).0
+
+pub solve_join_next-solve_to_join-requires-clause-index : goal.solve_join_next-solve_to_join-requires-clause-index
+solve_join_next-solve_to_join-requires-clause-index g t c κs within = c.requires.index
+
+pub solve_join_next-solve_to_join-requires-clause-active : goal.solve_join_next-solve_to_join-requires-clause-active
+solve_join_next-solve_to_join-requires-clause-active g t c κs within = c.requires.active
+
+pub solve_join_next-solve_to_join-requires-clause-within : goal.solve_join_next-solve_to_join-requires-clause-within
+solve_join_next-solve_to_join-requires-clause-within g t c κs within = c.requires.within
+
+pub solve_join_next-solve_to_join-requires-clause-known_others : goal.solve_join_next-solve_to_join-requires-clause-known_others
+solve_join_next-solve_to_join-requires-clause-known_others g t c κs within = c.requires.known_others
+
+pub solve_join_next-join_of-requires-clause-same_width : goal.solve_join_next-join_of-requires-clause-same_width
+solve_join_next-join_of-requires-clause-same_width g t c κs within = c.requires.same_width ∙ sym c.in_ok-right.ensures.evaluated.wide
+
+pub solve_join_next-join_of-requires-clause-known_left : goal.solve_join_next-join_of-requires-clause-known_left
+solve_join_next-join_of-requires-clause-known_left g t c κs within = (rows_kept c.args.dict c.in_ok-right.dict c.in_ok-right.ensures.evaluated.grown c.args.left.rows c.requires.known_left).0
+
+pub solve_join_next-join_of-requires-clause-known_right : goal.solve_join_next-join_of-requires-clause-known_right
+solve_join_next-join_of-requires-clause-known_right g t c κs within = c.in_ok-right.ensures.evaluated.known
+
+pub solve_join_next-returns-clause-evaluated : goal.solve_join_next-returns-clause-evaluated
+solve_join_next-returns-clause-evaluated g t c =
+    let s = c.args.self.now in
+    next_right [] c.args.dict c.in_ok-right.dict s.width c.join_of.result (solutions_of c.args.dict c.args.others.now) (tree_solutions c.args.dict s.index.now s.width c.args.active c.args.right.now) c.args.left c.in_ok-right.right c.requires.known_left c.in_ok-right.ensures.evaluated
+    (where_any_ok [] c.in_ok-right.dict c.args.left.width c.join_of.result (join term_eq (solutions_of c.in_ok-right.dict c.args.left) (solutions_of c.in_ok-right.dict c.in_ok-right.right)) c.join_of.ensures.evaluated)
+
+pub solve_join_next-returns-clause-needed : goal.solve_join_next-returns-clause-needed
+solve_join_next-returns-clause-needed g t c =
+    let s = c.args.self.now in
+    takes_still (Needed c.args.dict s.index.now s.width c.args.active (algebra_of c.args.right.now)) c.args.dict c.in_ok-right.dict c.join_of.result c.in_ok-right.ensures.needed c.join_of.ensures.same_dict
+
+pub solve_join_next-returns-clause-one_worker : goal.solve_join_next-returns-clause-one_worker
+solve_join_next-returns-clause-one_worker g t c = c.join_of.ensures.one_worker
+
+pub solve_found-solve_each-requires-clause-index : goal.solve_found-solve_each-requires-clause-index
+solve_found-solve_each-requires-clause-index g t c κs within = c.requires.index
+
+pub solve_found-solve_each-requires-clause-variable : goal.solve_found-solve_each-requires-clause-variable
+solve_found-solve_each-requires-clause-variable g t c κs within = c.requires.variable
+
+pub solve_found-solve_each-requires-clause-within : goal.solve_found-solve_each-requires-clause-within
+solve_found-solve_each-requires-clause-within g t c κs within = c.requires.within
+
+pub solve_found-solve_each-requires-clause-graphs : goal.solve_found-solve_each-requires-clause-graphs
+solve_found-solve_each-requires-clause-graphs g t c κs within =
+    subst (λ (l : List ℕ). AreGraphs c.args.dict c.args.self.now.index.now l) (sym c.as_slice.ensures.value)
+    (possible_are c.args.dict c.len-distinct.ensures.distinct c.args.self.now.index.now c.requires.index c.args.others.now.rows c.args.variable c.args.found.items c.requires.found)
+
+pub solve_found-returns-clause-evaluated : goal.solve_found-returns-clause-evaluated
+solve_found-returns-clause-evaluated g t c =
+    let s = c.args.self.now in
+    let terms = c.args.dict in
+    possible_suffice terms c.len-distinct.ensures.distinct s.index.now c.requires.index s.width c.args.variable c.requires.variable c.args.inner.now c.args.others.now c.requires.known_others c.solve_each.result c.args.found.items c.requires.found
+    (subst (λ (l : List ℕ). IfOk c.solve_each.result (λ r. IsEvaluated terms s.width (solutions_in terms s.index.now s.width c.args.variable l (algebra_of c.args.inner.now)) r.0 r.1)) c.as_slice.ensures.value c.solve_each.ensures.evaluated)
+
+pub solve_found-returns-clause-needed : goal.solve_found-returns-clause-needed
+solve_found-returns-clause-needed g t c = c.solve_each.ensures.needed
+
+pub solve_found-returns-clause-one_worker : goal.solve_found-returns-clause-one_worker
+solve_found-returns-clause-one_worker g t c = c.solve_each.ensures.one_worker
+
+pub solve_to_join-returns-in-Graph-clause-evaluated : goal.solve_to_join-returns-in-Graph-clause-evaluated
+solve_to_join-returns-in-Graph-clause-evaluated g t c =
+    let s = c.args.self.now in
+    let terms = c.args.dict in
+    let S : Operator → List (Solution Term) = λ tree. tree_solutions terms s.index.now s.width c.args.active tree in
+    let O = solutions_of terms c.args.others.now in
+    let A = graph_solutions terms s.index.now s.width (graph_name_of c.in-Graph.name) c.deref.result.now in
+    meets_may_join terms s.width c.solve_possible.result [] O A (S c.args.tree.now)
+    (ap S c.in-Graph.is ∙ graph_tree terms s.index.now s.width c.args.active c.in-Graph.name c.in-Graph.inner ∙ ap (λ (tree : Operator). graph_solutions terms s.index.now s.width (graph_name_of c.in-Graph.name) tree) (sym c.deref.ensures))
+    c.solve_possible.ensures.evaluated
+
+pub solve_to_join-returns-in-Graph-clause-needed : goal.solve_to_join-returns-in-Graph-clause-needed
+solve_to_join-returns-in-Graph-clause-needed g t c =
+    let s = c.args.self.now in
+    takes_as c.args.dict s.index.now s.width c.args.active c.solve_possible.result (algebra_of c.args.tree.now) (algebra.Graph (graph_name_of c.in-Graph.name) (algebra_of c.deref.result.now))
+    (ap algebra_of c.in-Graph.is ∙ graph_denotes c.in-Graph.name c.in-Graph.inner ∙ (λ i. algebra.Graph (graph_name_of c.in-Graph.name) (algebra_of ((sym c.deref.ensures) i)))) c.solve_possible.ensures.needed
+
+pub solve_to_join-returns-in-Graph-clause-one_worker : goal.solve_to_join-returns-in-Graph-clause-one_worker
+solve_to_join-returns-in-Graph-clause-one_worker g t c = c.solve_possible.ensures.one_worker
+
+pub solve_to_join-returns-then-is_empty_pattern-clause-evaluated : goal.solve_to_join-returns-then-is_empty_pattern-clause-evaluated
+solve_to_join-returns-then-is_empty_pattern-clause-evaluated g t c =
+    let s = c.args.self.now in
+    let terms = c.args.dict in
+    let S : Operator → List (Solution Term) = λ tree. tree_solutions terms s.index.now s.width c.args.active tree in
+    let O = solutions_of terms c.args.others.now in
+    let now = c.in_ok-rows-in-Join.dict in
+    let rows = c.in_ok-rows-in-Join.rows in
+    let h = c.in_ok-rows-in-Join.ensures.evaluated in
+    let B = tree_solutions now s.index.now s.width c.args.active c.deref-then-is_empty_pattern.result.now in
+    let J = join term_eq (solutions_of now rows) B in
+    next_left [] terms now s.width c.solve_join_next.result O (S c.deref-in-Join.result.now) (S c.deref-then-is_empty_pattern.result.now) B (S c.args.tree.now) rows
+    (tree_kept terms now h.grown s.index.now s.width c.args.active c.deref-then-is_empty_pattern.result.now c.requires.index c.requires.active)
+    (ap S c.in-Join.is ∙ join_tree terms s.index.now s.width c.args.active c.in-Join.left c.in-Join.right ∙ (λ i. join term_eq (S ((sym c.deref-in-Join.ensures) i)) (S ((sym c.deref-then-is_empty_pattern.ensures) i))))
+    h (subst (λ (X : List (Solution Term)). IfOk c.solve_join_next.result (λ x. IsEvaluatedWhere now rows.width (may_join [] X) J x.0 x.1)) (rows_kept terms now h.grown c.args.others.now.rows c.requires.known_others).1 c.solve_join_next.ensures.evaluated)
+
+pub solve_to_join-returns-then-is_empty_pattern-clause-needed : goal.solve_to_join-returns-then-is_empty_pattern-clause-needed
+solve_to_join-returns-then-is_empty_pattern-clause-needed g t c =
+    let s = c.args.self.now in
+    let L = algebra_of c.deref-in-Join.result.now in
+    let R = algebra_of c.deref-then-is_empty_pattern.result.now in
+    takes_both c.args.dict c.in_ok-rows-in-Join.dict c.in_ok-rows-in-Join.ensures.evaluated.grown s.index.now c.requires.index s.width c.args.active c.requires.active c.solve_join_next.result
+    L R (algebra_of c.args.tree.now) (algebra.Join L R) (ap algebra_of c.in-Join.is ∙ join_denotes c.in-Join.left c.in-Join.right ∙ (λ i. algebra.Join (algebra_of ((sym c.deref-in-Join.ensures) i)) (algebra_of ((sym c.deref-then-is_empty_pattern.ensures) i)))) (λ x m. m)
+    c.in_ok-rows-in-Join.ensures.needed c.solve_join_next.ensures.needed
+
+pub solve_to_join-returns-then-is_empty_pattern-clause-one_worker : goal.solve_to_join-returns-then-is_empty_pattern-clause-one_worker
+solve_to_join-returns-then-is_empty_pattern-clause-one_worker g t c = c.solve_join_next.ensures.one_worker
+
+pub solve_to_join-returns-else-is_empty_pattern-clause-evaluated : goal.solve_to_join-returns-else-is_empty_pattern-clause-evaluated
+solve_to_join-returns-else-is_empty_pattern-clause-evaluated g t c =
+    let s = c.args.self.now in
+    let terms = c.args.dict in
+    let S : Operator → List (Solution Term) = λ tree. tree_solutions terms s.index.now s.width c.args.active tree in
+    let O = solutions_of terms c.args.others.now in
+    let now = c.in_ok-rows-in-Join.dict in
+    let rows = c.in_ok-rows-in-Join.rows in
+    let h = c.in_ok-rows-in-Join.ensures.evaluated in
+    let B = tree_solutions now s.index.now s.width c.args.active c.deref-else-is_empty_pattern.result.now in
+    let J = join term_eq (solutions_of now rows) B in
+    next_left [] terms now s.width c.solve_join.result O (S c.deref-in-Join.result.now) (S c.deref-else-is_empty_pattern.result.now) B (S c.args.tree.now) rows
+    (tree_kept terms now h.grown s.index.now s.width c.args.active c.deref-else-is_empty_pattern.result.now c.requires.index c.requires.active)
+    (ap S c.in-Join.is ∙ join_tree terms s.index.now s.width c.args.active c.in-Join.left c.in-Join.right ∙ (λ i. join term_eq (S ((sym c.deref-in-Join.ensures) i)) (S ((sym c.deref-else-is_empty_pattern.ensures) i))))
+    h (fits_may_join now rows.width c.solve_join.result [] O J J refl (where_any_ok [] now rows.width c.solve_join.result J c.solve_join.ensures.evaluated))
+
+pub solve_to_join-returns-else-is_empty_pattern-clause-needed : goal.solve_to_join-returns-else-is_empty_pattern-clause-needed
+solve_to_join-returns-else-is_empty_pattern-clause-needed g t c =
+    let s = c.args.self.now in
+    let L = algebra_of c.deref-in-Join.result.now in
+    let R = algebra_of c.deref-else-is_empty_pattern.result.now in
+    takes_both c.args.dict c.in_ok-rows-in-Join.dict c.in_ok-rows-in-Join.ensures.evaluated.grown s.index.now c.requires.index s.width c.args.active c.requires.active c.solve_join.result
+    L R (algebra_of c.args.tree.now) (algebra.Join L R) (ap algebra_of c.in-Join.is ∙ join_denotes c.in-Join.left c.in-Join.right ∙ (λ i. algebra.Join (algebra_of ((sym c.deref-in-Join.ensures) i)) (algebra_of ((sym c.deref-else-is_empty_pattern.ensures) i)))) (λ x m. m)
+    c.in_ok-rows-in-Join.ensures.needed c.solve_join.ensures.needed
+
+pub solve_to_join-returns-else-is_empty_pattern-clause-one_worker : goal.solve_to_join-returns-else-is_empty_pattern-clause-one_worker
+solve_to_join-returns-else-is_empty_pattern-clause-one_worker g t c = c.solve_join.ensures.one_worker
+
+pub solve_to_join-returns-in_default-clause-evaluated : goal.solve_to_join-returns-in_default-clause-evaluated
+solve_to_join-returns-in_default-clause-evaluated g t c =
+    let s = c.args.self.now in
+    let terms = c.args.dict in
+    let S : Operator → List (Solution Term) = λ tree. tree_solutions terms s.index.now s.width c.args.active tree in
+    let O = solutions_of terms c.args.others.now in
+    let A = S c.args.tree.now in
+    fits_may_join terms s.width c.solve.result [] O A A refl (where_any_ok [] terms s.width c.solve.result A c.solve.ensures.evaluated)
+
+pub solve_to_join-returns-in_default-clause-needed : goal.solve_to_join-returns-in_default-clause-needed
+solve_to_join-returns-in_default-clause-needed g t c = c.solve.ensures.needed
+
+pub solve_to_join-returns-in_default-clause-one_worker : goal.solve_to_join-returns-in_default-clause-one_worker
+solve_to_join-returns-in_default-clause-one_worker g t c = c.solve.ensures.one_worker
+
+pub solve_possible-solve_found-requires-clause-index : goal.solve_possible-solve_found-requires-clause-index
+solve_possible-solve_found-requires-clause-index g t c κs within = c.requires.index
+
+pub solve_possible-solve_found-requires-clause-known_others : goal.solve_possible-solve_found-requires-clause-known_others
+solve_possible-solve_found-requires-clause-known_others g t c κs within = c.requires.known_others
+
+pub solve_possible-solve_found-requires-clause-within : goal.solve_possible-solve_found-requires-clause-within
+solve_possible-solve_found-requires-clause-within g t c κs within = c.requires.within
+
+pub solve_possible-solve_found-requires-clause-found : goal.solve_possible-solve_found-requires-clause-found
+solve_possible-solve_found-requires-clause-found g t c κs within =
+    (c.graphs-graphs.result.now, (c.graphs-graphs.ensures.names, rw c.in-Some.is at c.in_ok-found.ensures.possible))
+
+pub solve_possible-solve_graph-requires-clause-index : goal.solve_possible-solve_graph-requires-clause-index
+solve_possible-solve_graph-requires-clause-index g t c κs within = c.requires.index
+
+pub solve_possible-solve_graph-requires-clause-name : goal.solve_possible-solve_graph-requires-clause-name
+solve_possible-solve_graph-requires-clause-name g t c κs within = c.requires.name
+
+pub solve_possible-solve_graph-requires-clause-within : goal.solve_possible-solve_graph-requires-clause-within
+solve_possible-solve_graph-requires-clause-within g t c κs within = c.requires.within
+
+pub solve_possible-returns-in-Some-clause-evaluated : goal.solve_possible-returns-in-Some-clause-evaluated
+solve_possible-returns-in-Some-clause-evaluated g t c =
+    let s = c.args.self.now in
+    subst (λ (n : GraphName). IfOk c.solve_found.result (λ r. IsEvaluatedWhere c.args.dict s.width (meets_some term_eq (solutions_of c.args.dict c.args.others.now)) (graph_solutions c.args.dict s.index.now s.width (graph_name_of n) c.args.inner.now) r.0 r.1)) (sym c.in-Variable.is) c.solve_found.ensures.evaluated
+
+pub solve_possible-returns-in-Some-clause-needed : goal.solve_possible-returns-in-Some-clause-needed
+solve_possible-returns-in-Some-clause-needed g t c =
+    let s = c.args.self.now in
+    subst (λ (n : GraphName). IfOk c.solve_found.result (λ r. TakesOnly (NeededIn c.args.dict s.index.now s.width (graph_name_of n) (algebra_of c.args.inner.now)) c.args.dict r.1)) (sym c.in-Variable.is) c.solve_found.ensures.needed
+
+pub solve_possible-returns-in-Some-clause-one_worker : goal.solve_possible-returns-in-Some-clause-one_worker
+solve_possible-returns-in-Some-clause-one_worker g t c = c.solve_found.ensures.one_worker
+
+pub solve_possible-returns-clause-evaluated : goal.solve_possible-returns-clause-evaluated
+solve_possible-returns-clause-evaluated g t c =
+    let s = c.args.self.now in
+    let m : Solution Term → Bool = meets_some term_eq (solutions_of c.args.dict c.args.others.now) in
+    let A = graph_solutions c.args.dict s.index.now s.width (graph_name_of c.args.name.now) c.args.inner.now in
+    IfOk-weaker c.solve_graph.result (λ x. IsEvaluated c.args.dict s.width A x.0 x.1) (λ x. IsEvaluatedWhere c.args.dict s.width m A x.0 x.1)
+    (λ x h. where_any c.args.dict s.width m A x.0 x.1 h) c.solve_graph.ensures.evaluated
+
+pub solve_possible-returns-clause-needed : goal.solve_possible-returns-clause-needed
+solve_possible-returns-clause-needed g t c = c.solve_graph.ensures.needed
+
+pub solve_possible-returns-clause-one_worker : goal.solve_possible-returns-clause-one_worker
+solve_possible-returns-clause-one_worker g t c = c.solve_graph.ensures.one_worker
+
+-- ---- the right side of a join of which only some solutions are needed
+
+pub solve_right_where-solve_possible-requires-clause-index : goal.solve_right_where-solve_possible-requires-clause-index
+solve_right_where-solve_possible-requires-clause-index g t c κs within = c.requires.index
+
+pub solve_right_where-solve_possible-requires-clause-known_others : goal.solve_right_where-solve_possible-requires-clause-known_others
+solve_right_where-solve_possible-requires-clause-known_others g t c κs within = c.requires.known_others
+
+pub solve_right_where-solve_possible-requires-clause-within : goal.solve_right_where-solve_possible-requires-clause-within
+solve_right_where-solve_possible-requires-clause-within g t c κs within =
+    subst (λ (T : Operator). is_within c.args.self.now.width (algebra_of T) ≡ true) (sym c.deref.ensures) (graph_within c.args.self.now.width c.in-Graph.name c.in-Graph.inner c.args.tree.now c.in-Graph.is c.requires.within)
+
+pub solve_right_where-solve_where-requires-clause-index : goal.solve_right_where-solve_where-requires-clause-index
+solve_right_where-solve_where-requires-clause-index g t c κs within = c.requires.index
+
+pub solve_right_where-solve_where-requires-clause-active : goal.solve_right_where-solve_where-requires-clause-active
+solve_right_where-solve_where-requires-clause-active g t c κs within = c.requires.active
+
+pub solve_right_where-solve_where-requires-clause-within : goal.solve_right_where-solve_where-requires-clause-within
+solve_right_where-solve_where-requires-clause-within g t c κs within = c.requires.within
+
+pub solve_right_where-returns-in-Graph-clause-evaluated : goal.solve_right_where-returns-in-Graph-clause-evaluated
+solve_right_where-returns-in-Graph-clause-evaluated g t c =
+    let s = c.args.self.now in
+    let terms = c.args.dict in
+    let S : Operator → List (Solution Term) = λ tree. tree_solutions terms s.index.now s.width c.args.active tree in
+    let O = solutions_of terms c.args.others.now in
+    let A = graph_solutions terms s.index.now s.width (graph_name_of c.in-Graph.name) c.deref.result.now in
+    meets_may_join terms s.width c.solve_possible.result c.args.pairs.now O A (S c.args.tree.now)
+    (ap S c.in-Graph.is ∙ graph_tree terms s.index.now s.width c.args.active c.in-Graph.name c.in-Graph.inner ∙ ap (λ (tree : Operator). graph_solutions terms s.index.now s.width (graph_name_of c.in-Graph.name) tree) (sym c.deref.ensures))
+    c.solve_possible.ensures.evaluated
+
+pub solve_right_where-returns-in-Graph-clause-needed : goal.solve_right_where-returns-in-Graph-clause-needed
+solve_right_where-returns-in-Graph-clause-needed g t c =
+    let s = c.args.self.now in
+    takes_as c.args.dict s.index.now s.width c.args.active c.solve_possible.result (algebra_of c.args.tree.now) (algebra.Graph (graph_name_of c.in-Graph.name) (algebra_of c.deref.result.now))
+    (ap algebra_of c.in-Graph.is ∙ graph_denotes c.in-Graph.name c.in-Graph.inner ∙ (λ i. algebra.Graph (graph_name_of c.in-Graph.name) (algebra_of ((sym c.deref.ensures) i)))) c.solve_possible.ensures.needed
+
+pub solve_right_where-returns-in-Graph-clause-one_worker : goal.solve_right_where-returns-in-Graph-clause-one_worker
+solve_right_where-returns-in-Graph-clause-one_worker g t c = c.solve_possible.ensures.one_worker
+
+pub solve_right_where-returns-in_default-clause-evaluated : goal.solve_right_where-returns-in_default-clause-evaluated
+solve_right_where-returns-in_default-clause-evaluated g t c =
+    let s = c.args.self.now in
+    let terms = c.args.dict in
+    let S : Operator → List (Solution Term) = λ tree. tree_solutions terms s.index.now s.width c.args.active tree in
+    let O = solutions_of terms c.args.others.now in
+    let A = S c.args.tree.now in
+    fits_may_join terms s.width c.solve_where.result c.args.pairs.now O A A refl c.solve_where.ensures.evaluated
+
+pub solve_right_where-returns-in_default-clause-needed : goal.solve_right_where-returns-in_default-clause-needed
+solve_right_where-returns-in_default-clause-needed g t c = c.solve_where.ensures.needed
+
+pub solve_right_where-returns-in_default-clause-one_worker : goal.solve_right_where-returns-in_default-clause-one_worker
+solve_right_where-returns-in_default-clause-one_worker g t c = c.solve_where.ensures.one_worker

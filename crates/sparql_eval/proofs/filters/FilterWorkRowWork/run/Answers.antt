@@ -1,4 +1,4 @@
-use Rattle.std.proofs.Common.{◌≡◌, ℕ, ◌-◌, Bool, cond, [], ◌∷◌, ◌++◌, take, drop, filter, sym, ap, ◌∙◌, append-nil, arith}
+use Rattle.std.proofs.Common.{◌≡◌, ℕ, ◌-◌, Bool, cond, [], ◌∷◌, ◌++◌, take, drop, filter, sym, ap, ◌∙◌, append-nil, arith, Some}
 use Rattle.expression_values.specs.ExpressionOf.{expression_of}
 use Rattle.sparql_eval.proofs.FilterSteps.{passes, filter_more, made_between}
 use Rattle.sparql_eval.proofs.filters.FilterWorkRowWork.run.Goals as goal
@@ -7,7 +7,7 @@ use Rattle.sparql_eval.proofs.filters.FilterWorkRowWork.run.Goals.{then-branch+i
 pub loop-i-preserved : goal.loop-i-preserved
 loop-i-preserved c =
     let was = c.loop-i.invariant in
-    let row = c.row.result.now in
+    let row = c.as_slice-row.result.now in
     let made = c.loop-i.made.rows in
     let b = c.in_ok-test_counted.field-0 in
     let wide : c.if-branch.made.width ≡ c.args.self.now.rows.now.width =
@@ -24,7 +24,7 @@ loop-i-preserved c =
       width = wide;
       made =
           put ∙ (λ i. was.made i ++ cond (c.in_ok-test_counted.ensures.holds i) (row ∷ []) [])
-          ∙ sym (filter_more c.args.self.now.dict.now (expression_of c.args.self.now.condition.now) c.args.self.now.rows.now.rows c.args.from c.loop-i.i row (omega arith) c.row.ensures.found);
+          ∙ sym (filter_more c.args.self.now.dict.now (expression_of c.args.self.now.condition.now) c.args.self.now.rows.now.rows c.args.from c.loop-i.i row (omega arith) (c.in_ok-read.ensures.found ∙ ap Some (sym c.as_slice-row.ensures.value)));
     }
 
 pub returns : goal.returns

@@ -1,4 +1,4 @@
-use Rattle.std.proofs.Common.{◌≡◌, ℕ, ◌+◌, ◌-◌, List, take, drop, sym, subst, arith}
+use Rattle.std.proofs.Common.{◌≡◌, ℕ, ◌+◌, ◌-◌, List, take, drop, sym, subst, arith, ap, Some, ◌∙◌}
 use Rattle.expression_values.specs.ExpressionOf.{expression_of}
 use Rattle.sparql_eval.specs.declared.piece_values.PieceValue.{PieceValue}
 use Rattle.sparql_eval.specs.Values.{AreValues}
@@ -13,7 +13,7 @@ loop-i-preserved c =
     let rows = c.args.self.now.rows.now.rows in
     let later = c.value_at.new.own in
     subst (AreValues terms later e (take (c.loop-i.i + 1 - c.args.from) (drop c.args.from rows))) (sym {A = List PieceValue} c.in_ok-push.ensures.items)
-    (values_more terms e c.loop-i.own later c.in_ok-value_at.ensures.grown (grown_itself terms) rows c.args.from c.loop-i.i c.row.result.now c.loop-i.values.items c.in_ok-value_at.field-0 (omega arith) c.row.ensures.found c.loop-i.invariant c.in_ok-value_at.ensures.value c.in_ok-value_at.ensures.needed)
+    (values_more terms e c.loop-i.own later c.in_ok-value_at.ensures.grown (grown_itself terms) rows c.args.from c.loop-i.i c.as_slice-row.result.now c.loop-i.values.items c.in_ok-value_at.field-0 (omega arith) (c.in_ok-read.ensures.found ∙ ap Some (sym c.as_slice-row.ensures.value)) c.loop-i.invariant c.in_ok-value_at.ensures.value c.in_ok-value_at.ensures.needed)
 
 pub returns : goal.returns
 returns c =
