@@ -19,7 +19,8 @@
 //!
 //! Reading order: `fault`, `store`, `round_job` (one piece), `numbered` and `rounds`
 //! (all pieces), `sorting` (the lists of the index), `terms` (the terms of the texts), `loading`, `reader` (blocks of a reader),
-//! `reader_fault`, `counted`, `load_notes`, `causes`, `listing` and `rest` (the malformed lines), `bad_round`, `streaming`.
+//! `reader_fault`, `counted`, `load_notes`, `load_context`, `causes`, `listing` and `rest` (the malformed lines), `bad_round`,
+//! `streaming`.
 //!
 //! Tests: `documents`, `readers` and `refusals` of the crate loading_tests.
 //!
@@ -39,6 +40,7 @@ mod causes;
 mod counted;
 mod fault;
 mod listing;
+mod load_context;
 mod load_notes;
 mod loading;
 mod numbered;

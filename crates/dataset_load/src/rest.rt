@@ -5,7 +5,6 @@ ghost use Rattle.rdf_core.specs.QuadParts.{QuadParts};
 ghost use Rattle.nquads_core.specs.Pieces.{HaveStatements};
 ghost use Rattle.nquads_core.specs.Transfer.{CountsRead, IsReadInPart};
 ghost use Rattle.malformed_lines.specs.Malformed.{IsListed};
-ghost use Rattle.piece_pool.specs.Limits.{most_workers};
 ghost use Rattle.dataset_load.specs.Limits.{most_pieces_of_a_round};
 ghost use Rattle.nquads_core.specs.declared.transfer.ReadFault.TheVariants.{Memory};
 ghost use Rattle.dataset_load.specs.Ahead.{IsAhead, IsSpent, Spends};
@@ -18,13 +17,13 @@ ghost use Rattle.dataset_load.specs.ReadSoFar.{IsBadSoFar, IsToEnd};
 
 use crate::bad_round::BadRound;
 use crate::listing::list_blocks;
+use crate::load_context::LoadContext;
 use crate::load_notes::{Listing, LoadListener, LoadNotes};
 use crate::reader::{RoundBlocks, round_after};
 use malformed_lines::MalformedLines;
 use nquads_core::{ReadFault, Source};
 use piece_cuts::{BlockState, Blocks};
 use piece_pool::{OpenGate, PoolFault};
-use std::alloc::Global;
 use std::sync::Wait;
 use std::thread::Threads;
 
@@ -38,17 +37,14 @@ pub(crate) const MOST_ROUNDS: u64 = 1 << 40;
 /// - `Read` if the reader fails.
 /// - `Memory` if the reader has not ended after 2^64 - 1 reads.
 pub(crate) fn list_rest<R: Threads + Wait, S: Source, L: LoadListener>(
-    rt: &R,
-    alloc: Global,
+    context: &LoadContext<'_, R>,
     bad: BadRound,
     is_after_utf8: bool,
     blocks: &mut Blocks,
     reader: &mut S,
-    workers: usize,
     notes: &mut LoadNotes,
     listener: &L,
 ) -> Result<(), ReadFault>
-    requires workers { (1 ≤ workers) × (workers ≤ most_workers) }
     requires ready { IsReady blocks.old bad }
     ensures bad_line { OnOk result ((start : _) (n : ℕ)
         → IsBadRound start (S.left reader.old) blocks.old.kept n bad
@@ -66,16 +62,14 @@ pub(crate) fn list_rest<R: Threads + Wait, S: Source, L: LoadListener>(
         → IsReadInPart start (S.left reader.new)) }
     ensures count { CountsRead (S.failures reader.old) (S.failures reader.new) result }
 {
-    let mut list = MalformedLines::after(alloc, bad.before);
+    let mut list = MalformedLines::after(context.alloc, bad.before);
     match list_lines(
-        rt,
-        alloc,
+        context,
         &mut list,
         bad,
         is_after_utf8,
         blocks,
         reader,
-        workers,
         listener,
     ) {
         Ok(()) => {
@@ -104,17 +98,14 @@ pub(crate) fn list_rest<R: Threads + Wait, S: Source, L: LoadListener>(
 /// - `Read` if the reader fails.
 /// - `Memory` if an allocation fails, if a worker could not be started, or if the document has too many rounds.
 fn list_lines<R: Threads + Wait, S: Source, L: LoadListener>(
-    rt: &R,
-    alloc: Global,
+    context: &LoadContext<'_, R>,
     list: &mut MalformedLines,
     bad: BadRound,
     is_after_utf8: bool,
     blocks: &mut Blocks,
     reader: &mut S,
-    workers: usize,
     listener: &L,
 ) -> Result<(), ReadFault>
-    requires workers { (1 ≤ workers) × (workers ≤ most_workers) }
     requires ready { IsReady blocks.old bad }
     requires countable { list.old.lines ≤ 2 ^ 124 }
     requires before { (before : List (List ℕ)) (quads : List QuadParts) → HaveStatements before quads
@@ -132,11 +123,11 @@ fn list_lines<R: Threads + Wait, S: Source, L: LoadListener>(
 {
     let BadRound { round, next, .. } = bad;
     let (listed, ()) = list_blocks(
-        rt,
-        alloc,
+        context.rt,
+        context.alloc,
         list,
         round.blocks.as_slice(),
-        workers,
+        context.workers,
         &OpenGate,
         &mut || (),
     );
@@ -144,9 +135,7 @@ fn list_lines<R: Threads + Wait, S: Source, L: LoadListener>(
         Ok(()) => {
             tell(listener, list, is_after_utf8);
             match next {
-                Some(next) => {
-                    list_rounds(rt, alloc, list, blocks, reader, workers, listener, next)
-                }
+                Some(next) => list_rounds(context, list, blocks, reader, listener, next),
                 None => Ok(()),
             }
         }
@@ -170,16 +159,13 @@ fn tell<L: LoadListener>(listener: &L, list: &MalformedLines, is_after_utf8: boo
 /// # Errors
 /// As `list_lines`.
 fn list_rounds<R: Threads + Wait, S: Source, L: LoadListener>(
-    rt: &R,
-    alloc: Global,
+    context: &LoadContext<'_, R>,
     list: &mut MalformedLines,
     blocks: &mut Blocks,
     reader: &mut S,
-    workers: usize,
     listener: &L,
     first: RoundBlocks,
 ) -> Result<(), ReadFault>
-    requires workers { (1 ≤ workers) × (workers ≤ most_workers) }
     requires few { length first.blocks.items ≤ most_pieces_of_a_round }
     requires reading { first.is_last ≡ false → blocks.old.state ≡ BlockState.Reading }
     requires countable { list.old.lines ≤ 2 ^ 125 }
@@ -196,7 +182,7 @@ fn list_rounds<R: Threads + Wait, S: Source, L: LoadListener>(
 {
     let mut round = first;
     for _ in 0..MOST_ROUNDS {
-        let next = list_round(rt, alloc, list, blocks, reader, workers, listener, round)?;
+        let next = list_round(context, list, blocks, reader, listener, round)?;
         let Some(next) = next else {
             return Ok(());
         };
@@ -211,16 +197,13 @@ fn list_rounds<R: Threads + Wait, S: Source, L: LoadListener>(
 /// # Errors
 /// As `list_lines`.
 fn list_round<R: Threads + Wait, S: Source, L: LoadListener>(
-    rt: &R,
-    alloc: Global,
+    context: &LoadContext<'_, R>,
     list: &mut MalformedLines,
     blocks: &mut Blocks,
     reader: &mut S,
-    workers: usize,
     listener: &L,
     round: RoundBlocks,
 ) -> Result<Option<RoundBlocks>, ReadFault>
-    requires workers { (1 ≤ workers) × (workers ≤ most_workers) }
     requires few { length round.blocks.items ≤ most_pieces_of_a_round }
     requires reading { round.is_last ≡ false → blocks.old.state ≡ BlockState.Reading }
     requires countable { list.old.lines ≤ 2 ^ 126 }
@@ -242,8 +225,9 @@ fn list_round<R: Threads + Wait, S: Source, L: LoadListener>(
     ensures count { CountsRead (S.failures reader.old) (S.failures reader.new) result }
 {
     let is_last = round.is_last;
+    let (alloc, workers) = (context.alloc, context.workers);
     let (listed, next) = list_blocks(
-        rt,
+        context.rt,
         alloc,
         list,
         round.blocks.as_slice(),

@@ -20,6 +20,7 @@ ghost use Rattle.dataset_load.specs.Rounds.{ArePiecesOf, HasRead, line_total};
 
 use crate::causes::pool_failed;
 use crate::fault::LoadFault;
+use crate::load_context::LoadContext;
 use crate::load_notes::{LoadListener, NoListener};
 use crate::numbered::Numbered;
 use crate::round_job::RoundJob;
@@ -64,6 +65,7 @@ pub(crate) fn number_pieces<R: Threads + Wait, G: Gate + Sync>(
     ensures bad_line { IfErr result (IfBadLine (IsBadLine (all_lines (texts pieces.now)))) }
     ensures one_worker { workers ≡ 1 → IfErr result IsOneWorkerLoadFault }
 {
+    let context = LoadContext { rt, alloc, workers };
     let mut so_far = Numbered::new(alloc, state)?;
     let mut from = 0;
     while from < pieces.len() {
@@ -74,12 +76,10 @@ pub(crate) fn number_pieces<R: Threads + Wait, G: Gate + Sync>(
             first: from as u64,
         };
         let (added, ()) = add_round(
-            rt,
-            alloc,
+            &context,
             state,
             &mut so_far,
             round,
-            workers,
             &gate,
             &NoListener,
             &mut || (),
@@ -96,17 +96,14 @@ pub(crate) fn number_pieces<R: Threads + Wait, G: Gate + Sync>(
 /// # Errors
 /// As `number_pieces`, of the lines before and these. They do not stop the task.
 pub(crate) fn add_round<R: Threads + Wait, G: Gate + Sync, L: LoadListener, F: FnMut() -> T, T>(
-    rt: &R,
-    alloc: Global,
+    context: &LoadContext<'_, R>,
     state: RandomState,
     so_far: &mut Numbered,
     pieces: &[&[u8]],
-    workers: usize,
     gate: &G,
     listener: &L,
     task: &mut F,
 ) -> (Result<(), LoadFault>, T)
-    requires workers { (1 ≤ workers) × (workers ≤ most_workers) }
     requires pieces { length pieces.now ≤ most_pieces_of_a_round }
     requires countable { so_far.old.lines ≤ 2 ^ 127 }
     requires task { F.pre task.old }
@@ -116,33 +113,31 @@ pub(crate) fn add_round<R: Threads + Wait, G: Gate + Sync, L: LoadListener, F: F
         (so_far.new.lines ≤ so_far.old.lines + length pieces.now * (2 ^ 64 - 1)) }
     ensures bad_line { IfErr result.0 (IfBadLine (λ n. (before : _) → HasRead so_far.old before
         → IsBadLine (before ++ all_lines (texts pieces.now)) n)) }
-    ensures one_worker { workers ≡ 1 → IfErr result.0 IsOneWorkerLoadFault }
+    ensures one_worker { context.now.workers ≡ 1 → IfErr result.0 IsOneWorkerLoadFault }
     ensures cause { IfErr result.0 (IsLoadFailed L.fails) }
     ensures task { F.step task.old result.1 task.new }
 {
-    let (outcome, given) = read_round(rt, alloc, state, pieces, &so_far.dict, workers, gate, task);
+    let (outcome, given) = read_round(context, state, pieces, &so_far.dict, gate, task);
+    let alloc = context.alloc;
     (add_outcome(alloc, listener, so_far, pieces, outcome), given)
 }
 
 /// Reads the pieces of a round against the dictionary of the rounds before. The caller's thread runs the task,
 /// as in [`run_all_with`].
 fn read_round<R: Threads + Wait, G: Gate + Sync, F: FnMut() -> T, T>(
-    rt: &R,
-    alloc: Global,
+    context: &LoadContext<'_, R>,
     state: RandomState,
     pieces: &[&[u8]],
     dict: &TextDict,
-    workers: usize,
     gate: &G,
     task: &mut F,
 ) -> (Result<Outcome<TextPiece, u64>, PoolFault>, T)
-    requires workers { (1 ≤ workers) × (workers ≤ most_workers) }
     requires pieces { length pieces.now ≤ most_pieces }
     requires task { F.pre task.old }
     ensures outcome { IfOk result.0
         (IsPoolOutcome (λ i out. IsRead dict.now.texts (text_at pieces.now i) out)
         (λ i line. IsFirstMalformed (lines (text_at pieces.now i)) line) (length pieces.now)) }
-    ensures one_worker { workers ≡ 1 → IfErr result.0 (λ fault. fault ≡ Memory) }
+    ensures one_worker { context.now.workers ≡ 1 → IfErr result.0 (λ fault. fault ≡ Memory) }
     ensures task { F.step task.old result.1 task.new }
 {
     let job = RoundJob {
@@ -150,6 +145,7 @@ fn read_round<R: Threads + Wait, G: Gate + Sync, F: FnMut() -> T, T>(
         dict,
         state,
     };
+    let (rt, alloc, workers) = (context.rt, context.alloc, context.workers);
     run_all_with(rt, alloc, workers, pieces.len() as u64, &job, gate, task)
 }
 

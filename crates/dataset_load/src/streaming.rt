@@ -23,6 +23,7 @@ use crate::bad_round::{BadRound, ReadState};
 use crate::causes::load_failed;
 use crate::counted::{Counted, counted_of};
 use crate::fault::LoadFault;
+use crate::load_context::LoadContext;
 use crate::load_notes::{LoadListener, LoadNotes};
 use crate::loading::{borrowed_blocks, hash_state, store_of};
 use crate::numbered::Numbered;
@@ -89,7 +90,8 @@ pub fn load_reader<R: Threads + Wait + RandomSource, S: Source, G: Gate + Sync, 
     ensures stopped { IfErr result (IfBadLineRead
         (λ _. IsStopped L.fails (S.left reader.old) notes.new.malformed)) }
 {
-    let so_far = read_reader(rt, alloc, size, reader, workers, gate, notes, listener)?;
+    let context = LoadContext { rt, alloc, workers };
+    let so_far = read_reader(&context, size, reader, gate, notes, listener)?;
     match store_of(rt, alloc, so_far, workers) {
         Ok(store) => Ok(store),
         Err(fault) => Err(load_failed(listener, fault)),
@@ -128,7 +130,8 @@ pub fn count_reader<R: Threads + Wait + RandomSource, S: Source, G: Gate + Sync,
     ensures stopped { IfErr result (IfBadLineRead
         (λ _. IsStopped L.fails (S.left reader.old) notes.new.malformed)) }
 {
-    let so_far = read_reader(rt, alloc, size, reader, workers, gate, notes, listener)?;
+    let context = LoadContext { rt, alloc, workers };
+    let so_far = read_reader(&context, size, reader, gate, notes, listener)?;
     let Ok(counted) = counted_of(alloc, so_far) else {
         listener.failed(PoolFault::Memory);
         return Err(ReaderFault::Memory);
@@ -167,7 +170,8 @@ pub fn load_terms<R: Threads + Wait + RandomSource, S: Source, G: Gate + Sync, L
     ensures stopped { IfErr result (IfBadLineRead
         (λ _. IsStopped L.fails (S.left reader.old) notes.new.malformed)) }
 {
-    let so_far = read_reader(rt, alloc, size, reader, workers, gate, notes, listener)?;
+    let context = LoadContext { rt, alloc, workers };
+    let so_far = read_reader(&context, size, reader, gate, notes, listener)?;
     let Numbered { dict, .. } = so_far;
     Ok(dict)
 }
@@ -175,17 +179,14 @@ pub fn load_terms<R: Threads + Wait + RandomSource, S: Source, G: Gate + Sync, L
 /// Reads a reader to its end, and numbers the quads of its lines. After a malformed line it lists the malformed lines. The
 /// quads of the lines before are dropped first.
 fn read_reader<R: Threads + Wait + RandomSource, S: Source, G: Gate + Sync, L: LoadListener>(
-    rt: &R,
-    alloc: Global,
+    context: &LoadContext<'_, R>,
     size: usize,
     reader: &mut S,
-    workers: usize,
     gate: &G,
     notes: &mut LoadNotes,
     listener: &L,
 ) -> Result<Numbered, ReaderFault>
     requires some { 1 ≤ size }
-    requires workers { (1 ≤ workers) × (workers ≤ most_workers) }
     ensures read { IfOk result (IsReadFrom (S.left reader.old) (S.left reader.new)) }
     ensures bad_line { IfErr result
         (IfBadLineRead (IsBadLineFrom (S.left reader.old) (S.left reader.new))) }
@@ -193,12 +194,12 @@ fn read_reader<R: Threads + Wait + RandomSource, S: Source, G: Gate + Sync, L: L
         (λ _. IsListing (S.left reader.old) (S.left reader.new) notes.new.malformed)) }
     ensures taken { OnErr result (IsReadInPart (S.left reader.old) (S.left reader.new)) }
     ensures count { CountsLoading (S.failures reader.old) (S.failures reader.new) result }
-    ensures one_worker { workers ≡ 1 → IfErr result IsOneWorkerReaderFault }
+    ensures one_worker { context.now.workers ≡ 1 → IfErr result IsOneWorkerReaderFault }
     ensures cause { IfErr result (IsCaused L.fails (S.left reader.old)) }
     ensures stopped { IfErr result (IfBadLineRead
         (λ _. IsStopped L.fails (S.left reader.old) notes.new.malformed)) }
 {
-    let Ok(fresh) = nothing_read(rt, alloc, size) else {
+    let Ok(fresh) = nothing_read(context.rt, context.alloc, size) else {
         listener.failed(PoolFault::Memory);
         return Err(ReaderFault::Memory);
     };
@@ -209,13 +210,11 @@ fn read_reader<R: Threads + Wait + RandomSource, S: Source, G: Gate + Sync, L: L
     } = fresh;
     let mut rounds = ReadState::new(gate, listener);
     match number_rounds(
-        rt,
-        alloc,
+        context,
         state,
         &mut so_far,
         &mut blocks,
         reader,
-        workers,
         &mut rounds,
     ) {
         Ok(()) => {
@@ -229,13 +228,11 @@ fn read_reader<R: Threads + Wait + RandomSource, S: Source, G: Gate + Sync, L: L
             let is_after_utf8 = bad.is_after_utf8(&so_far.dict, line);
             drop(so_far);
             match list_rest(
-                rt,
-                alloc,
+                context,
                 bad,
                 is_after_utf8,
                 &mut blocks,
                 reader,
-                workers,
                 notes,
                 listener,
             ) {
@@ -267,16 +264,13 @@ fn nothing_read<R: RandomSource>(rt: &R, alloc: Global, size: usize) -> Result<F
 
 /// Reads the rounds of a reader. Each round is read while the one before is parsed.
 fn number_rounds<R: Threads + Wait, S: Source, G: Gate + Sync, L: LoadListener>(
-    rt: &R,
-    alloc: Global,
+    context: &LoadContext<'_, R>,
     state: RandomState,
     so_far: &mut Numbered,
     blocks: &mut Blocks,
     reader: &mut S,
-    workers: usize,
     rounds: &mut ReadState<'_, G, L>,
 ) -> Result<(), ReaderFault>
-    requires workers { (1 ≤ workers) × (workers ≤ most_workers) }
     requires reading { blocks.old.state ≡ BlockState.Reading }
     requires none { so_far.old.lines ≡ 0 }
     requires start { IsReadUpTo (S.left reader.old) (S.left reader.old) blocks.old.kept so_far.old }
@@ -286,14 +280,18 @@ fn number_rounds<R: Threads + Wait, S: Source, G: Gate + Sync, L: LoadListener>(
         blocks.new.kept n bad))) }
     ensures taken { OnErr result (IsReadInPart (S.left reader.old) (S.left reader.new)) }
     ensures count { CountsLoading (S.failures reader.old) (S.failures reader.new) result }
-    ensures one_worker { workers ≡ 1 → IfErr result IsOneWorkerReaderFault }
+    ensures one_worker { context.now.workers ≡ 1 → IfErr result IsOneWorkerReaderFault }
     ensures cause { IfErr result (IsCaused L.fails (S.left reader.old)) }
 {
-    let mut round = next_round(alloc, blocks, reader, workers, rounds.listener)?;
+    let mut round = next_round(
+        context.alloc,
+        blocks,
+        reader,
+        context.workers,
+        rounds.listener,
+    )?;
     for _ in 0..MOST_ROUNDS {
-        let next = number_round(
-            rt, alloc, state, so_far, blocks, reader, workers, rounds, round,
-        )?;
+        let next = number_round(context, state, so_far, blocks, reader, rounds, round)?;
         let Some(next) = next else {
             return Ok(());
         };
@@ -305,17 +303,14 @@ fn number_rounds<R: Threads + Wait, S: Source, G: Gate + Sync, L: LoadListener>(
 /// Adds the quads of a round to those of the rounds before, and returns the next round, or None after the last
 /// one. The caller's thread reads the next round while the workers parse this one.
 fn number_round<R: Threads + Wait, S: Source, G: Gate + Sync, L: LoadListener>(
-    rt: &R,
-    alloc: Global,
+    context: &LoadContext<'_, R>,
     state: RandomState,
     so_far: &mut Numbered,
     blocks: &mut Blocks,
     reader: &mut S,
-    workers: usize,
     rounds: &mut ReadState<'_, G, L>,
     round: RoundBlocks,
 ) -> Result<Option<RoundBlocks>, ReaderFault>
-    requires workers { (1 ≤ workers) × (workers ≤ most_workers) }
     requires few { length round.blocks.items ≤ most_pieces_of_a_round }
     requires reading { round.is_last ≡ false → blocks.old.state ≡ BlockState.Reading }
     requires countable { so_far.old.lines ≤ 2 ^ 124 }
@@ -334,21 +329,19 @@ fn number_round<R: Threads + Wait, S: Source, G: Gate + Sync, L: LoadListener>(
         → IsReadAhead start (S.left reader.old) blocks.old.kept so_far.old round
         → IsReadInPart start (S.left reader.new)) }
     ensures count { CountsLoading (S.failures reader.old) (S.failures reader.new) result }
-    ensures one_worker { workers ≡ 1 → IfErr result IsOneWorkerReaderFault }
+    ensures one_worker { context.now.workers ≡ 1 → IfErr result IsOneWorkerReaderFault }
     ensures cause { IfErr result (IsFailed L.fails) }
     ensures spent { IfOk result (λ next. IfSome next
         (Spends (S.left reader.old) (S.left reader.new) blocks.old.kept blocks.new.kept round)) }
 {
     let before = so_far.lines;
     let is_last = round.is_last;
-    let listener = rounds.listener;
+    let (alloc, workers, listener) = (context.alloc, context.workers, rounds.listener);
     let (added, next) = add_blocks(
-        rt,
-        alloc,
+        context,
         state,
         so_far,
         round.blocks.as_slice(),
-        workers,
         rounds,
         &mut || round_after(alloc, is_last, blocks, reader, workers, listener),
     );
@@ -406,16 +399,13 @@ fn end_round<G, L: LoadListener>(
 /// Adds the quads of blocks to those of the rounds before. The caller's thread runs the task while the workers
 /// parse the blocks.
 fn add_blocks<R: Threads + Wait, G: Gate + Sync, L: LoadListener, F: FnMut() -> T, T>(
-    rt: &R,
-    alloc: Global,
+    context: &LoadContext<'_, R>,
     state: RandomState,
     so_far: &mut Numbered,
     blocks: &[Vec<u8>],
-    workers: usize,
     rounds: &mut ReadState<'_, G, L>,
     task: &mut F,
 ) -> (Result<(), LoadFault>, T)
-    requires workers { (1 ≤ workers) × (workers ≤ most_workers) }
     requires blocks { length blocks.now ≤ most_pieces_of_a_round }
     requires countable { so_far.old.lines ≤ 2 ^ 127 }
     requires task { F.pre task.old }
@@ -424,22 +414,20 @@ fn add_blocks<R: Threads + Wait, G: Gate + Sync, L: LoadListener, F: FnMut() -> 
     ensures counted { OnOk result.0 (so_far.new.lines ≤ so_far.old.lines + 2 ^ 84) }
     ensures bad_line { IfErr result.0 (IfBadLine (λ n. (before : _) → HasRead so_far.old before
         → IsBadLine (before ++ all_lines (block_texts blocks.now)) n)) }
-    ensures one_worker { workers ≡ 1 → IfErr result.0 IsOneWorkerLoadFault }
+    ensures one_worker { context.now.workers ≡ 1 → IfErr result.0 IsOneWorkerLoadFault }
     ensures cause { IfErr result.0 (IsLoadFailed L.fails) }
     ensures task { F.step task.old result.1 task.new }
 {
-    let Ok(pieces) = borrowed_blocks(alloc, blocks) else {
+    let Ok(pieces) = borrowed_blocks(context.alloc, blocks) else {
         rounds.listener.failed(PoolFault::Memory);
         return (Err(LoadFault::Memory), task());
     };
     let gate = rounds.offset_gate();
     let (added, given) = add_round(
-        rt,
-        alloc,
+        context,
         state,
         so_far,
         pieces.as_slice(),
-        workers,
         &gate,
         rounds.listener,
         task,

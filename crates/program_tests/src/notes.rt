@@ -156,6 +156,43 @@ spq: note: FILTER at line 2, column 60, line 2, column 24: 2 rows are left out, 
 
 SELECT ?x { ?s :label ?l }
 spq: note: ?x at line 2, column 8 is selected and occurs nowhere in the pattern
+
+SELECT * { { ?s :weight ?x } { ?t :weight ?y } FILTER(?x = ?y) }
+spq: note: FILTER at line 2, column 48: 2 rows are left out, since values of xsd:double are not compared (compare STR(..), if the order of the texts is that of the values)
+
+SELECT * { { ?s :size ?x } { ?t :weight ?y } FILTER(?x = ?y) }
+spq: note: FILTER at line 2, column 46: 4 rows are left out, since values of xsd:double are not compared (compare STR(..), if the order of the texts is that of the values)
+spq: note: FILTER at line 2, column 46: 2 rows are left out, since the text of a literal is no xsd:integer
+
+SELECT * { { ?s :knows ?x } { ?t :weight ?y } FILTER(?x = ?y) }
+no message
+
+SELECT * { { ?s :born ?x } { ?t :born ?y } FILTER(?x = ?y) }
+no message
+
+SELECT * { { ?s :code ?x } { ?t :code ?y } FILTER(?x = ?y) }
+spq: note: FILTER at line 2, column 44: 2 rows are left out, since two literals of different kinds, such as a string and a number, have no order and no inequality by value (compare STR(..))
+
+SELECT * { { ?s :label ?x } VALUES ?y { "x" "y" "z" } FILTER(?x = ?y) }
+spq: note: FILTER at line 2, column 55: 2 rows are left out, since a literal with a language tag has no order and no inequality by value (compare STR(..), or LANG(..))
+
+SELECT * { { ?s :weight ?x } { ?t :weight ?y } FILTER(?x = ?y && ?s = ?t) }
+no message
+
+SELECT * { { ?s :weight ?x } { ?t :weight ?y } FILTER(?x = ?y && ?s != ?t) }
+spq: note: FILTER at line 2, column 48: 2 rows are left out, since values of xsd:double are not compared (compare STR(..), if the order of the texts is that of the values)
+
+SELECT * { { ?s :weight ?x } { ?t :weight ?y } { ?u :label ?l } FILTER(?x = ?y) }
+spq: note: FILTER at line 2, column 65: 6 rows are left out, since values of xsd:double are not compared (compare STR(..), if the order of the texts is that of the values)
+
+SELECT * { ?s :weight ?x OPTIONAL { ?t :weight ?y FILTER(?x = ?y) } }
+spq: note: FILTER at line 2, column 51: 2 rows are treated as no match, since values of xsd:double are not compared (compare STR(..), if the order of the texts is that of the values)
+
+SELECT * { { ?s :weight ?x } { ?s :size ?y } FILTER(?x = ?y) }
+spq: note: FILTER at line 2, column 46: 2 rows are left out, since values of xsd:double are not compared (compare STR(..), if the order of the texts is that of the values)
+
+SELECT * { { ?s :weight ?x } { ?t :weight ?y } FILTER(sameTerm(?x, ?y)) }
+no message
 "##;
 
 /// Returns the arguments of a run.

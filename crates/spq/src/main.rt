@@ -1,8 +1,8 @@
 //! spq: evaluates SPARQL SELECT over an N-Quads document, checks one, and lists its terms.
 //!
 //! The document is read from standard input. The output, or the line of a fault, is written to standard output.
-//! The exit status is 0, or that of the fault. The contracts are those of `run_words` and `finish` of
-//! `spq_core`, which this crate calls with the arguments and the two devices.
+//! The exit status is 0, or that of the fault. The contracts are those of `run_words` of `spq_core` and `finish` of
+//! `spq_run`, which this crate calls with the arguments and the two devices.
 //! Another thread writes to standard error while the run goes on: the first malformed line, and at a terminal the
 //! progress of a long run. Then `report` of `spq_report` writes why the run failed and where. The output is complete
 //! before the program waits for standard error.
@@ -12,11 +12,12 @@
 #![tactic(auto)]
 
 ghost use Rattle.std.specs.Prelude.{◌≡◌};
-ghost use Rattle.spq_core.specs.Report.{exit_status, status_of};
+ghost use Rattle.spq_run.specs.Report.{exit_status, status_of};
 
 use nquads_core::{Sink, Source};
-use spq_core::{Notes, Ran, RunFault, finish, run_words};
+use spq_core::{Ran, run_words};
 use spq_report::{Account, Console, Input, Meter, NoMeter, Output, Terminals, report};
+use spq_run::{Notes, RunFault, finish};
 use std::alloc::Global;
 use std::io::{ErrorKind, IsTerminal, Stderr, Stdin, Stdout};
 use std::process::ExitCode;

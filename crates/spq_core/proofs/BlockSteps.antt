@@ -8,8 +8,8 @@ use Rattle.nquads_core.specs.Transfer.{WroteBeginning}
 use Rattle.result_json.specs.Results.{joined_blocks}
 use Rattle.nquads_core.specs.Device.{Stays}
 use Rattle.nquads_core.specs.declared.device.DeviceFailed.{DeviceFailed}
-use Rattle.spq_core.specs.Run.{WriterFailed}
-use Rattle.spq_core.proofs.ReportSteps.{back_begun, back_failed, front_begun, front_failed}
+use Rattle.spq_run.specs.Writing.{WriterFailed}
+use Rattle.spq_run.proofs.ReportSteps.{back_begun, back_failed, front_begun, front_failed}
 
 -- the blocks before a block, the block, and the blocks after it
 joined_split : (blocks : List (Vec ℕ Global)) (i : ℕ) (block : Vec ℕ Global) → i < length blocks → block ≡ get_or blocks i block

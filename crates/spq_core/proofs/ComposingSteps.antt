@@ -14,11 +14,12 @@ use Rattle.dataset_load.specs.Counted.{AreTermsFrom, IsCountedFrom}
 use Rattle.result_json.specs.Results.{joined_blocks}
 use Rattle.spq_core.specs.Output.{Request, select, check, terms}
 use Rattle.spq_core.specs.Listing.{counts_line, text_lines}
-use Rattle.spq_core.specs.Run.{IsAnswerable, IsBadLineOf, IsComposed, IsRun, WriterFailed}
+use Rattle.spq_core.specs.Run.{IsAnswerable, IsBadLineOf, IsComposed, IsRun}
+use Rattle.spq_run.specs.Writing.{WriterFailed}
 use Rattle.spq_core.specs.Composing.{IsBadLineFrom, IsComposing, IsLoadedFrom, IsLoading}
 use Rattle.spq_core.proofs.DocumentSteps.{composed_check, composed_terms}
-use Rattle.spq_core.specs.declared.program.RunFault.{RunFault}
-use Rattle.spq_core.specs.declared.program.RunFault.TheVariants.{Memory, WorkerRefused, Write}
+use Rattle.spq_run.specs.declared.fault.RunFault.{RunFault}
+use Rattle.spq_run.specs.declared.fault.RunFault.TheVariants.{Memory, WorkerRefused, Write}
 
 pub part_loaded : (left left' : Option (List ℕ)) (store : StoreView) → IsLoadedFrom left left' store → IsReadInPart left left'
 part_loaded left left' store h = record { taken = h.doc; consumed = h.consumed }

@@ -5,5 +5,4 @@ pub mod LoadingSteps
 pub mod ComposingSteps
 pub mod DocumentSteps
 pub mod ListingSteps
-pub mod ReportSteps
 pub mod OutcomeLaws

@@ -6,11 +6,11 @@ use Rattle.dataset_load.specs.declared.reader_fault.ReaderFault.{ReaderFault}
 use Rattle.dataset_load.specs.declared.reader_fault.ReaderFault.TheVariants as reading
 use Rattle.dataset_load.specs.ReaderFault.{CountsLoading, IfBadLineRead, IsOneWorkerReaderFault}
 use Rattle.spq_core.specs.Composing.{IsBadLineFrom, IsLoading, run_result_of}
-use Rattle.spq_core.specs.declared.program.RunFault.{RunFault}
+use Rattle.spq_run.specs.declared.fault.RunFault.{RunFault}
 use Rattle.dataset_load.specs.Causes.{IsCaused}
 use Rattle.spq_core.specs.Causes.{IsRunCaused}
 use Rattle.piece_pool.specs.declared.pool.PoolFault.{PoolFault}
-use Rattle.spq_core.specs.declared.program.RunFault.TheVariants.{BadLine}
+use Rattle.spq_run.specs.declared.fault.RunFault.TheVariants.{BadLine}
 
 same_line : {T : Type 0} (n m : ℕ) → ◌≡◌ {A = Result T RunFault} (Err (BadLine n)) (Err (BadLine m)) → n ≡ m
 same_line n m e = cc

@@ -3,8 +3,8 @@ use Rattle.std.specs.Prelude.{◌⊎◌, ℕ, List, ⊤, Option}
 use Rattle.piece_pool.specs.declared.pool.PoolFault.{PoolFault}
 use Rattle.piece_pool.specs.declared.pool.PoolFault.TheVariants as pool
 use Rattle.dataset_load.specs.Causes.{IsTooLong}
-use Rattle.spq_core.specs.declared.program.RunFault.{RunFault}
-use Rattle.spq_core.specs.declared.program.RunFault.TheVariants.{Query, BadLine, WorkerRefused, Memory, Read, Write, Line}
+use Rattle.spq_run.specs.declared.fault.RunFault.{RunFault}
+use Rattle.spq_run.specs.declared.fault.RunFault.TheVariants.{Query, BadLine, WorkerRefused, Memory, Read, Write, Line}
 
 -- `WorkerRefused` only if a thread could not be started; `Memory` only if an allocation or the random source failed, or if
 -- the document is too long.

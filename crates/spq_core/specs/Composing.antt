@@ -12,8 +12,8 @@ use Rattle.spq_core.specs.Output.{Request}
 use Rattle.spq_core.specs.Run.{IsAnswerable, IsBadLineOf, IsComposed, IsQueryOf}
 use Rattle.spq_core.specs.declared.fault.Fault.{Fault}
 use Rattle.spq_core.specs.declared.fault.Fault.TheVariants as fault
-use Rattle.spq_core.specs.declared.program.RunFault.{RunFault}
-use Rattle.spq_core.specs.declared.program.RunFault.TheVariants.{Query, BadLine, WorkerRefused, Memory, Read, Write, Line}
+use Rattle.spq_run.specs.declared.fault.RunFault.{RunFault}
+use Rattle.spq_run.specs.declared.fault.RunFault.TheVariants.{Query, BadLine, WorkerRefused, Memory, Read, Write, Line}
 
 -- a fault of `answer`, under the same name
 abbrev pub run_fault_of : Fault → RunFault

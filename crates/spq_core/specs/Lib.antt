@@ -6,6 +6,5 @@ pub mod Listing
 pub mod Output
 pub mod Run
 pub mod Composing
-pub mod Report
 pub mod Words
 pub mod Causes

@@ -1,5 +1,5 @@
 -- What a run did, and what it leaves on each error.
-use Rattle.std.specs.Prelude.{◌≡◌, ◌⊎◌, ◌<◌, ◌++◌, ℕ, List, length, ⊤, Option, Result, Ok, Err, OnOk, OnErr}
+use Rattle.std.specs.Prelude.{◌≡◌, ◌⊎◌, ℕ, List, ⊤, Option, Result, Ok, Err, OnOk, OnErr}
 use Rattle.std.specs.Str.{chars}
 use Rattle.std.specs.Io.KnownBytes.{Appends, Consumes, IsAtEnd}
 use Rattle.nquads_core.specs.Device.{Rises, Stays}
@@ -12,8 +12,9 @@ use Rattle.spq_core.specs.Output.{Request, select, check, terms, IsOutput}
 use Rattle.sparql_read.specs.declared.fault.QueryFault.{QueryFault}
 use Rattle.sparql_tree.specs.QueryTree.{QueryTree}
 use Rattle.sparql_read.specs.Rejection.{IsValidQuery, IsRejectedBy}
-use Rattle.spq_core.specs.declared.program.RunFault.{RunFault}
-use Rattle.spq_core.specs.declared.program.RunFault.TheVariants.{Query, BadLine, Read, Write, Line}
+use Rattle.spq_run.specs.Writing.{WriterFailed}
+use Rattle.spq_run.specs.declared.fault.RunFault.{RunFault}
+use Rattle.spq_run.specs.declared.fault.RunFault.TheVariants.{Query, BadLine, Read, Write, Line}
 
 -- The command is done with one worker, which is the caller itself.
 abbrev pub IsByOneWorker : Command → Type 0
@@ -52,25 +53,6 @@ abbrev pub IsAnswerable : Request → Type 0
 IsAnswerable (select text) = (q : QueryTree) × IsValidQuery (chars text) q
 IsAnswerable check = ⊤
 IsAnswerable terms = ⊤
-
--- The device is as a write left it that was given some bytes of the text and took none of them. They are
--- the next bytes of the text: exactly `front`, which precedes them, was written. `held` is what the device
--- held before any of the text was written, and `held'` is what it holds now. The bytes after them are `back`.
-pub record TookNoneOf {K : Type 0} (write_gives : K → List ℕ → Result ℕ DeviceFailed → K → Type 0)
-    (held held' : Option (List ℕ)) (text : List ℕ) (device : K) : Type 0 where
-  pub before : K
-  pub front : List ℕ
-  pub given : List ℕ
-  pub back : List ℕ
-  pub parts : text ≡ front ++ (given ++ back)
-  pub some : 0 < length given
-  pub written : Appends held held' front
-  pub none : write_gives before given (Ok 0) device
-
--- The writer failed, or it is as a write left it that took none of the next bytes of the text, and then
--- no call of it failed.
-abbrev pub WriterFailed : {K : Type 0} → (K → List ℕ → Result ℕ DeviceFailed → K → Type 0) → Option ℕ → Option ℕ → Option (List ℕ) → Option (List ℕ) → List ℕ → K → Type 0
-WriterFailed write_gives failures failures' held held' text writer' = Rises failures failures' ⊎ (TookNoneOf write_gives held held' text writer' × Stays failures failures')
 
 -- A beginning of the output for what was read was written, and not all of it, since the writer failed.
 pub record IsWrittenInPart {K : Type 0} (request : Request) (left left' : Option (List ℕ))

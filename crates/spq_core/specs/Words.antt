@@ -6,8 +6,8 @@ use Rattle.spq_command.specs.declared.command.Command.{Command}
 use Rattle.spq_command.specs.declared.command.Command.TheVariants.{Select, Check, Terms}
 use Rattle.spq_core.specs.Output.{request_of}
 use Rattle.spq_core.specs.Run.{IsAnswerable, IsByOneWorker, IsRun}
-use Rattle.spq_core.specs.declared.program.RunFault.{RunFault}
-use Rattle.spq_core.specs.declared.program.RunFault.TheVariants.{Query, BadLine, WorkerRefused, Memory, Read, Write, Line}
+use Rattle.spq_run.specs.declared.fault.RunFault.{RunFault}
+use Rattle.spq_run.specs.declared.fault.RunFault.TheVariants.{Query, BadLine, WorkerRefused, Memory, Read, Write, Line}
 
 -- The words are no command, or an allocation failed, which says nothing of the words.
 abbrev pub IsWordsFault : List (List ℕ) → RunFault → Type 0

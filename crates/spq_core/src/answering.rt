@@ -19,7 +19,7 @@ ghost use Rattle.spq_core.specs.Outcome.{IsQueryResult, rows};
 ghost use Rattle.result_json.specs.Results.{joined_blocks, json, listed_names};
 
 use crate::fault::Fault;
-use crate::notes::{Log, NoProgress, Progress, Stage};
+use crate::notes::Log;
 use algebra_model::laws::{a_bag_has_one_sorted_list, a_dataset_is_a_set};
 use dataset_load::{Store, load};
 use dict_core::Dict;
@@ -27,11 +27,12 @@ use piece_cuts::Cuts;
 use piece_pool::Gate;
 use result_json::{Table, print_rows};
 use row_core::Rows;
-use row_pieces::{EvalFault, How};
+use row_pieces::{Context, EvalFault, How};
 use sparql_algebra::{Plan, translate};
 use sparql_eval::evaluate_counted;
 use sparql_read::{QueryFault, read_query};
 use sparql_tree::Query;
+use spq_run::{NoProgress, Progress, Stage};
 use std::alloc::{AllocError, Global};
 use std::random::RandomSource;
 use std::sync::Wait;
@@ -70,24 +71,20 @@ pub fn check_query(alloc: Global, text: &str) -> Result<(), Fault>
 /// Returns the JSON of a query's rows over a loaded dataset, in blocks that follow each other. Returns the dictionary,
 /// too, since its terms are freed one by one: the caller may leave them to the end of the process.
 pub fn answer_query<R: Threads + Wait + RandomSource, G: Gate + Sync, P: Progress>(
-    rt: &R,
-    alloc: Global,
+    context: &Context<'_, R, G>,
     store: Store,
     query: &Query,
-    how: &How,
-    gate: &G,
     log: &mut Log<'_, P>,
 ) -> Result<(Vec<Vec<u8>>, Dict), EvalFault>
-    requires how { IsRunnable how.now }
     ensures answer { IfOk result (λ made. joined_blocks made.0.items
         ≡ json (selected_names (query_of query.now))
         (rows (query_of query.now) (quads_at store.dict store.index))) }
-    ensures one_worker { HasOneWorker how.now → IfErr result (λ fault. fault ≡ Memory) }
+    ensures one_worker { HasOneWorker context.now.how.now → IfErr result (λ fault. fault ≡ Memory) }
 {
     log.begin(Stage::Evaluating);
-    match translate(alloc, query) {
+    match translate(context.alloc, query) {
         Ok(plan) => {
-            let made = answer_plan(rt, alloc, store, query, &plan, how, gate, log);
+            let made = answer_plan(context, store, query, &plan, log);
             drop(plan);
             made
         }
@@ -103,32 +100,37 @@ pub fn answer_query<R: Threads + Wait + RandomSource, G: Gate + Sync, P: Progres
 /// The plan is only borrowed here, and each value that is owned here is dropped by a call: a function that owns a
 /// tree pays for its drop at each of its exits.
 fn answer_plan<R: Threads + Wait + RandomSource, G: Gate + Sync, P: Progress>(
-    rt: &R,
-    alloc: Global,
+    context: &Context<'_, R, G>,
     store: Store,
     query: &Query,
     plan: &Plan,
-    how: &How,
-    gate: &G,
     log: &mut Log<'_, P>,
 ) -> Result<(Vec<Vec<u8>>, Dict), EvalFault>
     requires names { plan.now.names.items ≡ names_of (query_of query.now) }
     requires tree { algebra_of plan.now.tree ≡ (translate (query_of query.now)).algebra }
-    requires how { IsRunnable how.now }
     ensures answer { IfOk result (λ made. joined_blocks made.0.items
         ≡ json (selected_names (query_of query.now))
         (rows (query_of query.now) (quads_at store.dict store.index))) }
-    ensures one_worker { HasOneWorker how.now → IfErr result (λ fault. fault ≡ Memory) }
+    ensures one_worker { HasOneWorker context.now.how.now → IfErr result (λ fault. fault ≡ Memory) }
 {
     a_bag_has_one_sorted_list();
     let (dict, index) = store.into_parts();
-    log.planned(alloc, plan);
+    log.planned(context.alloc, plan);
     let counts = log.counts();
-    let evaluated = evaluate_counted(rt, alloc, dict, &index, plan, how, gate, counts);
+    let evaluated = evaluate_counted(
+        context.rt,
+        context.alloc,
+        dict,
+        &index,
+        plan,
+        context.how,
+        context.gate,
+        counts,
+    );
     drop(index);
     match evaluated {
         Ok((rows, dict)) => {
-            let printed = print_solutions(rt, alloc, query, plan, rows, &dict, how, gate, log);
+            let printed = print_solutions(context, query, plan, rows, &dict, log);
             match printed {
                 Ok(blocks) => Ok((blocks, dict)),
                 Err(fault) => {
@@ -143,23 +145,19 @@ fn answer_plan<R: Threads + Wait + RandomSource, G: Gate + Sync, P: Progress>(
 
 /// Prints the rows of a query's plan.
 fn print_solutions<R: Threads + Wait, G: Gate + Sync, P: Progress>(
-    rt: &R,
-    alloc: Global,
+    context: &Context<'_, R, G>,
     query: &Query,
     plan: &Plan,
     found: Rows,
     dict: &Dict,
-    how: &How,
-    gate: &G,
     log: &mut Log<'_, P>,
 ) -> Result<Vec<Vec<u8>>, EvalFault>
     requires known { AreKnown dict.now found }
-    requires how { IsRunnable how.now }
     ensures json { IfOk result (λ blocks. joined_blocks blocks.items
         ≡ json (listed_names plan.now.names.items (projected (algebra_of plan.now.tree)))
         (slice (unwrap_or (query_of query.now).offset 0) (query_of query.now).limit
         (sorted_rows (projected (algebra_of plan.now.tree)) (solutions_of dict.now found)))) }
-    ensures one_worker { HasOneWorker how.now → IfErr result (λ fault. fault ≡ Memory) }
+    ensures one_worker { HasOneWorker context.now.how.now → IfErr result (λ fault. fault ≡ Memory) }
 {
     log.begin(Stage::Printing);
     let table = Table {
@@ -169,7 +167,14 @@ fn print_solutions<R: Threads + Wait, G: Gate + Sync, P: Progress>(
         offset: query.offset.unwrap_or(0),
         limit: query.limit,
     };
-    print_rows(rt, alloc, &table, found, how, gate)
+    print_rows(
+        context.rt,
+        context.alloc,
+        &table,
+        found,
+        context.how,
+        context.gate,
+    )
 }
 
 /// Returns the number of bytes of the blocks, or `usize::MAX` if there are more.
@@ -224,7 +229,13 @@ pub fn answer<R: Threads + Wait + RandomSource, G: Gate + Sync>(
     ensures one_worker { HasOneWorker how.now → IfErr result IsOneWorkerFault }
 {
     let valid = valid_query(alloc, query)?;
-    let bytes = answer_valid(rt, alloc, doc, query, &valid, cuts, how, gate);
+    let context = Context {
+        rt,
+        alloc,
+        how,
+        gate,
+    };
+    let bytes = answer_valid(&context, doc, query, &valid, cuts);
     drop(valid);
     bytes
 }
@@ -232,29 +243,32 @@ pub fn answer<R: Threads + Wait + RandomSource, G: Gate + Sync>(
 /// Evaluates a query, which is the one of this text, over a document that is cut into pieces. The query is only
 /// borrowed here: a function that owns a tree pays for its drop at each of its exits.
 fn answer_valid<R: Threads + Wait + RandomSource, G: Gate + Sync>(
-    rt: &R,
-    alloc: Global,
+    context: &Context<'_, R, G>,
     doc: &[u8],
     text: &str,
     query: &Query,
     cuts: &Cuts,
-    how: &How,
-    gate: &G,
 ) -> Result<Vec<u8>, Fault>
     requires fits { AreCuts doc.now cuts.now }
-    requires how { IsRunnable how.now }
     requires valid { IsValidQuery (chars text.now) (query_of query.now) }
     ensures answer { IfOk result (λ bytes. IsQueryResult doc.now text.now (Ok bytes.items)) }
     ensures err { IfErr result (IsFaultOf doc.now text.now) }
-    ensures one_worker { HasOneWorker how.now → IfErr result IsOneWorkerFault }
+    ensures one_worker { HasOneWorker context.now.how.now → IfErr result IsOneWorkerFault }
 {
     a_dataset_is_a_set();
     a_bag_has_one_sorted_list();
-    let store = load(rt, alloc, doc, cuts, how.workers, gate)?;
+    let store = load(
+        context.rt,
+        context.alloc,
+        doc,
+        cuts,
+        context.how.workers,
+        context.gate,
+    )?;
     let mut log = Log::new(&NoProgress);
-    let made = answer_query(rt, alloc, store, query, how, gate, &mut log)?;
+    let made = answer_query(context, store, query, &mut log)?;
     let (blocks, dict) = made;
     drop(dict);
-    let bytes = joined(alloc, &blocks)?;
+    let bytes = joined(context.alloc, &blocks)?;
     Ok(bytes)
 }

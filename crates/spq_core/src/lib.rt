@@ -8,15 +8,14 @@
 //!
 //! [`run`] states the same for a command over a reader and a writer, and what is left on each error. A command has
 //! at most one output for a document (`one_output`). [`run_words`] states it for the words of a command line, and
-//! [`finish`] states how the program ends. [`Notes`] are for messages to the user, and no clause depends on
+//! [`finish`] of `spq_run` states how the program ends. [`Notes`] are for messages to the user, and no clause depends on
 //! them. A [`Progress`] is told of each failure that becomes `Memory` or `WorkerRefused` (clause `cause` of [`run_words`]).
 //!
 //! Standards: SPARQL 1.1 Query Language, sections 17 to 19; SPARQL 1.1 Query Results JSON Format;
 //! RDF 1.1 N-Quads.
 //!
-//! Reading order: `fault`, `notes`, `answering` (the result of a query), `listing` (what `check` and `terms`
-//! print), `program` (`run`), `words` (a command line, and the thread of a query), `report` (lines and statuses of
-//! faults, and the end), `laws`.
+//! Reading order: `fault`, `notes` (how notes are taken), `answering` (the result of a query), `listing` (what `check`
+//! and `terms` print), `program` (`run`), `words` (a command line, and the thread of a query), `laws`.
 //!
 //! Example: the document `<http://e/a> <http://e/p> "x" .` and the query
 //! `SELECT ?o { <http://e/a> <http://e/p> ?o }` have the result
@@ -33,24 +32,15 @@ pub mod laws;
 mod listing;
 mod notes;
 mod program;
-mod report;
 mod words;
 
 pub use answering::answer;
 pub use fault::Fault;
-pub use notes::{NoProgress, Notes, Progress, Stage};
-pub use program::{RunFault, run};
-pub use report::{finish, status, write_fault};
+pub use program::run;
 pub use words::{Ran, run_words};
 
 /// Why a document was not loaded.
 pub use dataset_load::LoadFault;
-/// The malformed lines of a document.
-pub use dataset_load::Listing;
-/// Is called when the first malformed line of a document is known.
-pub use dataset_load::LoadListener;
-/// Why a call failed, as a progress is told.
-pub use piece_pool::PoolFault;
 /// A loaded dataset: its terms, and an index of its quads.
 pub use dataset_load::Store;
 /// Loads a document that is cut into pieces.
@@ -65,3 +55,9 @@ pub use spq_command::CommandFault;
 pub use spq_command::read_command;
 /// How an evaluation is run: the number of workers, and how many rows a task has at most.
 pub use row_pieces::How;
+/// The malformed lines of a document, who is told of the first one, and why a call failed.
+pub use spq_run::{Listing, LoadListener, PoolFault};
+/// The notes of a run, and who is told of its stages.
+pub use spq_run::{NoProgress, Notes, Progress, Stage};
+/// Why a command was not done, its line and its status.
+pub use spq_run::{RunFault, finish, status, write_fault};

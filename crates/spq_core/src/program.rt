@@ -12,58 +12,32 @@ ghost use Rattle.result_json.specs.Results.{joined_blocks};
 ghost use Rattle.spq_core.specs.Output.{check, request_of, select, terms};
 ghost use Rattle.spq_core.specs.Causes.{IsRunCaused};
 ghost use Rattle.spq_core.specs.Listing.{counts_line, text_lines};
-ghost use Rattle.spq_core.specs.Run.{IsAnswerable, IsByOneWorker, IsRun, WriterFailed};
+ghost use Rattle.spq_core.specs.Run.{IsAnswerable, IsByOneWorker, IsRun};
 ghost use Rattle.spq_core.specs.Composing.{IsComposing, IsLoading, run_fault_of, run_result_of};
-ghost use Rattle.spq_core.specs.declared.program.RunFault.TheVariants.{WorkerRefused};
+ghost use Rattle.spq_run.specs.Writing.{WriterFailed};
+ghost use Rattle.spq_run.specs.declared.fault.RunFault.TheVariants.{WorkerRefused};
 
 use crate::answering::{answer_query, valid_query};
 use crate::fault::Fault;
 use crate::listing::{counts_text, terms_text};
-use crate::notes::{Log, NoProgress, Progress, Stage};
+use crate::notes::Log;
 use algebra_model::laws::{a_bag_has_one_sorted_list, a_dataset_is_a_set};
 use dataset_load::{Counted, LoadNotes, ReaderFault, Store, count_reader, load_reader, load_terms};
-use nquads_core::{DeviceFailed, Sink, Source, write_all};
+use nquads_core::{DeviceFailed, Sink, Source};
 use piece_pool::{OpenGate, PoolFault};
-use row_pieces::{EvalFault, How};
-use sparql_read::QueryFault;
+use row_pieces::{Context, EvalFault, How};
 use sparql_tree::Query;
 use spq_command::{Command, ReadOptions};
+use spq_run::{NoProgress, Progress, RunFault, Stage, write_text};
 use std::alloc::{AllocError, Global};
 use std::mem;
 use std::random::RandomSource;
 use std::sync::Wait;
 use std::thread::Threads;
 use text_dict::TextDict;
-use thiserror::Error;
-
-/// Why a command was not done.
-#[derive(Clone, Copy, Debug, Drop, Error, PartialEq, Eq)]
-pub enum RunFault {
-    /// The first rule that rejects the query. `run` never returns its `Memory`.
-    #[error("the query is rejected")]
-    Query(QueryFault),
-    /// The line of the document, counted from 1, is the first malformed line.
-    #[error("line {0} is malformed")]
-    BadLine(u128),
-    /// A worker thread could not be started. Those that were started have been joined.
-    #[error("a worker thread could not be started")]
-    WorkerRefused,
-    /// Out of memory.
-    #[error("out of memory")]
-    Memory,
-    /// The reader failed.
-    #[error("the reader failed")]
-    Read,
-    /// The writer failed, or took no byte of a text that was not empty.
-    #[error("the writer failed")]
-    Write,
-    /// The words are not a valid command line. `run` never returns this.
-    #[error("the command line is not valid")]
-    Line,
-}
 
 /// Returns the fault of a run under the same name. The progress is told of it, if memory or a worker was the cause.
-pub(crate) fn told<P: Progress>(progress: &P, failed: Fault) -> RunFault
+pub(crate) fn run_fault<P: Progress>(progress: &P, failed: Fault) -> RunFault
     ensures same { result ≡ run_fault_of failed }
     ensures cause { (left : _) → IsRunCaused P.fails left result }
 {
@@ -198,43 +172,62 @@ fn selected<R: Threads + Wait + RandomSource, S: Source, P: Progress>(
         reader.old reader.new result }
     ensures cause { IfErr result (IsRunCaused P.fails (S.left reader.old)) }
 {
-    let valid = match valid_query(alloc, query) {
-        Ok(valid) => valid,
-        Err(fault) => return Err(told(log.progress(), fault)),
+    let parsed = match valid_query(alloc, query) {
+        Ok(parsed) => parsed,
+        Err(fault) => return Err(run_fault(log.progress(), fault)),
     };
-    let blocks = selected_by(rt, alloc, query, &valid, reading, rows, reader, log);
-    drop(valid);
+    let valid = ValidSelect {
+        text: query,
+        query: &parsed,
+        reading,
+        rows,
+    };
+    let blocks = selected_by(rt, alloc, &valid, reader, log);
+    drop(parsed);
     blocks
 }
 
-/// Evaluates a query, which is the one of this text, over the rest of the reader. The query is only borrowed here: a
-/// function that owns a tree pays for its drop at each of its exits.
+/// A select whose query is the one of its text. The query is only borrowed: a function that owns a tree pays for its
+/// drop at each of its exits.
+#[derive(Drop)]
+struct ValidSelect<'q> {
+    text: &'q str,
+    query: &'q Query,
+    reading: ReadOptions,
+    /// The number of rows that a task has at most.
+    rows: usize,
+}
+
+/// Evaluates a query over the rest of the reader.
 ///
 /// The memory of the terms is left to the end of the process, as in `checked`.
 fn selected_by<R: Threads + Wait + RandomSource, S: Source, P: Progress>(
     rt: &R,
     alloc: Global,
-    text: &str,
-    query: &Query,
-    reading: ReadOptions,
-    rows: usize,
+    valid: &ValidSelect<'_>,
     reader: &mut S,
     log: &mut Log<'_, P>,
 ) -> Result<Vec<Vec<u8>>, RunFault>
-    requires valid { IsValidQuery (chars text.now) (query_of query.now) }
-    ensures composing { IsComposing S.left S.failures (select text.now) (reading.workers ≡ 1)
-        reader.old reader.new result }
+    requires valid { IsValidQuery (chars valid.now.text.now) (query_of valid.now.query.now) }
+    ensures composing { IsComposing S.left S.failures (select valid.now.text.now)
+        (valid.now.reading.workers ≡ 1) reader.old reader.new result }
     ensures cause { IfErr result (IsRunCaused P.fails (S.left reader.old)) }
 {
     a_dataset_is_a_set();
     a_bag_has_one_sorted_list();
-    let store = load_document(rt, alloc, reading, reader, log)?;
-    log.queried(alloc, text, &store);
+    let store = load_document(rt, alloc, valid.reading, reader, log)?;
+    log.queried(alloc, valid.text, &store);
     let how = How {
-        workers: reading.workers,
-        rows: rows.max(1),
+        workers: valid.reading.workers,
+        rows: valid.rows.max(1),
     };
-    match answer_query(rt, alloc, store, query, &how, &OpenGate, log) {
+    let context = Context {
+        rt,
+        alloc,
+        how: &how,
+        gate: &OpenGate,
+    };
+    match answer_query(&context, store, valid.query, log) {
         Ok((blocks, dict)) => {
             mem::forget(dict);
             Ok(blocks)
@@ -351,23 +344,6 @@ fn composed<R: Threads + Wait + RandomSource, S: Source, P: Progress>(
         Command::Check { reading } => checked(rt, alloc, *reading, reader, log),
         Command::Terms { reading } => listed(rt, alloc, *reading, reader, log),
     }
-}
-
-/// Writes a text.
-///
-/// # Errors
-/// `DeviceFailed` if the writer fails, or if a write takes no byte. A beginning of the text is written
-/// then, and not all of it.
-pub fn write_text<K: Sink>(writer: &mut K, text: &[u8]) -> Result<(), DeviceFailed>
-    ensures written { OnOk result (Appends (K.held writer.old) (K.held writer.new) text.now) }
-    ensures written_count { OnOk result (Stays (K.failures writer.old) (K.failures writer.new)) }
-    ensures failed { OnErr result
-        (WroteBeginning (K.held writer.old) (K.held writer.new) text.now) }
-    ensures failed_count { OnErr result
-        (WriterFailed K.write_gives (K.failures writer.old) (K.failures writer.new)
-        (K.held writer.old) (K.held writer.new) text.now writer.new) }
-{
-    write_all(writer, text)
 }
 
 /// Writes the blocks, one after the other.

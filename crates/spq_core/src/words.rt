@@ -6,15 +6,16 @@ ghost use Rattle.spq_core.specs.QueryStack.{least_stack, stack_per_byte};
 ghost use Rattle.spq_core.specs.Output.{request_of, select};
 ghost use Rattle.spq_core.specs.Run.{IsAnswerable, IsByOneWorker, IsRun};
 ghost use Rattle.spq_core.specs.Words.{IsDoneAlone, IsNotRun, IsRunOf};
-ghost use Rattle.spq_core.specs.declared.program.RunFault.TheVariants.{WorkerRefused};
+ghost use Rattle.spq_run.specs.declared.fault.RunFault.TheVariants.{WorkerRefused};
 
 use crate::answering::check_query;
-use crate::notes::{Log, Notes, Progress};
-use crate::program::{RunFault, run_noted, told};
+use crate::notes::Log;
+use crate::program::{run_fault, run_noted};
 use core::thread::Stack;
 use nquads_core::{Sink, Source};
 use piece_pool::PoolFault;
 use spq_command::{Command, CommandFault, read_command};
+use spq_run::{Notes, Progress, RunFault};
 use std::alloc::Global;
 use std::marker::PhantomData;
 use std::random::RandomSource;
@@ -77,6 +78,15 @@ impl<S: Source, K: Sink, P: Progress> Promise<Ran<S, K>> for RunOver<S, K, P> {
         × IfErr ran.done (IsRunCaused P.fails (S.left p.reader.value)) };
 }
 
+/// What a run borrows: the runtime, the allocator, its command, and the progress that it calls.
+#[derive(Drop)]
+struct Setting<'s, R, P> {
+    rt: &'s R,
+    alloc: Global,
+    command: &'s Command,
+    progress: &'s P,
+}
+
 /// Returns the number of bytes of stack that a query may need.
 fn stack_for(query: &str) -> usize
     ensures stack { result ≡ min (least_stack + stack_per_byte * length query.now) (2 ^ 64 - 1) }
@@ -86,23 +96,28 @@ fn stack_for(query: &str) -> usize
 
 /// Runs a command on the caller's thread.
 fn run_here<R: Threads + Wait + RandomSource, S: Source, K: Sink, P: Progress>(
-    rt: &R,
-    alloc: Global,
-    command: &Command,
+    setting: &Setting<'_, R, P>,
     reader: S,
     writer: K,
-    progress: &P,
 ) -> Ran<S, K>
     ensures run { IsRun S.left S.failures K.held K.failures K.write_gives
-        (request_of command.now) reader result.reader writer result.writer result.done }
-    ensures unread { IsByOneWorker command.now
+        (request_of setting.now.command.now) reader result.reader writer result.writer result.done }
+    ensures unread { IsByOneWorker setting.now.command.now
         → result.done ≡ Err WorkerRefused → result.reader ≡ reader }
     ensures cause { IfErr result.done (IsRunCaused P.fails (S.left reader)) }
-    ensures one_worker { IsByOneWorker command.now → result.done ≡ Err WorkerRefused → ⊥ }
+    ensures one_worker { IsByOneWorker setting.now.command.now
+        → result.done ≡ Err WorkerRefused → ⊥ }
 {
     let (mut left, mut held) = (reader, writer);
-    let mut log = Log::new(progress);
-    let done = run_noted(rt, alloc, command, &mut left, &mut held, &mut log);
+    let mut log = Log::new(setting.progress);
+    let done = run_noted(
+        setting.rt,
+        setting.alloc,
+        setting.command,
+        &mut left,
+        &mut held,
+        &mut log,
+    );
     Ran {
         done,
         reader: left,
@@ -113,22 +128,19 @@ fn run_here<R: Threads + Wait + RandomSource, S: Source, K: Sink, P: Progress>(
 
 /// Runs a command, or returns the reader and the writer if its thread could not be started.
 fn run_if_started<R: Threads + Wait + RandomSource, S: Source, K: Sink, P: Progress>(
-    rt: &R,
-    alloc: Global,
-    command: &Command,
+    setting: &Setting<'_, R, P>,
     not_started: &AtomicBool,
     reader: S,
     writer: K,
-    progress: &P,
 ) -> Ran<S, K>
     ensures run { IsRun S.left S.failures K.held K.failures K.write_gives
-        (request_of command.now) reader result.reader writer result.writer result.done }
-    ensures unread { IsByOneWorker command.now
+        (request_of setting.now.command.now) reader result.reader writer result.writer result.done }
+    ensures unread { IsByOneWorker setting.now.command.now
         → result.done ≡ Err WorkerRefused → result.reader ≡ reader }
     ensures cause { IfErr result.done (IsRunCaused P.fails (S.left reader)) }
 {
     if not_started.load(Ordering::SeqCst) {
-        progress.failed(PoolFault::WorkerRefused);
+        setting.progress.failed(PoolFault::WorkerRefused);
         return Ran {
             done: Err(RunFault::WorkerRefused),
             reader,
@@ -136,7 +148,7 @@ fn run_if_started<R: Threads + Wait + RandomSource, S: Source, K: Sink, P: Progr
             notes: Notes::new(),
         };
     }
-    run_here(rt, alloc, command, reader, writer, progress)
+    run_here(setting, reader, writer)
 }
 
 /// Starts a thread of a scope that runs a command, and joins it. If it cannot be started, nothing is read or
@@ -149,32 +161,29 @@ fn start_and_join<
     K: Sink + Send + Drop + 's,
     P: Progress + Sync + 's,
 >(
-    rt: &'s R,
+    setting: &'s Setting<'s, R, P>,
     scope: &Scope<'s, E>,
-    alloc: Global,
-    command: &'s Command,
     stack: usize,
     not_started: &'s AtomicBool,
     reader: S,
     writer: K,
-    progress: &'s P,
 ) -> Ran<S, K>
     ensures run { IsRun S.left S.failures K.held K.failures K.write_gives
-        (request_of command.now) reader result.reader writer result.writer result.done }
-    ensures unread { IsByOneWorker command.now
+        (request_of setting.now.command.now) reader result.reader writer result.writer result.done }
+    ensures unread { IsByOneWorker setting.now.command.now
         → result.done ≡ Err WorkerRefused → result.reader ≡ reader }
     ensures cause { IfErr result.done (IsRunCaused P.fails (S.left reader)) }
 {
     let promise: RunOver<S, K, P> = RunOver {
-        command: Snapshot::of(command),
+        command: Snapshot::of(setting.command),
         reader: Snapshot::of(&reader),
         writer: Snapshot::of(&writer),
         progress: PhantomData,
     };
     let stack = Stack::new().stack_size(stack);
-    let worker = move || run_if_started(rt, alloc, command, not_started, reader, writer, progress);
+    let worker = move || run_if_started(setting, not_started, reader, writer);
     match stack.spawn_scoped_with(scope, promise, worker) {
-        Ok(thread) => thread.join(rt),
+        Ok(thread) => thread.join(setting.rt),
         Err(unstarted) => {
             not_started.store(true, Ordering::SeqCst);
             (unstarted.value)()
@@ -188,18 +197,10 @@ fn run_apart<
     S: Source + Send + Drop,
     K: Sink + Send + Drop,
     P: Progress + Sync,
->(
-    rt: &R,
-    alloc: Global,
-    command: &Command,
-    stack: usize,
-    reader: S,
-    writer: K,
-    progress: &P,
-) -> Ran<S, K>
+>(setting: &Setting<'_, R, P>, stack: usize, reader: S, writer: K) -> Ran<S, K>
     ensures run { IsRun S.left S.failures K.held K.failures K.write_gives
-        (request_of command.now) reader result.reader writer result.writer result.done }
-    ensures unread { IsByOneWorker command.now
+        (request_of setting.now.command.now) reader result.reader writer result.writer result.done }
+    ensures unread { IsByOneWorker setting.now.command.now
         → result.done ≡ Err WorkerRefused → result.reader ≡ reader }
     ensures cause { IfErr result.done (IsRunCaused P.fails (S.left reader)) }
 {
@@ -207,27 +208,15 @@ fn run_apart<
     let not_started = &not_started;
     thread::scope(
         thread::scope_env(),
-        rt,
+        setting.rt,
         move |scope| -> Ran<S, K>
             ensures run { IsRun S.left S.failures K.held K.failures K.write_gives
-                (request_of command.entry.now) reader result.reader writer result.writer
-                result.done }
-            ensures unread { IsByOneWorker command.entry.now
+                (request_of setting.entry.now.command.now) reader result.reader writer
+                result.writer result.done }
+            ensures unread { IsByOneWorker setting.entry.now.command.now
                 → result.done ≡ Err WorkerRefused → result.reader ≡ reader }
             ensures cause { IfErr result.done (IsRunCaused P.fails (S.left reader)) }
-        {
-            start_and_join(
-                rt,
-                scope,
-                alloc,
-                command,
-                stack,
-                not_started,
-                reader,
-                writer,
-                progress,
-            )
-        },
+        { start_and_join(setting, scope, stack, not_started, reader, writer) },
     )
 }
 
@@ -237,34 +226,18 @@ fn run_select<
     S: Source + Send + Drop,
     K: Sink + Send + Drop,
     P: Progress + Sync,
->(
-    rt: &R,
-    alloc: Global,
-    command: &Command,
-    query: &str,
-    reader: S,
-    writer: K,
-    progress: &P,
-) -> Ran<S, K>
-    requires query { request_of command.now ≡ select query.now }
+>(setting: &Setting<'_, R, P>, query: &str, reader: S, writer: K) -> Ran<S, K>
+    requires query { request_of setting.now.command.now ≡ select query.now }
     ensures run { IsRun S.left S.failures K.held K.failures K.write_gives
-        (request_of command.now) reader result.reader writer result.writer result.done }
-    ensures unread { IsByOneWorker command.now
+        (request_of setting.now.command.now) reader result.reader writer result.writer result.done }
+    ensures unread { IsByOneWorker setting.now.command.now
         → result.done ≡ Err WorkerRefused → result.reader ≡ reader }
     ensures cause { IfErr result.done (IsRunCaused P.fails (S.left reader)) }
     ensures answerable { result.done ≡ Err WorkerRefused → IsAnswerable (select query.now) }
 {
-    match check_query(alloc, query) {
-        Ok(()) => run_apart(
-            rt,
-            alloc,
-            command,
-            stack_for(query),
-            reader,
-            writer,
-            progress,
-        ),
-        Err(rejected) => Ran::not_run(told(progress, rejected), reader, writer),
+    match check_query(setting.alloc, query) {
+        Ok(()) => run_apart(setting, stack_for(query), reader, writer),
+        Err(rejected) => Ran::not_run(run_fault(setting.progress, rejected), reader, writer),
     }
 }
 
@@ -274,22 +247,19 @@ fn run_command<
     S: Source + Send + Drop,
     K: Sink + Send + Drop,
     P: Progress + Sync,
->(rt: &R, alloc: Global, command: &Command, reader: S, writer: K, progress: &P) -> Ran<S, K>
+>(setting: &Setting<'_, R, P>, reader: S, writer: K) -> Ran<S, K>
     ensures run { IsRun S.left S.failures K.held K.failures K.write_gives
-        (request_of command.now) reader result.reader writer result.writer result.done }
-    ensures alone { IsDoneAlone command.now → result.done ≡ Err WorkerRefused → ⊥ }
-    ensures unread { IsByOneWorker command.now
+        (request_of setting.now.command.now) reader result.reader writer result.writer result.done }
+    ensures alone { IsDoneAlone setting.now.command.now → result.done ≡ Err WorkerRefused → ⊥ }
+    ensures unread { IsByOneWorker setting.now.command.now
         → result.done ≡ Err WorkerRefused → result.reader ≡ reader }
     ensures cause { IfErr result.done (IsRunCaused P.fails (S.left reader)) }
-    ensures answerable { result.done ≡ Err WorkerRefused → IsAnswerable (request_of command.now) }
+    ensures answerable { result.done ≡ Err WorkerRefused
+        → IsAnswerable (request_of setting.now.command.now) }
 {
-    match command {
-        Command::Select { query, .. } => {
-            run_select(rt, alloc, command, query.as_str(), reader, writer, progress)
-        }
-        Command::Check { .. } | Command::Terms { .. } => {
-            run_here(rt, alloc, command, reader, writer, progress)
-        }
+    match setting.command {
+        Command::Select { query, .. } => run_select(setting, query.as_str(), reader, writer),
+        Command::Check { .. } | Command::Terms { .. } => run_here(setting, reader, writer),
     }
 }
 
@@ -324,7 +294,15 @@ pub fn run_words<
     ensures cause { IfErr result.done (IsRunCaused P.fails (S.left reader)) }
 {
     match read_command(alloc, words) {
-        Ok(command) => run_command(rt, alloc, &command, reader, writer, progress),
+        Ok(command) => {
+            let setting = Setting {
+                rt,
+                alloc,
+                command: &command,
+                progress,
+            };
+            run_command(&setting, reader, writer)
+        }
         Err(CommandFault::Line) => Ran::not_run(RunFault::Line, reader, writer),
         Err(CommandFault::Memory) => {
             progress.failed(PoolFault::Memory);

@@ -1,6 +1,7 @@
 //! What is known about a run that has ended.
 
-use spq_core::{Command, Notes, read_command};
+use spq_command::{Command, read_command};
+use spq_run::Notes;
 use std::alloc::Global;
 use std::io::Error;
 

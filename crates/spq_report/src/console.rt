@@ -7,7 +7,7 @@
 use crate::devices::Meter;
 use crate::malformed::first_message;
 use malformed_lines::MalformedLine;
-use spq_core::{LoadListener, PoolFault, Progress, Stage};
+use spq_run::{LoadListener, PoolFault, Progress, Stage};
 use std::alloc::Global;
 use std::io::Write;
 use std::sync::{Condvar, Mutex, Wait};

@@ -3,7 +3,8 @@
 use crate::account::Account;
 use command_help::message;
 use nquads_core::Device;
-use spq_core::{Command, RunFault, Stage, write_fault};
+use spq_command::Command;
+use spq_run::{RunFault, Stage, write_fault};
 use std::alloc::{AllocError, Global};
 use std::io;
 use std::io::{Error, Write};

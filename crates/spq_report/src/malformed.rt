@@ -9,7 +9,7 @@ use crate::grouped::grouped;
 use dataset_load::Listing;
 use line_diagnosis::{Counted, LineContext, Summary, report, report_without_hint};
 use malformed_lines::{MalformedLine, ReasonCount};
-use spq_core::RunFault;
+use spq_run::RunFault;
 use std::alloc::{AllocError, Global};
 use std::cmp::Reverse;
 use std::io;

@@ -2,7 +2,7 @@
 
 use crate::account::Account;
 use query_notes::notes_on;
-use spq_core::Command;
+use spq_command::Command;
 use std::alloc::Global;
 
 /// Returns the notes after a run without a failure, each on its own line. Returns None if the command has no

@@ -4,7 +4,7 @@ use crate::account::Account;
 use crate::failures::{no_command, no_device, no_memory, no_worker, rejected, repeat};
 use crate::malformed::write_malformed;
 use crate::notes::notes_after;
-use spq_core::RunFault;
+use spq_run::RunFault;
 use std::alloc::Global;
 use std::io;
 use std::io::Write;

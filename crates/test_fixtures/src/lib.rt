@@ -1,4 +1,4 @@
-//! What the test crates share: gates that worker threads pass, a job, and devices in memory.
+//! What the test crates share: gates that worker threads pass, a job, devices in memory, and texts.
 //!
 //! - [`Meeting`] is a gate at which two workers have to meet, so it shows that two threads run at
 //!   the same time.
@@ -6,6 +6,7 @@
 //! - [`Numbers`] is a job whose output for piece `i` is `i`, up to a first faulty piece.
 //! - [`SliceSource`] and [`VecSink`] are a source and a sink in memory. They move few bytes per
 //!   call. They fail after a number of bytes, or at a given call.
+//! - [`text`] makes a text of a term.
 //!
 //! No program depends on this crate. Its tests are those of the crates that use it, such as
 //! loading_tests.
@@ -22,8 +23,10 @@ mod gates;
 mod jobs;
 mod sinks;
 mod sources;
+mod texts;
 
 pub use gates::{Counter, Meeting};
 pub use jobs::Numbers;
 pub use sinks::VecSink;
 pub use sources::SliceSource;
+pub use texts::text;

@@ -11,33 +11,33 @@ use std::sync::atomic::{AtomicU64, Ordering};
 use std::thread::Threads;
 use test_fixtures::{SliceSource, VecSink};
 
-/// Counts what it is told.
+/// Counts the failures that it is told of, by their cause.
 #[derive(Drop)]
-struct Told {
+struct FailureCounts {
     memory: AtomicU64,
     workers: AtomicU64,
 }
 
-impl Told {
-    fn new() -> Told {
-        Told {
+impl FailureCounts {
+    fn new() -> FailureCounts {
+        FailureCounts {
             memory: AtomicU64::new(0),
             workers: AtomicU64::new(0),
         }
     }
 
     /// Returns whether it was told that memory ran out.
-    fn is_memory(&self) -> bool {
+    fn has_memory(&self) -> bool {
         self.memory.load(Ordering::SeqCst) > 0
     }
 
     /// Returns whether it was told that a thread could not be started.
-    fn is_worker(&self) -> bool {
+    fn has_worker(&self) -> bool {
         self.workers.load(Ordering::SeqCst) > 0
     }
 }
 
-impl LoadListener for Told {
+impl LoadListener for FailureCounts {
     fn found(&self, _line: &MalformedLine, _is_after_utf8: bool) {}
 
     fn failed(&self, cause: PoolFault) {
@@ -49,21 +49,21 @@ impl LoadListener for Told {
     }
 }
 
-impl Progress for Told {
+impl Progress for FailureCounts {
     fn begin(&self, _stage: Stage) {}
 }
 
 /// Returns whether the progress was told of the cause of this result, and of nothing if there is none.
-fn is_cause<R: Print>(rt: &R, done: Result<(), RunFault>, told: &Told) -> bool {
+fn is_cause<R: Print>(rt: &R, done: Result<(), RunFault>, counts: &FailureCounts) -> bool {
     match done {
-        Ok(()) => !told.is_memory() && !told.is_worker(),
+        Ok(()) => !counts.has_memory() && !counts.has_worker(),
         Err(RunFault::Memory) => {
             let _ = println!(rt; "memory failed");
-            told.is_memory()
+            counts.has_memory()
         }
         Err(RunFault::WorkerRefused) => {
             let _ = println!(rt; "a worker failed");
-            told.is_worker()
+            counts.has_worker()
         }
         Err(_) => true,
     }
@@ -79,11 +79,11 @@ fn is_told<R: Threads + Wait + RandomSource + Sync + Print>(
         let _ = println!(rt; "memory failed");
         return true;
     };
-    let told = Told::new();
+    let counts = FailureCounts::new();
     let reader = SliceSource::new(TWO_LINES.as_bytes(), 40);
     let writer = VecSink::new(alloc, 1000);
-    let ran = run_words(rt, alloc, &words, reader, writer, &told);
-    is_cause(rt, ran.done, &told)
+    let ran = run_words(rt, alloc, &words, reader, writer, &counts);
+    is_cause(rt, ran.done, &counts)
 }
 
 #[test]

@@ -15,8 +15,10 @@ returns-in_default-clause-count g c = Stays-start (g.S.Source.failures c.args.re
 pub returns-in_default-clause-taken : goal.returns-in_default-clause-taken
 returns-in_default-clause-taken g c = in-part-none (g.S.Source.left c.args.reader.now)
 
-pub list_rest-requires-clause-ready : goal.list_rest-requires-clause-ready
-list_rest-requires-clause-ready g c = rw c.in-Some.is (some_and _ _ c.in-Some.bad c.in-Some.is (rw c.in-Err-BadLine.field-0-is at c.in-Err-BadLine.ensures.bad_round)).0
+pub list_rest-requires : goal.list_rest-requires
+list_rest-requires g c = record {
+  ready = rw c.in-Some.is (some_and _ _ c.in-Some.bad c.in-Some.is (rw c.in-Err-BadLine.field-0-is at c.in-Err-BadLine.ensures.bad_round)).0;
+}
 
 pub returns-in-Ok-list_rest-clause-bad_line : goal.returns-in-Ok-list_rest-clause-bad_line
 returns-in-Ok-list_rest-clause-bad_line g c = c.in-Ok-list_rest.ensures.bad_line (g.S.Source.left c.args.reader.now) c.in-Err-BadLine.line (rw c.in-Some.is (some_and _ _ c.in-Some.bad c.in-Some.is (rw c.in-Err-BadLine.field-0-is at c.in-Err-BadLine.ensures.bad_round)).1)

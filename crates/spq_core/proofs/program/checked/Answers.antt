@@ -1,7 +1,7 @@
 use Rattle.std.proofs.Common.{Err, Ok, refl}
 use Rattle.std.proofs.lemmas.Result.{err_from_is_err_and}
 use Rattle.dataset_load.specs.Counted.{IsCountedFrom}
-use Rattle.spq_core.specs.declared.program.RunFault.TheVariants.{Memory}
+use Rattle.spq_run.specs.declared.fault.RunFault.TheVariants.{Memory}
 use Rattle.spq_core.specs.Output.{check}
 use Rattle.spq_core.proofs.ComposingSteps.{counted, not_loaded}
 use Rattle.spq_core.proofs.DocumentSteps.{bad_check}

@@ -1,4 +1,4 @@
 use Rattle.spq_core.proofs.program.selected.Goals as goal
 
 pub returns-in-Err-clause-cause : goal.returns-in-Err-clause-cause
-returns-in-Err-clause-cause g c = c.told.ensures.cause (g.S.Source.left c.args.reader.now)
+returns-in-Err-clause-cause g c = c.run_fault.ensures.cause (g.S.Source.left c.args.reader.now)

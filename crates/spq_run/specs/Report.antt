@@ -7,9 +7,9 @@ use Rattle.nquads_core.specs.declared.device.DeviceFailed.{DeviceFailed}
 use Rattle.sparql_read.specs.declared.fault.QueryFault.{QueryFault}
 use Rattle.sparql_read.specs.declared.fault.QueryFault.TheVariants.{Syntax, UndefinedPrefix, RelativeIri, BindScope, BlankReuse, TooDeep}
 use Rattle.sparql_read.specs.declared.fault.QueryFault.TheVariants as query_fault
-use Rattle.spq_core.specs.Run.{WriterFailed}
-use Rattle.spq_core.specs.declared.program.RunFault.{RunFault}
-use Rattle.spq_core.specs.declared.program.RunFault.TheVariants.{Query, BadLine, WorkerRefused, Memory, Read, Write, Line}
+use Rattle.spq_run.specs.Writing.{WriterFailed}
+use Rattle.spq_run.specs.declared.fault.RunFault.{RunFault}
+use Rattle.spq_run.specs.declared.fault.RunFault.TheVariants.{Query, BadLine, WorkerRefused, Memory, Read, Write, Line}
 
 -- the line of a rejected query
 abbrev pub query_line : QueryFault → List ℕ

@@ -3,10 +3,11 @@ ghost use Rattle.std.specs.Prelude.{◌≡◌, ◌++◌, codes, decimal, IfErr, 
 ghost use Rattle.std.specs.Io.KnownBytes.{Appends};
 ghost use Rattle.nquads_core.specs.Device.{Stays};
 ghost use Rattle.nquads_core.specs.Transfer.{WroteBeginning};
-ghost use Rattle.spq_core.specs.Report.{WroteOrFailed, exit_status, fault_line, query_line, status_of};
-ghost use Rattle.spq_core.specs.Run.{WriterFailed};
+ghost use Rattle.spq_run.specs.Report.{WroteOrFailed, exit_status, fault_line, query_line, status_of};
+ghost use Rattle.spq_run.specs.Writing.{WriterFailed};
 
-use crate::program::{RunFault, write_text};
+use crate::fault::RunFault;
+use crate::writing::write_text;
 use itoa::Buffer;
 use nquads_core::{DeviceFailed, Sink};
 use sparql_read::QueryFault;

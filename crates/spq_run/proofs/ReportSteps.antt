@@ -7,9 +7,9 @@ use Rattle.nquads_core.proofs.TransferSteps.{Appends-more}
 use Rattle.nquads_core.specs.Device.{Rises, Stays}
 use Rattle.nquads_core.specs.Transfer.{TookNone, WroteBeginning}
 use Rattle.nquads_core.specs.declared.device.DeviceFailed.{DeviceFailed}
-use Rattle.spq_core.specs.Report.{fault_line}
-use Rattle.spq_core.specs.Run.{WriterFailed}
-use Rattle.spq_core.specs.declared.program.RunFault.{RunFault}
+use Rattle.spq_run.specs.Report.{fault_line}
+use Rattle.spq_run.specs.Writing.{WriterFailed}
+use Rattle.spq_run.specs.declared.fault.RunFault.{RunFault}
 
 pub front_begun : (a b : Option (List ℕ)) (front back : List ℕ) → WroteBeginning a b front → WroteBeginning a b (front ++ back)
 front_begun a b front back w =

@@ -1,5 +1,5 @@
-use Rattle.spq_core.proofs.ReportSteps.{line_begun, line_failed, line_written}
-use Rattle.spq_core.proofs.report.write_fault.Goals as goal
+use Rattle.spq_run.proofs.ReportSteps.{line_begun, line_failed, line_written}
+use Rattle.spq_run.proofs.report.write_fault.Goals as goal
 
 pub returns-in-Line : goal.returns-in-Line
 returns-in-Line g c =

@@ -1,7 +1,7 @@
 use Rattle.std.proofs.Common.{◌++◌, codes, decimal}
 use Rattle.std.proofs.lemmas.Result.{on_err_weaker}
-use Rattle.spq_core.proofs.ReportSteps.{back_begun, back_failed, front_begun, front_failed}
-use Rattle.spq_core.proofs.report.write_bad_line.Goals as goal
+use Rattle.spq_run.proofs.ReportSteps.{back_begun, back_failed, front_begun, front_failed}
+use Rattle.spq_run.proofs.report.write_bad_line.Goals as goal
 
 pub returns-in-Err-clause-failed : goal.returns-in-Err-clause-failed
 returns-in-Err-clause-failed g c = front_begun _ _ (codes "error: line ") (decimal c.args.line ++ codes "\n") c.in-Err.ensures.failed

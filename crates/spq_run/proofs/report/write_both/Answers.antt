@@ -1,7 +1,7 @@
 use Rattle.std.proofs.lemmas.Result.{err_from_is_err_and, on_err_weaker, on_ok_weaker}
 use Rattle.nquads_core.proofs.TransferSteps.{Appends-more}
-use Rattle.spq_core.proofs.ReportSteps.{back_begun, back_failed, front_begun, front_failed, stays_stays}
-use Rattle.spq_core.proofs.report.write_both.Goals as goal
+use Rattle.spq_run.proofs.ReportSteps.{back_begun, back_failed, front_begun, front_failed, stays_stays}
+use Rattle.spq_run.proofs.report.write_both.Goals as goal
 
 pub returns : goal.returns
 returns g c =
