@@ -1,5 +1,5 @@
 -- What each command writes for its input (choices of this project).
-use Rattle.std.specs.Prelude.{◌≡◌, ℕ, ◌<◌, List, ◌++◌, length, decimal, codes, ⊤}
+use Rattle.std.specs.Prelude.{◌≡◌, ℕ, ◌<◌, Bool, true, false, List, ◌++◌, length, Option, Some, None, decimal, codes, ⊤}
 use Rattle.rdf_core.specs.QuadParts.{QuadParts}
 use Rattle.nquads_core.specs.Lines.{lines}
 use Rattle.nquads_core.specs.Pieces.{HaveStatements, IsFirstMalformed}
@@ -11,8 +11,12 @@ use Rattle.dict_core.specs.Appearances.{terms_of, first_appearances}
 use Rattle.cluster_parts.specs.Output.{AreFirst, AreRepeated, IsCountOf, IsKept, again_parts, check_parts, keyed_parts, terms_parts}
 use Rattle.cluster_parts.specs.Keys.{key_of}
 use Rattle.cluster_parts.specs.declared.key_splits.QuadKey.{QuadKey}
+use Rattle.query_split.specs.declared.split.Split.{Split}
+use Rattle.query_plan.specs.Planned.{IsPlan}
+use Rattle.query_plan.specs.declared.planning.MergePlan.{MergePlan}
+use Rattle.result_merge.specs.Merging.{IsMerged}
 use Rattle.part_core.specs.declared.command.Command.{Command}
-use Rattle.part_core.specs.declared.command.Command.TheVariants.{SplitCheck, Count, Repeated, Join, Again, SplitTerms, First, Keep, SplitQuads, Unseal}
+use Rattle.part_core.specs.declared.command.Command.TheVariants.{SplitCheck, Count, Repeated, Join, Again, SplitTerms, First, Keep, SplitQuads, Unseal, Plan, Merge}
 
 -- `split check`: the parts of a block
 pub record IsSplit (partitions : ℕ) (input output : List ℕ) : Type 0 where
@@ -86,6 +90,24 @@ pub record IsKeptOf (input output : List ℕ) : Type 0 where
   pub unsealed : input ≡ sealed document ++ all_sealed texts
   pub listed : IsKept document (joined_texts texts) output
 
+-- the words of a merge
+abbrev pub rows_word : Bool → List ℕ
+rows_word true = codes "distinct"
+rows_word false = codes "all"
+
+abbrev pub limit_word : Option ℕ → List ℕ
+limit_word None = codes "none"
+limit_word (Some n) = decimal n
+
+abbrev pub merge_line : MergePlan → List ℕ
+merge_line plan = codes "merge " ++ (rows_word plan.distinct ++ (codes " 0 " ++ (limit_word plan.limit ++ codes "\n")))
+
+-- `plan`: the words of the last merge, those of the merges before it, and the query for the parts, which is the query itself
+pub record IsPlanned (split : Split) (input output : List ℕ) : Type 0 where
+  pub plan : MergePlan
+  pub planned : IsPlan split input plan
+  pub lines : output ≡ merge_line plan ++ (merge_line plan ++ input)
+
 -- what a command writes
 abbrev pub IsOutput : Command → List ℕ → List ℕ → Type 0
 IsOutput (SplitCheck partitions) input output = IsSplit partitions input output
@@ -98,6 +120,8 @@ IsOutput First input output = IsFirstOf input output
 IsOutput Keep input output = IsKeptOf input output
 IsOutput (SplitQuads key partitions) input output = IsQuadSplit key partitions input output
 IsOutput Unseal input output = IsUnsealed input output
+IsOutput (Plan split) input output = IsPlanned split input output
+IsOutput (Merge m) input output = IsMerged m.distinct m.offset m.limit input output
 
 -- the documents that are joined have a first malformed line
 pub record IsBadDocument (input : List ℕ) (k : ℕ) : Type 0 where
@@ -124,6 +148,8 @@ IsBadInput First input k = ⊥
 IsBadInput Keep input k = ⊥
 IsBadInput (SplitQuads key partitions) input k = IsFirstMalformed (lines input) k
 IsBadInput Unseal input k = ⊥
+IsBadInput (Plan split) input k = ⊥
+IsBadInput (Merge m) input k = ⊥
 
 -- a command has at least one partition
 abbrev pub HasPartitions : Command → Type 0
@@ -137,3 +163,5 @@ HasPartitions First = ⊤
 HasPartitions Keep = ⊤
 HasPartitions (SplitQuads key partitions) = 0 < partitions
 HasPartitions Unseal = ⊤
+HasPartitions (Plan split) = ⊤
+HasPartitions (Merge m) = ⊤

@@ -4,9 +4,21 @@ ghost use Rattle.part_core.specs.Output.{HasPartitions};
 
 use crate::fault::PartFault;
 use cluster_parts::QuadKey;
+use query_split::Split;
 
 /// The largest number of partitions.
 const MOST_PARTITIONS: u64 = 65536;
+
+/// How results are merged.
+#[derive(Clone, Copy, Debug, Drop, PartialEq, Eq)]
+pub struct Merging {
+    /// Whether each row is listed once.
+    pub distinct: bool,
+    /// The number of rows that are left out at the beginning.
+    pub offset: u64,
+    /// The largest number of rows.
+    pub limit: Option<u64>,
+}
 
 /// A command.
 #[derive(Clone, Copy, Debug, Drop, PartialEq, Eq)]
@@ -31,6 +43,11 @@ pub enum Command {
     SplitQuads(QuadKey, u64),
     /// `unseal`: joins sealed texts into one text that is not sealed.
     Unseal,
+    /// `plan lines`, `plan subject`, `plan graph` and `plan graph-with-default`: how a query is evaluated on the parts of
+    /// such a split.
+    Plan(Split),
+    /// `merge all OFFSET LIMIT` and `merge distinct OFFSET LIMIT`: merges the results of parts. `none` is no LIMIT.
+    Merge(Merging),
 }
 
 /// Returns a word of a command line, or an empty text if there are fewer words.
@@ -79,6 +96,58 @@ fn split_of(word: &str, partitions: &str) -> Result<Command, PartFault>
     }
 }
 
+/// Returns the command `plan` of the name of a split.
+fn plan_of(split: &str) -> Result<Command, PartFault>
+    ensures partitions { IfOk result HasPartitions }
+{
+    match split {
+        "lines" => Ok(Command::Plan(Split::Lines)),
+        "subject" => Ok(Command::Plan(Split::Subject)),
+        "graph" => Ok(Command::Plan(Split::Graph)),
+        "graph-with-default" => Ok(Command::Plan(Split::GraphWithDefault)),
+        _ => Err(PartFault::Line),
+    }
+}
+
+/// Reads a number of rows.
+fn rows_of(word: &str) -> Result<u64, PartFault> {
+    match word.parse::<u64>() {
+        Ok(n) => Ok(n),
+        Err(_no_number) => Err(PartFault::Line),
+    }
+}
+
+/// Reads the largest number of rows, or `none`.
+fn limit_of(word: &str) -> Result<Option<u64>, PartFault> {
+    match word {
+        "none" => Ok(None),
+        _ => Ok(Some(rows_of(word)?)),
+    }
+}
+
+/// Reads whether each row is listed once.
+fn distinct_of(word: &str) -> Result<bool, PartFault> {
+    match word {
+        "all" => Ok(false),
+        "distinct" => Ok(true),
+        _ => Err(PartFault::Line),
+    }
+}
+
+/// Returns the command `merge` of its three words.
+fn merge_of(rows: &str, offset: &str, limit: &str) -> Result<Command, PartFault>
+    ensures partitions { IfOk result HasPartitions }
+{
+    let distinct = distinct_of(rows)?;
+    let offset = rows_of(offset)?;
+    let limit = limit_of(limit)?;
+    Ok(Command::Merge(Merging {
+        distinct,
+        offset,
+        limit,
+    }))
+}
+
 /// Reads the words of a command line, of which the first is the program's name.
 ///
 /// # Errors
@@ -90,7 +159,9 @@ pub fn read_command(words: &[String]) -> Result<Command, PartFault>
     match words.len() {
         2 => command_of(first),
         3 if first == "again" => Ok(Command::Again(partitions_of(second)?)),
+        3 if first == "plan" => plan_of(second),
         4 if first == "split" => split_of(second, third),
+        5 if first == "merge" => merge_of(second, third, word_at(words, 4)),
         _ => Err(PartFault::Line),
     }
 }

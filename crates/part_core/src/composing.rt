@@ -8,10 +8,11 @@ ghost use Rattle.cluster_parts.specs.Seal.{all_sealed, joined_texts, sealed};
 ghost use Rattle.cluster_parts.specs.Parts.{number_list};
 ghost use Rattle.cluster_parts.specs.Output.{AreRepeated, IsCountOf, again_parts};
 ghost use Rattle.cluster_parts.specs.Repeated.{single};
-ghost use Rattle.part_core.specs.Output.{HasPartitions, IsAgain, IsBadBlock, IsBadDocument, IsBadInput, IsCounted, IsFirstOf, IsJoined, IsKeptOf, IsOutput, IsRepeatedIn, IsQuadSplit, IsSplit, IsTermSplit, IsUnsealed};
+ghost use Rattle.part_core.specs.Output.{HasPartitions, IsAgain, IsBadBlock, IsBadDocument, IsBadInput, IsCounted, IsFirstOf, IsJoined, IsKeptOf, IsOutput, IsRepeatedIn, IsPlanned, IsQuadSplit, IsSplit, IsTermSplit, IsUnsealed, limit_word, merge_line};
+ghost use Rattle.result_merge.specs.Merging.{IsMerged};
 ghost use Rattle.part_core.specs.declared.fault.PartFault.TheVariants.{BadLine};
 
-use crate::command::Command;
+use crate::command::{Command, Merging};
 use crate::fault::PartFault;
 use cluster_parts::{
     QuadKey, count_single, count_statements, first_sealed, first_terms, join_sealed, keep_terms,
@@ -20,6 +21,9 @@ use cluster_parts::{
 };
 use itoa::Buffer;
 use nquads_core::PieceFault;
+use query_plan::{MergePlan, plan};
+use query_split::Split;
+use result_merge::merge;
 use std::alloc::{AllocError, Global};
 use std::hash::RandomState;
 
@@ -291,6 +295,77 @@ fn kept(alloc: Global, state: RandomState, input: &[u8]) -> Result<Vec<u8>, Part
     }
 }
 
+/// Appends the line of a merge.
+fn push_merge(out: &mut Vec<u8>, plan: &MergePlan) -> Result<(), AllocError>
+    ensures line { OnOk result (out.new.items ≡ out.old.items ++ merge_line plan.now) }
+{
+    let rows: &[u8] = if plan.distinct { b"distinct" } else { b"all" };
+    out.extend_from_slice(b"merge ")?;
+    out.extend_from_slice(rows)?;
+    out.extend_from_slice(b" 0 ")?;
+    push_limit(out, plan.limit)?;
+    out.extend_from_slice(b"\n")?;
+    Ok(())
+}
+
+/// Appends the word of a LIMIT.
+fn push_limit(out: &mut Vec<u8>, limit: Option<u64>) -> Result<(), AllocError>
+    ensures word { OnOk result (out.new.items ≡ out.old.items ++ limit_word limit) }
+{
+    let mut buffer = Buffer::new();
+    match limit {
+        Some(limit) => out.extend_from_slice(buffer.format(limit).as_bytes()),
+        None => out.extend_from_slice(b"none"),
+    }
+}
+
+/// Returns what `plan` writes.
+fn plan_text(alloc: Global, plan: &MergePlan, query: &[u8]) -> Result<Vec<u8>, AllocError>
+    ensures text { IfOk result
+        (λ out. out.items ≡ merge_line plan.now ++ (merge_line plan.now ++ query.now)) }
+{
+    let mut out = Vec::new(alloc);
+    push_merge(&mut out, plan)?;
+    push_merge(&mut out, plan)?;
+    out.extend_from_slice(query)?;
+    Ok(out)
+}
+
+/// Composes the output of `plan`.
+fn planned(alloc: Global, input: &[u8], split: &Split) -> Result<Vec<u8>, PartFault>
+    ensures output { IfOk result (λ output. IsPlanned split.now input.now output.items) }
+    ensures no_line { IfErr result (λ fault. (k : ℕ) → fault ≡ BadLine k → ⊥) }
+{
+    let Ok(text) = str::from_utf8(input) else {
+        return Err(PartFault::Query);
+    };
+    match plan(alloc, text, split) {
+        Ok(found) => match plan_text(alloc, &found, input) {
+            Ok(out) => Ok(out),
+            Err(_) => Err(PartFault::Memory),
+        },
+        Err(fault) => Err(PartFault::of_plan(fault)),
+    }
+}
+
+/// Composes the output of `merge`.
+fn merged(alloc: Global, input: &[u8], merging: &Merging) -> Result<Vec<u8>, PartFault>
+    ensures output { IfOk result (λ output.
+        IsMerged merging.now.distinct merging.now.offset merging.now.limit input.now output.items) }
+    ensures no_line { IfErr result (λ fault. (k : ℕ) → fault ≡ BadLine k → ⊥) }
+{
+    match merge(
+        alloc,
+        input,
+        merging.distinct,
+        merging.offset,
+        merging.limit,
+    ) {
+        Ok(out) => Ok(out),
+        Err(fault) => Err(PartFault::of_merge(fault)),
+    }
+}
+
 /// Composes the output of a command for its input.
 ///
 /// # Requires
@@ -300,6 +375,8 @@ fn kept(alloc: Global, state: RandomState, input: &[u8]) -> Result<Vec<u8>, Part
 /// - `BadLine(k)` if line k of the block or of the joined documents, counted from 0, is the first that is malformed.
 /// - `Version` if another version of the program wrote the input.
 /// - `Damaged` if the input was damaged, or a sealed document of terms has a malformed line.
+/// - `Query` if a rule rejects the query of `plan`, or it is not UTF-8.
+/// - `Split` if the query of `plan` cannot be evaluated on the parts of the split, or has OFFSET.
 /// - `Memory` if an allocation fails.
 pub fn compose(
     alloc: Global,
@@ -325,5 +402,7 @@ pub fn compose(
         Command::Unseal => unsealed_text(alloc, input),
         Command::First => firsts(alloc, state, input),
         Command::Keep => kept(alloc, state, input),
+        Command::Plan(split) => planned(alloc, input, split),
+        Command::Merge(merging) => merged(alloc, input, merging),
     }
 }

@@ -4,6 +4,8 @@ ghost use Rattle.part_core.specs.declared.fault.PartFault.TheVariants.{BadLine};
 
 use cluster_parts::SealFault;
 use nquads_core::ReadFault;
+use query_plan::PlanFault;
+use result_merge::MergeFault;
 
 /// Why a command was not done.
 #[derive(Clone, Copy, Debug, Drop, PartialEq, Eq)]
@@ -22,6 +24,10 @@ pub enum PartFault {
     Write,
     /// The words are not a valid command line.
     Line,
+    /// A rule rejects the query.
+    Query,
+    /// The query cannot be evaluated on the parts of this split, or has OFFSET.
+    Split,
 }
 
 impl PartFault {
@@ -33,6 +39,27 @@ impl PartFault {
             SealFault::Version => PartFault::Version,
             SealFault::Damaged => PartFault::Damaged,
             SealFault::Memory => PartFault::Memory,
+        }
+    }
+
+    /// Returns the fault of a plan.
+    pub(crate) fn of_plan(fault: PlanFault) -> PartFault
+        ensures no_line { (k : ℕ) → result ≡ BadLine k → ⊥ }
+    {
+        match fault {
+            PlanFault::Query => PartFault::Query,
+            PlanFault::Offset | PlanFault::Condition => PartFault::Split,
+            PlanFault::Memory => PartFault::Memory,
+        }
+    }
+
+    /// Returns the fault of results that cannot be merged, under the same name.
+    pub(crate) fn of_merge(fault: MergeFault) -> PartFault
+        ensures no_line { (k : ℕ) → result ≡ BadLine k → ⊥ }
+    {
+        match fault {
+            MergeFault::Damaged => PartFault::Damaged,
+            MergeFault::Memory => PartFault::Memory,
         }
     }
 

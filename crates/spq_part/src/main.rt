@@ -57,10 +57,43 @@ fn run_words(rt: &HostRuntime) -> Result<(), PartFault> {
     run(rt.alloc(), state, &command, &mut reader, &mut writer)
 }
 
+/// Returns the condition of the split that the words name.
+fn condition_of(words: &[String]) -> &[u8] {
+    let split = match words.get(2) {
+        Some(word) => word.as_str(),
+        None => "",
+    };
+    match split {
+        "lines" => {
+            b"spq-part: a query for lines has one triple pattern, perhaps in GRAPH, in each side of UNION, and no OFFSET\n"
+        }
+        "subject" => {
+            b"spq-part: in a query for subject each triple pattern has the same variable as subject, no group is without one, and there is no OFFSET\n"
+        }
+        "graph" => {
+            b"spq-part: in a query for graph each triple pattern is in a GRAPH with the same name, no group is without one, and there is no OFFSET\n"
+        }
+        _ => {
+            b"spq-part: in a query for graph-with-default each GRAPH has the same name, no GRAPH is in another, each side of UNION has one, an OPTIONAL or MINUS with a GRAPH is after one, and there is no OFFSET\n"
+        }
+    }
+}
+
+/// Writes the condition of the split to standard error.
+fn write_condition(rt: &HostRuntime) {
+    if let Ok(words) = words_of(rt) {
+        let mut errors = Device { inner: rt.stderr() };
+        let _written = write_all(&mut errors, condition_of(&words));
+    }
+}
+
 fn main(rt: HostRuntime) -> ExitCode {
     match run_words(&rt) {
         Ok(()) => ExitCode::from(0),
         Err(fault) => {
+            if fault == PartFault::Split {
+                write_condition(&rt);
+            }
             if let Ok(line) = line_of(rt.alloc(), &fault) {
                 let mut writer = Device { inner: rt.stdout() };
                 let _written = write_all(&mut writer, line.as_slice());

@@ -1,0 +1,3 @@
+pub mod WidthLaws
+pub mod CellLaws
+pub mod RowLaws

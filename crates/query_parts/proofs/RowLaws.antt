@@ -1,0 +1,87 @@
+-- The rows of a query over a dataset are the merged rows of the query for the parts.
+use Rattle.std.proofs.Common.{◌≡◌, ℕ, Bool, true, false, List, [], ◌∷◌, ◌++◌, length, drop, map, flat_map, Option, None, Some, IsPermutation, refl, sym, ap, ◌∙◌, subst, append-nil}
+use Rattle.std.specs.Prelude.{unwrap_or}
+use Rattle.std.proofs.lemmas.Bool.{and_parts}
+use Rattle.std.proofs.lemmas.List.{map-append}
+use Rattle.std.proofs.lemmas.List.Sorted.{IsPermutation-map}
+use Rattle.rdf_core.specs.declared.term.Term.{Term}
+use Rattle.rdf_core.specs.QuadParts.{QuadParts}
+use Rattle.rdf_core.proofs.TermLaws.{term_eq, term_decides}
+use Rattle.algebra_model.specs.Algebra.{Algebra, Distinct, Project, is_within}
+use Rattle.algebra_model.specs.Bag.{IsSameBag}
+use Rattle.algebra_model.specs.Eval.{eval}
+use Rattle.algebra_model.specs.Operators.{distinct, project}
+use Rattle.algebra_model.specs.Pieces.{joined}
+use Rattle.algebra_model.specs.RowOrder.{cells, cells_cmp, sorted_rows}
+use Rattle.algebra_model.specs.Solution.{Solution, same_solution}
+use Rattle.algebra_model.specs.Sorted.{limited, slice, sorted_list}
+use Rattle.algebra_model.proofs.BgpLaws.{solution_decides}
+use Rattle.algebra_model.proofs.RepeatLaws.{without_repeats-IsPermutation}
+use Rattle.algebra_model.proofs.RowOrderLaws.{cells_cmp_total, cells_equal}
+use Rattle.algebra_model.proofs.SortedLaws.{sorted_of_bag}
+use Rattle.sparql_tree.specs.QueryTree.{QueryTree}
+use Rattle.sparql_algebra.specs.Names.{names_of}
+use Rattle.sparql_algebra.specs.Translation.{distinct_where, projection, translate, translate_group}
+use Rattle.sparql_algebra.proofs.WithinLaws.{translated_within}
+use Rattle.spq_core.specs.Outcome.{rows}
+use Rattle.row_merge.specs.Merged.{Row, Table, kept, merged}
+use Rattle.row_merge.proofs.NestLaws.{merges_nest}
+use Rattle.query_split.proofs.SplitLaws.{parts_have_all}
+use Rattle.query_split.specs.ForParts.{for_parts}
+use Rattle.query_parts.specs.Laws.{PartsGiveRows}
+use Rattle.query_parts.proofs.WidthLaws.{wide}
+use Rattle.query_parts.proofs.CellLaws.{cells-distinct, cells-project}
+
+-- the rows of a query's group over a dataset, in no order, with their repeats
+abbrev table_of : QueryTree → List QuadParts → Table
+table_of q D = map (cells (projection q)) (eval (length (names_of q)) D None (translate_group (names_of q) q.group))
+
+-- the rows of the query's expression
+rows_are : (once : Bool) (vs : List ℕ) (w : ℕ) (D : List QuadParts) (A : Algebra)
+    → map (cells vs) (eval w D None (distinct_where once (Project vs A))) ≡ kept once (map (cells vs) (eval w D None A))
+rows_are true vs w D A = cells-distinct vs w (eval w D None A) (wide w D A None)
+rows_are false vs w D A = cells-project vs (eval w D None A)
+
+rows_of : (q : QueryTree) (D : List QuadParts) → rows q D ≡ slice (unwrap_or q.offset 0) q.limit (sorted_list cells_cmp (kept q.distinct (table_of q D)))
+unfolding rows
+rows_of q D =
+    ap (λ l. slice (unwrap_or q.offset 0) q.limit (sorted_list cells_cmp l)) (rows_are q.distinct (projection q) (length (names_of q)) D (translate_group (names_of q) q.group))
+
+within : (once : Bool) (vs : List ℕ) (w : ℕ) (A : Algebra) → is_within w (distinct_where once (Project vs A)) ≡ true → is_within w A ≡ true
+within true vs w A h = (and_parts _ _ h).1
+within false vs w A h = (and_parts _ _ h).1
+
+kept_bag : (once : Bool) (xs ys : List Row) → IsPermutation xs ys → IsPermutation (kept once xs) (kept once ys)
+kept_bag true xs ys h = without_repeats-IsPermutation (same_solution term_eq) (solution_decides term_eq term_decides) xs ys h
+kept_bag false xs ys h = h
+
+-- the table of each part in a group of its own
+abbrev groups : QueryTree → List (List QuadParts) → List (List Table)
+groups q [] = []
+groups q (p ∷ parts) = (table_of q p ∷ []) ∷ groups q parts
+
+tables : (q : QueryTree) (parts : List (List QuadParts)) → joined (joined (groups q parts)) ≡ map (cells (projection q)) (flat_map (λ p. eval (length (names_of q)) p None (translate_group (names_of q) q.group)) parts)
+tables q [] = refl
+tables q (p ∷ parts) =
+    let E = λ (D : List QuadParts). eval (length (names_of q)) D None (translate_group (names_of q) q.group) in
+    ap (λ l. table_of q p ++ l) (tables q parts) ∙ sym (map-append (cells (projection q)) (E p) (flat_map E parts))
+
+part_rows : (q : QueryTree) (limit : Option ℕ) (parts : List (List QuadParts)) → map (rows (for_parts limit q)) parts ≡ map (merged q.distinct 0 limit) (groups q parts)
+part_rows q limit [] = refl
+part_rows q limit (p ∷ parts) =
+    λ i. (rows_of (for_parts limit q) p ∙ ap (λ l. slice 0 limit (sorted_list cells_cmp (kept q.distinct l))) (sym (append-nil (table_of q p)))) i ∷ part_rows q limit parts i
+
+pub parts_give_rows : PartsGiveRows
+parts_give_rows split key q splittable limit enough D part parts are same =
+    let w = length (names_of q) in
+    let A = translate_group (names_of q) q.group in
+    let o = unwrap_or q.offset 0 in
+    let all = part ∷ parts in
+    let inside = within q.distinct (projection q) w A (translated_within q) in
+    let bag = IsPermutation-map (cells (projection q)) (eval w D None A) (flat_map (λ p. eval w p None A) all) (parts_have_all split key w A inside splittable D part parts are same) in
+    let T = map (cells (projection q)) (flat_map (λ p. eval w p None A) all) in
+    rows_of q D
+    ∙ ap (slice o q.limit) (sorted_of_bag cells_cmp cells_cmp_total cells_equal (kept q.distinct (table_of q D)) (kept q.distinct T) (kept_bag q.distinct (table_of q D) T bag))
+    ∙ ap (λ l. slice o q.limit (sorted_list cells_cmp (kept q.distinct l))) (sym (tables q all))
+    ∙ sym (merges_nest q.distinct o q.limit limit (groups q all) enough)
+    ∙ ap (merged q.distinct o q.limit) (sym (part_rows q limit all))

@@ -1,0 +1,24 @@
+-- What the law of this crate says.
+use Rattle.std.specs.Prelude.{◌≡◌, ℕ, true, List, ◌∷◌, Option, map, unwrap_or}
+use Rattle.rdf_core.specs.QuadParts.{QuadParts}
+use Rattle.algebra_model.specs.Bag.{IsSameSet}
+use Rattle.algebra_model.specs.Pieces.{joined}
+use Rattle.sparql_tree.specs.QueryTree.{QueryTree}
+use Rattle.spq_core.specs.Outcome.{rows}
+use Rattle.row_merge.specs.Merged.{IsEnough, merged}
+use Rattle.query_split.specs.declared.split.Split.{Split}
+use Rattle.query_split.specs.Condition.{Key}
+use Rattle.query_split.specs.Parts.{AreParts}
+use Rattle.query_split.specs.ForParts.{for_parts, is_splittable}
+
+-- The rows of a query over a dataset are the merged rows of the query for the parts.
+abbrev pub PartsGiveRows : Type 0
+PartsGiveRows =
+    (split : Split) (key : Key) (q : QueryTree)
+    → is_splittable split key q ≡ true
+    → (limit : Option ℕ)
+    → IsEnough limit (unwrap_or q.offset 0) q.limit
+    → (D part : List QuadParts) (parts : List (List QuadParts))
+    → AreParts split part parts
+    → IsSameSet D (joined (part ∷ parts))
+    → rows q D ≡ merged q.distinct (unwrap_or q.offset 0) q.limit (map (rows (for_parts limit q)) (part ∷ parts))

@@ -1,0 +1,12 @@
+//! The law of queries over the parts of a dataset.
+//!
+//! [`laws::parts_give_the_rows`] says that the rows of a query over a dataset are the merged rows of its parts. The crate
+//! query_split has the conditions on queries and parts, row_merge defines how rows are merged, and spq_core defines the rows
+//! of a query.
+//!
+//! Standard: SPARQL 1.1 Query Language, sections 15 and 18.
+//!
+//! Reading order: specs/Laws.antt, `laws`. The crate has no code to run; the prover checks the law.
+#![tactic(auto)]
+
+pub mod laws;

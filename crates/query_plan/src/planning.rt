@@ -1,0 +1,171 @@
+//! Whether a query can be evaluated on the parts of a dataset, and how their results are merged.
+ghost use Rattle.std.specs.Prelude.{◌≡◌, true, IfOk};
+ghost use Rattle.sparql_tree.specs.QueryTree.{query_of};
+ghost use Rattle.sparql_algebra.specs.AlgebraOf.{algebra_of};
+ghost use Rattle.query_split.specs.Condition.{Key, is_apart};
+ghost use Rattle.query_split.specs.ForParts.{is_splittable};
+ghost use Rattle.query_plan.specs.Planned.{IsPlan, IsPlanOf, below_project, below_projection};
+
+use crate::condition::is_apart;
+use query_split::Split;
+use sparql_algebra::{GraphName, Operator, translate};
+use sparql_read::{Query, QueryFault, read_query};
+use std::alloc::{AllocError, Global};
+
+/// How the results of the parts are merged. The parts evaluate the query itself.
+#[derive(Clone, Copy, Debug, Drop, PartialEq, Eq)]
+pub struct MergePlan {
+    /// Whether each row is listed once.
+    pub distinct: bool,
+    /// The largest number of rows.
+    pub limit: Option<u64>,
+}
+
+/// Why a query cannot be evaluated on the parts of a dataset.
+#[derive(Clone, Copy, Debug, Drop, PartialEq, Eq)]
+pub enum PlanFault {
+    /// A rule rejects the text of the query.
+    Query,
+    /// The query has OFFSET.
+    Offset,
+    /// The query does not meet the condition of the split.
+    Condition,
+    /// Out of memory.
+    Memory,
+}
+
+/// Returns the tree below a Project at the root.
+fn below_project(tree: &Operator) -> &Operator
+    ensures value { algebra_of result.now ≡ below_project (algebra_of tree.now) }
+{
+    match tree {
+        Operator::Project { inner, .. } => inner,
+        Operator::Pattern { .. }
+        | Operator::Join { .. }
+        | Operator::LeftJoin { .. }
+        | Operator::Union { .. }
+        | Operator::Minus { .. }
+        | Operator::Graph { .. }
+        | Operator::Filter { .. }
+        | Operator::Extend { .. }
+        | Operator::Distinct { .. }
+        | Operator::Table { .. } => tree,
+    }
+}
+
+/// Returns the tree of the group, below Distinct and Project.
+fn below_projection(tree: &Operator) -> &Operator
+    ensures value { algebra_of result.now ≡ below_projection (algebra_of tree.now) }
+{
+    match tree {
+        Operator::Distinct { inner } => below_project(inner),
+        Operator::Pattern { .. }
+        | Operator::Join { .. }
+        | Operator::LeftJoin { .. }
+        | Operator::Union { .. }
+        | Operator::Minus { .. }
+        | Operator::Graph { .. }
+        | Operator::Filter { .. }
+        | Operator::Extend { .. }
+        | Operator::Project { .. }
+        | Operator::Table { .. } => below_project(tree),
+    }
+}
+
+/// Returns the first name after GRAPH.
+fn first_graph(tree: &Operator) -> Option<&GraphName> {
+    match tree {
+        Operator::Graph { name, .. } => Some(name),
+        Operator::Join { left, right } => first_graph(left).or(first_graph(right)),
+        Operator::LeftJoin { left, right, .. } => first_graph(left).or(first_graph(right)),
+        Operator::Union { left, right } => first_graph(left).or(first_graph(right)),
+        Operator::Minus { left, right } => first_graph(left).or(first_graph(right)),
+        Operator::Filter { inner, .. } => first_graph(inner),
+        Operator::Extend { inner, .. } => first_graph(inner),
+        Operator::Project { inner, .. } => first_graph(inner),
+        Operator::Distinct { inner } => first_graph(inner),
+        Operator::Pattern { .. } | Operator::Table { .. } => None,
+    }
+}
+
+/// Returns whether each solution of the tree comes from one part, with one of the variables as key.
+fn is_apart_by_variable(tree: &Operator, split: &Split, variables: usize) -> bool
+    ensures key { result ≡ true → (key : Key) × (is_apart split.now key (algebra_of tree.now) ≡ true) }
+{
+    for variable in 0..variables {
+        if is_apart(tree, split, &GraphName::Variable(variable)) {
+            return true;
+        }
+    }
+    false
+}
+
+/// Returns whether each solution of the tree comes from one part, with the first name after GRAPH as key.
+fn is_apart_by_name(tree: &Operator, split: &Split) -> bool
+    ensures key { result ≡ true → (key : Key) × (is_apart split.now key (algebra_of tree.now) ≡ true) }
+{
+    match first_graph(tree) {
+        Some(name) => is_apart(tree, split, name),
+        None => false,
+    }
+}
+
+/// Returns whether each solution of the tree comes from one part.
+fn comes_from_parts(tree: &Operator, split: &Split, variables: usize) -> bool
+    ensures key { result ≡ true → (key : Key) × (is_apart split.now key (algebra_of tree.now) ≡ true) }
+{
+    match split {
+        Split::Lines => is_apart_by_variable(tree, split, 1),
+        Split::Subject => is_apart_by_variable(tree, split, variables),
+        Split::Graph | Split::GraphWithDefault => is_apart_by_name(tree, split),
+    }
+}
+
+/// Returns whether the query meets the condition of the split.
+fn meets_condition(alloc: Global, query: &Query, split: &Split) -> Result<bool, AllocError>
+    ensures key { IfOk result
+        (λ met. met ≡ true → (key : Key) × (is_splittable split.now key (query_of query.now) ≡ true)) }
+{
+    let plan = translate(alloc, query)?;
+    let met = comes_from_parts(below_projection(&plan.tree), split, plan.names.len());
+    drop(plan);
+    Ok(met)
+}
+
+/// Plans a query that no rule rejects.
+fn plan_query(alloc: Global, query: &Query, split: &Split) -> Result<MergePlan, PlanFault>
+    ensures plan { IfOk result (IsPlanOf split.now (query_of query.now)) }
+{
+    if query.offset.is_some() {
+        return Err(PlanFault::Offset);
+    }
+    match meets_condition(alloc, query, split) {
+        Ok(true) => Ok(MergePlan {
+            distinct: query.distinct,
+            limit: query.limit,
+        }),
+        Ok(false) => Err(PlanFault::Condition),
+        Err(_failed) => Err(PlanFault::Memory),
+    }
+}
+
+/// Plans how a query is evaluated on the parts of a dataset: each part evaluates the query, and the results are merged.
+///
+/// # Errors
+/// - `Query` if a rule rejects the text.
+/// - `Offset` if the query has OFFSET.
+/// - `Condition` if the query does not meet the condition of the split.
+/// - `Memory` if an allocation fails.
+pub fn plan(alloc: Global, text: &str, split: &Split) -> Result<MergePlan, PlanFault>
+    ensures plan { IfOk result (IsPlan split.now text.now) }
+{
+    match read_query(alloc, text) {
+        Ok(query) => {
+            let made = plan_query(alloc, &query, split);
+            drop(query);
+            made
+        }
+        Err(QueryFault::Memory) => Err(PlanFault::Memory),
+        Err(_rejected) => Err(PlanFault::Query),
+    }
+}

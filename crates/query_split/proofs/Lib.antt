@@ -1,0 +1,4 @@
+pub mod OperatorSplits
+pub mod PatternSplits
+pub mod KeyedLaws
+pub mod SplitLaws

@@ -1,0 +1,4 @@
+pub mod Condition
+pub mod Parts
+pub mod ForParts
+pub mod Laws

@@ -1,0 +1,11 @@
+use Rattle.std.proofs.Common.{◌∙◌, ap, subst, sym}
+use Rattle.algebra_model.specs.Sorted.{slice}
+use Rattle.result_merge.specs.Reading.{AreColumns}
+use Rattle.result_merge.proofs.FinalSteps.{is_merged}
+use Rattle.result_merge.proofs.merging.merge_rows.Goals as goal
+
+pub returns : goal.returns
+returns c = record {
+  merged = is_merged c.args.distinct c.args.offset c.args.limit c.args.names.now c.deref.result.now c.args.head.now c.args.input.now c.in_ok-made.made.items c.in_ok-rows.rows.items c.order_rows.new.rows.items c.sliced.result.now
+      c.requires.head (subst (AreColumns c.args.names.now) (sym c.deref.ensures.value) c.in_ok-columns.ensures.columns) c.in_ok-rows.ensures.rows c.in_ok-order_rows.ensures.rows (c.sliced.ensures.value ∙ ap (slice c.args.offset c.args.limit) c.deref-2.ensures.value) c.in_ok-made.ensures.text;
+}

@@ -1,0 +1,3 @@
+pub mod ZipLaws
+pub mod NestLaws
+pub mod OnceLaws
