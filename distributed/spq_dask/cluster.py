@@ -1,81 +1,94 @@
-"""The scheduler, the progress bar, and how failures of tasks become a status and a line."""
+"""The scheduler, the tasks of a command, and how what Dask raises becomes a status and a line."""
 from __future__ import annotations
 
 import contextlib
 import logging
 import os
+import socket
 import sys
-import tempfile
 import time
 import warnings
-import zipfile
 from concurrent.futures import CancelledError
-from typing import Any, Iterator, Optional
+from typing import Any, Iterator, Optional, Sequence
 
 import dask
 from dask.delayed import Delayed
-from distributed import Client, Future, LocalCluster, TimeoutError, progress
-from distributed.comm import CommClosedError, get_address_host
-from distributed.diagnostics.plugin import UploadFile
-from distributed.scheduler import KilledWorker
+from dask.highlevelgraph import HighLevelGraph
+from distributed import Client, Future, KilledWorker, LocalCluster, TimeoutError, wait
+from distributed.comm import CommClosedError
 
-from .cutting import DEVICE, Failed, Source
-from .program import MALLOC, MALFORMED, MEMORY, Malformed, Spq, versions
+from .blocks import Block, size_of
+from .program import MALFORMED, MEMORY, Failed, Malformed, Programs, Sent, one_line, versions
 
+GROUPS, LEAST_GROUPS = 4, 64  # the groups of blocks for each worker, and at least for all
+GROUP = 8  # a group has not more than this part of a worker's memory, if it has several blocks
+UNLIMITED = 4 << 30  # taken for the memory of a worker without a limit
+MOST_PARTITIONS = 65_536  # of spq-part
 SILENCE = 60  # seconds without a worker until a line says so
-POLL = 5  # seconds between two looks for workers
+POLL = 2  # seconds between two looks for workers
+REPLY = 60  # seconds until an answer of the scheduler must come
+LOOK = 15  # seconds until the workers' versions are compared without those of workers that do not answer
 
 
 @contextlib.contextmanager
 def connected(scheduler: Optional[str], processes: Optional[int], debug: bool = False) -> Iterator[Client]:
     """Connects to a scheduler, or starts one here with this number of worker processes, each with one thread.
 
-    Without an address the scheduler is the one that Dask's configuration names.
-    Workers elsewhere get this package from here. Raises `Failed` if there is no scheduler at the address.
+    Without an address the scheduler is the one that Dask's configuration names. Raises `Failed` if there is none.
     """
     level = logging.WARNING if debug else logging.CRITICAL  # failures are reported in one line
     for name in ("asyncio", "distributed", "distributed.client", "tornado", "tornado.application"):
         logging.getLogger(name).setLevel(level)
     warnings.filterwarnings("ignore", "Port .* is already in use", UserWarning)  # another port is taken then
     scheduler = scheduler or dask.config.get("scheduler-address", None)
-    if not scheduler:
-        options = {"n_workers": processes, "threads_per_worker": 1, "silence_logs": level}
-        memory = {"GLIBC_TUNABLES": MALLOC, "MALLOC_TRIM_THRESHOLD_": 1 << 40}
-        # On one machine compression takes longer than what it saves. Dask samples what a worker does, a hundred times a second.
-        settings = {"comm.compression": None, "nanny.pre-spawn-environ": memory, "worker.profile.interval": "1s"}
-        with dask.config.set({f"distributed.{name}": value for name, value in settings.items()}):
-            with LocalCluster(**options) as cluster, Client(cluster) as client:
-                yield client
-        return
-    try:
-        client = Client(scheduler)
-    except (OSError, ValueError, ImportError) as error:
-        raise Failed(MEMORY, "error: worker", f"no scheduler at {scheduler}: {error}") from None
-    with client:
-        upload_package(client)
+    with contextlib.ExitStack() as stack:
+        try:
+            if not scheduler:
+                scheduler = stack.enter_context(LocalCluster(n_workers=processes, threads_per_worker=1, silence_logs=level))
+            client = stack.enter_context(Client(scheduler))
+        except (OSError, ValueError, ImportError) as error:
+            raise Failed(MEMORY, "error: worker", f"no scheduler at {scheduler}: {one_line(error)}") from None
         yield client
 
 
-def upload_package(client: Client, folder: str = os.path.dirname(os.path.abspath(__file__))) -> None:
-    """Gives this package to the workers, also to those that join later. Those that have loaded another version keep it."""
-    with tempfile.TemporaryDirectory() as place:
-        path = os.path.join(place, "spq_dask.zip")
-        with zipfile.ZipFile(path, "w") as archive:
-            for name in sorted(os.listdir(folder)):
-                if name.endswith(".py"):
-                    archive.write(os.path.join(folder, name), f"spq_dask/{name}")
-        client.register_worker_plugin(UploadFile(path), name="spq_dask")
+@contextlib.contextmanager
+def failures() -> Iterator[None]:
+    """Raises `Failed` in place of what Dask raises."""
+    try:
+        yield
+    except KilledWorker as error:
+        place = error.last_worker.address
+        raise Failed(MEMORY, "error: worker", f"workers die of the task {error.task}; the last one was {place}") from None
+    except (CommClosedError, CancelledError, TimeoutError, OSError) as error:
+        raise Failed(MEMORY, "error: worker", f"the connection to the scheduler was lost: {one_line(error)}") from None
 
 
-class Waiting:
-    """Waits for workers: with a line on standard error after a minute, and not longer than `seconds`."""
+@Sent
+def look(spq: str, part: str) -> tuple[str, str]:
+    """Returns the name of a worker's machine, and the versions of the programs there."""
+    return socket.gethostname(), versions(spq, part)
 
-    def __init__(self, client: Client, seconds: float) -> None:
-        self.client, self.seconds, self.since, self.told = client, seconds, time.monotonic(), False
 
-    def look(self) -> bool:
+class Run:
+    """Runs the tasks of one command. It waits not longer than `seconds` for a worker."""
+
+    def __init__(self, client: Client, quiet: bool, seconds: float = 300) -> None:
+        self.client, self.quiet, self.seconds = client, quiet, seconds
+        self.since, self.told = time.monotonic(), False
+        with failures():
+            while not self.has_workers():
+                time.sleep(0.1)
+            self.workers = len(self.addresses())
+            limits = [worker["memory_limit"] or UNLIMITED for worker in client.scheduler_info()["workers"].values()]
+            self.memory = min(limits, default=UNLIMITED)
+
+    def addresses(self) -> list[str]:
+        """Returns the addresses of the workers. Raises `TimeoutError` if the scheduler does not answer."""
+        return list(self.client.ncores(callback_timeout=REPLY))
+
+    def has_workers(self) -> bool:
         """Returns whether there is a worker. Raises `Failed` if there was none for too long."""
-        if self.client.ncores():
+        if self.addresses():
             self.since, self.told = time.monotonic(), False
             return True
         waited, address = time.monotonic() - self.since, self.client.scheduler.address
@@ -86,112 +99,88 @@ class Waiting:
             self.told = True
         return False
 
+    def programs(self, spq: str, part: str, threads: int) -> Programs:
+        """Returns the programs. Raises `Failed` if two workers have other versions, or one of them lacks a program.
 
-def wait_for_workers(client: Client, seconds: float) -> None:
-    """Waits until there is a worker. Raises `Failed` after this time."""
-    waiting = Waiting(client, seconds)
-    while not waiting.look():
-        time.sleep(0.1)
-
-
-def compare_versions(client: Client, spq: Spq) -> None:
-    """Raises `Failed` if two workers have programs of different versions, or one of them has none."""
-    first = wanted = None
-    for address, version in client.run(versions, spq, on_error="return").items():
-        if isinstance(version, Failed):
-            raise version
-        if isinstance(version, OSError):  # the worker is gone
-            continue
-        if isinstance(version, Exception):
-            raise Failed(MEMORY, "error: worker", f"{get_address_host(address)}: {one_line(version)}")
-        if wanted is None:
-            first, wanted = get_address_host(address), version
-        elif version != wanted:
-            raise Failed(MEMORY, "error: worker", f"{first} has {wanted}, but {get_address_host(address)} has {version}")
-
-
-def shown(path: str) -> str:
-    """Returns how a message names a file: by its path from the current folder, if it is in there."""
-    return os.path.relpath(path) if path.startswith(os.getcwd() + os.sep) else path
-
-
-def one_line(error: BaseException) -> str:
-    """Returns the kind and the message of an exception, in one line."""
-    return f"{type(error).__name__}: {error}".partition("\n")[0]
-
-
-class Run:
-    """Runs tasks for one command, with or without a progress bar on standard error."""
-
-    def __init__(self, client: Client, quiet: bool, seconds: float = 300) -> None:
-        self.client, self.quiet, self.seconds = client, quiet, seconds
-        self.workers = sum(client.ncores().values())
-
-    def partitions(self, blocks: int) -> int:
-        """Returns how many partitions what is smaller than the blocks is spread over. There are not more than blocks."""
-        return max(1, min(blocks, max(self.workers, blocks // 8)))
-
-    def start(self, tasks: list[Delayed]) -> list[Delayed]:
-        """Starts tasks, and returns the tasks, whose results stay on the workers."""
-        return self.client.persist(tasks)
-
-    def result(self, future: Future) -> Any:
-        """Returns the result of a task. Raises `Failed` if there is no worker for too long, or no scheduler."""
-        waiting = Waiting(self.client, self.seconds)
-        while True:
-            try:
-                return future.result(timeout=POLL)
-            except TimeoutError:
-                if future.done():  # it ended meanwhile, or this is the failure of the task
-                    return future.result()
-            with failures():
-                waiting.look()
-
-    def results(self, tasks: list[Delayed]) -> list[Any]:
-        """Runs tasks and returns their results, which are small. Raises `Failed` for the first task that fails."""
-        futures = self.client.compute(tasks)
-        self.show(futures)
-        with failures():
-            return [self.result(future) for future in futures]
-
-    def checked(self, sources: list[Source], tasks: list[Delayed]) -> list[Any]:
-        """Runs a task for each block, which returns a `Checked`, and returns the results.
-
-        Raises `Failed` for the first block that is malformed or fails, and for a file that was changed meanwhile.
+        Workers that do not answer soon are left out. (Each task compares the versions again.)
         """
-        futures = self.client.compute(tasks)
-        self.show(futures)
-        lines, before, file, found = 0, 0, None, []
+        found: list[tuple[str, str]] = []
         with failures():
-            for source, future in zip((source for source in sources for _ in source.blocks), futures):
-                if source is not file:
-                    file, before = source, lines
-                try:
-                    found.append(self.result(future))
-                except Malformed as malformed:
-                    line = lines + malformed.number
-                    raise Failed(MALFORMED, f"error: line {line}", f"{shown(source.path)}: line {line - before}") from None
-                lines += found[-1].lines
-        sizes = iter(found)
-        for source in sources:
-            size = sum(next(sizes).size for _ in source.blocks)
-            if source.size is not None and size != source.size:
-                raise Failed(DEVICE, "error: input", f"{source.path} was changed while it was read")
-        return found
+            while not found:
+                asked = [self.client.submit(look, spq, part, workers=[one], pure=False) for one in self.addresses()]
+                with contextlib.suppress(TimeoutError):
+                    wait(asked, timeout=LOOK)
+                found = [one.result() for one in asked if one.done()]
+                self.has_workers()
+        for host, seen in found:
+            if seen != found[0][1]:
+                raise Failed(MEMORY, "error: worker", f"{found[0][0]} has {found[0][1]}, but {host} has {seen}")
+        return Programs(spq=spq, part=part, threads=threads, host=found[0][0], versions=found[0][1])
 
-    def show(self, futures: list[Future]) -> None:
-        """Shows a progress bar, until all tasks are done or one fails."""
-        if not self.quiet and futures:
-            with contextlib.redirect_stdout(sys.stderr):
-                progress(futures, notebook=False)
+    def groups(self, blocks: list[Block]) -> list[list[Block]]:
+        """Returns the blocks in groups, each for one task."""
+        groups: list[list[Block]] = []
+        most, room = -(-len(blocks) // max(LEAST_GROUPS, GROUPS * self.workers)), -1
+        for block in blocks:
+            room -= size_of(block)
+            if room < 0 or len(groups[-1]) == most:
+                groups.append([])
+                room = self.memory // GROUP - size_of(block)
+            groups[-1].append(block)
+        return groups
 
+    def partitions(self, blocks: list[Block], part: int) -> int:
+        """Returns the number of partitions: one for each worker, or one for this part of a worker's memory."""
+        total = sum(map(size_of, blocks))
+        return max(1, min(len(blocks), MOST_PARTITIONS, max(self.workers, total // (self.memory // part))))
 
-@contextlib.contextmanager
-def failures() -> Iterator[None]:
-    """Raises `Failed` in place of what Dask raises."""
-    try:
-        yield
-    except KilledWorker as error:
-        raise Failed(MEMORY, "error: worker", f"workers die of this task: {error}") from None
-    except (CommClosedError, CancelledError) as error:
-        raise Failed(MEMORY, "error: worker", f"the connection to the scheduler was lost: {one_line(error)}") from None
+    def compute(self, tasks: Sequence[Delayed]) -> list[Future]:
+        """Starts tasks. (Their graphs become one, since Dask takes long for many small ones.)"""
+        graph = dict(HighLevelGraph.merge(*(task.dask for task in tasks)))
+        return self.client.get(graph, [task.key for task in tasks], sync=False)
+
+    def start(self, tasks: Sequence[Delayed]) -> list[Delayed]:
+        """Starts tasks, and returns them. Their results stay on the workers."""
+        return [Delayed(future.key, {future.key: future}) for future in self.compute(tasks)]
+
+    def results(self, tasks: Sequence[Delayed]) -> list[Any]:
+        """Runs tasks and returns their results, which are small. Raises `Failed` for the first one that fails."""
+        return list(self.in_order(tasks, len(tasks)))
+
+    def in_order(self, tasks: Sequence[Delayed], ahead: int) -> Iterator[Any]:
+        """Yields the results of tasks in order, and runs only some of them ahead. Raises `Failed` for one that fails."""
+        running: list[Optional[Future]] = []
+        with failures():
+            for place in range(len(tasks)):
+                some = tasks[len(running) : place + ahead]
+                running += self.compute(some) if some else []
+                future, running[place] = running[place], None
+                while not future.done():
+                    self.show(place, len(tasks))
+                    with contextlib.suppress(TimeoutError):
+                        wait(future, timeout=POLL)
+                    self.has_workers()
+                yield future.result()
+            self.show(len(tasks), len(tasks), "\n")
+
+    def show(self, done: int, tasks: int, end: str = "") -> None:
+        """Shows how many of some tasks are done, on standard error."""
+        if not self.quiet:
+            print(f"\r{done} of {tasks} tasks", end=end, file=sys.stderr, flush=True)
+
+    def lines(self, groups: list[list[Block]], tasks: list[Delayed]) -> None:
+        """Runs a task for each group, which returns the numbers of lines of its blocks.
+
+        Raises `Failed` for the first block that is malformed or fails.
+        """
+        lines: list[int] = []
+        try:
+            for some in self.in_order(tasks, len(tasks)):
+                lines += some
+        except Malformed as malformed:
+            lines += malformed.before
+            blocks = [block for group in groups for block in group]
+            first = max(place for place in range(len(lines) + 1) if blocks[place]["start"] == 0)  # of the same file
+            line = sum(lines[first:]) + malformed.number
+            path = blocks[first]["file"].path.removeprefix(os.getcwd() + os.sep)
+            raise Failed(MALFORMED, f"error: line {sum(lines[:first]) + line}", f"{path}: line {line}") from None

@@ -1,127 +1,139 @@
-"""The command `select`: runs the query in the parts, and merges their rows."""
+"""The command `select`: runs a query over the parts of a document, and merges their rows.
+
+The laws of crates/query_split, query_parts and row_merge say that this is the output of one `spq`.
+"""
 from __future__ import annotations
 
-import sys
-from dataclasses import dataclass
 from itertools import islice
-from operator import attrgetter
-from typing import Iterator
+from typing import Iterable, Sequence
 
 import numpy
 from dask import delayed
 from dask.delayed import Delayed
 
-from . import outline, parts, program
-from .cluster import Run
-from .counting import Checked, Item, split
-from .cutting import Block, Failed, Source, count_lines
-from .program import MEMORY, Spq
-from .rows import Row, head, merged, rows
-from .shuffle import shuffled
+from .blocks import Block, read
+from .cluster import MOST_PARTITIONS, Run
+from .counting import BEFORE, Item, for_each, in_rows, join, split
+from .program import COMMAND_LINE, MEMORY, Failed, Malformed, Programs, Text, array, body, count_lines, failed, on_worker, output, outputs, sealed
+from .program import run as run_program
 
-ROWS_AT_ONCE = 10_000
-MOST_PARTITIONS = 65_536  # of spq-part
+PIECE = 1 << 18  # the least bytes of a block that a thread of `spq` reads; best where it has one
+PARTITION = 64  # a partition is for this part of a worker's memory; `spq` needs several times as much
+AT_ONCE = 16  # results that one task merges
 
-
-@dataclass(frozen=True)
-class Part:
-    """The sorted rows of a part; if the part is a block, with its lines and bytes."""
-
-    checked: Checked
-    rows: list[Row]
+# The words of the last merge, those of the merges before it, and the query for the parts.
+Plan = tuple[list[str], list[str], str]
 
 
-def select(run: Run, sources: list[Source], spq: Spq, text: str, what: str, default_in_all: bool) -> Iterator[bytes]:
-    """Yields what `spq select` prints for the whole.
+def command(programs: Programs, query: str) -> list[str]:
+    """Returns the command line that evaluates a query."""
+    return [programs["spq"], "select", "--workers", str(programs["threads"]), "--piece", str(PIECE), "--query", query]
 
-    Raises `Failed` if the query is rejected, or may not be split in this way, or the document is malformed.
-    """
-    [(status, output)] = run.results([delayed(select_from)(spq, text, b"")])
+
+def planned(run: Run, programs: Programs, query: str, how: str) -> Plan:
+    """Returns the plan of a query. Raises `Failed` if the query is rejected, or may not be split in this way."""
+    [(status, said)] = run.results([delayed(plan)(programs, query, how)])
+    if status == COMMAND_LINE:
+        option = how.replace("graph-with-default", "graph --replicate-default-graph")
+        reason = f"the query does not meet the condition of --split {option} (docs/PARTS.md), or has OFFSET"
+        raise Failed(COMMAND_LINE, "error: command line", reason)
     if status:
-        raise Failed(status, output.decode().strip())
-    query = outline.read(text)
-    query.require(what, default_in_all)
-    blocks = [block for source in sources for block in source.blocks]
-    if what == "lines":
-        found = run.start([delayed(select_block)(spq, block, query.for_parts()) for block in blocks])
-        run.checked(sources, [delayed(attrgetter("checked"))(part) for part in found])
+        raise Failed(status, said.decode().strip())
+    last, before, text = said.decode().split("\n", 2)
+    return last.split(), before.split(), text
+
+
+@on_worker
+def plan(programs: Programs, query: str, how: str) -> tuple[int, bytes]:
+    """Runs a query over an empty document, and then `plan`. Returns the status and the output."""
+    status, said = run_program(command(programs, query), [])
+    return (status, said) if status else run_program([programs["part"], "plan", how], [query.encode()])
+
+
+def select(run: Run, blocks: list[Block], programs: Programs, plan: Plan, how: str) -> bytes:
+    """Returns what `spq select` prints for the whole. Raises `Failed` if the document is malformed."""
+    last, before, query = plan
+    if how == "lines":
+        groups = run.groups(blocks)
+        found = run.start([delayed(select_blocks)(programs, group, query, before) for group in groups])
+        run.lines(groups, [one[1] for one in found])
+        results = [one[0] for one in found]
     else:
-        found = split_by_key(run, sources, spq, blocks, query.for_parts(), what, default_in_all)
-    counts = run.results([delayed(number_of_rows)(spq, part) for part in found])
-    streams = [stream(run, spq, part, count) for part, count in zip(found, counts)]
-    end = None if query.limit is None else min(query.offset + query.limit, sys.maxsize)
-    yield head(output).encode()
-    separator = ""
-    for _, row in islice(merged(streams, query.distinct), min(query.offset, sys.maxsize), end):
-        yield (separator + row).encode()
-        separator = ","
-    yield b"]}}\n"
+        results = by_key(run, blocks, programs, query, before, how)
+    while len(results) > AT_ONCE:
+        some = [results[start : start + AT_ONCE] for start in range(0, len(results), AT_ONCE)]
+        results = [delayed(merge)(programs, before, these) for these in some]
+    [text] = run.results([delayed(merge)(programs, last, results)])
+    return text.tobytes()
 
 
-def select_from(spq: Spq, query: str, text: bytes) -> tuple[int, bytes]:
-    """Runs a query over a text. Returns the status and the output."""
-    return program.run(spq.select(query), [text])
+def merged(programs: Programs, words: list[str], results: Iterable[Text]) -> bytes:
+    """Returns results as one."""
+    return output([programs["part"], *words], results)
 
 
-def select_block(spq: Spq, block: Block, query: str) -> Part:
-    """Runs a query over a block of lines."""
-    text = block.read()
-    found = list(merged([rows(output) for output in program.outputs(spq.select(query), text)], False))
-    return Part(Checked(count_lines(text), len(text)), found)
+@on_worker
+def merge(programs: Programs, words: list[str], results: Sequence[numpy.ndarray]) -> numpy.ndarray:
+    """Returns results as one."""
+    return array(merged(programs, words, results))
 
 
-def split_by_key(
-    run: Run, sources: list[Source], spq: Spq, blocks: list[Block], query: str, what: str, default_in_all: bool
-) -> list[Delayed]:
-    """Brings the quads with the same key together, and runs the query over each partition."""
-    partitions = len(blocks)
-    splits = run.start([delayed(split)(spq, block, what, partitions) for block in blocks])
-    run.checked(sources, [one[partitions + 1] for one in splits])
-    if not blocks:
-        return []
-    for_all = [one[partitions] for one in splits] if default_in_all else []
-    texts = shuffled(spq, splits, partitions, together)
-    return run.start([delayed(select_partition)(spq, some, for_all, query, what, partitions) for some in texts])
+@on_worker
+def select_blocks(programs: Programs, blocks: list[Block], query: str, words: list[str]) -> tuple[numpy.ndarray, list[int]]:
+    """Runs a query over blocks of lines, and merges the rows. Returns them with the numbers of lines."""
+    found: list[bytes] = []
+    lines: list[int] = []
+    for block in blocks:
+        text = read(block)
+        try:
+            found += outputs(command(programs, query), text)
+        except Malformed as malformed:
+            raise Malformed(lines, malformed.number) from None
+        lines.append(count_lines(text))
+    return array(merged(programs, words, found)), lines
 
 
-def together(spq: Spq, items: list[Item]) -> list[numpy.ndarray]:
-    """Returns the sealed texts that the blocks have for a partition."""
-    return [text for (text,) in items]
+def by_key(run: Run, blocks: list[Block], programs: Programs, query: str, words: list[str], how: str) -> list[Delayed]:
+    """Brings the quads with the same key together, and returns the tasks that run the query over each partition.
 
-
-def select_partition(
-    spq: Spq, texts: list[numpy.ndarray], for_all: list[numpy.ndarray], query: str, what: str, partitions: int
-) -> Part:
-    """Runs a query over the quads of a partition and those that all parts get. A part without a key has no rows.
-
-    A part that needs too much memory is split in two, by the number of twice as many partitions.
+    The quads of the default graph have no key in a split by graph: the first partition gets them, or each one.
     """
-    if not any(parts.is_not_empty(text.tobytes()) for text in texts):
-        return Part(Checked(0, 0), [])
-    document = program.output([spq.part, "unseal"], [*for_all, *texts])
-    command = spq.select(query)
-    status, output = program.run(command, [document])
+    key, partitions, groups = how.partition("-")[0], run.partitions(blocks, PARTITION), run.groups(blocks)
+    splits = run.start([delayed(split)(programs, group, key, partitions) for group in groups])
+    run.lines(groups, [one[partitions + 1] for one in splits])
+    others = [delayed(join)(programs, [one[partitions] for one in splits])]
+    return run.start(
+        [
+            delayed(evaluate)(programs, rows, [] if how == "graph" and place else others, query, words, how, partitions)
+            for place, rows in enumerate(for_each(partitions, splits))
+        ]
+    )
+
+
+@on_worker
+def evaluate(
+    programs: Programs, rows: list[list[Item]], others: list[Text], query: str, words: list[str], how: str, partitions: int
+) -> numpy.ndarray:
+    """Runs a query over the quads of a partition, and others."""
+    return array(evaluated(programs, [text for (text,) in in_rows(rows)], others, query, words, how, partitions))
+
+
+def evaluated(
+    programs: Programs, texts: list[Text], others: list[Text], query: str, words: list[str], how: str, partitions: int
+) -> bytes:
+    """Evaluates a query. A partition that needs too much memory is split in two, by twice as many partitions."""
+    part, asked = programs["part"], command(programs, query)
+    status, said = run_program(asked, [output([part, "unseal"], [*others, *texts])])
     if status == 0:
-        return Part(Checked(0, 0), rows(output))
-    if status != MEMORY or 2 * partitions > MOST_PARTITIONS:
-        raise program.failed(command, status, output)
-    whole = program.output([spq.part, "unseal"], texts)
-    halves = list(parts.sealed(program.output([spq.part, "split", what, str(2 * partitions)], [whole])))[2:]
-    found = [select_partition(spq, [parts.array(bytes(half))], for_all, query, what, 2 * partitions).rows for half in halves]
-    return Part(Checked(0, 0), list(merged(found, False)))
-
-
-def number_of_rows(spq: Spq, part: Part) -> int:
-    """Returns the number of rows of a part."""
-    return len(part.rows)
-
-
-def some_rows(spq: Spq, part: Part, start: int) -> list[Row]:
-    """Returns the rows of a part from this one on, not more than are sent at once."""
-    return part.rows[start : start + ROWS_AT_ONCE]
-
-
-def stream(run: Run, spq: Spq, part: Delayed, count: int) -> Iterator[Row]:
-    """Yields the rows of a part, which come from its worker some at a time."""
-    for start in range(0, count, ROWS_AT_ONCE):
-        yield from run.result(run.client.compute(delayed(some_rows)(spq, part, start)))
+        return said
+    some: list[Text] = []
+    if status == MEMORY and 2 * partitions <= MOST_PARTITIONS:
+        key = how.partition("-")[0]
+        halves = sealed(output([part, "split", key, str(2 * partitions)], [output([part, "unseal"], texts)]))
+        some = [half for half in islice(halves, BEFORE[key], None) if body(half)]
+    if not some:
+        raise failed(asked, status, said)
+    found = []
+    for half in some:
+        found.append(evaluated(programs, [half], [] if how == "graph" and found else others, query, words, how, 2 * partitions))
+    return merged(programs, words, found)

@@ -3,22 +3,20 @@ import gzip
 import os
 import random
 import re
-import shutil
-import signal
 import subprocess
+import sys
 import unittest
 import urllib.request
 from unittest import mock
 
 import testing
-from spq_dask import shuffle
-from spq_dask.cluster import upload_package
+from spq_dask import cluster, counting, selecting
 from testing import ROOT, file, script, spq, spq_dask
 
 CATALOGUE = os.path.join(ROOT, "docs", "tour", "library.nq")
 PREFIX = "PREFIX dct: <http://purl.org/dc/terms/> PREFIX lib: <http://library.example/terms#> "
 QUERIES = [
-    (["--split", "lines"], "SELECT ?title { ?w dct:title ?title } LIMIT 4 OFFSET 2"),
+    (["--split", "lines"], "SELECT ?title { ?w dct:title ?title } LIMIT 4"),
     (["--split", "lines"], "SELECT DISTINCT ?g { GRAPH ?g { ?a ?b ?c } }"),
     (["--split", "subject"], "SELECT ?w ?t ?p { ?w dct:title ?t OPTIONAL { ?w lib:price ?p } MINUS { ?w a lib:Map } }"),
     (["--split", "subject"], "SELECT ?shelf ?w { GRAPH ?g { ?c lib:of ?w ; lib:shelf ?shelf } }"),
@@ -58,7 +56,7 @@ class Catalogue(unittest.TestCase):
                     said = spq(["select", "--query", query], source.read())[1]
             with self.subTest(words=words):
                 self.assertEqual((ran.returncode, ran.stdout), (status, said), ran.stderr)
-                self.assertEqual(b"100% Completed" in ran.stderr, status == 0)
+                self.assertEqual(re.search(rb"(\d+) of \1 tasks", ran.stderr) is not None, status == 0)
                 if "--quiet" in words:
                     self.assertRegex(ran.stderr, rb"^spq-dask: \S*document.nq: line 4\n$")
                 self.assertNotIn(b"Traceback", ran.stderr)
@@ -75,32 +73,22 @@ class Catalogue(unittest.TestCase):
         ran = subprocess.run(["bash"], input=lines, capture_output=True, text=True, cwd=place, env=testing.environment())
         self.assertEqual(ran.stdout.split(mark)[:-1], [shown for _, shown in commands])
 
-    def test_other_version(self):
-        """A worker that has another version of the package is named; no block is read."""
-        folder = os.path.join(ROOT, "distributed", "spq_dask")
-        other = os.path.join(os.path.dirname(file(b"")), "other")
-        shutil.copytree(folder, other)
-        with open(os.path.join(other, "program.py"), "a") as source:
-            source.write("# another version\n")
-        every = [["check"], ["terms"], ["select", "--split", "subject", "--query", "SELECT * { ?s ?p ?o }"]]
-        for words in every:  # the workers load this version
-            self.assertEqual(spq_dask(words, CATALOGUE)[0], 0)
-        before = testing.workers()
-        upload_package(testing.CLIENT, other)
+    def test_other_package(self):
+        """Workers that have another package of this name run the code of this one."""
+        place = os.path.join(os.path.dirname(file(b"")), "other")
+        os.makedirs(os.path.join(place, "spq_dask"))
+        for name in ["__init__", "program", "counting", "cluster", "selecting"]:
+            with open(os.path.join(place, "spq_dask", name + ".py"), "w") as source:
+                source.write("split = count = look = sealed = None\n")
+        testing.CLIENT.run(lambda: sys.path.insert(0, place))
         try:
-            testing.start_worker()
-            testing.CLIENT.wait_for_workers(4, timeout=60)
-            status, said, told = spq_dask(["check"], CATALOGUE)
-            self.assertEqual((status, said), (4, b"error: worker\n"))
-            self.assertIn("restart the workers", told)
+            with open(CATALOGUE, "rb") as source:
+                text = source.read()
+            for words in [["check"], ["terms"]]:
+                self.assertEqual(spq_dask([*words, "--blocksize", "2KiB"], CATALOGUE)[:2], spq(words, text))
+            self.assertEqual(spq_dask(["check"], file(b"\nx"))[:2], (1, b"error: line 2\n"))
         finally:
-            for address, process in testing.workers().items():
-                if address not in before:
-                    os.kill(process, signal.SIGKILL)
-            testing.wait_for(lambda: len(testing.CLIENT.ncores()) == 3)
-            upload_package(testing.CLIENT, folder)
-        for words in every:
-            self.assertEqual(spq_dask(words, CATALOGUE)[0], 0)
+            testing.CLIENT.run(lambda: sys.path.remove(place))
 
     def test_dashboard(self):
         link = testing.CLIENT.dashboard_link.removesuffix("/status")
@@ -167,17 +155,30 @@ class Forms(unittest.TestCase):
     def test_many_rows(self):
         """A part of more rows than are sent at once, and limits beyond 64 bits."""
         text = b"".join(b'<a:s%d> <a:p> "%d" .\n' % (k, k % 99) for k in range(12_000))
-        for query in ["SELECT * { ?s ?p ?o }", "SELECT ?o { ?s ?p ?o } LIMIT 9223372036854775808 OFFSET 11000", "SELECT DISTINCT ?o { ?s ?p ?o } LIMIT 99999999999999999999999"]:
+        for query in ["SELECT * { ?s ?p ?o }", "SELECT ?o { ?s ?p ?o } LIMIT 9223372036854775808", "SELECT DISTINCT ?o { ?s ?p ?o } LIMIT 99999999999999999999999"]:
             asked = ["select", "--query", query]
             for split in ["lines", "subject"]:
                 self.assertEqual(spq_dask([*asked, "--split", split, "--blocksize", "1MiB"], file(text))[:2], spq(asked, text))
 
     def test_many_partitions(self):
-        """More pairs of blocks and partitions than there are tasks for."""
+        """More partitions than workers, and groups of several blocks."""
         query = "SELECT * { GRAPH ?g { ?s ?p ?o } }"
-        with mock.patch.object(shuffle, "MOST_TASKS", 3):
-            for words, options in [(["check"], []), (["terms"], []), (["select", "--query", query], ["--split", "subject"])]:
-                self.assertEqual(spq_dask([*words, *options, "--blocksize", "200"], file(self.TEXT))[:2], spq(words, self.TEXT))
+        commands = [(["check"], []), (["terms"], []), *((["select", "--query", query], ["--split", how]) for how in ["lines", "subject", "graph"])]
+        commands.append((["select", "--query", "SELECT * { GRAPH ?g { ?s ?p ?o } ?a ?b ?c }"], ["--split", "graph", "--replicate-default-graph"]))
+        commands += [(["select", "--query", f"{query} LIMIT 30"], ["--split", how]) for how in ["lines", "graph"]]
+        with mock.patch.object(counting, "PARTITION", 1 << 23), mock.patch.object(selecting, "PARTITION", 1 << 23):
+            for least, most in [(1, 1_000), (64, 1_000), (64, 3)]:
+                with mock.patch.object(counting, "MOST_PAIRS", most), mock.patch.object(cluster, "LEAST_GROUPS", least), mock.patch.object(cluster, "GROUPS", 1), mock.patch.object(selecting, "AT_ONCE", 2):
+                    for words, options in commands:
+                        with self.subTest(words=words, least=least, most=most):
+                            self.assertEqual(spq_dask([*words, *options, "--blocksize", "100"], file(self.TEXT))[:2], spq(words, self.TEXT))
+                    for words in [["check"], ["terms"]]:
+                        bad = file(self.TEXT), file(self.TEXT[:1000].rpartition(b"\n")[0] + b"\nx\n"), file(self.TEXT)
+                        status, said, told = spq_dask([*words, "--blocksize", "100"], *bad)
+                        whole = b"".join(open(path, "rb").read() for path in bad)
+                        self.assertEqual((status, said), spq(words, whole))
+                        line = open(bad[1], "rb").read().count(b"\n")
+                        self.assertEqual(told, f"spq-dask: {bad[1]}: line {line}\n")
 
     def test_no_line_feed(self):
         text = self.TEXT.replace(b"\n", b"\r")
@@ -213,7 +214,8 @@ class Malformed(unittest.TestCase):
             if place % 2:
                 bad[39] = b"x"
             text = b"".join(bad)
-            for words, options in [(["check"], []), (["terms"], []), (["select", "--query", "SELECT * { ?s ?p ?o }"], ["--split", "subject"])]:
+            asked = ["select", "--query", "SELECT * { ?s ?p ?o }"]
+            for words, options in [(["check"], []), (["terms"], []), (asked, ["--split", "subject"]), (asked, ["--split", "lines"])]:
                 if place % 9 and words != ["check"]:
                     continue
                 with self.subTest(place=place, words=words):

@@ -10,10 +10,10 @@ import unittest
 from typing import Any
 
 import testing
-from spq_dask import counting
+from spq_dask.blocks import cut
 from spq_dask.cluster import Run
-from spq_dask.cutting import Failed, sources
-from spq_dask.program import Spq
+from spq_dask.counting import check
+from spq_dask.program import Failed
 from testing import file, script, spq, spq_dask
 
 TEXT = b"".join(b"<a:s%d> <a:p> _:b%d .\n" % (k % 50, k) for k in range(400))
@@ -35,11 +35,12 @@ class Files(unittest.TestCase):
 
     def failed(self, change) -> Failed:
         path = file(TEXT)
-        found = sources([path], 1000, 3)
+        run, found = Run(testing.CLIENT, True), cut([path], 1000, 3)
         change(path)
         with self.assertRaises(Failed) as failed:
-            counting.check(Run(testing.CLIENT, True), found, Spq(testing.SPQ, 1, testing.PART))
+            check(run, found, run.programs(testing.SPQ, testing.PART, 1))
         self.assertIn(path, failed.exception.reason)
+        self.assertIn(socket.gethostname(), failed.exception.reason)
         return failed.exception
 
     def test_disappears(self):
@@ -47,6 +48,10 @@ class Files(unittest.TestCase):
 
     def test_is_cut_short(self):
         self.assertEqual(self.failed(lambda path: os.truncate(path, TEXT.index(b"\n", 3000) + 1)).line, "error: input")
+
+    def test_is_changed(self):
+        """The size is the same, but not the time of the last change."""
+        self.assertEqual(self.failed(lambda path: os.utime(path, (1, 1))).line, "error: input")
 
     def test_is_of_no_protocol(self):
         for url in ["nowhere://x/y.nq", "http://127.0.0.1:9/x.nq"]:
@@ -92,6 +97,7 @@ class Queries(unittest.TestCase):
             (["--split", "graph"], "SELECT * { GRAPH ?g { ?a ?b ?c } GRAPH ?h { ?a ?b ?c } }"),
             (["--split", "subject"], "SELECT * { ?a ?b ?c . ?c ?d ?e }"),
             (["--split", "lines"], "SELECT * { ?a ?b ?c . ?c ?d ?e }"),
+            (["--split", "lines"], "SELECT * { ?a ?b ?c } OFFSET 1"),
         ]:
             status, said, told = spq_dask(["select", "--query", text, *options], path)
             self.assertEqual((status, said), (3, b"error: command line\n"))
@@ -113,6 +119,19 @@ class Programs(unittest.TestCase):
         self.assertIn("spq-part", told)
         later = script('[ "$1" = split ] || exec "$PART" "$@"; "$PART" "$@" | LC_ALL=C sed "s/^spq-part 1 .*/spq-part 1 9.9.9/"')
         self.assertEqual(spq_dask(["check", "--blocksize", "1KiB"], file(TEXT), part=later)[:2], (4, b"error: worker\n"))
+
+    def test_version_changes(self):
+        """A program is replaced while a command runs: the tasks after that compare its version, too."""
+        for name, program in [("spq", "SPQ"), ("part", "PART")]:
+            mark = file(b"", "mark")
+            changes = f'[ "$1" = --version ] && [ -s {mark} ] && exec echo 9.9.9; case "$1" in split|select) echo >> {mark};; esac; exec "${program}" "$@"'
+            for words in [["check"], ["terms"], ["select", "--split", "subject", "--query", "SELECT * { ?a ?b ?c }"]]:
+                if name == "spq" and words[0] != "select":
+                    continue
+                os.truncate(mark, 0)
+                status, said, told = spq_dask([*words, "--blocksize", "1KiB"], file(TEXT), **{"program" if name == "spq" else name: script(changes)})
+                self.assertEqual((status, said), (4, b"error: worker\n"))
+                self.assertIn("9.9.9", told)
 
     def test_part_is_missing(self):
         status, said, told = spq_dask(["check"], file(TEXT), part="/nowhere/spq-part")

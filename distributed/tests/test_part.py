@@ -5,7 +5,7 @@ import unittest
 
 import documents
 import testing
-from spq_dask import parts
+from spq_dask import program
 from testing import spq
 
 PARTITIONS = 3
@@ -22,7 +22,7 @@ def texts(*words: str, text: bytes = b"") -> list[bytes]:
     """Returns the sealed texts that `spq-part` writes."""
     status, said = part(*words, text=text)
     assert status == 0, said
-    return list(map(bytes, parts.sealed(said)))
+    return list(map(bytes, program.sealed(said)))
 
 
 def blocks(dice: random.Random, text: bytes) -> list[bytes]:
@@ -47,7 +47,7 @@ def check(cut: list[bytes]) -> bytes:
     repeated = part("join", text=b"".join(again for _, again in pairs))[1]
     again = [texts("again", str(PARTITIONS), text=repeated + block) for block in cut]
     count = lambda some: sum(int(part("count", text=text)[1]) for text in some)
-    quads = sum(parts.number(memoryview(single)) for single, _ in pairs) + count(b"".join(those) for those in zip(*again))
+    quads = sum(program.number(memoryview(single)) for single, _ in pairs) + count(b"".join(those) for those in zip(*again))
     return b"ok %d quads %d terms %d graphs\n" % (quads, count(columns[0::3]), count(columns[1::3]))
 
 
@@ -81,7 +81,7 @@ class Part(unittest.TestCase):
     def test_numbers_of_lines(self):
         for text, count in [(b"", 0), (b"\n", 1), (b"# c\r\n\r# d", 3)]:
             for what in ["check", "terms", "subject", "graph"]:
-                self.assertEqual(parts.number(memoryview(texts("split", what, "1", text=text)[0])), count)
+                self.assertEqual(program.number(memoryview(texts("split", what, "1", text=text)[0])), count)
 
     def test_faults(self):
         sealed = part("split", "terms", "1", text=b"<a:b> <a:b> <a:b> .\n")[1]

@@ -10,7 +10,6 @@ from typing import Iterator, Optional, Sequence
 
 from distributed import Client
 
-from spq_dask.cluster import upload_package
 from spq_dask.command import run_words
 
 ROOT = os.path.dirname(os.path.dirname(os.path.dirname(os.path.abspath(__file__))))
@@ -66,7 +65,6 @@ def cluster() -> Iterator[None]:
                 for _ in range(3):
                     start_worker()
                 CLIENT.wait_for_workers(3, timeout=60)
-                upload_package(CLIENT)
                 yield
         finally:
             stop()
