@@ -110,24 +110,24 @@ def thing(number):
     return f"<http://e.example/{number:07}>"
 
 
-def links(n, count):
-    """Links between 2,000 things: nearly no term is new."""
-    return f"{thing(n // 2000 % 2000)} {thing(2000 + n // 4000000)} {thing(n % 2000)} ."
+# The terms of statement n about numbered things.
+OF_THINGS = {
+    # Links between 2,000 things: nearly no term is new.
+    "links": lambda n: (thing(n // 2000 % 2000), thing(2000 + n // 4000000), thing(n % 2000)),
+    # A new short literal in each statement.
+    "literals": lambda n: (thing(n % 1000), thing(1000), f'"value {n}"'),
+    # A new short subject and a new short object in each statement.
+    "resources": lambda n: (thing(2 * n), thing(1), thing(2 * n + 3)),
+}
 
 
-def literals(n, count):
-    """A new short literal in each statement."""
-    return f'{thing(n % 1000)} {thing(1000)} "value {n}" .'
-
-
-def resources(n, count):
-    """A new short subject and a new short object in each statement."""
-    return f"{thing(2 * n)} {thing(1)} {thing(2 * n + 3)} ."
+def of_things(terms_of):
+    return lambda n, count: " ".join(terms_of(n)) + " ."
 
 
 # By the name that datasets.py has for each.
-SHAPES = {it.__name__.replace("_", "-"): it for it in (
-    mix, plain, tabs, no_spaces, crlf, comments, graphs, new, escapes, one_subject, long, links, literals, resources)}
+SHAPES = {it.__name__.replace("_", "-"): it for it in (mix, plain, tabs, no_spaces, crlf, comments, graphs, new, escapes, one_subject, long)}
+SHAPES |= {name: of_things(terms_of) for name, terms_of in OF_THINGS.items()}
 EACH = {"long": 500}
 
 

@@ -40,7 +40,8 @@ SECTIONS = [
      ["load", "load_blocks", "Store::dict", "Store::index", "Store::quads", "Store::terms", "Store::graphs"], ["Store", "LoadFault"]),
     ("dataset_load", "Loading from a reader", ["load_reader", "count_reader", "load_terms", "read_blocks"], ["LoadNotes", "Counted", "ReaderFault"]),
     ("spq_core", "Evaluating a query", ["answer"], ["Fault"]),
-    ("spq_core", "The program", ["read_command", "run", "run_words", "write_fault", "finish", "status"], ["Command", "CommandFault", "RunFault", "Ran"]),
+    ("spq_core", "The program", ["read_command", "run", "run_words"], ["Command", "CommandFault", "Ran"]),
+    ("spq_run", "The end of the program", ["write_fault", "finish", "status"], ["RunFault"]),
 ]
 
 

@@ -1,7 +1,7 @@
 """Draws docs/architecture.svg: the crates and how data flows through them. `tests/pages.py --write` writes it."""
 
 DIAGRAM = "docs/architecture.svg"
-WIDTH, HEIGHT = 1080, 876
+WIDTH, HEIGHT = 1080, 892
 STYLE = """  <style>
     text { font-family: "DejaVu Sans", "Helvetica Neue", Arial, sans-serif; font-size: 12px; fill: #1f2933; }
     .name { font-size: 14px; font-weight: bold; }
@@ -52,7 +52,7 @@ def arrow(*points):
 
 def parts():
     """Yields the elements of the drawing, from top to bottom."""
-    yield box(40, 20, 1000, "spq, spq_command, spq_core",
+    yield box(40, 20, 1000, "spq, spq_command, spq_core, spq_run",
               "main passes arguments, standard input and standard output to run_words, which reads the command line, checks the query, loads, evaluates and writes",
               kind="program")
     # A document becomes a dataset.
@@ -102,7 +102,8 @@ def parts():
     yield box(293, 692, 240, "algebra_model", "definitions and laws", "of the SPARQL algebra;", "query_laws: laws of queries", kind="base", height=102)
     yield box(546, 692, 240, "piece_pool", "worker threads run the", "tasks of a job; numbers from", "piece_board, a lock-free counter", kind="base", height=102)
     yield box(799, 692, 241, "spq_report", "messages: line_diagnosis, excerpt,", "query_diagnosis, command_help,", "query_notes, malformed_lines", kind="program", height=102)
-    yield box(40, 814, 1000, "spq_part", "what spq-dask runs for a part of a document: part_core; cluster_parts, the laws of its counts", kind="program")
+    yield box(40, 814, 1000, "spq_part", "what spq-dask runs for parts of a document: part_core; cluster_parts splits and counts, query_plan plans, result_merge merges;",
+              "query_split, query_parts, row_merge and partition_laws: the laws of splitting and merging", kind="program")
 
 
 def svg():

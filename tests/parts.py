@@ -78,17 +78,17 @@ class Queries:
             return "{ " + one + " " + self.row_by_row() + " }"
         return " UNION ".join(side() for _ in range(self.dice.randint(1, 3)))
 
-    def keyed(self, subject, depth):
-        """Returns a group in which each part begins with a triple of this subject."""
+    def keyed(self, subject, depth, is_in_graph=False):
+        """Returns a group in which each part begins with a triple of this subject. No GRAPH is in another."""
         made = self.triple(subject)
         for _ in range(self.dice.randrange(4)):
             if depth == 0:
                 made += " " + self.triple(subject)
                 continue
-            inner = lambda: "{ " + self.keyed(subject, depth - 1) + " }"
+            inner = lambda is_graph=is_in_graph: "{ " + self.keyed(subject, depth - 1, is_graph) + " }"
             made += " " + self.dice.choice([
                 self.triple(subject), self.condition(), "OPTIONAL " + inner(), "MINUS " + inner(), inner(),
-                inner() + " UNION " + inner(), "GRAPH ?g " + inner(), "VALUES ?a { e:a '1' UNDEF }"])
+                inner() + " UNION " + inner(), inner() if is_in_graph else "GRAPH ?g " + inner(True), "VALUES ?a { e:a '1' UNDEF }"])
         return made
 
     def free(self, depth):

@@ -16,7 +16,7 @@ from sources import ROOT
 
 PAGE, MAN, COMPLETION = "docs/USAGE.md", "docs/spq.1", "completions/spq.bash"
 COMMAND_LINE, TEXTS, PROGRAM = "crates/spq_command/src/command_line.rt", "crates/command_help/src/texts.rt", "crates/command_help/src/program.rt"
-REPORT, WORDS, GRAMMAR = "crates/spq_core/specs/Report.antt", "crates/sparql_lexer/specs/Words.antt", "crates/sparql_grammar/specs/Productions.antt"
+REPORT, WORDS, GRAMMAR = "crates/spq_run/specs/Report.antt", "crates/sparql_lexer/specs/Words.antt", "crates/sparql_grammar/specs/Productions.antt"
 DESCRIPTION = "evaluate a SPARQL SELECT query over an N-Quads document, or check the document"
 # The constants of an option: the most, and the default.
 LIMITS = {"workers": ("MOST_WORKERS", "WORKERS"), "piece": ("MOST_BYTES", "BYTES"), "rows": ("MOST_ROWS", "ROWS")}
