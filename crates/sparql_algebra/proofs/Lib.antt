@@ -6,3 +6,5 @@ pub mod ProjectionSteps
 pub mod RepeatSteps
 pub mod TreeSteps
 pub mod WithinLaws
+pub mod SideLaws
+pub mod BasicPatternLaws

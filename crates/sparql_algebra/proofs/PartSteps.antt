@@ -1,9 +1,8 @@
 -- A group that is read element by element.
-use Rattle.std.proofs.Common.{◌≡◌, ℕ, zero, suc, ◌+◌, ◌<◌, List, [], ◌∷◌, ◌++◌, length, get_or, map, drop, drop-cons, add-one, append_assoc, Option, Some, None, refl, sym, ap, ◌∙◌}
+use Rattle.std.proofs.Common.{◌≡◌, ℕ, ◌+◌, ◌<◌, List, [], ◌∷◌, ◌++◌, length, get_or, map, drop, drop-cons, add-one, append_assoc, refl, sym, ap, ◌∙◌}
 use Rattle.sparql_tree.specs.ExpressionTree as tree
 use Rattle.sparql_tree.specs.ExpressionTree.{ExpressionTree, Expressions}
-use Rattle.sparql_tree.specs.GroupTree.{GroupTree, ElementTree, none, then, onto}
-use Rattle.algebra_model.specs.Expression.{Expression}
+use Rattle.sparql_tree.specs.GroupTree.{GroupTree, ElementTree, then, onto}
 use Rattle.sparql_algebra.specs.Names.{Name}
 use Rattle.sparql_algebra.specs.Translation.{Part, add_element, group_part, translate_expression, translate_members}
 

@@ -1,5 +1,5 @@
 -- The meaning of elements that hold groups, and of expressions that hold lists.
-use Rattle.std.proofs.Common.{◌≡◌, ℕ, List, map, sym, ◌∙◌, ap, Box, Vec, Global}
+use Rattle.std.proofs.Common.{◌≡◌, sym, ◌∙◌, ap, Box, Vec, Global}
 use Rattle.sparql_tree.specs.ExpressionTree as expression
 use Rattle.sparql_tree.specs.ExpressionTree.{ExpressionTree, expression_of, expressions_of, expression_step}
 use Rattle.sparql_tree.specs.GroupTree as element

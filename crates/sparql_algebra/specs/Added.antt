@@ -1,6 +1,6 @@
 -- A group with one more element; the program has translated what the element adds. Only private
 -- clauses use this definition.
-use Rattle.std.specs.Prelude.{List, [], ◌++◌}
+use Rattle.std.specs.Prelude.{List, ◌++◌}
 use Rattle.algebra_model.specs.Algebra as algebra
 use Rattle.expression_values.specs.ExpressionOf.{expression_of}
 use Rattle.sparql_algebra.specs.AlgebraOf.{algebra_of}

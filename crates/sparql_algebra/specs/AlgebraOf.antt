@@ -1,5 +1,5 @@
 -- The algebra expression that the tree of a plan represents, without its layout in memory.
-use Rattle.std.specs.Prelude.{ℕ, List, [], map}
+use Rattle.std.specs.Prelude.{map}
 use Rattle.rdf_core.specs.declared.term.Term.{Term}
 use Rattle.algebra_model.specs.Algebra as algebra
 use Rattle.algebra_model.specs.Algebra.{Algebra, each_graph, one_graph}

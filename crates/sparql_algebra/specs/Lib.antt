@@ -4,3 +4,4 @@ pub mod Names
 pub mod Translation
 pub mod PartOf
 pub mod Added
+pub mod BasicPatterns

@@ -1,7 +1,7 @@
 -- The variables that a query projects: those of the Project at the root, or directly below a
 -- Distinct at the root.
 use Rattle.std.specs.Prelude.{ℕ, List, []}
-use Rattle.algebra_model.specs.Algebra.{Algebra, Pattern, Join, LeftJoin, Union, Minus, Graph, Filter, Extend, Project, Distinct, Table}
+use Rattle.algebra_model.specs.Algebra.{Algebra, Project, Distinct}
 
 abbrev pub top_projected : Algebra → List ℕ
 top_projected (Project vs A) = vs

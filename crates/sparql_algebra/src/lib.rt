@@ -13,9 +13,14 @@
 //! Standard: SPARQL 1.1 Query Language, section 18.2. The crate algebra_model states the
 //! definitions of the algebra.
 //!
+//! `sparql_read` rejects a query in which two basic graph patterns have the same blank node label.
+//! The law [`laws::one_set_of_patterns`] states that the plan has the same basic graph patterns as
+//! that rule, in the same order and with the same labels.
+//!
 //! Reading order: `operator`, `plan` (the tree); `names`, `naming` (the variables of a query and
 //! their numbers); `conversion`, `pattern`, `table`, `constructors`, `operation`, `part`, `addition`,
-//! `group`, `translation` (a query, element by element). Tests: `plans` of the crate query_tests.
+//! `group`, `translation` (a query, element by element); `laws`. Tests: `plans` of the crate
+//! query_tests.
 //!
 //! ```text
 //! translate(alloc, &query)   // SELECT ?x { ?x ?p ?o FILTER (?o < 3) }:
@@ -29,6 +34,7 @@ mod addition;
 mod constructors;
 mod conversion;
 mod group;
+pub mod laws;
 mod names;
 mod naming;
 mod operation;

@@ -6,3 +6,6 @@ pub mod Form
 pub mod Productions
 pub mod Derivation
 pub mod Follow
+pub mod Prologue
+pub mod Mentioned
+pub mod Derives

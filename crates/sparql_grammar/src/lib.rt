@@ -17,7 +17,8 @@
 //! language) has the supported part.
 //!
 //! Reading order: specs/Class.antt, specs/Symbol.antt, specs/Form.antt, specs/Productions.antt,
-//! specs/Derivation.antt, then `laws`; specs/Values.antt, then `declarations`.
+//! specs/Derivation.antt, then `laws`; specs/Values.antt, then `declarations`; specs/Prologue.antt,
+//! specs/Mentioned.antt, specs/Derives.antt (the query of a text).
 //!
 //! Tests: `declarations` and `productions` of the crate query_tests.
 //!

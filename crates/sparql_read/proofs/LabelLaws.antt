@@ -8,7 +8,7 @@ use Rattle.sparql_tree.specs.declared.group.Triple.{Triple}
 use Rattle.sparql_tree.specs.declared.group.Element.{Element}
 use Rattle.sparql_tree.specs.GroupTree.{GroupTree, ElementTree, then, onto, triples, group, union, optional, minus, graph, filter, bind, values, element_of, group_of}
 use Rattle.sparql_read.specs.NameSet.{HaveSame, is_among}
-use Rattle.sparql_read.specs.BlankReuse.{basic_patterns, closed_patterns, ends_run, labels_of, open_after, open_pattern, patterns_inside, shares_labels, triple_labels}
+use Rattle.sparql_tree.specs.BlankReuse.{basic_patterns, closed_patterns, ends_run, labels_of, open_after, open_pattern, patterns_inside, shares_labels, triple_labels}
 use Rattle.sparql_read.specs.LabelSteps.{AddsElement, AddsLabels, AddsPatterns, IsOpenRun, closed_by, run_of, occurs_among}
 use Rattle.sparql_read.proofs.GroupLaws.{group_more, group_rest}
 use Rattle.sparql_read.proofs.SetLaws.{bytes_eq_sym, same_back, same_swapped, same_front, same_refl, same_then, same_trans, same_turned}

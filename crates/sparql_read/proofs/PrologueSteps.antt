@@ -5,7 +5,7 @@ use Rattle.sparql_lexer.specs.declared.token.Token.{Token}
 use Rattle.sparql_lexer.specs.Terminal.{terminals}
 use Rattle.sparql_grammar.specs.declared.declarations.Declaration.{Declaration}
 use Rattle.sparql_grammar.specs.Values.{Names}
-use Rattle.sparql_read.specs.Prologue.{and_declared, declaration_at, declared_onto}
+use Rattle.sparql_grammar.specs.Prologue.{and_declared, declaration_at, declared_onto}
 
 from_cons : (us vs : List Token) (u : Token) (ns : Names) → us ≡ u ∷ vs → declared_onto ns (terminals us) ≡ declared_onto (and_declared (declaration_at (terminals us)) ns) (terminals vs)
 from_cons us vs u ns e = rw e refl

@@ -13,12 +13,12 @@ use Rattle.sparql_grammar.specs.Derivation.{Derivation}
 use Rattle.sparql_read.specs.declared.fault.QueryFault.{QueryFault}
 use Rattle.sparql_read.specs.declared.fault.QueryFault.TheVariants.{Syntax, UndefinedPrefix, RelativeIri, BindScope, BlankReuse, TooDeep, Memory}
 use Rattle.sparql_read.specs.Depth.{is_too_deep}
-use Rattle.sparql_read.specs.Prologue.{declarations, has_undefined_prefix}
+use Rattle.sparql_grammar.specs.Prologue.{declarations, has_undefined_prefix}
 use Rattle.sparql_read.specs.RelativeIri.{has_relative_iri}
 use Rattle.sparql_read.specs.BindScope.{breaks_bind_scope}
-use Rattle.sparql_read.specs.BlankReuse.{reuses_blank}
-use Rattle.sparql_read.specs.Mentioned.{mentioned}
-use Rattle.sparql_read.specs.Derives.{Derives, tree_of}
+use Rattle.sparql_tree.specs.BlankReuse.{reuses_blank}
+use Rattle.sparql_grammar.specs.Mentioned.{mentioned}
+use Rattle.sparql_grammar.specs.Derives.{Derives, tree_of}
 use Rattle.sparql_read.specs.Rejection.{IsReadResult, Applies, IsQueryWith, IsRejectedBy, IsTooDeep, rank}
 use Rattle.sparql_read.specs.Checked.{IsChecked}
 

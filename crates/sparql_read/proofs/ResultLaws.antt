@@ -7,8 +7,8 @@ use Rattle.sparql_grammar.specs.Productions.{right_side}
 use Rattle.sparql_grammar.specs.Derivation.{Derivation}
 use Rattle.sparql_read.specs.declared.fault.QueryFault.{QueryFault}
 use Rattle.sparql_read.specs.declared.fault.QueryFault.TheVariants.{Syntax, UndefinedPrefix, RelativeIri, BindScope, BlankReuse, TooDeep, Memory}
-use Rattle.sparql_read.specs.Prologue.{declarations}
-use Rattle.sparql_read.specs.Derives.{Derives, tree_of}
+use Rattle.sparql_grammar.specs.Prologue.{declarations}
+use Rattle.sparql_grammar.specs.Derives.{Derives, tree_of}
 use Rattle.sparql_read.specs.Rejection.{IsReadResult, IsRejectedBy, rank}
 use Rattle.sparql_read.proofs.RejectionLaws.{OneScan, OneQuery}
 

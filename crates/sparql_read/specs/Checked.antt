@@ -4,10 +4,10 @@ use Rattle.sparql_lexer.specs.Terminal.{Terminal}
 use Rattle.sparql_tree.specs.GroupTree.{GroupTree}
 use Rattle.sparql_read.specs.declared.fault.QueryFault.{QueryFault}
 use Rattle.sparql_read.specs.declared.fault.QueryFault.TheVariants.{Syntax, UndefinedPrefix, RelativeIri, BindScope, BlankReuse, TooDeep, Memory}
-use Rattle.sparql_read.specs.Prologue.{has_undefined_prefix}
+use Rattle.sparql_grammar.specs.Prologue.{has_undefined_prefix}
 use Rattle.sparql_read.specs.RelativeIri.{has_relative_iri}
 use Rattle.sparql_read.specs.BindScope.{breaks_bind_scope}
-use Rattle.sparql_read.specs.BlankReuse.{reuses_blank}
+use Rattle.sparql_tree.specs.BlankReuse.{reuses_blank}
 
 -- the first rule that rejects the query of these terminals and this group, or none
 abbrev pub IsChecked : List Terminal → GroupTree → Result (Unit {0}) QueryFault → Type 0

@@ -5,7 +5,7 @@ use Rattle.std.specs.List.{list_any}
 use Rattle.sparql_tree.specs.declared.group.Triple.{Triple}
 use Rattle.sparql_read.specs.NameSet.{HaveSame, is_among}
 use Rattle.sparql_tree.specs.GroupTree.{ElementTree, triples, group, union, optional, minus, graph, filter, bind, values}
-use Rattle.sparql_read.specs.BlankReuse.{ends_run, labels_of, open_after, patterns_inside, shares_labels}
+use Rattle.sparql_tree.specs.BlankReuse.{ends_run, labels_of, open_after, patterns_inside, shares_labels}
 
 -- The labels before and after those of the patterns are added. The result is true if no label
 -- occurs in two patterns.

@@ -1,11 +1,7 @@
 pub mod Depth
-pub mod Prologue
 pub mod RelativeIri
-pub mod Mentioned
 pub mod NameSet
 pub mod BindScope
-pub mod BlankReuse
-pub mod Derives
 pub mod Rejection
 pub mod ScopeSteps
 pub mod LabelSteps

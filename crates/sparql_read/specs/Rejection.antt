@@ -7,11 +7,11 @@ use Rattle.sparql_tree.specs.QueryTree.{QueryTree, query_of}
 use Rattle.sparql_read.specs.declared.fault.QueryFault.{QueryFault}
 use Rattle.sparql_read.specs.declared.fault.QueryFault.TheVariants.{Syntax, UndefinedPrefix, RelativeIri, BindScope, BlankReuse, TooDeep, Memory}
 use Rattle.sparql_read.specs.Depth.{is_too_deep}
-use Rattle.sparql_read.specs.Prologue.{has_undefined_prefix}
+use Rattle.sparql_grammar.specs.Prologue.{has_undefined_prefix}
 use Rattle.sparql_read.specs.RelativeIri.{has_relative_iri}
 use Rattle.sparql_read.specs.BindScope.{breaks_bind_scope}
-use Rattle.sparql_read.specs.BlankReuse.{reuses_blank}
-use Rattle.sparql_read.specs.Derives.{Derives}
+use Rattle.sparql_tree.specs.BlankReuse.{reuses_blank}
+use Rattle.sparql_grammar.specs.Derives.{Derives}
 
 -- brackets are nested too deep in the terminals of the text, up to the first place where there is
 -- no terminal

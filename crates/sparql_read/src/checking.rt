@@ -3,7 +3,7 @@
 ghost use Rattle.std.specs.Prelude.{◌≡◌};
 ghost use Rattle.sparql_lexer.specs.Terminal.{terminals};
 ghost use Rattle.sparql_tree.specs.GroupTree.{group_of};
-ghost use Rattle.sparql_read.specs.Prologue.{declarations};
+ghost use Rattle.sparql_grammar.specs.Prologue.{declarations};
 ghost use Rattle.sparql_read.specs.Checked.{IsChecked};
 
 use crate::fault::QueryFault;

@@ -3,7 +3,7 @@
 
 ghost use Rattle.std.specs.Prelude.{◌≡◌, [], ◌∷◌, IfOk};
 ghost use Rattle.sparql_tree.specs.GroupTree.{element_of, group_of};
-ghost use Rattle.sparql_read.specs.BlankReuse.{basic_patterns, ends_run, labels_of, patterns_inside, place_labels, reuses_blank, triple_labels};
+ghost use Rattle.sparql_tree.specs.BlankReuse.{basic_patterns, ends_run, labels_of, patterns_inside, place_labels, reuses_blank, triple_labels};
 ghost use Rattle.sparql_read.specs.LabelSteps.{AddsElement, AddsLabels, AddsPatterns, run_of};
 
 use crate::name_set::NameSet;

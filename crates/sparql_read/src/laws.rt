@@ -5,7 +5,7 @@ ghost use Rattle.std.specs.Prelude.{◌≡◌, ℕ, List, Result, Err};
 ghost use Rattle.sparql_tree.specs.QueryTree.{QueryTree};
 ghost use Rattle.sparql_read.specs.declared.fault.QueryFault.{QueryFault};
 ghost use Rattle.sparql_read.specs.declared.fault.QueryFault.TheVariants.{Memory};
-ghost use Rattle.sparql_read.specs.Derives.{Derives};
+ghost use Rattle.sparql_grammar.specs.Derives.{Derives};
 ghost use Rattle.sparql_read.specs.Rejection.{IsReadResult};
 
 use sparql_grammar::one_query;

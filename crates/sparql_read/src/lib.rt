@@ -23,9 +23,10 @@
 //! and 18.2.1 (BIND and variable scope), 19.8 (grammar). The limit of depth and the rejection of
 //! relative IRIs are choices of this project.
 //!
-//! Reading order: specs/Depth.antt, specs/Prologue.antt, specs/RelativeIri.antt,
-//! specs/BindScope.antt, specs/BlankReuse.antt, specs/Derives.antt, specs/Rejection.antt; then
-//! `depth`, `prologue`, `iris`, `name_set`, `scope`, `labels`, `checking`, `reader`, `laws`.
+//! Reading order: specs/Depth.antt, specs/RelativeIri.antt, specs/BindScope.antt,
+//! specs/Rejection.antt; then `depth`, `prologue`, `iris`, `name_set`, `scope`, `labels`, `checking`,
+//! `reader`, `laws`. `sparql_grammar` defines which tree a text derives, and `sparql_tree` the basic
+//! graph patterns of a group.
 //!
 //! Tests: `texts` of the crate query_tests; `each_rule_is_reported` has a text for each rule.
 //!

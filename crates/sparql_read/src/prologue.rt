@@ -6,7 +6,7 @@ ghost use lib.Utf8.{encodes};
 ghost use Rattle.sparql_lexer.specs.Values.{iri_value};
 ghost use Rattle.sparql_lexer.specs.Terminal.{terminals};
 ghost use Rattle.sparql_grammar.specs.Values.{prefix_of};
-ghost use Rattle.sparql_read.specs.Prologue.{declaration_at, declarations, declared, is_namespace, is_prefix_word, is_prefixed, is_reference, lacks_declaration};
+ghost use Rattle.sparql_grammar.specs.Prologue.{declaration_at, declarations, declared, is_namespace, is_prefix_word, is_prefixed, is_reference, lacks_declaration};
 
 use rdf_core::Text;
 use sparql_grammar::{Declaration, Declarations};

@@ -6,7 +6,7 @@ ghost use Rattle.sparql_lexer.specs.Scan.{Scans};
 ghost use Rattle.sparql_lexer.specs.Terminal.{terminals};
 ghost use Rattle.sparql_parse.specs.Queries.{IsQuery, select_of};
 ghost use Rattle.sparql_read.specs.Depth.{is_too_deep};
-ghost use Rattle.sparql_read.specs.Prologue.{declarations};
+ghost use Rattle.sparql_grammar.specs.Prologue.{declarations};
 ghost use Rattle.sparql_read.specs.Rejection.{IsReadResult, seen};
 
 use crate::checking::check_rules;

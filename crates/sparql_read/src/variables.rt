@@ -3,7 +3,7 @@
 ghost use Rattle.std.specs.Prelude.{◌≡◌, IfOk};
 ghost use Rattle.sparql_lexer.specs.Terminal.{terminals};
 ghost use Rattle.sparql_grammar.specs.Class.{variable_of};
-ghost use Rattle.sparql_read.specs.Mentioned.{mentioned};
+ghost use Rattle.sparql_grammar.specs.Mentioned.{mentioned};
 
 use rdf_core::Text;
 use sparql_lexer::{Kind, Token, text_of};

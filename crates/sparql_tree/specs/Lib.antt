@@ -2,3 +2,4 @@ pub mod ExpressionTree
 pub mod GroupTree
 pub mod QueryTree
 pub mod Scope
+pub mod BlankReuse

@@ -8,7 +8,7 @@
 //! All fields are public. Contracts use plain models of the types, without boxes and vectors:
 //! `expression_of` an [`Expression`] (specs/ExpressionTree.antt), `element_of` an [`Element`]
 //! (specs/GroupTree.antt) and `query_of` a [`Query`] (specs/QueryTree.antt). A [`Triple`] and a
-//! [`VarOrTerm`] are their own models.
+//! [`VarOrTerm`] are their own models. specs/BlankReuse.antt has the basic graph patterns of a group.
 //!
 //! Standard: SPARQL 1.1 Query Language, section 19.8 (grammar).
 //!

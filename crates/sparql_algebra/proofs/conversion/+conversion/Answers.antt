@@ -1,9 +1,8 @@
-use Rattle.std.proofs.Common.{◌≡◌, map, sym, ap, ◌∙◌}
+use Rattle.std.proofs.Common.{map, sym, ap, ◌∙◌}
 use Rattle.algebra_model.specs.Expression.{member}
-use Rattle.sparql_tree.specs.ExpressionTree.{expression_of as tree_of, expressions_of}
-use Rattle.expression_values.specs.ExpressionOf.{expression_of}
+use Rattle.sparql_tree.specs.ExpressionTree.{expression_of as tree_of}
 use Rattle.expression_values.proofs.FoldSteps.{in_stands_for}
-use Rattle.sparql_algebra.specs.Translation.{translate_expression, translate_members}
+use Rattle.sparql_algebra.specs.Translation.{translate_expression}
 use Rattle.sparql_algebra.proofs.PartSteps.{members_of}
 use Rattle.sparql_algebra.proofs.TreeSteps.{member_stands_for}
 use Rattle.sparql_algebra.proofs.conversion.+conversion.Goals as goal

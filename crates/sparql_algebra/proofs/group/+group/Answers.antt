@@ -1,4 +1,4 @@
-use Rattle.std.proofs.Common.{◌≡◌, ◌+◌, drop, map, sym, ap, ◌∙◌}
+use Rattle.std.proofs.Common.{◌+◌, drop, map, sym, ap, ◌∙◌}
 use Rattle.sparql_tree.specs.GroupTree.{element_of, group_of, none}
 use Rattle.sparql_algebra.specs.PartOf.{part_of}
 use Rattle.sparql_algebra.specs.Translation.{add_element, group_part}

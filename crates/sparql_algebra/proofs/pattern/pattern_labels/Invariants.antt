@@ -1,4 +1,4 @@
-use Rattle.std.proofs.Common.{◌≡◌, [], drop, flat_map, map}
+use Rattle.std.proofs.Common.{◌≡◌, [], drop, flat_map}
 use Rattle.std.specs.Str.{bytes_eq}
 use Rattle.indexmap.specs.IndexSet.{insert_all}
 use Rattle.sparql_algebra.specs.Translation.{triple_blanks}

@@ -4,7 +4,7 @@ use Rattle.std.proofs.lemmas.List.{take_all}
 use Rattle.sparql_tree.specs.declared.group.Element.{size-Element}
 use Rattle.sparql_tree.specs.GroupTree.{element_of, group_of}
 use Rattle.sparql_read.specs.NameSet.{HaveSame}
-use Rattle.sparql_read.specs.BlankReuse.{basic_patterns, closed_patterns, open_pattern, patterns_inside, shares_labels}
+use Rattle.sparql_tree.specs.BlankReuse.{basic_patterns, closed_patterns, open_pattern, patterns_inside, shares_labels}
 use Rattle.sparql_read.specs.LabelSteps.{AddsElement, AddsPatterns, IsOpenRun}
 use Rattle.sparql_read.proofs.GroupLaws.{union_deeper, union_denotes}
 use Rattle.sparql_read.proofs.LabelLaws.{element_runs_on, element_ends_run, labels_clash, labels_more, last_clash, patterns_before, patterns_then, run_added}

@@ -1,7 +1,7 @@
 use Rattle.std.proofs.Common.{◌≤◌, ℕ, Bool, List, true, take}
 use Rattle.sparql_tree.specs.declared.group.Element.{size-Element}
 use Rattle.sparql_tree.specs.GroupTree.{element_of, group_of}
-use Rattle.sparql_read.specs.BlankReuse.{closed_patterns, open_pattern, patterns_inside}
+use Rattle.sparql_tree.specs.BlankReuse.{closed_patterns, open_pattern, patterns_inside}
 use Rattle.sparql_read.specs.LabelSteps.{AddsPatterns, IsOpenRun}
 use Rattle.sparql_read.proofs.labels.+labels.Given as goal
 

@@ -1,5 +1,5 @@
 use Rattle.std.proofs.Common.{◌≡◌, true, false, subst, arith}
-use Rattle.sparql_read.specs.BlankReuse.{labels_of}
+use Rattle.sparql_tree.specs.BlankReuse.{labels_of}
 use Rattle.sparql_read.specs.LabelSteps.{AddsLabels}
 use Rattle.sparql_read.proofs.LabelLaws.{pattern_added, pattern_clash}
 use Rattle.sparql_read.proofs.labels.add_pattern.Goals as goal

@@ -1,6 +1,6 @@
 use Rattle.std.proofs.Common.{◌≡◌, ◌++◌, true, subst, arith}
 use Rattle.std.proofs.lemmas.Result.{IfOk-weaker}
-use Rattle.sparql_read.specs.BlankReuse.{place_labels}
+use Rattle.sparql_tree.specs.BlankReuse.{place_labels}
 use Rattle.sparql_read.specs.LabelSteps.{AddsLabels}
 use Rattle.sparql_read.proofs.LabelLaws.{labels_then}
 use Rattle.sparql_read.proofs.labels.add_triple.Goals as goal

@@ -1,5 +1,5 @@
 use Rattle.std.proofs.Common.{◌≡◌, false, subst, arith}
-use Rattle.sparql_read.specs.BlankReuse.{triple_labels}
+use Rattle.sparql_tree.specs.BlankReuse.{triple_labels}
 use Rattle.sparql_read.specs.LabelSteps.{AddsLabels}
 use Rattle.sparql_read.proofs.LabelLaws.{triple_clash}
 use Rattle.sparql_read.proofs.labels.add_triples.Goals as goal

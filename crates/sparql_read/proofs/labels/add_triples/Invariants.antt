@@ -1,5 +1,5 @@
 use Rattle.std.proofs.Common.{true, take}
-use Rattle.sparql_read.specs.BlankReuse.{labels_of}
+use Rattle.sparql_tree.specs.BlankReuse.{labels_of}
 use Rattle.sparql_read.specs.LabelSteps.{AddsLabels}
 use Rattle.sparql_read.proofs.labels.add_triples.Given as goal
 

@@ -1,5 +1,5 @@
 use Rattle.std.proofs.Common.{◌∙◌, sym, ap}
-use Rattle.sparql_read.specs.Prologue.{and_declared}
+use Rattle.sparql_grammar.specs.Prologue.{and_declared}
 use Rattle.sparql_read.proofs.PrologueSteps.{declared_next}
 use Rattle.sparql_read.proofs.prologue.declarations_of.Goals as goal
 use Rattle.sparql_read.proofs.prologue.declarations_of.Goals.{in-Some+in_ok-add, in_default}

@@ -1,7 +1,7 @@
 use Rattle.std.proofs.Common.{◌≡◌, drop}
 use Rattle.std.specs.List.{list_any}
 use Rattle.sparql_lexer.specs.Terminal.{terminals}
-use Rattle.sparql_read.specs.Prologue.{is_undefined}
+use Rattle.sparql_grammar.specs.Prologue.{is_undefined}
 use Rattle.sparql_read.proofs.prologue.has_undefined_prefix.Given as goal
 
 abbrev pub invariant-loop-token : goal.invariant-loop-token

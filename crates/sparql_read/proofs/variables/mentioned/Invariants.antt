@@ -1,6 +1,6 @@
 use Rattle.std.proofs.Common.{◌≡◌, ◌++◌, drop}
 use Rattle.sparql_lexer.specs.Terminal.{terminals}
-use Rattle.sparql_read.specs.Mentioned.{mentioned}
+use Rattle.sparql_grammar.specs.Mentioned.{mentioned}
 use Rattle.sparql_read.proofs.variables.mentioned.Given as goal
 
 abbrev pub invariant-loop-token : goal.invariant-loop-token

@@ -9,9 +9,9 @@ use Rattle.sparql_tree.specs.QueryTree.{QueryTree}
 use Rattle.algebra_model.specs.Algebra.{Algebra, Pattern, Join, LeftJoin, Union, Minus, Graph, Filter, Extend, Project, Distinct, Table}
 use Rattle.algebra_model.specs.Bag.{without_repeats}
 use Rattle.algebra_model.specs.Bgp.{TriplePattern}
-use Rattle.sparql_read.specs.BlankReuse as reuse
-use Rattle.sparql_read.specs.BlankReuse.{basic_patterns}
-use Rattle.sparql_read.specs.Derives.{Derives}
+use Rattle.sparql_tree.specs.BlankReuse as reuse
+use Rattle.sparql_tree.specs.BlankReuse.{basic_patterns}
+use Rattle.sparql_grammar.specs.Derives.{Derives}
 use Rattle.sparql_algebra.specs.Names.{Name, names_of}
 use Rattle.sparql_algebra.specs.Translation as translation
 use Rattle.sparql_algebra.specs.Translation.{translate, translate_pattern}

@@ -9,12 +9,12 @@ use Rattle.sparql_tree.specs.QueryTree.{QueryTree}
 use Rattle.sparql_algebra.specs.Names.{Name, names_of}
 use Rattle.algebra_model.specs.Algebra.{Algebra, Project}
 use Rattle.algebra_model.specs.Expression.{Expression}
-use Rattle.sparql_read.specs.BlankReuse as reuse
-use Rattle.sparql_read.specs.BlankReuse.{basic_patterns, closed_patterns, open_pattern, patterns_inside}
+use Rattle.sparql_tree.specs.BlankReuse as reuse
+use Rattle.sparql_tree.specs.BlankReuse.{basic_patterns, closed_patterns, open_pattern, patterns_inside}
 use Rattle.sparql_algebra.specs.Translation as translation
 use Rattle.sparql_algebra.specs.Translation.{Part, distinct_where, projection, translate, group_part, add_element, translate_side, translate_group, with_pattern, closed, finished, filtered}
-use Rattle.query_laws.specs.BasicPatterns.{patterns_of, translated}
-use Rattle.query_laws.proofs.SideLaws.{HasSides, HasSidesInside, IsSide}
+use Rattle.sparql_algebra.specs.BasicPatterns.{patterns_of, translated}
+use Rattle.sparql_algebra.proofs.SideLaws.{HasSides, HasSidesInside, IsSide}
 
 -- ---- translated runs
 

@@ -8,8 +8,8 @@ use Rattle.sparql_grammar.specs.Symbol.{Select}
 use Rattle.sparql_grammar.specs.Symbol as the
 use Rattle.sparql_grammar.specs.Productions.{right_side}
 use Rattle.sparql_grammar.specs.Derivation.{Derivation}
-use Rattle.sparql_read.specs.Prologue.{declarations}
-use Rattle.sparql_read.specs.Mentioned.{mentioned}
+use Rattle.sparql_grammar.specs.Prologue.{declarations}
+use Rattle.sparql_grammar.specs.Mentioned.{mentioned}
 
 -- the tree of a query, with the variables that occur in its terminals
 abbrev pub tree_of : Select → List Terminal → QueryTree

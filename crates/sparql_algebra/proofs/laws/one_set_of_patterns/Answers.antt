@@ -1,9 +1,9 @@
 use Rattle.std.proofs.Common.{ap}
 use Rattle.std.specs.Str.{bytes_eq}
 use Rattle.algebra_model.specs.Bag.{without_repeats}
-use Rattle.query_laws.proofs.BasicPatternLaws.{run_same, same_patterns}
-use Rattle.query_laws.proofs.SideLaws.{derived_has_sides}
-use Rattle.query_laws.proofs.laws.one_set_of_patterns.Goals as goal
+use Rattle.sparql_algebra.proofs.BasicPatternLaws.{run_same, same_patterns}
+use Rattle.sparql_algebra.proofs.SideLaws.{derived_has_sides}
+use Rattle.sparql_algebra.proofs.laws.one_set_of_patterns.Goals as goal
 
 pub returns : goal.returns
 returns c = record {

@@ -1,6 +1,6 @@
-//! Laws of basic graph patterns. Each is a function without effect, whose contract is the law.
+//! A law of basic graph patterns. It is the contract of a function without effect.
 
-ghost use Rattle.query_laws.specs.BasicPatterns.{OneSetOfPatterns};
+ghost use Rattle.sparql_algebra.specs.BasicPatterns.{OneSetOfPatterns};
 
 /// The rule on blank node labels checks exactly the basic graph patterns of the query's plan
 /// (SPARQL 1.1 Query Language, sections 5.1.1 and 18.2.2.5). Patterns without triples are left out

@@ -11,7 +11,7 @@ use Rattle.sparql_grammar.specs.Productions.{right_side}
 use Rattle.sparql_grammar.specs.Symbol as the
 use Rattle.sparql_grammar.specs.Symbol.{Symbol, Value}
 use Rattle.sparql_grammar.specs.Values.{Names}
-use Rattle.sparql_read.specs.Derives.{Derives}
+use Rattle.sparql_grammar.specs.Derives.{Derives}
 
 -- The left side of each UNION is a group or a UNION. The grammar derives no other group.
 abbrev mutual

@@ -1,2 +1,0 @@
-pub mod SideLaws
-pub mod BasicPatternLaws
