@@ -57,6 +57,14 @@ impl From<BoardFault> for PoolFault {
     }
 }
 
+/// What the workers of a job share: the board of the job's pieces, the job and its gate.
+#[derive(Drop)]
+struct Shared<'s, J, G> {
+    board: &'s Board,
+    job: &'s J,
+    gate: &'s G,
+}
+
 /// The claim that a worker runs this job with a pass of this board.
 #[derive(Drop)]
 struct WorkOn<J> {
@@ -165,7 +173,7 @@ where
             ensures works { IfOk result.0 (λ ws. All (IsWorked (J.answers job.entry.now)
                 (J.faults job.entry.now) board.entry.now) ws.items) }
             ensures task { T.run_gives task result.1 }
-        { start_and_join(rt, scope, alloc, board, passes, job, gate, task) },
+        { start_and_join(rt, scope, alloc, &Shared { board, job, gate }, passes, task) },
     )
 }
 
@@ -175,24 +183,22 @@ fn start_and_join<'s, E, R: Threads, J: Job + Sync, G: Gate + Sync, T: Task<Outp
     rt: &R,
     scope: &Scope<'s, E>,
     alloc: Global,
-    board: &'s Board,
+    shared: &Shared<'s, J, G>,
     passes: Vec<Pass>,
-    job: &'s J,
-    gate: &'s G,
     task: T,
 ) -> (Result<Vec<Worked<J::Out, J::Fault>>, PoolFault>, A)
 where
     J::Out: Send + Drop,
     J::Fault: Send + Drop,
-    requires unused { All (λ p. p ≡ unused board.now.id board.now.pieces) passes.items }
+    requires unused { All (λ p. p ≡ unused shared.now.board.now.id shared.now.board.now.pieces) passes.items }
     requires task { T.can_run task }
     ensures len { IfOk result.0 (λ ws. vec_len ws ≡ vec_len passes) }
-    ensures works { IfOk result.0 (λ ws. All (IsWorked (J.answers job.now) (J.faults job.now)
-        board.now) ws.items) }
+    ensures works { IfOk result.0 (λ ws. All (IsWorked (J.answers shared.now.job.now)
+        (J.faults shared.now.job.now) shared.now.board.now) ws.items) }
     ensures task { T.run_gives task result.1 }
 {
     let count = passes.len();
-    let started = start_with_room(scope, alloc, board, passes, job, gate);
+    let started = start_with_room(scope, alloc, shared, passes);
     let given = task.run();
     let Ok((handles, mut works)) = started else {
         return (Err(PoolFault::Memory), given);
@@ -210,10 +216,8 @@ where
 fn start_with_room<'s, E, J: Job + Sync, G: Gate + Sync>(
     scope: &Scope<'s, E>,
     alloc: Global,
-    board: &'s Board,
+    shared: &Shared<'s, J, G>,
     passes: Vec<Pass>,
-    job: &'s J,
-    gate: &'s G,
 ) -> Result<
     (
         Vec<PromisedHandle<Worked<J::Out, J::Fault>, WorkOn<J>>>,
@@ -224,15 +228,15 @@ fn start_with_room<'s, E, J: Job + Sync, G: Gate + Sync>(
 where
     J::Out: Send + Drop,
     J::Fault: Send + Drop,
-    requires unused { All (λ p. p ≡ unused board.now.id board.now.pieces) passes.items }
+    requires unused { All (λ p. p ≡ unused shared.now.board.now.id shared.now.board.now.pieces) passes.items }
     ensures most { IfOk result (λ started. vec_len started.0 ≤ vec_len passes) }
-    ensures promised { IfOk result (λ started. All (λ h. (h.promise.job.value ≡ job.now)
-        × (h.promise.board.value ≡ board.now)) started.0.items) }
+    ensures promised { IfOk result (λ started. All (λ h. (h.promise.job.value ≡ shared.now.job.now)
+        × (h.promise.board.value ≡ shared.now.board.now)) started.0.items) }
     ensures none { IfOk result (λ started. started.1.items ≡ []) }
     ensures room { IfOk result (λ started. vec_len passes ≤ vec_capacity started.1) }
 {
     let room = Vec::with_capacity(alloc, passes.len())?;
-    let handles = start(scope, alloc, board, passes, job, gate)?;
+    let handles = start(scope, alloc, shared, passes)?;
     Ok((handles, room))
 }
 
@@ -241,22 +245,20 @@ where
 fn start<'s, E, J: Job + Sync, G: Gate + Sync>(
     scope: &Scope<'s, E>,
     alloc: Global,
-    board: &'s Board,
+    shared: &Shared<'s, J, G>,
     passes: Vec<Pass>,
-    job: &'s J,
-    gate: &'s G,
 ) -> Result<Vec<PromisedHandle<Worked<J::Out, J::Fault>, WorkOn<J>>>, AllocError>
 where
     J::Out: Send + Drop,
     J::Fault: Send + Drop,
-    requires unused { All (λ p. p ≡ unused board.now.id board.now.pieces) passes.items }
+    requires unused { All (λ p. p ≡ unused shared.now.board.now.id shared.now.board.now.pieces) passes.items }
     ensures most { IfOk result (λ hs. vec_len hs ≤ vec_len passes) }
-    ensures promised { IfOk result (λ hs. All (λ h. (h.promise.job.value ≡ job.now)
-        × (h.promise.board.value ≡ board.now)) hs.items) }
+    ensures promised { IfOk result (λ hs. All (λ h. (h.promise.job.value ≡ shared.now.job.now)
+        × (h.promise.board.value ≡ shared.now.board.now)) hs.items) }
 {
     let mut handles = Vec::with_capacity(alloc, passes.len())?;
     for pass in passes {
-        let Some(handle) = start_one(scope, alloc, board, pass, job, gate) else {
+        let Some(handle) = start_one(scope, alloc, shared, pass) else {
             break;
         };
         handles.push_reserved(handle);
@@ -268,18 +270,17 @@ where
 fn start_one<'s, E, J: Job + Sync, G: Gate + Sync>(
     scope: &Scope<'s, E>,
     alloc: Global,
-    board: &'s Board,
+    shared: &Shared<'s, J, G>,
     pass: Pass,
-    job: &'s J,
-    gate: &'s G,
 ) -> Option<PromisedHandle<Worked<J::Out, J::Fault>, WorkOn<J>>>
 where
     J::Out: Send + Drop,
     J::Fault: Send + Drop,
-    requires unused { pass ≡ unused board.now.id board.now.pieces }
-    ensures promised { IfSome result (λ h. (h.promise.job.value ≡ job.now)
-        × (h.promise.board.value ≡ board.now)) }
+    requires unused { pass ≡ unused shared.now.board.now.id shared.now.board.now.pieces }
+    ensures promised { IfSome result (λ h. (h.promise.job.value ≡ shared.now.job.now)
+        × (h.promise.board.value ≡ shared.now.board.now)) }
 {
+    let (board, job, gate) = (shared.board, shared.job, shared.gate);
     let promise = WorkOn {
         job: Snapshot::of(job),
         board: Snapshot::of(board),

@@ -91,5 +91,5 @@ pub fn print_rows<R: Threads + Wait, G: Gate + Sync>(
     order_pairs(alloc, &mut ranks, listed.len(), count)?;
     let sorted = sorted_rows(alloc, &ranks, listed.len(), count)?;
     let kept = kept(&sorted, table.offset, table.limit);
-    to_json(rt, alloc, table.names, listed, &terms, kept, how, gate)
+    to_json(rt, alloc, table, &terms, kept, how, gate)
 }

@@ -9,6 +9,7 @@ ghost use Rattle.result_json.specs.Results.{joined_blocks, json, listed_names, s
 ghost use Rattle.result_json.specs.Texts.{head_text};
 
 use crate::columns::{begun_columns, name_of};
+use crate::printing::Table;
 use crate::ranked_row::RankedRow;
 use crate::row_blocks::row_blocks;
 use crate::text_pieces::{TextPieces, place_of};
@@ -133,8 +134,8 @@ fn enclosed(
 }
 
 /// Prints the result of a query as JSON (SPARQL 1.1 Query Results JSON Format): the names of the
-/// projected variables, and the rows in order. Each row has one rank for each variable, and a rank
-/// is the place of a term plus one. The text ends with a line feed.
+/// projected variables of the table, and the rows in order. Each row has one rank for each
+/// variable, and a rank is the place of a term plus one. The text ends with a line feed.
 ///
 /// # Requires
 /// `how` is within its limits.
@@ -145,8 +146,7 @@ fn enclosed(
 pub(crate) fn to_json<R: Threads + Wait, G: Gate + Sync>(
     rt: &R,
     alloc: Global,
-    names: &[Text],
-    listed: &[usize],
+    table: &Table<'_>,
     terms: &[(&Term, u64)],
     rows: &[RankedRow<'_>],
     how: &How,
@@ -154,12 +154,13 @@ pub(crate) fn to_json<R: Threads + Wait, G: Gate + Sync>(
 ) -> Result<Vec<Vec<u8>>, EvalFault>
     requires how { IsRunnable how.now }
     ensures json { IfOk result
-        (λ blocks. joined_blocks blocks.items ≡ json (listed_names names.now listed.now)
+        (λ blocks. joined_blocks blocks.items
+        ≡ json (listed_names table.now.names.now table.now.listed.now)
         (map (ranked_row (terms_of terms.now)) (ranks_of rows.now))) }
     ensures one_worker { HasOneWorker how.now → IfErr result (λ fault. fault ≡ Memory) }
 {
-    let columns = begun_columns(alloc, names, listed)?;
+    let columns = begun_columns(alloc, table.names, table.listed)?;
     let texts = printed_texts(rt, alloc, &columns, terms, rows, how)?;
     let mut blocks = row_blocks(rt, alloc, &columns, &texts, rows, how, gate)?;
-    Ok(enclosed(alloc, names, listed, &mut blocks)?)
+    Ok(enclosed(alloc, table.names, table.listed, &mut blocks)?)
 }

@@ -10,5 +10,5 @@ loop-pass-preserved g c =
       count = search rules;
       room = search rules;
       unused = λ k d below. all (suc k) d (omega arith);
-      promised = rw c.push_reserved.ensures.items (All-push (λ h. (h.promise.job.value ≡ c.args.job.now) × (h.promise.board.value ≡ c.args.board.now)) _ _ was.promised c.in-Some-start_one.ensures.promised);
+      promised = rw c.push_reserved.ensures.items (All-push (λ h. (h.promise.job.value ≡ c.args.shared.now.job.now) × (h.promise.board.value ≡ c.args.shared.now.board.now)) _ _ was.promised c.in-Some-start_one.ensures.promised);
     }

@@ -7,6 +7,6 @@ abbrev pub invariant-loop-pass : goal.invariant-loop-pass
 invariant-loop-pass g l = record {
   count : vec_len l.handles + into_iter_len l.pass-iterator ≡ vec_len l.fn.passes;
   room : vec_len l.fn.passes ≤ vec_capacity l.handles;
-  unused : All (λ p. p ≡ unused l.board.id l.board.pieces) (into_iter_items l.pass-iterator);
-  promised : All (λ h. (h.promise.job.value ≡ l.job) × (h.promise.board.value ≡ l.board)) l.handles.items;
+  unused : All (λ p. p ≡ unused l.shared.board.now.id l.shared.board.now.pieces) (into_iter_items l.pass-iterator);
+  promised : All (λ h. (h.promise.job.value ≡ l.shared.job.now) × (h.promise.board.value ≡ l.shared.board.now)) l.handles.items;
 }

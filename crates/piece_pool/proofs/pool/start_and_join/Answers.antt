@@ -12,7 +12,7 @@ loop-handle-preserved g c =
       count = search rules;
       room = search rules;
       promised = λ k d below. all (suc k) d (omega arith);
-      worked = rw c.push_reserved.ensures.items (All-push (IsWorked (g.J.Job.answers c.args.job.now) (g.J.Job.faults c.args.job.now) c.args.board.now) _ _ was.worked (rw (here.0, here.1) at c.join.ensures));
+      worked = rw c.push_reserved.ensures.items (All-push (IsWorked (g.J.Job.answers c.args.shared.now.job.now) (g.J.Job.faults c.args.shared.now.job.now) c.args.shared.now.board.now) _ _ was.worked (rw (here.0, here.1) at c.join.ensures));
     }
 
 pub loop-handle-init : goal.loop-handle-init
@@ -22,5 +22,5 @@ loop-handle-init g c =
       count = omega (arith, ap length started.none, c.into_iter-handle-iterator.result.rest.ok.0, ap length items, c.in-Ok.handles.ok.0, started.most, c.len-count.ensures);
       room = omega (arith, started.room, c.len-count.ensures);
       promised = rw items started.promised;
-      worked = rw started.none (All-nil (IsWorked (g.J.Job.answers c.args.job.now) (g.J.Job.faults c.args.job.now) c.args.board.now));
+      worked = rw started.none (All-nil (IsWorked (g.J.Job.answers c.args.shared.now.job.now) (g.J.Job.faults c.args.shared.now.job.now) c.args.shared.now.board.now));
     }

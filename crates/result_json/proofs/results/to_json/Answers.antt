@@ -9,7 +9,7 @@ use Rattle.result_json.proofs.results.to_json.Goals as goal
 
 pub returns-clause-json : goal.returns-clause-json
 returns-clause-json g c =
-    let vars = listed_names c.args.names.now c.args.listed.now in
+    let vars = listed_names c.args.table.now.names.now c.args.table.now.listed.now in
     let terms = terms_of c.args.terms.now in
     let printed = c.in_ok-texts.texts in
     let ranks = ranks_of c.args.rows.now in
