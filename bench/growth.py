@@ -16,6 +16,7 @@ import tempfile
 import measure
 
 INTEGER = "http://www.w3.org/2001/XMLSchema#integer"
+DECIMAL = "http://www.w3.org/2001/XMLSchema#decimal"
 PREFIX = "PREFIX : <http://e/> "
 NOTHING = "SELECT ?a { ?a :none ?b }"
 MOST_GROWTH = 2.6
@@ -24,9 +25,10 @@ LEVELS = 99
 
 
 def statements(n):
-    """Each subject has a number; some have a link, a name, or a class in one of n/10 named graphs."""
+    """Each subject has a number and a score below 1; some have a link, a name, or a class in one of n/10 named graphs."""
     for i in range(n):
         yield f'<http://e/s{i}> <http://e/n> "{i}"^^<{INTEGER}> .\n'
+        yield f'<http://e/s{i}> <http://e/d> "0.{i:07}"^^<{DECIMAL}> .\n'
         if i % 2:
             yield f"<http://e/s{i}> <http://e/k> <http://e/s{i * 7 % n}> .\n"
         if i % 3 == 0:
@@ -67,6 +69,10 @@ QUERIES = {
     "sameTerm of two groups": "{ ?a :k ?x } { ?y :n ?z } FILTER(?z > 5 && sameTerm(?x, ?y))",
     "equality of three groups": "{ ?a :n ?x } { ?b :k ?y } { ?c :l ?z } FILTER(?a = ?y && ?b = ?c)",
     "filter over filter": "{ { ?a :n ?x } { ?b :n ?y } FILTER(?x > 3) } FILTER(?x = ?y)",
+    "equality of scores": "{ ?a :d ?x } { ?b :d ?y } FILTER(?x = ?y)",
+    "STR of two groups": "{ ?a :n ?x } { ?b :n ?y } FILTER(STR(?x) = STR(?y))",
+    "STR and a variable": "{ ?a :l ?x BIND(STR(?x) AS ?t) } { ?b :l ?y } FILTER(STR(?y) = ?t)",
+    "STR in optional": "?a :k ?x OPTIONAL { ?b :n ?y FILTER(STR(?x) = STR(?b)) }",
     "equality after optional": "{ ?a :n ?x OPTIONAL { ?a :k ?k } } { ?b :n ?y } FILTER(?x = ?y)",
     # named graphs
     "graphs": "GRAPH ?g { ?a :m ?c }",

@@ -21,10 +21,9 @@ use Rattle.algebra_model.proofs.RangeLaws.{Each-IsSameBag, Each-map, join-bound}
 use Rattle.algebra_model.proofs.ReadingLaws.{join-read}
 use Rattle.dict_core.specs.Dict.{AreDistinct, term_at}
 use Rattle.row_core.specs.RowList.{RowList}
-use Rattle.term_values.specs.EqualityKey.{HaveOneKey, equality_key}
 use Rattle.sparql_eval.specs.Evaluated.{AreKnown, IsEvaluated, solutions_of}
 use Rattle.sparql_eval.specs.Fitting.{IsEvaluatedWhere, Requires, fits, have_one_key, meet}
-use Rattle.sparql_eval.specs.KeyedRows.{with_keys}
+use Rattle.sparql_eval.specs.KeyedRows.{ArePaired, pairing_key, with_keys}
 use Rattle.sparql_eval.specs.Required.{AreRequired, OnSomePair}
 use Rattle.sparql_eval.specs.declared.equalities.Equality.{Equality}
 use Rattle.sparql_eval.proofs.ClosedSteps.{merges_first}
@@ -142,23 +141,23 @@ meet_right (Some c) (Some d) (Some s) (Some t) p q h =
 pub fits_left : (pairs : List Equality) (μ ν : Solution Term) → fits pairs (merge μ ν) ≡ true → fits pairs μ ≡ true
 fits_left [] μ ν h = refl
 fits_left (p ∷ pairs) μ ν h =
-    let b = and_parts (meet (get_or (merge μ ν) p.left None) (get_or (merge μ ν) p.right None)) (fits pairs (merge μ ν)) h in
-    λ i. meet_left (get_or μ p.left None) (get_or μ p.right None) (get_or ν p.left None) (get_or ν p.right None)
-    (sym (λ j. meet (get-merge μ ν p.left j) (get-merge μ ν p.right j)) ∙ b.0) i && fits_left pairs μ ν b.1 i
+    let b = and_parts (meet (get_or (merge μ ν) p.left.variable None) (get_or (merge μ ν) p.right.variable None)) (fits pairs (merge μ ν)) h in
+    λ i. meet_left (get_or μ p.left.variable None) (get_or μ p.right.variable None) (get_or ν p.left.variable None) (get_or ν p.right.variable None)
+    (sym (λ j. meet (get-merge μ ν p.left.variable j) (get-merge μ ν p.right.variable j)) ∙ b.0) i && fits_left pairs μ ν b.1 i
 
 pub fits_right : (pairs : List Equality) (μ ν : Solution Term) → is_compatible term_eq μ ν ≡ true → fits pairs (merge μ ν) ≡ true → fits pairs ν ≡ true
 fits_right [] μ ν c h = refl
 fits_right (p ∷ pairs) μ ν c h =
-    let b = and_parts (meet (get_or (merge μ ν) p.left None) (get_or (merge μ ν) p.right None)) (fits pairs (merge μ ν)) h in
-    λ i. meet_right (get_or μ p.left None) (get_or μ p.right None) (get_or ν p.left None) (get_or ν p.right None) (agree_at term_eq μ ν c p.left) (agree_at term_eq μ ν c p.right)
-    (sym (λ j. meet (get-merge μ ν p.left j) (get-merge μ ν p.right j)) ∙ b.0) i && fits_right pairs μ ν c b.1 i
+    let b = and_parts (meet (get_or (merge μ ν) p.left.variable None) (get_or (merge μ ν) p.right.variable None)) (fits pairs (merge μ ν)) h in
+    λ i. meet_right (get_or μ p.left.variable None) (get_or μ p.right.variable None) (get_or ν p.left.variable None) (get_or ν p.right.variable None) (agree_at term_eq μ ν c p.left.variable) (agree_at term_eq μ ν c p.right.variable)
+    (sym (λ j. meet (get-merge μ ν p.left.variable j) (get-merge μ ν p.right.variable j)) ∙ b.0) i && fits_right pairs μ ν c b.1 i
 
 -- ---- what a condition requires
 
-one_key : (s t : Term) → HaveOneKey s t → have_one_key s t ≡ true
-one_key s t h = by (equality_key s) refl
+one_key : (s t : Term) → ArePaired s t → have_one_key s t ≡ true
+one_key s t h = by (pairing_key s) refl
   where
-    by : (k : Option ℕ) → equality_key s ≡ k → have_one_key s t ≡ true
+    by : (k : Option ℕ) → pairing_key s ≡ k → have_one_key s t ≡ true
     by (Some n) e =
         (λ i. option_eq nat_eq (e i) ((sym h.0 ∙ e) i) && (is_some (e i) || term_eq s t)) ∙ ap (λ b. b && true) ((Decides-eqb n n).1 refl)
     by None e = (λ i. option_eq nat_eq (e i) ((sym h.0 ∙ e) i) && (is_some (e i) || term_eq s t)) ∙ (term_decides s t).1 (h.1 e)
@@ -172,7 +171,7 @@ required_fits e (p ∷ pairs) r ρ h =
 pub fits-append : (pairs more : List Equality) (ρ : Solution Term) → fits pairs ρ ≡ true → fits more ρ ≡ true → fits (pairs ++ more) ρ ≡ true
 fits-append [] more ρ h k = k
 fits-append (p ∷ pairs) more ρ h k =
-    let b = and_parts (meet (get_or ρ p.left None) (get_or ρ p.right None)) (fits pairs ρ) h in
+    let b = and_parts (meet (get_or ρ p.left.variable None) (get_or ρ p.right.variable None)) (fits pairs ρ) h in
     λ i. b.0 i && fits-append pairs more ρ b.1 k i
 
 -- the pairs of a condition, followed by others
@@ -191,27 +190,27 @@ requires_more test pairs p h r ρ t = fits-append pairs (p ∷ []) ρ (h ρ t) (
 pub fits-at : (pairs : List Equality) (i : ℕ) (p : Equality) → slice_get pairs i ≡ Some p → Requires (fits pairs) (p ∷ [])
 fits-at [] i p at ρ h = cc
 fits-at (q ∷ pairs) zero p at ρ h =
-    let b = and_parts (meet (get_or ρ q.left None) (get_or ρ q.right None)) (fits pairs ρ) h in
+    let b = and_parts (meet (get_or ρ q.left.variable None) (get_or ρ q.right.variable None)) (fits pairs ρ) h in
     let same : q ≡ p = cc in
     subst (λ (x : Equality). fits (x ∷ []) ρ ≡ true) same (λ i. b.0 i && true)
 fits-at (q ∷ pairs) (suc i) p at ρ h =
-    let b = and_parts (meet (get_or ρ q.left None) (get_or ρ q.right None)) (fits pairs ρ) h in
+    let b = and_parts (meet (get_or ρ q.left.variable None) (get_or ρ q.right.variable None)) (fits pairs ρ) h in
     fits-at pairs i p at ρ b.1
 
 pub fits-get : (pairs : List Equality) (i : ℕ) (d : Equality) → i < length pairs → Requires (fits pairs) (get_or pairs i d ∷ [])
 fits-get pairs i d low = fits-at pairs i (get_or pairs i d) (slice_get-get_or pairs i d low)
 
 -- what one of the pairs requires
-pub fits-some : {p : Equality} (pairs : List Equality) (o : Option Equality) (key : Equality) → o ≡ Some key → OnSomePair o (λ k. Requires (fits (p ∷ [])) (k ∷ [])) → Requires (fits pairs) (p ∷ []) → Requires (fits pairs) (key ∷ [])
-fits-some {p} pairs o key is h one ρ t =
+pub fits-some : (p : Equality) (pairs : List Equality) (o : Option Equality) (key : Equality) → o ≡ Some key → OnSomePair o (λ k. Requires (fits (p ∷ [])) (k ∷ [])) → Requires (fits pairs) (p ∷ []) → Requires (fits pairs) (key ∷ [])
+fits-some p pairs o key is h one ρ t =
     let k = subst (λ (o : Option Equality). OnSomePair o (λ k. Requires (fits (p ∷ [])) (k ∷ []))) is h in
     k ρ (one ρ t)
 
 -- the pair in the other order
 pub fits_turned : (p : Equality) → Requires (fits (p ∷ [])) (record { left = p.right; right = p.left } ∷ [])
 fits_turned p ρ h =
-    let b = and_parts (meet (get_or ρ p.left None) (get_or ρ p.right None)) true h in
-    λ i. met (get_or ρ p.left None) (get_or ρ p.right None) b.0 i && true
+    let b = and_parts (meet (get_or ρ p.left.variable None) (get_or ρ p.right.variable None)) true h in
+    λ i. met (get_or ρ p.left.variable None) (get_or ρ p.right.variable None) b.0 i && true
   where
     same : (a b : Option ℕ) → option_eq nat_eq a b ≡ true → a ≡ b
     same None None h = refl
@@ -224,8 +223,8 @@ fits_turned p ρ h =
     met None (Some t) h = refl
     met (Some s) None h = refl
     met (Some s) (Some t) h =
-        let b = and_parts (option_eq nat_eq (equality_key s) (equality_key t)) (is_some (equality_key s) || term_eq s t) h in
-        let e = same (equality_key s) (equality_key t) b.0 in
+        let b = and_parts (option_eq nat_eq (pairing_key s) (pairing_key t)) (is_some (pairing_key s) || term_eq s t) h in
+        let e = same (pairing_key s) (pairing_key t) b.0 in
         one_key t s (sym e, λ none. sym ((term_decides s t).0 (sym (ap (λ (k : Option ℕ). is_some k || term_eq s t) (e ∙ none)) ∙ b.1)))
 
 -- ---- rows joined by keys
@@ -242,10 +241,10 @@ module _ (terms : List Term) (once : AreDistinct terms) (pairs : List Equality) 
     (knownL : AreKnown terms left) (knownR : AreKnown terms right)
     (wideL : Each (λ (μ : Solution ℕ). length μ ≡ w) left.rows) (wideR : Each (λ (μ : Solution ℕ). length μ ≡ w) right.rows) where
   abbrev W : Solution ℕ → Solution ℕ
-  W μ = with_keys terms (map (λ p. p.left) pairs) μ
+  W μ = with_keys terms (map (λ p. p.left.variable) pairs) μ
 
   abbrev V : Solution ℕ → Solution ℕ
-  V ν = with_keys terms (map (λ p. p.right) pairs) ν
+  V ν = with_keys terms (map (λ p. p.right.variable) pairs) ν
 
   pub joined_by_keys : (J : List (Solution ℕ)) → IsSameBag J (join nat_eq (map W left.rows) (map V right.rows)) → made.width ≡ left.width → made.rows ≡ map (take w) J
       → IsEvaluatedWhere terms left.width (fits pairs) (join term_eq (solutions_of terms left) (solutions_of terms right)) made terms
@@ -255,7 +254,7 @@ module _ (terms : List Term) (once : AreDistinct terms) (pairs : List Equality) 
       let g : Solution ℕ → Bool = λ μ. f (take w μ) in
       let K = join nat_eq (map W left.rows) (map V right.rows) in
       let L = join nat_eq left.rows right.rows in
-      let known = join-bound (λ n. n < length terms) nat_eq (map W left.rows) (map V right.rows) (keyed_known terms (map (λ p. p.left) pairs) left.rows knownL) (keyed_known terms (map (λ p. p.right) pairs) right.rows knownR) in
+      let known = join-bound (λ n. n < length terms) nat_eq (map W left.rows) (map V right.rows) (keyed_known terms (map (λ p. p.left.variable) pairs) left.rows knownL) (keyed_known terms (map (λ p. p.right.variable) pairs) right.rows knownR) in
       let low = ap (λ (l : List (Solution ℕ)). filter test (map (read_by terms) l)) is ∙ filter-mapped test (read_by terms) (map (take w) J) ∙ ap (map (read_by terms)) (filter-mapped f (take w) J) in
       let high = ap (filter test) (join-read nat_eq term_eq (λ n. n < length terms) (term_at terms) (equal_by_number terms once) left.rows right.rows knownL knownR) ∙ filter-mapped test (read_by terms) L in
       record {

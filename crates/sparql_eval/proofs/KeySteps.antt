@@ -18,8 +18,7 @@ use Rattle.algebra_model.proofs.KeyLaws.{agree_at}
 use Rattle.algebra_model.proofs.ReadingLaws.{bound_at}
 use Rattle.algebra_model.proofs.TestLaws.{and_assoc}
 use Rattle.dict_core.specs.Dict.{AreDistinct, term_at}
-use Rattle.term_values.specs.EqualityKey.{HaveOneKey, equality_key, first_key}
-use Rattle.sparql_eval.specs.KeyedRows.{key_among, key_number, keys_of, pairing_key, text_key, with_keys}
+use Rattle.sparql_eval.specs.KeyedRows.{ArePaired, key_among, key_number, keys_of, pairing_key, with_keys}
 use Rattle.sparql_eval.specs.Numbered.{IsKnownAt, IsKnownCell}
 use Rattle.sparql_eval.specs.Fitting.{Requires, fits, have_one_key, meet}
 use Rattle.sparql_eval.specs.declared.equalities.Equality.{Equality}
@@ -74,10 +73,10 @@ get-read terms (x ∷ μ) (suc k) = get-read terms μ k
 
 -- ---- key numbers
 
-has_one_key : (s t : Term) → have_one_key s t ≡ true → HaveOneKey s t
+has_one_key : (s t : Term) → have_one_key s t ≡ true → ArePaired s t
 has_one_key s t h =
-    let b = and_parts (option_eq nat_eq (equality_key s) (equality_key t)) (is_some (equality_key s) || term_eq s t) h in
-    (same (equality_key s) (equality_key t) b.0, λ none. (term_decides s t).0 (sym (ap (λ (k : Option ℕ). is_some k || term_eq s t) none) ∙ b.1))
+    let b = and_parts (option_eq nat_eq (pairing_key s) (pairing_key t)) (is_some (pairing_key s) || term_eq s t) h in
+    (same (pairing_key s) (pairing_key t) b.0, λ none. (term_decides s t).0 (sym (ap (λ (k : Option ℕ). is_some k || term_eq s t) none) ∙ b.1))
   where
     same : (a b : Option ℕ) → option_eq nat_eq a b ≡ true → a ≡ b
     same None None h = refl
@@ -86,14 +85,11 @@ has_one_key s t h =
     same (Some x) (Some y) h = ap Some ((Decides-eqb x y).0 h)
 
 module _ (terms : List Term) (once : AreDistinct terms) where
-  valued : (n key : ℕ) → equality_key (term_at terms n) ≡ Some key → pairing_key (term_at terms n) ≡ Some key
-  valued n key p = ap (λ k. first_key k (text_key (term_at terms n))) p
-
-  keys_meet : (n m : ℕ) → n < length terms → m < length terms → HaveOneKey (term_at terms n) (term_at terms m) → key_number terms n ≡ key_number terms m
-  keys_meet n m low high h = by (equality_key (term_at terms n)) refl
+  keys_meet : (n m : ℕ) → n < length terms → m < length terms → ArePaired (term_at terms n) (term_at terms m) → key_number terms n ≡ key_number terms m
+  keys_meet n m low high h = by (pairing_key (term_at terms n)) refl
     where
-      by : (k : Option ℕ) → equality_key (term_at terms n) ≡ k → key_number terms n ≡ key_number terms m
-      by (Some key) p = ap (key_among (length terms) n) (valued n key p) ∙ ap (key_among (length terms) m) (sym (valued m key (sym h.0 ∙ p)))
+      by : (k : Option ℕ) → pairing_key (term_at terms n) ≡ k → key_number terms n ≡ key_number terms m
+      by (Some key) p = ap (key_among (length terms) n) p ∙ ap (key_among (length terms) m) (sym (sym h.0 ∙ p))
       by None p = ap (key_number terms) (apart terms once n m low high (h.1 p))
 
   module _ (μ ν : Solution ℕ) (knownL : Known terms μ) (knownR : Known terms ν) (c : is_compatible nat_eq μ ν ≡ true) where
@@ -123,21 +119,21 @@ module _ (terms : List Term) (once : AreDistinct terms) where
             (keys_meet n m (bound_at (λ k. k < length terms) μ x n knownL e) (bound_at (λ k. k < length terms) ν y m knownR f) (has_one_key (term_at terms n) (term_at terms m) one))
 
     keys_agree : (pairs : List Equality) → fits pairs (read_by terms (merge μ ν)) ≡ true
-        → is_compatible nat_eq (keys_of terms (map (λ p. p.left) pairs) μ) (keys_of terms (map (λ p. p.right) pairs) ν) ≡ true
+        → is_compatible nat_eq (keys_of terms (map (λ p. p.left.variable) pairs) μ) (keys_of terms (map (λ p. p.right.variable) pairs) ν) ≡ true
     keys_agree [] h = refl
     keys_agree (p ∷ pairs) h =
         let ρ = read_by terms (merge μ ν) in
-        let b = and_parts (meet (get_or ρ p.left None) (get_or ρ p.right None)) (fits pairs ρ) h in
-        λ i. cells_agree p.left p.right b.0 i && keys_agree pairs b.1 i
+        let b = and_parts (meet (get_or ρ p.left.variable None) (get_or ρ p.right.variable None)) (fits pairs ρ) h in
+        λ i. cells_agree p.left.variable p.right.variable b.0 i && keys_agree pairs b.1 i
 
   -- ---- pairs of rows
 
   module _ (test : Solution Term → Bool) (pairs : List Equality) (required : Requires test pairs) (w : ℕ) where
     abbrev xs : List ℕ
-    xs = map (λ p. p.left) pairs
+    xs = map (λ p. p.left.variable) pairs
 
     abbrev ys : List ℕ
-    ys = map (λ p. p.right) pairs
+    ys = map (λ p. p.right.variable) pairs
 
     abbrev keeps : Solution ℕ → Bool
     keeps ρ = test (read_by terms ρ)

@@ -22,5 +22,10 @@ mod RequiredSteps
 mod KeySteps
 mod SeparatedSteps
 mod FittingSteps
+mod UnboundLaws
+mod MentionSteps
+mod OutwardLaws
+mod ExtendLaws
 mod PossibleLaws
 mod PossibleSteps
+mod OutwardSteps

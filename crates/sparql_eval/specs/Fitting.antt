@@ -1,5 +1,5 @@
--- Solutions in which the terms of paired variables have one key. A condition that requires the terms
--- to be equal is true of no other solution. Only private clauses use these definitions.
+-- Solutions in which the terms of paired variables have one key. A condition that requires the terms,
+-- or their texts, to be equal is true of no other solution. Only private clauses use these definitions.
 use Rattle.std.specs.Prelude.{◌≡◌, ℕ, Bool, true, ◌&&◌, ◌||◌, List, Option, None, Some, filter, get_or, is_some, length, nat_eq}
 use Rattle.std.specs.List.{list_all}
 use Rattle.std.specs.Option.{option_eq}
@@ -10,12 +10,12 @@ use Rattle.algebra_model.specs.Solution.{Solution}
 use Rattle.dict_core.specs.Dict.{IsGrown}
 use Rattle.row_core.specs.RowList.{RowList}
 use Rattle.sparql_eval.specs.Evaluated.{AreKnown, solutions_of}
+use Rattle.sparql_eval.specs.KeyedRows.{pairing_key}
 use Rattle.sparql_eval.specs.declared.equalities.Equality.{Equality}
-use Rattle.term_values.specs.EqualityKey.{equality_key}
 
 -- the keys are the same, and terms without a key are the same term
 abbrev pub have_one_key : Term → Term → Bool
-have_one_key s t = option_eq nat_eq (equality_key s) (equality_key t) && (is_some (equality_key s) || term_eq s t)
+have_one_key s t = option_eq nat_eq (pairing_key s) (pairing_key t) && (is_some (pairing_key s) || term_eq s t)
 
 -- not bound to terms with different keys
 abbrev pub meet : Option Term → Option Term → Bool
@@ -25,7 +25,7 @@ meet (Some s) (Some t) = have_one_key s t
 
 -- the variables of each pair meet
 abbrev pub fits : List Equality → Solution Term → Bool
-fits pairs ρ = list_all (λ p. meet (get_or ρ p.left None) (get_or ρ p.right None)) pairs
+fits pairs ρ = list_all (λ p. meet (get_or ρ p.left.variable None) (get_or ρ p.right.variable None)) pairs
 
 -- every solution that passes the test fits
 abbrev pub Requires : (Solution Term → Bool) → List Equality → Type 0

@@ -1,30 +1,34 @@
 -- Rows with further cells: the key numbers of some of their terms. Only private clauses use these
 -- definitions.
-use Rattle.std.specs.Prelude.{ℕ, ◌+◌, ◌*◌, ◌%◌, ◌^◌, List, ◌++◌, fold, length, map, Option, Some, None, get_or, option_map}
+use Rattle.std.specs.Prelude.{◌≡◌, ℕ, ◌+◌, ◌*◌, ◌%◌, ◌^◌, List, ◌++◌, fold, length, map, Option, Some, None, get_or, option_map}
 use Rattle.rdf_core.specs.declared.term.Term.{Term}
 use Rattle.rdf_core.specs.declared.term.Term.TheVariants.{Blank, Iri, Literal}
 use Rattle.algebra_model.specs.Solution.{Solution}
 use Rattle.dict_core.specs.Dict.{term_at}
-use Rattle.term_values.specs.EqualityKey.{equality_key, first_key, form_key}
+use Rattle.term_values.specs.EqualityKey.{form_key}
 
 -- a number of the bytes of a text
 abbrev pub text_hash : List ℕ → ℕ
 text_hash bytes = fold (λ hash byte. ((hash * 31) % 2 ^ 64 + byte) % 2 ^ 64) 0 bytes
 
--- the key of a lexical form, whatever its datatype
-abbrev pub any_form_key : List ℕ → Option ℕ
-any_form_key form = first_key (form_key form) (Some (text_hash form))
+-- the key, or else the other number
+abbrev pub key_or : Option ℕ → ℕ → ℕ
+key_or None other = other
+key_or (Some key) other = key
 
--- the key of a literal; an IRI or a blank node is equal only to itself
-abbrev pub text_key : Term → Option ℕ
-text_key (Blank label) = None
-text_key (Iri iri) = None
-text_key (Literal lexical datatype tag) = any_form_key lexical
+-- the key of the number or the boolean with this form, or else a number of its bytes
+abbrev pub text_key : List ℕ → ℕ
+text_key text = key_or (form_key text) (text_hash text)
 
--- terms that are equal have one key, and so have literals with one lexical form, but for decimals with a
--- fraction
+-- the key of the text that STR returns for a term, whatever the datatype of a literal is
 abbrev pub pairing_key : Term → Option ℕ
-pairing_key t = first_key (equality_key t) (text_key t)
+pairing_key (Blank label) = None
+pairing_key (Iri text) = Some (text_key text)
+pairing_key (Literal lexical datatype tag) = Some (text_key lexical)
+
+-- the keys are the same, and terms without a key are the same term
+abbrev pub ArePaired : Term → Term → Type 0
+ArePaired s t = (pairing_key s ≡ pairing_key t) × (pairing_key s ≡ None → s ≡ t)
 
 -- the key among n numbers, or the number itself if there is no key
 abbrev pub key_among : ℕ → ℕ → Option ℕ → ℕ

@@ -9,4 +9,5 @@ pub mod Computed
 pub mod Required
 pub mod KeyedRows
 pub mod Fitting
+pub mod Mentions
 pub mod Possible

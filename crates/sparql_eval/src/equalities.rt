@@ -1,28 +1,51 @@
 //! The equalities that a condition requires, by which rows are paired.
-ghost use Rattle.std.specs.Prelude.{◌≡◌, [], true, IfOk, OnOk};
+ghost use Rattle.std.specs.Prelude.{◌≡◌, [], true, IfOk, IfSome, OnOk};
 ghost use Rattle.rdf_core.specs.declared.term.Term.{Term};
-ghost use Rattle.algebra_model.specs.Expression.{Expression, holds};
+ghost use Rattle.algebra_model.specs.Call.{str};
+ghost use Rattle.algebra_model.specs.Expression.{Expression, call, holds};
 ghost use Rattle.algebra_model.specs.Solution.{Solution};
 ghost use Rattle.expression_values.specs.ExpressionOf.{expression_of};
 ghost use Rattle.sparql_eval.specs.Fitting.{fits};
-ghost use Rattle.sparql_eval.specs.Required.{AreRequired, Implies, IsRequiredEqual};
+ghost use Rattle.sparql_eval.specs.Required.{AreRequired, Implies, IsKeyedBy, IsRequiredEqual};
 
-use sparql_algebra::{Comparison, Expr};
+use expression_errors::is_float;
+use rdf_core::Term;
+use sparql_algebra::{Comparison, Expr, Function};
 use std::alloc::{AllocError, Global};
 
 /// The number of equalities that are used. The limit keeps the rows short.
 pub(crate) const MOST_EQUALITIES: usize = 4;
 
-/// Two variables that have equal terms in each row for which a condition is true.
+/// An operand of an equality: a variable, or STR of a variable.
 #[derive(Clone, Copy)]
-pub(crate) struct Equality {
-    pub(crate) left: usize,
-    pub(crate) right: usize,
+pub(crate) struct Operand {
+    pub(crate) variable: usize,
+    pub(crate) is_text: bool,
 }
 
-/// Returns pairs of variables that have equal terms in each row for which the condition is true.
-/// They are the operands of `=` or sameTerm in a chain of `&&`. The chain is read in a loop, so a
-/// long one needs no more stack than a short one.
+impl Operand {
+    /// Returns whether the equality may be an error over this term of the variable and a term with
+    /// another key: STR of a blank node is one, and so is `=` of an xsd:double and another literal.
+    pub(crate) fn may_fail(self, term: &Term) -> bool {
+        if self.is_text {
+            matches!(term, Term::Blank(_))
+        } else {
+            is_float(term)
+        }
+    }
+}
+
+/// Two operands that are equal in each row for which a condition is true. So the terms of their
+/// variables have one key.
+#[derive(Clone, Copy)]
+pub(crate) struct Equality {
+    pub(crate) left: Operand,
+    pub(crate) right: Operand,
+}
+
+/// Returns the equalities that hold in each row for which the condition is true. They are `=` and
+/// sameTerm of variables, and of STR of variables, in a chain of `&&`. The chain is read in a loop,
+/// so a long one needs no more stack than a short one.
 pub(crate) fn equalities(alloc: Global, condition: &Expr) -> Result<Vec<Equality>, AllocError>
     ensures required { IfOk result (λ found.
         AreRequired (expression_of condition.now) found.items) }
@@ -53,7 +76,7 @@ pub(crate) fn with_equalities(
     Ok(all)
 }
 
-/// Adds the variables that an operand of `&&` compares.
+/// Adds the equality that an operand of `&&` is.
 fn add_equality(operand: &Expr, found: &mut Vec<Equality>) -> Result<(), AllocError>
     ensures required { OnOk result ((e : Expression) → Implies e (expression_of operand.now)
         → AreRequired e found.old.items → AreRequired e found.new.items) }
@@ -64,31 +87,59 @@ fn add_equality(operand: &Expr, found: &mut Vec<Equality>) -> Result<(), AllocEr
             left,
             right,
         } => match operator {
-            Comparison::Equal => add_variables(left, right, found),
+            Comparison::Equal => add_operands(left, right, found),
             _ => Ok(()),
         },
-        Expr::SameTerm { left, right } => add_variables(left, right, found),
+        Expr::SameTerm { left, right } => add_operands(left, right, found),
         _ => Ok(()),
     }
 }
 
-/// Adds two variables that are compared.
-fn add_variables(left: &Expr, right: &Expr, found: &mut Vec<Equality>) -> Result<(), AllocError>
+/// Adds two operands that are compared.
+fn add_operands(left: &Expr, right: &Expr, found: &mut Vec<Equality>) -> Result<(), AllocError>
     ensures required { OnOk result ((e : Expression)
         → IsRequiredEqual e (expression_of left.now) (expression_of right.now)
         → AreRequired e found.old.items → AreRequired e found.new.items) }
 {
-    if let Expr::Variable(left) = left {
-        if let Expr::Variable(right) = right {
+    if let Some(left) = operand_of(left) {
+        if let Some(right) = operand_of(right) {
             if found.len() < MOST_EQUALITIES {
-                found.push(Equality {
-                    left: *left,
-                    right: *right,
-                })?;
+                found.push(Equality { left, right })?;
             }
         }
     }
     Ok(())
+}
+
+/// Returns the operand if the expression is a variable or STR of one.
+fn operand_of(expr: &Expr) -> Option<Operand>
+    ensures keyed { IfSome result (λ operand. IsKeyedBy (expression_of expr.now) operand.variable) }
+{
+    match expr {
+        Expr::Variable(variable) => Some(Operand {
+            variable: *variable,
+            is_text: false,
+        }),
+        Expr::Call { function, argument } => match function {
+            Function::Str => text_operand(argument),
+            _ => None,
+        },
+        _ => None,
+    }
+}
+
+/// Returns the operand that is STR of this expression, if that is a variable.
+fn text_operand(argument: &Expr) -> Option<Operand>
+    ensures keyed { IfSome result
+        (λ operand. IsKeyedBy (call str (expression_of argument.now)) operand.variable) }
+{
+    match argument {
+        Expr::Variable(variable) => Some(Operand {
+            variable: *variable,
+            is_text: true,
+        }),
+        _ => None,
+    }
 }
 
 /// Returns whether a condition is the equality of two variables.

@@ -30,9 +30,11 @@ use std::thread::Threads;
 /// that occur in VALUES somewhere in the plan, and the values that Extend computes somewhere in it.
 ///
 /// Each operator is evaluated once, after its inputs. Within GRAPH with a variable it is evaluated
-/// once for each named graph, except that a join evaluates an input without a triple pattern outside
-/// of an inner GRAPH only once. An operator that reads rows splits them into pieces of `how.rows`
-/// rows for `how.workers` workers.
+/// once for each named graph. An input without a triple pattern outside of an inner GRAPH is
+/// evaluated only once if it is a side of the last join of the group, or its last OPTIONAL or MINUS.
+/// The operators after it are then evaluated once, too, unless their expression may mention the
+/// variable. An operator that reads rows splits them into pieces of `how.rows` rows for
+/// `how.workers` workers.
 ///
 /// # Requires
 /// - Each number in the index is below the length of the dictionary.
@@ -159,38 +161,6 @@ pub fn graph<R: Threads + Wait, G: Gate + Sync>(
         (algebra_of inner.now) t)) dict r.1) }
     ensures one_worker { HasOneWorker how.now → IfErr result (λ fault. fault ≡ Memory) }
 {
-    graph_with(
-        rt, alloc, state, dict, index, width, name, inner, how, gate, None,
-    )
-}
-
-/// Evaluates a tree in one named graph, or in each of them in turn, as [`graph`] does, and counts the
-/// rows over which expressions are errors.
-fn graph_with<R: Threads + Wait, G: Gate + Sync>(
-    rt: &R,
-    alloc: Global,
-    state: RandomState,
-    dict: Dict,
-    index: &Index,
-    width: usize,
-    name: &GraphName,
-    inner: &Operator,
-    how: &How,
-    gate: &G,
-    counts: Option<&ErrorCounts>,
-) -> Result<(Rows, Dict), EvalFault>
-    requires index { AreBelow (length dict) index.now }
-    requires name { is_name_below width (graph_name_of name.now) ≡ true }
-    requires within { is_within width (algebra_of inner.now) ≡ true }
-    requires how { IsRunnable how.now }
-    ensures evaluated { IfOk result (λ r. IsEvaluated dict width
-        (in_graphs width (quads_at dict index.now) (graph_name_of name.now)
-        (λ g. eval width (quads_at dict index.now) g (algebra_of inner.now))) r.0 r.1) }
-    ensures needed { IfOk result (λ r. TakesOnly (λ t. InSomeGraph (quads_at dict index.now)
-        (graph_name_of name.now) (λ g. IsComputed width (quads_at dict index.now) g
-        (algebra_of inner.now) t)) dict r.1) }
-    ensures one_worker { HasOneWorker how.now → IfErr result (λ fault. fault ≡ Memory) }
-{
     let context = Context {
         rt,
         alloc,
@@ -202,7 +172,7 @@ fn graph_with<R: Threads + Wait, G: Gate + Sync>(
         state,
         index,
         width,
-        counts,
+        counts: None,
     };
     evaluator.solve_graph(dict, name, inner)
 }

@@ -1,4 +1,5 @@
 //! Forms of trees, by which the evaluator chooses how to evaluate a tree. Each way gives the same solutions.
+use crate::closed::is_closed;
 use sparql_algebra::Operator;
 
 /// Returns whether the tree is a basic graph pattern without triple patterns, with which each group
@@ -6,6 +7,23 @@ use sparql_algebra::Operator;
 pub(crate) fn is_empty_pattern(tree: &Operator) -> bool {
     match tree {
         Operator::Pattern { triples, .. } => triples.is_empty(),
+        _ => false,
+    }
+}
+
+/// Returns whether a side of the last operator of a group does not depend on the active graph: either
+/// side of a join, the right side of an OPTIONAL or MINUS. The filters and assignments after it do not
+/// count.
+pub(crate) fn is_partly_closed(tree: &Operator) -> bool {
+    match tree {
+        Operator::Join { left, right } => {
+            is_closed(right) || is_closed(left) && !is_empty_pattern(left)
+        }
+        Operator::LeftJoin { right, .. } => is_closed(right),
+        Operator::Minus { right, .. } => is_closed(right),
+        Operator::Union { left, right } => is_partly_closed(left) || is_partly_closed(right),
+        Operator::Filter { inner, .. } => is_partly_closed(inner),
+        Operator::Extend { inner, .. } => is_partly_closed(inner),
         _ => false,
     }
 }

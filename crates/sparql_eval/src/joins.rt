@@ -251,7 +251,7 @@ fn left_joined<R: Threads + Wait, G: Gate + Sync>(
         is_last: true,
     };
     count_separated(context.alloc, dict, left, right, keys, &tested);
-    left_joined_by_keys(context, state, dict, left, right, condition, keys, place)
+    left_joined_by_keys(context, state, dict, left, right, keys, &tested)
 }
 
 /// Returns the rows of a LeftJoin, joined by the variables that both sides bind.

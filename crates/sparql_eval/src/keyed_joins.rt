@@ -12,6 +12,7 @@ ghost use Rattle.sparql_eval.specs.Fitting.{IsEvaluatedWhere, Requires, fits};
 use crate::equalities::Equality;
 use crate::keyed_rows::{first_cells, keyed_rows};
 use crate::read_row::ReadRow;
+use crate::separated::Tested;
 use dict_core::Dict;
 use expression_errors::{Place, test_counted};
 use piece_pool::Gate;
@@ -24,25 +25,24 @@ use std::hash::RandomState;
 use std::sync::Wait;
 use std::thread::Threads;
 
-/// Returns the rows of a LeftJoin whose condition requires that variables of both sides have equal
-/// terms. Each row gets further cells with the key numbers of these terms, and is joined by them
-/// too. The condition is still tested on each pair.
+/// Returns the rows of a LeftJoin whose condition requires these equalities. Each row gets further
+/// cells with the key numbers of their terms, and is joined by them too. The condition is still
+/// tested on each pair.
 pub(crate) fn left_joined_by_keys<R: Threads + Wait, G: Gate + Sync>(
     context: &Context<R, G>,
     state: RandomState,
     dict: &Dict,
     left: &Rows,
     right: &Rows,
-    condition: &Expr,
     keys: &[Equality],
-    place: Place<'_>,
+    tested: &Tested<'_>,
 ) -> Result<Rows, EvalFault>
     requires same_width { left.now.width ≡ right.now.width }
     requires known_left { AreKnown dict.now left.now }
     requires known_right { AreKnown dict.now right.now }
-    requires required { Requires (holds (expression_of condition.now)) keys.now }
+    requires required { Requires (holds (expression_of tested.now.condition.now)) keys.now }
     ensures evaluated { IfOk result (λ made. IsEvaluated dict.now left.now.width
-        (left_join term_eq (holds (expression_of condition.now))
+        (left_join term_eq (holds (expression_of tested.now.condition.now))
         (solutions_of dict.now left.now) (solutions_of dict.now right.now)) made dict.now) }
     ensures alone { length left.now.rows ≤ context.now.how.now.rows → IfErr result (λ fault. fault ≡ Memory) }
     ensures one_worker { HasOneWorker context.now.how.now → IfErr result (λ fault. fault ≡ Memory) }
@@ -56,9 +56,9 @@ pub(crate) fn left_joined_by_keys<R: Threads + Wait, G: Gate + Sync>(
     let right = keyed_rows(context.alloc, dict, right, right_variables.as_slice())?;
     let test = FirstCondition {
         dict,
-        condition,
+        condition: tested.condition,
         width,
-        place,
+        place: tested.place,
     };
     let rows = row_join::left_join(
         context.rt,
@@ -113,22 +113,22 @@ pub(crate) fn joined_by_keys<R: Threads + Wait, G: Gate + Sync>(
 
 /// Returns the variables of the left side.
 fn left_variables(alloc: Global, keys: &[Equality]) -> Result<Vec<usize>, AllocError>
-    ensures variables { IfOk result (λ made. made.items ≡ map (λ key. key.left) keys.now) }
+    ensures variables { IfOk result (λ made. made.items ≡ map (λ key. key.left.variable) keys.now) }
 {
     let mut made = Vec::new(alloc);
     for i in 0..keys.len() {
-        made.push(keys[i].left)?;
+        made.push(keys[i].left.variable)?;
     }
     Ok(made)
 }
 
 /// Returns the variables of the right side.
 fn right_variables(alloc: Global, keys: &[Equality]) -> Result<Vec<usize>, AllocError>
-    ensures variables { IfOk result (λ made. made.items ≡ map (λ key. key.right) keys.now) }
+    ensures variables { IfOk result (λ made. made.items ≡ map (λ key. key.right.variable) keys.now) }
 {
     let mut made = Vec::new(alloc);
     for i in 0..keys.len() {
-        made.push(keys[i].right)?;
+        made.push(keys[i].right.variable)?;
     }
     Ok(made)
 }

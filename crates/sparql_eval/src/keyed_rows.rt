@@ -14,10 +14,10 @@ use dict_core::Dict;
 use rdf_core::Term;
 use row_core::Rows;
 use std::alloc::{AllocError, Global};
-use term_values::{equality_key, form_key};
+use term_values::form_key;
 
-/// Returns the pairs of which one variable is bound on the left side and the other one on the right
-/// side. In each pair the variable of the left side is first.
+/// Returns the equalities of which one variable is bound on the left side and the other one on the
+/// right side. In each of them the operand of the left side is first.
 pub(crate) fn join_keys(
     alloc: Global,
     left: &Rows,
@@ -35,7 +35,7 @@ pub(crate) fn join_keys(
     Ok(keys)
 }
 
-/// Adds a pair, if there are not too many.
+/// Adds an equality, if there are not too many.
 fn add_key(key: Equality, keys: &mut Vec<Equality>) -> Result<(), AllocError>
     ensures required { OnOk result ((test : Solution Term → Bool) → Requires test (key ∷ [])
         → Requires test keys.old.items → Requires test keys.new.items) }
@@ -46,14 +46,15 @@ fn add_key(key: Equality, keys: &mut Vec<Equality>) -> Result<(), AllocError>
     Ok(())
 }
 
-/// Returns the pair with the variable of the left side first, or None if no row binds one of them.
+/// Returns the equality with the operand of the left side first, or None if no row binds one of the
+/// variables.
 fn oriented(left: &Rows, right: &Rows, pair: Equality) -> Option<Equality>
     ensures required { OnSomePair result (λ key. Requires (fits (pair ∷ [])) (key ∷ [])) }
 {
-    if binds(left, pair.left) && binds(right, pair.right) {
+    if binds(left, pair.left.variable) && binds(right, pair.right.variable) {
         return Some(pair);
     }
-    if binds(left, pair.right) && binds(right, pair.left) {
+    if binds(left, pair.right.variable) && binds(right, pair.left.variable) {
         return Some(Equality {
             left: pair.right,
             right: pair.left,
@@ -155,28 +156,29 @@ pub(crate) fn key_number(dict: &Dict, number: u64) -> u64
     }
 }
 
-/// Returns the key by which terms are paired. Terms that are equal have one key. So have literals with
-/// one lexical form, such as `"1"` and `1`: their equality is an error, which is counted only if the
-/// condition is tested on them. An IRI or a blank node has none.
+/// Returns the key by which terms are paired: that of the text which STR returns for them. Terms that
+/// are equal have one key, and so have terms that STR makes equal. A blank node has none: it is equal
+/// only to itself, and STR of it is an error.
+///
+/// So `"1"` and `1` have one key too. Their equality is an error, which is counted only if the condition is
+/// tested on them.
 fn pairing_key(term: &Term) -> Option<u64>
     ensures value { result ≡ pairing_key term.now }
 {
-    match equality_key(term) {
-        Some(key) => Some(key),
-        None => text_key(term),
+    match term {
+        Term::Literal { lexical, .. } => Some(text_key(lexical.as_str())),
+        Term::Iri(text) => Some(text_key(text.as_str())),
+        Term::Blank(_) => None,
     }
 }
 
-/// Returns the key of a literal's lexical form, whatever its datatype.
-fn text_key(term: &Term) -> Option<u64>
-    ensures value { result ≡ text_key term.now }
+/// Returns the key of the number or the boolean with this form, or else a number of its bytes.
+fn text_key(text: &str) -> u64
+    ensures value { result ≡ text_key text.now }
 {
-    match term {
-        Term::Literal { lexical, .. } => match form_key(lexical.as_str()) {
-            Some(key) => Some(key),
-            None => Some(text_hash(lexical.as_str().as_bytes())),
-        },
-        Term::Iri(_) | Term::Blank(_) => None,
+    match form_key(text) {
+        Some(key) => key,
+        None => text_hash(text.as_bytes()),
     }
 }
 

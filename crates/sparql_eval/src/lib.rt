@@ -22,7 +22,7 @@
 //! Reading order: `appending`, `unions`, `projections`, `distinctness` (rows alone); `operator_result` (rows
 //! with a dictionary); `numbering`, `tables` (terms added to the dictionary); `read_row`, `filters`,
 //! `piece_values`, `values`, `extensions` (expressions); `patterns`, `graphs` (the index); `joins`
-//! (two lists of rows); `closed`, `evaluator`, `evaluation` (a plan). Tests: `evaluation` of the crate query_tests.
+//! (two lists of rows); `mentions`, `closed`, `forms`, `evaluator`, `evaluation` (a plan). Tests: `evaluation` of the crate query_tests.
 //!
 //! ```text
 //! { ?s p ?o OPTIONAL { ?o p ?z } }  over  x p y, y p z  =  (?s: x, ?o: y, ?z: z), (?s: y, ?o: z)
@@ -46,6 +46,7 @@ mod graphs;
 mod joins;
 mod keyed_joins;
 mod keyed_rows;
+mod mentions;
 mod numbering;
 mod operator_result;
 mod patterns;

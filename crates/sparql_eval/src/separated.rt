@@ -2,15 +2,16 @@
 //!
 //! No condition that requires two terms to be equal is true of a pair with different keys, so a join
 //! leaves such pairs out. But the condition may be an error over them: the equality of an xsd:double
-//! and another literal is one. These pairs are counted here. They do not change the result.
+//! and another literal is one, and so is STR of a blank node. These pairs are counted here. They do
+//! not change the result.
 //!
-//! If a condition is one equality, its value over a pair depends on the classes of the two terms
-//! (`separated_classes`). Other conditions are tested on each pair with a float, up to a limit
-//! (`separated_pairs`).
+//! If a condition is one equality of variables, its value over a pair depends on the classes of the two
+//! terms (`separated_classes`). Other conditions are tested on each pair with such a term, up to a
+//! limit (`separated_pairs`).
 ghost use Rattle.sparql_eval.specs.Evaluated.{AreKnown};
 
 use crate::equalities::Equality;
-use crate::separated_pairs::{PAIRS_AT_LEAST, Pairs, Side, has_floats};
+use crate::separated_pairs::{PAIRS_AT_LEAST, Pairs, Side, may_fail};
 use dict_core::Dict;
 use expression_errors::Place;
 use row_core::Rows;
@@ -58,7 +59,8 @@ fn is_join(tree: &Operator) -> bool {
 
 /// Returns whether all pairs of rows are to be joined: there is no key, or errors over pairs with
 /// different keys can be counted only when the condition is tested on them. The latter holds if there
-/// are few pairs, some with a float, and the rows are joined to others before.
+/// are few pairs, some with a term over which an equality may be an error, and the rows are joined to
+/// others before.
 pub(crate) fn is_joined_whole(
     dict: &Dict,
     left: &Rows,
@@ -75,7 +77,7 @@ pub(crate) fn is_joined_whole(
     !tested.is_last
         && tested.place.is_counted()
         && left.len().saturating_mul(right.len()) <= PAIRS_AT_LEAST
-        && (has_floats(dict, left, keys, Side::Left) || has_floats(dict, right, keys, Side::Right))
+        && (may_fail(dict, left, keys, Side::Left) || may_fail(dict, right, keys, Side::Right))
 }
 
 /// Counts the pairs of rows with different keys over which the condition is an error. Without memory for

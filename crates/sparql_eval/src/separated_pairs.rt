@@ -2,17 +2,17 @@
 ghost use Rattle.std.specs.Prelude.{◌≡◌, IfOk};
 ghost use Rattle.sparql_eval.specs.Numbered.{AreKnownAt, IsKnownCell, IsKnownRow};
 
-use crate::equalities::{Equality, is_equality};
+use crate::equalities::{Equality, Operand, is_equality};
 use crate::keyed_rows::{bind_a_common_variable, key_number};
 use crate::read_row::ReadRow;
 use dict_core::Dict;
-use expression_errors::{Place, count_rows, is_float};
+use expression_errors::{Place, count_rows};
 use row_core::Rows;
 use sparql_algebra::Expr;
 use std::alloc::{AllocError, Global};
 
-/// The number of pairs with a float that are tested, for each row of both sides, and for any number of
-/// rows.
+/// The number of pairs that are tested because an equality may be an error over one of their terms:
+/// for each row of both sides, and for any number of rows.
 const PAIRS_A_ROW: usize = 8;
 
 pub(crate) const PAIRS_AT_LEAST: usize = 100_000;
@@ -35,12 +35,17 @@ impl Side {
         }
     }
 
-    /// Returns the variable of this side in an equality.
-    pub(crate) fn variable(self, key: Equality) -> usize {
+    /// Returns the operand of this side in an equality.
+    pub(crate) fn operand(self, key: Equality) -> Operand {
         match self {
             Side::Left => key.left,
             Side::Right => key.right,
         }
+    }
+
+    /// Returns the variable of this side in an equality.
+    pub(crate) fn variable(self, key: Equality) -> usize {
+        self.operand(key).variable
     }
 }
 
@@ -62,7 +67,7 @@ impl<'a> Pairs<'a> {
     /// Counts the pairs with different keys over which the condition is an error.
     pub(crate) fn count(&self) -> Result<(), AllocError> {
         self.find_value()?;
-        if !self.has_floats() {
+        if !self.may_fail() {
             return Ok(());
         }
         match self.only_key() {
@@ -86,14 +91,15 @@ impl<'a> Pairs<'a> {
     /// Notes that nobody looks at the pairs with different keys.
     pub(crate) fn note(&self) {
         self.place.note_unseen();
-        if self.has_floats() {
+        if self.may_fail() {
             self.place.note_partial();
         }
     }
 
-    fn has_floats(&self) -> bool {
-        has_floats(self.dict, self.left, self.keys, Side::Left)
-            || has_floats(self.dict, self.right, self.keys, Side::Right)
+    /// Returns whether an equality may be an error over some term and terms with other keys.
+    fn may_fail(&self) -> bool {
+        may_fail(self.dict, self.left, self.keys, Side::Left)
+            || may_fail(self.dict, self.right, self.keys, Side::Right)
     }
 
     /// Tests pairs until the condition was true or false over one of them. After many without a value,
@@ -116,46 +122,47 @@ impl<'a> Pairs<'a> {
         Ok(())
     }
 
-    /// Counts the pairs with a float one by one, up to a limit.
+    /// Counts the pairs over which an equality may be an error one by one, up to a limit.
     fn count_one_by_one(&self) -> Result<(), AllocError> {
         let rows = self.left.len().saturating_add(self.right.len());
         let most = rows.saturating_mul(PAIRS_A_ROW).max(PAIRS_AT_LEAST);
-        let seen = self.count_floats(Side::Left, 0, most)?;
-        self.count_floats(Side::Right, seen, most)?;
+        let seen = self.count_side(Side::Left, 0, most)?;
+        self.count_side(Side::Right, seen, most)?;
         Ok(())
     }
 
-    /// Counts the pairs with a float on this side, but not those with a float on the left side twice.
-    /// Returns the number of pairs that were looked at. If there may be more, it is noted.
-    fn count_floats(&self, side: Side, before: usize, most: usize) -> Result<usize, AllocError> {
+    /// Counts the pairs over which an equality may be an error by a term of this side. Those with such a
+    /// term on the left side are not counted for the right side again. Returns the number of pairs that
+    /// were looked at. If there may be more, it is noted.
+    fn count_side(&self, side: Side, before: usize, most: usize) -> Result<usize, AllocError> {
         let mut seen = before;
         for row in 0..self.len(side) {
-            if self.has_float(side, row) {
+            if self.row_may_fail(side, row) {
                 for other in 0..self.len(side.other()) {
                     if seen >= most {
                         self.place.note_partial();
                         return Ok(seen);
                     }
                     seen = seen.saturating_add(1);
-                    self.count_float(side, row, other)?;
+                    self.count_at(side, row, other)?;
                 }
             }
         }
         Ok(seen)
     }
 
-    fn count_float(&self, side: Side, row: usize, other: usize) -> Result<(), AllocError> {
+    fn count_at(&self, side: Side, row: usize, other: usize) -> Result<(), AllocError> {
         match side {
             Side::Left => self.count_if_separated(row, other, 1),
-            Side::Right if self.has_float(Side::Left, other) => Ok(()),
+            Side::Right if self.row_may_fail(Side::Left, other) => Ok(()),
             Side::Right => self.count_if_separated(other, row, 1),
         }
     }
 
-    fn has_float(&self, side: Side, row: usize) -> bool {
+    fn row_may_fail(&self, side: Side, row: usize) -> bool {
         match side {
-            Side::Left => has_float(self.dict, self.left, row, self.keys, side),
-            Side::Right => has_float(self.dict, self.right, row, self.keys, side),
+            Side::Left => row_may_fail(self.dict, self.left, row, self.keys, side),
+            Side::Right => row_may_fail(self.dict, self.right, row, self.keys, side),
         }
     }
 
@@ -185,8 +192,8 @@ impl<'a> Pairs<'a> {
     /// Returns whether the terms of each key have one key number, or one of them is unbound.
     fn have_equal_keys(&self, row: usize, other: usize) -> bool {
         for key in self.keys {
-            if let Some(number) = self.cell(Side::Left, row, key.left) {
-                if let Some(other_number) = self.cell(Side::Right, other, key.right) {
+            if let Some(number) = self.cell(Side::Left, row, key.left.variable) {
+                if let Some(other_number) = self.cell(Side::Right, other, key.right.variable) {
                     if key_number(self.dict, number) != key_number(self.dict, other_number) {
                         return false;
                     }
@@ -246,25 +253,28 @@ impl<'a> Pairs<'a> {
     }
 }
 
-/// Returns whether a term of a key is a float in some row of a side.
-pub(crate) fn has_floats(dict: &Dict, rows: &Rows, keys: &[Equality], side: Side) -> bool
+/// Returns whether an equality may be an error over a term in some row of a side, and a term with another
+/// key.
+pub(crate) fn may_fail(dict: &Dict, rows: &Rows, keys: &[Equality], side: Side) -> bool
     requires known { AreKnownAt dict.now rows.now.rows }
 {
     for row in 0..rows.len() {
-        if has_float(dict, rows, row, keys, side) {
+        if row_may_fail(dict, rows, row, keys, side) {
             return true;
         }
     }
     false
 }
 
-/// Returns whether a term of a key is a float in this row of a side.
-fn has_float(dict: &Dict, rows: &Rows, row: usize, keys: &[Equality], side: Side) -> bool
+/// Returns whether an equality may be an error over a term in this row of a side, and a term with another
+/// key.
+fn row_may_fail(dict: &Dict, rows: &Rows, row: usize, keys: &[Equality], side: Side) -> bool
     requires known { AreKnownAt dict.now rows.now.rows }
 {
     for key in keys {
-        if let Some(number) = cell_of(dict, rows, row, side.variable(*key)) {
-            if is_float(dict.term(number)) {
+        let operand = side.operand(*key);
+        if let Some(number) = cell_of(dict, rows, row, operand.variable) {
+            if operand.may_fail(dict.term(number)) {
                 return true;
             }
         }

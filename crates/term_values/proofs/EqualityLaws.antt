@@ -1,21 +1,10 @@
 -- Terms that are equal by `=` have one key.
-use Rattle.std.proofs.Common.{◌≡◌, ℕ, zero, suc, ◌+◌, ◌*◌, ◌^◌, ◌/◌, ◌%◌, ◌<◌, ◌≤◌, Bool, true, false, cond, ◌&&◌, ◌||◌, ◌++◌, ◌∷◌, [], List, length, slice_get, take, add-one, ℤ, pos, neg_ℤ, Option, None, Some, refl, sym, ◌∙◌, ap, subst, arith, lit<, if◌then◌else◌}
-use Rattle.std.proofs.Math.Nat.{one-le-pow, mul_comm, mul-div_cancel, div-div-eq-div-mul, mod-add-div', mod-add-mod, add-mul-mod_self_right}
-use Rattle.std.proofs.lemmas.Nat.{div-mul-add}
-use Rattle.std.proofs.lemmas.Int.Digits.{digits_value-lt}
-use Rattle.std.proofs.lemmas.List.Folds.{list_all-append}
-use Rattle.std.proofs.lemmas.Str.{digit_value_digit}
-use Rattle.std.specs.Char.{digit_value, is_ascii_digit}
-use Rattle.std.specs.Cmp.{first_so, second_so}
-use Rattle.std.specs.List.{list_all}
-use Rattle.std.specs.Str.Parse.{digits_value}
-use Rattle.std.proofs.lemmas.Bool.{cases_Bool, false≢true}
-use Rattle.std.proofs.lemmas.Int.{ints}
-use Rattle.std.proofs.lemmas.Cmp.{int_ranked}
+use Rattle.std.proofs.Common.{◌≡◌, ℕ, Bool, true, false, ◌&&◌, List, Option, None, Some, refl, sym, ◌∙◌, ap, if◌then◌else◌}
+use Rattle.std.proofs.lemmas.Bool.{false≢true}
 use Rattle.std.proofs.lemmas.Slice.Eq.{bytes_eq-Decides}
 use Rattle.std.proofs.lemmas.Map.Text.{is_eq-slice_cmp}
 use Rattle.std.specs.Cmp.Lexicographic.{slice_cmp}
-use Rattle.std.specs.Ordering.{nat_cmp, bool_cmp, int_cmp, is_eq}
+use Rattle.std.specs.Ordering.{nat_cmp, bool_cmp, is_eq}
 use Rattle.std.specs.Str.{bytes_eq}
 use Rattle.std.specs.declared.cmp.Ordering.{Ordering}
 use Rattle.std.specs.declared.cmp.Ordering.TheVariants.{Less, Equal, Greater}
@@ -25,71 +14,9 @@ use Rattle.rdf_core.specs.declared.term.Term.TheVariants.{Blank, Iri, Literal}
 use Rattle.rdf_core.proofs.TermLaws.{term_eq, term_decides}
 use Rattle.algebra_model.specs.Comparison.{equal_by, equals, is_literal, terms_equal, value_cmp, value_of}
 use Rattle.algebra_model.specs.LiteralValue.{LiteralValue, number, boolean, string, other, boolean_value, is_integer_type, literal_value, number_or_other}
-use Rattle.algebra_model.specs.Number.{Number, decimal_number, integer_number, number_cmp, raised}
-use Rattle.term_values.proofs.NumberLaws.{value_append}
-use Rattle.term_values.proofs.SignLaws.{back_digits, in_range}
-use Rattle.term_values.specs.EqualityKey.{HaveOneKey, equality_key, number_key, value_key}
-
--- ---- digits
-
-pub digit_range : (whole fraction : List ℕ) (i c : ℕ) → list_all is_ascii_digit (whole ++ fraction) ≡ true → slice_get whole i ≡ Some c → (48 ≤ c) × (c ≤ 57)
-digit_range whole fraction i c digits at = by whole i (first_so _ (list_all is_ascii_digit fraction) (sym (list_all-append is_ascii_digit whole fraction) ∙ digits)) at
-  where
-    by : (cs : List ℕ) (i : ℕ) → list_all is_ascii_digit cs ≡ true → slice_get cs i ≡ Some c → (48 ≤ c) × (c ≤ 57)
-    by [] i h e = cc
-    by (x ∷ cs) zero h e = let p : x ≡ c = cc in in_range c (subst (λ n. is_ascii_digit n ≡ true) p (first_so (is_ascii_digit x) (list_all is_ascii_digit cs) h))
-    by (x ∷ cs) (suc i) h e = by cs i (second_so (is_ascii_digit x) (list_all is_ascii_digit cs) h) e
-
-take_one_more : (xs : List ℕ) (i x : ℕ) → slice_get xs i ≡ Some x → take (i + 1) xs ≡ take i xs ++ x ∷ []
-take_one_more xs i x e = rw add-one (by xs i e)
-  where
-    by : (xs : List ℕ) (i : ℕ) → slice_get xs i ≡ Some x → take (suc i) xs ≡ take i xs ++ x ∷ []
-    by [] i e = cc
-    by (y ∷ xs) zero e = let p : y ≡ x = cc in ap (λ z. z ∷ []) p
-    by (y ∷ xs) (suc i) e = ap (λ r. y ∷ r) (by xs i e)
-
--- ---- numbers
-
-quotients : (a b P Q : ℕ) → 0 < P → 0 < Q → a * Q ≡ b * P → a / P ≡ b / Q
-quotients a b P Q p q e =
-    sym (ap (λ n. n / P) (mul-div_cancel a q)) ∙ div-div-eq-div-mul (a * Q) Q P ∙ (λ i. e i / mul_comm Q P i)
-    ∙ sym (div-div-eq-div-mul (b * P) P Q) ∙ ap (λ n. n / Q) (mul-div_cancel b p)
-
-sizes_meet : (s t : Bool) (a b : ℕ) → (if s then neg_ℤ (pos a) else pos a) ≡ (if t then neg_ℤ (pos b) else pos b) → a ≡ b
-sizes_meet true true a b e = omega (arith, ints, e)
-sizes_meet true false a b e = omega (arith, ints, e)
-sizes_meet false true a b e = omega (arith, ints, e)
-sizes_meet false false a b e = omega (arith, ints, e)
-
-numbers_meet : (x y : Number) → Equal ≡ number_cmp x y → number_key x ≡ number_key y
-numbers_meet x y e =
-    let same : raised x y.places ≡ raised y x.places = int_ranked (raised x y.places) (raised y x.places) Equal e in
-    let sizes = sizes_meet x.negative y.negative (x.digits * 10 ^ y.places) (y.digits * 10 ^ x.places) same in
-    ap (λ n. n % 2 ^ 64) (quotients x.digits y.digits (10 ^ x.places) (10 ^ y.places) (one-le-pow x.places 10 (lit< tt)) (one-le-pow y.places 10 (lit< tt)) sizes)
-
--- one more digit, modulo 2^64
-key_more : (A d : ℕ) → ((A % 18446744073709551616) * 10 % 18446744073709551616 + d) % 18446744073709551616 ≡ (A * 10 + d) % 18446744073709551616
-key_more A d =
-    let r = A % 18446744073709551616 in
-    let q = A / 18446744073709551616 in
-    let split : r + q * 18446744073709551616 ≡ A = mod-add-div' A 18446744073709551616 in
-    let whole : A * 10 + d ≡ (r * 10 + d) + (q * 10) * 18446744073709551616 = omega (arith, split) in
-    mod-add-mod (r * 10) 18446744073709551616 d ∙ sym (add-mul-mod_self_right (r * 10 + d) (q * 10) 18446744073709551616) ∙ ap (λ n. n % 18446744073709551616) (sym whole)
-
-pub key_step : (whole fraction : List ℕ) (i c d key : ℕ) → list_all is_ascii_digit (whole ++ fraction) ≡ true → slice_get whole i ≡ Some c → d + 48 ≡ c → key ≡ digits_value 10 (take i whole) % 2 ^ 64
-    → (key * 10 % 2 ^ 64 + d) % 2 ^ 64 ≡ digits_value 10 (take (i + 1) whole) % 2 ^ 64
-key_step whole fraction i c d key digits at is was =
-    let r = digit_range whole fraction i c digits at in
-    let value : digit_value c + 48 ≡ c = digit_value_digit c r in
-    let same : d ≡ digit_value c = omega arith in
-    let taken : digits_value 10 (take (i + 1) whole) ≡ digits_value 10 (take i whole) * 10 + d =
-    ap (digits_value 10) (take_one_more whole i c at) ∙ value_append (take i whole) (c ∷ []) ∙ omega (arith, same) in
-    ap (λ k. (k * 10 % 2 ^ 64 + d) % 2 ^ 64) was ∙ key_more (digits_value 10 (take i whole)) d ∙ ap (λ n. n % 2 ^ 64) (sym taken)
-
-pub key_done : (whole fraction : List ℕ) → list_all is_ascii_digit (whole ++ fraction) ≡ true → (digits_value 10 (whole ++ fraction) / 10 ^ length fraction) ≡ digits_value 10 whole
-key_done whole fraction digits =
-    ap (λ n. n / 10 ^ length fraction) (value_append whole fraction)
-    ∙ div-mul-add (digits_value 10 whole) (10 ^ length fraction) (digits_value 10 fraction) (digits_value-lt 10 fraction (back_digits whole fraction digits))
+use Rattle.algebra_model.specs.Number.{Number, decimal_number, integer_number, number_cmp}
+use Rattle.term_values.proofs.ResidueLaws.{numbers_meet}
+use Rattle.term_values.specs.EqualityKey.{HaveOneKey, equality_key, value_key}
 
 -- ---- values
 

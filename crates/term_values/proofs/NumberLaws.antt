@@ -1,8 +1,7 @@
 -- The order of numbers digit by digit is their order as fractions over powers of ten.
 use Rattle.std.proofs.lemmas.Bool.Decides.{Decides-eqb}
-use Rattle.std.proofs.Common.{true≢false, Decides, ◌≡◌, ◌≢◌, ℕ, zero, suc, ◌+◌, ◌*◌, ◌^◌, ◌<◌, ◌≤◌, Bool, true, false, ◌==◌, cond, List, [], ◌∷◌, ◌++◌, length, refl, sym, ◌∙◌, ap, subst, arith, lit<}
+use Rattle.std.proofs.Common.{true≢false, Decides, ◌≡◌, ◌≢◌, ℕ, suc, ◌+◌, ◌*◌, ◌^◌, ◌<◌, ◌≤◌, Bool, true, false, ◌==◌, cond, List, [], ◌∷◌, ◌++◌, length, refl, sym, ◌∙◌, ap, subst, arith, lit<}
 use Rattle.std.proofs.Math.Nat.{pow-suc, mul-le-mul_right, pow-le-pow_right, mul-lt-mul_of_pos_right, one-le-pow, mul_comm}
-use Rattle.std.proofs.lemmas.Nat.{pow-add}
 use Rattle.std.proofs.lemmas.Int.Digits.{digits_value-lt}
 use Rattle.std.proofs.lemmas.Str.{digit_value_digit}
 use Rattle.std.proofs.lemmas.Str.Parse.{digit_from_value}
@@ -53,7 +52,7 @@ head_ranks d e P A B Equal Greater a b h g = let k : d * P ≡ e * P = ap (λ n.
 regrouped : (n P Q : ℕ) → Q ≡ P * 10 → n * Q ≡ n * 10 * P
 regrouped n P Q e = rw e (omega arith)
 
-value_after : (n : ℕ) (cs : List ℕ) → digits_value_after 10 n cs ≡ n * 10 ^ length cs + V cs
+pub value_after : (n : ℕ) (cs : List ℕ) → digits_value_after 10 n cs ≡ n * 10 ^ length cs + V cs
 value_after n [] = omega arith
 value_after n (c ∷ cs) =
     let a = value_after (n * 10 + digit_value c) cs in
@@ -64,7 +63,7 @@ value_after n (c ∷ cs) =
 pub value_cons : (c : ℕ) (cs : List ℕ) → V (c ∷ cs) ≡ digit_value c * 10 ^ length cs + V cs
 value_cons c cs = let a = value_after (0 * 10 + digit_value c) cs in omega (arith, a)
 
-after_append : (n : ℕ) (xs ys : List ℕ) → digits_value_after 10 n (xs ++ ys) ≡ digits_value_after 10 (digits_value_after 10 n xs) ys
+pub after_append : (n : ℕ) (xs ys : List ℕ) → digits_value_after 10 n (xs ++ ys) ≡ digits_value_after 10 (digits_value_after 10 n xs) ys
 after_append n [] ys = refl
 after_append n (x ∷ xs) ys = after_append (n * 10 + digit_value x) xs ys
 

@@ -1,15 +1,29 @@
 -- Keys of terms, under which terms that are equal by `=` are found together (SPARQL 1.1 Query
 -- Language, section 17.3). Different terms may have one key. The keys are a choice of this project;
 -- no definition of the algebra depends on them.
-use Rattle.std.specs.Prelude.{◌≡◌, ℕ, ◌/◌, ◌%◌, ◌^◌, true, List, Option, Some, None, if◌then◌else◌}
+use Rattle.std.specs.Prelude.{◌≡◌, ℕ, ◌-◌, ◌*◌, ◌%◌, ◌^◌, true, List, Option, Some, None, if◌then◌else◌}
 use Rattle.rdf_core.specs.declared.term.Term.{Term}
-use Rattle.algebra_model.specs.Number.{Number, integer_number}
+use Rattle.rdf_core.specs.declared.term.Term.TheVariants.{Literal}
+use Rattle.algebra_model.specs.Number.{Number, decimal_number}
 use Rattle.algebra_model.specs.LiteralValue.{LiteralValue, number, boolean, string, other, boolean_value, number_or_other}
 use Rattle.algebra_model.specs.Comparison.{equals, value_of}
 
--- the whole part of a number without its sign, modulo 2^64
+-- the largest prime number below 2^60 that ends in 9. A prime other than 2 and 5 gives each decimal
+-- number a residue.
+abbrev pub modulus : ℕ
+modulus = 1152921504606846869
+
+-- one tenth as a residue: ten times it is the modulus plus 1
+abbrev pub tenth : ℕ
+tenth = 115292150460684687
+
+-- the residue of a number without its sign
+abbrev pub size_key : Number → ℕ
+size_key x = (x.digits * tenth ^ x.places) % modulus
+
+-- the residue of a number
 abbrev pub number_key : Number → ℕ
-number_key x = (x.digits / 10 ^ x.places) % 2 ^ 64
+number_key x = if x.negative then (modulus - size_key x) % modulus else size_key x
 
 -- the key of a value; strings and other terms have none
 abbrev pub value_key : LiteralValue → Option ℕ
@@ -27,9 +41,9 @@ abbrev pub first_key : Option ℕ → Option ℕ → Option ℕ
 first_key None second = second
 first_key (Some key) second = Some key
 
--- the key of the integer or the boolean with this lexical form
+-- the key of the decimal number or the boolean with this lexical form
 abbrev pub form_key : List ℕ → Option ℕ
-form_key form = first_key (value_key (number_or_other (integer_number form))) (value_key (boolean_value form))
+form_key form = first_key (value_key (number_or_other (decimal_number form))) (value_key (boolean_value form))
 
 -- the keys are the same, and terms without a key are the same term
 abbrev pub HaveOneKey : Term → Term → Type 0
@@ -38,3 +52,9 @@ HaveOneKey a b = (equality_key a ≡ equality_key b) × (equality_key a ≡ None
 -- terms that are equal by `=` have one key
 abbrev pub EqualTermsHaveOneKey : Type 0
 EqualTermsHaveOneKey = (a b : Term) → equals a b ≡ Some true → HaveOneKey a b
+
+-- a literal that has a key has that of its lexical form, whatever its datatype
+abbrev pub KeysAreOfForms : Type 0
+KeysAreOfForms =
+    (form datatype : List ℕ) (tag : Option (List ℕ)) (key : ℕ) → equality_key (Literal form datatype tag) ≡ Some key
+    → form_key form ≡ Some key

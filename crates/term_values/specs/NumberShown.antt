@@ -1,5 +1,5 @@
 -- The number whose sign and digits a value of the program holds.
-use Rattle.std.specs.Prelude.{ℕ, Bool, List, ◌++◌, length}
+use Rattle.std.specs.Prelude.{◌++◌, length}
 use Rattle.std.specs.Str.Parse.{digits_value}
 use Rattle.algebra_model.specs.Number.{Number}
 use Rattle.term_values.specs.declared.digits.Digits.{Digits}

@@ -1,16 +1,29 @@
 //! Keys of terms, under which terms that are equal by `=` are found together.
-ghost use Rattle.std.specs.Prelude.{◌≡◌, ◌+◌, ◌≤◌};
-ghost use Rattle.term_values.specs.EqualityKey.{EqualTermsHaveOneKey, equality_key, form_key, number_key, value_key};
+//!
+//! The key of a number is its residue modulo a prime: the remainder of an integer, and `a · t^k` for
+//! the decimal `a / 10^k`, where `t` is the residue of one tenth. So it depends on the value alone,
+//! and numbers that differ in some digit mostly have different keys.
+ghost use Rattle.std.specs.Prelude.{◌≡◌, ◌+◌, ◌*◌, ◌<◌, ◌≤◌, ◌%◌, ◌^◌, true};
+ghost use Rattle.std.specs.Char.{is_ascii_digit};
+ghost use Rattle.std.specs.List.{list_all};
+ghost use Rattle.std.specs.Str.Parse.{digits_value_after};
+ghost use Rattle.term_values.specs.EqualityKey.{EqualTermsHaveOneKey, KeysAreOfForms, equality_key, form_key, modulus, number_key, size_key, tenth, value_key};
 ghost use Rattle.term_values.specs.NumberShown.{number_shown};
 ghost use Rattle.term_values.specs.ValueShown.{value_shown};
 
 use crate::digits::Digits;
 use crate::literal::{LiteralValue, boolean_value, number_or_other, value_of};
-use crate::number::integer_digits;
+use crate::number::decimal_digits;
 use rdf_core::Term;
 
-/// Returns the key of a term. The key of a number is its whole part without the sign, modulo 2^64,
-/// and that of a boolean is 0 or 1. Other terms have none: they are equal only to themselves.
+/// The largest prime number below 2^60 that ends in 9.
+const MODULUS: u64 = 1_152_921_504_606_846_869;
+
+/// The residue of one tenth: ten times it is 1 more than the modulus.
+const TENTH: u64 = 115_292_150_460_684_687;
+
+/// Returns the key of a term. The key of a number is its residue modulo a prime below 2^60, and
+/// that of a boolean is 0 or 1. Other terms have none: they are equal only to themselves.
 ///
 /// Terms that are equal by `=` have the same key (see [`equal_terms_have_one_key`]). Different
 /// terms may have it too.
@@ -20,12 +33,13 @@ pub fn equality_key(term: &Term) -> Option<u64>
     value_key(&value_of(term))
 }
 
-/// Returns the key of the integer or the boolean with this lexical form, or None if it is the form
-/// of neither. So the key of a well-formed integer or boolean is that of its form.
+/// Returns the key of the decimal number or the boolean with this lexical form, or None if it is the
+/// form of neither. The form of an integer is also that of a decimal. So a literal that has a key has
+/// the key of its form (see [`keys_are_of_forms`]).
 pub fn form_key(form: &str) -> Option<u64>
     ensures key { result ≡ form_key form.now }
 {
-    match value_key(&number_or_other(integer_digits(form.as_bytes()))) {
+    match value_key(&number_or_other(decimal_digits(form.as_bytes()))) {
         Some(key) => Some(key),
         None => value_key(&boolean_value(form)),
     }
@@ -47,16 +61,64 @@ pub fn equal_terms_have_one_key()
     ensures law { EqualTermsHaveOneKey }
 {}
 
-/// Returns the whole part of a number without its sign, modulo 2^64.
+/// Proves that a literal that has a key has the key of its lexical form.
+pub fn keys_are_of_forms()
+    ensures law { KeysAreOfForms }
+{}
+
+/// Returns the residue of a number.
 fn number_key(number: &Digits) -> u64
     ensures key { result ≡ number_key (number_shown number.now) }
 {
-    let mut key: u64 = 0;
-    for i in 0..number.whole.len() {
-        let digit = digit_number(number.whole[i]);
-        key = key.wrapping_mul(10).wrapping_add(digit);
+    let size = size_key(number);
+    if number.negative {
+        (MODULUS - size) % MODULUS
+    } else {
+        size
+    }
+}
+
+/// Returns the residue of a number without its sign.
+fn size_key(number: &Digits) -> u64
+    ensures key { result ≡ size_key (number_shown number.now) }
+    ensures small { result < modulus }
+{
+    let whole = with_digits(0, number.whole);
+    let digits = with_digits(whole, number.fraction);
+    tenths(digits, number.fraction.len())
+}
+
+/// Returns the residue of the number that digits write when they follow those of another number.
+fn with_digits(before: u64, digits: &[u8]) -> u64
+    requires small { before < modulus }
+    requires digits { list_all is_ascii_digit digits.now ≡ true }
+    ensures key { result ≡ digits_value_after 10 before digits.now % modulus }
+{
+    let mut key = before;
+    for i in 0..digits.len() {
+        key = (key * 10 + digit_number(digits[i])) % MODULUS;
     }
     key
+}
+
+/// Returns the residue of a number over ten to the power of `places`.
+fn tenths(number: u64, places: usize) -> u64
+    requires small { number < modulus }
+    ensures key { result ≡ (number * tenth ^ places) % modulus }
+{
+    let mut key = number;
+    for _ in 0..places {
+        key = tenth_of(key);
+    }
+    key
+}
+
+/// Returns the residue of one tenth of a number: the tenth of its tens, and a tenth for each unit.
+fn tenth_of(number: u64) -> u64
+    requires small { number < modulus }
+    ensures key { result ≡ (number * tenth) % modulus }
+{
+    number / 10 + number % 10 * TENTH
 }
 
 /// Returns the number of a digit.

@@ -8,14 +8,17 @@
 //! A [`Valued`] is a term together with its value, and [`compare_valued`] compares two of them. They
 //! save work if one term is compared with many others, as in IN.
 //!
+//! [`equality_key`] and [`form_key`] return numbers by which terms that may be equal are found. A law
+//! says that equal terms have one key, another that the key of a literal is that of its form.
+//!
 //! The crate expression_values evaluates expressions with these functions, and reexports [`compare`]
 //! and [`truth`].
 //!
 //! Standards: SPARQL 1.1 Query Language, sections 17.2 and 17.3; XML Schema 1.1 Part 2, sections
 //! 3.3 and 3.4 (lexical forms of numbers and booleans).
 //!
-//! Reading order: `digits`, `number`, `literal`, `valued`, `comparison`. Tests: `comparisons` of
-//! the crate query_tests.
+//! Reading order: `digits`, `number`, `literal`, `valued`, `comparison`, `equality`. Tests:
+//! `comparisons` and `evaluation` of the crate query_tests.
 //!
 //! ```text
 //! compare(Comparison::Equal, &one, &one_point_zero)   // "01"^^xsd:integer and 1.0: Some(true)
@@ -34,5 +37,5 @@ mod number;
 mod valued;
 
 pub use comparison::{compare, compare_valued, truth};
-pub use equality::{equal_terms_have_one_key, equality_key, form_key};
+pub use equality::{equal_terms_have_one_key, equality_key, form_key, keys_are_of_forms};
 pub use valued::Valued;

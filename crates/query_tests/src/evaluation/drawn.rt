@@ -46,6 +46,7 @@ const RULES: &[(char, &[&str])] = &[
             "MINUS { π} ",
             "FILTER(BOUND(?β)) ",
             "FILTER(?β = ?η) ",
+            "FILTER(STR(?β) = STR(?η)) ",
             "{ π} ",
             "BIND(STR(?a) AS ?η) ",
             "π",

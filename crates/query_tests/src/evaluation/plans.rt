@@ -252,7 +252,7 @@ SELECT * { ?s <a:q> ?v BIND(STR(?v) AS ?w) }      => 1: <a:x> "5" "5"
 SELECT * { ?s <a:q> ?v BIND(DATATYPE(?v) AS ?w) } => 1: <a:x> "5" <http://www.w3.org/2001/XMLSchema#string>
 "#;
 
-/// FILTER ([68] `Filter`) that requires variables of two groups to be equal.
+/// FILTER ([68] `Filter`) that requires variables of two groups, or STR of them, to be equal.
 const EQUALITIES: &str = r#"
 # Rows are paired by the terms that the condition compares, in either order of the operands.
 SELECT * { { ?s <a:p> ?o } { ?t <a:q> ?v } FILTER(?s = ?t) }                             => 1: <a:x> <a:y> <a:x> "5"
@@ -267,6 +267,17 @@ SELECT * { { VALUES (?a ?b) { (UNDEF <a:y>) (<a:x> <a:z>) } } { VALUES (?a ?c) {
 # Numbers are equal by value.
 SELECT ?v { { VALUES ?v { 1 2 } } { VALUES ?w { 1.0 3 } } FILTER(?v = ?w) }              => 1: "1"^^<http://www.w3.org/2001/XMLSchema#integer> -
 SELECT ?v { { VALUES ?v { 1 2 } } { VALUES ?w { 1.0 3 } } FILTER(sameTerm(?v, ?w)) }     => 0:
+# So are those that differ in zeros, in a sign of zero, or in the datatype; other digits after the dot make another number.
+SELECT ?v { { VALUES ?v { 01 1.50 0.25 -0.0 } } { VALUES ?w { +1.5 .26 0 "1"^^<http://www.w3.org/2001/XMLSchema#byte> } } FILTER(?v = ?w) } => 3: "-0.0"^^<http://www.w3.org/2001/XMLSchema#decimal> -; "01"^^<http://www.w3.org/2001/XMLSchema#integer> -; "1.50"^^<http://www.w3.org/2001/XMLSchema#decimal> -
+# STR pairs rows by the text of an IRI or a literal, without the tag and the datatype. It is an error for a blank node.
+SELECT * { { VALUES ?v { "5"@en <a:x> } } { VALUES ?w { 5.0 "5" "a:x" } } FILTER(STR(?v) = STR(?w)) } => 2: "5"@en "5"; <a:x> "a:x"
+SELECT * { { VALUES ?v { "5"@en <a:x> } } { VALUES ?w { "5"@fr "5" "a:x" } } FILTER(STR(?v) = ?w) }   => 2: "5"@en "5"; <a:x> "a:x"
+SELECT * { { VALUES ?v { "5"@en <a:x> } } { VALUES ?w { "5"@fr "5" "a:x" } } FILTER(?v = STR(?w)) }   => 0:
+SELECT * { { VALUES ?v { "a:x" } } { ?s <a:p> ?o } FILTER(sameTerm(STR(?s), ?v)) }                    => 1: "a:x" <a:x> <a:y>
+SELECT * { { GRAPH ?g { ?s <a:p> ?o } } { VALUES ?w { "h" "a:g" } } FILTER(STR(?g) = ?w) }            => 1: <a:g> <a:x> <a:y> "a:g"
+SELECT * { ?s <a:q> ?v OPTIONAL { VALUES ?w { "5"@en 6 } FILTER(STR(?w) = ?v) } }                     => 1: <a:x> "5" "5"@en
+# LANG pairs no rows by their texts.
+SELECT * { { VALUES ?v { "5"@en } } { VALUES ?w { "en" "5" } } FILTER(LANG(?v) = ?w) }                => 1: "5"@en "en"
 # An equality that is not required pairs no rows.
 SELECT * { { ?s <a:p> ?o } { ?t <a:p> ?u } FILTER(?o = ?t || ?o = ?u) } => 3: <a:x> <a:y> <a:x> <a:y>; <a:x> <a:y> <a:y> <a:z>; <a:y> <a:z> <a:y> <a:z>
 SELECT * { { ?s <a:p> ?o } { ?t <a:q> ?v } FILTER(!(?s = ?t)) }         => 1: <a:y> <a:z> <a:x> "5"
@@ -303,6 +314,25 @@ SELECT * { VALUES ?g { <a:g> } { GRAPH ?g { ?s <a:p> ?o } } FILTER(BOUND(?o)) } 
 SELECT * { VALUES ?g { <a:g> <a:none> } OPTIONAL { GRAPH ?g { ?s <a:p> ?o } } }     => 2: <a:g> <a:x> <a:y>; <a:none> - -
 SELECT * { VALUES ?g { <a:g> <a:none> } MINUS { GRAPH ?g { ?s <a:p> ?o } } }        => 1: <a:none> - -
 SELECT * { GRAPH ?g { ?s <a:p> ?o GRAPH ?g { ?t <a:p> ?u } } }                      => 2: <a:g> <a:x> <a:y> <a:x> <a:y>; _:h <a:y> <a:x> <a:y> <a:x>
+"#;
+
+/// GRAPH ([58] `GraphGraphPattern`) inside of GRAPH, below other operators.
+const NESTED_GRAPHS: &str = r#"
+# FILTER, OPTIONAL, MINUS and UNION of a pattern and of an inner GRAPH, in each graph.
+SELECT ?g ?s ?h { GRAPH ?g { ?s <a:p> ?o GRAPH ?h { ?t <a:p> ?s } FILTER(?o != <a:z>) } }  => 2: <a:g> <a:x> _:h - -; _:h <a:y> <a:g> - -
+SELECT ?g ?s ?h { GRAPH ?g { ?s <a:p> ?o OPTIONAL { GRAPH ?h { ?o <a:p> ?s } } } }         => 2: <a:g> <a:x> _:h -; _:h <a:y> <a:g> -
+SELECT ?g ?s ?t { GRAPH ?g { ?s <a:p> ?o OPTIONAL { GRAPH <a:g> { ?t <a:p> ?s } } } }      => 2: <a:g> <a:x> - -; _:h <a:y> <a:x> -
+SELECT ?g ?s { GRAPH ?g { ?s <a:p> ?o MINUS { GRAPH <a:g> { ?s <a:p> ?u } } } }            => 1: _:h <a:y> - -
+SELECT ?g ?s { GRAPH ?g { { ?s <a:p> ?o } UNION { GRAPH <a:g> { ?s <a:p> ?o } } } }        => 4: <a:g> <a:x> -; <a:g> <a:x> -; _:h <a:x> -; _:h <a:y> -
+SELECT ?g ?s ?b { GRAPH ?g { ?s <a:p> ?o GRAPH ?h { ?t <a:p> ?s } BIND(STR(?o) AS ?b) } }  => 2: <a:g> <a:x> "a:y" - - -; _:h <a:y> "a:x" - - -
+# An equality of a pattern and an inner GRAPH, which is after or before it.
+SELECT ?g ?s ?h ?t { GRAPH ?g { ?s <a:p> ?o GRAPH ?h { ?t <a:p> ?u } FILTER(?o = ?t) } }   => 2: <a:g> <a:x> _:h <a:y> - -; _:h <a:y> <a:g> <a:x> - -
+SELECT ?g ?s ?h ?t { GRAPH ?g { GRAPH ?h { ?t <a:p> ?u } ?s <a:p> ?o FILTER(?o = ?t) } }   => 2: <a:g> <a:x> _:h <a:y> - -; _:h <a:y> <a:g> <a:x> - -
+# A condition that mentions the variable is an error inside of its GRAPH.
+SELECT * { GRAPH ?g { ?s <a:p> ?o GRAPH <a:g> { ?s <a:p> ?u } FILTER(BOUND(?g)) } }       => 0:
+# An inner GRAPH with the same variable: a solution that has another name is left out after OPTIONAL.
+SELECT ?g ?s ?t { GRAPH ?g { ?s <a:p> ?o OPTIONAL { GRAPH ?g { ?t <a:p> ?s } } } }         => 0:
+SELECT ?g ?s { GRAPH ?g { ?s <a:p> ?o MINUS { GRAPH ?g { ?s <a:p> ?u } } } }               => 0:
 "#;
 
 /// A computed term that the document has gets the number of that term. Another computed term is
@@ -399,6 +429,7 @@ const TABLES: &[(Reader, &str)] = &[
     (Reader::Rows(RowReader::Query), EQUALITIES),
     (Reader::Rows(RowReader::Query), NAMED_GRAPHS),
     (Reader::Rows(RowReader::Query), NAMED_BY_ROWS),
+    (Reader::Rows(RowReader::Query), NESTED_GRAPHS),
     (Reader::Rows(RowReader::Added), ADDED),
     (Reader::Rows(RowReader::Graph), ALONE),
 ];

@@ -1,5 +1,4 @@
-use Rattle.std.proofs.Common.{◌≡◌, sym, ap, ◌∙◌, subst, arith}
-use Rattle.algebra_model.specs.Expression.{Expression}
+use Rattle.std.proofs.Common.{sym, ap, ◌∙◌, subst}
 use Rattle.expression_values.specs.ExpressionOf.{expression_of}
 use Rattle.expression_values.specs.declared.expression.Expr.{Expr}
 use Rattle.expression_values.proofs.FoldSteps.{and_stands_for}

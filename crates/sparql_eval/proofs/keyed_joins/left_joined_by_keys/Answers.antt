@@ -1,5 +1,4 @@
-use Rattle.std.proofs.Common.{◌≡◌, ◌<◌, ℕ, true, Bool, List, All, get_or, map, length, nat_eq, nat_lt, take, sym, ap, ◌∙◌, subst}
-use Rattle.rdf_core.specs.declared.term.Term.{Term}
+use Rattle.std.proofs.Common.{◌≡◌, ℕ, true, Bool, List, map, length, nat_eq, nat_lt, take, sym, ap, ◌∙◌, subst}
 use Rattle.algebra_model.specs.Bag.{IsSameBag}
 use Rattle.algebra_model.specs.Expression.{holds}
 use Rattle.algebra_model.specs.Operators.{left_join}
@@ -30,7 +29,7 @@ left_join-requires-clause-right_known g c κs within =
 pub returns-clause-evaluated : goal.returns-clause-evaluated
 returns-clause-evaluated g c =
     let terms = c.args.dict.now in
-    let e = expression_of c.args.condition.now in
+    let e = expression_of c.args.tested.now.condition.now in
     let pairs = c.args.keys.now in
     let L = c.args.left.now.rows in
     let R = c.args.right.now.rows in

@@ -2,4 +2,4 @@ use Rattle.std.proofs.Common.{◌≡◌, map, take}
 use Rattle.sparql_eval.proofs.keyed_joins.right_variables.Given as goal
 
 abbrev pub invariant-loop-i : goal.invariant-loop-i
-invariant-loop-i l = l.made.items ≡ map (λ key. key.right) (take l.i l.keys)
+invariant-loop-i l = l.made.items ≡ map (λ key. key.right.variable) (take l.i l.keys)

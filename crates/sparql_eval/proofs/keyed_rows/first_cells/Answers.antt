@@ -1,4 +1,4 @@
-use Rattle.std.proofs.Common.{◌≡◌, ◌++◌, ◌∷◌, [], take, sym, ◌∙◌, ap, Some}
+use Rattle.std.proofs.Common.{◌++◌, ◌∷◌, [], take, sym, ◌∙◌, ap, Some}
 use Rattle.sparql_eval.proofs.ProjectSteps.{map-take}
 use Rattle.sparql_eval.proofs.keyed_rows.first_cells.Goals as goal
 

@@ -1,4 +1,4 @@
-use Rattle.std.proofs.Common.{◌≡◌, ◌++◌, ◌∷◌, [], sym, ◌∙◌, ap, Some}
+use Rattle.std.proofs.Common.{◌++◌, ◌∷◌, [], sym, ◌∙◌, ap, Some}
 use Rattle.sparql_eval.specs.KeyedRows.{with_keys}
 use Rattle.sparql_eval.proofs.ProjectSteps.{map-take}
 use Rattle.sparql_eval.proofs.ReadingLaws.{rows_known_at}

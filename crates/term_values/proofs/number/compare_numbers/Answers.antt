@@ -1,6 +1,6 @@
 use Rattle.std.proofs.Common.{◌∙◌, sym}
 use Rattle.term_values.specs.NumberShown.{number_shown}
-use Rattle.term_values.proofs.SignLaws.{same_sign, other_sign, other_sign', positive_order, negative_order, mixed_less, mixed_greater, both_zero}
+use Rattle.term_values.proofs.SignLaws.{same_sign, other_sign, other_sign', positive_order, negative_order, mixed_less, mixed_greater}
 use Rattle.term_values.proofs.number.compare_numbers.Goals as goal
 
 pub returns-then-left : goal.returns-then-left

@@ -1,4 +1,4 @@
-use Rattle.std.proofs.Common.{◌≡◌, ◌==◌, ◌∙◌, sym, ap, false, length}
+use Rattle.std.proofs.Common.{◌≡◌, ◌==◌, ◌∙◌, sym, false, length}
 use Rattle.term_values.proofs.NumberSteps.{whole_is_numeral, whole_is_not}
 use Rattle.term_values.proofs.number.is_numeral.Goals as goal
 

@@ -1,4 +1,4 @@
-use Rattle.std.proofs.Common.{◌≡◌, ℕ, ◌<◌, Bool, List, [], ◌∷◌, ◌++◌, true, length, map, filter, flat_map, get_or, slice_get, nat_eq, nat_lt, replicate, set, None, Some, IfOk, refl, sym, ap, subst, ◌∙◌, arith}
+use Rattle.std.proofs.Common.{◌≡◌, ℕ, ◌<◌, Bool, false, not, ◌&&◌, List, [], ◌∷◌, ◌++◌, true, length, map, filter, flat_map, get_or, slice_get, nat_eq, nat_lt, replicate, set, None, Some, IfOk, refl, sym, ap, subst, ◌∙◌, arith}
 use Rattle.std.specs.List.{list_all}
 use Rattle.std.proofs.lemmas.List.Sorted.{IsPermutation-refl}
 use Rattle.std.proofs.lemmas.Option.{slice_get-get_or}
@@ -24,12 +24,14 @@ use Rattle.sparql_algebra.specs.declared.operator.Operator.{Operator}
 use Rattle.sparql_eval.specs.Computed.{TakesOnly}
 use Rattle.sparql_eval.specs.Evaluated.{IsEvaluated, solutions_of}
 use Rattle.sparql_eval.specs.Fitting.{IsEvaluatedWhere, fits}
+use Rattle.sparql_eval.specs.Mentions.{may_bind, mentions}
 use Rattle.sparql_eval.specs.Possible.{may_join, meets_some}
 use Rattle.sparql_eval.specs.declared.equalities.Equality.{Equality}
 use Rattle.sparql_eval.specs.TreeSolutions.{AreGraphs, Needed, NeededIn, graph_solutions, solutions_in, tree_solutions}
 use Rattle.sparql_eval.proofs.NamedSteps.{all_named, each_more}
 use Rattle.sparql_eval.proofs.ClosedSteps.{as_bag, closed_in, joined_in, joined_left, names_evaluated, no_graphs, none_in, some_graphs, takes_as_each, takes_closed, takes_then, takes_turned}
 use Rattle.sparql_eval.proofs.FittingSteps.{where_all, where_any, where_any_ok, where_filtered, where_joined, where_whole}
+use Rattle.sparql_eval.proofs.OutwardSteps.{apart_parts, extend_each, filter_each, graphs_kept, join_left_where, join_right_where, left_join_each, minus_each, takes_each_values, takes_union, union_each}
 use Rattle.sparql_eval.proofs.PossibleSteps.{after_possible, fits_may_join, join_drops, left_join_drops, meets_may_join, minus_drops, next_left, next_right, possible_are, possible_suffice, where_possible}
 use Rattle.sparql_eval.proofs.ReadingLaws.{Known, all_taken, grown_itself, grown_twice, read_by, rows_kept}
 use Rattle.sparql_eval.proofs.EvaluateSteps.{active_kept, after_left, after_one, after_right, all_below, as_whole, index_kept, tree_kept, join_keeps, left_join_keeps, union_keeps, minus_keeps, filter_keeps, extend_keeps, project_keeps, distinct_keeps}
@@ -1378,3 +1380,299 @@ solve_right_where-returns-in_default-clause-needed g t c = c.solve_where.ensures
 
 pub solve_right_where-returns-in_default-clause-one_worker : goal.solve_right_where-returns-in_default-clause-one_worker
 solve_right_where-returns-in_default-clause-one_worker g t c = c.solve_where.ensures.one_worker
+
+-- ---- operators after the names of the graphs
+
+pub solve_each_filter-filter_with-requires-clause-known : goal.solve_each_filter-filter_with-requires-clause-known
+solve_each_filter-filter_with-requires-clause-known g t c κs within = c.in_ok-solved.ensures.evaluated.known
+
+pub solve_each_filter-returns-clause-evaluated : goal.solve_each_filter-returns-clause-evaluated
+solve_each_filter-returns-clause-evaluated g t c =
+    let s = c.args.self.now in
+    filter_each c.args.dict s.index.now s.width c.args.variable c.args.graphs.now c.filter_with.result (expression_of c.args.condition.now) (algebra_of c.args.inner.now) c.requires.not_mentioned c.as_slice.result.now
+    (subst (λ (l : List Equality). (ρ : Solution Term) → holds (expression_of c.args.condition.now) ρ ≡ true → fits [] ρ ≡ true → fits l ρ ≡ true) (sym c.as_slice.ensures.value) c.in_ok-pairs.ensures.required)
+    c.in_ok-solved.dict c.in_ok-solved.solved c.in_ok-solved.ensures.evaluated c.filter_with.ensures.evaluated
+
+pub solve_each_filter-returns-clause-needed : goal.solve_each_filter-returns-clause-needed
+solve_each_filter-returns-clause-needed g t c =
+    let s = c.args.self.now in
+    takes_still (NeededIn c.args.dict s.index.now s.width (each_graph c.args.variable) (algebra_of c.args.inner.now)) c.args.dict c.in_ok-solved.dict c.filter_with.result c.in_ok-solved.ensures.needed c.filter_with.ensures.same_dict
+
+pub solve_each_filter-returns-clause-one_worker : goal.solve_each_filter-returns-clause-one_worker
+solve_each_filter-returns-clause-one_worker g t c = c.filter_with.ensures.one_worker
+
+pub solve_each_extend-extend_with-requires-clause-known : goal.solve_each_extend-extend_with-requires-clause-known
+solve_each_extend-extend_with-requires-clause-known g t c κs within = c.in_ok-rows.ensures.evaluated.known
+
+pub solve_each_extend-returns-clause-evaluated : goal.solve_each_extend-returns-clause-evaluated
+solve_each_extend-returns-clause-evaluated g t c =
+    let s = c.args.self.now in
+    extend_each c.args.dict s.index.now s.width c.args.variable c.args.graphs.now c.extend_with.result c.args.bound c.requires.another (expression_of c.args.expression.now) (algebra_of c.args.inner.now) c.requires.not_mentioned
+    c.in_ok-rows.dict c.in_ok-rows.rows c.in_ok-rows.ensures.evaluated c.extend_with.ensures.evaluated
+
+pub solve_each_extend-returns-clause-needed : goal.solve_each_extend-returns-clause-needed
+solve_each_extend-returns-clause-needed g t c =
+    let s = c.args.self.now in
+    takes_each_values c.args.dict s.index.now s.width c.args.variable c.args.bound (expression_of c.args.expression.now) c.requires.not_mentioned (algebra_of c.args.inner.now) c.args.graphs.now c.requires.graphs c.extend_with.result
+    c.in_ok-rows.dict c.in_ok-rows.rows c.in_ok-rows.ensures.evaluated c.in_ok-rows.ensures.needed c.extend_with.ensures.needed
+
+pub solve_each_union-union_of-requires-clause-known_left : goal.solve_each_union-union_of-requires-clause-known_left
+solve_each_union-union_of-requires-clause-known_left g t c = (rows_kept c.args.dict c.in_ok-right.dict c.in_ok-right.ensures.evaluated.grown c.args.left.rows c.requires.known_left).0
+
+pub solve_each_union-union_of-requires-clause-same_width : goal.solve_each_union-union_of-requires-clause-same_width
+solve_each_union-union_of-requires-clause-same_width g t c = c.requires.same_width ∙ sym c.in_ok-right.ensures.evaluated.wide
+
+pub solve_each_union-union_of-requires-clause-known_right : goal.solve_each_union-union_of-requires-clause-known_right
+solve_each_union-union_of-requires-clause-known_right g t c = c.in_ok-right.ensures.evaluated.known
+
+pub solve_each_union-returns-clause-evaluated : goal.solve_each_union-returns-clause-evaluated
+solve_each_union-returns-clause-evaluated g t c =
+    let s = c.args.self.now in
+    after_right c.args.dict c.in_ok-right.dict s.width c.union_of.result (λ A B. A ++ B) (union_keeps) (solutions_in c.args.dict s.index.now s.width c.args.variable c.args.graphs.now (algebra_of c.args.right.now)) c.args.left c.in_ok-right.right c.requires.same_width c.requires.known_left c.in_ok-right.ensures.evaluated c.union_of.ensures.evaluated
+
+pub solve_each_union-returns-clause-needed : goal.solve_each_union-returns-clause-needed
+solve_each_union-returns-clause-needed g t c =
+    let s = c.args.self.now in
+    takes_still (NeededIn c.args.dict s.index.now s.width (each_graph c.args.variable) (algebra_of c.args.right.now)) c.args.dict c.in_ok-right.dict c.union_of.result c.in_ok-right.ensures.needed c.union_of.ensures.same_dict
+
+pub solve_each_union-returns-clause-one_worker : goal.solve_each_union-returns-clause-one_worker
+solve_each_union-returns-clause-one_worker g t c = λ _. c.union_of.ensures.memory
+
+pub solve_each_extend-returns-clause-one_worker : goal.solve_each_extend-returns-clause-one_worker
+solve_each_extend-returns-clause-one_worker g t c = c.extend_with.ensures.one_worker
+
+pub solve_each_extend-extend_with-requires-clause-variable : goal.solve_each_extend-extend_with-requires-clause-variable
+solve_each_extend-extend_with-requires-clause-variable g t c κs within = subst (λ (w : ℕ). c.args.bound < w) (sym c.in_ok-rows.ensures.evaluated.wide) c.requires.bound
+
+-- ---- Union, LeftJoin and Minus after the names
+
+pub solve_outward-solve_each_union-requires-clause-index : goal.solve_outward-solve_each_union-requires-clause-index
+solve_outward-solve_each_union-requires-clause-index g t c κs within = (index_kept c.args.dict c.in_ok-rows.dict c.in_ok-rows.ensures.evaluated.grown c.args.self.now.index.now c.requires.index).0
+
+pub solve_outward-solve_each_union-requires-clause-graphs : goal.solve_outward-solve_each_union-requires-clause-graphs
+solve_outward-solve_each_union-requires-clause-graphs g t c κs within =
+    graphs_kept c.args.dict c.in_ok-rows.dict c.in_ok-rows.ensures.evaluated.grown c.args.self.now.index.now c.requires.index c.args.graphs.now c.requires.graphs
+
+pub solve_outward-returns-in-Union-clause-evaluated : goal.solve_outward-returns-in-Union-clause-evaluated
+solve_outward-returns-in-Union-clause-evaluated g t c =
+    let s = c.args.self.now in
+    let terms = c.args.dict in
+    let v = c.args.variable in
+    let graphs = c.args.graphs.now in
+    let whole : Algebra → List (Solution Term) = λ A. solutions_in terms s.index.now s.width v graphs A in
+    let L = algebra_of c.deref.result.now in
+    let R = algebra_of c.deref-in-Union.result.now in
+    let is : algebra_of c.args.inner.now ≡ algebra.Union L R =
+    ap algebra_of c.in-Union.is ∙ union_denotes c.in-Union.left c.in-Union.right ∙ (λ i. algebra.Union (algebra_of ((sym c.deref.ensures) i)) (algebra_of ((sym c.deref-in-Union.ensures) i))) in
+    as_whole terms s.width c.solve_each_union.result (whole (algebra.Union L R)) (whole (algebra_of c.args.inner.now)) (ap whole is)
+    (union_each terms c.in_ok-rows.dict s.index.now c.requires.index s.width v graphs c.requires.graphs c.solve_each_union.result L R c.in_ok-rows.rows c.in_ok-rows.ensures.evaluated c.solve_each_union.ensures.evaluated)
+
+pub solve_outward-returns-in-Union-clause-needed : goal.solve_outward-returns-in-Union-clause-needed
+solve_outward-returns-in-Union-clause-needed g t c =
+    let s = c.args.self.now in
+    let terms = c.args.dict in
+    let v = c.args.variable in
+    let graphs = c.args.graphs.now in
+    let whole : Algebra → List (Solution Term) = λ A. solutions_in terms s.index.now s.width v graphs A in
+    let L = algebra_of c.deref.result.now in
+    let R = algebra_of c.deref-in-Union.result.now in
+    let is : algebra_of c.args.inner.now ≡ algebra.Union L R =
+    ap algebra_of c.in-Union.is ∙ union_denotes c.in-Union.left c.in-Union.right ∙ (λ i. algebra.Union (algebra_of ((sym c.deref.ensures) i)) (algebra_of ((sym c.deref-in-Union.ensures) i))) in
+    takes_as_each terms s.index.now s.width v c.solve_each_union.result (algebra_of c.args.inner.now) (algebra.Union L R) is
+    (takes_union terms c.in_ok-rows.dict s.index.now c.requires.index s.width v graphs c.requires.graphs c.solve_each_union.result L R c.in_ok-rows.ensures.evaluated.grown c.in_ok-rows.ensures.needed c.solve_each_union.ensures.needed)
+
+pub solve_outward-solve_left_join-requires-clause-index : goal.solve_outward-solve_left_join-requires-clause-index
+solve_outward-solve_left_join-requires-clause-index g t c κs within = (index_kept c.args.dict c.in_ok-rows-2.dict c.in_ok-rows-2.ensures.evaluated.grown c.args.self.now.index.now c.requires.index).0
+
+pub solve_outward-solve_left_join-requires-clause-within : goal.solve_outward-solve_left_join-requires-clause-within
+solve_outward-solve_left_join-requires-clause-within g t c κs within =
+    subst (λ (T : Operator). is_within c.args.self.now.width (algebra_of T) ≡ true) (sym c.deref-then-not-may_mention-2.ensures) (left_join_within c.args.self.now.width c.in-LeftJoin.left c.in-LeftJoin.right c.in-LeftJoin.condition c.args.inner.now c.in-LeftJoin.is c.requires.within).1
+
+pub solve_outward-returns-then-not-may_mention-clause-evaluated : goal.solve_outward-returns-then-not-may_mention-clause-evaluated
+solve_outward-returns-then-not-may_mention-clause-evaluated g t c =
+    let s = c.args.self.now in
+    let terms = c.args.dict in
+    let v = c.args.variable in
+    let graphs = c.args.graphs.now in
+    let now = c.in_ok-rows-2.dict in
+    let rows = c.in_ok-rows-2.rows in
+    let L = algebra_of c.in-LeftJoin.left.value in
+    let C = algebra_of c.in-LeftJoin.right.value in
+    let e = expression_of c.in-LeftJoin.condition in
+    let apart = apart_parts (is_closed C) (may_bind s.width C v) (ap (λ (T : Operator). is_closed (algebra_of T) && not (may_bind s.width (algebra_of T) v)) (sym c.deref-in-LeftJoin.ensures) ∙ sym c.is_apart.ensures.value ∙ c.if-is_apart.true) in
+    let none : mentions e v ≡ false = c.may_mention.ensures.not_mentioned c.if-not-may_mention.true in
+    let whole : Algebra → List (Solution Term) = λ A. solutions_in terms s.index.now s.width v graphs A in
+    as_whole terms s.width c.solve_left_join.result (whole (algebra.LeftJoin L C e)) (whole (algebra_of c.args.inner.now))
+    (ap (λ (T : Operator). whole (algebra_of T)) c.in-LeftJoin.is ∙ ap whole (left_join_denotes c.in-LeftJoin.left c.in-LeftJoin.right c.in-LeftJoin.condition))
+    (left_join_each terms s.index.now s.width v graphs c.solve_left_join.result c.requires.index c.requires.variable L c.in-LeftJoin.right.value apart.0 apart.1 now rows
+    (subst (λ (T : Operator). IsEvaluated terms s.width (whole (algebra_of T)) rows now) c.deref-then-not-may_mention.ensures c.in_ok-rows-2.ensures.evaluated) e none
+    (subst (λ (T : Operator). IfOk c.solve_left_join.result (λ x. IsEvaluated now rows.width (left_join term_eq (holds e) (solutions_of now rows) (tree_solutions now s.index.now s.width None T)) x.0 x.1)) c.deref-then-not-may_mention-2.ensures c.solve_left_join.ensures.evaluated))
+
+pub solve_outward-returns-then-not-may_mention-clause-needed : goal.solve_outward-returns-then-not-may_mention-clause-needed
+solve_outward-returns-then-not-may_mention-clause-needed g t c =
+    let s = c.args.self.now in
+    let terms = c.args.dict in
+    let v = c.args.variable in
+    let graphs = c.args.graphs.now in
+    let now = c.in_ok-rows-2.dict in
+    let rows = c.in_ok-rows-2.rows in
+    let L = algebra_of c.in-LeftJoin.left.value in
+    let C = algebra_of c.in-LeftJoin.right.value in
+    let e = expression_of c.in-LeftJoin.condition in
+    let apart = apart_parts (is_closed C) (may_bind s.width C v) (ap (λ (T : Operator). is_closed (algebra_of T) && not (may_bind s.width (algebra_of T) v)) (sym c.deref-in-LeftJoin.ensures) ∙ sym c.is_apart.ensures.value ∙ c.if-is_apart.true) in
+    takes_as_each terms s.index.now s.width v c.solve_left_join.result (algebra_of c.args.inner.now) (algebra.LeftJoin L C e) (ap algebra_of c.in-LeftJoin.is ∙ left_join_denotes c.in-LeftJoin.left c.in-LeftJoin.right c.in-LeftJoin.condition)
+    (takes_then terms s.index.now s.width v graphs c.requires.graphs c.solve_left_join.result L C now c.in_ok-rows-2.ensures.evaluated.grown c.requires.index c.requires.some apart.0
+    (subst (λ (T : Operator). TakesOnly (NeededIn terms s.index.now s.width (each_graph v) (algebra_of T)) terms now) c.deref-then-not-may_mention.ensures c.in_ok-rows-2.ensures.needed)
+    (subst (λ (T : Operator). IfOk c.solve_left_join.result (λ x. TakesOnly (Needed now s.index.now s.width None (algebra_of T)) now x.1)) c.deref-then-not-may_mention-2.ensures c.solve_left_join.ensures.needed))
+
+pub solve_outward-returns-then-not-may_mention-clause-one_worker : goal.solve_outward-returns-then-not-may_mention-clause-one_worker
+solve_outward-returns-then-not-may_mention-clause-one_worker g t c = c.solve_left_join.ensures.one_worker
+
+pub solve_outward-solve_minus-requires-clause-index : goal.solve_outward-solve_minus-requires-clause-index
+solve_outward-solve_minus-requires-clause-index g t c κs within = (index_kept c.args.dict c.in_ok-rows-3.dict c.in_ok-rows-3.ensures.evaluated.grown c.args.self.now.index.now c.requires.index).0
+
+pub solve_outward-solve_minus-requires-clause-within : goal.solve_outward-solve_minus-requires-clause-within
+solve_outward-solve_minus-requires-clause-within g t c κs within =
+    subst (λ (T : Operator). is_within c.args.self.now.width (algebra_of T) ≡ true) (sym c.deref-then-is_apart-2-2.ensures) (minus_within c.args.self.now.width c.in-Minus.left c.in-Minus.right c.args.inner.now c.in-Minus.is c.requires.within).1
+
+pub solve_outward-returns-then-is_apart-2-clause-evaluated : goal.solve_outward-returns-then-is_apart-2-clause-evaluated
+solve_outward-returns-then-is_apart-2-clause-evaluated g t c =
+    let s = c.args.self.now in
+    let terms = c.args.dict in
+    let v = c.args.variable in
+    let graphs = c.args.graphs.now in
+    let now = c.in_ok-rows-3.dict in
+    let rows = c.in_ok-rows-3.rows in
+    let L = algebra_of c.in-Minus.left.value in
+    let C = algebra_of c.in-Minus.right.value in
+    let apart = apart_parts (is_closed C) (may_bind s.width C v) (ap (λ (T : Operator). is_closed (algebra_of T) && not (may_bind s.width (algebra_of T) v)) (sym c.deref-in-Minus.ensures) ∙ sym c.is_apart-in-Minus.ensures.value ∙ c.if-is_apart-2.true) in
+    let whole : Algebra → List (Solution Term) = λ A. solutions_in terms s.index.now s.width v graphs A in
+    as_whole terms s.width c.solve_minus.result (whole (algebra.Minus L C)) (whole (algebra_of c.args.inner.now))
+    (ap (λ (T : Operator). whole (algebra_of T)) c.in-Minus.is ∙ ap whole (minus_denotes c.in-Minus.left c.in-Minus.right))
+    (minus_each terms s.index.now s.width v graphs c.solve_minus.result c.requires.index c.requires.variable L c.in-Minus.right.value apart.0 apart.1 now rows
+    (subst (λ (T : Operator). IsEvaluated terms s.width (whole (algebra_of T)) rows now) c.deref-then-is_apart-2.ensures c.in_ok-rows-3.ensures.evaluated)
+    (subst (λ (T : Operator). IfOk c.solve_minus.result (λ x. IsEvaluated now rows.width (minus term_eq (solutions_of now rows) (tree_solutions now s.index.now s.width None T)) x.0 x.1)) c.deref-then-is_apart-2-2.ensures c.solve_minus.ensures.evaluated))
+
+pub solve_outward-returns-then-is_apart-2-clause-needed : goal.solve_outward-returns-then-is_apart-2-clause-needed
+solve_outward-returns-then-is_apart-2-clause-needed g t c =
+    let s = c.args.self.now in
+    let terms = c.args.dict in
+    let v = c.args.variable in
+    let graphs = c.args.graphs.now in
+    let now = c.in_ok-rows-3.dict in
+    let rows = c.in_ok-rows-3.rows in
+    let L = algebra_of c.in-Minus.left.value in
+    let C = algebra_of c.in-Minus.right.value in
+    let apart = apart_parts (is_closed C) (may_bind s.width C v) (ap (λ (T : Operator). is_closed (algebra_of T) && not (may_bind s.width (algebra_of T) v)) (sym c.deref-in-Minus.ensures) ∙ sym c.is_apart-in-Minus.ensures.value ∙ c.if-is_apart-2.true) in
+    takes_as_each terms s.index.now s.width v c.solve_minus.result (algebra_of c.args.inner.now) (algebra.Minus L C) (ap algebra_of c.in-Minus.is ∙ minus_denotes c.in-Minus.left c.in-Minus.right)
+    (takes_then terms s.index.now s.width v graphs c.requires.graphs c.solve_minus.result L C now c.in_ok-rows-3.ensures.evaluated.grown c.requires.index c.requires.some apart.0
+    (subst (λ (T : Operator). TakesOnly (NeededIn terms s.index.now s.width (each_graph v) (algebra_of T)) terms now) c.deref-then-is_apart-2.ensures c.in_ok-rows-3.ensures.needed)
+    (subst (λ (T : Operator). IfOk c.solve_minus.result (λ x. TakesOnly (Needed now s.index.now s.width None (algebra_of T)) now x.1)) c.deref-then-is_apart-2-2.ensures c.solve_minus.ensures.needed))
+
+pub solve_outward-returns-then-is_apart-2-clause-one_worker : goal.solve_outward-returns-then-is_apart-2-clause-one_worker
+solve_outward-returns-then-is_apart-2-clause-one_worker g t c = c.solve_minus.ensures.one_worker
+
+-- ---- Filter and Extend after the names
+
+pub solve_expression_outward-returns-then-not-may_mention-clause-needed : goal.solve_expression_outward-returns-then-not-may_mention-clause-needed
+solve_expression_outward-returns-then-not-may_mention-clause-needed g t c =
+    let s = c.args.self.now in
+    let e = expression_of c.in-Filter.condition in
+    takes_as_each c.args.dict s.index.now s.width c.args.variable c.solve_each_filter.result (algebra_of c.args.inner.now) (algebra.Filter e (algebra_of c.deref-then-not-may_mention.result.now))
+    (ap algebra_of c.in-Filter.is ∙ filter_denotes c.in-Filter.condition c.in-Filter.below ∙ (λ i. algebra.Filter e (algebra_of ((sym c.deref-then-not-may_mention.ensures) i))))
+    c.solve_each_filter.ensures.needed
+
+pub solve_expression_outward-returns-then-not-may_mention-2-clause-needed : goal.solve_expression_outward-returns-then-not-may_mention-2-clause-needed
+solve_expression_outward-returns-then-not-may_mention-2-clause-needed g t c =
+    let s = c.args.self.now in
+    let e = expression_of c.in-Extend.expression in
+    takes_as_each c.args.dict s.index.now s.width c.args.variable c.solve_each_extend.result (algebra_of c.args.inner.now) (algebra.Extend c.in-Extend.bound e (algebra_of c.deref-then-not-may_mention-2.result.now))
+    (ap algebra_of c.in-Extend.is ∙ extend_denotes c.in-Extend.bound c.in-Extend.expression c.in-Extend.below ∙ (λ i. algebra.Extend c.in-Extend.bound e (algebra_of ((sym c.deref-then-not-may_mention-2.ensures) i))))
+    c.solve_each_extend.ensures.needed
+
+-- ---- equalities after the names
+
+pub solve_each_where-solve_join_where-requires-clause-index : goal.solve_each_where-solve_join_where-requires-clause-index
+solve_each_where-solve_join_where-requires-clause-index g t c κs within = (index_kept c.args.dict c.in_ok-rows.dict c.in_ok-rows.ensures.evaluated.grown c.args.self.now.index.now c.requires.index).0
+
+pub solve_each_where-solve_join_where-requires-clause-within : goal.solve_each_where-solve_join_where-requires-clause-within
+solve_each_where-solve_join_where-requires-clause-within g t c κs within =
+    subst (λ (T : Operator). is_within c.args.self.now.width (algebra_of T) ≡ true) (sym c.deref-then-is_closed-2.ensures) (join_within c.args.self.now.width c.in-Join.left c.in-Join.right c.args.inner.now c.in-Join.is c.requires.within).1
+
+pub solve_each_where-returns-then-is_closed-clause-evaluated : goal.solve_each_where-returns-then-is_closed-clause-evaluated
+solve_each_where-returns-then-is_closed-clause-evaluated g t c =
+    let s = c.args.self.now in
+    let terms = c.args.dict in
+    let v = c.args.variable in
+    let graphs = c.args.graphs.now in
+    let p = c.args.pairs.now in
+    let now = c.in_ok-rows.dict in
+    let rows = c.in_ok-rows.rows in
+    let A = algebra_of c.in-Join.left.value in
+    let tree = c.in-Join.right.value in
+    let closed : is_closed (algebra_of tree) ≡ true = ap (λ (T : Operator). is_closed (algebra_of T)) (sym c.deref.ensures) ∙ sym c.is_closed.ensures.value ∙ c.if-is_closed.true in
+    let whole : Algebra → List (Solution Term) = λ A. solutions_in terms s.index.now s.width v graphs A in
+    where_whole p terms s.width c.solve_join_where.result (whole (algebra.Join (algebra_of c.in-Join.left.value) (algebra_of c.in-Join.right.value))) (whole (algebra_of c.args.inner.now))
+    (ap (λ (T : Operator). whole (algebra_of T)) c.in-Join.is ∙ ap whole (join_denotes c.in-Join.left c.in-Join.right))
+    (join_right_where terms s.index.now c.requires.index s.width v graphs c.solve_join_where.result p A tree closed now rows
+    (subst (λ (T : Operator). IsEvaluatedWhere terms s.width (fits p) (whole (algebra_of T)) rows now) c.deref-then-is_closed.ensures c.in_ok-rows.ensures.evaluated)
+    (subst (λ (T : Operator). IfOk c.solve_join_where.result (λ x. IsEvaluatedWhere now rows.width (fits p) (join term_eq (solutions_of now rows) (tree_solutions now s.index.now s.width None T)) x.0 x.1)) c.deref-then-is_closed-2.ensures c.solve_join_where.ensures.evaluated))
+
+pub solve_each_where-returns-then-is_closed-clause-needed : goal.solve_each_where-returns-then-is_closed-clause-needed
+solve_each_where-returns-then-is_closed-clause-needed g t c =
+    let s = c.args.self.now in
+    let terms = c.args.dict in
+    let v = c.args.variable in
+    let now = c.in_ok-rows.dict in
+    let A = algebra_of c.in-Join.left.value in
+    let C = algebra_of c.in-Join.right.value in
+    let closed : is_closed C ≡ true = ap (λ (T : Operator). is_closed (algebra_of T)) (sym c.deref.ensures) ∙ sym c.is_closed.ensures.value ∙ c.if-is_closed.true in
+    takes_as_each terms s.index.now s.width v c.solve_join_where.result (algebra_of c.args.inner.now) (algebra.Join (algebra_of c.in-Join.left.value) (algebra_of c.in-Join.right.value)) (ap algebra_of c.in-Join.is ∙ join_denotes c.in-Join.left c.in-Join.right)
+    (takes_then terms s.index.now s.width v c.args.graphs.now c.requires.graphs c.solve_join_where.result A C now c.in_ok-rows.ensures.evaluated.grown c.requires.index c.requires.some closed
+    (subst (λ (T : Operator). TakesOnly (NeededIn terms s.index.now s.width (each_graph v) (algebra_of T)) terms now) c.deref-then-is_closed.ensures c.in_ok-rows.ensures.needed)
+    (subst (λ (T : Operator). IfOk c.solve_join_where.result (λ x. TakesOnly (Needed now s.index.now s.width None (algebra_of T)) now x.1)) c.deref-then-is_closed-2.ensures c.solve_join_where.ensures.needed))
+
+pub solve_each_where-solve_join_where-requires-then-is_closed-2-clause-index : goal.solve_each_where-solve_join_where-requires-then-is_closed-2-clause-index
+solve_each_where-solve_join_where-requires-then-is_closed-2-clause-index g t c κs within = (index_kept c.args.dict c.in_ok-others.dict c.in_ok-others.ensures.evaluated.grown c.args.self.now.index.now c.requires.index).0
+
+pub solve_each_where-solve_join_where-requires-then-is_closed-2-clause-within : goal.solve_each_where-solve_join_where-requires-then-is_closed-2-clause-within
+solve_each_where-solve_join_where-requires-then-is_closed-2-clause-within g t c κs within =
+    subst (λ (T : Operator). is_within c.args.self.now.width (algebra_of T) ≡ true) (sym c.deref-then-is_closed-2-3.ensures) (join_within c.args.self.now.width c.in-Join.left c.in-Join.right c.args.inner.now c.in-Join.is c.requires.within).0
+
+pub solve_each_where-returns-then-is_closed-2-clause-evaluated : goal.solve_each_where-returns-then-is_closed-2-clause-evaluated
+solve_each_where-returns-then-is_closed-2-clause-evaluated g t c =
+    let s = c.args.self.now in
+    let terms = c.args.dict in
+    let v = c.args.variable in
+    let graphs = c.args.graphs.now in
+    let p = c.args.pairs.now in
+    let now = c.in_ok-others.dict in
+    let rows = c.in_ok-others.others in
+    let A = algebra_of c.in-Join.right.value in
+    let tree = c.in-Join.left.value in
+    let closed : is_closed (algebra_of tree) ≡ true = ap (λ (T : Operator). is_closed (algebra_of T)) (sym c.deref-in-Join.ensures) ∙ sym c.is_closed-in-Join.ensures.value ∙ c.if-is_closed-2.true in
+    let whole : Algebra → List (Solution Term) = λ A. solutions_in terms s.index.now s.width v graphs A in
+    where_whole p terms s.width c.solve_join_where-then-is_closed-2.result (whole (algebra.Join (algebra_of c.in-Join.left.value) (algebra_of c.in-Join.right.value))) (whole (algebra_of c.args.inner.now))
+    (ap (λ (T : Operator). whole (algebra_of T)) c.in-Join.is ∙ ap whole (join_denotes c.in-Join.left c.in-Join.right))
+    (join_left_where terms s.index.now c.requires.index s.width v graphs c.solve_join_where-then-is_closed-2.result p A tree closed now rows
+    (subst (λ (T : Operator). IsEvaluatedWhere terms s.width (fits p) (whole (algebra_of T)) rows now) c.deref-then-is_closed-2-2.ensures c.in_ok-others.ensures.evaluated)
+    (subst (λ (T : Operator). IfOk c.solve_join_where-then-is_closed-2.result (λ x. IsEvaluatedWhere now rows.width (fits p) (join term_eq (solutions_of now rows) (tree_solutions now s.index.now s.width None T)) x.0 x.1)) c.deref-then-is_closed-2-3.ensures c.solve_join_where-then-is_closed-2.ensures.evaluated))
+
+pub solve_each_where-returns-then-is_closed-2-clause-needed : goal.solve_each_where-returns-then-is_closed-2-clause-needed
+solve_each_where-returns-then-is_closed-2-clause-needed g t c =
+    let s = c.args.self.now in
+    let terms = c.args.dict in
+    let v = c.args.variable in
+    let now = c.in_ok-others.dict in
+    let A = algebra_of c.in-Join.right.value in
+    let C = algebra_of c.in-Join.left.value in
+    let closed : is_closed C ≡ true = ap (λ (T : Operator). is_closed (algebra_of T)) (sym c.deref-in-Join.ensures) ∙ sym c.is_closed-in-Join.ensures.value ∙ c.if-is_closed-2.true in
+    takes_as_each terms s.index.now s.width v c.solve_join_where-then-is_closed-2.result (algebra_of c.args.inner.now) (algebra.Join (algebra_of c.in-Join.left.value) (algebra_of c.in-Join.right.value)) (ap algebra_of c.in-Join.is ∙ join_denotes c.in-Join.left c.in-Join.right)
+    (takes_turned terms s.index.now s.width v c.solve_join_where-then-is_closed-2.result A C (takes_then terms s.index.now s.width v c.args.graphs.now c.requires.graphs c.solve_join_where-then-is_closed-2.result A C now c.in_ok-others.ensures.evaluated.grown c.requires.index c.requires.some closed
+    (subst (λ (T : Operator). TakesOnly (NeededIn terms s.index.now s.width (each_graph v) (algebra_of T)) terms now) c.deref-then-is_closed-2-2.ensures c.in_ok-others.ensures.needed)
+    (subst (λ (T : Operator). IfOk c.solve_join_where-then-is_closed-2.result (λ x. TakesOnly (Needed now s.index.now s.width None (algebra_of T)) now x.1)) c.deref-then-is_closed-2-3.ensures c.solve_join_where-then-is_closed-2.ensures.needed)))
+
+pub solve_each_where-returns-clause-evaluated : goal.solve_each_where-returns-clause-evaluated
+solve_each_where-returns-clause-evaluated g t c =
+    let s = c.args.self.now in
+    where_any_ok c.args.pairs.now c.args.dict s.width c.solve_each.result (solutions_in c.args.dict s.index.now s.width c.args.variable c.args.graphs.now (algebra_of c.args.inner.now)) c.solve_each.ensures.evaluated
