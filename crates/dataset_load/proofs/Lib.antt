@@ -9,3 +9,4 @@ pub mod TermSteps
 pub mod ListingSteps
 mod RestSteps
 mod LimitSteps
+mod PartCountSteps

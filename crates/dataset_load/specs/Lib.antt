@@ -15,3 +15,4 @@ pub mod Ahead
 pub mod Terms
 pub mod Causes
 pub mod FaultNames
+pub mod PartCounts

@@ -1,11 +1,16 @@
 //! The counts of a dataset of which no index is built.
-ghost use Rattle.std.specs.Prelude.{IfOk};
+ghost use Rattle.std.specs.Prelude.{◌≡◌, ◌≤◌, IfErr, IfOk};
+ghost use Rattle.piece_pool.specs.Limits.{most_workers};
 ghost use Rattle.dataset_load.specs.Rounds.{HasRead};
 ghost use Rattle.dataset_load.specs.Counting.{IsCounted};
+ghost use Rattle.dataset_load.specs.Fault.{IfBadLine, IsOneWorkerLoadFault};
 
+use crate::fault::LoadFault;
 use crate::numbered::Numbered;
-use quad_index::count_quads;
-use std::alloc::{AllocError, Global};
+use crate::part_counts::counts_of;
+use std::alloc::Global;
+use std::sync::Wait;
+use std::thread::Threads;
 use text_dict::TextDict;
 
 /// The terms of a dataset, and the counts of its quads and graph names.
@@ -20,12 +25,23 @@ pub struct Counted {
 }
 
 /// Counts the quads and graph names of quads that are numbered.
-pub(crate) fn counted_of(alloc: Global, so_far: Numbered) -> Result<Counted, AllocError>
+///
+/// # Errors
+/// As `counts_of`.
+pub(crate) fn counted_of<R: Threads + Wait>(
+    rt: &R,
+    alloc: Global,
+    so_far: Numbered,
+    workers: usize,
+) -> Result<Counted, LoadFault>
+    requires workers { (1 ≤ workers) × (workers ≤ most_workers) }
     ensures counted { IfOk result
         (λ counted. (lines : _) → HasRead so_far lines → IsCounted lines counted) }
+    ensures no_bad_line { IfErr result (IfBadLine (λ _. ⊥)) }
+    ensures one_worker { workers ≡ 1 → IfErr result IsOneWorkerLoadFault }
 {
     let Numbered { dict, quads, .. } = so_far;
-    let counts = count_quads(alloc, quads)?;
+    let counts = counts_of(rt, alloc, quads, workers)?;
     Ok(Counted {
         dict,
         quads: counts.quads,

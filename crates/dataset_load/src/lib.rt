@@ -19,7 +19,7 @@
 //!
 //! Reading order: `fault`, `store`, `round_job` (one piece), `numbered` and `rounds`
 //! (all pieces), `sorting` (the lists of the index), `terms` (the terms of the texts), `loading`, `reader` (blocks of a reader),
-//! `reader_fault`, `counted`, `load_notes`, `load_context`, `causes`, `listing` and `rest` (the malformed lines), `bad_round`,
+//! `reader_fault`, `part_counts`, `counted`, `load_notes`, `load_context`, `causes`, `listing` and `rest` (the malformed lines), `bad_round`,
 //! `streaming`.
 //!
 //! Tests: `documents`, `readers` and `refusals` of the crate loading_tests.
@@ -44,6 +44,7 @@ mod load_context;
 mod load_notes;
 mod loading;
 mod numbered;
+mod part_counts;
 mod reader;
 mod reader_fault;
 mod rest;

@@ -132,11 +132,10 @@ pub fn count_reader<R: Threads + Wait + RandomSource, S: Source, G: Gate + Sync,
 {
     let context = LoadContext { rt, alloc, workers };
     let so_far = read_reader(&context, size, reader, gate, notes, listener)?;
-    let Ok(counted) = counted_of(alloc, so_far) else {
-        listener.failed(PoolFault::Memory);
-        return Err(ReaderFault::Memory);
-    };
-    Ok(counted)
+    match counted_of(rt, alloc, so_far, workers) {
+        Ok(counted) => Ok(counted),
+        Err(fault) => Err(load_failed(listener, fault)),
+    }
 }
 
 /// Returns the terms of the rest of a reader as texts. It reads as [`load_reader`] does. No quads are sorted.

@@ -3,8 +3,9 @@
 use crate::cases::{equal, same_numbers, same_quads};
 use dict_core::NumQuad;
 use quad_index::{
-    Index, IndexCounts, QuadList, Quads, SortOrder, count_quads, index_counts_the_quads,
-    index_names_the_graphs, index_reads_the_quads, sorted_list,
+    Index, IndexCounts, PARTS, QuadList, Quads, SortOrder, count_names, count_part, count_quads,
+    index_counts_the_quads, index_names_the_graphs, index_reads_the_quads, parts_count_the_quads,
+    sorted_list,
 };
 use std::alloc::{AllocError, AllocGlobal, Global};
 use std::process::Abort;
@@ -82,7 +83,19 @@ fn an_index_counts_each_quad_once(rt: HostRuntime) {
     index_names_the_graphs();
 }
 
-/// Checks the numbers of quads and of graph names.
+/// Counts quads and graph names in parts.
+fn counted_in_parts(alloc: Global, quads: &[NumQuad]) -> Result<IndexCounts, AllocError> {
+    let mut sum = 0u64;
+    for part in 0..PARTS {
+        sum = sum.saturating_add(count_part(alloc, quads, part)?);
+    }
+    Ok(IndexCounts {
+        quads: sum,
+        graphs: count_names(alloc, quads)?,
+    })
+}
+
+/// Checks the numbers of quads and of graph names, counted as a whole and in parts.
 fn check_counted<R: Abort>(
     rt: &R,
     alloc: Global,
@@ -90,6 +103,9 @@ fn check_counted<R: Abort>(
     quads: &[NumQuad],
     expected: IndexCounts,
 ) {
+    let found = counted_in_parts(alloc, quads).expect(rt, name);
+    equal(rt, name, expected.quads, found.quads);
+    equal(rt, name, expected.graphs, found.graphs);
     let quads = Vec::from_slice(alloc, quads).expect(rt, name);
     let found = count_quads(alloc, quads).expect(rt, name);
     equal(rt, name, expected.quads, found.quads);
@@ -111,6 +127,7 @@ fn quads_are_counted_once(rt: HostRuntime) {
     let [a, b, c, d] = QUADS;
     let quads = [a, b, c, d, quad(Some(1 << 40), 0, 1, 2)];
     check_counted(&rt, rt.alloc(), "not packed", &quads, expected);
+    parts_count_the_quads();
 }
 
 /// Checks that these are the quads, in this order.

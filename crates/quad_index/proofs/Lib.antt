@@ -5,3 +5,5 @@ pub mod PackedLaws
 pub mod IndexSteps
 pub mod ReadingLaws
 pub mod CountingLaws
+pub mod PartLaws
+pub mod PartSteps

@@ -1,5 +1,5 @@
 -- The counts of an index that is not built.
-use Rattle.std.specs.Prelude.{◌≡◌, ℕ, zero, suc, ◌||◌, cond, List, [], ◌∷◌, length, nat_eq, IsPermutation, IsSorted}
+use Rattle.std.specs.Prelude.{◌≡◌, ℕ, suc, ◌||◌, cond, List, [], ◌∷◌, length, nat_eq, IsPermutation, IsSorted}
 use Rattle.std.specs.List.{dedup}
 use Rattle.std.specs.Ordering.{nat_cmp}
 use Rattle.algebra_model.specs.Bag.{without_repeats}
@@ -8,6 +8,7 @@ use Rattle.dict_core.specs.Equality.{quad_eq}
 use Rattle.quad_index.specs.declared.counting.IndexCounts.{IndexCounts}
 use Rattle.quad_index.specs.Matching.{graph_names}
 use Rattle.quad_index.specs.Packed.{graph_key_of}
+use Rattle.quad_index.specs.Parts.{count_in_part, parts, sum_below}
 
 -- An index of the quads, in which each quad is once, has this number of quads and of graph names.
 pub record IsCountOf (quads : List NumQuad) (counts : IndexCounts) : Type 0 where
@@ -15,6 +16,14 @@ pub record IsCountOf (quads : List NumQuad) (counts : IndexCounts) : Type 0 wher
   pub each_once : IsPermutation (without_repeats quad_eq quads) index
   pub quad_count : counts.quads ≡ length index
   pub graph_count : counts.graphs ≡ length (without_repeats nat_eq (graph_names index))
+
+-- the counts of the parts add up to those of the index
+abbrev pub PartsCountTheQuads : Type 0
+PartsCountTheQuads =
+    (quads : List NumQuad) (counts : IndexCounts)
+    → counts.quads ≡ sum_below (λ part. count_in_part part quads) parts
+    → counts.graphs ≡ length (without_repeats nat_eq (graph_names quads))
+    → IsCountOf quads counts
 
 -- Words that only private clauses cite.
 

@@ -5,3 +5,4 @@ pub mod Laws
 pub mod Packed
 pub mod Lists
 pub mod Counting
+pub mod Parts

@@ -38,7 +38,7 @@ pub fn count_quads(alloc: Global, quads: Vec<NumQuad>) -> Result<IndexCounts, Al
 }
 
 /// Counts the quads and the graph names of these keys, in the first order.
-fn count_keys(keys: Vec<u128>) -> Result<IndexCounts, AllocError>
+pub(crate) fn count_keys(keys: Vec<u128>) -> Result<IndexCounts, AllocError>
     ensures counts { IfOk result (IsCountOfKeys keys.items) }
 {
     let mut keys = keys;
@@ -68,7 +68,7 @@ fn count_graphs(keys: &[u128]) -> u64
 }
 
 /// Counts the quads and the graph names of quads whose numbers may have any size.
-fn count_plain(alloc: Global, quads: Vec<NumQuad>) -> Result<IndexCounts, AllocError>
+pub(crate) fn count_plain(alloc: Global, quads: Vec<NumQuad>) -> Result<IndexCounts, AllocError>
     ensures counts { IfOk result (IsCountOf quads.items) }
 {
     let mut list = quads;

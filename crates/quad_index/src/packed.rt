@@ -64,7 +64,7 @@ pub(crate) fn keys_of(
 }
 
 /// Returns whether each number fits into its place in a key.
-fn is_small(quad: &NumQuad) -> bool
+pub(crate) fn is_small(quad: &NumQuad) -> bool
     ensures small { result ≡ true → IsSmall quad.now }
 {
     quad.g.unwrap_or(0) < TOO_LARGE
@@ -73,7 +73,7 @@ fn is_small(quad: &NumQuad) -> bool
         && quad.o < TOO_LARGE
 }
 
-fn key_of(order: SortOrder, quad: &NumQuad) -> u128
+pub(crate) fn key_of(order: SortOrder, quad: &NumQuad) -> u128
     requires small { IsSmall quad.now }
     ensures key { result ≡ key_of order quad.now }
 {

@@ -2,7 +2,5 @@ use Rattle.std.proofs.Common.{refl}
 use Rattle.dataset_load.proofs.CountingSteps.{counted_lines}
 use Rattle.dataset_load.proofs.counted.counted_of.Goals as goal
 
-pub returns : goal.returns
-returns c = record {
-  counted = λ lines read. counted_lines lines c.args.so_far c.args.so_far.quads.items _ _ read refl c.in_ok-counts.ensures.counts refl refl refl;
-}
+pub returns-clause-counted : goal.returns-clause-counted
+returns-clause-counted g c = λ lines read. counted_lines lines c.args.so_far c.args.so_far.quads.items _ _ read refl c.in_ok-counts.ensures.counts refl refl refl

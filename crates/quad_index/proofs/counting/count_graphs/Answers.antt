@@ -1,4 +1,4 @@
-use Rattle.std.proofs.Common.{◌≡◌, ◌⊎◌, inl, inr, arith}
+use Rattle.std.proofs.Common.{inl, inr, arith}
 use Rattle.quad_index.proofs.CountingLaws.{all_names, new_name, old_name}
 use Rattle.quad_index.proofs.counting.count_graphs.Goals as goal
 use Rattle.quad_index.proofs.counting.count_graphs.Goals.{then-name-ne0+then-name-last, else-name-ne0, else-name-ne0-via-then-name-ne0+else-name-last, else-name-ne0-via-else-name-ne0}

@@ -1,4 +1,4 @@
-use Rattle.std.proofs.Common.{All, rules}
+use Rattle.std.proofs.Common.{rules}
 use Rattle.std.proofs.lemmas.List.Elements.{All-more}
 use Rattle.quad_index.specs.Packed.{IsSmall, key_of}
 use Rattle.quad_index.proofs.PackedLaws.{all_of, mapped_all, mapped_more}

@@ -1,0 +1,95 @@
+-- The quads of a part and the graph names, quad by quad.
+use Rattle.std.proofs.Common.{◌≡◌, ℕ, ◌+◌, ◌<◌, ◌||◌, Bool, true, false, cond, eq-eqb, Option, None, Some, List, [], ◌∷◌, ◌++◌, length, filter, map, take, get_or, nat_eq, All, IsPermutation, IsSorted, refl, sym, ap, ◌∙◌, subst}
+use Rattle.std.specs.List.{list_any, cons_option, dedup}
+use Rattle.std.specs.Ordering.{nat_cmp}
+use Rattle.std.proofs.lemmas.Bool.Decides.{Decides-eqb}
+use Rattle.std.proofs.lemmas.Cmp.{nat_cmp_total}
+use Rattle.std.proofs.lemmas.List.{append-nil, map-append}
+use Rattle.std.proofs.lemmas.List.Elements.{All-append, All-cons, All-nil, filter_more}
+use Rattle.std.proofs.lemmas.List.Folds.{list_any-append}
+use Rattle.std.proofs.lemmas.List.Sorted.{length_permutation}
+use Rattle.std.proofs.lemmas.Option.{slice_get-get_or}
+use Rattle.rdf_core.proofs.EscapeSteps.{eqb_no}
+use Rattle.algebra_model.specs.Bag.{without_repeats}
+use Rattle.algebra_model.proofs.BagLaws.{permutation_from_counts}
+use Rattle.algebra_model.proofs.RepeatLaws.{count_by-without_repeats}
+use Rattle.dict_core.specs.declared.num_quad.NumQuad.{NumQuad}
+use Rattle.dict_core.proofs.NumQuadLaws.{quad_eq}
+use Rattle.quad_index.specs.declared.counting.IndexCounts.{IndexCounts}
+use Rattle.quad_index.specs.declared.sort_order.SortOrder.TheVariants.{Gspo}
+use Rattle.quad_index.specs.Counting.{IsCountOf, IsCountOfKeys}
+use Rattle.quad_index.specs.Matching.{graph_names}
+use Rattle.quad_index.specs.Packed.{IsSmall, key_of}
+use Rattle.quad_index.specs.Parts.{is_in, part_of}
+use Rattle.quad_index.proofs.CountingLaws.{counted}
+use Rattle.quad_index.proofs.IndexSteps.{names_more}
+use Rattle.quad_index.proofs.OnceLaws.{dedup_once_of}
+use Rattle.quad_index.proofs.SortOrderLaws.{nat_ties}
+
+-- ---- quads
+
+module _ (part : ℕ) (qs : List NumQuad) (i : ℕ) (d : NumQuad) (n : ℕ) (low : i < length qs) (made : n ≡ part_of (get_or qs i d)) where
+  -- one more quad, which is in the part
+  pub quad_added : n ≡ part → filter (is_in part) (take (i + 1) qs) ≡ filter (is_in part) (take i qs) ++ get_or qs i d ∷ []
+  quad_added same =
+      let q = get_or qs i d in
+      filter_more (is_in part) qs i d low
+      ∙ ap (λ b. filter (is_in part) (take i qs) ++ cond b (q ∷ []) []) (eq-eqb (part_of q) part (sym made ∙ same))
+
+  -- one more quad, which is in another part
+  pub quad_left : (n ≡ part → ⊥) → filter (is_in part) (take (i + 1) qs) ≡ filter (is_in part) (take i qs)
+  quad_left other =
+      let q = get_or qs i d in
+      filter_more (is_in part) qs i d low
+      ∙ ap (λ b. filter (is_in part) (take i qs) ++ cond b (q ∷ []) []) (eqb_no (part_of q) part (λ e. other (made ∙ e)))
+      ∙ append-nil (filter (is_in part) (take i qs))
+
+pub key_added : (done more : List NumQuad) (q : NumQuad) (keys longer : List ℕ) (key : ℕ) → more ≡ done ++ q ∷ [] → keys ≡ map (key_of Gspo) done → key ≡ key_of Gspo q
+    → longer ≡ keys ++ key ∷ [] → longer ≡ map (key_of Gspo) more
+key_added done more q keys longer key more_is was is pushed =
+    pushed ∙ (λ j. was j ++ is j ∷ []) ∙ sym (map-append (key_of Gspo) done (q ∷ [])) ∙ ap (map (key_of Gspo)) (sym more_is)
+
+pub small_added : (done more : List NumQuad) (q : NumQuad) → more ≡ done ++ q ∷ [] → All IsSmall done → IsSmall q → All IsSmall more
+small_added done more q more_is was is = subst (All IsSmall) (sym more_is) (All-append IsSmall done (q ∷ []) was (All-cons IsSmall q [] is (All-nil IsSmall)))
+
+-- the count of an index is that of the distinct quads
+pub counted_quads : (quads : List NumQuad) (counts : IndexCounts) → IsCountOf quads counts → counts.quads ≡ length (without_repeats quad_eq quads)
+counted_quads quads counts c = c.quad_count ∙ length_permutation (without_repeats quad_eq quads) c.index c.each_once
+
+-- the quads that have the keys of a part are counted
+pub counted_part : (quads : List NumQuad) (keys : List ℕ) (counts : IndexCounts) → All IsSmall quads → keys ≡ map (key_of Gspo) quads → IsCountOfKeys keys counts
+    → counts.quads ≡ length (without_repeats quad_eq quads)
+counted_part quads keys counts small are c = counted_quads quads counts (counted quads keys counts small are c)
+
+-- ---- graph names
+
+or_false : (a : Bool) → (a || false) ≡ a
+or_false true = refl
+or_false false = refl
+
+module _ (qs : List NumQuad) (i : ℕ) (d : NumQuad) (low : i < length qs) where
+  names_grown : graph_names (take (i + 1) qs) ≡ graph_names (take i qs) ++ cons_option (get_or qs i d).g []
+  names_grown = names_more qs i (get_or qs i d) (slice_get-get_or qs i d low)
+
+  -- one more graph name
+  pub name_added : (name n : ℕ) (old new : List ℕ) → (get_or qs i d).g ≡ Some name → list_any (nat_eq n) old ≡ list_any (nat_eq n) (graph_names (take i qs))
+      → list_any (nat_eq n) new ≡ (list_any (nat_eq n) old || nat_eq n name) → list_any (nat_eq n) new ≡ list_any (nat_eq n) (graph_names (take (i + 1) qs))
+  name_added name n old new some was added =
+      added ∙ ap (λ b. b || nat_eq n name) was
+      ∙ sym (ap (list_any (nat_eq n)) (names_grown ∙ ap (λ (o : Option ℕ). graph_names (take i qs) ++ cons_option o []) some)
+      ∙ list_any-append (nat_eq n) (graph_names (take i qs)) (name ∷ [])
+      ∙ ap (λ b. list_any (nat_eq n) (graph_names (take i qs)) || b) (or_false (nat_eq n name)))
+
+  -- a quad without a graph name
+  pub no_name_added : (n : ℕ) → (get_or qs i d).g ≡ None → list_any (nat_eq n) (graph_names (take (i + 1) qs)) ≡ list_any (nat_eq n) (graph_names (take i qs))
+  no_name_added n none =
+      ap (list_any (nat_eq n)) (names_grown ∙ ap (λ (o : Option ℕ). graph_names (take i qs) ++ cons_option o []) none ∙ append-nil (graph_names (take i qs)))
+
+-- sorted names without repeats are as many as there are distinct names
+pub names_counted : (names sorted all : List ℕ) → IsPermutation names sorted → IsSorted nat_cmp sorted → ((n : ℕ) → list_any (nat_eq n) names ≡ list_any (nat_eq n) all)
+    → length (dedup nat_eq sorted) ≡ length (without_repeats nat_eq all)
+names_counted names sorted all moved rising alike =
+    length_permutation (without_repeats nat_eq names) (dedup nat_eq sorted) (dedup_once_of nat_eq Decides-eqb nat_cmp nat_cmp_total (λ x y. sym (nat_ties x y)) names sorted moved rising)
+    ∙ length_permutation (without_repeats nat_eq all) (without_repeats nat_eq names)
+    (permutation_from_counts nat_eq Decides-eqb (without_repeats nat_eq all) (without_repeats nat_eq names)
+    (λ x. count_by-without_repeats nat_eq Decides-eqb x all ∙ ap (λ (b : Bool). cond b 1 0) (sym (alike x)) ∙ sym (count_by-without_repeats nat_eq Decides-eqb x names)))
